@@ -12,17 +12,19 @@ use Rattle.x86_64_model.specs.Memory.{Memory, Places, IsMapping}
 use Rattle.x86_64_model.specs.PathMap.{entry}
 use Rattle.x86_64_model.specs.Pool.{TakesBack}
 use Rattle.x86_64_model.specs.Spaces.{is_shared, AreSpaces}
+use Rattle.x86_64_model.specs.Store.{Store}
 use Rattle.x86_64_mappers.specs.Layouts.{direct_at}
 use Rattle.x86_64.specs.Asked.{MapperCall, machine_call, calls_by}
 use Rattle.x86_64.specs.Replies.{Reply}
-use Rattle.x86_64.specs.Runs.{AfterStep, Kept, Ran, machine_of, state_in, step_by}
+use Rattle.x86_64.specs.Runs.{AfterStep, machine_of, state_in, step_by}
+use Rattle.uses.specs.Owned.{RanOn}
 use Rattle.uses.specs.SpacesBeside.{OthersStay, LeavesSpaces}
 
 -- ---- the owner knows the hierarchy by the memory that was lent
 
 -- what is known of the mapper's hierarchy holds with the owner's names for its layout and memory
-owners : {Lent : Type 0} (h after : Hierarchy Lent) (layout : Layout) (m n : Memory) → h.layout ≡ layout → h.memory ≡ m → after.memory ≡ n → (P : Layout → Memory → Memory → Type 0) → P h.layout h.memory after.memory → P layout m n
-owners h after layout m n same before now P p = subst (λ n. P layout m n) now (subst (λ m. P layout m after.memory) before (subst (λ l. P l h.memory after.memory) same p))
+owners : (layout one : Layout) (before after m n : Memory) → layout ≡ one → before ≡ m → after ≡ n → (P : Layout → Memory → Memory → Type 0) → P layout before after → P one m n
+owners layout one before after m n same was now P p = subst (λ n. P one m n) now (subst (λ m. P one m after) was (subst (λ l. P l before after) same p))
 
 -- ---- the other spaces
 
@@ -41,6 +43,12 @@ module _ (stay : SpacesStay) (halves : SharedHalvesStay) (below : CallsKeepBelow
   abbrev one : Layout
   one = direct_at levels places root
 
+  abbrev space : Hierarchy (Unit {0})
+  space = record { layout = one; memory = m; lent = tt }
+
+  abbrev store : Store
+  store = record { frames = pool; serves = serves; take_back = take_back }
+
   module _ (calls : List Call) (are_calls : AllCalls levels calls) (keeps : KeepsPool one serves m pool n rest) (done : Led one take_back m pool calls n rest ⊎ (n ≡ m)) where
     kept_below : (shared : ℕ → Bool) (spaces : List Layout) → In spaces one → AreSpaces shared m serves pool spaces → KeepsBelow shared one m n → AreSpaces shared n serves rest spaces × OthersStay spaces one m n
     kept_below shared spaces member are kept = (
@@ -48,8 +56,9 @@ module _ (stay : SpacesStay) (halves : SharedHalvesStay) (below : CallsKeepBelow
       λ other i apart. (halves shared one other mapping (omega (arith, high)) serves m n pool rest fits keeps kept (are.share one other member i apart)).1,
     )
 
-    leaves_spaces : LeavesSpaces one serves calls m pool n rest
+    leaves_spaces : LeavesSpaces space store calls n rest
     leaves_spaces = record {
+      keeps = keeps;
       users = λ shared spaces member are avoid. kept_below shared spaces member are (⊎_elim
           (λ led. below shared one no_flags take_back gives serves m n pool rest calls are_calls fits led avoid)
           (λ same q s. ap (λ m. entry (paths one m) q) same)
@@ -61,23 +70,25 @@ module _ (stay : SpacesStay) (halves : SharedHalvesStay) (below : CallsKeepBelow
           done);
     }
 
-  -- after calls of a mapper whose hierarchy it is
-  module _ {Lent : Type 0} (h after : Hierarchy Lent) (kept : Kept h serves pool after rest) where
-    owner_keeps : h.layout ≡ one → h.memory ≡ m → after.memory ≡ n → KeepsPool one serves m pool n rest
-    owner_keeps same before now = owners h after one m n same before now (λ l m n. KeepsPool l serves m pool n rest) kept.keeps
+  -- after calls of a mapper with this layout, which led from one memory to another
+  module _ (layout : Layout) (before after : Memory) (keeps : KeepsPool layout serves before pool after rest) where
+    owner_keeps : layout ≡ one → before ≡ m → after ≡ n → KeepsPool one serves m pool n rest
+    owner_keeps same was now = owners layout one before after m n same was now (λ l m n. KeepsPool l serves m pool n rest) keeps
 
     pub after_call : (call : MapperCall) → IsCall levels (machine_call levels call) → (reply : Reply)
-        → step_by (machine_of h.layout take_back) (state_in h.layout h.memory pool) call ≡ record { state = state_in h.layout after.memory rest; reply = Some reply }
-        → h.layout ≡ one → h.memory ≡ m → after.memory ≡ n → LeavesSpaces one serves (machine_call levels call ∷ []) m pool n rest
-    after_call call is_call reply step same before now = leaves_spaces (machine_call levels call ∷ []) (is_call, tt) (owner_keeps same before now)
-        (inl (owners h after one m n same before now (λ l m n. Led l take_back m pool (machine_call l.levels call ∷ []) n rest) (sym (ap (λ (x : AfterStep Reply). x.state) step))))
+        → step_by (machine_of layout take_back) (state_in layout before pool) call ≡ record { state = state_in layout after rest; reply = Some reply }
+        → layout ≡ one → before ≡ m → after ≡ n → LeavesSpaces space store (machine_call levels call ∷ []) n rest
+    after_call call is_call reply step same was now = leaves_spaces (machine_call levels call ∷ []) (is_call, tt) (owner_keeps same was now)
+        (inl (owners layout one before after m n same was now (λ l m n. Led l take_back m pool (machine_call l.levels call ∷ []) n rest) (sym (ap (λ (x : AfterStep Reply). x.state) step))))
 
-    -- the list was executed, or memory was refused and nothing changed
+  -- the list was executed, or memory was refused and nothing changed
+  module _ {Lent : Type 0} (h after : Hierarchy Lent) (keeps : KeepsPool h.layout serves h.memory pool after.memory rest) where
     pub after_calls : {C X E Q : Type 0} (asks : C → MapperCall) (calls : List C) → AllCalls levels (calls_by asks levels calls) → (before now : List Reply)
-        → (r : Result X E) → OnOk r (Ran asks take_back h pool calls before now after rest) → OnErr r Q → (Q → after.memory ≡ h.memory)
-        → h.layout ≡ one → h.memory ≡ m → after.memory ≡ n → LeavesSpaces one serves (calls_by asks levels calls) m pool n rest
-    after_calls {X = X} {E = E} {Q = Q} asks calls are_calls was now r ran refused unchanged same before end = leaves_spaces (calls_by asks levels calls) are_calls (owner_keeps same before end) (by r ran refused)
+        → (r : Result X E) → OnOk r (RanOn asks h store calls before now after rest) → OnErr r Q → (Q → after.memory ≡ h.memory)
+        → h.layout ≡ one → h.memory ≡ m → after.memory ≡ n → LeavesSpaces space store (calls_by asks levels calls) n rest
+    after_calls {X = X} {E = E} {Q = Q} asks calls are_calls was now r ran refused unchanged same before end =
+        leaves_spaces (calls_by asks levels calls) are_calls (owner_keeps h.layout h.memory after.memory keeps same before end) (by r ran refused)
       where
-        by : (r : Result X E) → OnOk r (Ran asks take_back h pool calls was now after rest) → OnErr r Q → Led one take_back m pool (calls_by asks levels calls) n rest ⊎ (n ≡ m)
-        by (Ok x) ran refused = inl (owners h after one m n same before end (λ l m n. Led l take_back m pool (calls_by asks l.levels calls) n rest) ran.state)
+        by : (r : Result X E) → OnOk r (RanOn asks h store calls was now after rest) → OnErr r Q → Led one take_back m pool (calls_by asks levels calls) n rest ⊎ (n ≡ m)
+        by (Ok x) ran refused = inl (owners h.layout one h.memory after.memory m n same before end (λ l m n. Led l take_back m pool (calls_by asks l.levels calls) n rest) ran.state)
         by (Err e) ran refused = inr (sym end ∙ unchanged refused ∙ before)

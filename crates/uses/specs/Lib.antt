@@ -1,2 +1,5 @@
+pub mod Owned
+pub mod PageMaps
+pub mod InUse
 pub mod SpacesBeside
 pub mod Processes

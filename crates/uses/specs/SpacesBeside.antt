@@ -3,24 +3,31 @@ use Rattle.std.specs.Prelude.{◌≡◌, ◌≢◌, ℕ, Bool, true, false, List
 use Rattle.std.specs.List.{AllByRecursion}
 use Rattle.x86_64_model.specs.Call.{Call}
 use Rattle.x86_64_model.specs.Entry.{used}
+use Rattle.x86_64_model.specs.FitsPool.{KeepsPool}
 use Rattle.x86_64_model.specs.Layout.{Layout, paths}
 use Rattle.x86_64_model.specs.Lists.{In}
+use Rattle.x86_64_model.specs.Mapper.{Hierarchy}
 use Rattle.x86_64_model.specs.Memory.{Memory}
 use Rattle.x86_64_model.specs.PathMap.{entry}
 use Rattle.x86_64_model.specs.Spaces.{AreSpaces, Avoids, SparesRoot}
+use Rattle.x86_64_model.specs.Store.{Store}
 
 -- The spaces with another root than this one keep their path maps.
 abbrev pub OthersStay : (spaces : List Layout) → Layout → (m n : Memory) → Type 0
 OthersStay spaces one m n = (other : Layout) → In spaces other → one.root ≢ other.root → paths other n ≡ paths other m
 
--- Calls on one of any address spaces led from the memory m and a pool to the memory n and the rest. If no call touches anything
--- below a shared index (`users`), or if no index is shared (`apart`), all are address spaces again, and the others keep their path
--- maps. If the root's entries at the shared indices are used, and no call changes one (`kernel`), all are address spaces again.
-pub record LeavesSpaces (one : Layout) (serves : ℕ → Bool) (calls : List Call) (m : Memory) (pool : List ℕ) (n : Memory) (rest : List ℕ) : Type 0 where
-  pub users : (shared : ℕ → Bool) (spaces : List Layout) → In spaces one → AreSpaces shared m serves pool spaces
-      → AllByRecursion (Avoids one.levels shared) calls → AreSpaces shared n serves rest spaces × OthersStay spaces one m n
-  pub apart : (spaces : List Layout) → In spaces one → AreSpaces (λ i. false) m serves pool spaces
-      → AreSpaces (λ i. false) n serves rest spaces × OthersStay spaces one m n
-  pub kernel : (shared : ℕ → Bool) (spaces : List Layout) → In spaces one → AreSpaces shared m serves pool spaces
-      → ((i : ℕ) → shared i ≡ true → used (entry (paths one m) (i ∷ [])) ≡ true)
-      → AllByRecursion (SparesRoot one.levels shared (λ i. entry (paths one m) (i ∷ []))) calls → AreSpaces shared n serves rest spaces
+-- Calls were executed on one of any address spaces, with a store. Its memory is n then, and the rest of the store is left.
+pub record LeavesSpaces {Lent : Type 0} (one : Hierarchy Lent) (store : Store) (calls : List Call) (n : Memory) (rest : List ℕ) : Type 0 where
+  -- The rest fits the space again, and free frames and frames of tables together are the same set as before. No word changed
+  -- outside the root, the tables and the frames that were free before.
+  pub keeps : KeepsPool one.layout store.serves one.memory store.frames n rest
+  -- If no call touches anything below a shared index, all are address spaces again, and the others keep their path maps.
+  pub users : (shared : ℕ → Bool) (spaces : List Layout) → In spaces one.layout → AreSpaces shared one.memory store.serves store.frames spaces
+      → AllByRecursion (Avoids one.layout.levels shared) calls → AreSpaces shared n store.serves rest spaces × OthersStay spaces one.layout one.memory n
+  -- So too, whichever calls these are, if no index is shared.
+  pub apart : (spaces : List Layout) → In spaces one.layout → AreSpaces (λ i. false) one.memory store.serves store.frames spaces
+      → AreSpaces (λ i. false) n store.serves rest spaces × OthersStay spaces one.layout one.memory n
+  -- If the root's entries at the shared indices are used, and no call changes one, all are address spaces again.
+  pub kernel : (shared : ℕ → Bool) (spaces : List Layout) → In spaces one.layout → AreSpaces shared one.memory store.serves store.frames spaces
+      → ((i : ℕ) → shared i ≡ true → used (entry (paths one.layout one.memory) (i ∷ [])) ≡ true)
+      → AllByRecursion (SparesRoot one.layout.levels shared (λ i. entry (paths one.layout one.memory) (i ∷ []))) calls → AreSpaces shared n store.serves rest spaces

@@ -1,10 +1,8 @@
 //! Changes the root's table by hand.
 ghost use Rattle.std.specs.Prelude.{◌≡◌, None, IfOk};
-ghost use Rattle.x86_64_model.specs.Layout.{Valid as ValidIn};
-ghost use Rattle.x86_64_model.specs.Mapper.{translation};
-ghost use Rattle.x86_64_model.specs.Memory.{identity_places};
+ghost use Rattle.uses.specs.Owned.{hierarchy};
+ghost use Rattle.x86_64_model.specs.Mapper.{Valid, translation};
 ghost use Rattle.x86_64_model.specs.Translation.{address_of};
-ghost use Rattle.x86_64_mappers.specs.Layouts.{direct, owned};
 
 use std::alloc::{AllocError, Global};
 use x86_64::structures::paging::{MappedPageTable, PhysFrame, Size4KiB, Translate};
@@ -17,11 +15,10 @@ pub fn unmap_first_entry(
     root: PhysFrame<Size4KiB>,
     addr: VirtAddr,
 ) -> Result<Option<PhysAddr>, AllocError>
-    requires { ValidIn (direct identity_places root) memory.old }
-    ensures valid { let h = owned identity_places root memory.new (tt {0}) in IfOk result (λ found.
-        ValidIn (direct identity_places root) memory.new → found ≡ address_of (translation h addr)) }
-    ensures invalid { IfOk result (λ found.
-        (ValidIn (direct identity_places root) memory.new → ⊥) → found ≡ None) }
+    requires { Valid (hierarchy root memory.old) }
+    ensures valid { IfOk result (λ found. Valid (hierarchy root memory.new)
+        → found ≡ address_of (translation (hierarchy root memory.new) addr)) }
+    ensures invalid { IfOk result (λ found. (Valid (hierarchy root memory.new) → ⊥) → found ≡ None) }
 {
     let mut mapper = MappedPageTable::new(memory, root, IdentityMapping);
     mapper.level_4_table_mut()[0].set_unused();

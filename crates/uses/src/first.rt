@@ -1,8 +1,8 @@
 //! Maps a page, by any mapper.
-ghost use Rattle.std.specs.Prelude.{◌≡◌, true, IfOk, IsTrue};
-ghost use Rattle.x86_64_model.specs.Call.{MapTo};
-ghost use Rattle.x86_64_model.specs.Entry.{present};
-ghost use Rattle.x86_64_model.specs.Mapper.{ArrivesIn, DoesMap, SupplyFits, allows, path_of};
+ghost use Rattle.std.specs.Prelude.{◌≡◌, false, IfOk};
+ghost use Rattle.uses.specs.PageMaps.{ArrivesIfMapped, MapsIfAllowed, allows_page};
+ghost use Rattle.x86_64_model.specs.Mapper.{SupplyFits};
+ghost use Rattle.x86_64_model.specs.PageCalls.{MapTo};
 ghost use Rattle.x86_64_tables.specs.MapperAnswers.{map_answer};
 ghost use Rattle.x86_64_tables.specs.PageTableFlags.{bits_of};
 
@@ -20,14 +20,12 @@ pub fn map_page<M: Mapper<Size4KiB>>(
 ) -> Result<bool, MapToError<Size4KiB>>
     requires { SupplyFits (M.hierarchy mapper.old) pool.old.frames }
     ensures fits { SupplyFits (M.hierarchy mapper.new) pool.new.frames }
-    ensures allowed { let h = M.hierarchy mapper.old in
-        IfOk result (λ mapped. mapped ≡ allows h (MapTo (path_of h 1 page) frame (bits_of flags))) }
-    ensures does { let h = M.hierarchy mapper.old in let after = M.hierarchy mapper.new in
-        let call = MapTo (path_of h 1 page) frame (bits_of flags) in
-        allows h call ≡ true
-        → DoesMap h pool.old.frames call (map_answer frame result) after pool.new.frames }
-    ensures arrives { let h = M.hierarchy mapper.new in let bits = bits_of flags in
-        IfOk result (λ mapped. IsTrue mapped → present bits ≡ true → ArrivesIn h 4096 page frame bits) }
+    ensures allowed { IfOk result (λ mapped. mapped
+        ≡ allows_page (M.hierarchy mapper.old) (MapTo page frame (bits_of flags))) }
+    ensures does { MapsIfAllowed (M.hierarchy mapper.old) pool.old.frames (MapTo page frame (bits_of flags))
+        (map_answer frame result) (M.hierarchy mapper.new) pool.new.frames }
+    ensures kept { result ≡ Ok false → (mapper.new ≡ mapper.old) × (pool.new ≡ pool.old) }
+    ensures arrives { ArrivesIfMapped result (M.hierarchy mapper.new) page frame (bits_of flags) }
 {
     if !mapper.map_allowed(page, flags, parent_flags(flags)) {
         return Ok(false);

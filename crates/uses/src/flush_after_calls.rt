@@ -1,14 +1,14 @@
 //! Makes calls on the tables that a processor uses, and flushes after each what has to be flushed.
 ghost use Rattle.std.specs.Prelude.{◌≡◌, ℕ, List, [], Option, Some, unwrap_or};
+ghost use Rattle.uses.specs.InUse.{AccessesGoIn, CachesIn, InUse};
+ghost use Rattle.uses.specs.Owned.{LedBy, Stepped};
 ghost use Rattle.x86_64_model.specs.Caches.{Cached};
 ghost use Rattle.x86_64_model.specs.Flushing.{Invlpg, LoadCr3, FlushAll};
-ghost use Rattle.x86_64_model.specs.Machine.{state_after};
-ghost use Rattle.x86_64_model.specs.Mapper.{PoolFits, words};
-ghost use Rattle.x86_64.specs.Asked.{calls_by};
+ghost use Rattle.x86_64_model.specs.Store.{Kept};
+ghost use Rattle.x86_64_spaces.specs.SpaceLayouts.{store_of};
 ghost use Rattle.x86_64.specs.Calls.{asks};
 ghost use Rattle.x86_64.specs.FlushesDue.{executed};
-ghost use Rattle.x86_64.specs.Processors.{Arises, AccessesGo, CachesOften, LeftBy};
-ghost use Rattle.x86_64.specs.Runs.{machine_of, state_in, step_by, Kept};
+ghost use Rattle.x86_64.specs.Processors.{LeftBy};
 
 use x86_64::flushing::{Flush, flush_after};
 use x86_64::structures::paging::mapper::TableAccess;
@@ -23,8 +23,7 @@ pub trait Processor {
     /// Lets the processor drop and make items, which it may do at any moment. A processor does so by itself, so there is
     /// nothing to execute.
     fn cache<M: Tables>(&mut self, tables: &M)
-        ensures { let h = M.hierarchy tables.now in
-            CachesOften h.layout.levels h.layout.root (words h) (Self.cached self.old) (Self.cached self.new) };
+        ensures { CachesIn (M.hierarchy tables.now) (Self.cached self.old) (Self.cached self.new) };
 
     /// Executes `INVLPG` of an address.
     fn invalidate_page<L: LevelCount>(&mut self, addr: VirtAddrIn<L>)
@@ -60,8 +59,8 @@ fn execute<L: LevelCount, C: Processor>(
     flush: Flush,
     page: Option<VirtAddrIn<L>>,
 )
-    ensures { let f = executed flush (unwrap_or page 0) in
-        LeftBy L.LEVELS f (C.cached processor.old) (C.cached processor.new) }
+    ensures { LeftBy L.LEVELS (executed flush (unwrap_or page 0))
+        (C.cached processor.old) (C.cached processor.new) }
 {
     match flush {
         Flush::Nothing => {}
@@ -83,21 +82,14 @@ pub fn call_and_flush<
     F: FrameStore,
     C: Processor,
 >(mapper: &mut M, frames: &mut F, processor: &mut C, call: CallIn<L, P5>) -> ReplyIn<L>
-    requires fits { PoolFits (M.hierarchy mapper.old) (F.serves frames.old) (F.supply frames.old) }
-    requires arises { let h = M.hierarchy mapper.old in let pool = F.supply frames.old in
-        Arises h.layout F.take_back (F.serves frames.old) h.memory pool (C.cached processor.old) [] }
-    ensures step { let layout = (M.hierarchy mapper.old).layout in
-        let start = state_in layout (M.hierarchy mapper.old).memory (F.supply frames.old) in
-        let after = state_in layout (M.hierarchy mapper.new).memory (F.supply frames.new) in
-        step_by (machine_of layout F.take_back) start (asks P5.bits call)
-        ≡ record { state = after; reply = Some result } }
-    ensures keeps { let h = M.hierarchy mapper.old in
-        Kept h (F.serves frames.old) (F.supply frames.old) (M.hierarchy mapper.new) (F.supply frames.new) }
-    ensures serves { F.serves frames.new ≡ F.serves frames.old }
-    ensures arises { let h = M.hierarchy mapper.new in let pool = F.supply frames.new in
-        Arises h.layout F.take_back (F.serves frames.new) h.memory pool (C.cached processor.new) [] }
-    ensures accesses { let h = M.hierarchy mapper.new in
-        AccessesGo h.layout h.memory (C.cached processor.new) }
+    requires { InUse (M.hierarchy mapper.old) (store_of F.FrameStore frames.old) (C.cached processor.old) }
+    ensures step { Stepped (M.hierarchy mapper.old) (store_of F.FrameStore frames.old) (asks P5.bits call)
+        result (M.hierarchy mapper.new) (F.supply frames.new) }
+    ensures keeps { Kept (M.hierarchy mapper.old) (store_of F.FrameStore frames.old)
+        (M.hierarchy mapper.new) (store_of F.FrameStore frames.new) }
+    ensures again { InUse (M.hierarchy mapper.new) (store_of F.FrameStore frames.new)
+        (C.cached processor.new) }
+    ensures accesses { AccessesGoIn (M.hierarchy mapper.new) (C.cached processor.new) }
 {
     processor.cache(mapper);
     let reply = run_call(mapper, frames, call);
@@ -115,19 +107,12 @@ pub fn calls_and_flushes<
     F: FrameStore,
     C: Processor,
 >(mapper: &mut M, frames: &mut F, processor: &mut C, calls: &[CallIn<L, P5>])
-    requires fits { PoolFits (M.hierarchy mapper.old) (F.serves frames.old) (F.supply frames.old) }
-    requires arises { let h = M.hierarchy mapper.old in let pool = F.supply frames.old in
-        Arises h.layout F.take_back (F.serves frames.old) h.memory pool (C.cached processor.old) [] }
-    ensures fits { PoolFits (M.hierarchy mapper.new) (F.serves frames.new) (F.supply frames.new) }
-    ensures state { let layout = (M.hierarchy mapper.old).layout in
-        let start = state_in layout (M.hierarchy mapper.old).memory (F.supply frames.old) in
-        let after = state_in layout (M.hierarchy mapper.new).memory (F.supply frames.new) in
-        let made = calls_by (asks P5.bits) layout.levels calls.now in
-        after ≡ state_after (machine_of layout F.take_back) start made }
-    ensures arises { let h = M.hierarchy mapper.new in let pool = F.supply frames.new in
-        Arises h.layout F.take_back (F.serves frames.new) h.memory pool (C.cached processor.new) [] }
-    ensures accesses { let h = M.hierarchy mapper.new in
-        AccessesGo h.layout h.memory (C.cached processor.new) }
+    requires { InUse (M.hierarchy mapper.old) (store_of F.FrameStore frames.old) (C.cached processor.old) }
+    ensures state { LedBy (asks P5.bits) (M.hierarchy mapper.old) (store_of F.FrameStore frames.old) calls.now
+        (M.hierarchy mapper.new) (F.supply frames.new) }
+    ensures again { InUse (M.hierarchy mapper.new) (store_of F.FrameStore frames.new)
+        (C.cached processor.new) }
+    ensures accesses { AccessesGoIn (M.hierarchy mapper.new) (C.cached processor.new) }
 {
     for call in calls {
         call_and_flush(mapper, frames, processor, *call);

@@ -1,5 +1,5 @@
 //! Maps the segments of a program.
-ghost use Rattle.std.specs.Prelude.{◌↔◌, IfErr, IfOk, IsTrue};
+ghost use Rattle.std.specs.Prelude.{◌≡◌, ◌↔◌, false, IfErr, IfOk, IsTrue};
 ghost use Rattle.std.specs.List.{All};
 ghost use Rattle.x86_64_loader.specs.Segments.{IsAllowed, IsLoaded, IsRefused, small_pages};
 ghost use Rattle.x86_64_model.specs.Mapper.{SupplyFits};
@@ -16,13 +16,13 @@ pub fn load_program<M: MapperAllSizes>(
 ) -> Result<bool, LoadError>
     requires { SupplyFits (M.hierarchy mapper.old) pool.old.frames }
     ensures fits { SupplyFits (M.hierarchy mapper.new) pool.new.frames }
-    ensures allowed { let h = M.hierarchy mapper.old in
-        IfOk result (λ loaded. IsTrue loaded ↔ All (IsAllowed h) segments.now) }
-    ensures refused { let h = M.hierarchy mapper.old in let after = M.hierarchy mapper.new in
-        let supply = pool.old.frames in let rest = pool.new.frames in
-        IfErr result (λ error. IsRefused small_pages h supply segments.now error after rest) }
-    ensures loaded { IfOk result (λ loaded. IsTrue loaded →
-        All (IsLoaded small_pages (M.hierarchy mapper.new)) segments.now) }
+    ensures allowed { IfOk result (λ loaded. IsTrue loaded
+        ↔ All (IsAllowed (M.hierarchy mapper.old)) segments.now) }
+    ensures kept { result ≡ Ok false → (mapper.new ≡ mapper.old) × (pool.new ≡ pool.old) }
+    ensures refused { IfErr result (λ error. IsRefused small_pages (M.hierarchy mapper.old) pool.old.frames
+        segments.now error (M.hierarchy mapper.new) pool.new.frames) }
+    ensures loaded { IfOk result (λ loaded. IsTrue loaded
+        → All (IsLoaded small_pages (M.hierarchy mapper.new)) segments.now) }
 {
     if !segments_allowed(mapper, segments) {
         return Ok(false);

@@ -1,8 +1,7 @@
 //! Maps a range of pages.
-ghost use Rattle.std.specs.Prelude.{◌≡◌, ◌↔◌, true, IfErr, IfOk, IsTrue};
-ghost use Rattle.x86_64_mappers.specs.Ranges.{MapsAll, MayMapRange, StopsAt, range_of};
-ghost use Rattle.x86_64_model.specs.Entry.{present};
-ghost use Rattle.x86_64_model.specs.MapRule.{parent_part};
+ghost use Rattle.std.specs.Prelude.{◌≡◌, ◌↔◌, false, IfErr, IfOk, IsTrue};
+ghost use Rattle.uses.specs.PageMaps.{MayMapBuffer, buffer_at};
+ghost use Rattle.x86_64_mappers.specs.Ranges.{MapsAll, StopsAt};
 ghost use Rattle.x86_64_model.specs.Mapper.{SupplyFits};
 ghost use Rattle.x86_64_tables.specs.MapperAnswers.{map_refusal};
 ghost use Rattle.x86_64_tables.specs.PageTableFlags.{bits_of};
@@ -32,18 +31,14 @@ pub fn map_buffer<M: Mapper<Size4KiB>>(
 ) -> Result<bool, Stopped>
     requires { SupplyFits (M.hierarchy mapper.old) pool.old.frames }
     ensures fits { SupplyFits (M.hierarchy mapper.new) pool.new.frames }
-    ensures allowed { let more = parent_part (bits_of flags) in
-        let range = range_of 1 page frame (bits_of flags) more in
-        IfOk result (λ mapped. IsTrue mapped
-        ↔ (present more ≡ true) × MayMapRange (M.hierarchy mapper.old) range count) }
-    ensures maps { let range = range_of 1 page frame (bits_of flags) (parent_part (bits_of flags)) in
-        let h = M.hierarchy mapper.old in let after = M.hierarchy mapper.new in
-        IfOk result (λ mapped. IsTrue mapped → MapsAll h pool.old.frames range count after pool.new.frames) }
-    ensures stops { let range = range_of 1 page frame (bits_of flags) (parent_part (bits_of flags)) in
-        let h = M.hierarchy mapper.old in let after = M.hierarchy mapper.new in
-        let supply = pool.old.frames in let rest = pool.new.frames in
-        IfErr result (λ stopped.
-        StopsAt h supply range count stopped.mapped (map_refusal stopped.why) after rest) }
+    ensures allowed { IfOk result (λ mapped. IsTrue mapped
+        ↔ MayMapBuffer (M.hierarchy mapper.old) (buffer_at page frame (bits_of flags)) count) }
+    ensures kept { result ≡ Ok false → (mapper.new ≡ mapper.old) × (pool.new ≡ pool.old) }
+    ensures maps { IfOk result (λ mapped. IsTrue mapped → MapsAll (M.hierarchy mapper.old) pool.old.frames
+        (buffer_at page frame (bits_of flags)) count (M.hierarchy mapper.new) pool.new.frames) }
+    ensures stops { IfErr result (λ stopped. StopsAt (M.hierarchy mapper.old) pool.old.frames
+        (buffer_at page frame (bits_of flags)) count stopped.mapped (map_refusal stopped.why)
+        (M.hierarchy mapper.new) pool.new.frames) }
 {
     let parent_flags = parent_flags(flags);
     if !mapper.map_range_allowed(page, count, frame, flags, parent_flags) {

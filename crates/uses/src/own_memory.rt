@@ -1,15 +1,12 @@
 //! Maps a page in the caller's own tables.
-ghost use Rattle.std.specs.Prelude.{◌≡◌, ◌↔◌, true, IfOk, IsTrue};
-ghost use Rattle.x86_64_mappers.specs.Layouts.{direct, owned};
-ghost use Rattle.x86_64_model.specs.Call.{MapTo};
-ghost use Rattle.x86_64_model.specs.Entry.{present};
-ghost use Rattle.x86_64_model.specs.Layout.{IsReady};
-ghost use Rattle.x86_64_model.specs.Mapper.{ArrivesIn, Steps, allows, path_of};
-ghost use Rattle.x86_64_model.specs.Memory.{identity_places};
-ghost use Rattle.x86_64_model.specs.Pool.{serves_below};
+ghost use Rattle.std.specs.Prelude.{◌≡◌, ◌↔◌, false, IfOk, IsTrue};
+ghost use Rattle.uses.specs.Owned.{hierarchy, pool_store};
+ghost use Rattle.uses.specs.PageMaps.{ArrivesIfMapped, StepsIfAllowed, allows_page};
+ghost use Rattle.x86_64_model.specs.Mapper.{SupplyFits};
+ghost use Rattle.x86_64_model.specs.PageCalls.{MapTo};
+ghost use Rattle.x86_64_model.specs.Store.{Fits};
 ghost use Rattle.x86_64_tables.specs.LentMemory.{numbered};
 ghost use Rattle.x86_64_tables.specs.MapperAnswers.{map_answer};
-ghost use Rattle.x86_64.specs.Runs.{FitsPool};
 ghost use Rattle.x86_64_tables.specs.PageTableFlags.{bits_of};
 
 use std::alloc::{AllocError, Global};
@@ -28,17 +25,15 @@ pub fn map_in<T: TableMemory>(
     flags: PageTableFlags,
     pool: &mut FramePool,
 ) -> Result<bool, MapToError<Size4KiB>>
-    requires { IsReady (direct identity_places root) (T.tables memory.old) pool.old.frames }
-    ensures fits { IsReady (direct identity_places root) (T.tables memory.new) pool.new.frames }
-    ensures allowed { let h = owned identity_places root (T.tables memory.old) (tt {0}) in
-        IfOk result (λ mapped. mapped ≡ allows h (MapTo (path_of h 1 page) frame (bits_of flags))) }
-    ensures does { let h = owned identity_places root (T.tables memory.old) (tt {0}) in
-        let after = owned identity_places root (T.tables memory.new) (tt {0}) in
-        let call = MapTo (path_of h 1 page) frame (bits_of flags) in
-        allows h call ≡ true → Steps h pool.old.frames call (map_answer frame result) after pool.new.frames }
-    ensures arrives { let h = owned identity_places root (T.tables memory.new) (tt {0}) in
-        let bits = bits_of flags in
-        IfOk result (λ mapped. IsTrue mapped → present bits ≡ true → ArrivesIn h 4096 page frame bits) }
+    requires { SupplyFits (hierarchy root (T.tables memory.old)) pool.old.frames }
+    ensures fits { SupplyFits (hierarchy root (T.tables memory.new)) pool.new.frames }
+    ensures allowed { IfOk result (λ mapped. mapped
+        ≡ allows_page (hierarchy root (T.tables memory.old)) (MapTo page frame (bits_of flags))) }
+    ensures does { StepsIfAllowed (hierarchy root (T.tables memory.old)) pool.old.frames
+        (MapTo page frame (bits_of flags)) (map_answer frame result)
+        (hierarchy root (T.tables memory.new)) pool.new.frames }
+    ensures kept { result ≡ Ok false → (T.tables memory.new ≡ T.tables memory.old) × (pool.new ≡ pool.old) }
+    ensures arrives { ArrivesIfMapped result (hierarchy root (T.tables memory.new)) page frame (bits_of flags) }
     ensures lent { T.lent memory.new ≡ T.lent memory.old }
 {
     let mut mapper = MappedPageTable::new(memory, root, IdentityMapping);
@@ -56,10 +51,11 @@ pub fn is_ready(
     root: PhysFrame<Size4KiB>,
     pool: &FramePool,
 ) -> Result<bool, AllocError>
-    ensures exact { let layout = direct identity_places root in let serves = serves_below pool.now.limit in
-        IfOk result (λ ready. IsTrue ready ↔ FitsPool layout (numbered tables.old) serves pool.now.frames) }
-    ensures ready { IfOk result (λ ready. IsTrue ready →
-        IsReady (direct identity_places root) (numbered tables.new) pool.now.frames) }
+    ensures exact { IfOk result (λ ready. IsTrue ready
+        ↔ Fits (hierarchy root (numbered tables.old)) (pool_store pool.now)) }
+    ensures ready { IfOk result (λ ready. IsTrue ready
+        → SupplyFits (hierarchy root (numbered tables.new)) pool.now.frames) }
+    ensures kept { tables.new ≡ tables.old }
 {
     let memory = LentMemory::new(tables);
     pool_fits(alloc, &memory, &IdentityMapping, root, pool)
@@ -74,17 +70,15 @@ pub fn map_in_slice(
     flags: PageTableFlags,
     pool: &mut FramePool,
 ) -> Result<bool, MapToError<Size4KiB>>
-    requires { IsReady (direct identity_places root) (numbered tables.old) pool.old.frames }
-    ensures fits { IsReady (direct identity_places root) (numbered tables.new) pool.new.frames }
-    ensures allowed { let h = owned identity_places root (numbered tables.old) (tt {0}) in
-        IfOk result (λ mapped. mapped ≡ allows h (MapTo (path_of h 1 page) frame (bits_of flags))) }
-    ensures does { let h = owned identity_places root (numbered tables.old) (tt {0}) in
-        let after = owned identity_places root (numbered tables.new) (tt {0}) in
-        let call = MapTo (path_of h 1 page) frame (bits_of flags) in
-        allows h call ≡ true → Steps h pool.old.frames call (map_answer frame result) after pool.new.frames }
-    ensures arrives { let h = owned identity_places root (numbered tables.new) (tt {0}) in
-        let bits = bits_of flags in
-        IfOk result (λ mapped. IsTrue mapped → present bits ≡ true → ArrivesIn h 4096 page frame bits) }
+    requires { SupplyFits (hierarchy root (numbered tables.old)) pool.old.frames }
+    ensures fits { SupplyFits (hierarchy root (numbered tables.new)) pool.new.frames }
+    ensures allowed { IfOk result (λ mapped. mapped
+        ≡ allows_page (hierarchy root (numbered tables.old)) (MapTo page frame (bits_of flags))) }
+    ensures does { StepsIfAllowed (hierarchy root (numbered tables.old)) pool.old.frames
+        (MapTo page frame (bits_of flags)) (map_answer frame result)
+        (hierarchy root (numbered tables.new)) pool.new.frames }
+    ensures kept { result ≡ Ok false → (tables.new ≡ tables.old) × (pool.new ≡ pool.old) }
+    ensures arrives { ArrivesIfMapped result (hierarchy root (numbered tables.new)) page frame (bits_of flags) }
 {
     let mut memory = LentMemory::new(tables);
     map_in(&mut memory, root, page, frame, flags, pool)

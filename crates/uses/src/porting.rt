@@ -1,7 +1,8 @@
 //! Calls of the Rust crate, as they are written here.
-ghost use Rattle.std.specs.Prelude.{◌≡◌, ◌↔◌, ◌<◌, ◌++◌, [], ◌∷◌, ℕ, List, true, IfErr, IfOk, IfSome, IsSome, IsTrue};
-ghost use Rattle.x86_64_model.specs.Call.{MapTo, Unmap};
-ghost use Rattle.x86_64_model.specs.Mapper.{CleansUp, DoesMap, MayCleanUp, Steps, SupplyFits, Valid, allows, path_of, translation};
+ghost use Rattle.std.specs.Prelude.{◌≡◌, ◌↔◌, ◌<◌, ◌++◌, [], ◌∷◌, true, false, None, IfErr, IfOk, IfSome, IsSome, IsTrue};
+ghost use Rattle.uses.specs.PageMaps.{MapsIfAllowed, allows_page};
+ghost use Rattle.x86_64_model.specs.Mapper.{CleansUp, MayCleanUp, SupplyFits, Valid, translation};
+ghost use Rattle.x86_64_model.specs.PageCalls.{Answers, MapTo, Unmap};
 ghost use Rattle.x86_64_model.specs.Refusal.{Done, Refused};
 ghost use Rattle.x86_64_model.specs.Translation.{address_of};
 ghost use Rattle.x86_64_tables.specs.FlushRecorder.{page_item};
@@ -24,12 +25,13 @@ pub fn map<M: Mapper<Size4KiB>, A: FrameAllocator<Size4KiB>>(
     recorder: &mut FlushRecorder,
 ) -> Result<bool, MapToError<Size4KiB>>
     requires { SupplyFits (M.hierarchy mapper.old) (A.supply frames.old) }
-    ensures allowed { let h = M.hierarchy mapper.old in
-        IfOk result (λ mapped. mapped ≡ allows h (MapTo (path_of h 1 page) frame (bits_of flags))) }
-    ensures does { let h = M.hierarchy mapper.old in let after = M.hierarchy mapper.new in
-        let call = MapTo (path_of h 1 page) frame (bits_of flags) in
-        let supply = A.supply frames.old in let rest = A.supply frames.new in
-        allows h call ≡ true → DoesMap h supply call (map_answer frame result) after rest }
+    ensures allowed { IfOk result (λ mapped. mapped
+        ≡ allows_page (M.hierarchy mapper.old) (MapTo page frame (bits_of flags))) }
+    ensures does { MapsIfAllowed (M.hierarchy mapper.old) (A.supply frames.old)
+        (MapTo page frame (bits_of flags)) (map_answer frame result)
+        (M.hierarchy mapper.new) (A.supply frames.new) }
+    ensures kept { result ≡ Ok false
+        → (mapper.new ≡ mapper.old) × (frames.new ≡ frames.old) × (recorder.new ≡ recorder.old) }
     ensures recorded { IfOk result (λ mapped. IsTrue mapped → 0 < recorder.old.room →
         recorder.new.items ≡ recorder.old.items ++ page_item 4 page 4096 ∷ []) }
 {
@@ -49,15 +51,13 @@ pub fn unmap<M: Mapper<Size4KiB>>(
     page: Page<Size4KiB>,
 ) -> Result<Option<PhysFrame<Size4KiB>>, UnmapError>
     requires { Valid (M.hierarchy mapper.old) }
-    ensures allowed { let h = M.hierarchy mapper.old in
-        IfOk result (λ frame. IsSome frame ↔ (allows h (Unmap (path_of h 1 page)) ≡ true)) }
-    ensures unmapped { let h = M.hierarchy mapper.old in let after = M.hierarchy mapper.new in
-        let call = Unmap (path_of h 1 page) in
-        IfOk result (λ some. IfSome some (λ frame.
-        (pool : List ℕ) → Steps h pool call (Done frame) after pool)) }
-    ensures refused { let h = M.hierarchy mapper.old in let after = M.hierarchy mapper.new in
-        let call = Unmap (path_of h 1 page) in
-        IfErr result (λ why. (pool : List ℕ) → Steps h pool call (Refused (unmap_refusal why)) after pool) }
+    ensures allowed { IfOk result (λ frame. IsSome frame
+        ↔ (allows_page (M.hierarchy mapper.old) (Unmap page) ≡ true)) }
+    ensures unmapped { IfOk result (λ some. IfSome some (λ frame. Answers (M.hierarchy mapper.old) 1
+        (Unmap page) (Done frame) (M.hierarchy mapper.new))) }
+    ensures refused { IfErr result (λ why. Answers (M.hierarchy mapper.old) 1 (Unmap page)
+        (Refused (unmap_refusal why)) (M.hierarchy mapper.new)) }
+    ensures kept { result ≡ Ok None → mapper.new ≡ mapper.old }
 {
     if !is_outside_window(mapper, page) {
         return Ok(None);
@@ -78,8 +78,8 @@ pub fn translate<M: Translate>(mapper: &M, addr: VirtAddr) -> Option<PhysAddr>
 /// Returns the frames of empty tables.
 pub fn clean_up<M: CleanUp, D: FrameDeallocator<Size4KiB>>(mapper: &mut M, frames: &mut D)
     requires { MayCleanUp (M.hierarchy mapper.old) (D.serves frames.old) (D.held frames.old) }
-    ensures { let h = M.hierarchy mapper.old in let after = M.hierarchy mapper.new in
-        CleansUp h D.take_back (D.held frames.old) 0 0xffff_ffff_ffff after (D.held frames.new) }
+    ensures { CleansUp (M.hierarchy mapper.old) D.take_back (D.held frames.old) 0 0xffff_ffff_ffff
+        (M.hierarchy mapper.new) (D.held frames.new) }
 {
     mapper.clean_up(frames);
 }

@@ -1,18 +1,14 @@
 //! A kernel with several processes. Each has an address space of its own, whose upper half is the kernel's, and one pool
 //! has the frames for all tables.
-ghost use Rattle.std.specs.Prelude.{◌≡◌, [], ◌∷◌, ◌++◌, true, false, Some, IfNone, IfSome, OnErr, OnOk};
-ghost use Rattle.uses.specs.Processes.{is_kernels, if_own, lower_clean_up, unmaps, IsEnded, IsServed, IsStarted, IsUsed};
-ghost use Rattle.x86_64_mappers.specs.Layouts.{direct};
-ghost use Rattle.x86_64_model.specs.Call.{MapTo, Unmap};
-ghost use Rattle.x86_64_model.specs.FitsPool.{FitsPool};
-ghost use Rattle.x86_64_model.specs.Memory.{identity_places};
-ghost use Rattle.x86_64_model.specs.Path.{path_at};
+ghost use Rattle.std.specs.Prelude.{◌≡◌, [], ◌∷◌, true, false, IfNone, IfSome, OnErr, OnOk};
+ghost use Rattle.uses.specs.Owned.{Stepped, hierarchy, pool_store};
+ghost use Rattle.uses.specs.Processes.{is_kernels, ending, lower_clean_up, own_map, own_unmap, GoesOn, IsEnded, IsServed, IsStarted};
+ghost use Rattle.x86_64_model.specs.PageCalls.{MapTo};
 ghost use Rattle.x86_64_model.specs.Pool.{serves_below};
 ghost use Rattle.x86_64_model.specs.Position.{index};
+ghost use Rattle.x86_64_model.specs.Store.{Fits};
 ghost use Rattle.x86_64_tables.specs.PageTableFlags.{bits_of};
-ghost use Rattle.x86_64.specs.Asked as asked;
-ghost use Rattle.x86_64.specs.Pairs.{put_first};
-ghost use Rattle.x86_64.specs.Runs.{machine_of, state_in, step_by};
+ghost use Rattle.x86_64.specs.Asked.{Of4KiB};
 ghost use Rattle.x86_64.specs.declared.calls.MapperReply.TheVariants.{NotAllowed};
 
 use crate::run_in_space::call_on;
@@ -31,13 +27,10 @@ pub fn start<T: TableMemory>(
     kernel: PhysFrame<Size4KiB>,
     pool: &mut FramePool,
 ) -> Option<PhysFrame<Size4KiB>>
-    requires { let one = direct identity_places kernel in
-        FitsPool one (T.tables memory.old) (serves_below pool.old.limit) pool.old.frames }
-    ensures started { let one = direct identity_places kernel in let serves = serves_below pool.old.limit in
-        let m = T.tables memory.old in let n = T.tables memory.new in
-        IfSome result (λ root.
-        IsStarted one (direct identity_places root) serves m pool.old.frames n pool.new.frames) }
-    ensures full { IfNone result ((pool.old.frames ≡ []) × (T.tables memory.new ≡ T.tables memory.old)) }
+    requires { Fits (hierarchy kernel (T.tables memory.old)) (pool_store pool.old) }
+    ensures started { IfSome result (λ root. IsStarted (hierarchy kernel (T.tables memory.old))
+        (pool_store pool.old) (hierarchy root (T.tables memory.new)) pool.new.frames) }
+    ensures full { IfNone result ((pool.old.frames ≡ []) × (memory.new ≡ memory.old)) }
     ensures lent { T.lent memory.new ≡ T.lent memory.old }
     ensures limit { serves_below pool.new.limit ≡ serves_below pool.old.limit }
 {
@@ -61,20 +54,14 @@ pub fn map_in<T: TableMemory>(
     flags: PageTableFlags,
     pool: &mut FramePool,
 ) -> Reply
-    requires { let one = direct identity_places process in
-        FitsPool one (T.tables memory.old) (serves_below pool.old.limit) pool.old.frames }
-    ensures served { let one = direct identity_places process in let serves = serves_below pool.old.limit in
-        let m = T.tables memory.old in let n = T.tables memory.new in
-        let calls = if_own page (MapTo (path_at 4 1 page) frame (bits_of flags)) in
-        IsServed one calls serves m pool.old.frames n pool.new.frames }
-    ensures reply { let one = direct identity_places process in
-        let start = state_in one (T.tables memory.old) pool.old.frames in
-        let after = state_in one (T.tables memory.new) pool.new.frames in
-        is_kernels (index 4 page) ≡ false
-        → step_by (machine_of one put_first) start (asked.Of4KiB (asked.MapTo page frame (bits_of flags)))
-        ≡ record { state = after; reply = Some result } }
-    ensures refused { is_kernels (index 4 page) ≡ true → (result ≡ NotAllowed)
-        × (T.tables memory.new ≡ T.tables memory.old) × (pool.new.frames ≡ pool.old.frames) }
+    requires { Fits (hierarchy process (T.tables memory.old)) (pool_store pool.old) }
+    ensures served { IsServed (hierarchy process (T.tables memory.old)) (pool_store pool.old)
+        (own_map page frame (bits_of flags)) (hierarchy process (T.tables memory.new)) pool.new.frames }
+    ensures reply { is_kernels (index 4 page) ≡ false → Stepped (hierarchy process (T.tables memory.old))
+        (pool_store pool.old) (Of4KiB (MapTo page frame (bits_of flags))) result
+        (hierarchy process (T.tables memory.new)) pool.new.frames }
+    ensures refused { is_kernels (index 4 page) ≡ true
+        → (result ≡ NotAllowed) × (memory.new ≡ memory.old) × (pool.new ≡ pool.old) }
     ensures lent { T.lent memory.new ≡ T.lent memory.old }
     ensures limit { serves_below pool.new.limit ≡ serves_below pool.old.limit }
 {
@@ -99,16 +86,12 @@ pub fn end<T: TableMemory>(
     pages: &[Page<Size4KiB>],
     pool: &mut FramePool,
 ) -> Result<(), GiveUpError>
-    requires fits { let one = direct identity_places process in
-        FitsPool one (T.tables memory.old) (serves_below pool.old.limit) pool.old.frames }
+    requires fits { Fits (hierarchy process (T.tables memory.old)) (pool_store pool.old) }
     requires served { serves_below pool.old.limit process ≡ true }
-    ensures ended { let one = direct identity_places process in let serves = serves_below pool.old.limit in
-        let m = T.tables memory.old in let n = T.tables memory.new in
-        OnOk result (IsEnded one serves m pool.old.frames n pool.new.frames) }
-    ensures goes_on { let one = direct identity_places process in let serves = serves_below pool.old.limit in
-        let m = T.tables memory.old in let n = T.tables memory.new in
-        let calls = unmaps pages.now ++ lower_clean_up ∷ [] in
-        OnErr result (IsServed one calls serves m pool.old.frames n pool.new.frames × IsUsed one n) }
+    ensures ended { OnOk result (IsEnded (hierarchy process (T.tables memory.old)) (pool_store pool.old)
+        (T.tables memory.new) pool.new.frames) }
+    ensures goes_on { OnErr result (GoesOn (hierarchy process (T.tables memory.old)) (pool_store pool.old)
+        (ending pages.now) (hierarchy process (T.tables memory.new)) pool.new.frames) }
     ensures lent { T.lent memory.new ≡ T.lent memory.old }
     ensures limit { serves_below pool.new.limit ≡ serves_below pool.old.limit }
 {
@@ -131,12 +114,9 @@ fn unmap_in<T: TableMemory>(
     page: Page<Size4KiB>,
     pool: &mut FramePool,
 )
-    requires { let one = direct identity_places process in
-        FitsPool one (T.tables memory.old) (serves_below pool.old.limit) pool.old.frames }
-    ensures served { let one = direct identity_places process in let serves = serves_below pool.old.limit in
-        let m = T.tables memory.old in let n = T.tables memory.new in
-        let calls = if_own page (Unmap (path_at 4 1 page)) in
-        IsServed one calls serves m pool.old.frames n pool.new.frames }
+    requires { Fits (hierarchy process (T.tables memory.old)) (pool_store pool.old) }
+    ensures served { IsServed (hierarchy process (T.tables memory.old)) (pool_store pool.old)
+        (own_unmap page) (hierarchy process (T.tables memory.new)) pool.new.frames }
     ensures lent { T.lent memory.new ≡ T.lent memory.old }
     ensures limit { serves_below pool.new.limit ≡ serves_below pool.old.limit }
 {
@@ -148,11 +128,9 @@ fn unmap_in<T: TableMemory>(
 
 /// Returns the frames of the empty tables of a process to the pool. Those below the kernel's half stay.
 fn free_tables<T: TableMemory>(memory: &mut T, process: PhysFrame<Size4KiB>, pool: &mut FramePool)
-    requires { let one = direct identity_places process in
-        FitsPool one (T.tables memory.old) (serves_below pool.old.limit) pool.old.frames }
-    ensures served { let one = direct identity_places process in let serves = serves_below pool.old.limit in
-        let m = T.tables memory.old in let n = T.tables memory.new in
-        IsServed one (lower_clean_up ∷ []) serves m pool.old.frames n pool.new.frames }
+    requires { Fits (hierarchy process (T.tables memory.old)) (pool_store pool.old) }
+    ensures served { IsServed (hierarchy process (T.tables memory.old)) (pool_store pool.old)
+        (lower_clean_up ∷ []) (hierarchy process (T.tables memory.new)) pool.new.frames }
     ensures lent { T.lent memory.new ≡ T.lent memory.old }
     ensures limit { serves_below pool.new.limit ≡ serves_below pool.old.limit }
 {

@@ -1,12 +1,12 @@
 //! Runs a list of calls on one of several address spaces: hierarchies in one memory, with one pool, whose roots have the
 //! same entries at some indices of the highest level, and so the same tables below these.
-ghost use Rattle.std.specs.Prelude.{◌≡◌, [], ◌∷◌, Some, OnErr, OnOk};
+ghost use Rattle.std.specs.Prelude.{◌≡◌, [], ◌∷◌, OnErr, OnOk};
+ghost use Rattle.uses.specs.Owned.{RanOn, Stepped, hierarchy_at};
 ghost use Rattle.uses.specs.SpacesBeside.{LeavesSpaces};
-ghost use Rattle.x86_64_mappers.specs.Layouts.{direct_at, owned_at};
-ghost use Rattle.x86_64_model.specs.FitsPool.{FitsPool, KeepsPool};
+ghost use Rattle.x86_64_model.specs.Store.{Fits};
+ghost use Rattle.x86_64_spaces.specs.SpaceLayouts.{store_of};
 ghost use Rattle.x86_64.specs.Asked.{calls_by, machine_call};
 ghost use Rattle.x86_64.specs.Calls.{asks};
-ghost use Rattle.x86_64.specs.Runs.{Ran, machine_of, state_in, step_by};
 
 use std::alloc::AllocError;
 use x86_64::structures::paging::mapper::PageTableFrameMapping;
@@ -42,24 +42,16 @@ pub fn run_on<
     calls: &[CallIn<L, P5>],
     replies: &mut Vec<ReplyIn<L>>,
 ) -> Result<(), AllocError>
-    requires { let one = direct_at L.LEVELS (P.places mapping) root in
-        FitsPool one (T.tables memory.old) (F.serves frames.old) (F.supply frames.old) }
-    ensures ran { let h = owned_at L.LEVELS (P.places mapping) root (T.tables memory.old) (tt {0}) in
-        let after = owned_at L.LEVELS (P.places mapping) root (T.tables memory.new) (tt {0}) in
-        let pool = F.supply frames.old in let rest = F.supply frames.new in
-        let before = replies.old.items in let now = replies.new.items in
-        OnOk result (Ran (asks P5.bits) F.take_back h pool calls.now before now after rest) }
-    ensures unchanged { let m = T.tables memory.old in
-        OnErr result ((T.tables memory.new ≡ m) × (frames.new ≡ frames.old)) }
-    ensures keeps { let one = direct_at L.LEVELS (P.places mapping) root in
-        let m = T.tables memory.old in let n = T.tables memory.new in
-        KeepsPool one (F.serves frames.old) m (F.supply frames.old) n (F.supply frames.new) }
-    ensures beside { let one = direct_at L.LEVELS (P.places mapping) root in
-        let m = T.tables memory.old in let n = T.tables memory.new in
-        let asked = calls_by (asks P5.bits) L.LEVELS calls.now in
-        LeavesSpaces one (F.serves frames.old) asked m (F.supply frames.old) n (F.supply frames.new) }
-    ensures lent { T.lent memory.new ≡ T.lent memory.old }
-    ensures serves { F.serves frames.new ≡ F.serves frames.old }
+    requires { Fits (hierarchy_at L.LEVELS (P.places mapping) root (T.tables memory.old))
+        (store_of F.FrameStore frames.old) }
+    ensures ran { let h = hierarchy_at L.LEVELS (P.places mapping) root in OnOk result (
+        RanOn (asks P5.bits) (h (T.tables memory.old)) (store_of F.FrameStore frames.old) calls.now
+        replies.old.items replies.new.items (h (T.tables memory.new)) (F.supply frames.new)) }
+    ensures refused { OnErr result ((T.tables memory.new ≡ T.tables memory.old) × (frames.new ≡ frames.old)) }
+    ensures beside { LeavesSpaces (hierarchy_at L.LEVELS (P.places mapping) root (T.tables memory.old))
+        (store_of F.FrameStore frames.old) (calls_by (asks P5.bits) L.LEVELS calls.now)
+        (T.tables memory.new) (F.supply frames.new) }
+    ensures same { (T.lent memory.new ≡ T.lent memory.old) × (F.serves frames.new ≡ F.serves frames.old) }
 {
     spaces_stay();
     shared_halves_stay();
@@ -85,22 +77,15 @@ pub fn call_on<
     frames: &mut F,
     call: CallIn<L, P5>,
 ) -> ReplyIn<L>
-    requires { let one = direct_at L.LEVELS (P.places mapping) root in
-        FitsPool one (T.tables memory.old) (F.serves frames.old) (F.supply frames.old) }
-    ensures step { let one = direct_at L.LEVELS (P.places mapping) root in
-        let start = state_in one (T.tables memory.old) (F.supply frames.old) in
-        let after = state_in one (T.tables memory.new) (F.supply frames.new) in
-        step_by (machine_of one F.take_back) start (asks P5.bits call)
-        ≡ record { state = after; reply = Some result } }
-    ensures keeps { let one = direct_at L.LEVELS (P.places mapping) root in
-        let m = T.tables memory.old in let n = T.tables memory.new in
-        KeepsPool one (F.serves frames.old) m (F.supply frames.old) n (F.supply frames.new) }
-    ensures beside { let one = direct_at L.LEVELS (P.places mapping) root in
-        let m = T.tables memory.old in let n = T.tables memory.new in
-        let asked = machine_call L.LEVELS (asks P5.bits call) in
-        LeavesSpaces one (F.serves frames.old) (asked ∷ []) m (F.supply frames.old) n (F.supply frames.new) }
-    ensures lent { T.lent memory.new ≡ T.lent memory.old }
-    ensures serves { F.serves frames.new ≡ F.serves frames.old }
+    requires { Fits (hierarchy_at L.LEVELS (P.places mapping) root (T.tables memory.old))
+        (store_of F.FrameStore frames.old) }
+    ensures step { let h = hierarchy_at L.LEVELS (P.places mapping) root in
+        Stepped (h (T.tables memory.old)) (store_of F.FrameStore frames.old) (asks P5.bits call) result
+        (h (T.tables memory.new)) (F.supply frames.new) }
+    ensures beside { LeavesSpaces (hierarchy_at L.LEVELS (P.places mapping) root (T.tables memory.old))
+        (store_of F.FrameStore frames.old) (machine_call L.LEVELS (asks P5.bits call) ∷ [])
+        (T.tables memory.new) (F.supply frames.new) }
+    ensures same { (T.lent memory.new ≡ T.lent memory.old) × (F.serves frames.new ≡ F.serves frames.old) }
 {
     spaces_stay();
     shared_halves_stay();

@@ -1,10 +1,9 @@
 //! Runs a list of calls.
-ghost use Rattle.std.specs.Prelude.{◌≡◌, [], ◌∷◌, ◌++◌, map, Some, OnOk};
-ghost use Rattle.x86_64_model.specs.Mapper.{PoolFits, machine_of, state_of};
-ghost use Rattle.x86_64_model.specs.Pool.{serves_below};
+ghost use Rattle.std.specs.Prelude.{◌≡◌, OnErr, OnOk};
+ghost use Rattle.uses.specs.Owned.{Replied, pool_store};
+ghost use Rattle.uses.specs.PageMaps.{three_calls};
+ghost use Rattle.x86_64_model.specs.Store.{Fits, Kept};
 ghost use Rattle.x86_64_tables.specs.PageTableFlags.{bits_of};
-ghost use Rattle.x86_64.specs.Asked as asked;
-ghost use Rattle.x86_64.specs.Runs.{replies_to};
 
 use std::alloc::AllocError;
 use x86_64::structures::paging::mapper::{CleanUp, MapperAllSizes};
@@ -20,14 +19,13 @@ pub fn map_and_unmap<M: MapperAllSizes + Translate + CleanUp>(
     flags: PageTableFlags,
     replies: &mut Vec<Reply>,
 ) -> Result<(), AllocError>
-    requires { PoolFits (M.hierarchy mapper.old) (serves_below pool.old.limit) pool.old.frames }
-    ensures fits { PoolFits (M.hierarchy mapper.new) (serves_below pool.old.limit) pool.new.frames }
-    ensures replies { let h = M.hierarchy mapper.old in let start = state_of h pool.old.frames in
-        let machine = machine_of h.layout (λ held frame. frame ∷ held) in
-        let first = asked.Of4KiB (asked.MapTo page frame (bits_of flags)) in
-        let calls = first ∷ asked.Of4KiB (asked.Unmap page) ∷ asked.CleanUp ∷ [] in
-        OnOk result (map Some replies.new.items
-        ≡ map Some replies.old.items ++ replies_to (λ call. call) machine start calls) }
+    requires { Fits (M.hierarchy mapper.old) (pool_store pool.old) }
+    ensures replies { OnOk result (Replied (M.hierarchy mapper.old) (pool_store pool.old)
+        (three_calls page frame (bits_of flags)) replies.old.items replies.new.items) }
+    ensures unchanged { OnErr result (
+        (replies.new.items ≡ replies.old.items) × (mapper.new ≡ mapper.old) × (pool.new ≡ pool.old)) }
+    ensures keeps { Kept (M.hierarchy mapper.old) (pool_store pool.old)
+        (M.hierarchy mapper.new) (pool_store pool.new) }
 {
     let calls = [
         Call::Of4KiB(SizeCall::MapTo { page, frame, flags }),

@@ -1,5 +1,6 @@
 pub mod SpaceLayouts
 pub mod Room
+pub mod SpaceCalls
 pub mod SpaceLaws
 pub mod private
 pub use Rattle.x86_64_model.specs.Spaces
@@ -8,3 +9,4 @@ pub use Rattle.x86_64_model.specs.Layout
 pub use Rattle.x86_64_model.specs.Lists
 pub use Rattle.x86_64_model.specs.Memory
 pub use Rattle.x86_64_model.specs.Pool
+pub use Rattle.x86_64_model.specs.Store

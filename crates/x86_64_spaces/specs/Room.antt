@@ -1,9 +1,11 @@
--- Room in an array for the frames that a pool may ever hold.
+-- What tests of several address spaces answer: whether they share some indices, a pool fits each, and an array has room.
 use Rattle.std.specs.Prelude.{◌≡◌, ◌≤◌, ℕ, Bool, true, List, length}
 use Rattle.x86_64_model.specs.Layout.{Layout}
-use Rattle.x86_64_model.specs.Lists.{In}
-use Rattle.x86_64_model.specs.Memory.{Memory}
+use Rattle.x86_64_model.specs.Lists.{In, EachOnce}
+use Rattle.x86_64_model.specs.Memory.{Memory, Places}
 use Rattle.x86_64_model.specs.Spaces.{AreSpaces}
+use Rattle.x86_64_spaces.specs.declared.space.Space.{Space}
+use Rattle.x86_64_spaces.specs.SpaceLayouts.{layouts_of, roots_of}
 use Rattle.x86_64_tables.specs.LentPool.{is_in}
 
 -- These are address spaces, and an array has room for every frame that the pool may ever hold: its own frames, and those of all
@@ -13,3 +15,26 @@ pub record AreSpacesWithRoom (shared : ℕ → Bool) (m : Memory) (capacity : �
   pub few : length own ≤ capacity
   pub roots : (a : Layout) → In layouts a → is_in own a.root ≡ true
   pub spaces : AreSpaces shared m (is_in own) pool layouts
+
+-- Address spaces whose tables are in one memory, where each frame has its place, with this number of levels.
+pub record SpacesIn : Type 0 where
+  pub levels : ℕ
+  pub places : Places
+  pub memory : Memory
+  pub spaces : List Space
+
+abbrev pub spaces_in : (levels : ℕ) → Places → Memory → List Space → SpacesIn
+spaces_in levels places memory spaces = record { levels = levels; places = places; memory = memory; spaces = spaces }
+
+-- Their layouts.
+abbrev pub layouts_in : SpacesIn → List Layout
+layouts_in all = layouts_of all.levels all.places all.memory all.spaces
+
+-- Their roots are distinct, any two share these indices, and a pool fits each.
+abbrev pub ShareAndFit : (shared : ℕ → Bool) → SpacesIn → (serves : ℕ → Bool) → (pool : List ℕ) → Type 0
+ShareAndFit shared all serves pool = EachOnce (roots_of all.spaces) × AreSpaces shared all.memory serves pool (layouts_in all)
+
+-- Their roots are distinct, any two share these indices, a pool fits each, and an array has room for every frame that the pool may
+-- ever hold.
+abbrev pub ShareWithRoom : (shared : ℕ → Bool) → SpacesIn → (capacity : ℕ) → (pool : List ℕ) → Type 0
+ShareWithRoom shared all capacity pool = EachOnce (roots_of all.spaces) × AreSpacesWithRoom shared all.memory capacity pool (layouts_in all)

@@ -1,22 +1,24 @@
 -- Address spaces in a memory, by their roots and recursive indices.
 use Rattle.std.specs.Prelude.{◌≡◌, ℕ, ◌&&◌, nat_le, nat_lt, Bool, false, List, [], ◌∷◌, Option, Some, None, map}
 use Rattle.x86_64_model.specs.Layout.{Layout, paths}
+use Rattle.x86_64_model.specs.Mapper.{Hierarchy}
 use Rattle.x86_64_model.specs.Memory.{Memory, Places, words_of}
 use Rattle.x86_64_model.specs.PathMap.{entry}
+use Rattle.x86_64_model.specs.Store.{Store}
 use Rattle.x86_64_spaces.specs.declared.space.SharedIndices.{SharedIndices}
 use Rattle.x86_64_spaces.specs.declared.space.Space.{Space}
 use Rattle.x86_64_tables.specs.SelfEntries.{window_in}
 
--- whether an index of the highest level is shared
+-- Whether an index of the highest level is shared.
 abbrev pub indices_of : SharedIndices → (index : ℕ) → Bool
 indices_of shared i = nat_le shared.from i && nat_lt i shared.to
 
--- the flags that a new table entry gets in addition to the parent flags: PRESENT and WRITABLE with a recursive index
+-- The flags that a new table entry gets in addition to the parent flags: PRESENT and WRITABLE with a recursive index.
 abbrev pub flags_added : (recursive : Option ℕ) → ℕ
 flags_added None = 0
 flags_added (Some r) = 3
 
--- the layout of an address space whose tables are in a memory
+-- The layout of an address space whose tables are in a memory.
 abbrev pub layout_of : (levels : ℕ) → Places → Memory → Space → Layout
 layout_of levels places memory space = record {
   levels = levels;
@@ -26,16 +28,29 @@ layout_of levels places memory space = record {
   added_flags = flags_added space.recursive;
 }
 
+-- The hierarchy of an address space whose tables are in a memory.
+abbrev pub space_in : (levels : ℕ) → Places → Memory → Space → Hierarchy (Unit {0})
+space_in levels places memory space = record { layout = layout_of levels places memory space; memory = memory; lent = tt }
+
+-- The layouts of address spaces whose tables are in a memory.
 abbrev pub layouts_of : (levels : ℕ) → Places → Memory → List Space → List Layout
 layouts_of levels places memory spaces = map (layout_of levels places memory) spaces
 
+-- The frames of the roots.
 abbrev pub roots_of : List Space → List ℕ
 roots_of spaces = map (λ space. space.root) spaces
 
--- the address spaces without a recursive index that have these roots
+-- The address spaces without a recursive index that have these roots.
 abbrev pub spaces_at : (roots : List ℕ) → List Space
 spaces_at roots = map (λ root. record { root = root; recursive = None }) roots
 
 -- The root has used entries at shared indices alone, not counting its self-entry.
 abbrev pub HasSharedAlone : (shared : ℕ → Bool) → Layout → Memory → Type 0
 HasSharedAlone shared layout m = (i : ℕ) → shared i ≡ false → entry (paths layout m) (i ∷ []) ≡ 0
+
+-- What the ghost members of a `FrameStore` say of its values, and the store that such a value is.
+abbrev pub StoreMembers : Type 0 → Type 0
+StoreMembers Self = record { held : Self → List ℕ; take_back : List ℕ → ℕ → List ℕ; serves : Self → ℕ → Bool; supply : Self → List ℕ }
+
+abbrev pub store_of : {Self : Type 0} → StoreMembers Self → Self → Store
+store_of members value = record { frames = members.supply value; serves = members.serves value; take_back = members.take_back }

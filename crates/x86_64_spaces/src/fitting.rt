@@ -1,17 +1,12 @@
 //! Tests of whether address spaces share what they should, and whether a pool fits them.
-ghost use Rattle.std.specs.Prelude.{◌≡◌, ◌<◌, ◌≤◌, ◌+◌, ◌-◌, ◌↔◌, suc, ℕ, if◌then◌else◌, length, reverse, replicate, IfOk, IsTrue, IsSome, Some, None, [], false, true};
+ghost use Rattle.std.specs.Prelude.{◌≡◌, ◌<◌, ◌≤◌, ◌+◌, ◌↔◌, ℕ, if◌then◌else◌, length, reverse, replicate, IfOk, IsTrue, Some, None, [], false, true};
 ghost use Rattle.std.specs.FinMap as map;
-ghost use Rattle.x86_64_model.specs.Lists.{In, EachOnce};
-ghost use Rattle.x86_64_model.specs.Memory.{word, words_of};
+ghost use Rattle.x86_64_model.specs.Lists.{In};
 ghost use Rattle.x86_64_model.specs.Pool.{serves_below};
-ghost use Rattle.x86_64_model.specs.Spaces.{AreSpaces};
 ghost use Rattle.x86_64_model.specs.private.Marks.{spot_of, mark_all};
-ghost use Rattle.x86_64_spaces.specs.Room.{AreSpacesWithRoom};
-ghost use Rattle.x86_64_spaces.specs.SpaceLayouts.{indices_of, layouts_of, roots_of, spaces_at};
-ghost use Rattle.x86_64_spaces.specs.private.SpaceTables.{seen_by, chosen, parts_where, own_tables, space_tables, IsAlike, SoundSpaces};
-ghost use Rattle.x86_64_model.specs.Window.{SelfEntry};
-ghost use Rattle.x86_64_tables.specs.SelfEntries.{window_in};
-ghost use Rattle.x86_64_tables.specs.Views.{mark_slot};
+ghost use Rattle.x86_64_spaces.specs.Room.{spaces_in, ShareAndFit, ShareWithRoom};
+ghost use Rattle.x86_64_spaces.specs.SpaceLayouts.{indices_of, spaces_at};
+ghost use Rattle.x86_64_spaces.specs.private.SpaceTables.{tested, seen_words, all_tables, tables_of, tables_below, slot_of, NamesItself, IsLike, AreSound};
 
 use crate::space::{SharedIndices, Space};
 use crate::space_list::{Roots, SpaceList};
@@ -43,11 +38,9 @@ pub fn spaces_fit<L: LevelCount, T: TableMemory, P: PageTableFrameMapping>(
     shared: SharedIndices,
     pool: &FramePool,
 ) -> Result<bool, AllocError>
-    ensures { let m = T.tables memory.now in
-        let layouts = layouts_of L.LEVELS (P.places mapping.now) m spaces.now in
-        let serves = serves_below pool.now.limit in
-        IfOk result (λ b. IsTrue b ↔ (EachOnce (roots_of spaces.now)
-        × AreSpaces (indices_of shared) m serves pool.now.frames layouts)) }
+    ensures { let all = spaces_in L.LEVELS (P.places mapping.now) (T.tables memory.now) spaces.now in
+        IfOk result (λ fit. IsTrue fit
+        ↔ ShareAndFit (indices_of shared) all (serves_below pool.now.limit) pool.now.frames) }
 {
     let Some(first) = spaces.first() else {
         return Ok(true);
@@ -81,10 +74,8 @@ pub fn spaces_fit_by_marks<L: LevelCount, T: TableMemory, P: PageTableFrameMappi
     marks: &mut [bool],
 ) -> bool
     requires { length marks.old ≡ map.len (T.tables memory.now) }
-    ensures { let m = T.tables memory.now in
-        let layouts = layouts_of L.LEVELS (P.places mapping.now) m spaces.now in
-        IsTrue result ↔ (EachOnce (roots_of spaces.now)
-        × AreSpacesWithRoom (indices_of shared) m capacity (reverse frames.now) layouts) }
+    ensures { let all = spaces_in L.LEVELS (P.places mapping.now) (T.tables memory.now) spaces.now in
+        IsTrue result ↔ ShareWithRoom (indices_of shared) all capacity (reverse frames.now) }
 {
     list_fits::<L, _, _, _>(memory, mapping, &spaces, shared, frames, capacity, marks)
 }
@@ -102,10 +93,9 @@ pub fn roots_fit_by_marks<L: LevelCount, T: TableMemory, P: PageTableFrameMappin
     marks: &mut [bool],
 ) -> bool
     requires { length marks.old ≡ map.len (T.tables memory.now) }
-    ensures { let m = T.tables memory.now in
-        let layouts = layouts_of L.LEVELS (P.places mapping.now) m (spaces_at roots.now) in
-        IsTrue result ↔ (EachOnce (roots_of (spaces_at roots.now))
-        × AreSpacesWithRoom (indices_of shared) m capacity (reverse frames.now) layouts) }
+    ensures { IsTrue result ↔ ShareWithRoom (indices_of shared)
+        (spaces_in L.LEVELS (P.places mapping.now) (T.tables memory.now) (spaces_at roots.now))
+        capacity (reverse frames.now) }
 {
     match Roots::of(roots) {
         Some(spaces) => {
@@ -126,10 +116,9 @@ fn list_fits<L: LevelCount, T: TableMemory, P: PageTableFrameMapping, S: SpaceLi
     marks: &mut [bool],
 ) -> bool
     requires { length marks.old ≡ map.len (T.tables memory.now) }
-    ensures { let m = T.tables memory.now in let list = S.spaces spaces.now in
-        let layouts = layouts_of L.LEVELS (P.places mapping.now) m list in
-        IsTrue result ↔ (EachOnce (roots_of list)
-        × AreSpacesWithRoom (indices_of shared) m capacity (reverse frames.now) layouts) }
+    ensures { IsTrue result ↔ ShareWithRoom (indices_of shared)
+        (spaces_in L.LEVELS (P.places mapping.now) (T.tables memory.now) (S.spaces spaces.now))
+        capacity (reverse frames.now) }
 {
     if spaces.count() == 0 {
         return true;
@@ -169,10 +158,8 @@ impl<'a, T: TableMemory, P: PageTableFrameMapping> SpacesTest<'a, T, P> {
         requires levels { 1 < self.now.levels }
         requires clear { marks.old ≡ replicate (length (map.keys (T.tables self.now.memory.now))) false }
         requires first { In (S.spaces spaces.now) first.now }
-        ensures { let test = self.now in let serves = serves_below test.limit in
-            let words = words_of (T.tables test.memory.now) (P.places test.mapping.now) in
-            let shared = indices_of test.shared in let n = test.levels - 1 in
-            IsTrue result ↔ SoundSpaces shared n words first.now (S.spaces spaces.now) serves pool.now.frames }
+        ensures { IsTrue result ↔ AreSound (tested T.tables P.places self.now) first.now (S.spaces spaces.now)
+            pool.now.frames }
     {
         if !self.mark_spaces(first, spaces, marks) {
             return false;
@@ -193,12 +180,9 @@ impl<'a, T: TableMemory, P: PageTableFrameMapping> SpacesTest<'a, T, P> {
         requires levels { 1 < self.now.levels }
         requires clear { marks.old ≡ replicate (length (map.keys (T.tables self.now.memory.now))) false }
         requires first { In (S.spaces spaces.now) first.now }
-        ensures { let test = self.now in let serves = serves_below test.limit in
-            let words = words_of (T.tables test.memory.now) (P.places test.mapping.now) in
-            let shared = indices_of test.shared in let n = test.levels - 1 in
-            let tables = space_tables shared n words first.now (S.spaces spaces.now) in
-            IsTrue result ↔ (SoundSpaces shared n words first.now (S.spaces spaces.now) serves frames.now
-            × (length tables + length frames.now ≤ capacity)) }
+        ensures { let test = tested T.tables P.places self.now in let list = S.spaces spaces.now in
+            IsTrue result ↔ (AreSound test first.now list frames.now
+            × (length (all_tables test first.now list) + length frames.now ≤ capacity)) }
     {
         if !self.mark_spaces(first, spaces, marks) {
             return false;
@@ -215,15 +199,11 @@ impl<'a, T: TableMemory, P: PageTableFrameMapping> SpacesTest<'a, T, P> {
         requires levels { 1 < self.now.levels }
         requires clear { marks.old ≡ replicate (length (map.keys (T.tables self.now.memory.now))) false }
         requires first { In (S.spaces spaces.now) first.now }
-        ensures tells { let test = self.now in let serves = serves_below test.limit in
-            let words = words_of (T.tables test.memory.now) (P.places test.mapping.now) in
-            let shared = indices_of test.shared in let n = test.levels - 1 in
-            IsTrue result ↔ SoundSpaces shared n words first.now (S.spaces spaces.now) serves [] }
-        ensures marks { let test = self.now in
-            let m = T.tables test.memory.now in let places = P.places test.mapping.now in
-            let shared = indices_of test.shared in let n = test.levels - 1 in
-            IsTrue result → mark_all (spot_of m places) marks.old
-            (space_tables shared n (words_of m places) first.now (S.spaces spaces.now)) ≡ Some marks.new }
+        ensures tells { IsTrue result
+            ↔ AreSound (tested T.tables P.places self.now) first.now (S.spaces spaces.now) [] }
+        ensures marks { let test = tested T.tables P.places self.now in
+            IsTrue result → mark_all (spot_of test.memory test.places) marks.old
+            (all_tables test first.now (S.spaces spaces.now)) ≡ Some marks.new }
     {
         if !self.mark_parts(first, true, marks) {
             return false;
@@ -244,9 +224,7 @@ impl<'a, T: TableMemory, P: PageTableFrameMapping> SpacesTest<'a, T, P> {
     /// the root has the words of the first one at the shared indices.
     fn is_alike(&self, first: &Space, space: &Space) -> bool
         requires { 0 < self.now.levels }
-        ensures { let words = words_of (T.tables self.now.memory.now) (P.places self.now.mapping.now) in
-            let shared = indices_of self.now.shared in
-            IsTrue result ↔ IsAlike shared (self.now.levels - 1) words first.now space.now }
+        ensures { IsTrue result ↔ IsLike (tested T.tables P.places self.now) first.now space.now }
     {
         self.names_itself(space)
             && self.of(space).view.none_huge(space.root, self.levels)
@@ -255,9 +233,7 @@ impl<'a, T: TableMemory, P: PageTableFrameMapping> SpacesTest<'a, T, P> {
 
     /// Returns true if the root names itself at the recursive index, if there is one.
     fn names_itself(&self, space: &Space) -> bool
-        ensures { let words = words_of (T.tables self.now.memory.now) (P.places self.now.mapping.now) in
-            let root = space.now.root in
-            IsTrue result ↔ SelfEntry words root (window_in words root space.now.recursive) }
+        ensures { IsTrue result ↔ NamesItself (tested T.tables P.places self.now) space.now }
     {
         match space.recursive {
             Some(index) => has_self_entry(self.memory, self.mapping, space.root, index),
@@ -267,10 +243,9 @@ impl<'a, T: TableMemory, P: PageTableFrameMapping> SpacesTest<'a, T, P> {
 
     /// Returns true if a root has the words of the first one at the shared indices.
     fn has_words_of(&self, first: &Space, space: &Space) -> bool
-        ensures { let words = words_of (T.tables self.now.memory.now) (P.places self.now.mapping.now) in
-            let shared = indices_of self.now.shared in
-            IsTrue result ↔ ((i : ℕ) → shared i ≡ true → word (seen_by words space.now) space.now.root i
-            ≡ word (seen_by words first.now) first.now.root i) }
+        ensures { let test = tested T.tables P.places self.now in
+            IsTrue result ↔ ((i : ℕ) → test.shared i ≡ true
+            → seen_words test space.now i ≡ seen_words test first.now i) }
     {
         let (view, first_view) = (self.of(space).view, self.of(first).view);
         for index in 0..512 {
@@ -287,11 +262,9 @@ impl<'a, T: TableMemory, P: PageTableFrameMapping> SpacesTest<'a, T, P> {
     fn mark_own(&self, space: &Space, marks: &mut [bool]) -> bool
         requires levels { 0 < self.now.levels }
         requires length { length marks.old ≡ length (map.keys (T.tables self.now.memory.now)) }
-        ensures { let test = self.now in
-            let m = T.tables test.memory.now in let places = P.places test.mapping.now in
-            let slot = mark_slot m places space.now.root test.limit in
-            (if result then Some marks.new else None) ≡ mark_all slot marks.old
-            (own_tables (indices_of test.shared) (test.levels - 1) (words_of m places) space.now) }
+        ensures { let test = tested T.tables P.places self.now in
+            (if result then Some marks.new else None)
+            ≡ mark_all (slot_of test space.now) marks.old (tables_of test space.now) }
     {
         if !self.of(space).mark(marks, space.root) {
             return false;
@@ -304,13 +277,9 @@ impl<'a, T: TableMemory, P: PageTableFrameMapping> SpacesTest<'a, T, P> {
     fn mark_parts(&self, space: &Space, is_shared: bool, marks: &mut [bool]) -> bool
         requires levels { 0 < self.now.levels }
         requires length { length marks.old ≡ length (map.keys (T.tables self.now.memory.now)) }
-        ensures { let test = self.now in
-            let m = T.tables test.memory.now in let places = P.places test.mapping.now in
-            let test_of = chosen (indices_of test.shared) is_shared in
-            let view = seen_by (words_of m places) space.now in
-            let slot = mark_slot m places space.now.root test.limit in
+        ensures { let test = tested T.tables P.places self.now in
             (if result then Some marks.new else None)
-            ≡ mark_all slot marks.old (parts_where test_of (test.levels - 1) view space.now.root) }
+            ≡ mark_all (slot_of test space.now) marks.old (tables_below test is_shared space.now) }
     {
         let test = self.of(space);
         for index in 0..512 {

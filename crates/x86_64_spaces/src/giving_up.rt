@@ -1,13 +1,8 @@
 //! Giving up an address space.
-ghost use Rattle.std.specs.Prelude.{◌≡◌, ◌↔◌, ℕ, [], ◌∷◌, true, false, IsTrue, List, Some, OnErr, OnOk, Err};
-ghost use Rattle.x86_64_model.specs.FitsPool.{FitsPool};
-ghost use Rattle.x86_64_model.specs.Layout.{Layout, KeepsOthers, Owns};
-ghost use Rattle.x86_64_model.specs.Lists.{In};
-ghost use Rattle.x86_64_model.specs.Memory.{word, words_of};
-ghost use Rattle.x86_64_model.specs.Spaces.{AreSpaces};
-ghost use Rattle.x86_64_spaces.specs.SpaceLayouts.{indices_of, layout_of, HasSharedAlone};
-ghost use Rattle.x86_64_spaces.specs.private.SpaceTables.{seen_by};
-ghost use Rattle.x86_64_tables.specs.PageTable.{zero_words};
+ghost use Rattle.std.specs.Prelude.{◌≡◌, ◌↔◌, ℕ, false, IsTrue, IfErr, OnErr, OnOk};
+ghost use Rattle.x86_64_spaces.specs.SpaceCalls.{IsGivenUp, IsReason, MayBeGivenUp};
+ghost use Rattle.x86_64_spaces.specs.SpaceLayouts.{indices_of, space_in, store_of};
+ghost use Rattle.x86_64_spaces.specs.private.SpaceTables.{root_words};
 
 use crate::space::{SharedIndices, Space};
 use crate::words::word_seen;
@@ -46,36 +41,14 @@ pub fn give_up_space<L: LevelCount, T: TableMemory, P: PageTableFrameMapping, F:
     shared: SharedIndices,
     store: &mut F,
 ) -> Result<(), GiveUpError>
-    requires fits { let m = T.tables memory.old in
-        let gone = layout_of L.LEVELS (P.places mapping.now) m space.now in
-        FitsPool gone m (F.serves store.old) (F.supply store.old) }
-    requires served { F.serves store.old space.now.root ≡ true }
-    ensures entry_used { let m = T.tables memory.old in
-        let gone = layout_of L.LEVELS (P.places mapping.now) m space.now in
-        (result ≡ Err GiveUpError.EntryUsed) ↔ (¬ HasSharedAlone (indices_of shared) gone m) }
-    ensures frame_zero { let m = T.tables memory.old in
-        let gone = layout_of L.LEVELS (P.places mapping.now) m space.now in
-        (result ≡ Err GiveUpError.FrameZero)
-        ↔ (HasSharedAlone (indices_of shared) gone m × (space.now.root ≡ 0)) }
-    ensures refused { OnErr result ((T.tables memory.new ≡ T.tables memory.old)
-        × (F.supply store.new ≡ F.supply store.old)) }
-    ensures given_back { OnOk result (F.supply store.new ≡ F.take_back (F.supply store.old) space.now.root) }
-    ensures cleared { let places = P.places mapping.now in
-        let n = T.tables memory.new in let root = space.now.root in
-        OnOk result ((words_of n places root ≡ Some zero_words)
-        × KeepsOthers places (λ f. f ≡ root) (T.tables memory.old) n) }
-    ensures spaces { let m = T.tables memory.old in let n = T.tables memory.new in
-        let gone = layout_of L.LEVELS (P.places mapping.now) m space.now in
-        let shared = indices_of shared in let serves = F.serves store.old in
-        OnOk result ((spaces : List Layout) → (In spaces gone → ⊥)
-        → AreSpaces shared m serves (F.supply store.old) (gone ∷ spaces)
-        → AreSpaces shared n serves (F.supply store.new) spaces) }
-    ensures none_lost { let m = T.tables memory.old in let n = T.tables memory.new in
-        let gone = layout_of L.LEVELS (P.places mapping.now) m space.now in
-        let shared = indices_of shared in let serves = F.serves store.old in
-        OnOk result ((spaces : List Layout) (other : Layout) → (In spaces gone → ⊥) → In spaces other
-        → AreSpaces shared m serves (F.supply store.old) (gone ∷ spaces)
-        → (f : ℕ) → Owns gone m (F.supply store.old) f → Owns other n (F.supply store.new) f) }
+    requires { let gone = space_in L.LEVELS (P.places mapping.now) (T.tables memory.old) space.now in
+        MayBeGivenUp gone (store_of F.FrameStore store.old) }
+    ensures reason { let gone = space_in L.LEVELS (P.places mapping.now) (T.tables memory.old) space.now in
+        IfErr result (λ why. IsReason (indices_of shared) gone why) }
+    ensures unchanged { OnErr result ((memory.new ≡ memory.old) × (store.new ≡ store.old)) }
+    ensures given_up { let gone = space_in L.LEVELS (P.places mapping.now) (T.tables memory.old) space.now in
+        OnOk result (IsGivenUp (indices_of shared) gone (store_of F.FrameStore store.old)
+        (T.tables memory.new) (store_of F.FrameStore store.new)) }
     ensures lent { T.lent memory.new ≡ T.lent memory.old }
     ensures serves { F.serves store.new ≡ F.serves store.old }
 {
@@ -100,8 +73,8 @@ fn maps_nothing<T: TableMemory, P: PageTableFrameMapping>(
     space: &Space,
     shared: SharedIndices,
 ) -> bool
-    ensures { let view = seen_by (words_of (T.tables memory.now) (P.places mapping.now)) space.now in
-        IsTrue result ↔ ((i : ℕ) → indices_of shared i ≡ false → word view space.now.root i ≡ 0) }
+    ensures { IsTrue result ↔ ((i : ℕ) → indices_of shared i ≡ false
+        → root_words (T.tables memory.now) (P.places mapping.now) space.now i ≡ 0) }
 {
     for index in 0..512 {
         if !shared.contains(index) && word_seen(memory, mapping, space, index) != 0 {

@@ -1,16 +1,9 @@
 //! Making an address space.
-ghost use Rattle.std.specs.Prelude.{◌≡◌, ◌≢◌, ◌<◌, ℕ, [], ◌∷◌, true, drop, IfNone, IfSome, IsSome, List, Some, bit_or};
+ghost use Rattle.std.specs.Prelude.{◌≡◌, ◌≢◌, ◌<◌, ℕ, IfNone, IfSome, IsSome, List, Some};
 ghost use Rattle.std.specs.FinMap as map;
-ghost use Rattle.std.specs.List.{slice_get};
-ghost use Rattle.x86_64_model.specs.FitsPool.{FitsPool};
-ghost use Rattle.x86_64_model.specs.Laws.Spaces.{IsNewRoot};
-ghost use Rattle.x86_64_model.specs.Layout.{Layout, paths};
-ghost use Rattle.x86_64_model.specs.Lists.{In};
-ghost use Rattle.x86_64_model.specs.Memory.{word, words_of};
-ghost use Rattle.x86_64_model.specs.PathMap.{entry};
-ghost use Rattle.x86_64_model.specs.Spaces.{AreSpaces};
-ghost use Rattle.x86_64_spaces.specs.SpaceLayouts.{indices_of, layout_of};
-ghost use Rattle.x86_64_spaces.specs.private.SpaceTables.{seen_by};
+ghost use Rattle.x86_64_spaces.specs.SpaceCalls.{IsMade, MayBeTemplate, TakesFirst};
+ghost use Rattle.x86_64_spaces.specs.SpaceLayouts.{indices_of, space_in, store_of};
+ghost use Rattle.x86_64_spaces.specs.private.SpaceTables.{root_words};
 ghost use Rattle.x86_64_spaces.specs.private.Writes.{Stores, HasShared, with_self_entry};
 
 use crate::space::{SharedIndices, Space};
@@ -44,27 +37,14 @@ pub fn new_space<L: LevelCount, T: TableMemory, P: PageTableFrameMapping, F: Fra
     recursive: Option<PageTableIndex>,
     store: &mut F,
 ) -> Option<PhysFrame<Size4KiB>>
-    requires fits { let m = T.tables memory.old in
-        let one = layout_of L.LEVELS (P.places mapping.now) m template.now in
-        FitsPool one m (F.serves store.old) (F.supply store.old) }
-    requires index_unused { let m = T.tables memory.old in
-        let one = layout_of L.LEVELS (P.places mapping.now) m template.now in
-        (r : ℕ) → recursive ≡ Some r → indices_of shared r ≡ true → entry (paths one m) (r ∷ []) ≡ 0 }
-    ensures root { result ≡ slice_get (F.supply store.old) 0 }
-    ensures rest { F.supply store.new ≡ drop 1 (F.supply store.old) }
-    ensures none { IfNone result (T.tables memory.new ≡ T.tables memory.old) }
-    ensures made { let m = T.tables memory.old in let n = T.tables memory.new in
-        let layout = layout_of L.LEVELS (P.places mapping.now) in let one = layout m template.now in
-        IfSome result (λ root. let new = layout n (record { root = root; recursive = recursive }) in
-        IsNewRoot (indices_of shared) one m n new) }
-    ensures self_entry { let words = words_of (T.tables memory.new) (P.places mapping.now) in
-        IfSome result (λ root. (r : ℕ) → recursive ≡ Some r → word words root r ≡ bit_or root 3) }
-    ensures spaces { let m = T.tables memory.old in let n = T.tables memory.new in
-        let layout = layout_of L.LEVELS (P.places mapping.now) in let one = layout m template.now in
-        let shared = indices_of shared in let serves = F.serves store.old in
-        IfSome result (λ root. let new = layout n (record { root = root; recursive = recursive }) in
-        (spaces : List Layout) → In spaces one → AreSpaces shared m serves (F.supply store.old) spaces
-        → AreSpaces shared n serves (F.supply store.new) (new ∷ spaces)) }
+    requires { let one = space_in L.LEVELS (P.places mapping.now) (T.tables memory.old) template.now in
+        MayBeTemplate (indices_of shared) recursive one (store_of F.FrameStore store.old) }
+    ensures taken { TakesFirst (F.supply store.old) result (F.supply store.new) }
+    ensures none { IfNone result (memory.new ≡ memory.old) }
+    ensures made { let one = space_in L.LEVELS (P.places mapping.now) (T.tables memory.old) template.now in
+        IfSome result (λ root. IsMade (indices_of shared) one (store_of F.FrameStore store.old)
+        (record { root = root; recursive = recursive })
+        (T.tables memory.new) (store_of F.FrameStore store.new)) }
     ensures lent { T.lent memory.new ≡ T.lent memory.old }
     ensures serves { F.serves store.new ≡ F.serves store.old }
 {
@@ -88,9 +68,9 @@ fn fill_root<T: TableMemory, P: PageTableFrameMapping>(
 )
     requires there { IsSome (map.get (T.tables memory.old) place) }
     requires apart { (P.places mapping.now).place template.now.root ≢ place }
-    ensures written { let m = T.tables memory.old in
-        let view = seen_by (words_of m (P.places mapping.now)) template.now in
-        HasShared (indices_of shared) (word view template.now.root) m place 512 (T.tables memory.new) }
+    ensures written { HasShared (indices_of shared)
+        (root_words (T.tables memory.old) (P.places mapping.now) template.now)
+        (T.tables memory.old) place 512 (T.tables memory.new) }
     ensures lent { T.lent memory.new ≡ T.lent memory.old }
 {
     memory.table_at_mut(place).zero();
@@ -112,8 +92,8 @@ fn name_itself<T: TableMemory>(
     recursive: Option<PageTableIndex>,
 )
     requires { IsSome (map.get (T.tables memory.old) place) }
-    ensures written { let m = T.tables memory.old in (table : List ℕ) → map.get m place ≡ Some table
-        → Stores m place (with_self_entry recursive root table) (T.tables memory.new) }
+    ensures written { (table : List ℕ) → map.get (T.tables memory.old) place ≡ Some table
+        → Stores (T.tables memory.old) place (with_self_entry recursive root table) (T.tables memory.new) }
     ensures within { (r : ℕ) → recursive ≡ Some r → r < 512 }
     ensures lent { T.lent memory.new ≡ T.lent memory.old }
 {

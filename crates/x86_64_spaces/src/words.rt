@@ -1,7 +1,6 @@
 //! The words of a root.
 ghost use Rattle.std.specs.Prelude.{◌≡◌, ◌<◌};
-ghost use Rattle.x86_64_model.specs.Memory.{word, words_of};
-ghost use Rattle.x86_64_spaces.specs.private.SpaceTables.{seen_by};
+ghost use Rattle.x86_64_spaces.specs.private.SpaceTables.{root_words};
 
 use crate::space::Space;
 use x86_64_tables::phys_memory::{HierarchyView, PageTableFrameMapping, TableMemory};
@@ -16,8 +15,7 @@ pub(super) fn word_seen<T: TableMemory, P: PageTableFrameMapping>(
     index: usize,
 ) -> u64
     requires { index < 512 }
-    ensures { let view = seen_by (words_of (T.tables memory.now) (P.places mapping.now)) space.now in
-        result ≡ word view space.now.root index }
+    ensures { result ≡ root_words (T.tables memory.now) (P.places mapping.now) space.now index }
 {
     let view = HierarchyView {
         memory,

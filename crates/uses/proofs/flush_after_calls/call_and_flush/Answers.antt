@@ -1,5 +1,6 @@
 use Rattle.std.proofs.Common.{◌≡◌, true, [], option_map, unwrap_or, sym, subst}
 use Rattle.x86_64_model.specs.Call.{IsCall}
+use Rattle.x86_64_model.specs.FitsPool.{FitsPool}
 use Rattle.x86_64_model.specs.Window.{Window}
 use Rattle.x86_64.specs.Asked.{machine_call}
 use Rattle.x86_64.specs.Calls.{asks, page_start}
@@ -10,8 +11,11 @@ use Rattle.x86_64.proofs.CallsFlushed.{arises_by_flushed_calls}
 use Rattle.x86_64.proofs.Processors.{flushed_accesses_go}
 use Rattle.uses.proofs.flush_after_calls.call_and_flush.Goals as goal
 
-pub returns-clause-arises : goal.returns-clause-arises
-returns-clause-arises g c =
+pub returns-clause-keeps : goal.returns-clause-keeps
+returns-clause-keeps g c = let ran = c.run_call-reply.ensures in record { keeps = ran.keeps.keeps; serves = ran.serves; layout = ran.keeps.layout; lent = ran.keeps.lent }
+
+pub returns-clause-again : goal.returns-clause-again
+returns-clause-again g c =
     let mapper = c.args.mapper.now in
     let l = (g.M.Tables.hierarchy mapper).layout in
     let m = (g.M.Tables.hierarchy mapper).memory in
@@ -36,10 +40,14 @@ returns-clause-arises g c =
     c.cache.ensures
     (rw ran.keeps.layout at c.cache-2.ensures)
     (subst (λ L. LeftBy L (executed flush (unwrap_or (page_start L call) 0)) second after) (sym levels) (rw c.page_start.ensures at c.execute.ensures)) in
-    rw (ran.keeps.layout, ran.serves) arises
+    let next = g.M.Tables.hierarchy c.run_call-reply.new.mapper in
+    let later = g.F.FrameKeeper.serves c.run_call-reply.new.frames in
+    let fits : FitsPool next.layout n later rest = rw (ran.keeps.layout, ran.serves) ran.keeps.keeps.fits in
+    let arises_then : Arises next.layout take_back later n rest after [] = rw (ran.keeps.layout, ran.serves) arises in
+    record { fits = fits; arises = arises_then }
 
 pub returns-clause-accesses : goal.returns-clause-accesses
 returns-clause-accesses g c =
     let h = g.M.Tables.hierarchy c.run_call-reply.new.mapper in
     flushed_accesses_go h.layout g.F.FrameDeallocator.take_back (g.F.FrameKeeper.serves c.run_call-reply.new.frames) h.memory (g.F.FrameAllocator.supply c.run_call-reply.new.frames) (g.C.Processor.cached c.execute.new.processor)
-    (returns-clause-arises g c)
+    (returns-clause-again g c).arises

@@ -22,8 +22,7 @@ loop-call-preserved g c =
     record {
       rest = rest_next (asks bits) machine _ _ made.result calls c.loop-call.call-index c.call-item.result c.loop-call-test.true c.call-item.is one (state_after machine start (calls_by (asks bits) layout.levels calls)) before.rest;
       layout = made.ensures.keeps.layout ∙ before.layout;
-      fits = rw (made.ensures.serves, made.ensures.keeps.layout) made.ensures.keeps.keeps.fits;
-      arises = made.ensures.arises;
+      in_use = made.ensures.again;
     }
 
 pub returns-clause-state : goal.returns-clause-state
@@ -38,4 +37,4 @@ returns-clause-state g c =
 pub returns-clause-accesses : goal.returns-clause-accesses
 returns-clause-accesses g c =
     let h = g.M.Tables.hierarchy c.loop-call.mapper in
-    flushed_accesses_go h.layout g.F.FrameDeallocator.take_back (g.F.FrameKeeper.serves c.loop-call.frames) h.memory (g.F.FrameAllocator.supply c.loop-call.frames) (g.C.Processor.cached c.loop-call.processor) c.loop-call.invariant.arises
+    flushed_accesses_go h.layout g.F.FrameDeallocator.take_back (g.F.FrameKeeper.serves c.loop-call.frames) h.memory (g.F.FrameAllocator.supply c.loop-call.frames) (g.C.Processor.cached c.loop-call.processor) c.loop-call.invariant.in_use.arises

@@ -1,10 +1,9 @@
-use Rattle.std.proofs.Common.{◌≡◌, [], drop}
+use Rattle.std.proofs.Common.{◌≡◌, drop}
 use Rattle.x86_64_model.specs.Machine.{Machine, State, state_after}
-use Rattle.x86_64_model.specs.Mapper.{PoolFits}
 use Rattle.x86_64.specs.Asked.{calls_by}
 use Rattle.x86_64.specs.Calls.{asks}
-use Rattle.x86_64.specs.Processors.{Arises}
 use Rattle.x86_64.specs.Runs.{machine_of, state_in}
+use Rattle.uses.specs.InUse.{InUse}
 use Rattle.uses.proofs.flush_after_calls.calls_and_flushes.Given as goal
 
 abbrev pub invariant-loop-call : goal.invariant-loop-call
@@ -18,6 +17,5 @@ invariant-loop-call g l =
     record {
       rest : state_after machine now (calls_by (asks g.P5.LevelFiveFlags.bits) layout.levels (drop l.call-index l.calls)) ≡ state_after machine start (calls_by (asks g.P5.LevelFiveFlags.bits) layout.levels l.calls);
       layout : h.layout ≡ layout;
-      fits : PoolFits h (g.F.FrameKeeper.serves l.frames) pool;
-      arises : Arises h.layout g.F.FrameDeallocator.take_back (g.F.FrameKeeper.serves l.frames) h.memory pool (g.C.Processor.cached l.processor) [];
+      in_use : InUse h (record { frames = pool; serves = g.F.FrameKeeper.serves l.frames; take_back = g.F.FrameDeallocator.take_back }) (g.C.Processor.cached l.processor);
     }

@@ -1,6 +1,7 @@
 use Rattle.std.proofs.Common.{inl, ap, sym, ◌∙◌, subst, refl, List, ℕ, Some, [], ◌∷◌, arith}
 use Rattle.std.specs.Prelude.{drop}
 use Rattle.x86_64_model.specs.FitsPool.{FitsPool}
+use Rattle.x86_64_model.specs.Laws.Spaces.{IsNewRoot}
 use Rattle.x86_64_model.specs.Spaces.{AreSpaces}
 use Rattle.x86_64_model.proofs.Lemmas.Hierarchies.Memories.{covered}
 use Rattle.x86_64_model.proofs.Lemmas.Tables.Exact.{inside_window}
@@ -33,40 +34,20 @@ returns-clause-made g c =
     let all = taken (g.F.FrameAllocator.supply store) root (sym c.in_ok-root.ensures.first) in
     let one = layout_of g.L.LevelCount.LEVELS places m template in
     let fits = subst (λ (pool : List ℕ). FitsPool one m serves pool) all c.requires.fits in
-    new_root shared g.L.LevelCount.LEVELS places mapping m (g.T.TableMemory.tables c.fill_root.new.memory) (g.T.TableMemory.tables c.name_itself.new.memory) template serves root rest fits
-    c.args.recursive c.frame_to_pointer-place.result c.frame_to_pointer-place.ensures c.name_itself.ensures.within c.requires.index_unused
-    c.fill_root.ensures.written (c.name_itself.ensures.written c.fill_root.ensures.written.table c.fill_root.ensures.written.stored.here)
-
-pub returns-clause-self_entry : goal.returns-clause-self_entry
-returns-clause-self_entry g c =
-    let shared = indices_of c.args.shared in let template = c.args.template.now in let store = c.args.store.now in
-    let m = g.T.TableMemory.tables c.args.memory.now in let places = g.P.PageTableFrameMapping.places c.args.mapping.now in
-    let mapping = g.met.P.PageTableFrameMapping.is_mapping c.args.mapping.now in
-    let serves = g.F.FrameKeeper.serves store in let root = c.in_ok-root.root in
-    let rest = drop 1 (g.F.FrameAllocator.supply store) in
-    let all = taken (g.F.FrameAllocator.supply store) root (sym c.in_ok-root.ensures.first) in
-    let one = layout_of g.L.LevelCount.LEVELS places m template in
-    let fits = subst (λ (pool : List ℕ). FitsPool one m serves pool) all c.requires.fits in
-    self_is shared g.L.LevelCount.LEVELS places mapping m (g.T.TableMemory.tables c.fill_root.new.memory) (g.T.TableMemory.tables c.name_itself.new.memory) template serves root rest fits
-    c.args.recursive c.frame_to_pointer-place.result c.frame_to_pointer-place.ensures c.name_itself.ensures.within c.requires.index_unused
-    c.fill_root.ensures.written (c.name_itself.ensures.written c.fill_root.ensures.written.table c.fill_root.ensures.written.stored.here)
-
-pub returns-clause-spaces : goal.returns-clause-spaces
-returns-clause-spaces g c spaces member are =
-    let shared = indices_of c.args.shared in let template = c.args.template.now in let store = c.args.store.now in
-    let m = g.T.TableMemory.tables c.args.memory.now in let places = g.P.PageTableFrameMapping.places c.args.mapping.now in
-    let mapping = g.met.P.PageTableFrameMapping.is_mapping c.args.mapping.now in
-    let serves = g.F.FrameKeeper.serves store in let root = c.in_ok-root.root in
-    let rest = drop 1 (g.F.FrameAllocator.supply store) in
-    let all = taken (g.F.FrameAllocator.supply store) root (sym c.in_ok-root.ensures.first) in
-    let one = layout_of g.L.LevelCount.LEVELS places m template in
-    let fits = subst (λ (pool : List ℕ). FitsPool one m serves pool) all c.requires.fits in
     let n = g.T.TableMemory.tables c.name_itself.new.memory in
     let new = layout_of g.L.LevelCount.LEVELS places n (record { root = root; recursive = c.args.recursive }) in
     let some = g.L.LevelCount.at_least_four in
-    subst (λ (pool : List ℕ). AreSpaces shared n serves pool (new ∷ spaces)) (sym c.in_ok-root.ensures.rest)
-    (c.new_spaces_share.ensures shared spaces one new member mapping (omega (arith, some)) serves m n rest
-    (subst (λ (pool : List ℕ). AreSpaces shared m serves pool spaces) all are)
-    (new_root shared g.L.LevelCount.LEVELS places mapping m (g.T.TableMemory.tables c.fill_root.new.memory) (g.T.TableMemory.tables c.name_itself.new.memory) template serves root rest fits
+    let written = c.name_itself.ensures.written c.fill_root.ensures.written.table c.fill_root.ensures.written.stored.here in
+    let is_new : IsNewRoot shared one m n new =
+    new_root shared g.L.LevelCount.LEVELS places mapping m (g.T.TableMemory.tables c.fill_root.new.memory) n template serves root rest fits
     c.args.recursive c.frame_to_pointer-place.result c.frame_to_pointer-place.ensures c.name_itself.ensures.within c.requires.index_unused
-    c.fill_root.ensures.written (c.name_itself.ensures.written c.fill_root.ensures.written.table c.fill_root.ensures.written.stored.here)))
+    c.fill_root.ensures.written written in
+    record {
+      root = is_new;
+      self_entry = self_is shared g.L.LevelCount.LEVELS places mapping m (g.T.TableMemory.tables c.fill_root.new.memory) n template serves root rest fits
+          c.args.recursive c.frame_to_pointer-place.result c.frame_to_pointer-place.ensures c.name_itself.ensures.within c.requires.index_unused
+          c.fill_root.ensures.written written;
+      spaces = λ spaces member are. subst (λ (pool : List ℕ). AreSpaces shared n serves pool (new ∷ spaces)) (sym c.in_ok-root.ensures.rest)
+          (c.new_spaces_share.ensures shared spaces one new member mapping (omega (arith, some)) serves m n rest
+          (subst (λ (pool : List ℕ). AreSpaces shared m serves pool spaces) all are) is_new);
+    }
