@@ -1,5 +1,5 @@
 -- The flush records of calls: one item for the token of each accepted call, in order, and no others.
-use Rattle.std.specs.Prelude.{◌≡◌, ◌==◌, ◌⊎◌, ◌<◌, ◌≤◌, ◌+◌, ℕ, false, cond, take, drop, List, [], ◌∷◌, ◌++◌, Result, Ok, Err, Vec, vec_len}
+use Rattle.std.specs.Prelude.{◌≡◌, ◌==◌, ◌⊎◌, ◌<◌, ◌≤◌, ◌+◌, ℕ, false, cond, take, drop, length, List, [], ◌∷◌, ◌++◌, Result, Ok, Err, Vec, vec_len}
 use Rattle.std.specs.List.{AllByRecursion}
 use Rattle.std.specs.Vec.{vec_capacity}
 use Rattle.x86_64_model.specs.Arrivals.{KeepsArrival}
@@ -86,12 +86,13 @@ pub record Flushed {C Lent : Type 0} (asks : C → MapperCall) (h : Hierarchy Le
   pub items : now ≡ before ++ items_told h.layout.levels (appended replies_before replies_now)
   pub suffice : FlushesSuffice asks h.layout store.take_back (state_with h store) calls (appended replies_before replies_now) (words h.layout after.memory)
 
--- Memory for this many more replies and items was refused.
-pub record RoomRefused {A : Type 0} (more : ℕ) (replies replies_now : Vec Reply A) (recorder recorder_now : Recorded) : Type 0 where
+-- Memory for one more reply and one more item for each of these calls was refused.
+pub record RoomRefused {C A : Type 0} (calls : List C) (replies replies_now : Vec Reply A) (recorder recorder_now : Recorded) : Type 0 where
   -- The list of replies or the recorder had no room for them.
-  pub needed : (vec_capacity replies < vec_len replies + more) ⊎ (recorder.room < more)
+  pub needed : (vec_capacity replies < vec_len replies + length calls) ⊎ (recorder.room < length calls)
   -- No reply was appended, and nothing was recorded.
   pub items : replies_now.items ≡ replies.items
   pub recorder_stays : recorder_now ≡ recorder
   -- The list of replies keeps its capacity. Or it lacked room and has it now, and the memory for the recorder was refused.
-  pub capacity : (vec_capacity replies_now ≡ vec_capacity replies) ⊎ ((recorder.room < more) × (vec_capacity replies < vec_capacity replies_now) × (vec_len replies + more ≤ vec_capacity replies_now))
+  pub capacity : (vec_capacity replies_now ≡ vec_capacity replies)
+      ⊎ ((recorder.room < length calls) × (vec_capacity replies < vec_capacity replies_now) × (vec_len replies + length calls ≤ vec_capacity replies_now))

@@ -1,5 +1,5 @@
 //! Lists of calls whose TLB flushes are recorded.
-ghost use Rattle.std.specs.Prelude.{◌≡◌, length, OnOk, OnErr};
+ghost use Rattle.std.specs.Prelude.{◌≡◌, OnOk, OnErr};
 ghost use Rattle.x86_64_model.specs.Store.{Fits, Kept};
 ghost use Rattle.x86_64.specs.Calls.{asks};
 ghost use Rattle.x86_64.specs.Flushes.{Flushed, RoomRefused};
@@ -44,7 +44,7 @@ pub fn run_flushed<
         Flushed (asks P5.bits) (M.hierarchy mapper.old) (store F.FrameStore frames.old) calls.now
         replies.old.items replies.new.items recorder.old.items recorder.new.items (M.hierarchy mapper.new)) }
     ensures unchanged { OnErr result ((mapper.new ≡ mapper.old) × (frames.new ≡ frames.old)) }
-    ensures room { OnErr result (RoomRefused (length calls.now) replies.old replies.new recorder.old recorder.new) }
+    ensures room { OnErr result (RoomRefused calls.now replies.old replies.new recorder.old recorder.new) }
     ensures keeps { Kept (M.hierarchy mapper.old) (store F.FrameStore frames.old)
         (M.hierarchy mapper.new) (store F.FrameStore frames.new) }
 {
