@@ -16,8 +16,7 @@ use Rattle.x86_64_model.specs.Store.{Store}
 use Rattle.x86_64_mappers.specs.Layouts.{direct_at}
 use Rattle.x86_64.specs.Asked.{MapperCall, machine_call, calls_by}
 use Rattle.x86_64.specs.Replies.{Reply}
-use Rattle.x86_64.specs.Runs.{AfterStep, machine_of, state_in, step_by}
-use Rattle.uses.specs.Owned.{RanOn}
+use Rattle.x86_64.specs.Runs.{AfterStep, machine_of, state_in, step_by, Ran}
 use Rattle.uses.specs.SpacesBeside.{OthersStay, LeavesSpaces}
 
 -- ---- the owner knows the hierarchy by the memory that was lent
@@ -84,11 +83,11 @@ module _ (stay : SpacesStay) (halves : SharedHalvesStay) (below : CallsKeepBelow
   -- the list was executed, or memory was refused and nothing changed
   module _ {Lent : Type 0} (h after : Hierarchy Lent) (keeps : KeepsPool h.layout serves h.memory pool after.memory rest) where
     pub after_calls : {C X E Q : Type 0} (asks : C → MapperCall) (calls : List C) → AllCalls levels (calls_by asks levels calls) → (before now : List Reply)
-        → (r : Result X E) → OnOk r (RanOn asks h store calls before now after rest) → OnErr r Q → (Q → after.memory ≡ h.memory)
+        → (r : Result X E) → OnOk r (Ran asks h store calls before now after rest) → OnErr r Q → (Q → after.memory ≡ h.memory)
         → h.layout ≡ one → h.memory ≡ m → after.memory ≡ n → LeavesSpaces space store (calls_by asks levels calls) n rest
     after_calls {X = X} {E = E} {Q = Q} asks calls are_calls was now r ran refused unchanged same before end =
         leaves_spaces (calls_by asks levels calls) are_calls (owner_keeps h.layout h.memory after.memory keeps same before end) (by r ran refused)
       where
-        by : (r : Result X E) → OnOk r (RanOn asks h store calls was now after rest) → OnErr r Q → Led one take_back m pool (calls_by asks levels calls) n rest ⊎ (n ≡ m)
+        by : (r : Result X E) → OnOk r (Ran asks h store calls was now after rest) → OnErr r Q → Led one take_back m pool (calls_by asks levels calls) n rest ⊎ (n ≡ m)
         by (Ok x) ran refused = inl (owners h.layout one h.memory after.memory m n same before end (λ l m n. Led l take_back m pool (calls_by asks l.levels calls) n rest) ran.state)
         by (Err e) ran refused = inr (sym end ∙ unchanged refused ∙ before)

@@ -1,14 +1,14 @@
 //! Makes calls on the tables that a processor uses, and flushes after each what has to be flushed.
 ghost use Rattle.std.specs.Prelude.{◌≡◌, ℕ, List, [], Option, Some, unwrap_or};
 ghost use Rattle.uses.specs.InUse.{AccessesGoIn, CachesIn, InUse};
-ghost use Rattle.uses.specs.Owned.{LedBy, Stepped};
+ghost use Rattle.uses.specs.Owned.{LedBy};
 ghost use Rattle.x86_64_model.specs.Caches.{Cached};
 ghost use Rattle.x86_64_model.specs.Flushing.{Invlpg, LoadCr3, FlushAll};
-ghost use Rattle.x86_64_model.specs.Store.{Kept};
-ghost use Rattle.x86_64_spaces.specs.SpaceLayouts.{store_of};
+ghost use Rattle.x86_64_model.specs.Store.{Kept, store_of};
 ghost use Rattle.x86_64.specs.Calls.{asks};
 ghost use Rattle.x86_64.specs.FlushesDue.{executed};
 ghost use Rattle.x86_64.specs.Processors.{LeftBy};
+ghost use Rattle.x86_64.specs.Runs.{Stepped};
 
 use x86_64::flushing::{Flush, flush_after};
 use x86_64::structures::paging::mapper::TableAccess;

@@ -1,6 +1,6 @@
 //! Maps a page in the caller's own tables.
 ghost use Rattle.std.specs.Prelude.{◌≡◌, ◌↔◌, false, IfOk, IsTrue};
-ghost use Rattle.uses.specs.Owned.{hierarchy, pool_store};
+ghost use Rattle.uses.specs.Owned.{hierarchy};
 ghost use Rattle.uses.specs.PageMaps.{ArrivesIfMapped, StepsIfAllowed, allows_page};
 ghost use Rattle.x86_64_model.specs.Mapper.{SupplyFits};
 ghost use Rattle.x86_64_model.specs.PageCalls.{MapTo};
@@ -8,6 +8,7 @@ ghost use Rattle.x86_64_model.specs.Store.{Fits};
 ghost use Rattle.x86_64_tables.specs.LentMemory.{numbered};
 ghost use Rattle.x86_64_tables.specs.MapperAnswers.{map_answer};
 ghost use Rattle.x86_64_tables.specs.PageTableFlags.{bits_of};
+ghost use Rattle.x86_64.specs.Pairs.{pool_store};
 
 use std::alloc::{AllocError, Global};
 use x86_64::structures::paging::mapper::MapToError;

@@ -1,7 +1,7 @@
 //! A kernel with several processes. Each has an address space of its own, whose upper half is the kernel's, and one pool
 //! has the frames for all tables.
 ghost use Rattle.std.specs.Prelude.{◌≡◌, [], ◌∷◌, true, false, IfNone, IfSome, OnErr, OnOk};
-ghost use Rattle.uses.specs.Owned.{Stepped, hierarchy, pool_store};
+ghost use Rattle.uses.specs.Owned.{hierarchy};
 ghost use Rattle.uses.specs.Processes.{is_kernels, ending, lower_clean_up, own_map, own_unmap, GoesOn, IsEnded, IsServed, IsStarted};
 ghost use Rattle.x86_64_model.specs.PageCalls.{MapTo};
 ghost use Rattle.x86_64_model.specs.Pool.{serves_below};
@@ -10,6 +10,8 @@ ghost use Rattle.x86_64_model.specs.Store.{Fits};
 ghost use Rattle.x86_64_tables.specs.PageTableFlags.{bits_of};
 ghost use Rattle.x86_64.specs.Asked.{Of4KiB};
 ghost use Rattle.x86_64.specs.declared.calls.MapperReply.TheVariants.{NotAllowed};
+ghost use Rattle.x86_64.specs.Runs.{Stepped};
+ghost use Rattle.x86_64.specs.Pairs.{pool_store};
 
 use crate::run_in_space::call_on;
 use x86_64::structures::paging::{Page, PageTableFlags, PhysFrame, Size4KiB};

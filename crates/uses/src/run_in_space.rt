@@ -1,12 +1,12 @@
 //! Runs a list of calls on one of several address spaces: hierarchies in one memory, with one pool, whose roots have the
 //! same entries at some indices of the highest level, and so the same tables below these.
 ghost use Rattle.std.specs.Prelude.{◌≡◌, [], ◌∷◌, OnErr, OnOk};
-ghost use Rattle.uses.specs.Owned.{RanOn, Stepped, hierarchy_at};
+ghost use Rattle.uses.specs.Owned.{hierarchy_at};
 ghost use Rattle.uses.specs.SpacesBeside.{LeavesSpaces};
-ghost use Rattle.x86_64_model.specs.Store.{Fits};
-ghost use Rattle.x86_64_spaces.specs.SpaceLayouts.{store_of};
+ghost use Rattle.x86_64_model.specs.Store.{Fits, store_of};
 ghost use Rattle.x86_64.specs.Asked.{calls_by, machine_call};
 ghost use Rattle.x86_64.specs.Calls.{asks};
+ghost use Rattle.x86_64.specs.Runs.{Ran, Stepped};
 
 use std::alloc::AllocError;
 use x86_64::structures::paging::mapper::PageTableFrameMapping;
@@ -45,7 +45,7 @@ pub fn run_on<
     requires { Fits (hierarchy_at L.LEVELS (P.places mapping) root (T.tables memory.old))
         (store_of F.FrameStore frames.old) }
     ensures ran { let h = hierarchy_at L.LEVELS (P.places mapping) root in OnOk result (
-        RanOn (asks P5.bits) (h (T.tables memory.old)) (store_of F.FrameStore frames.old) calls.now
+        Ran (asks P5.bits) (h (T.tables memory.old)) (store_of F.FrameStore frames.old) calls.now
         replies.old.items replies.new.items (h (T.tables memory.new)) (F.supply frames.new)) }
     ensures refused { OnErr result ((T.tables memory.new ≡ T.tables memory.old) × (frames.new ≡ frames.old)) }
     ensures beside { LeavesSpaces (hierarchy_at L.LEVELS (P.places mapping) root (T.tables memory.old))

@@ -1,9 +1,10 @@
 //! Runs a list of calls.
 ghost use Rattle.std.specs.Prelude.{◌≡◌, OnErr, OnOk};
-ghost use Rattle.uses.specs.Owned.{Replied, pool_store};
+ghost use Rattle.uses.specs.Owned.{Replied};
 ghost use Rattle.uses.specs.PageMaps.{three_calls};
 ghost use Rattle.x86_64_model.specs.Store.{Fits, Kept};
 ghost use Rattle.x86_64_tables.specs.PageTableFlags.{bits_of};
+ghost use Rattle.x86_64.specs.Pairs.{pool_store};
 
 use std::alloc::AllocError;
 use x86_64::structures::paging::mapper::{CleanUp, MapperAllSizes};

@@ -3,7 +3,6 @@ pub mod Calls
 pub mod Replies
 pub mod FreeFrames
 pub mod Runs
-pub mod Stores
 pub mod EveryWord
 pub mod Pairs
 pub mod Flushes

@@ -4,13 +4,12 @@ ghost use Rattle.std.specs.Vec.{vec_capacity};
 ghost use Rattle.x86_64_model.specs.Entry.{huge, no_address};
 ghost use Rattle.x86_64_model.specs.Mapper.{Valid, allows};
 ghost use Rattle.x86_64_model.specs.PageCalls.{asked};
-ghost use Rattle.x86_64_model.specs.Store.{Fits, Kept};
+ghost use Rattle.x86_64_model.specs.Store.{Fits, Kept, store_of};
 ghost use Rattle.x86_64_tables.specs.PageTableFlags.{bits_of};
 ghost use Rattle.x86_64.specs.Calls.{asks, size_asks, in_window};
 ghost use Rattle.x86_64.specs.Flushes.{items_of, items_told};
 ghost use Rattle.x86_64.specs.Replies.{changes_nothing};
 ghost use Rattle.x86_64.specs.Runs.{LeavesFree, Ran, Stepped, appended};
-ghost use Rattle.x86_64.specs.Stores.{store};
 ghost use Rattle.x86_64.specs.private.Served.{PageStepped, PageLeavesFree, recorded, items_where, changes_nothing_where};
 
 mod flushed;
@@ -51,15 +50,15 @@ pub fn run<L: LevelCount, P5: LevelFiveFlags<L>, M: TableAccess + TablesIn<L>, F
     calls: &[CallIn<L, P5>],
     replies: &mut Vec<ReplyIn<L>>,
 ) -> Result<(), AllocError>
-    requires { Fits (M.hierarchy mapper.old) (store F.FrameStore frames.old) }
-    ensures ran { OnOk result (Ran (asks P5.bits) (M.hierarchy mapper.old) (store F.FrameStore frames.old)
+    requires { Fits (M.hierarchy mapper.old) (store_of F.FrameStore frames.old) }
+    ensures ran { OnOk result (Ran (asks P5.bits) (M.hierarchy mapper.old) (store_of F.FrameStore frames.old)
         calls.now replies.old.items replies.new.items (M.hierarchy mapper.new) (F.supply frames.new)) }
     ensures unchanged { OnErr result (
         (replies.new.items ≡ replies.old.items) × (vec_capacity replies.new ≡ vec_capacity replies.old)
         × (mapper.new ≡ mapper.old) × (frames.new ≡ frames.old)) }
     ensures needs_room { OnErr result (vec_capacity replies.old < vec_len replies.old + length calls.now) }
-    ensures keeps { Kept (M.hierarchy mapper.old) (store F.FrameStore frames.old)
-        (M.hierarchy mapper.new) (store F.FrameStore frames.new) }
+    ensures keeps { Kept (M.hierarchy mapper.old) (store_of F.FrameStore frames.old)
+        (M.hierarchy mapper.new) (store_of F.FrameStore frames.new) }
 {
     replies.reserve(calls.len())?;
     serve_all(mapper, frames, calls, replies, &mut Ignored);
@@ -74,15 +73,15 @@ pub fn run_call<L: LevelCount, P5: LevelFiveFlags<L>, M: TableAccess + TablesIn<
     frames: &mut F,
     call: CallIn<L, P5>,
 ) -> ReplyIn<L>
-    requires { Fits (M.hierarchy mapper.old) (store F.FrameStore frames.old) }
-    ensures step { Stepped (M.hierarchy mapper.old) (store F.FrameStore frames.old) (asks P5.bits call) result
+    requires { Fits (M.hierarchy mapper.old) (store_of F.FrameStore frames.old) }
+    ensures step { Stepped (M.hierarchy mapper.old) (store_of F.FrameStore frames.old) (asks P5.bits call) result
         (M.hierarchy mapper.new) (F.supply frames.new) }
     ensures unchanged { changes_nothing result ≡ true
         → (M.hierarchy mapper.new).memory ≡ (M.hierarchy mapper.old).memory }
-    ensures free { LeavesFree (M.hierarchy mapper.old) (store F.FrameStore frames.old) (asks P5.bits call)
+    ensures free { LeavesFree (M.hierarchy mapper.old) (store_of F.FrameStore frames.old) (asks P5.bits call)
         (M.hierarchy mapper.new) (F.supply frames.new) }
-    ensures keeps { Kept (M.hierarchy mapper.old) (store F.FrameStore frames.old)
-        (M.hierarchy mapper.new) (store F.FrameStore frames.new) }
+    ensures keeps { Kept (M.hierarchy mapper.old) (store_of F.FrameStore frames.old)
+        (M.hierarchy mapper.new) (store_of F.FrameStore frames.new) }
 {
     serve(mapper, frames, call, &mut Ignored)
 }
@@ -101,15 +100,15 @@ fn serve_all<
     replies: &mut Vec<ReplyIn<L>>,
     tokens: &mut K,
 )
-    requires fits { Fits (M.hierarchy mapper.old) (store F.FrameStore frames.old) }
+    requires fits { Fits (M.hierarchy mapper.old) (store_of F.FrameStore frames.old) }
     requires reserved { vec_len replies.old + length calls.now ≤ vec_capacity replies.old }
     requires room { K.has_room tokens.old (length calls.now) }
-    ensures ran { Ran (asks P5.bits) (M.hierarchy mapper.old) (store F.FrameStore frames.old)
+    ensures ran { Ran (asks P5.bits) (M.hierarchy mapper.old) (store_of F.FrameStore frames.old)
         calls.now replies.old.items replies.new.items (M.hierarchy mapper.new) (F.supply frames.new) }
     ensures items { K.items tokens.new ≡ K.items tokens.old
         ++ recorded K.records (items_told L.LEVELS (appended replies.old.items replies.new.items)) }
-    ensures keeps { Kept (M.hierarchy mapper.old) (store F.FrameStore frames.old)
-        (M.hierarchy mapper.new) (store F.FrameStore frames.new) }
+    ensures keeps { Kept (M.hierarchy mapper.old) (store_of F.FrameStore frames.old)
+        (M.hierarchy mapper.new) (store_of F.FrameStore frames.new) }
 {
     for call in calls {
         replies.push_reserved(serve(mapper, frames, *call, tokens));
@@ -124,16 +123,16 @@ fn serve<
     F: FrameStore,
     K: Tokens,
 >(mapper: &mut M, frames: &mut F, call: CallIn<L, P5>, tokens: &mut K) -> ReplyIn<L>
-    requires fits { Fits (M.hierarchy mapper.old) (store F.FrameStore frames.old) }
+    requires fits { Fits (M.hierarchy mapper.old) (store_of F.FrameStore frames.old) }
     requires room { K.has_room tokens.old 1 }
-    ensures step { Stepped (M.hierarchy mapper.old) (store F.FrameStore frames.old) (asks P5.bits call) result
+    ensures step { Stepped (M.hierarchy mapper.old) (store_of F.FrameStore frames.old) (asks P5.bits call) result
         (M.hierarchy mapper.new) (F.supply frames.new) }
     ensures still { changes_nothing result ≡ true
         → (M.hierarchy mapper.new).memory ≡ (M.hierarchy mapper.old).memory }
-    ensures free { LeavesFree (M.hierarchy mapper.old) (store F.FrameStore frames.old) (asks P5.bits call)
+    ensures free { LeavesFree (M.hierarchy mapper.old) (store_of F.FrameStore frames.old) (asks P5.bits call)
         (M.hierarchy mapper.new) (F.supply frames.new) }
-    ensures keeps { Kept (M.hierarchy mapper.old) (store F.FrameStore frames.old)
-        (M.hierarchy mapper.new) (store F.FrameStore frames.new) }
+    ensures keeps { Kept (M.hierarchy mapper.old) (store_of F.FrameStore frames.old)
+        (M.hierarchy mapper.new) (store_of F.FrameStore frames.new) }
     ensures items { K.items tokens.new ≡ K.items tokens.old
         ++ recorded K.records (items_of L.LEVELS result) }
     ensures room { (n : ℕ) → K.has_room tokens.old (n + 1) → K.has_room tokens.new n }
@@ -178,16 +177,16 @@ fn serve_page<
     call: SizeCallIn<S, L, P5>,
     tokens: &mut K,
 ) -> Option<SizeReplyIn<S, L>>
-    requires fits { Fits (M.hierarchy mapper.old) (store F.FrameStore frames.old) }
+    requires fits { Fits (M.hierarchy mapper.old) (store_of F.FrameStore frames.old) }
     requires room { K.has_room tokens.old 1 }
-    ensures step { PageStepped (M.hierarchy mapper.old) (store F.FrameStore frames.old) S.LEVEL
+    ensures step { PageStepped (M.hierarchy mapper.old) (store_of F.FrameStore frames.old) S.LEVEL
         (size_asks P5.bits call) result (M.hierarchy mapper.new) (F.supply frames.new) }
     ensures still { changes_nothing_where result ≡ true
         → (M.hierarchy mapper.new).memory ≡ (M.hierarchy mapper.old).memory }
     ensures free { PageLeavesFree (M.hierarchy mapper.old) (F.supply frames.old)
         (M.hierarchy mapper.new) (F.supply frames.new) }
-    ensures keeps { Kept (M.hierarchy mapper.old) (store F.FrameStore frames.old)
-        (M.hierarchy mapper.new) (store F.FrameStore frames.new) }
+    ensures keeps { Kept (M.hierarchy mapper.old) (store_of F.FrameStore frames.old)
+        (M.hierarchy mapper.new) (store_of F.FrameStore frames.new) }
     ensures items { K.items tokens.new ≡ K.items tokens.old
         ++ recorded K.records (items_where L.LEVELS S.SIZE result) }
     ensures room { (n : ℕ) → K.has_room tokens.old (n + 1) → K.has_room tokens.new n }

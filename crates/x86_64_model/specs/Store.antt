@@ -12,11 +12,11 @@ pub record Store : Type 0 where
 
 -- What the ghost members of a `FrameStore` say of its values.
 abbrev pub StoreMembers : Type 0 → Type 0
-StoreMembers Self = record { held : Self → List ℕ; serves : Self → ℕ → Bool; supply : Self → List ℕ; take_back : List ℕ → ℕ → List ℕ }
+StoreMembers Self = record { held : Self → List ℕ; take_back : List ℕ → ℕ → List ℕ; serves : Self → ℕ → Bool; supply : Self → List ℕ }
 
 -- The store that a value of a type is, by the ghost members of its `FrameStore`.
-abbrev pub store : {Self : Type 0} → StoreMembers Self → Self → Store
-store members value = record { frames = members.supply value; serves = members.serves value; take_back = members.take_back }
+abbrev pub store_of : {Self : Type 0} → StoreMembers Self → Self → Store
+store_of members value = record { frames = members.supply value; serves = members.serves value; take_back = members.take_back }
 
 -- The hierarchy is valid, and the frames of the store fit it: they are distinct, in the memory, and neither 0 nor in use as a table,
 -- and the store serves them and the frame of each table but the root.

@@ -4,7 +4,6 @@ use Rattle.x86_64_model.specs.Layout.{Layout, paths}
 use Rattle.x86_64_model.specs.Mapper.{Hierarchy}
 use Rattle.x86_64_model.specs.Memory.{Memory, Places, words_of}
 use Rattle.x86_64_model.specs.PathMap.{entry}
-use Rattle.x86_64_model.specs.Store.{Store}
 use Rattle.x86_64_spaces.specs.declared.space.SharedIndices.{SharedIndices}
 use Rattle.x86_64_spaces.specs.declared.space.Space.{Space}
 use Rattle.x86_64_tables.specs.SelfEntries.{window_in}
@@ -47,10 +46,3 @@ spaces_at roots = map (λ root. record { root = root; recursive = None }) roots
 -- The root has used entries at shared indices alone, not counting its self-entry.
 abbrev pub HasSharedAlone : (shared : ℕ → Bool) → Layout → Memory → Type 0
 HasSharedAlone shared layout m = (i : ℕ) → shared i ≡ false → entry (paths layout m) (i ∷ []) ≡ 0
-
--- What the ghost members of a `FrameStore` say of its values, and the store that such a value is.
-abbrev pub StoreMembers : Type 0 → Type 0
-StoreMembers Self = record { held : Self → List ℕ; take_back : List ℕ → ℕ → List ℕ; serves : Self → ℕ → Bool; supply : Self → List ℕ }
-
-abbrev pub store_of : {Self : Type 0} → StoreMembers Self → Self → Store
-store_of members value = record { frames = members.supply value; serves = members.serves value; take_back = members.take_back }

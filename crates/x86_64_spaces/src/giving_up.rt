@@ -1,7 +1,8 @@
 //! Giving up an address space.
 ghost use Rattle.std.specs.Prelude.{◌≡◌, ◌↔◌, ℕ, false, IsTrue, IfErr, OnErr, OnOk};
+ghost use Rattle.x86_64_model.specs.Store.{store_of};
 ghost use Rattle.x86_64_spaces.specs.SpaceCalls.{IsGivenUp, IsReason, MayBeGivenUp};
-ghost use Rattle.x86_64_spaces.specs.SpaceLayouts.{indices_of, space_in, store_of};
+ghost use Rattle.x86_64_spaces.specs.SpaceLayouts.{indices_of, space_in};
 ghost use Rattle.x86_64_spaces.specs.private.SpaceTables.{root_words};
 
 use crate::space::{SharedIndices, Space};

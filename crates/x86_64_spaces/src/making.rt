@@ -1,8 +1,9 @@
 //! Making an address space.
 ghost use Rattle.std.specs.Prelude.{◌≡◌, ◌≢◌, ◌<◌, ℕ, IfNone, IfSome, IsSome, List, Some};
 ghost use Rattle.std.specs.FinMap as map;
+ghost use Rattle.x86_64_model.specs.Store.{store_of};
 ghost use Rattle.x86_64_spaces.specs.SpaceCalls.{IsMade, MayBeTemplate, TakesFirst};
-ghost use Rattle.x86_64_spaces.specs.SpaceLayouts.{indices_of, space_in, store_of};
+ghost use Rattle.x86_64_spaces.specs.SpaceLayouts.{indices_of, space_in};
 ghost use Rattle.x86_64_spaces.specs.private.SpaceTables.{root_words};
 ghost use Rattle.x86_64_spaces.specs.private.Writes.{Stores, HasShared, with_self_entry};
 

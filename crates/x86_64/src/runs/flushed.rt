@@ -1,10 +1,9 @@
 //! Lists of calls whose TLB flushes are recorded.
 ghost use Rattle.std.specs.Prelude.{◌≡◌, OnOk, OnErr};
-ghost use Rattle.x86_64_model.specs.Store.{Fits, Kept};
+ghost use Rattle.x86_64_model.specs.Store.{Fits, Kept, store_of};
 ghost use Rattle.x86_64.specs.Calls.{asks};
 ghost use Rattle.x86_64.specs.Flushes.{Flushed, RoomRefused};
 ghost use Rattle.x86_64.specs.Runs.{Ran};
-ghost use Rattle.x86_64.specs.Stores.{store};
 
 use super::serve_all;
 use crate::calls::{CallIn, LevelFiveFlags, ReplyIn};
@@ -37,16 +36,16 @@ pub fn run_flushed<
     replies: &mut Vec<ReplyIn<L>>,
     recorder: &mut FlushRecorder,
 ) -> Result<(), AllocError>
-    requires { Fits (M.hierarchy mapper.old) (store F.FrameStore frames.old) }
-    ensures ran { OnOk result (Ran (asks P5.bits) (M.hierarchy mapper.old) (store F.FrameStore frames.old)
+    requires { Fits (M.hierarchy mapper.old) (store_of F.FrameStore frames.old) }
+    ensures ran { OnOk result (Ran (asks P5.bits) (M.hierarchy mapper.old) (store_of F.FrameStore frames.old)
         calls.now replies.old.items replies.new.items (M.hierarchy mapper.new) (F.supply frames.new)) }
     ensures flushed { OnOk result (
-        Flushed (asks P5.bits) (M.hierarchy mapper.old) (store F.FrameStore frames.old) calls.now
+        Flushed (asks P5.bits) (M.hierarchy mapper.old) (store_of F.FrameStore frames.old) calls.now
         replies.old.items replies.new.items recorder.old.items recorder.new.items (M.hierarchy mapper.new)) }
     ensures unchanged { OnErr result ((mapper.new ≡ mapper.old) × (frames.new ≡ frames.old)) }
     ensures room { OnErr result (RoomRefused calls.now replies.old replies.new recorder.old recorder.new) }
-    ensures keeps { Kept (M.hierarchy mapper.old) (store F.FrameStore frames.old)
-        (M.hierarchy mapper.new) (store F.FrameStore frames.new) }
+    ensures keeps { Kept (M.hierarchy mapper.old) (store_of F.FrameStore frames.old)
+        (M.hierarchy mapper.new) (store_of F.FrameStore frames.new) }
 {
     replies.reserve(calls.len())?;
     recorder.reserve(calls.len())?;

@@ -12,7 +12,7 @@ use Rattle.x86_64.proofs.Processors.{flushed_accesses_go}
 use Rattle.uses.proofs.flush_after_calls.call_and_flush.Goals as goal
 
 pub returns-clause-keeps : goal.returns-clause-keeps
-returns-clause-keeps g c = let ran = c.run_call-reply.ensures in record { keeps = ran.keeps.keeps; serves = ran.serves; layout = ran.keeps.layout; lent = ran.keeps.lent }
+returns-clause-keeps g c = c.run_call-reply.ensures.keeps
 
 pub returns-clause-again : goal.returns-clause-again
 returns-clause-again g c =
@@ -42,8 +42,8 @@ returns-clause-again g c =
     (subst (λ L. LeftBy L (executed flush (unwrap_or (page_start L call) 0)) second after) (sym levels) (rw c.page_start.ensures at c.execute.ensures)) in
     let next = g.M.Tables.hierarchy c.run_call-reply.new.mapper in
     let later = g.F.FrameKeeper.serves c.run_call-reply.new.frames in
-    let fits : FitsPool next.layout n later rest = rw (ran.keeps.layout, ran.serves) ran.keeps.keeps.fits in
-    let arises_then : Arises next.layout take_back later n rest after [] = rw (ran.keeps.layout, ran.serves) arises in
+    let fits : FitsPool next.layout n later rest = rw (ran.keeps.layout, ran.keeps.serves) ran.keeps.keeps.fits in
+    let arises_then : Arises next.layout take_back later n rest after [] = rw (ran.keeps.layout, ran.keeps.serves) arises in
     record { fits = fits; arises = arises_then }
 
 pub returns-clause-accesses : goal.returns-clause-accesses
