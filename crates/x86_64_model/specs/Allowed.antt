@@ -19,8 +19,8 @@ none_absent paths (Some p) = present (entry paths p)
 abbrev pub parents_present : PathMap → (parent_flags : ℕ) → List ℕ → Bool
 parents_present paths parent_flags q = present parent_flags || none_absent paths (find (λ p. not (present (entry paths p)) || huge (entry paths p)) (parents q))
 
--- A map is allowed if neither flags have address bits, the parent flags lack HUGE_PAGE, as do the flags of a 4KiB page, all
--- parents will be present, and the page is outside the recursive window.
+-- A map is allowed if neither flags have address bits, the parent flags lack HUGE_PAGE, as do the flags of a 4KiB page, the parents
+-- down to the first huge one are present or the parent flags make them so, and the page is outside the recursive window.
 abbrev pub map_allowed : (L : ℕ) → Option Window → PathMap → List ℕ → (flags parent_flags : ℕ) → Bool
 map_allowed L window paths q given parent_flags =
     no_address given && no_address parent_flags && not (huge parent_flags) && (not (is_small L q) || not (huge given))

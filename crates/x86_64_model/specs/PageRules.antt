@@ -56,8 +56,8 @@ unfoldable pub translate_page : (L : ℕ) (E : List ℕ → ℕ) → (page : Lis
 translate_page L E q = let e = E q in
     answer_unless (first_stop E q) (answer_unless (translate_refusal L q e) (Done (address e)))
 
--- A call on the entry of a level on the page's path. A level that isn't above the page's own is refused. The entry must be used,
--- and its flags become those given.
+-- A call on the entry of a level on the page's path. A level that isn't above the page's own is refused, and so is an unused entry.
+-- Unless the call is refused, by these or by a parent of the entry, the entry's flags become those given.
 unfoldable pub set_flags : (L : ℕ) (E : List ℕ → ℕ) → PathMap → (level : ℕ) (page : List ℕ) (flags : ℕ) → AfterChange
 set_flags L E paths level page given =
     cond (nat_le level (level_of L page)) (record { paths = paths; answer = Refused ParentEntryHugePage })

@@ -30,7 +30,8 @@ pub record Fits (L : ℕ) (window : Option Window) (tables : Words) (root : ℕ)
   pub serves_pool : (f : ℕ) → In pool f → serves f ≡ true
   pub serves_tables : (i : ℕ) (q : List ℕ) (f : ℕ) → table_at L root paths (i ∷ q) ≡ Some f → serves f ≡ true
 
--- take_back held f is the pool after frame f is returned: a rearrangement of f and the frames held before.
+-- take_back held f is the pool after frame f is returned: it has f, the frames held before and no other, each once if f and those held
+-- before were there once.
 pub record TakesBack (take_back : List ℕ → ℕ → List ℕ) : Type 0 where
   pub same_frames : (held : List ℕ) (f g : ℕ) → In (take_back held f) g ↔ In (f ∷ held) g
   pub each_once : (held : List ℕ) (f : ℕ) → EachOnce (f ∷ held) → EachOnce (take_back held f)

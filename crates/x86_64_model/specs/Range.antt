@@ -7,7 +7,8 @@ use Rattle.std.specs.List.{range_with_len}
 abbrev pub starts_from : (size first count : ℕ) → List ℕ
 starts_from size first count = map (λ k. first + k * size) (range_with_len 0 count)
 
--- The starts up to but excluding the end, none if the start isn't below it.
+-- The starts from which a whole step still ends at or below the end. If the end is a number of steps above the start, these are the
+-- starts up to but excluding it.
 abbrev pub exclusive_range : (size start end : ℕ) → List ℕ
 exclusive_range size start end = starts_from size start ((end - start) / size)
 

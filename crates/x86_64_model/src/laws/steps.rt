@@ -22,7 +22,8 @@ pub fn runs_keep_the_pool_fitting()
     ensures { RunKeepsFit }
 {}
 
-/// If no later item covers a position (the number of an address counted without the gap), a walk that arrived still arrives.
+/// If no later item covers a position outside the recursive window (a position is the number of an address counted without the gap), a
+/// walk that arrived still arrives, at the same address, with no right lost.
 pub fn recorded_flushes_suffice()
     ensures { FlushesSuffice }
 {}
