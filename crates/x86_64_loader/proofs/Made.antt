@@ -84,7 +84,7 @@ gives_first = record { same_frames = λ held f g. (λ i. i, λ i. i); each_once 
 pub kept_none : {Lent : Type 0} (h : Hierarchy Lent) (supply : List ℕ) → PoolFits h (λ f. true) supply → Kept h supply h supply
 kept_none h supply fits = record {
   fits = fits;
-  keeps = λ serves fits. record { keeps = keeps_nothing h.layout serves h.memory supply fits; layout = refl; lent = refl };
+  keeps = λ serves fits. keeps_nothing h.layout serves h.memory supply fits;
   free = nothing_keeps_free h.layout h.memory supply;
   walks = λ p w is. (w, is, record { same_place = refl; write_kept = λ a. a; user_kept = λ a. a });
   layout = refl;
@@ -97,7 +97,7 @@ pub kept_one : {Lent : Type 0} {S : Type 0} (h after : Hierarchy Lent) (supply r
     → MayMap h supply (MapTo (path_of h level page) frame given) → DoesMap h supply (MapTo (path_of h level page) frame given) (map_answer frame result) after rest → Kept h supply after rest
 kept_one {S = S} h after supply rest level page frame given low high some adds mapping result same may does = record {
   fits = does.fits;
-  keeps = λ serves fits. record { keeps = (served serves fits).keeps; layout = does.layout; lent = does.lent };
+  keeps = λ serves fits. (served serves fits).keeps;
   free = (served (λ f. true) may.fits).free;
   walks = λ p w is. let v = does.walks (parent_part given) refl p w is in (v.0, v.1, v.2.no_worse);
   layout = does.layout;

@@ -1,5 +1,5 @@
 -- Runs of pages, page by page.
-use Rattle.std.proofs.Common.{◌≡◌, inl, inr, ◌<◌, ◌≤◌, ◌+◌, ◌*◌, ℕ, true, List, [], refl, sym, ap, ◌∙◌, subst, arith}
+use Rattle.std.proofs.Common.{◌≡◌, inl, inr, ◌<◌, ◌≤◌, ◌+◌, ◌*◌, ℕ, true, List, [], sym, ap, ◌∙◌, subst, arith}
 use Rattle.std.proofs.Math.Nat.{add-mul, one-mul}
 use Rattle.std.proofs.lemmas.Bool.{cases_lt}
 use Rattle.x86_64_model.specs.Allowed.{map_allowed}
@@ -15,9 +15,9 @@ use Rattle.x86_64_model.specs.Path.{path_at}
 use Rattle.x86_64_model.proofs.Lemmas.Lists.All.{all_mapped}
 use Rattle.x86_64_model.proofs.Lemmas.Machines.PageMappings.{allowed_again}
 use Rattle.x86_64.specs.FreeFrames.{KeepsFree}
-use Rattle.x86_64.specs.Runs.{FitsPool}
+use Rattle.x86_64.specs.Runs.{FitsPool, KeepsPool}
 use Rattle.x86_64.proofs.FreeFrames as frees
-use Rattle.x86_64.proofs.Rounds as rounds
+use Rattle.x86_64.proofs.Keeping.{keeps_then}
 use Rattle.x86_64_loader.specs.Maps.{Kept}
 use Rattle.x86_64_loader.specs.Pages.{IsFree, Leaves, MayBeMapped, RunStands}
 use Rattle.x86_64_loader.specs.Segments.{AllStand}
@@ -41,8 +41,9 @@ pub kept_then : {Lent : Type 0} {supply : List ℕ} (h now after : Hierarchy Len
 kept_then {supply = supply} h now after between rest one two = record {
   fits = two.fits;
   keeps = λ serves fits. let first = one.keeps serves fits in
-      rounds.kept_then h now after serves serves refl supply between rest first
-      (two.keeps serves (subst (λ (l : Layout). FitsPool l now.memory serves between) (sym one.layout) first.keeps.fits));
+      keeps_then h.layout serves h.memory now.memory after.memory supply between rest first
+      (subst (λ (l : Layout). KeepsPool l serves now.memory between after.memory rest) one.layout
+      (two.keeps serves (subst (λ (l : Layout). FitsPool l now.memory serves between) (sym one.layout) first.fits)));
   free = frees.free_then h.layout h.memory now.memory after.memory supply between rest [] [] one.free
       (subst (λ (l : Layout). KeepsFree l now.memory between [] after.memory rest) one.layout two.free);
   walks = λ p w is.

@@ -8,7 +8,7 @@ use Rattle.x86_64_model.specs.Mapper.{Hierarchy, PoolFits, SupplyFits, machine_o
 use Rattle.x86_64_model.specs.PageMappings.{PageMapping, accepted, map_calls}
 use Rattle.x86_64_model.specs.Refusal.{Refusal, Refused}
 use Rattle.x86_64.specs.FreeFrames.{KeepsFree}
-use Rattle.x86_64.specs.Runs.{Kept as KeptByCalls}
+use Rattle.x86_64.specs.Runs.{KeepsPool}
 
 -- The pages were mapped by `map_to` in order. Answers and state are the machine's, however its pool takes frames back. The
 -- machine is the abstract mapper of the model.
@@ -28,7 +28,7 @@ Refuses h supply pages next why after rest = Made h supply (pages ++ next ∷ []
 -- page walk that arrived still does, at its address and with no right lost.
 pub record Kept {Lent : Type 0} (h : Hierarchy Lent) (supply : List ℕ) (after : Hierarchy Lent) (rest : List ℕ) : Type 0 where
   pub fits : SupplyFits after rest
-  pub keeps : (serves : ℕ → Bool) → PoolFits h serves supply → KeptByCalls h serves supply after rest
+  pub keeps : (serves : ℕ → Bool) → PoolFits h serves supply → KeepsPool h.layout serves h.memory supply after.memory rest
   pub free : KeepsFree h.layout h.memory supply [] after.memory rest
   pub walks : (p : ℕ) → KeepsArrival (walk h p) (walk after p)
   pub layout : after.layout ≡ h.layout
