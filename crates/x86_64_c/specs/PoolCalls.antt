@@ -86,7 +86,7 @@ bad_call h lent request = option_or (bad_pool h (length lent.tables) (length len
 abbrev pub to_front : (held : List ℕ) → (frame : ℕ) → List ℕ
 to_front held f = f ∷ held
 
--- The store with these free frames, which serves these frames and takes one back so.
+-- The store with these free frames, what it serves, and how it takes a frame back.
 abbrev pub store_of : (frames : List ℕ) → (serves : ℕ → Bool) → (take_back : List ℕ → ℕ → List ℕ) → Store
 store_of frames serves take_back = record { frames = frames; serves = serves; take_back = take_back }
 
@@ -105,14 +105,14 @@ pub record Runs (h : Hierarchy (Unit {0})) (pool : Store) (call : MapperCall) (a
   pub free : KeepsFree h.layout h.memory pool.frames (back_by (machine_of h.layout pool.take_back) (state_of h pool.frames) (machine_call h.layout.levels call)) after.memory rest.frames
 
 -- A request may be made, with a pool that has these frames as its own.
-pub record MayRun (own : List ℕ) (h : Given) (lent : Loan) (request : Request) : Type 0 where
+pub record MayExecute (own : List ℕ) (h : Given) (lent : Loan) (request : Request) : Type 0 where
   -- The array has room for all of its own frames.
   pub room : length own ≤ length lent.array
   -- If no argument is wrong, the hierarchy is valid, and the pool fits it.
   pub fits : bad_call h lent request ≡ None → Fits (hierarchy_in h lent.tables) (pool_in own lent.array lent.free)
 
 -- A request returned this status, and left this of what the caller lent.
-pub record RunsLent (own : List ℕ) (h : Given) (lent : Loan) (request : Request) (status : ℕ) (after : Loan) : Type 0 where
+pub record Executes (own : List ℕ) (h : Given) (lent : Loan) (request : Request) (status : ℕ) (after : Loan) : Type 0 where
   -- If an argument is wrong, the status says what, and nothing changes.
   pub bad : (why : ℕ) → bad_call h lent request ≡ Some why → (status ≡ why) × (after ≡ lent)
   -- Otherwise the call is executed.

@@ -28,7 +28,7 @@ TellsTranslation NotMapped s before after = (s ≡ status.not_mapped) × (after 
 TellsTranslation (Mapped size frame offset flags) s before after =
     (s ≡ status.ok) × (after ≡ record { frame = frame; size = size; offset = offset; flags = flags })
 
--- A test passes exactly if this holds; otherwise the status says that it doesn't.
+-- A test passes if and only if this holds. Otherwise the status says that it doesn't.
 pub record TellsWhether (Holds : Type 0) (s : ℕ) : Type 0 where
   pub passes : (s ≡ status.ok) ↔ Holds
   pub otherwise : (s ≡ status.ok) ⊎ (s ≡ status.not_valid)
@@ -37,6 +37,6 @@ pub record TellsWhether (Holds : Type 0) (s : ℕ) : Type 0 where
 abbrev pub FitsRoomFor : Hierarchy (Unit {0}) → (capacity : ℕ) → (pool : List ℕ) → Type 0
 FitsRoomFor h capacity pool = FitsRoom h.layout.levels (words h) h.layout.root capacity pool
 
--- The pool in an array does, and the array has the room.
+-- The same of the free frames that are the first entries of an array, and of the array's length.
 abbrev pub FitsArray : Hierarchy (Unit {0}) → (entries : List ℕ) → (count : ℕ) → Type 0
 FitsArray h entries count = FitsRoomFor h (length entries) (stacked entries count)

@@ -35,9 +35,9 @@ pub extern "C" fn x64_map(
     request: &MapRequest,
 ) -> u32
     ghost own: { List ℕ }
-    requires { calls.MayRun own hierarchy.now (calls.loan tables.old pool.old free_count.old)
+    requires { calls.MayExecute own hierarchy.now (calls.loan tables.old pool.old free_count.old)
         (calls.to_map request.now) }
-    ensures { calls.RunsLent own hierarchy.now (calls.loan tables.old pool.old free_count.old)
+    ensures { calls.Executes own hierarchy.now (calls.loan tables.old pool.old free_count.old)
         (calls.to_map request.now) result (calls.loan tables.new pool.new free_count.new) }
 {
     let located = match locate(hierarchy, tables.len()) {
@@ -184,9 +184,9 @@ pub extern "C" fn x64_clean_up(
     last_page: u64,
 ) -> u32
     ghost own: { List ℕ }
-    requires { calls.MayRun own hierarchy.now (calls.loan tables.old pool.old free_count.old)
+    requires { calls.MayExecute own hierarchy.now (calls.loan tables.old pool.old free_count.old)
         (calls.to_clean_up first_page last_page) }
-    ensures { calls.RunsLent own hierarchy.now (calls.loan tables.old pool.old free_count.old)
+    ensures { calls.Executes own hierarchy.now (calls.loan tables.old pool.old free_count.old)
         (calls.to_clean_up first_page last_page) result
         (calls.loan tables.new pool.new free_count.new) }
 {

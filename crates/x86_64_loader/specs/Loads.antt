@@ -13,7 +13,7 @@ use Rattle.x86_64_loader.specs.declared.segment.Segment.{Segment}
 pub record Loads {Lent : Type 0} (pages_of : Segment → List PageMapping) (h : Hierarchy Lent) (supply : List ℕ) (segments : List Segment) (result : Result (Unit {0}) LoadError) (after : Hierarchy Lent) (rest : List ℕ) : Type 0 where
   -- If it succeeds, each page was mapped by `map_to`, in order, and every map was accepted.
   pub accepted : OnOk result (Accepts h supply (flat_map pages_of segments) after rest)
-  -- Then page walks of each segment arrive where they should, with exactly the rights of its flags,
+  -- Then each segment's pages are mapped with all of its flags, page walks in it arrive where they should, with exactly these rights,
   pub loaded : OnOk result (All (IsLoaded pages_of after) segments)
   -- and no two segments have a position in common.
   pub disjoint : OnOk result (Disjoint segments)

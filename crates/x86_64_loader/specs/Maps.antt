@@ -3,12 +3,12 @@
 use Rattle.std.specs.Prelude.{◌≡◌, ℕ, Bool, List, [], ◌∷◌, ◌++◌, map}
 use Rattle.x86_64_model.specs.Arrivals.{KeepsArrival}
 use Rattle.x86_64_model.specs.Call.{Reply, Answered}
-use Rattle.x86_64_model.specs.FitsPool.{KeepsPool}
 use Rattle.x86_64_model.specs.Machine.{replies_of, state_after}
 use Rattle.x86_64_model.specs.Mapper.{Hierarchy, PoolFits, SupplyFits, machine_of, state_of, walk}
 use Rattle.x86_64_model.specs.PageMappings.{PageMapping, accepted, map_calls}
 use Rattle.x86_64_model.specs.Refusal.{Refusal, Refused}
 use Rattle.x86_64.specs.FreeFrames.{KeepsFree}
+use Rattle.x86_64.specs.Runs.{KeepsPool}
 
 -- The pages were mapped by `map_to` in order. Answers and state are the machine's, however its pool takes frames back. The
 -- machine is the abstract mapper of the model.
