@@ -11,12 +11,12 @@ pub run_on-requires : goal.run_on-requires
 run_on-requires g c = c.requires.fits _ (inl refl)
 
 pub returns-in_err-run_on-clause-again : goal.returns-in_err-run_on-clause-again
-returns-in_err-run_on-clause-again g c = at c.args.roots.0 c.args.roots.1 _ _ _ _ c.run_on.ensures.serves (c.run_on.ensures.beside.apart _ (inl refl) c.requires).0
+returns-in_err-run_on-clause-again g c = at c.args.roots.0 c.args.roots.1 _ _ _ _ c.run_on.ensures.same.1 (c.run_on.ensures.beside.apart _ (inl refl) c.requires).0
 
 pub run_on-requires-2 : goal.run_on-requires-2
-run_on-requires-2 g c = (at c.args.roots.0 c.args.roots.1 _ _ _ _ c.run_on.ensures.serves (c.run_on.ensures.beside.apart _ (inl refl) c.requires).0).fits _ (inr (inl refl))
+run_on-requires-2 g c = (at c.args.roots.0 c.args.roots.1 _ _ _ _ c.run_on.ensures.same.1 (c.run_on.ensures.beside.apart _ (inl refl) c.requires).0).fits _ (inr (inl refl))
 
 pub returns-clause-again : goal.returns-clause-again
 returns-clause-again g c =
-    let between = at c.args.roots.0 c.args.roots.1 _ _ _ _ c.run_on.ensures.serves (c.run_on.ensures.beside.apart _ (inl refl) c.requires).0 in
-    at c.args.roots.0 c.args.roots.1 _ _ _ _ c.run_on-2.ensures.serves (c.run_on-2.ensures.beside.apart _ (inr (inl refl)) between).0
+    let between = at c.args.roots.0 c.args.roots.1 _ _ _ _ c.run_on.ensures.same.1 (c.run_on.ensures.beside.apart _ (inl refl) c.requires).0 in
+    at c.args.roots.0 c.args.roots.1 _ _ _ _ c.run_on-2.ensures.same.1 (c.run_on-2.ensures.beside.apart _ (inr (inl refl)) between).0
