@@ -1,7 +1,7 @@
 //! The run of the program.
 ghost use Rattle.std.specs.Prelude.{◌≡◌, ◌<◌, ℕ, List, length, map, string_bytes, IfOk, IfErr, OnOk, OnErr};
 ghost use Rattle.std.specs.Io.KnownBytes.{Appends};
-ghost use Rattle.pagetab_engine.specs.Hierarchy.{hierarchy_state, HasCopy, IsHierarchy, IsReached, KeepsHierarchy, KeepsFree};
+ghost use Rattle.pagetab_engine.specs.Hierarchy.{hierarchy_state, HasCopy, IsHierarchy, KeepsHierarchy, KeepsFree, ReachesAll};
 ghost use Rattle.pagetab_engine.specs.Lines.{ForSome, IsInput, MayBeLeft, TracesBack};
 ghost use Rattle.pagetab_engine.specs.Program.{AppendsFront, Runs};
 ghost use Rattle.pagetab_engine.specs.private.RunParts.{LoadsImage, Replies, RunsFrom, Served, StopsAt, StopsInImage, ending_of};
@@ -79,7 +79,7 @@ fn serve_lines<R: Read, W: Write>(
     writer: &mut W,
 ) -> Result<(), Fault>
     requires copy { HasCopy hierarchy.old }
-    requires reached { IsReached hierarchy.old.mode hierarchy.old.frames.memory }
+    requires reached { ReachesAll hierarchy.old }
     ensures { ForSome (IsInput (R.remaining reader.old)) (λ input. RunsFrom arguments.now hierarchy.old input
         (W.contents writer.old) (W.contents writer.new) (ending_of result)) }
 {
@@ -103,14 +103,14 @@ fn read_image<R: Read>(
     arguments: &Arguments,
 ) -> Result<Option<Command>, Fault>
     requires copy { HasCopy hierarchy.old }
-    requires reached { IsReached hierarchy.old.mode hierarchy.old.frames.memory }
+    requires reached { ReachesAll hierarchy.old }
     ensures read { IfOk result (λ first.
         TracesBack (MayBeLeft R.remaining lines.old) (MayBeLeft R.remaining lines.new) (λ all behind.
         LoadsImage arguments.now all hierarchy.old first behind hierarchy.new)) }
     ensures stopped { IfErr result (λ fault. ForSome (MayBeLeft R.remaining lines.old) (λ all.
         StopsInImage arguments.now all hierarchy.old fault)) }
     ensures copy { HasCopy hierarchy.new }
-    ensures reached { IsReached hierarchy.new.mode hierarchy.new.frames.memory }
+    ensures reached { ReachesAll hierarchy.new }
 {
     while let Some(statement) = lines.next_statement(arguments)? {
         match statement {

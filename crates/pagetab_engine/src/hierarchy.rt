@@ -199,8 +199,9 @@ impl Hierarchy {
         requires fits { IsHierarchy self.old }
         requires levels { count (levels_of self.old.mode) ≡ L.LEVELS }
         requires unnamed { is_index_named self.old.mode (names L.LEVELS P5.bits call) ≡ false }
-        ensures answered { IfOk result (IsAnswered (layout_of self.old) self.old.frames.memory
-            self.old.frames.pool.frames (asks P5.bits call) self.new.frames.memory self.new.frames.pool.frames) }
+        ensures answered { IfOk result (
+            IsAnswered (layout_of self.old) self.old.frames.memory self.old.frames.pool.frames
+            (asks P5.bits call) self.new.frames.memory self.new.frames.pool.frames) }
         ensures both { IfOk result (
             TwinTells self.old.mode (asks P5.bits call) self.old.twin self.new.twin) }
         ensures unchanged { OnErr result (self.new ≡ self.old) }
