@@ -3,7 +3,7 @@ ghost use Rattle.std.specs.Prelude.{◌≡◌, ◌≤◌, ◌⊎◌, ℕ, List, 
 ghost use Rattle.x86_64_c.specs.Given as given;
 ghost use Rattle.x86_64_c.specs.PoolCalls as calls;
 ghost use Rattle.x86_64_c.specs.Status as statuses;
-ghost use Rattle.x86_64_model.specs.Store.{Fits};
+ghost use Rattle.x86_64_model.specs.Store.{Fits, store_of};
 ghost use Rattle.x86_64_tables.specs.LentMemory.{numbered};
 ghost use Rattle.x86_64_tables.specs.PageTableFlags.{bits_of};
 ghost use Rattle.x86_64.specs.Asked as asked;
@@ -156,11 +156,11 @@ fn run_in<L: LevelCount, P5: LevelFiveFlags<L>, T: TableMemory, F: FrameStore>(
     call: CallIn<L, P5>,
 ) -> u32
     requires { Fits (given.at L.LEVELS located (T.tables memory.old))
-        (calls.store_of (F.supply frames.old) (F.serves frames.old) F.take_back) }
+        (store_of F.FrameStore frames.old) }
     ensures runs { calls.Runs (given.at L.LEVELS located (T.tables memory.old))
-        (calls.store_of (F.supply frames.old) (F.serves frames.old) F.take_back) (asks P5.bits call)
+        (store_of F.FrameStore frames.old) (asks P5.bits call)
         (given.at L.LEVELS located (T.tables memory.new))
-        (calls.store_of (F.supply frames.new) (F.serves frames.new) F.take_back) result }
+        (store_of F.FrameStore frames.new) result }
     ensures lent { T.lent memory.new ≡ T.lent memory.old }
     ensures serves { F.serves frames.new ≡ F.serves frames.old }
 {
