@@ -86,13 +86,9 @@ bad_call h lent request = option_or (bad_pool h (length lent.tables) (length len
 abbrev pub to_front : (held : List ℕ) → (frame : ℕ) → List ℕ
 to_front held f = f ∷ held
 
--- The store with these free frames, what it serves, and how it takes a frame back.
-abbrev pub store_of : (frames : List ℕ) → (serves : ℕ → Bool) → (take_back : List ℕ → ℕ → List ℕ) → Store
-store_of frames serves take_back = record { frames = frames; serves = serves; take_back = take_back }
-
 -- The pool in an array whose first entries are its free frames. It serves (may hold) its own frames, which are a list.
 abbrev pub pool_in : (own entries : List ℕ) → (count : ℕ) → Store
-pool_in own entries count = store_of (stacked entries count) (is_in own) to_front
+pool_in own entries count = record { frames = stacked entries count; serves = is_in own; take_back = to_front }
 
 -- A call was executed as the machine does it, with the status of the reply. The hierarchy is valid again, and the rest of the pool
 -- fits it. If the reply says that nothing changed, no word did. Free frames keep their words, except those that came back.

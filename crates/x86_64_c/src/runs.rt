@@ -155,12 +155,10 @@ fn run_in<L: LevelCount, P5: LevelFiveFlags<L>, T: TableMemory, F: FrameStore>(
     frames: &mut F,
     call: CallIn<L, P5>,
 ) -> u32
-    requires { Fits (given.at L.LEVELS located (T.tables memory.old))
-        (store_of F.FrameStore frames.old) }
+    requires { Fits (given.at L.LEVELS located (T.tables memory.old)) (store_of F.FrameStore frames.old) }
     ensures runs { calls.Runs (given.at L.LEVELS located (T.tables memory.old))
         (store_of F.FrameStore frames.old) (asks P5.bits call)
-        (given.at L.LEVELS located (T.tables memory.new))
-        (store_of F.FrameStore frames.new) result }
+        (given.at L.LEVELS located (T.tables memory.new)) (store_of F.FrameStore frames.new) result }
     ensures lent { T.lent memory.new ≡ T.lent memory.old }
     ensures serves { F.serves frames.new ≡ F.serves frames.old }
 {
