@@ -4,6 +4,7 @@ use Rattle.std.specs.List.{AllByRecursion}
 use Rattle.x86_64_model.specs.Alike.{Alike}
 use Rattle.x86_64_model.specs.Mapper.{Hierarchy, paths}
 use Rattle.x86_64_model.specs.Pool.{serves_below}
+pub use Rattle.x86_64_model.specs.Store.{put_first}
 use Rattle.x86_64_model.specs.Store.{Store, Fits, Kept}
 use Rattle.x86_64_model.specs.Window.{Window}
 use Rattle.x86_64_tables.specs.FramePool.{FreeFrames}
@@ -15,10 +16,6 @@ use Rattle.x86_64.specs.Runs.{Ran}
 abbrev pub NoneNames : {C : Type 0} → (asks : C → MapperCall) → (levels : ℕ) → Option Window → List C → Type 0
 NoneNames asks levels None calls = ⊤
 NoneNames asks levels (Some window) calls = AllByRecursion (λ call. names_by levels (asks call) window.index ≡ false) calls
-
--- a frame that is returned becomes the first of the free frames
-abbrev pub put_first : (held : List ℕ) → (frame : ℕ) → List ℕ
-put_first held frame = frame ∷ held
 
 -- the store that a `FramePool` is: it serves the frames with numbers below its limit
 abbrev pub pool_store : FreeFrames → Store

@@ -17,25 +17,25 @@ use Rattle.x86_64_mappers.specs.private.ImplLaws.{no_flags}
 use Rattle.x86_64.specs.Runs.{KeepsPool}
 use Rattle.x86_64.proofs.Keeping.{keeps_step}
 use Rattle.x86_64_c.specs.Calls.{Changes, answer_status}
-use Rattle.x86_64_c.specs.PoolCalls.{to_front}
+use Rattle.x86_64_model.specs.Store.{put_first}
 
 -- a layout's hierarchy in a memory
 abbrev pub of : Layout → Memory → Hierarchy (Unit {0})
 of l m = record { layout = l; memory = m; lent = tt }
 
-gives : TakesBack to_front
-gives = giving_from to_front (λ held f. IsPermutation-refl (f ∷ held))
+gives : TakesBack put_first
+gives = giving_from put_first (λ held f. IsPermutation-refl (f ∷ held))
 
 -- a pool that fitted the hierarchy still does
 keeps : {Lent : Type 0} (h after : Hierarchy Lent) (call : Call) (answer : Answer) → IsParentFlags h.layout.added_flags → IsCall h.layout.levels call → allows h call ≡ true
     → Does h call answer after → (serves : ℕ → Bool) (pool : List ℕ) → PoolFits h serves pool → KeepsPool h.layout serves h.memory pool after.memory pool
 keeps h after call answer adds is may does serves pool fits =
-    let machine = machine_of h.layout to_front in
+    let machine = machine_of h.layout put_first in
     let before = state_in h.layout h.memory pool in
-    let did = subst (λ l. do_call machine before call ≡ record { state = state_in l after.memory pool; reply = Answered answer }) does.layout (does.outcome pool to_front) in
+    let did = subst (λ l. do_call machine before call ≡ record { state = state_in l after.memory pool; reply = Answered answer }) does.layout (does.outcome pool put_first) in
     let one : step machine before call ≡ record { state = state_in h.layout after.memory pool; reply = Answered answer } =
     ap (λ b. cond b (do_call machine before call) (only_reply before NotAllowed)) may ∙ did in
-    keeps_step h.layout adds to_front gives serves h.memory pool fits call is after.memory pool (sym (ap (λ (x : AfterCall). x.state) one))
+    keeps_step h.layout adds put_first gives serves h.memory pool fits call is after.memory pool (sym (ap (λ (x : AfterCall). x.state) one))
     (subst (λ l. IsReady l after.memory pool) does.layout (does.fits pool (ready_of_fits h.layout h.memory serves pool fits))) (λ k none. does.others k (λ f table. none f (inr table)))
 
 -- what a mapper did, of the words alone

@@ -3,18 +3,18 @@ use Rattle.std.proofs.Common.{◌≡◌, ℕ, Bool, List, sym, subst}
 use Rattle.std.specs.Borrow.{GName}
 use Rattle.x86_64_model.specs.Mapper.{Hierarchy}
 use Rattle.x86_64_model.specs.Memory.{Memory}
-use Rattle.x86_64_model.specs.Store.{Store}
+use Rattle.x86_64_model.specs.Store.{Store, put_first}
 use Rattle.x86_64_tables.specs.LentMemory.{numbered}
 use Rattle.x86_64_tables.specs.LentPool.{is_in, served_by}
 use Rattle.x86_64_tables.proofs.LentPools.{fits_own}
 use Rattle.x86_64.specs.Asked.{MapperCall}
 use Rattle.x86_64_c.specs.Given.{at}
-use Rattle.x86_64_c.specs.PoolCalls.{Runs, to_front}
+use Rattle.x86_64_c.specs.PoolCalls.{Runs}
 use Rattle.x86_64_c.specs.declared.given.Located.{Located}
 
 -- a pool that is a stack
 abbrev pub stack : (serves : ℕ → Bool) → (frames : List ℕ) → Store
-stack serves frames = record { frames = frames; serves = serves; take_back = to_front }
+stack serves frames = record { frames = frames; serves = serves; take_back = put_first }
 
 -- what the pool serves, among frames, are its own
 own_runs : (own : List ℕ) (array count : GName) (serves also : ℕ → Bool) → serves ≡ served_by own array count → (h after : Hierarchy (Unit {0})) (pool rest : List ℕ) (call : MapperCall) (status : ℕ)

@@ -2,7 +2,7 @@
 use Rattle.std.specs.Prelude.{◌≡◌, ◌≤◌, ℕ, ◌+◌, Bool, true, ◌==◌, ◌&&◌, nat_le, cond, List, ◌∷◌, length, Option, Some, None}
 use Rattle.std.specs.Option.{option_or}
 use Rattle.x86_64_model.specs.Mapper.{Hierarchy, machine_of, state_of}
-use Rattle.x86_64_model.specs.Store.{Store, Fits}
+use Rattle.x86_64_model.specs.Store.{Store, Fits, put_first}
 use Rattle.x86_64_tables.specs.LentPool.{is_in, stacked}
 use Rattle.x86_64_tables.specs.PageTableFlags.{bits_of}
 use Rattle.x86_64.specs.Asked as asked
@@ -82,13 +82,9 @@ bad_call h lent request = option_or (bad_pool h (length lent.tables) (length len
 
 -- ---- what a call does
 
--- A pool puts a frame that comes back at the front.
-abbrev pub to_front : (held : List ℕ) → (frame : ℕ) → List ℕ
-to_front held f = f ∷ held
-
 -- The pool in an array whose first entries are its free frames. It serves (may hold) its own frames, which are a list.
 abbrev pub pool_in : (own entries : List ℕ) → (count : ℕ) → Store
-pool_in own entries count = record { frames = stacked entries count; serves = is_in own; take_back = to_front }
+pool_in own entries count = record { frames = stacked entries count; serves = is_in own; take_back = put_first }
 
 -- A call was executed as the machine does it, with the status of the reply. The hierarchy is valid again, and the rest of the pool
 -- fits it. If the reply says that nothing changed, no word did. Free frames keep their words, except those that came back.

@@ -1,5 +1,5 @@
 -- A store of frames: it hands frames out for new tables, and takes the frames of tables back that are gone.
-use Rattle.std.specs.Prelude.{◌≡◌, ℕ, Bool, List}
+use Rattle.std.specs.Prelude.{◌≡◌, ℕ, Bool, List, ◌∷◌}
 use Rattle.x86_64_model.specs.FitsPool.{FitsPool, KeepsPool}
 use Rattle.x86_64_model.specs.Mapper.{Hierarchy}
 
@@ -17,6 +17,10 @@ StoreMembers Self = record { held : Self → List ℕ; take_back : List ℕ → 
 -- The store that a value of a type is, by the ghost members of its `FrameStore`.
 abbrev pub store_of : {Self : Type 0} → StoreMembers Self → Self → Store
 store_of members value = record { frames = members.supply value; serves = members.serves value; take_back = members.take_back }
+
+-- The free frames of a pool that puts a frame that comes back at the front.
+abbrev pub put_first : (frames : List ℕ) → (frame : ℕ) → List ℕ
+put_first frames frame = frame ∷ frames
 
 -- The hierarchy is valid, and the frames of the store fit it: they are distinct, in the memory, and neither 0 nor in use as a table,
 -- and the store serves them and the frame of each table but the root.

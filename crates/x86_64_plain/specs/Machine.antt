@@ -7,14 +7,11 @@ use Rattle.x86_64_plain.specs.Windows.{window_of}
 use Rattle.x86_64_plain.specs.Calls.{reply_of}
 use Rattle.x86_64_plain.specs.declared.calls.PlainReply.{PlainReply}
 use Rattle.x86_64_plain.specs.declared.machine.PlainMachine.{PlainMachine}
-use Rattle.x86_64_plain.specs.declared.machine.PlainState.{PlainState}
+use Rattle.x86_64_plain.specs.declared.machine.PlainState.{PlainState}use Rattle.x86_64_model.specs.Store.{put_first}
 
--- A returned frame is put in front.
-abbrev pub put_in_front : List ℕ → ℕ → List ℕ
-put_in_front held frame = frame ∷ held
 
 abbrev pub machine_of : PlainMachine → Machine
-machine_of m = record { levels = m.levels; window = window_of m.window; added_flags = m.added_flags; take_back = put_in_front }
+machine_of m = record { levels = m.levels; window = window_of m.window; added_flags = m.added_flags; take_back = put_first }
 
 abbrev pub plain_state : PlainState → State
 plain_state s = record { paths = s.paths; pool = s.pool.items }

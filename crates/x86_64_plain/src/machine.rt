@@ -3,11 +3,12 @@ ghost use Rattle.std.specs.Prelude.{◌≡◌, ◌≤◌, OnOk, IfOk};
 ghost use Rattle.x86_64_model.specs.Call.{MapToWithTableFlags, IdentityMap, Unmap, UpdateFlags, SetFlags, CleanUp, Answered, Address};
 ghost use Rattle.x86_64_model.specs.Pool.{given_back};
 ghost use Rattle.x86_64_model.specs.PageRules.{translate_page as translate_page_of};
+ghost use Rattle.x86_64_model.specs.Store.{put_first};
 ghost use Rattle.x86_64_model.specs.Translation.{translate as translate_of, address_of as address_of_translated};
 ghost use Rattle.x86_64_model.specs.Machine.{step as step_of};
 ghost use Rattle.x86_64_plain.specs.Windows.{entry_read};
 ghost use Rattle.x86_64_plain.specs.Calls.{call_of, reply_of, translated_of};
-ghost use Rattle.x86_64_plain.specs.Machine.{CanAdd, machine_of, plain_state, put_in_front, outcome, allowed_outcome};
+ghost use Rattle.x86_64_plain.specs.Machine.{CanAdd, machine_of, plain_state, outcome, allowed_outcome};
 
 use crate::calls::{PlainCall, PlainReply, Translated};
 use crate::changes::{set_flags, translate_page, unmap, update_flags};
@@ -52,7 +53,7 @@ fn address_of(translated: Translated) -> Option<u64>
 
 /// Puts frames in front of a pool, one after another.
 fn give_back(pool: &mut Vec<u64>, frames: &[u64]) -> Result<(), AllocError>
-    ensures { OnOk result (pool.new.items ≡ given_back put_in_front pool.old.items frames.now) }
+    ensures { OnOk result (pool.new.items ≡ given_back put_first pool.old.items frames.now) }
 {
     match frames {
         [] => Ok(()),
