@@ -1,5 +1,6 @@
 -- The plain program's machine and states as those of the model.
 use Rattle.std.specs.Prelude.{ℕ, ◌+◌, ◌^◌, ◌<◌, List, ◌∷◌}
+use Rattle.x86_64_model.specs.Store.{put_first}
 use Rattle.x86_64_model.specs.Translation.{Translated, NotMapped, Mapped}
 use Rattle.x86_64_model.specs.Call.{Call}
 use Rattle.x86_64_model.specs.Machine.{Machine, State, AfterCall, do_call}
@@ -7,8 +8,7 @@ use Rattle.x86_64_plain.specs.Windows.{window_of}
 use Rattle.x86_64_plain.specs.Calls.{reply_of}
 use Rattle.x86_64_plain.specs.declared.calls.PlainReply.{PlainReply}
 use Rattle.x86_64_plain.specs.declared.machine.PlainMachine.{PlainMachine}
-use Rattle.x86_64_plain.specs.declared.machine.PlainState.{PlainState}use Rattle.x86_64_model.specs.Store.{put_first}
-
+use Rattle.x86_64_plain.specs.declared.machine.PlainState.{PlainState}
 
 abbrev pub machine_of : PlainMachine → Machine
 machine_of m = record { levels = m.levels; window = window_of m.window; added_flags = m.added_flags; take_back = put_first }
