@@ -37,7 +37,8 @@ pub enum Ending {
 }
 
 impl Ending {
-    /// Returns the exit status of the program.
+    /// Returns the exit status of the program: 0 for the end of the input, 1 for a bad line, 2 for the image, 3 for memory, 4 for
+    /// a failed read or write, 5 for the arguments.
     pub fn status(self) -> u8
         ensures { result ≡ status_of self }
     {

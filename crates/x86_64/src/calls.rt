@@ -46,6 +46,7 @@ impl LevelFiveFlags<FourLevels> for Infallible {
 
     ghost bits = { no_bits };
 
+    /// Returns no flags: with four levels there are none of level five.
     fn page_table_flags(_flags: Option<Infallible>) -> PageTableFlags
         ensures some { IfSome _flags (λ given. bits_of result ≡ no_bits given) }
         ensures none { IfNone _flags (bits_of result ≡ 0) }
@@ -65,6 +66,7 @@ impl LevelFiveFlags<FiveLevels> for PageTableFlags {
 
     ghost bits = { λ flags. bits_of flags };
 
+    /// Returns the flags, or no flags for `None`.
     fn page_table_flags(flags: Option<PageTableFlags>) -> PageTableFlags
         ensures some { IfSome flags (λ given. bits_of result ≡ bits_of given) }
         ensures none { IfNone flags (bits_of result ≡ 0) }

@@ -47,7 +47,8 @@ impl<S: ByteSource> Dump<S> {
         Ok(Dump { source, segments })
     }
 
-    /// Returns true if the file is shorter than its headers say, as a truncated dump is. The frames that remain can be read.
+    /// Returns true if the file is shorter than its headers say: a segment ends after the file, as in a truncated dump. The frames
+    /// that remain can be read.
     pub fn is_short(&self) -> bool
         ensures { S.IsKnown → result ≡
             is_short (length (opened S.bytes self.now).file) (opened S.bytes self.now).segments }
@@ -63,11 +64,11 @@ impl<S: ByteSource> Dump<S> {
         self.offset_of(frame).is_some()
     }
 
-    /// Reads the 512 words of a frame, or returns `None` if the dump lacks it.
+    /// Reads the 512 words of a frame, or returns `None` if the dump lacks it. The first segment that has the whole frame counts.
     ///
     /// # Errors
     ///
-    /// The error of the source if it can't be read.
+    /// The error of the source if it can't be read. A failed read is never reported as a missing frame.
     pub fn read_frame(&self, frame: PhysFrame<Size4KiB>) -> io::Result<Option<[u64; 512]>>
         ensures held { IfOk result (λ words. is_some words ≡ holds S.size self.now frame) }
         ensures words { S.IsKnown →
@@ -94,6 +95,9 @@ impl<S: ByteSource> Dump<S> {
 
     /// Finds QEMU's notes of the processors, and returns them in order.
     ///
+    /// Each segment of notes is read up to the first note that doesn't end in it. These segments count as long as they have
+    /// together no more bytes than the file.
+    ///
     /// # Errors
     ///
     /// `DumpError::OutOfMemory` if memory allocation fails, `DumpError::Read` if the source can't be read.
@@ -104,7 +108,7 @@ impl<S: ByteSource> Dump<S> {
         read_notes(alloc, &self.source, &self.segments)
     }
 
-    /// Reads the CR3 of a processor.
+    /// Reads the CR3 of a processor: the eight bytes at 416 of the note's descriptor.
     ///
     /// # Errors
     ///
@@ -116,7 +120,7 @@ impl<S: ByteSource> Dump<S> {
         read_register(&self.source, processor, 416)
     }
 
-    /// Reads the CR4 of a processor.
+    /// Reads the CR4 of a processor: the eight bytes at 424 of the note's descriptor.
     ///
     /// # Errors
     ///

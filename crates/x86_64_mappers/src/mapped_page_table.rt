@@ -23,7 +23,7 @@ use x86_64_tables::phys_memory::{
 /// A mapper for a hierarchy of `L` levels of page tables, which it finds in a memory by a frame mapping.
 ///
 /// It borrows the memory until it is dropped. Its hierarchy has no recursive index. It reaches a table by its frame, so
-/// a map clears a new table before it writes the entry that names it.
+/// a map clears a new table before it writes the entry that names it. A new table's entry gets the parent flags alone.
 pub struct Direct<'a, P: PageTableFrameMapping, L: LevelCount, T: TableMemory = PhysMemory> {
     memory: &'a mut T,
     root: PhysFrame<Size4KiB>,
@@ -74,6 +74,7 @@ pub type MappedPageTable57<'a, P, T = PhysMemory> = MappedPageTableIn<'a, P, Fiv
 
 impl<'a, P: PageTableFrameMapping + Drop, L: LevelCount, T: TableMemory> Drop
     for Direct<'a, P, L, T> {
+    // The lent memory has the mapper's words then, over the same tables.
     fn drop(self)
         ensures memory { T.tables self.exit.0.now ≡ (⟦<Self as Tables>⟧.hierarchy self.entry).memory }
         ensures lent { T.lent self.exit.0.now ≡ (⟦<Self as Tables>⟧.hierarchy self.entry).lent.0.1 }

@@ -80,7 +80,8 @@ impl<'a, L: LevelCount, T: TableMemory, P: PageTableFrameMapping> Iterator
     }
 }
 
-/// Returns an iterator over the mappings below a root with four levels of page tables, in order of their starts.
+/// Returns an iterator over the mappings below a root with four levels of page tables, in order of their starts. It
+/// allocates no memory.
 ///
 /// The tables may contain any words, and the iterator ends for all of them: a table that names itself is read again only as
 /// a table of the level below, down to level one. Nothing is mapped below an entry whose frame isn't covered by the mapping,

@@ -67,7 +67,7 @@ impl<'a, L: LevelCount, T: TableMemory, P: PageTableFrameMapping> Iterator
     }
 }
 
-/// Returns an iterator over the regions below a root with four levels of page tables.
+/// Returns an iterator over the regions below a root with four levels of page tables. The tables may contain any words.
 pub fn regions<'a, T: TableMemory, P: PageTableFrameMapping>(
     memory: &'a T,
     mapping: &'a P,

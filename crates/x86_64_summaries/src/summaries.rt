@@ -80,7 +80,8 @@ impl<'a, T: TableMemory, P: PageTableFrameMapping> Summaries<'a, T, P> {
         Ok(Summaries { query, levels })
     }
 
-    /// Returns the summary of the wanted mappings of a frame's table of a level, if it is known.
+    /// Returns the summary of the wanted mappings of a frame's table of a level, if it is known. For which tables it is known isn't
+    /// said.
     pub fn of(&self, level: u64, frame: PhysFrame<Size4KiB>) -> Option<Summary>
         ensures { IfSome result (λ summary.
             summary ≡ summary_of (asked_mappings (asked_of T.tables P.places self.now) level frame)) }

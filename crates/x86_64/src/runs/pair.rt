@@ -17,7 +17,8 @@ use x86_64_tables::mapper::TablesIn;
 ///
 /// The path maps must be alike, which means that they are equal except for `WRITABLE` of table entries. They are so,
 /// for example, if one image is loaded twice, and one copy lacks the entry at the other's recursive index. They are
-/// alike at the end too, and the pools are equal.
+/// alike at the end too, and the pools are equal. A page that may be written through one hierarchy need not be so through
+/// the other.
 ///
 /// Room for the replies is reserved before the first call. The mappers' tokens are ignored, so no flush is recorded.
 /// Also named `run_pair_57`, for five levels.

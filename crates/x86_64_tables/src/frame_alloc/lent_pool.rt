@@ -77,6 +77,7 @@ impl<'a> LentPool<'a> {
 }
 
 impl<'a> Drop for LentPool<'a> {
+    // The array's front is the frames that are free then, and the count is their number.
     fn drop(self)
         ensures in_array { self.exit.1.0.now ≤ length self.exit.0.now }
         ensures free { stacked self.exit.0.now self.exit.1.0.now

@@ -26,6 +26,7 @@ impl<'a> LentMemory<'a> {
 }
 
 impl<'a> Drop for LentMemory<'a> {
+    // The slice is the tables of the memory then, in the order of their places.
     fn drop(self)
         ensures tables { numbered self.exit.0.now ≡ ⟦<Self as TableMemory>⟧.tables self.entry }
         ensures in_order { self.exit.0.now ≡ tables_in_order (⟦<Self as TableMemory>⟧.tables self.entry) }
