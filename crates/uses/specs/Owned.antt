@@ -3,7 +3,7 @@ use Rattle.std.specs.Prelude.{◌≡◌, ◌++◌, ℕ, List, map, Some}
 use Rattle.x86_64_mappers.specs.Layouts.{owned, owned_at}
 use Rattle.x86_64_model.specs.Laws.Spaces.{Led}
 use Rattle.x86_64_model.specs.Mapper.{Hierarchy, machine_of, state_in}
-use Rattle.x86_64_model.specs.Memory.{Memory, Places, identity_places}
+use Rattle.x86_64_model.specs.Memory.{Memory, Places, identity_places, set_word, words_of}
 use Rattle.x86_64_model.specs.Pool.{serves_below}
 use Rattle.x86_64_model.specs.Store.{Store}
 use Rattle.x86_64_tables.specs.FramePool.{FreeFrames}
@@ -19,6 +19,10 @@ hierarchy root memory = owned identity_places root memory tt
 -- The hierarchy with this root, any number of levels, and frames at these places.
 abbrev pub hierarchy_at : (levels : ℕ) → Places → (root : ℕ) → Memory → Hierarchy (Unit {0})
 hierarchy_at levels places root memory = owned_at levels places root memory tt
+
+-- The first entry of the table in a frame is unused now. No other word changed.
+abbrev pub IsCleared : (root : ℕ) → (m n : Memory) → Type 0
+IsCleared root m n = words_of n identity_places ≡ set_word (words_of m identity_places) root 0 0
 
 -- The store that a pool is. A frame that comes back becomes the first.
 abbrev pub pool_store : FreeFrames → Store
