@@ -1,2 +1,3 @@
 pub mod SpaceRuns
 pub mod ProcessCalls
+pub mod FirstEntry

@@ -1,5 +1,5 @@
 -- What calls of a process do to other processes.
-use Rattle.std.proofs.Common.{◌≡◌, ◌≢◌, inl, inr, zero, suc, ◌<◌, ◌≤◌, ◌+◌, ◌-◌, ◌&&◌, ◌↔◌, ℕ, Bool, true, false, nat_le, nat_lt, cond, List, [], ◌∷◌, ◌++◌, take, Some, None, IsSome, Result, Ok, Err, OnOk, OnErr, IfErr, lit<, lit≤, refl, sym, ap, ◌∙◌, subst, arith, append_assoc}
+use Rattle.std.proofs.Common.{◌≡◌, ◌≢◌, inl, inr, zero, suc, ◌<◌, ◌≤◌, ◌+◌, ◌-◌, ◌&&◌, ℕ, Bool, true, false, nat_le, nat_lt, cond, List, [], ◌∷◌, ◌++◌, take, Some, None, IsSome, Result, Ok, Err, OnOk, OnErr, IfErr, lit<, lit≤, refl, sym, ap, ◌∙◌, subst, arith, append_assoc}
 use Rattle.std.proofs.lemmas.Bool.{and_parts, leb-true, lt-leb}
 use Rattle.std.proofs.lemmas.List.{append-nil}
 use Rattle.std.specs.Prelude.{if◌then◌else◌}

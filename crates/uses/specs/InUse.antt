@@ -1,5 +1,5 @@
 -- Hierarchies that a processor uses, which caches what it finds in them.
-use Rattle.std.specs.Prelude.{ℕ, List, []}
+use Rattle.std.specs.Prelude.{List, []}
 use Rattle.x86_64_model.specs.Caches.{Cached}
 use Rattle.x86_64_model.specs.Mapper.{Hierarchy, words}
 use Rattle.x86_64_model.specs.Store.{Store, Fits}

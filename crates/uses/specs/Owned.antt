@@ -3,7 +3,7 @@ use Rattle.std.specs.Prelude.{◌≡◌, ◌++◌, ℕ, List, map, Some}
 use Rattle.x86_64_mappers.specs.Layouts.{owned, owned_at}
 use Rattle.x86_64_model.specs.Laws.Spaces.{Led}
 use Rattle.x86_64_model.specs.Mapper.{Hierarchy}
-use Rattle.x86_64_model.specs.Memory.{Memory, Places, identity_places}
+use Rattle.x86_64_model.specs.Memory.{Memory, Places, identity_places, set_word, words_of}
 use Rattle.x86_64_model.specs.Store.{Store}
 use Rattle.x86_64.specs.Asked.{MapperCall, calls_by}
 use Rattle.x86_64.specs.Replies.{Reply}
@@ -16,6 +16,10 @@ hierarchy root memory = owned identity_places root memory tt
 -- The hierarchy with this root, any number of levels, and frames at these places.
 abbrev pub hierarchy_at : (levels : ℕ) → Places → (root : ℕ) → Memory → Hierarchy (Unit {0})
 hierarchy_at levels places root memory = owned_at levels places root memory tt
+
+-- The first entry of the table in a frame is unused now. No other word changed.
+abbrev pub IsCleared : (root : ℕ) → (m n : Memory) → Type 0
+IsCleared root m n = words_of n identity_places ≡ set_word (words_of m identity_places) root 0 0
 
 -- The calls lead from a hierarchy and a store to those after them.
 abbrev pub LedBy : {C Lent : Type 0} → (asks : C → MapperCall) → (h : Hierarchy Lent) → Store → List C → (after : Hierarchy Lent) → (rest : List ℕ) → Type 0

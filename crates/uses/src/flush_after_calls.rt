@@ -1,5 +1,5 @@
 //! Makes calls on the tables that a processor uses, and flushes after each what has to be flushed.
-ghost use Rattle.std.specs.Prelude.{◌≡◌, ℕ, List, [], Option, Some, unwrap_or};
+ghost use Rattle.std.specs.Prelude.{ℕ, List, [], Option, Some, unwrap_or};
 ghost use Rattle.uses.specs.InUse.{AccessesGoIn, CachesIn, InUse};
 ghost use Rattle.uses.specs.Owned.{LedBy};
 ghost use Rattle.x86_64_model.specs.Caches.{Cached};

@@ -23,6 +23,7 @@ pub record SpacesIn : Type 0 where
   pub memory : Memory
   pub spaces : List Space
 
+-- The spaces of a list in a memory.
 abbrev pub spaces_in : (levels : ℕ) → Places → Memory → List Space → SpacesIn
 spaces_in levels places memory spaces = record { levels = levels; places = places; memory = memory; spaces = spaces }
 

@@ -1,4 +1,4 @@
-use Rattle.std.proofs.Common.{◌≡◌, ◌&&◌, Bool, List, Option}
+use Rattle.std.proofs.Common.{◌≡◌, ◌&&◌, List, Option}
 use Rattle.std.specs.List.{find}
 use Rattle.x86_64_model.specs.Regions.{Region}
 use Rattle.uses.proofs.list_mappings.writable_code.Given as goal
