@@ -1,6 +1,6 @@
 -- What a table or a memory is when the loan of one of its words or tables ends.
 use Rattle.std.specs.Prelude.{ℕ, List, Option, slice_set}
-use Rattle.std.specs.Borrow.{Array, Lends, LendsIf, MutBor, Fml, RattleType}
+use Rattle.std.specs.Borrow.{Lends, LendsIf, MutBor, Fml, RattleType}
 use Rattle.std.specs.FinMap.{insert}
 use Rattle.x86_64_model.specs.Memory.{Memory}
 use Rattle.x86_64_tables.specs.contracts.page_table.entry.PageTableEntry.{the_row as entry_row}
@@ -10,10 +10,6 @@ use Rattle.x86_64_tables.specs.contracts.phys_memory.PhysMemory.{the_row as memo
 -- the table ends with the last word behind r at the index
 abbrev pub LendsWord : MutBor (List ℕ) → (index : ℕ) → MutBor ℕ → Fml
 LendsWord table index r = Lends table_row entry_row table r (slice_set table.now index)
-
--- the table ends as the last words behind r
-abbrev pub LendsWords : MutBor (List ℕ) → MutBor (List ℕ) → Fml
-LendsWords table r = Lends table_row (Array entry_row 0) table r (λ words. words)
 
 -- the memory ends with the last table behind r at the place, or unchanged if it lacks the place
 abbrev pub LendsTable : MutBor Memory → (place : ℕ) → Option (MutBor (List ℕ)) → Fml

@@ -2,7 +2,7 @@
 ghost use Rattle.std.specs.Prelude.{◌≡◌, ◌<◌, ◌↔◌, All, IsTrue, length, slice_index};
 ghost use Rattle.std.specs.Borrow.{sem};
 ghost use Rattle.x86_64_tables.specs.PageTable.{zero_words};
-ghost use Rattle.x86_64_tables.specs.Lending.{LendsWord, LendsWords};
+ghost use Rattle.x86_64_tables.specs.Lending.{LendsWord};
 
 use super::{Entries, EntriesMut, PageTableEntry};
 use std::marker::Model;
@@ -74,20 +74,9 @@ impl PageTable {
         &self.entries
     }
 
-    /// Lends the entries as a slice, to be changed. Its last words are the table's.
-    pub fn as_mut_slice(&mut self) -> &mut [PageTableEntry]
-        ensures* writes_back { sem 𝓛 (LendsWords self.entry result) }
-        ensures words { result.now ≡ self.old }
-        ensures size { length self.old ≡ 512 }
-    {
-        let all = &mut self.entries;
-        &mut all[..]
-    }
-
     /// Returns an iterator that lends the entries mutably, each once, in order of index.
     ///
-    /// A proof learns in which order the words come. If it has to know what the table is afterwards, take
-    /// [`as_mut_slice`](Self::as_mut_slice) and its `iter_mut`.
+    /// A proof learns in which order the words come, but not what the table is afterwards.
     pub fn iter_mut(&mut self) -> EntriesMut<'_>
         ensures words { result ≡ self.old }
         ensures size { length self.old ≡ 512 }
