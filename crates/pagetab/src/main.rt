@@ -1,12 +1,10 @@
 //! Runs the engine on the program's arguments, standard input and standard output.
 #![tactic(auto)]
 
-ghost use Rattle.std.specs.Prelude.{◌≡◌, ◌⊎◌, map, string_bytes};
+ghost use Rattle.std.specs.Prelude.{◌≡◌, map, string_bytes};
 ghost use Rattle.std.specs.Process.{exit_status};
-ghost use Rattle.pagetab.specs.Exit.{EndsRun};
+ghost use Rattle.pagetab.specs.Exit.{EndsRun, Reports};
 ghost use Rattle.pagetab_engine.specs.Ending.{status_of};
-ghost use Rattle.pagetab_engine.specs.declared.ending.Ending.TheVariants.{Stopped};
-ghost use Rattle.pagetab_engine.specs.declared.ending.Fault.TheVariants.{Output};
 
 use pagetab_engine::ending::{Ending, Fault};
 use pagetab_engine::engine;
@@ -52,7 +50,7 @@ fn fault_of(error: &io::Error) -> Fault {
 /// Writes the text of a fault to standard error, and returns the exit code, which is that of a failed write if this
 /// write fails.
 fn report(rt: &impl Eprint, ending: Ending) -> ExitCode
-    ensures { (exit_status result ≡ status_of ending) ⊎ (exit_status result ≡ status_of (Stopped Output)) }
+    ensures { Reports ending result }
 {
     let told = match ending {
         Ending::Done => Ok(()),

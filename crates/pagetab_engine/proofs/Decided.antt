@@ -5,7 +5,7 @@ use Rattle.pagetab_engine.specs.Decided.{Decides, IsForcedEnd, IsFront, RunsAreD
 use Rattle.pagetab_engine.specs.Hierarchy.{FitsImage, IsReached}
 use Rattle.pagetab_engine.specs.Lines.{Numbered, IsBad, lines_of, numbered_from}
 use Rattle.pagetab_engine.specs.Program.{Answers, IsEmpty, IsFirst, IsRead, IsRun, Loads, Reads, SaysCommand, SaysImage, Serves}
-use Rattle.pagetab_engine.specs.Program.IsRun.{usage as run_usage, unreached as run_unreached, reads as run_reads, gives_up as run_gives_up}
+use Rattle.pagetab_engine.specs.Program.IsRun.{usage as run_usage, unreached as run_unreached, reads as run_reads, no_memory as run_no_memory}
 use Rattle.pagetab_engine.specs.Program.Reads.{loads as read_loads, bad_line as read_bad_line, refused as read_refused, unfit as read_unfit, fits as read_fits, gives_up as read_gives_up}
 use Rattle.pagetab_engine.specs.Program.Serves.{ends as serve_ends, answers as serve_answers, bad_line as serve_bad_line, late_image as serve_late_image, gives_up as serve_gives_up}
 use Rattle.pagetab_engine.specs.Frames.{IsLoadable}
@@ -212,7 +212,7 @@ run_is : (words : List (List ℕ)) (input : List ℕ) (ending : Ending) (replies
 run_is words input ending replies (run_usage none) = misused none refl refl
 run_is words input ending replies (run_unreached arguments h says is never) = unreached arguments h says is never refl refl
 run_is words input ending replies (run_reads arguments h end others says is reached next) = reads arguments h says is reached next
-run_is words input ending replies (run_gives_up fault is) = forced is refl
+run_is words input ending replies (run_no_memory arguments says) = forced tt refl
 
 run_decided : (words : List (List ℕ)) (input : List ℕ) (ending other : Ending) (replies others : List Reply) → Runs words input ending replies → Runs words input other others → Decides ending other replies others
 run_decided words input ending other replies others (forced is none) second = forced_end ending other replies others is none

@@ -6,7 +6,7 @@ use Rattle.pagetab_engine.specs.Hierarchy.{FitsImage, IsReached}
 use Rattle.pagetab_engine.specs.Lines.{Numbered, ForSome, IsInput, TracesBack, lines_of, numbered_from}
 use Rattle.pagetab_engine.specs.Program.{IsEmpty, IsFirst, IsRead, IsRun, IsWritten, Reads, Runs, Serves}
 use Rattle.pagetab_engine.specs.private.RunParts.{IsLeft, IsUnread, LoadsImage, RunsFrom, Served, StopsInImage}
-use Rattle.pagetab_engine.specs.Program.IsRun.{usage, unreached, reads, gives_up}
+use Rattle.pagetab_engine.specs.Program.IsRun.{usage, unreached, reads, no_memory as none_for_places}
 use Rattle.pagetab_engine.specs.Program.Reads.{unfit, fits as fits_then, gives_up as gives_up_in_image}
 use Rattle.pagetab_engine.specs.Program.Serves.{ends}
 use Rattle.pagetab_engine.specs.declared.arguments.Arguments.{Arguments}
@@ -44,8 +44,8 @@ module _ (words : List (List ℕ)) (known : Option (List ℕ)) (old : Option (Li
   pub no_arguments : ((arguments : Arguments) → ¬ (Says words arguments)) → ForSome (IsInput known) (λ input. Runs words input old old (Stopped Usage))
   no_arguments none = stops Usage (appends_nothing old) (λ input. usage none)
 
-  pub no_memory : ForSome (IsInput known) (λ input. Runs words input old old (Stopped OutOfMemory))
-  no_memory = stops OutOfMemory (appends_nothing old) (λ input. gives_up OutOfMemory tt)
+  pub no_memory : (arguments : Arguments) → Says words arguments → ForSome (IsInput known) (λ input. Runs words input old old (Stopped OutOfMemory))
+  no_memory arguments says = stops OutOfMemory (appends_nothing old) (λ input. none_for_places arguments says)
 
   module _ (arguments : Arguments) (says : Says words arguments) (empty : Hierarchy) (is_empty : IsEmpty arguments empty) where
     pub not_reached : ¬ (IsReached empty.mode empty.frames.memory) → ForSome (IsInput known) (λ input. Runs words input old old (Stopped Usage))

@@ -102,8 +102,8 @@ pub data Reads (arguments : Arguments) : (lines : List Numbered) → Hierarchy �
 
 -- ---- the run
 
--- The input is read if the arguments are a mode and a number of places, and the mapper reaches each place. The run may be forced
--- to stop at each line.
+-- The input is read if the arguments are a mode and a number of places, and the mapper reaches each place. Memory for the places
+-- may be refused then. The run may be forced to stop at each line.
 pub data IsRun (words : List (List ℕ)) (input : List ℕ) : Ending → (replies : List Reply) → Type 0 where
   usage : ((arguments : Arguments) → ¬ (Says words arguments)) → IsRun words input (Stopped Usage) []
   unreached : (arguments : Arguments) (hierarchy : Hierarchy)
@@ -111,7 +111,7 @@ pub data IsRun (words : List (List ℕ)) (input : List ℕ) : Ending → (replie
   reads : (arguments : Arguments) (hierarchy : Hierarchy) (ending : Ending) (replies : List Reply)
       → Says words arguments → IsEmpty arguments hierarchy → IsReached hierarchy.mode hierarchy.frames.memory
       → Reads arguments (numbered_from 1 (lines_of input)) hierarchy ending replies → IsRun words input ending replies
-  gives_up : (fault : Fault) → IsForced fault → IsRun words input (Stopped fault) []
+  no_memory : (arguments : Arguments) → Says words arguments → IsRun words input (Stopped OutOfMemory) []
 
 -- a first part of a line, but not all of it
 abbrev pub IsFrontPart : (front line : List ℕ) → Type 0

@@ -15,8 +15,10 @@ returns-in_default g c =
 
 pub returns-in_err-hierarchy : goal.returns-in_err-hierarchy
 returns-in_err-hierarchy g c =
+    let words = map string_bytes c.args.words.now in
     let told : c.from_residual.result ≡ Err OutOfMemory = search rules in
-    rw told (no_memory (map string_bytes c.args.words.now) (g.R.Read.remaining c.args.reader.now) (g.W.Write.contents c.args.writer.now))
+    let says : Says words c.in-Some.arguments = search rules in
+    rw told (no_memory words (g.R.Read.remaining c.args.reader.now) (g.W.Write.contents c.args.writer.now) c.in-Some.arguments says)
 
 pub returns-then-not-is_reached : goal.returns-then-not-is_reached
 returns-then-not-is_reached g c =

@@ -16,6 +16,6 @@ returns g c =
       walked_fits = search rules;
       alike = alike_after levels (direct_at levels identity_places direct.root) (recursive_at levels root (window_with root recursive.index (bits_of recursive.self_flags)))
           (direct_at levels identity_places c.args.root) (λ words. recursive_now_at levels words c.args.root c.args.index) direct.memory.now (memory_of recursive.active) _ _
-          c.run_pair.ensures.alike (search rules) (search rules) (search rules) (search rules);
+          c.run_pair.ensures.alike.paths (search rules) (search rules) (search rules) (search rules);
       same_free = search rules;
     }
