@@ -102,6 +102,9 @@ abbrev pub IsReached : Mode → Memory → Type 0
 IsReached (Offset offset) memory = OffsetFits 4 memory offset
 IsReached mode memory = ⊤
 
+abbrev pub ReachesAll : Hierarchy → Type 0
+ReachesAll hierarchy = IsReached hierarchy.mode hierarchy.frames.memory
+
 -- The recursive mapper's hierarchy is valid for the index, the path maps are alike, and its free frames fit it and are equal to
 -- the direct mapper's.
 pub record IsTwin (levels index : ℕ) (memory : Memory) (free : List ℕ) (twin : Frames) : Type 0 where

@@ -1,11 +1,10 @@
 //! Execution of single calls by the mappers.
 ghost use Rattle.std.specs.Prelude.{◌≡◌, false, IfOk, OnErr};
-ghost use Rattle.x86_64_model.specs.Pool.{serves_below};
-ghost use Rattle.x86_64_model.specs.Mapper.{PoolFits};
+ghost use Rattle.x86_64_model.specs.Store.{Fits, Kept};
 ghost use Rattle.x86_64_mappers.specs.Offsets.{OffsetFits};
 ghost use Rattle.x86_64.specs.Calls.{asks, names};
-ghost use Rattle.x86_64.specs.Runs.{FitsPool, KeepsPool, Kept};
-ghost use Rattle.pagetab_engine.specs.Calls.{IsAnswered};
+ghost use Rattle.x86_64.specs.Pairs.{pool_store};
+ghost use Rattle.pagetab_engine.specs.Calls.{AnsweredBy, IsAnswered, PoolFits, PoolKept};
 ghost use Rattle.pagetab_engine.specs.Frames.{direct_layout, recursive_layout};
 ghost use Rattle.pagetab_engine.specs.Hierarchy.{IsTwin, TwinAnswers};
 
@@ -36,15 +35,13 @@ fn answer_by<L: LevelCount, P5: LevelFiveFlags<L>, M: TableAccess + TablesIn<L>>
     pool: &mut FramePool,
     call: CallIn<L, P5>,
 ) -> Result<ReplyIn<L>, AllocError>
-    requires { PoolFits (M.hierarchy mapper.old) (serves_below pool.old.limit) pool.old.frames }
-    ensures answered { let h = M.hierarchy mapper.old in
-        let memory = (M.hierarchy mapper.new).memory in let asked = asks P5.bits call in
-        IfOk result (IsAnswered h.layout h.memory pool.old.frames asked memory pool.new.frames) }
+    requires { Fits (M.hierarchy mapper.old) (pool_store pool.old) }
+    ensures answered { IfOk result (AnsweredBy (M.hierarchy mapper.old) pool.old.frames (asks P5.bits call)
+        (M.hierarchy mapper.new) pool.new.frames) }
     ensures unchanged { OnErr result (
         ((M.hierarchy mapper.new).memory ≡ (M.hierarchy mapper.old).memory) × (pool.new ≡ pool.old)) }
-    ensures keeps { let h = M.hierarchy mapper.old in
-        Kept h (serves_below pool.old.limit) pool.old.frames (M.hierarchy mapper.new) pool.new.frames }
-    ensures serves { serves_below pool.new.limit ≡ serves_below pool.old.limit }
+    ensures keeps { Kept (M.hierarchy mapper.old) (pool_store pool.old)
+        (M.hierarchy mapper.new) (pool_store pool.new) }
 {
     let mut calls = Vec::with_capacity(alloc, 1)?;
     calls.push_reserved(call);
@@ -67,13 +64,11 @@ pub fn answer_direct<L: LevelCount, P5: LevelFiveFlags<L>>(
     pool: &mut FramePool,
     call: CallIn<L, P5>,
 ) -> Result<ReplyIn<L>, AllocError>
-    requires { FitsPool (direct_layout L.LEVELS) memory.old (serves_below pool.old.limit) pool.old.frames }
-    ensures answered { let layout = direct_layout L.LEVELS in let asked = asks P5.bits call in
-        IfOk result (IsAnswered layout memory.old pool.old.frames asked memory.new pool.new.frames) }
+    requires { PoolFits (direct_layout L.LEVELS) memory.old pool.old }
+    ensures answered { IfOk result (IsAnswered (direct_layout L.LEVELS) memory.old pool.old.frames
+        (asks P5.bits call) memory.new pool.new.frames) }
     ensures unchanged { OnErr result ((memory.new ≡ memory.old) × (pool.new ≡ pool.old)) }
-    ensures keeps { let serves = serves_below pool.old.limit in
-        KeepsPool (direct_layout L.LEVELS) serves memory.old pool.old.frames memory.new pool.new.frames }
-    ensures serves { serves_below pool.new.limit ≡ serves_below pool.old.limit }
+    ensures keeps { PoolKept (direct_layout L.LEVELS) memory.old pool.old memory.new pool.new }
 {
     let mut mapper = MappedPageTableIn::<IdentityMapping, L>::new(memory, root(), IdentityMapping);
     answer_by(alloc, &mut mapper, pool, call)
@@ -93,16 +88,13 @@ pub fn answer_at_offset<L: LevelCount, P5: LevelFiveFlags<L>>(
     pool: &mut FramePool,
     call: CallIn<L, P5>,
 ) -> Result<ReplyIn<L>, AllocError>
-    requires pool { let serves = serves_below pool.old.limit in
-        FitsPool (direct_layout L.LEVELS) memory.old serves pool.old.frames }
+    requires pool { PoolFits (direct_layout L.LEVELS) memory.old pool.old }
     requires offset { OffsetFits L.LEVELS memory.old phys_offset }
-    ensures answered { let layout = direct_layout L.LEVELS in let asked = asks P5.bits call in
-        IfOk result (IsAnswered layout memory.old pool.old.frames asked memory.new pool.new.frames) }
+    ensures answered { IfOk result (IsAnswered (direct_layout L.LEVELS) memory.old pool.old.frames
+        (asks P5.bits call) memory.new pool.new.frames) }
     ensures unchanged { OnErr result ((memory.new ≡ memory.old) × (pool.new ≡ pool.old)) }
-    ensures keeps { let serves = serves_below pool.old.limit in
-        KeepsPool (direct_layout L.LEVELS) serves memory.old pool.old.frames memory.new pool.new.frames }
+    ensures keeps { PoolKept (direct_layout L.LEVELS) memory.old pool.old memory.new pool.new }
     ensures offset { OffsetFits L.LEVELS memory.new phys_offset }
-    ensures serves { serves_below pool.new.limit ≡ serves_below pool.old.limit }
 {
     let mut mapper = OffsetPageTableIn::<L>::new(memory, root(), phys_offset);
     answer_by(alloc, &mut mapper, pool, call)
@@ -123,16 +115,13 @@ pub fn answer_recursively<L: LevelCount, P5: LevelFiveFlags<L>>(
     pool: &mut FramePool,
     call: CallIn<L, P5>,
 ) -> Result<ReplyIn<L>, AllocError>
-    requires { let layout = recursive_layout L.LEVELS memory.old index in
-        FitsPool layout memory.old (serves_below pool.old.limit) pool.old.frames }
-    ensures answered { let layout = recursive_layout L.LEVELS memory.old index in IfOk result (
-        IsAnswered layout memory.old pool.old.frames (asks P5.bits call) memory.new pool.new.frames) }
+    requires { PoolFits (recursive_layout L.LEVELS memory.old index) memory.old pool.old }
+    ensures answered { IfOk result (IsAnswered (recursive_layout L.LEVELS memory.old index)
+        memory.old pool.old.frames (asks P5.bits call) memory.new pool.new.frames) }
     ensures unchanged { OnErr result ((memory.new ≡ memory.old) × (pool.new ≡ pool.old)) }
-    ensures keeps { let layout = recursive_layout L.LEVELS memory.old index in
-        let serves = serves_below pool.old.limit in
-        KeepsPool layout serves memory.old pool.old.frames memory.new pool.new.frames }
+    ensures keeps { PoolKept (recursive_layout L.LEVELS memory.old index)
+        memory.old pool.old memory.new pool.new }
     ensures layout { recursive_layout L.LEVELS memory.new index ≡ recursive_layout L.LEVELS memory.old index }
-    ensures serves { serves_below pool.new.limit ≡ serves_below pool.old.limit }
 {
     let active = Active::<L>::new(memory, root());
     let mut mapper = RecursivePageTableIn::<L>::new_unchecked(active, index);
@@ -157,17 +146,14 @@ pub fn answer_by_both<L: LevelCount, P5: LevelFiveFlags<L>>(
     index: PageTableIndex,
     call: CallIn<L, P5>,
 ) -> Result<ReplyIn<L>, AllocError>
-    requires fits { let serves = serves_below pool.old.limit in
-        FitsPool (direct_layout L.LEVELS) memory.old serves pool.old.frames }
+    requires fits { PoolFits (direct_layout L.LEVELS) memory.old pool.old }
     requires twin { IsTwin L.LEVELS index memory.old pool.old.frames twin.old }
     requires unnamed { names L.LEVELS P5.bits call index ≡ false }
-    ensures answered { let layout = direct_layout L.LEVELS in let asked = asks P5.bits call in
-        IfOk result (IsAnswered layout memory.old pool.old.frames asked memory.new pool.new.frames) }
+    ensures answered { IfOk result (IsAnswered (direct_layout L.LEVELS) memory.old pool.old.frames
+        (asks P5.bits call) memory.new pool.new.frames) }
     ensures unchanged { OnErr result (
         (memory.new ≡ memory.old) × (pool.new ≡ pool.old) × (twin.new ≡ twin.old)) }
-    ensures keeps { let serves = serves_below pool.old.limit in
-        KeepsPool (direct_layout L.LEVELS) serves memory.old pool.old.frames memory.new pool.new.frames }
-    ensures serves { serves_below pool.new.limit ≡ serves_below pool.old.limit }
+    ensures keeps { PoolKept (direct_layout L.LEVELS) memory.old pool.old memory.new pool.new }
     ensures twin { IsTwin L.LEVELS index memory.new pool.new.frames twin.new }
     ensures both { IfOk result (TwinAnswers L.LEVELS index twin.old (asks P5.bits call) twin.new) }
 {

@@ -1,7 +1,7 @@
 //! The run of the program.
 ghost use Rattle.std.specs.Prelude.{◌≡◌, ◌<◌, ℕ, List, length, map, string_bytes, IfOk, IfErr, OnOk, OnErr};
 ghost use Rattle.std.specs.Io.KnownBytes.{Appends};
-ghost use Rattle.pagetab_engine.specs.Hierarchy.{hierarchy_state, HasCopy, IsHierarchy, IsReached, KeepsHierarchy, KeepsFree};
+ghost use Rattle.pagetab_engine.specs.Hierarchy.{hierarchy_state, HasCopy, IsHierarchy, KeepsHierarchy, KeepsFree, ReachesAll};
 ghost use Rattle.pagetab_engine.specs.Lines.{ForSome, IsInput, MayBeLeft, TracesBack};
 ghost use Rattle.pagetab_engine.specs.Program.{AppendsFront, Runs};
 ghost use Rattle.pagetab_engine.specs.private.RunParts.{LoadsImage, Replies, RunsFrom, Served, StopsAt, StopsInImage, ending_of};
@@ -41,9 +41,8 @@ pub fn run<R: Read, W: Write>(
     reader: &mut R,
     writer: &mut W,
 ) -> Ending
-    ensures { let words = map string_bytes words.now in
-        (input : List ℕ) × IsInput (R.remaining reader.old) input
-        × Runs words input (W.contents writer.old) (W.contents writer.new) result }
+    ensures { (input : List ℕ) × IsInput (R.remaining reader.old) input
+        × Runs (map string_bytes words.now) input (W.contents writer.old) (W.contents writer.new) result }
 {
     match serve(alloc, words, reader, writer) {
         Ok(()) => Ending::Done,
@@ -58,9 +57,8 @@ fn serve<R: Read, W: Write>(
     reader: &mut R,
     writer: &mut W,
 ) -> Result<(), Fault>
-    ensures { let words = map string_bytes words.now in
-        ForSome (IsInput (R.remaining reader.old)) (λ input.
-        Runs words input (W.contents writer.old) (W.contents writer.new) (ending_of result)) }
+    ensures { ForSome (IsInput (R.remaining reader.old)) (λ input. Runs (map string_bytes words.now) input
+        (W.contents writer.old) (W.contents writer.new) (ending_of result)) }
 {
     let Some(arguments) = Arguments::parse(words) else {
         return Err(Fault::Usage);
@@ -81,10 +79,9 @@ fn serve_lines<R: Read, W: Write>(
     writer: &mut W,
 ) -> Result<(), Fault>
     requires copy { HasCopy hierarchy.old }
-    requires reached { IsReached hierarchy.old.mode hierarchy.old.frames.memory }
-    ensures { let old = W.contents writer.old in let new = W.contents writer.new in
-        ForSome (IsInput (R.remaining reader.old)) (λ input.
-        RunsFrom arguments.now hierarchy.old input old new (ending_of result)) }
+    requires reached { ReachesAll hierarchy.old }
+    ensures { ForSome (IsInput (R.remaining reader.old)) (λ input. RunsFrom arguments.now hierarchy.old input
+        (W.contents writer.old) (W.contents writer.new) (ending_of result)) }
 {
     let mut lines = Lines::new(reader);
     let first = read_image(&mut lines, hierarchy, arguments)?;
@@ -106,15 +103,14 @@ fn read_image<R: Read>(
     arguments: &Arguments,
 ) -> Result<Option<Command>, Fault>
     requires copy { HasCopy hierarchy.old }
-    requires reached { IsReached hierarchy.old.mode hierarchy.old.frames.memory }
-    ensures read { let before = MayBeLeft R.remaining lines.old in
-        let after = MayBeLeft R.remaining lines.new in
-        IfOk result (λ first. TracesBack before after (λ all behind.
+    requires reached { ReachesAll hierarchy.old }
+    ensures read { IfOk result (λ first.
+        TracesBack (MayBeLeft R.remaining lines.old) (MayBeLeft R.remaining lines.new) (λ all behind.
         LoadsImage arguments.now all hierarchy.old first behind hierarchy.new)) }
     ensures stopped { IfErr result (λ fault. ForSome (MayBeLeft R.remaining lines.old) (λ all.
         StopsInImage arguments.now all hierarchy.old fault)) }
     ensures copy { HasCopy hierarchy.new }
-    ensures reached { IsReached hierarchy.new.mode hierarchy.new.frames.memory }
+    ensures reached { ReachesAll hierarchy.new }
 {
     while let Some(statement) = lines.next_statement(arguments)? {
         match statement {
@@ -139,9 +135,8 @@ fn answer_commands<R: Read, W: Write>(
     writer: &mut W,
 ) -> Result<(), Fault>
     requires { IsHierarchy hierarchy.old }
-    ensures { let old = W.contents writer.old in let new = W.contents writer.new in
-        ForSome (MayBeLeft R.remaining lines.old) (λ behind.
-        Served arguments.now first behind hierarchy.old old new (ending_of result)) }
+    ensures { ForSome (MayBeLeft R.remaining lines.old) (λ behind. Served arguments.now first behind
+        hierarchy.old (W.contents writer.old) (W.contents writer.new) (ending_of result)) }
 {
     write_reply(alloc, hierarchy, first, writer)?;
     while let Some(statement) = lines.next_statement(arguments)? {

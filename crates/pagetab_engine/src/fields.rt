@@ -195,8 +195,8 @@ struct Rest<'a> {
 impl<'a> Rest<'a> {
     /// Returns the next field, or `None` if only spaces are left.
     fn next_field(&mut self) -> Option<&'a str>
-        ensures { let fields = fields_of self.old.text.now in
-            MatchOption result (fields ≡ []) (λ field. fields ≡ field.now ∷ fields_of self.new.text.now) }
+        ensures { MatchOption result (fields_of self.old.text.now ≡ [])
+            (λ field. fields_of self.old.text.now ≡ field.now ∷ fields_of self.new.text.now) }
     {
         let text = self.text.trim_start_matches(' ');
         self.text = "";

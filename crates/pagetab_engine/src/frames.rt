@@ -123,8 +123,8 @@ impl Frames {
 
     /// Returns where the page walk of an address arrives, or `None` if the address isn't mapped.
     pub fn walk(&self, address: Address) -> Option<Walked>
-        ensures { let words = words_of self.now.memory identity_places in
-            option_map walked_of result ≡ walk_to words 0x1000 address }
+        ensures { option_map walked_of result
+            ≡ walk_to (words_of self.now.memory identity_places) 0x1000 address }
     {
         match address {
             Address::Four(addr) => page_walk(&self.memory, &IdentityMapping, root(), addr),

@@ -6,7 +6,7 @@ ghost use Rattle.x86_64.specs.Calls.{asks, names};
 ghost use Rattle.pagetab_engine.specs.Arguments.{count, levels_of};
 ghost use Rattle.pagetab_engine.specs.Calls.{IsAnswered};
 ghost use Rattle.pagetab_engine.specs.Frames.{IsLoadable, IsRefusedFor, memory_after, free_after};
-ghost use Rattle.pagetab_engine.specs.Hierarchy.{hierarchy_state, call_back, call_step, first_memory, layout_of, BothAnswer, FitsImage, HasCopy, IsReached, IsHierarchy, KeepsHierarchy, KeepsFree, TwinTells};
+ghost use Rattle.pagetab_engine.specs.Hierarchy.{hierarchy_state, call_back, call_step, first_memory, layout_of, BothAnswer, FitsImage, HasCopy, ReachesAll, IsHierarchy, KeepsHierarchy, KeepsFree, TwinTells};
 ghost use Rattle.pagetab_engine.specs.Requests.{is_index_named, is_refused, reply_in};
 
 use crate::arguments::{Arguments, Levels, Mode};
@@ -65,7 +65,7 @@ impl Hierarchy {
 
     /// Returns true if the mapper reaches each place of the memory.
     pub fn is_reached(&self) -> bool
-        ensures { IsTrue result ↔ IsReached self.now.mode self.now.frames.memory }
+        ensures { IsTrue result ↔ ReachesAll self.now }
     {
         match self.mode {
             Mode::Direct(_) | Mode::Recursive(..) | Mode::Pair(..) => true,
@@ -89,8 +89,7 @@ impl Hierarchy {
         ensures limit { self.new.frames.pool.limit ≡ self.old.frames.pool.limit }
         ensures mode { self.new.mode ≡ self.old.mode }
         ensures copy { HasCopy self.new }
-        ensures reached { IsReached self.old.mode self.old.frames.memory →
-            IsReached self.new.mode self.new.frames.memory }
+        ensures reached { ReachesAll self.old → ReachesAll self.new }
     {
         self.frames.load(line)?;
         match self.mode {
@@ -109,7 +108,7 @@ impl Hierarchy {
     /// `AllocError` if memory allocation fails.
     pub fn end_image(&mut self, alloc: Global) -> Result<bool, AllocError>
         requires copy { HasCopy self.old }
-        requires reached { IsReached self.old.mode self.old.frames.memory }
+        requires reached { ReachesAll self.old }
         ensures fits { IfOk result (λ fits. IsTrue fits ↔ IsHierarchy self.new) }
         ensures tested { IfOk result (λ fits. IsTrue fits ↔ FitsImage self.old) }
         ensures memory { OnOk result (
@@ -200,9 +199,9 @@ impl Hierarchy {
         requires fits { IsHierarchy self.old }
         requires levels { count (levels_of self.old.mode) ≡ L.LEVELS }
         requires unnamed { is_index_named self.old.mode (names L.LEVELS P5.bits call) ≡ false }
-        ensures answered { let before = self.old.frames in let after = self.new.frames in
-            IfOk result (IsAnswered (layout_of self.old) before.memory before.pool.frames (asks P5.bits call)
-            after.memory after.pool.frames) }
+        ensures answered { IfOk result (
+            IsAnswered (layout_of self.old) self.old.frames.memory self.old.frames.pool.frames
+            (asks P5.bits call) self.new.frames.memory self.new.frames.pool.frames) }
         ensures both { IfOk result (
             TwinTells self.old.mode (asks P5.bits call) self.old.twin self.new.twin) }
         ensures unchanged { OnErr result (self.new ≡ self.old) }

@@ -68,9 +68,8 @@ impl<R: Read> Lines<'_, R> {
     /// `Fault::BadLine` if the line can't be parsed. `Fault::Input` if the reader fails, or has more lines than a
     /// `u64` can count.
     pub fn next_statement(&mut self, arguments: &Arguments) -> Result<Option<Statement>, Fault>
-        ensures next { let before = MayBeLeft R.remaining self.old in
-            let after = MayBeLeft R.remaining self.new in
-            IfOk result (λ next. TracesBack before after (λ lines rest.
+        ensures next { IfOk result (λ next.
+            TracesBack (MayBeLeft R.remaining self.old) (MayBeLeft R.remaining self.new) (λ lines rest.
             ReadsStatement arguments.now lines self.new.number rest next)) }
         ensures accepted { IfOk result (λ next.
             IfSome next (λ statement. IsAccepted arguments.now statement)) }
@@ -108,9 +107,8 @@ impl<R: Read> Lines<'_, R> {
     /// Reads the next line into the front of `line`.
     fn next_line(&mut self, line: &mut [u8; LONGEST]) -> io::Result<Line>
         ensures fits { IfOk result FitsLine }
-        ensures line { let before = IsInput (bytes_left R.remaining self.old) in
-            let after = IsInput (bytes_left R.remaining self.new) in
-            IfOk result (λ told. TracesBack before after (λ bytes rest. ReadsLine bytes rest line.new told)) }
+        ensures line { IfOk result (λ told. TracesBack (IsInput (bytes_left R.remaining self.old))
+            (IsInput (bytes_left R.remaining self.new)) (λ bytes rest. ReadsLine bytes rest line.new told)) }
         ensures number { self.new.number ≡ self.old.number }
     {
         for length in 0..LONGEST {

@@ -21,8 +21,8 @@ pub fn parse_call<L: LevelCount, P5: LevelFiveFlags<L>>(
     numbers: &[u64],
 ) -> Option<CallIn<L, P5>>
     ensures accepted { IsSome result ↔ IsPageCall L.LEVELS (bytes_of size) name numbers.now }
-    ensures written { let fields = written_by name (Some size) numbers.now in
-        IfSome result (λ call. call_written L.LEVELS P5.bits call ≡ fields) }
+    ensures written { IfSome result (λ call.
+        call_written L.LEVELS P5.bits call ≡ written_by name (Some size) numbers.now) }
 {
     Some(match size {
         Size::Size4KiB => CallIn::Of4KiB(parse_size_call(name, numbers)?),
@@ -37,8 +37,8 @@ fn parse_size_call<S: PageSize, L: LevelCount, P5: LevelFiveFlags<L>>(
     numbers: &[u64],
 ) -> Option<SizeCallIn<S, L, P5>>
     ensures accepted { IsSome result ↔ IsPageCall L.LEVELS S.SIZE name numbers.now }
-    ensures written { IfSome result (λ call. let asked = size_asks P5.bits call in
-        (page_call_name asked ≡ name) × (page_call_numbers L.LEVELS asked ≡ numbers.now)) }
+    ensures written { IfSome result (λ call. (page_call_name (size_asks P5.bits call) ≡ name)
+        × (page_call_numbers L.LEVELS (size_asks P5.bits call) ≡ numbers.now)) }
 {
     match (name, numbers) {
         (Name::Map, [page, frame, flags]) => Some(SizeCallIn::MapTo {

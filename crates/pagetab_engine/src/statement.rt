@@ -90,8 +90,8 @@ impl Statement {
 
     /// The part of [`from_fields`](Self::from_fields) for lines without SIZE.
     fn from_plain_fields(name: Name, numbers: &[u64], arguments: &Arguments) -> Option<Statement>
-        ensures accepted { let about = arguments.now in
-            IsSome result ↔ IsPlain about.places (levels_in about) name numbers.now }
+        ensures accepted { IsSome result
+            ↔ IsPlain arguments.now.places (levels_in arguments.now) name numbers.now }
         ensures written { IfSome result (λ statement. written statement ≡ without_size name numbers.now) }
         ensures levels { IfSome result (λ statement. HasLevels (levels_of arguments.now.mode) statement) }
     {
@@ -156,8 +156,8 @@ impl<L: LevelCount, P5: LevelFiveFlags<L>> AddressCommand<L, P5> {
     /// Parses a question about addresses from a name and numbers without SIZE, or returns `None` if they are none.
     fn parse(name: Name, numbers: &[u64]) -> Option<Self>
         ensures accepted { IsSome result ↔ IsOnAddresses L.LEVELS name numbers.now }
-        ensures written { let fields = without_size name numbers.now in
-            IfSome result (λ command. address_command_written L.LEVELS P5.bits command ≡ fields) }
+        ensures written { IfSome result (λ command.
+            address_command_written L.LEVELS P5.bits command ≡ without_size name numbers.now) }
     {
         match (name, numbers) {
             (Name::Walk, [addr]) => Some(AddressCommand::Walk(VirtAddrIn::checked_new(*addr)?)),

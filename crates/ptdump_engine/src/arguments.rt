@@ -34,8 +34,8 @@ pub fn argument_failure(command: &Command, levels: Levels) -> Option<Failure>
 
 /// Returns the first address that isn't canonical.
 fn first_not_canonical(addresses: &[u64], levels: Levels) -> Option<u64>
-    ensures { let levels = program.level_count levels in
-        result ≡ find (λ a. not (program.is_canonical levels a)) addresses.now }
+    ensures { result
+        ≡ find (λ a. not (program.is_canonical (program.level_count levels) a)) addresses.now }
 {
     addresses
         .iter()

@@ -150,10 +150,12 @@ fn write_whole<L: LevelCount, S: ByteSource, W: Write, E: Write>(
 ) -> Result<bool, Failure>
     requires loaded { IsLoaded loaded.now }
     requires tested { program.IsTested command.now }
-    ensures text { let text = program.report_of command.now L.LEVELS (words_loaded loaded.now) loaded.now.root in
-        OnOk result (IfSome text (Appends (W.contents writer.old) (W.contents writer.new))) }
-    ensures complete { let complete = program.completeness_of command.now L.LEVELS (words_loaded loaded.now) loaded.now.root in
-        IfOk result (λ is. IfSome complete (λ all. is ≡ all)) }
+    ensures text { OnOk result (
+        IfSome (program.report_of command.now L.LEVELS (words_loaded loaded.now) loaded.now.root)
+        (Appends (W.contents writer.old) (W.contents writer.new))) }
+    ensures complete { IfOk result (λ is.
+        IfSome (program.completeness_of command.now L.LEVELS (words_loaded loaded.now) loaded.now.root)
+        (λ all. is ≡ all)) }
     ensures errors { S.IsKnown → IfErr result IsForced }
 {
     let mut output = Output::new(alloc, writer);
@@ -173,10 +175,12 @@ fn write_report<L: LevelCount, S: ByteSource, W: Write, E: Write>(
 ) -> Result<bool, Failure>
     requires loaded { IsLoaded loaded.now }
     requires tested { program.IsTested command.now }
-    ensures text { let text = program.report_of command.now L.LEVELS (words_loaded loaded.now) loaded.now.root in
-        OnOk result (IfSome text (Puts W.contents output.old output.new)) }
-    ensures complete { let complete = program.completeness_of command.now L.LEVELS (words_loaded loaded.now) loaded.now.root in
-        IfOk result (λ is. IfSome complete (λ all. is ≡ all)) }
+    ensures text { OnOk result (
+        IfSome (program.report_of command.now L.LEVELS (words_loaded loaded.now) loaded.now.root)
+        (Puts W.contents output.old output.new)) }
+    ensures complete { IfOk result (λ is.
+        IfSome (program.completeness_of command.now L.LEVELS (words_loaded loaded.now) loaded.now.root)
+        (λ all. is ≡ all)) }
     ensures errors { S.IsKnown → IfErr result IsForced }
 {
     match command {

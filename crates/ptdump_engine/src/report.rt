@@ -31,8 +31,8 @@ pub fn write_regions<L: LevelCount, W: Write>(
     output: &mut Output<'_, W>,
 ) -> Result<(), OutputError>
     requires { IsLoaded loaded.now }
-    ensures { let text = reports.regions_text L.LEVELS (words_loaded loaded.now) loaded.now.root in
-        OnOk result (Puts W.contents output.old output.new text) }
+    ensures { OnOk result (Puts W.contents output.old output.new
+        (reports.regions_text L.LEVELS (words_loaded loaded.now) loaded.now.root)) }
 {
     visit_regions::<L, PhysMemory, IdentityMapping, Output<'_, W>>(
         loaded.summaries,
@@ -52,8 +52,8 @@ pub fn write_pages<L: LevelCount, W: Write>(
     output: &mut Output<'_, W>,
 ) -> Result<(), OutputError>
     requires { IsLoaded loaded.now }
-    ensures { let text = reports.pages_text L.LEVELS (words_loaded loaded.now) loaded.now.root in
-        OnOk result (Puts W.contents output.old output.new text) }
+    ensures { OnOk result (Puts W.contents output.old output.new
+        (reports.pages_text L.LEVELS (words_loaded loaded.now) loaded.now.root)) }
 {
     visit_mappings::<L, PhysMemory, IdentityMapping, Output<'_, W>>(
         loaded.summaries,
@@ -72,10 +72,10 @@ pub fn write_walks<L: LevelCount, W: Write>(
     addresses: &[u64],
     output: &mut Output<'_, W>,
 ) -> Result<bool, OutputError>
-    ensures text { let text = reports.walks_text L.LEVELS (words_loaded loaded.now) loaded.now.root addresses.now in
-        OnOk result (Puts W.contents output.old output.new text) }
-    ensures complete { let complete = reports.all_arrive L.LEVELS (words_loaded loaded.now) loaded.now.root addresses.now in
-        IfOk result (λ all. all ≡ complete) }
+    ensures text { OnOk result (Puts W.contents output.old output.new
+        (reports.walks_text L.LEVELS (words_loaded loaded.now) loaded.now.root addresses.now)) }
+    ensures complete { IfOk result (λ all.
+        all ≡ reports.all_arrive L.LEVELS (words_loaded loaded.now) loaded.now.root addresses.now) }
 {
     let mut is_complete = true;
     for address in addresses {
@@ -98,10 +98,10 @@ pub fn write_found<L: LevelCount, W: Write>(
     output: &mut Output<'_, W>,
 ) -> Result<bool, OutputError>
     requires { find (λ a. nat_le (2 ^ 52) a) addresses.now ≡ None }
-    ensures text { let text = reports.find_text L.LEVELS (words_loaded loaded.now) loaded.now.root addresses.now in
-        OnOk result (Puts W.contents output.old output.new text) }
-    ensures complete { let complete = reports.all_found L.LEVELS (words_loaded loaded.now) loaded.now.root addresses.now in
-        IfOk result (λ all. all ≡ complete) }
+    ensures text { OnOk result (Puts W.contents output.old output.new
+        (reports.find_text L.LEVELS (words_loaded loaded.now) loaded.now.root addresses.now)) }
+    ensures complete { IfOk result (λ all.
+        all ≡ reports.all_found L.LEVELS (words_loaded loaded.now) loaded.now.root addresses.now) }
 {
     let mut is_complete = true;
     for address in addresses {
@@ -119,10 +119,10 @@ fn write_addresses_to<L: LevelCount, W: Write>(
     physical: PhysAddr,
     output: &mut Output<'_, W>,
 ) -> Result<bool, OutputError>
-    ensures text { let text = reports.addresses_text L.LEVELS (words_loaded loaded.now) loaded.now.root physical in
-        OnOk result (Puts W.contents output.old output.new text) }
-    ensures found { let mappings = mappings_of L.LEVELS (words_loaded loaded.now) loaded.now.root in
-        IfOk result (λ found. found ≡ list_any (leads_to physical) mappings) }
+    ensures text { OnOk result (Puts W.contents output.old output.new
+        (reports.addresses_text L.LEVELS (words_loaded loaded.now) loaded.now.root physical)) }
+    ensures found { IfOk result (λ found. found
+        ≡ list_any (leads_to physical) (mappings_of L.LEVELS (words_loaded loaded.now) loaded.now.root)) }
 {
     let memory = loaded.tables.memory();
     let frames = loaded.tables.frames();

@@ -37,10 +37,10 @@ pub fn write_walk<L: LevelCount, W: Write>(
     address: VirtAddrIn<L>,
     output: &mut Output<'_, W>,
 ) -> Result<bool, OutputError>
-    ensures text { let walk = walks.walk_of L.LEVELS (words_loaded loaded.now) loaded.now.root address in
-        OnOk result (Puts W.contents output.old output.new (walks.walk_text walk)) }
-    ensures arrives { let walk = walks.walk_of L.LEVELS (words_loaded loaded.now) loaded.now.root address in
-        IfOk result (λ arrives. arrives ≡ is_arrival walk.end) }
+    ensures text { OnOk result (Puts W.contents output.old output.new (
+        walks.walk_text (walks.walk_of L.LEVELS (words_loaded loaded.now) loaded.now.root address))) }
+    ensures arrives { IfOk result (λ arrives. arrives
+        ≡ is_arrival (walks.walk_of L.LEVELS (words_loaded loaded.now) loaded.now.root address).end) }
 {
     let memory = loaded.tables.memory();
     let position = address.position();
@@ -66,10 +66,10 @@ fn walk_on<W: Write>(
 ) -> Result<bool, OutputError>
     requires low { 1 ≤ level }
     requires high { level ≤ 5 }
-    ensures text { let walk = walks.walk_from (words_of memory.now identity_places) position level frame in
-        OnOk result (Puts W.contents output.old output.new (lines_below (seen_rights above) walk)) }
-    ensures arrives { let walk = walks.walk_from (words_of memory.now identity_places) position level frame in
-        IfOk result (λ arrives. arrives ≡ is_arrival walk.end) }
+    ensures text { OnOk result (Puts W.contents output.old output.new (lines_below (seen_rights above)
+        (walks.walk_from (words_of memory.now identity_places) position level frame))) }
+    ensures arrives { IfOk result (λ arrives. arrives
+        ≡ is_arrival (walks.walk_from (words_of memory.now identity_places) position level frame).end) }
 {
     let Some(table) = table_in(memory, &IdentityMapping, frame) else {
         write_missing(frame, output)?;
@@ -137,8 +137,8 @@ fn write_arrival<W: Write>(
 ) -> Result<(), OutputError>
     requires low { 1 ≤ level }
     requires page { page_mapped level entry.now ≡ true }
-    ensures { let address = page_start level entry.now + position % span_of level in
-        OnOk result (Puts W.contents output.old output.new (walks.line (walks.access_text address (seen_rights rights)))) }
+    ensures { OnOk result (Puts W.contents output.old output.new (walks.line (
+        walks.access_text (page_start level entry.now + position % span_of level) (seen_rights rights)))) }
 {
     let size = span(level);
     let address = entry.addr().as_u64() / size * size + position % size;

@@ -29,12 +29,14 @@ module _ {Lent : Type 0} (h : Hierarchy Lent) (serves : ℕ → Bool) (pool held
     unfolding do_call
     all_back = sym (ap (λ (x : AfterCall). x.state.pool) cleans.outcome)
 
-    pub kept_cleaned : IsParentFlags h.layout.added_flags → TakesBack take_back → Kept h serves pool after rest
-    kept_cleaned adds gives =
+    pub kept_cleaned : IsParentFlags h.layout.added_flags → TakesBack take_back → (serves_after : ℕ → Bool) → serves_after ≡ serves
+        → Kept h (record { frames = pool; serves = serves; take_back = take_back }) after (record { frames = rest; serves = serves_after; take_back = take_back })
+    kept_cleaned adds gives serves_after same_served =
         let ready : IsReady h.layout after.memory held_now = subst (λ l. IsReady l after.memory held_now) cleans.layout (cleans.fits take_back gives pool (ready_of_fits h.layout h.memory serves pool fits)) in
         record {
           keeps = keeps_step h.layout adds take_back gives serves h.memory pool fits (machine.CleanUp low high) tt after.memory rest (sym (ap (λ (x : AfterCall). x.state) one))
               (subst (IsReady h.layout after.memory) (ap (λ fs. given_back take_back fs (back h low high)) same ∙ sym all_back ∙ sym last) ready) (λ k none. cleans.others k (λ f table. none f (inr table)));
+          serves = same_served;
           layout = cleans.layout;
           lent = cleans.lent;
         }

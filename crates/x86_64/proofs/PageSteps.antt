@@ -230,13 +230,15 @@ module _ {Lent S : Type 0} (h : Hierarchy Lent) {take_back : List ℕ → ℕ �
   translate_served page r answers = answered (TranslatePage page) (is_page start page) h.memory pool (page_translation h (path_at h.layout.levels level page)) refl
       (ready_of_fits h.layout h.memory serves pool start.fits) (λ k none. refl) (nothing_keeps_free h.layout h.memory pool) (reply.Frame r) (ap (λ a. option_map reply.Frame (result_of (λ f. f) translate_error a)) (sym answers) ∙ ap (option_map reply.Frame) (translate_result r)) (λ unchanged. refl)
 
--- ---- the layout and the loan stay
+-- ---- the layout, the loan and what the store serves stay
 
-abbrev pub IsKept : {Lent : Type 0} → (h after : Hierarchy Lent) → Type 0
-IsKept h after = (after.layout ≡ h.layout) × (after.lent ≡ h.lent)
+pub record IsKept {Lent : Type 0} (h after : Hierarchy Lent) (served served_after : ℕ → Bool) : Type 0 where
+  pub serves : served_after ≡ served
+  pub layout : after.layout ≡ h.layout
+  pub lent : after.lent ≡ h.lent
 
-pub map_kept : {Lent : Type 0} (h : Hierarchy Lent) {supply : List ℕ} {call : machine.Call} {answer : Answer} {after : Hierarchy Lent} {rest : List ℕ} → DoesMap h supply call answer after rest → IsKept h after
-map_kept h does = (does.layout, does.lent)
+pub map_kept : {Lent : Type 0} (h : Hierarchy Lent) {supply : List ℕ} {call : machine.Call} {answer : Answer} {after : Hierarchy Lent} {rest : List ℕ} {served served_after : ℕ → Bool} → DoesMap h supply call answer after rest → served_after ≡ served → IsKept h after served served_after
+map_kept h does same = record { serves = same; layout = does.layout; lent = does.lent }
 
-pub change_kept : {Lent : Type 0} (h : Hierarchy Lent) {call : machine.Call} {answer : Answer} {after : Hierarchy Lent} → Does h call answer after → IsKept h after
-change_kept h does = (does.layout, does.lent)
+pub change_kept : {Lent : Type 0} (h : Hierarchy Lent) {call : machine.Call} {answer : Answer} {after : Hierarchy Lent} {served : ℕ → Bool} → Does h call answer after → IsKept h after served served
+change_kept h does = record { serves = refl; layout = does.layout; lent = does.lent }

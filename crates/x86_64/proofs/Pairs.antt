@@ -1,5 +1,5 @@
 -- Two mappers with alike path maps give the same list of replies, and stay alike.
-use Rattle.std.proofs.Common.{◌≡◌, ◌<◌, ℕ, Bool, List, [], ◌∷◌, map, Option, Some, refl, sym, ap, ap₂, ◌∙◌, subst, subst₂}
+use Rattle.std.proofs.Common.{◌≡◌, ◌<◌, ℕ, List, [], ◌∷◌, map, Option, Some, refl, sym, ap, ap₂, ◌∙◌, subst, subst₂}
 use Rattle.std.proofs.lemmas.List.Sorted.{IsPermutation-refl}
 use Rattle.x86_64_model.specs.Alike.{Alike}
 use Rattle.x86_64_model.specs.Call as machine
@@ -7,14 +7,15 @@ use Rattle.x86_64_model.specs.Laws.Pairs.{IsAdded, AlikeRuns, NoneNames as NoCal
 use Rattle.x86_64_model.specs.Laws.Steps.{AllCalls}
 use Rattle.x86_64_model.specs.Layout.{Layout}
 use Rattle.x86_64_model.specs.Machine.{Machine, State, step, replies_of, state_after}
-use Rattle.x86_64_model.specs.Mapper.{Hierarchy, PoolFits, paths, words}
-use Rattle.x86_64_model.specs.Pool.{TakesBack}
+use Rattle.x86_64_model.specs.Mapper.{Hierarchy, paths, words}
+use Rattle.x86_64_model.specs.Pool.{TakesBack, serves_below}
+use Rattle.x86_64_tables.specs.FramePool.{FreeFrames}
 use Rattle.x86_64_model.proofs.Lemmas.Machines.Giving.{giving_from}
 use Rattle.x86_64_model.proofs.Lemmas.Machines.Laws.{pairs_reply_alike}
 use Rattle.x86_64.specs.Asked.{MapperCall, machine_call, calls_by}
-use Rattle.x86_64.specs.Pairs.{NoneNames, put_first}
+use Rattle.x86_64.specs.Pairs.{AreAlike, MayRun, pool_store, put_first}
 use Rattle.x86_64.specs.Replies.{Reply, reply_of}
-use Rattle.x86_64.specs.Runs.{machine_of, state_in, Ran, replies_to}
+use Rattle.x86_64.specs.Runs.{machine_of, machine_with, state_in, state_with, Ran, replies_to}
 use Rattle.x86_64.proofs.AskedCalls.{are_calls}
 use Rattle.x86_64.proofs.Named.{none_named}
 
@@ -46,42 +47,38 @@ gives_first : TakesBack put_first
 gives_first = giving_from put_first (λ held frame. IsPermutation-refl (frame ∷ held))
 
 -- before the calls
-pub record IsPair {C : Type 0} (asks : C → MapperCall) (L : ℕ) {Lent Other : Type 0} (h : Hierarchy Lent) (serves : ℕ → Bool) (pool : List ℕ) (k : Hierarchy Other) (other_serves : ℕ → Bool) (others : List ℕ) (calls : List C) : Type 0 where
+pub record IsPair {C : Type 0} (asks : C → MapperCall) (L : ℕ) {Lent Other : Type 0} (h : Hierarchy Lent) (pool : FreeFrames) (k : Hierarchy Other) (others : FreeFrames) (calls : List C) : Type 0 where
   pub levels : h.layout.levels ≡ L
   pub other_levels : k.layout.levels ≡ L
   pub adds : IsAdded h.layout.added_flags
   pub other_adds : IsAdded k.layout.added_flags
-  pub fits : PoolFits h serves pool
-  pub other_fits : PoolFits k other_serves others
-  pub alike : Alike L (paths h) (paths k)
-  pub pools : pool ≡ others
-  pub unnamed : NoneNames asks L h.layout.window calls
-  pub other_unnamed : NoneNames asks L k.layout.window calls
+  pub one : MayRun asks L calls h pool
+  pub other : MayRun asks L calls k others
+  pub alike : AreAlike L h pool k others
 
 -- after the calls: if the first mapper gave these replies, so did the second
-pub record IsPairAfter {C : Type 0} (asks : C → MapperCall) (L : ℕ) {Lent Other : Type 0} (k : Hierarchy Other) (others : List ℕ) (calls : List C) (told : List Reply) (after : Hierarchy Lent) (rest : List ℕ) (other_after : Hierarchy Other) (other_rest : List ℕ) : Type 0 where
-  pub ran : Ran asks put_first k others calls [] told other_after other_rest
-  pub alike : Alike L (paths after) (paths other_after)
-  pub pools : rest ≡ other_rest
+pub record IsPairAfter {C : Type 0} (asks : C → MapperCall) (L : ℕ) {Lent Other : Type 0} (k : Hierarchy Other) (others : FreeFrames) (calls : List C) (told : List Reply) (after : Hierarchy Lent) (rest : FreeFrames) (other_after : Hierarchy Other) (other_rest : FreeFrames) : Type 0 where
+  pub ran : Ran asks k (pool_store others) calls [] told other_after other_rest.frames
+  pub alike : AreAlike L after rest other_after other_rest
 
 module _ {C : Type 0} (asks : C → MapperCall) (L : ℕ) (is_call : (call : C) → machine.IsCall L (machine_call L (asks call))) (some : 3 < L) where
   abbrev asked : List C → List machine.Call
   asked calls = calls_by asks L calls
 
   -- after the calls, as the machine with these levels leaves it
-  ends : {Lent : Type 0} (h after : Hierarchy Lent) (pool rest : List ℕ) (calls : List C) (told : List Reply) → h.layout.levels ≡ L → after.layout ≡ h.layout → Ran asks put_first h pool calls [] told after rest
-      → state_in after.layout after.memory rest ≡ state_after (machine_of h.layout put_first) (state_in h.layout h.memory pool) (asked calls)
+  ends : {Lent : Type 0} (h after : Hierarchy Lent) (pool : FreeFrames) (rest : List ℕ) (calls : List C) (told : List Reply) → h.layout.levels ≡ L → after.layout ≡ h.layout → Ran asks h (pool_store pool) calls [] told after rest
+      → state_in after.layout after.memory rest ≡ state_after (machine_with h (pool_store pool)) (state_with h (pool_store pool)) (asked calls)
   ends h after pool rest calls told levels layout ran =
-      ap (λ (l : Layout). state_in l after.memory rest) layout ∙ ran.state ∙ ap (λ L. state_after (machine_of h.layout put_first) (state_in h.layout h.memory pool) (calls_by asks L calls)) levels
+      ap (λ (l : Layout). state_in l after.memory rest) layout ∙ ran.state ∙ ap (λ L. state_after (machine_of h.layout put_first) (state_in h.layout h.memory pool.frames) (calls_by asks L calls)) levels
 
-  told_by : {Lent : Type 0} (h after : Hierarchy Lent) (pool rest : List ℕ) (calls : List C) (told : List Reply) → h.layout.levels ≡ L → Ran asks put_first h pool calls [] told after rest
-      → map Some told ≡ answers asks calls (replies_of (machine_of h.layout put_first) (state_in h.layout h.memory pool) (asked calls))
+  told_by : {Lent : Type 0} (h after : Hierarchy Lent) (pool : FreeFrames) (rest : List ℕ) (calls : List C) (told : List Reply) → h.layout.levels ≡ L → Ran asks h (pool_store pool) calls [] told after rest
+      → map Some told ≡ answers asks calls (replies_of (machine_with h (pool_store pool)) (state_with h (pool_store pool)) (asked calls))
   told_by h after pool rest calls told levels ran =
       let runs = machine_of h.layout put_first in
-      let start = state_in h.layout h.memory pool in
+      let start = state_in h.layout h.memory pool.frames in
       ran.replies ∙ replies_are asks runs start calls ∙ ap (λ L. answers asks calls (replies_of runs start (calls_by asks L calls))) levels
 
-  module _ {Lent Other : Type 0} (h : Hierarchy Lent) (serves : ℕ → Bool) (pool : List ℕ) (k : Hierarchy Other) (other_serves : ℕ → Bool) (others : List ℕ) (calls : List C) (pair : IsPair asks L h serves pool k other_serves others calls) where
+  module _ {Lent Other : Type 0} (h : Hierarchy Lent) (pool : FreeFrames) (k : Hierarchy Other) (others : FreeFrames) (calls : List C) (pair : IsPair asks L h pool k others calls) where
     abbrev first : Machine
     first = machine_of h.layout put_first
 
@@ -89,39 +86,41 @@ module _ {C : Type 0} (asks : C → MapperCall) (L : ℕ) (is_call : (call : C) 
     second = machine_of k.layout put_first
 
     abbrev start : State
-    start = state_in h.layout h.memory pool
+    start = state_in h.layout h.memory pool.frames
 
     abbrev other_start : State
-    other_start = state_in k.layout k.memory others
+    other_start = state_in k.layout k.memory others.frames
 
     runs : AlikeRuns h.layout.levels (state_after first start (asked calls)) (state_after second other_start (asked calls)) (replies_of first start (asked calls)) (replies_of second other_start (asked calls))
-    runs = pairs_reply_alike first second (pair.levels ∙ sym pair.other_levels) refl gives_first pair.adds pair.other_adds (words h) (words k) h.layout.root k.layout.root serves other_serves (asked calls)
+    runs = pairs_reply_alike first second (pair.levels ∙ sym pair.other_levels) refl gives_first pair.adds pair.other_adds (words h) (words k) h.layout.root k.layout.root (serves_below pool.limit) (serves_below others.limit) (asked calls)
         (subst (λ L. AllCalls L (asked calls)) (sym pair.levels) (are_calls L asks is_call calls))
-        (subst (λ L. NoCallNames L h.layout.window (asked calls)) (sym pair.levels) (none_named asks L some h.layout.window calls pair.unnamed))
-        (subst (λ L. NoCallNames L k.layout.window (asked calls)) (sym pair.other_levels) (none_named asks L some k.layout.window calls pair.other_unnamed))
-        start other_start pair.fits pair.other_fits (subst (λ L. Alike L (paths h) (paths k)) (sym pair.levels) pair.alike) pair.pools
+        (subst (λ L. NoCallNames L h.layout.window (asked calls)) (sym pair.levels) (none_named asks L some h.layout.window calls pair.one.unnamed))
+        (subst (λ L. NoCallNames L k.layout.window (asked calls)) (sym pair.other_levels) (none_named asks L some k.layout.window calls pair.other.unnamed))
+        start other_start pair.one.fits pair.other.fits (subst (λ L. Alike L (paths h) (paths k)) (sym pair.levels) pair.alike.paths) pair.alike.pools
 
-    module _ (after : Hierarchy Lent) (rest : List ℕ) (told : List Reply) (layout : after.layout ≡ h.layout) (ran : Ran asks put_first h pool calls [] told after rest)
-        (other_after : Hierarchy Other) (other_rest : List ℕ) (other_told : List Reply) (other_layout : other_after.layout ≡ k.layout) (other_ran : Ran asks put_first k others calls [] other_told other_after other_rest) where
-      one : state_in after.layout after.memory rest ≡ state_after first start (asked calls)
-      one = ends h after pool rest calls told pair.levels layout ran
+    module _ (after : Hierarchy Lent) (rest : FreeFrames) (told : List Reply) (layout : after.layout ≡ h.layout) (ran : Ran asks h (pool_store pool) calls [] told after rest.frames)
+        (other_after : Hierarchy Other) (other_rest : FreeFrames) (other_told : List Reply) (other_layout : other_after.layout ≡ k.layout) (other_ran : Ran asks k (pool_store others) calls [] other_told other_after other_rest.frames) where
+      one : state_in after.layout after.memory rest.frames ≡ state_after first start (asked calls)
+      one = ends h after pool rest.frames calls told pair.levels layout ran
 
-      other : state_in other_after.layout other_after.memory other_rest ≡ state_after second other_start (asked calls)
-      other = ends k other_after others other_rest calls other_told pair.other_levels other_layout other_ran
+      other : state_in other_after.layout other_after.memory other_rest.frames ≡ state_after second other_start (asked calls)
+      other = ends k other_after others other_rest.frames calls other_told pair.other_levels other_layout other_ran
 
       same_replies : other_told ≡ told
       same_replies =
-          all_some other_told told (told_by k other_after others other_rest calls other_told pair.other_levels other_ran ∙ ap (answers asks calls) (sym runs.replies) ∙ sym (told_by h after pool rest calls told pair.levels ran))
+          all_some other_told told (told_by k other_after others other_rest.frames calls other_told pair.other_levels other_ran ∙ ap (answers asks calls) (sym runs.replies) ∙ sym (told_by h after pool rest.frames calls told pair.levels ran))
 
       pub still_pair : IsPairAfter asks L k others calls told after rest other_after other_rest
       still_pair = record {
-        ran = subst (λ told. Ran asks put_first k others calls [] told other_after other_rest) same_replies other_ran;
-        alike = subst₂ (λ (s t : State). Alike L s.paths t.paths) (sym one) (sym other)
-            (subst (λ L. Alike L (state_after first start (asked calls)).paths (state_after second other_start (asked calls)).paths) pair.levels runs.paths);
-        pools = ap (λ (s : State). s.pool) one ∙ runs.pools ∙ sym (ap (λ (s : State). s.pool) other);
+        ran = subst (λ told. Ran asks k (pool_store others) calls [] told other_after other_rest.frames) same_replies other_ran;
+        alike = record {
+          paths = subst₂ (λ (s t : State). Alike L s.paths t.paths) (sym one) (sym other)
+              (subst (λ L. Alike L (state_after first start (asked calls)).paths (state_after second other_start (asked calls)).paths) pair.levels runs.paths);
+          pools = ap (λ (s : State). s.pool) one ∙ runs.pools ∙ sym (ap (λ (s : State). s.pool) other);
+        };
       }
 
 -- if there were no replies before
-pub from_none : {C : Type 0} (asks : C → MapperCall) {Lent : Type 0} (h : Hierarchy Lent) (pool : List ℕ) (calls : List C) (before told : List Reply) (after : Hierarchy Lent) (rest : List ℕ) → before ≡ []
-    → Ran asks put_first h pool calls before told after rest → Ran asks put_first h pool calls [] told after rest
-from_none asks h pool calls before told after rest none ran = subst (λ before. Ran asks put_first h pool calls before told after rest) none ran
+pub from_none : {C : Type 0} (asks : C → MapperCall) {Lent : Type 0} (h : Hierarchy Lent) (pool : FreeFrames) (calls : List C) (before told : List Reply) (after : Hierarchy Lent) (rest : List ℕ) → before ≡ []
+    → Ran asks h (pool_store pool) calls before told after rest → Ran asks h (pool_store pool) calls [] told after rest
+from_none asks h pool calls before told after rest none ran = subst (λ before. Ran asks h (pool_store pool) calls before told after rest) none ran

@@ -8,6 +8,7 @@ use Rattle.x86_64_model.specs.Memory.{Memory}
 use Rattle.x86_64_model.specs.Layout.{Layout}
 use Rattle.x86_64_model.specs.Machine.{Machine, State, state_after}
 use Rattle.x86_64_model.specs.Mapper.{Hierarchy}
+use Rattle.x86_64_model.specs.Store.{Store}
 use Rattle.x86_64_tables.specs.declared.mapper.recorder.FlushItem.{FlushItem}
 use Rattle.x86_64.specs.Flushes.{items_of, items_told}
 use Rattle.x86_64.specs.private.Served.{recorded}
@@ -110,7 +111,7 @@ room_for_one has_room fewer (suc k) room =
     let same : suc k + 1 ≡ k + 1 + 1 = omega arith in
     room_for_one has_room fewer k (fewer (k + 1) (subst has_room same room))
 
--- ---- in the same layout, with the same frames served
+-- ---- in the same layout
 
 module _ (k l : Layout) (same : l ≡ k) (take_back : List ℕ → ℕ → List ℕ) (n o : Memory) (rest last : List ℕ) where
   pub step_at : (call : MapperCall) (r : Reply) → step_by (machine_of l take_back) (state_in l n rest) call ≡ record { state = state_in l o last; reply = Some r } → step_by (machine_of k take_back) (state_in k n rest) call ≡ record { state = state_in k o last; reply = Some r }
@@ -119,11 +120,11 @@ module _ (k l : Layout) (same : l ≡ k) (take_back : List ℕ → ℕ → List 
   pub free_at : (call : MapperCall) → KeepsFree l n rest (back_by (machine_of l take_back) (state_in l n rest) (machine_call l.levels call)) o last → KeepsFree k n rest (back_by (machine_of k take_back) (state_in k n rest) (machine_call k.levels call)) o last
   free_at call = subst (λ l. KeepsFree l n rest (back_by (machine_of l take_back) (state_in l n rest) (machine_call l.levels call)) o last) same
 
-pub kept_then : {Lent : Type 0} (h now after : Hierarchy Lent) (served serves : ℕ → Bool) → serves ≡ served → (pool rest last : List ℕ) → Kept h served pool now rest → Kept now serves rest after last
-    → Kept h served pool after last
-kept_then h now after served serves same pool rest last one next = record {
-  keeps = keeps_then h.layout served h.memory now.memory after.memory pool rest last one.keeps
-      (subst (λ serves. KeepsPool h.layout serves now.memory rest after.memory last) same (subst (λ l. KeepsPool l serves now.memory rest after.memory last) one.layout next.keeps));
+pub kept_then : {Lent : Type 0} (h now after : Hierarchy Lent) (store left last : Store) → Kept h store now left → Kept now left after last → Kept h store after last
+kept_then h now after store left last one next = record {
+  keeps = keeps_then h.layout store.serves h.memory now.memory after.memory store.frames left.frames last.frames one.keeps
+      (subst (λ serves. KeepsPool h.layout serves now.memory left.frames after.memory last.frames) one.serves (subst (λ l. KeepsPool l left.serves now.memory left.frames after.memory last.frames) one.layout next.keeps));
+  serves = next.serves ∙ one.serves;
   layout = next.layout ∙ one.layout;
   lent = next.lent ∙ one.lent;
 }

@@ -1,6 +1,8 @@
 -- Rust calls as calls on numbers, for any number of levels, and the index of the highest level that they name.
 use Rattle.std.specs.Prelude.{ℕ, ◌+◌, nat_lt, Bool, cond, Option, Some, None}
+use Rattle.x86_64_model.specs.Mapper.{Hierarchy, path_of}
 use Rattle.x86_64_model.specs.Position.{lower_half}
+use Rattle.x86_64_model.specs.Window.{begins_with}
 use Rattle.x86_64_tables.specs.PageTableFlags.{bits_of}
 use Rattle.x86_64.specs.Asked as asked
 use Rattle.x86_64.specs.Asked.{PageCall, MapperCall, page_names, names_by}
@@ -68,3 +70,7 @@ size_names levels bits call i = page_names levels (size_asks bits call) i
 -- whether the call's page or address has this index of the highest level; a clean up has none
 abbrev pub names : {L P5 : Type 0} → (levels : ℕ) → (bits : P5 → ℕ) → CallIn L P5 → (i : ℕ) → Bool
 names levels bits call i = names_by levels (asks bits call) i
+
+-- whether the page at a position lies in the hierarchy's recursive window: its index of the highest level is the recursive index
+abbrev pub in_window : {Lent : Type 0} → Hierarchy Lent → (level page : ℕ) → Bool
+in_window h level page = begins_with h.layout.window (path_of h level page)

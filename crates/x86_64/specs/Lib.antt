@@ -3,6 +3,7 @@ pub mod Calls
 pub mod Replies
 pub mod FreeFrames
 pub mod Runs
+pub mod Stores
 pub mod EveryWord
 pub mod Pairs
 pub mod Flushes
@@ -19,5 +20,6 @@ pub mod private
 pub use Rattle.x86_64_model.specs.Machine
 pub use Rattle.x86_64_model.specs.Layout
 pub use Rattle.x86_64_model.specs.FitsPool
+pub use Rattle.x86_64_model.specs.Store
 pub use Rattle.x86_64_model.specs.Spaces
 pub use Rattle.x86_64_model.specs.Alike

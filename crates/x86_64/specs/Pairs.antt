@@ -1,8 +1,15 @@
--- The conditions for two mappers to reply alike to one list of calls.
-use Rattle.std.specs.Prelude.{◌≡◌, ℕ, ⊤, false, List, ◌∷◌, Option, Some, None}
+-- Two mappers that reply alike to one list of calls: what is asked of each and of both, and what is left of them.
+use Rattle.std.specs.Prelude.{◌≡◌, ℕ, ⊤, false, List, [], ◌∷◌, Option, Some, None, Vec, Result, IfOk}
 use Rattle.std.specs.List.{AllByRecursion}
+use Rattle.x86_64_model.specs.Alike.{Alike}
+use Rattle.x86_64_model.specs.Mapper.{Hierarchy, paths}
+use Rattle.x86_64_model.specs.Pool.{serves_below}
+use Rattle.x86_64_model.specs.Store.{Store, Fits, Kept}
 use Rattle.x86_64_model.specs.Window.{Window}
+use Rattle.x86_64_tables.specs.FramePool.{FreeFrames}
 use Rattle.x86_64.specs.Asked.{MapperCall, names_by}
+use Rattle.x86_64.specs.Replies.{Reply}
+use Rattle.x86_64.specs.Runs.{Ran}
 
 -- no call names the recursive index, if there is one
 abbrev pub NoneNames : {C : Type 0} → (asks : C → MapperCall) → (levels : ℕ) → Option Window → List C → Type 0
@@ -12,3 +19,22 @@ NoneNames asks levels (Some window) calls = AllByRecursion (λ call. names_by le
 -- a frame that is returned becomes the first of the free frames
 abbrev pub put_first : (held : List ℕ) → (frame : ℕ) → List ℕ
 put_first held frame = frame ∷ held
+
+-- the store that a `FramePool` is: it serves the frames with numbers below its limit
+abbrev pub pool_store : FreeFrames → Store
+pool_store pool = record { frames = pool.frames; serves = serves_below pool.limit; take_back = put_first }
+
+-- One of the mappers may run the calls: its hierarchy is valid, its pool fits it, and no call names its recursive index.
+pub record MayRun {C Lent : Type 0} (asks : C → MapperCall) (levels : ℕ) (calls : List C) (h : Hierarchy Lent) (pool : FreeFrames) : Type 0 where
+  pub fits : Fits h (pool_store pool)
+  pub unnamed : NoneNames asks levels h.layout.window calls
+
+-- The two hierarchies are alike, and their pools have the same frames in the same order.
+pub record AreAlike {Lent Other : Type 0} (levels : ℕ) (h : Hierarchy Lent) (pool : FreeFrames) (other : Hierarchy Other) (other_pool : FreeFrames) : Type 0 where
+  pub paths : Alike levels (paths h) (paths other)
+  pub pools : pool.frames ≡ other_pool.frames
+
+-- What is left of one of the mappers. If there was memory, the calls ran on it with these replies.
+pub record AfterRun {C Lent A E : Type 0} (asks : C → MapperCall) (calls : List C) (result : Result (Vec Reply A) E) (h : Hierarchy Lent) (pool : FreeFrames) (after : Hierarchy Lent) (rest : FreeFrames) : Type 0 where
+  pub ran : IfOk result (λ replies. Ran asks h (pool_store pool) calls [] replies.items after rest.frames)
+  pub keeps : Kept h (pool_store pool) after (pool_store rest)

@@ -36,29 +36,24 @@ abbrev pub map_error : {S : Type 0} → Refusal → Option (MapToError S)
 map_error refusal.FrameAllocationFailed = Some map_to.FrameAllocationFailed
 map_error refusal.ParentEntryHugePage = Some map_to.ParentEntryHugePage
 map_error (refusal.PageAlreadyMapped frame) = Some (map_to.PageAlreadyMapped frame)
-map_error refusal.PageNotMapped = None
-map_error (refusal.InvalidFrameAddress address) = None
+map_error other = None
 
 abbrev pub unmap_error : Refusal → Option UnmapError
 unmap_error refusal.ParentEntryHugePage = Some unmap.ParentEntryHugePage
 unmap_error refusal.PageNotMapped = Some unmap.PageNotMapped
 unmap_error (refusal.InvalidFrameAddress address) = Some (unmap.InvalidFrameAddress address)
-unmap_error (refusal.PageAlreadyMapped frame) = None
-unmap_error refusal.FrameAllocationFailed = None
+unmap_error other = None
 
 abbrev pub update_error : Refusal → Option FlagUpdateError
 update_error refusal.PageNotMapped = Some update.PageNotMapped
 update_error refusal.ParentEntryHugePage = Some update.ParentEntryHugePage
-update_error (refusal.InvalidFrameAddress address) = None
-update_error (refusal.PageAlreadyMapped frame) = None
-update_error refusal.FrameAllocationFailed = None
+update_error other = None
 
 abbrev pub translate_error : Refusal → Option TranslateError
 translate_error refusal.PageNotMapped = Some page_frame.PageNotMapped
 translate_error refusal.ParentEntryHugePage = Some page_frame.ParentEntryHugePage
 translate_error (refusal.InvalidFrameAddress address) = Some (page_frame.InvalidFrameAddress address)
-translate_error (refusal.PageAlreadyMapped frame) = None
-translate_error refusal.FrameAllocationFailed = None
+translate_error other = None
 
 abbrev pub result_of : {X E : Type 0} → (done : ℕ → X) → (refused : Refusal → Option E) → Answer → Option (Result X E)
 result_of done refused (Done frame) = Some (Ok (done frame))
@@ -78,9 +73,7 @@ size_reply (TranslatePage page) answer = option_map page_reply.Frame (result_of 
 abbrev pub size_answer : {S : Type 0} → PageCall → machine.Reply → Option (Option (SizeReply S))
 size_answer call (machine.Answered answer) = option_map Some (size_reply call answer)
 size_answer call machine.NotAllowed = Some None
-size_answer call (machine.Position translated) = None
-size_answer call (machine.Address address) = None
-size_answer call machine.Cleaned = None
+size_answer call other = None
 
 abbrev pub mapped_frame : (size start : ℕ) → Option MappedFrame
 mapped_frame size start = cond (size == 0x1000) (Some (Size4KiB start)) (cond (size == 0x20_0000) (Some (Size2MiB start)) (cond (size == 0x4000_0000) (Some (Size1GiB start)) None))
@@ -99,13 +92,10 @@ reply_of (Of4KiB call) answer = option_map (sized reply.Of4KiB) (size_answer cal
 reply_of (Of2MiB call) answer = option_map (sized reply.Of2MiB) (size_answer call answer)
 reply_of (Of1GiB call) answer = option_map (sized reply.Of1GiB) (size_answer call answer)
 reply_of (Translate position) (machine.Position translated) = option_map reply.Translate (translate_result translated)
-reply_of (Translate position) answer = None
 reply_of (TranslateAddr position) (machine.Address address) = Some (reply.Address address)
-reply_of (TranslateAddr position) answer = None
 reply_of CleanUp machine.Cleaned = Some reply.Cleaned
-reply_of CleanUp answer = None
 reply_of (CleanUpRange low high) machine.Cleaned = Some reply.Cleaned
-reply_of (CleanUpRange low high) answer = None
+reply_of call other = None
 
 -- ---- replies of calls that change nothing
 
@@ -126,7 +116,5 @@ abbrev pub changes_nothing : Reply → Bool
 changes_nothing (reply.Of4KiB answer) = size_changes_nothing answer
 changes_nothing (reply.Of2MiB answer) = size_changes_nothing answer
 changes_nothing (reply.Of1GiB answer) = size_changes_nothing answer
-changes_nothing (reply.Translate result) = true
-changes_nothing (reply.Address address) = true
 changes_nothing reply.Cleaned = false
-changes_nothing reply.NotAllowed = true
+changes_nothing other = true

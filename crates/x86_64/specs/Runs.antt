@@ -1,13 +1,15 @@
 -- The effect of a list of calls on a mapper and a frame store, which are a machine and its state.
-use Rattle.std.specs.Prelude.{◌≡◌, ℕ, Bool, true, List, [], ◌∷◌, ◌++◌, ◌+◌, length, map, drop, Option, Some}
+use Rattle.std.specs.Prelude.{◌≡◌, ℕ, true, List, [], ◌∷◌, ◌++◌, ◌+◌, length, map, drop, Option, Some}
 use Rattle.std.specs.List.{AllByRecursion}
 use Rattle.x86_64_model.specs.Memory.{Memory}
 use Rattle.x86_64_model.specs.Machine.{Machine, State, step, state_after}
 pub use Rattle.x86_64_model.specs.FitsPool.{FitsPool, KeepsPool}
 pub use Rattle.x86_64_model.specs.Mapper.{machine_of, state_in}
+pub use Rattle.x86_64_model.specs.Store.{Kept}
 use Rattle.x86_64_model.specs.Mapper.{Hierarchy}
+use Rattle.x86_64_model.specs.Store.{Store}
 use Rattle.x86_64.specs.Asked.{MapperCall, machine_call, calls_by}
-use Rattle.x86_64.specs.FreeFrames.{KeepsFree, all_back}
+use Rattle.x86_64.specs.FreeFrames.{KeepsFree, back_by, all_back}
 use Rattle.x86_64.specs.Replies.{Reply, reply_of, changes_nothing}
 
 -- the result of a call: the machine's state and the reply, or none if the call never gets that reply of the machine
@@ -17,9 +19,7 @@ pub record AfterStep (R : Type 0) : Type 0 where
 
 -- the machine's step for a call
 abbrev pub step_by : Machine → State → MapperCall → AfterStep Reply
-step_by machine state call =
-    let after = step machine state (machine_call machine.levels call) in
-    record { state = after.state; reply = reply_of call after.reply }
+step_by machine state call = let after = step machine state (machine_call machine.levels call) in record { state = after.state; reply = reply_of call after.reply }
 
 -- the replies to a list of calls, one each, from a state on
 abbrev pub replies_to : {C : Type 0} → (asks : C → MapperCall) → Machine → State → List C → List (Option Reply)
@@ -34,17 +34,31 @@ appended before after = drop (length before) after
 abbrev pub UnchangedIfRefused : List Reply → (m n : Memory) → Type 0
 UnchangedIfRefused replies m n = AllByRecursion (λ reply. changes_nothing reply ≡ true) replies → n ≡ m
 
--- what calls keep of a hierarchy and a pool, the layout, and the memory that was lent
-pub record Kept {Lent : Type 0} (h : Hierarchy Lent) (serves : ℕ → Bool) (pool : List ℕ) (after : Hierarchy Lent) (rest : List ℕ) : Type 0 where
-  pub keeps : KeepsPool h.layout serves h.memory pool after.memory rest
-  pub layout : after.layout ≡ h.layout
-  pub lent : after.lent ≡ h.lent
+-- ---- of a hierarchy and a store
+
+-- The machine that a hierarchy is with its store.
+abbrev pub machine_with : {Lent : Type 0} → Hierarchy Lent → Store → Machine
+machine_with h store = machine_of h.layout store.take_back
+
+-- The state of that machine: the path map, and the free frames.
+abbrev pub state_with : {Lent : Type 0} → Hierarchy Lent → Store → State
+state_with h store = state_in h.layout h.memory store.frames
+
+-- A call was executed: the memory and the free frames that are left are in the state after the machine's step, and the reply is
+-- the machine's.
+abbrev pub Stepped : {Lent : Type 0} → (h : Hierarchy Lent) → Store → MapperCall → Reply → (after : Hierarchy Lent) → (rest : List ℕ) → Type 0
+Stepped h store call reply after rest = step_by (machine_with h store) (state_with h store) call ≡ record { state = state_in h.layout after.memory rest; reply = Some reply }
+
+-- What a call leaves in the frames that are free afterwards: the returned ones hold zeros, and the others keep their words.
+abbrev pub LeavesFree : {Lent : Type 0} → (h : Hierarchy Lent) → Store → MapperCall → (after : Hierarchy Lent) → (rest : List ℕ) → Type 0
+LeavesFree h store call after rest =
+    KeepsFree h.layout h.memory store.frames (back_by (machine_with h store) (state_with h store) (machine_call h.layout.levels call)) after.memory rest
 
 -- A list of calls was executed. The machine's replies, one per call, follow those of before, and the state is the machine's. If
 -- every reply says that nothing changed, no word did. Free frames keep their words, except that returned frames hold zeros.
-pub record Ran {C Lent : Type 0} (asks : C → MapperCall) (take_back : List ℕ → ℕ → List ℕ) (h : Hierarchy Lent) (pool : List ℕ) (calls : List C) (before now : List Reply) (after : Hierarchy Lent) (rest : List ℕ) : Type 0 where
-  pub replies : map Some now ≡ map Some before ++ replies_to asks (machine_of h.layout take_back) (state_in h.layout h.memory pool) calls
+pub record Ran {C Lent : Type 0} (asks : C → MapperCall) (h : Hierarchy Lent) (store : Store) (calls : List C) (before now : List Reply) (after : Hierarchy Lent) (rest : List ℕ) : Type 0 where
+  pub replies : map Some now ≡ map Some before ++ replies_to asks (machine_with h store) (state_with h store) calls
   pub one_each : length now ≡ length before + length calls
   pub refused : UnchangedIfRefused (appended before now) h.memory after.memory
-  pub state : state_in h.layout after.memory rest ≡ state_after (machine_of h.layout take_back) (state_in h.layout h.memory pool) (calls_by asks h.layout.levels calls)
-  pub free : KeepsFree h.layout h.memory pool (all_back (machine_of h.layout take_back) (state_in h.layout h.memory pool) (calls_by asks h.layout.levels calls)) after.memory rest
+  pub state : state_in h.layout after.memory rest ≡ state_after (machine_with h store) (state_with h store) (calls_by asks h.layout.levels calls)
+  pub free : KeepsFree h.layout h.memory store.frames (all_back (machine_with h store) (state_with h store) (calls_by asks h.layout.levels calls)) after.memory rest

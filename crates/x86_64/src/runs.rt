@@ -1,17 +1,17 @@
 //! Lists of calls of a mapper.
-ghost use Rattle.std.specs.Prelude.{◌≡◌, ◌+◌, ◌<◌, ◌≤◌, ◌++◌, ◌&&◌, [], ℕ, true, not, length, Some, OnOk, OnErr, vec_len};
+ghost use Rattle.std.specs.Prelude.{◌≡◌, ◌+◌, ◌<◌, ◌≤◌, ◌++◌, ◌&&◌, ℕ, true, not, length, OnOk, OnErr, vec_len};
 ghost use Rattle.std.specs.Vec.{vec_capacity};
 ghost use Rattle.x86_64_model.specs.Entry.{huge, no_address};
-ghost use Rattle.x86_64_model.specs.Mapper.{Valid, PoolFits, allows, path_of};
-ghost use Rattle.x86_64_model.specs.Window.{begins_with};
+ghost use Rattle.x86_64_model.specs.Mapper.{Valid, allows};
+ghost use Rattle.x86_64_model.specs.PageCalls.{asked};
+ghost use Rattle.x86_64_model.specs.Store.{Fits, Kept};
 ghost use Rattle.x86_64_tables.specs.PageTableFlags.{bits_of};
-ghost use Rattle.x86_64.specs.Asked.{machine_call, page_call};
-ghost use Rattle.x86_64.specs.Calls.{asks, size_asks};
+ghost use Rattle.x86_64.specs.Calls.{asks, size_asks, in_window};
 ghost use Rattle.x86_64.specs.Flushes.{items_of, items_told};
-ghost use Rattle.x86_64.specs.FreeFrames.{KeepsFree, back_by};
 ghost use Rattle.x86_64.specs.Replies.{changes_nothing};
-ghost use Rattle.x86_64.specs.Runs.{machine_of, state_in, step_by, Kept, Ran, appended};
-ghost use Rattle.x86_64.specs.private.Served.{recorded, items_where, changes_nothing_where, size_step};
+ghost use Rattle.x86_64.specs.Runs.{LeavesFree, Ran, Stepped, appended};
+ghost use Rattle.x86_64.specs.Stores.{store};
+ghost use Rattle.x86_64.specs.private.Served.{PageStepped, PageLeavesFree, recorded, items_where, changes_nothing_where};
 
 mod flushed;
 mod pair;
@@ -51,18 +51,15 @@ pub fn run<L: LevelCount, P5: LevelFiveFlags<L>, M: TableAccess + TablesIn<L>, F
     calls: &[CallIn<L, P5>],
     replies: &mut Vec<ReplyIn<L>>,
 ) -> Result<(), AllocError>
-    requires { PoolFits (M.hierarchy mapper.old) (F.serves frames.old) (F.supply frames.old) }
-    ensures ran { let h = M.hierarchy mapper.old in let after = M.hierarchy mapper.new in
-        let pool = F.supply frames.old in let rest = F.supply frames.new in
-        let before = replies.old.items in let now = replies.new.items in
-        OnOk result (Ran (asks P5.bits) F.take_back h pool calls.now before now after rest) }
+    requires { Fits (M.hierarchy mapper.old) (store F.FrameStore frames.old) }
+    ensures ran { OnOk result (Ran (asks P5.bits) (M.hierarchy mapper.old) (store F.FrameStore frames.old)
+        calls.now replies.old.items replies.new.items (M.hierarchy mapper.new) (F.supply frames.new)) }
     ensures unchanged { OnErr result (
         (replies.new.items ≡ replies.old.items) × (vec_capacity replies.new ≡ vec_capacity replies.old)
         × (mapper.new ≡ mapper.old) × (frames.new ≡ frames.old)) }
     ensures needs_room { OnErr result (vec_capacity replies.old < vec_len replies.old + length calls.now) }
-    ensures keeps { let h = M.hierarchy mapper.old in
-        Kept h (F.serves frames.old) (F.supply frames.old) (M.hierarchy mapper.new) (F.supply frames.new) }
-    ensures serves { F.serves frames.new ≡ F.serves frames.old }
+    ensures keeps { Kept (M.hierarchy mapper.old) (store F.FrameStore frames.old)
+        (M.hierarchy mapper.new) (store F.FrameStore frames.new) }
 {
     replies.reserve(calls.len())?;
     serve_all(mapper, frames, calls, replies, &mut Ignored);
@@ -77,21 +74,15 @@ pub fn run_call<L: LevelCount, P5: LevelFiveFlags<L>, M: TableAccess + TablesIn<
     frames: &mut F,
     call: CallIn<L, P5>,
 ) -> ReplyIn<L>
-    requires { PoolFits (M.hierarchy mapper.old) (F.serves frames.old) (F.supply frames.old) }
-    ensures step { let layout = (M.hierarchy mapper.old).layout in
-        let start = state_in layout (M.hierarchy mapper.old).memory (F.supply frames.old) in
-        let after = state_in layout (M.hierarchy mapper.new).memory (F.supply frames.new) in
-        step_by (machine_of layout F.take_back) start (asks P5.bits call)
-        ≡ record { state = after; reply = Some result } }
-    ensures unchanged { let memory = (M.hierarchy mapper.old).memory in
-        changes_nothing result ≡ true → (M.hierarchy mapper.new).memory ≡ memory }
-    ensures free { let h = M.hierarchy mapper.old in let pool = F.supply frames.old in
-        let asked = machine_call h.layout.levels (asks P5.bits call) in
-        let back = back_by (machine_of h.layout F.take_back) (state_in h.layout h.memory pool) asked in
-        KeepsFree h.layout h.memory pool back (M.hierarchy mapper.new).memory (F.supply frames.new) }
-    ensures keeps { let h = M.hierarchy mapper.old in
-        Kept h (F.serves frames.old) (F.supply frames.old) (M.hierarchy mapper.new) (F.supply frames.new) }
-    ensures serves { F.serves frames.new ≡ F.serves frames.old }
+    requires { Fits (M.hierarchy mapper.old) (store F.FrameStore frames.old) }
+    ensures step { Stepped (M.hierarchy mapper.old) (store F.FrameStore frames.old) (asks P5.bits call) result
+        (M.hierarchy mapper.new) (F.supply frames.new) }
+    ensures unchanged { changes_nothing result ≡ true
+        → (M.hierarchy mapper.new).memory ≡ (M.hierarchy mapper.old).memory }
+    ensures free { LeavesFree (M.hierarchy mapper.old) (store F.FrameStore frames.old) (asks P5.bits call)
+        (M.hierarchy mapper.new) (F.supply frames.new) }
+    ensures keeps { Kept (M.hierarchy mapper.old) (store F.FrameStore frames.old)
+        (M.hierarchy mapper.new) (store F.FrameStore frames.new) }
 {
     serve(mapper, frames, call, &mut Ignored)
 }
@@ -110,18 +101,15 @@ fn serve_all<
     replies: &mut Vec<ReplyIn<L>>,
     tokens: &mut K,
 )
-    requires fits { PoolFits (M.hierarchy mapper.old) (F.serves frames.old) (F.supply frames.old) }
+    requires fits { Fits (M.hierarchy mapper.old) (store F.FrameStore frames.old) }
     requires reserved { vec_len replies.old + length calls.now ≤ vec_capacity replies.old }
     requires room { K.has_room tokens.old (length calls.now) }
-    ensures ran { let h = M.hierarchy mapper.old in let after = M.hierarchy mapper.new in
-        let pool = F.supply frames.old in let rest = F.supply frames.new in
-        let before = replies.old.items in let now = replies.new.items in
-        Ran (asks P5.bits) F.take_back h pool calls.now before now after rest }
-    ensures items { let told = appended replies.old.items replies.new.items in
-        K.items tokens.new ≡ K.items tokens.old ++ recorded K.records (items_told L.LEVELS told) }
-    ensures keeps { let h = M.hierarchy mapper.old in
-        Kept h (F.serves frames.old) (F.supply frames.old) (M.hierarchy mapper.new) (F.supply frames.new) }
-    ensures serves { F.serves frames.new ≡ F.serves frames.old }
+    ensures ran { Ran (asks P5.bits) (M.hierarchy mapper.old) (store F.FrameStore frames.old)
+        calls.now replies.old.items replies.new.items (M.hierarchy mapper.new) (F.supply frames.new) }
+    ensures items { K.items tokens.new ≡ K.items tokens.old
+        ++ recorded K.records (items_told L.LEVELS (appended replies.old.items replies.new.items)) }
+    ensures keeps { Kept (M.hierarchy mapper.old) (store F.FrameStore frames.old)
+        (M.hierarchy mapper.new) (store F.FrameStore frames.new) }
 {
     for call in calls {
         replies.push_reserved(serve(mapper, frames, *call, tokens));
@@ -136,22 +124,16 @@ fn serve<
     F: FrameStore,
     K: Tokens,
 >(mapper: &mut M, frames: &mut F, call: CallIn<L, P5>, tokens: &mut K) -> ReplyIn<L>
-    requires fits { PoolFits (M.hierarchy mapper.old) (F.serves frames.old) (F.supply frames.old) }
+    requires fits { Fits (M.hierarchy mapper.old) (store F.FrameStore frames.old) }
     requires room { K.has_room tokens.old 1 }
-    ensures step { let layout = (M.hierarchy mapper.old).layout in
-        let start = state_in layout (M.hierarchy mapper.old).memory (F.supply frames.old) in
-        let after = state_in layout (M.hierarchy mapper.new).memory (F.supply frames.new) in
-        step_by (machine_of layout F.take_back) start (asks P5.bits call)
-        ≡ record { state = after; reply = Some result } }
-    ensures still { let memory = (M.hierarchy mapper.old).memory in
-        changes_nothing result ≡ true → (M.hierarchy mapper.new).memory ≡ memory }
-    ensures free { let h = M.hierarchy mapper.old in let pool = F.supply frames.old in
-        let asked = machine_call h.layout.levels (asks P5.bits call) in
-        let back = back_by (machine_of h.layout F.take_back) (state_in h.layout h.memory pool) asked in
-        KeepsFree h.layout h.memory pool back (M.hierarchy mapper.new).memory (F.supply frames.new) }
-    ensures keeps { let h = M.hierarchy mapper.old in
-        Kept h (F.serves frames.old) (F.supply frames.old) (M.hierarchy mapper.new) (F.supply frames.new) }
-    ensures serves { F.serves frames.new ≡ F.serves frames.old }
+    ensures step { Stepped (M.hierarchy mapper.old) (store F.FrameStore frames.old) (asks P5.bits call) result
+        (M.hierarchy mapper.new) (F.supply frames.new) }
+    ensures still { changes_nothing result ≡ true
+        → (M.hierarchy mapper.new).memory ≡ (M.hierarchy mapper.old).memory }
+    ensures free { LeavesFree (M.hierarchy mapper.old) (store F.FrameStore frames.old) (asks P5.bits call)
+        (M.hierarchy mapper.new) (F.supply frames.new) }
+    ensures keeps { Kept (M.hierarchy mapper.old) (store F.FrameStore frames.old)
+        (M.hierarchy mapper.new) (store F.FrameStore frames.new) }
     ensures items { K.items tokens.new ≡ K.items tokens.old
         ++ recorded K.records (items_of L.LEVELS result) }
     ensures room { (n : ℕ) → K.has_room tokens.old (n + 1) → K.has_room tokens.new n }
@@ -196,20 +178,16 @@ fn serve_page<
     call: SizeCallIn<S, L, P5>,
     tokens: &mut K,
 ) -> Option<SizeReplyIn<S, L>>
-    requires fits { PoolFits (M.hierarchy mapper.old) (F.serves frames.old) (F.supply frames.old) }
+    requires fits { Fits (M.hierarchy mapper.old) (store F.FrameStore frames.old) }
     requires room { K.has_room tokens.old 1 }
-    ensures step { let layout = (M.hierarchy mapper.old).layout in
-        let start = state_in layout (M.hierarchy mapper.old).memory (F.supply frames.old) in
-        let after = state_in layout (M.hierarchy mapper.new).memory (F.supply frames.new) in
-        size_step (machine_of layout F.take_back) S.LEVEL start (size_asks P5.bits call)
-        ≡ record { state = after; reply = Some result } }
-    ensures still { let memory = (M.hierarchy mapper.old).memory in
-        changes_nothing_where result ≡ true → (M.hierarchy mapper.new).memory ≡ memory }
-    ensures free { let h = M.hierarchy mapper.old in let after = M.hierarchy mapper.new in
-        KeepsFree h.layout h.memory (F.supply frames.old) [] after.memory (F.supply frames.new) }
-    ensures keeps { let h = M.hierarchy mapper.old in
-        Kept h (F.serves frames.old) (F.supply frames.old) (M.hierarchy mapper.new) (F.supply frames.new) }
-    ensures serves { F.serves frames.new ≡ F.serves frames.old }
+    ensures step { PageStepped (M.hierarchy mapper.old) (store F.FrameStore frames.old) S.LEVEL
+        (size_asks P5.bits call) result (M.hierarchy mapper.new) (F.supply frames.new) }
+    ensures still { changes_nothing_where result ≡ true
+        → (M.hierarchy mapper.new).memory ≡ (M.hierarchy mapper.old).memory }
+    ensures free { PageLeavesFree (M.hierarchy mapper.old) (F.supply frames.old)
+        (M.hierarchy mapper.new) (F.supply frames.new) }
+    ensures keeps { Kept (M.hierarchy mapper.old) (store F.FrameStore frames.old)
+        (M.hierarchy mapper.new) (store F.FrameStore frames.new) }
     ensures items { K.items tokens.new ≡ K.items tokens.old
         ++ recorded K.records (items_where L.LEVELS S.SIZE result) }
     ensures room { (n : ℕ) → K.has_room tokens.old (n + 1) → K.has_room tokens.new n }
@@ -275,8 +253,8 @@ fn is_allowed<S: PageSize, L: LevelCount, P5: LevelFiveFlags<L>, M: TableAccess 
     call: &SizeCallIn<S, L, P5>,
 ) -> bool
     requires { Valid (M.hierarchy mapper.now) }
-    ensures { let h = M.hierarchy mapper.now in
-        result ≡ allows h (page_call h.layout.levels S.LEVEL (size_asks P5.bits call.now)) }
+    ensures { result ≡ allows (M.hierarchy mapper.now)
+        (asked (M.hierarchy mapper.now) S.LEVEL (size_asks P5.bits call.now)) }
 {
     match call {
         SizeCallIn::MapTo { page, flags, .. } => {
@@ -328,8 +306,7 @@ pub fn is_outside_window<S: PageSize, L: LevelCount, M: TablesIn<L>>(
     mapper: &M,
     page: PageIn<S, L>,
 ) -> bool
-    ensures { let h = M.hierarchy mapper.now in
-        result ≡ not (begins_with h.layout.window (path_of h S.LEVEL page)) }
+    ensures { result ≡ not (in_window (M.hierarchy mapper.now) S.LEVEL page) }
 {
     match mapper.recursive_index() {
         Some(index) => page.table_index(L::LEVELS) != index,

@@ -6,8 +6,7 @@ ghost use Rattle.x86_64_dump.specs.Opened.{opened};
 ghost use Rattle.x86_64_model.specs.Mappings.{mappings_of};
 ghost use Rattle.x86_64_model.specs.PageWalk.{page_walk};
 ghost use Rattle.x86_64_dump_tables.specs.Reached.{SameBelow};
-ghost use Rattle.x86_64_dump_tables.specs.Tables.{tables_by_level, words_in_frames};
-ghost use Rattle.x86_64_dump_tables.specs.Loaded.{words_in, frames_in, MayFail};
+ghost use Rattle.x86_64_dump_tables.specs.Loaded.{words_in, AreTables, MayFail};
 
 use crate::levels::read_levels;
 use crate::loading::read_memory;
@@ -71,10 +70,8 @@ pub fn read_tables<L: LevelCount, S: ByteSource, G: Progress>(
     root: PhysFrame<Size4KiB>,
     progress: &mut G,
 ) -> Result<DumpTables, DumpError>
-    ensures frames { S.IsKnown → IfOk result (λ tables.
-        frames_in tables ≡ tables_by_level L.LEVELS (words_of_dump (opened S.bytes dump.now)) root) }
-    ensures words { S.IsKnown → IfOk result (λ tables.
-        words_in tables ≡ words_in_frames (frames_in tables) (words_of_dump (opened S.bytes dump.now))) }
+    ensures tables { S.IsKnown → IfOk result (
+        AreTables L.LEVELS (words_of_dump (opened S.bytes dump.now)) root) }
     ensures same { S.IsKnown → IfOk result (λ tables.
         SameBelow L.LEVELS (words_in tables) (words_of_dump (opened S.bytes dump.now)) root) }
     ensures mappings { S.IsKnown → IfOk result (λ tables. mappings_of L.LEVELS (words_in tables) root

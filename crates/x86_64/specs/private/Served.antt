@@ -2,12 +2,15 @@
 use Rattle.std.specs.Prelude.{◌≡◌, ◌≤◌, ◌+◌, ℕ, Bool, true, false, List, [], Option, Some, None}
 use Rattle.std.proofs.Common.{arith}
 use Rattle.x86_64_model.specs.Machine.{Machine, State, step}
+use Rattle.x86_64_model.specs.Mapper.{Hierarchy}
+use Rattle.x86_64_model.specs.Store.{Store}
 use Rattle.x86_64_tables.specs.declared.mapper.recorder.FlushItem.{FlushItem}
 use Rattle.std.specs.declared.convert.Infallible.{Infallible}
 use Rattle.x86_64.specs.Asked.{PageCall, page_call}
 use Rattle.x86_64.specs.Flushes.{size_items}
 use Rattle.x86_64.specs.Replies.{SizeReply, size_answer, size_changes_nothing}
-use Rattle.x86_64.specs.Runs.{AfterStep}
+use Rattle.x86_64.specs.Runs.{AfterStep, machine_with, state_in, state_with}
+use Rattle.x86_64.specs.FreeFrames.{KeepsFree}
 
 -- these items if they are recorded, and otherwise none
 abbrev pub recorded : Bool → List FlushItem → List FlushItem
@@ -32,6 +35,15 @@ abbrev pub size_step : {S : Type 0} → Machine → (level : ℕ) → State → 
 size_step machine level state call =
     let after = step machine state (page_call machine.levels level call) in
     record { state = after.state; reply = size_answer call after.reply }
+
+-- A call on a page was executed: what is left is the state after the machine's step, and the reply is the machine's.
+abbrev pub PageStepped : {S Lent : Type 0} → (h : Hierarchy Lent) → Store → (level : ℕ) → PageCall → Option (SizeReply S) → (after : Hierarchy Lent) → (rest : List ℕ) → Type 0
+PageStepped h store level call reply after rest =
+    size_step (machine_with h store) level (state_with h store) call ≡ record { state = state_in h.layout after.memory rest; reply = Some reply }
+
+-- A call on a page returns no frame, and the frames that are free afterwards keep their words.
+abbrev pub PageLeavesFree : {Lent : Type 0} → (h : Hierarchy Lent) → (pool : List ℕ) → (after : Hierarchy Lent) → (rest : List ℕ) → Type 0
+PageLeavesFree h pool after rest = KeepsFree h.layout h.memory pool [] after.memory rest
 
 -- with four levels there are no flags of level five
 pub no_flags : (flags : Infallible) → let four : ℕ = 4 in four ≡ 5

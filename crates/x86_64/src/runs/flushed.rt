@@ -1,10 +1,10 @@
 //! Lists of calls whose TLB flushes are recorded.
-ghost use Rattle.std.specs.Prelude.{◌≡◌, ◌+◌, ◌<◌, ◌≤◌, ◌⊎◌, length, OnOk, OnErr, vec_len};
-ghost use Rattle.std.specs.Vec.{vec_capacity};
-ghost use Rattle.x86_64_model.specs.Mapper.{PoolFits};
+ghost use Rattle.std.specs.Prelude.{◌≡◌, OnOk, OnErr};
+ghost use Rattle.x86_64_model.specs.Store.{Fits, Kept};
 ghost use Rattle.x86_64.specs.Calls.{asks};
-ghost use Rattle.x86_64.specs.Flushes.{Flushed};
-ghost use Rattle.x86_64.specs.Runs.{Kept, Ran, appended};
+ghost use Rattle.x86_64.specs.Flushes.{Flushed, RoomRefused};
+ghost use Rattle.x86_64.specs.Runs.{Ran};
+ghost use Rattle.x86_64.specs.Stores.{store};
 
 use super::serve_all;
 use crate::calls::{CallIn, LevelFiveFlags, ReplyIn};
@@ -37,28 +37,16 @@ pub fn run_flushed<
     replies: &mut Vec<ReplyIn<L>>,
     recorder: &mut FlushRecorder,
 ) -> Result<(), AllocError>
-    requires { PoolFits (M.hierarchy mapper.old) (F.serves frames.old) (F.supply frames.old) }
-    ensures ran { let h = M.hierarchy mapper.old in let after = M.hierarchy mapper.new in
-        let pool = F.supply frames.old in let rest = F.supply frames.new in
-        let before = replies.old.items in let now = replies.new.items in
-        OnOk result (Ran (asks P5.bits) F.take_back h pool calls.now before now after rest) }
-    ensures flushed { let h = M.hierarchy mapper.old in let after = M.hierarchy mapper.new in
-        let pool = F.supply frames.old in let told = appended replies.old.items replies.new.items in
-        let before = recorder.old.items in let now = recorder.new.items in
-        OnOk result (Flushed (asks P5.bits) F.take_back h pool calls.now told before now after) }
-    ensures unchanged { OnErr result (
-        (replies.new.items ≡ replies.old.items) × (recorder.new ≡ recorder.old)
-        × (mapper.new ≡ mapper.old) × (frames.new ≡ frames.old)) }
-    ensures capacity { let room = vec_capacity replies.new in OnErr result (
-        (room ≡ vec_capacity replies.old)
-        ⊎ ((recorder.old.room < length calls.now)
-        × (vec_capacity replies.old < room) × (vec_len replies.old + length calls.now ≤ room))) }
-    ensures needs_room { OnErr result (
-        (vec_capacity replies.old < vec_len replies.old + length calls.now)
-        ⊎ (recorder.old.room < length calls.now)) }
-    ensures keeps { let h = M.hierarchy mapper.old in
-        Kept h (F.serves frames.old) (F.supply frames.old) (M.hierarchy mapper.new) (F.supply frames.new) }
-    ensures serves { F.serves frames.new ≡ F.serves frames.old }
+    requires { Fits (M.hierarchy mapper.old) (store F.FrameStore frames.old) }
+    ensures ran { OnOk result (Ran (asks P5.bits) (M.hierarchy mapper.old) (store F.FrameStore frames.old)
+        calls.now replies.old.items replies.new.items (M.hierarchy mapper.new) (F.supply frames.new)) }
+    ensures flushed { OnOk result (
+        Flushed (asks P5.bits) (M.hierarchy mapper.old) (store F.FrameStore frames.old) calls.now
+        replies.old.items replies.new.items recorder.old.items recorder.new.items (M.hierarchy mapper.new)) }
+    ensures unchanged { OnErr result ((mapper.new ≡ mapper.old) × (frames.new ≡ frames.old)) }
+    ensures room { OnErr result (RoomRefused calls.now replies.old replies.new recorder.old recorder.new) }
+    ensures keeps { Kept (M.hierarchy mapper.old) (store F.FrameStore frames.old)
+        (M.hierarchy mapper.new) (store F.FrameStore frames.new) }
 {
     replies.reserve(calls.len())?;
     recorder.reserve(calls.len())?;

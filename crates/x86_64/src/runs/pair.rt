@@ -1,11 +1,7 @@
 //! Lists of calls to which two mappers reply alike.
-ghost use Rattle.std.specs.Prelude.{◌≡◌, ◌<◌, [], length, IfOk, OnErr};
-ghost use Rattle.x86_64_model.specs.Alike.{Alike};
-ghost use Rattle.x86_64_model.specs.Pool.{serves_below};
-ghost use Rattle.x86_64_model.specs.Mapper.{PoolFits, paths};
+ghost use Rattle.std.specs.Prelude.{◌≡◌, ◌<◌, length, OnErr};
 ghost use Rattle.x86_64.specs.Calls.{asks};
-ghost use Rattle.x86_64.specs.Pairs.{NoneNames, put_first};
-ghost use Rattle.x86_64.specs.Runs.{Kept, Ran};
+ghost use Rattle.x86_64.specs.Pairs.{AfterRun, AreAlike, MayRun};
 
 use super::serve_all;
 use super::tokens::Ignored;
@@ -46,29 +42,16 @@ pub fn run_pair<
     pool_b: &mut FramePool,
     calls: &[CallIn<L, P5>],
 ) -> Result<Vec<ReplyIn<L>>, AllocError>
-    requires fits { PoolFits (A.hierarchy a.old) (serves_below pool_a.old.limit) pool_a.old.frames }
-    requires other_fits { PoolFits (B.hierarchy b.old) (serves_below pool_b.old.limit) pool_b.old.frames }
-    requires alike { Alike L.LEVELS (paths (A.hierarchy a.old)) (paths (B.hierarchy b.old)) }
-    requires pools { pool_a.old.frames ≡ pool_b.old.frames }
-    requires unnamed { NoneNames (asks P5.bits) L.LEVELS (A.hierarchy a.old).layout.window calls.now }
-    requires other_unnamed { NoneNames (asks P5.bits) L.LEVELS (B.hierarchy b.old).layout.window calls.now }
-    ensures ran { let h = A.hierarchy a.old in let after = A.hierarchy a.new in
-        let pool = pool_a.old.frames in let rest = pool_a.new.frames in
-        IfOk result (λ replies. Ran (asks P5.bits) put_first h pool calls.now [] replies.items after rest) }
-    ensures other_ran { let h = B.hierarchy b.old in let after = B.hierarchy b.new in
-        let pool = pool_b.old.frames in let rest = pool_b.new.frames in
-        IfOk result (λ replies. Ran (asks P5.bits) put_first h pool calls.now [] replies.items after rest) }
-    ensures alike { Alike L.LEVELS (paths (A.hierarchy a.new)) (paths (B.hierarchy b.new)) }
-    ensures pools { pool_a.new.frames ≡ pool_b.new.frames }
-    ensures needs_room { OnErr result (0 < length calls.now) }
-    ensures unchanged { OnErr result (
-        (a.new ≡ a.old) × (pool_a.new ≡ pool_a.old) × (b.new ≡ b.old) × (pool_b.new ≡ pool_b.old)) }
-    ensures keeps { let serves = serves_below pool_a.old.limit in
-        Kept (A.hierarchy a.old) serves pool_a.old.frames (A.hierarchy a.new) pool_a.new.frames }
-    ensures other_keeps { let serves = serves_below pool_b.old.limit in
-        Kept (B.hierarchy b.old) serves pool_b.old.frames (B.hierarchy b.new) pool_b.new.frames }
-    ensures serves { serves_below pool_a.new.limit ≡ serves_below pool_a.old.limit }
-    ensures other_serves { serves_below pool_b.new.limit ≡ serves_below pool_b.old.limit }
+    requires one { MayRun (asks P5.bits) L.LEVELS calls.now (A.hierarchy a.old) pool_a.old }
+    requires other { MayRun (asks P5.bits) L.LEVELS calls.now (B.hierarchy b.old) pool_b.old }
+    requires alike { AreAlike L.LEVELS (A.hierarchy a.old) pool_a.old (B.hierarchy b.old) pool_b.old }
+    ensures one { AfterRun (asks P5.bits) calls.now result (A.hierarchy a.old) pool_a.old
+        (A.hierarchy a.new) pool_a.new }
+    ensures other { AfterRun (asks P5.bits) calls.now result (B.hierarchy b.old) pool_b.old
+        (B.hierarchy b.new) pool_b.new }
+    ensures alike { AreAlike L.LEVELS (A.hierarchy a.new) pool_a.new (B.hierarchy b.new) pool_b.new }
+    ensures refused { OnErr result ((0 < length calls.now)
+        × (a.new ≡ a.old) × (pool_a.new ≡ pool_a.old) × (b.new ≡ b.old) × (pool_b.new ≡ pool_b.old)) }
 {
     let mut replies = Vec::with_capacity(alloc, calls.len())?;
     let mut same_replies = Vec::with_capacity(alloc, calls.len())?;

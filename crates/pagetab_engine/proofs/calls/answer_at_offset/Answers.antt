@@ -26,8 +26,11 @@ returns-clause-offset g c =
 pub returns-clause-keeps : goal.returns-clause-keeps
 returns-clause-keeps g c =
     let is = c.new-mapper.ensures.layout ∙ ap (λ (root : ℕ). direct_at g.L.LevelCount.LEVELS (offset_places g.L.LevelCount.LEVELS c.args.phys_offset) root) c.root.ensures in
-    kept_after g.L.LevelCount.LEVELS c.args.phys_offset c.args.pool.now.limit c.args.memory.now c.args.pool.now.frames c.answer_by.new.pool.frames c.requires.offset c.requires.pool _ _ _ _
-    (search rules) is c.new-mapper.ensures.memory c.answer_by.ensures.keeps.keeps
+    record {
+      keeps = kept_after g.L.LevelCount.LEVELS c.args.phys_offset c.args.pool.now.limit c.args.memory.now c.args.pool.now.frames c.answer_by.new.pool.frames c.requires.offset c.requires.pool _ _ _ _
+          (search rules) is c.new-mapper.ensures.memory c.answer_by.ensures.keeps.keeps;
+      serves = c.answer_by.ensures.keeps.serves;
+    }
 
 pub returns-clause-answered : goal.returns-clause-answered
 returns-clause-answered g c =

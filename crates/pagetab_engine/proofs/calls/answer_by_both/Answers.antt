@@ -14,6 +14,6 @@ returns-clause-twin g c =
     record {
       fits = search rules;
       alike = alike_as_pair levels c.args.index (direct_at levels identity_places direct.root) (recursive_at levels root (window_with root recursive.index (bits_of recursive.self_flags))) direct.memory.now (memory_of recursive.active) _ _
-          c.run_pair.ensures.alike (search rules) (search rules) (search rules) (search rules);
+          c.run_pair.ensures.alike.paths (search rules) (search rules) (search rules) (search rules);
       same_free = search rules;
     }

@@ -23,12 +23,12 @@ clean_up_range-requires g c = held_may_clean_up (g.M.Tables.hierarchy c.args.map
 pub returns-in-CleanUp-clause-keeps : goal.returns-in-CleanUp-clause-keeps
 returns-in-CleanUp-clause-keeps g c =
     kept_cleaned (g.M.Tables.hierarchy c.args.mapper.now) _ _ _ (g.met.F.FrameStore.one_list _) c.requires.fits _ _ _ _ _ _ (g.met.F.FrameStore.one_list _) c.clean_up.ensures.cleans
-    (g.M.Tables.added_flags c.args.mapper.now).adds (giving_from _ g.met.F.FrameDeallocator.take_back_rearranges)
+    (g.M.Tables.added_flags c.args.mapper.now).adds (giving_from _ g.met.F.FrameDeallocator.take_back_rearranges) _ c.clean_up.ensures.serves
 
 pub returns-in-CleanUpRange-clause-keeps : goal.returns-in-CleanUpRange-clause-keeps
 returns-in-CleanUpRange-clause-keeps g c =
     kept_cleaned (g.M.Tables.hierarchy c.args.mapper.now) _ _ _ (g.met.F.FrameStore.one_list _) c.requires.fits _ _ _ _ _ _ (g.met.F.FrameStore.one_list _) c.clean_up_range.ensures.cleans
-    (g.M.Tables.added_flags c.args.mapper.now).adds (giving_from _ g.met.F.FrameDeallocator.take_back_rearranges)
+    (g.M.Tables.added_flags c.args.mapper.now).adds (giving_from _ g.met.F.FrameDeallocator.take_back_rearranges) _ c.clean_up_range.ensures.serves
 
 pub returns-in-CleanUp-clause-free : goal.returns-in-CleanUp-clause-free
 returns-in-CleanUp-clause-free g c =

@@ -1,4 +1,4 @@
-use Rattle.std.proofs.Common.{◌∙◌, ◌++◌, ◌+◌, ◌-◌, length, map, Some, subst, arith, rules}
+use Rattle.std.proofs.Common.{◌++◌, ◌+◌, ◌-◌, length, map, Some, subst, arith, rules}
 use Rattle.x86_64_model.specs.Machine.{Machine, State, state_after}
 use Rattle.x86_64.specs.Asked.{calls_by}
 use Rattle.x86_64.specs.Calls.{asks}
@@ -19,7 +19,6 @@ loop-call-init g c = record {
   keeps = search rules;
   items = items_first g.L.LevelCount.LEVELS g.K.Tokens.records c.args.replies.now.items (g.K.Tokens.items c.args.tokens.now);
   tokens = search rules;
-  serves = search rules;
 }
 
 pub loop-call-preserved : goal.loop-call-preserved
@@ -44,8 +43,7 @@ loop-call-preserved g c =
       items = items_next c.args.replies.now.items c.loop-call.replies.items c.push_reserved.new.self.items c.serve.result before.longer c.push_reserved.ensures.items g.L.LevelCount.LEVELS g.K.Tokens.records
           (g.K.Tokens.items c.args.tokens.now) (g.K.Tokens.items c.loop-call.tokens) (g.K.Tokens.items c.serve.new.tokens) after.items before.items;
       tokens = after.room (length calls - (c.loop-call.call-index + 1)) (subst (g.K.Tokens.has_room c.loop-call.tokens) (omega arith) before.tokens);
-      keeps = kept_then (g.M.Tables.hierarchy c.args.mapper.now) _ (g.M.Tables.hierarchy c.serve.new.mapper) _ _ before.serves _ _ _ before.keeps after.keeps;
-      serves = after.serves ∙ before.serves;
+      keeps = kept_then (g.M.Tables.hierarchy c.args.mapper.now) _ (g.M.Tables.hierarchy c.serve.new.mapper) _ _ _ before.keeps after.keeps;
     }
 
 pub serve-requires-clause-room : goal.serve-requires-clause-room

@@ -24,8 +24,8 @@ invariant-loop-call g l =
       free : FreeSoFar layout (g.M.Tables.hierarchy l.fn.mapper).memory (g.F.FrameAllocator.supply l.fn.frames) (all_back machine start (calls_by (asks g.P5.LevelFiveFlags.bits) layout.levels l.calls))
           (all_back machine now (calls_by (asks g.P5.LevelFiveFlags.bits) layout.levels (drop l.call-index l.calls))) (g.M.Tables.hierarchy l.mapper).memory (g.F.FrameAllocator.supply l.frames);
       room : vec_len l.replies + (length l.calls - l.call-index) ≤ vec_capacity l.replies;
-      keeps : Kept (g.M.Tables.hierarchy l.fn.mapper) (g.F.FrameKeeper.serves l.fn.frames) (g.F.FrameAllocator.supply l.fn.frames) (g.M.Tables.hierarchy l.mapper) (g.F.FrameAllocator.supply l.frames);
+      keeps : Kept (g.M.Tables.hierarchy l.fn.mapper) (record { frames = g.F.FrameAllocator.supply l.fn.frames; serves = g.F.FrameKeeper.serves l.fn.frames; take_back = g.F.FrameDeallocator.take_back })
+          (g.M.Tables.hierarchy l.mapper) (record { frames = g.F.FrameAllocator.supply l.frames; serves = g.F.FrameKeeper.serves l.frames; take_back = g.F.FrameDeallocator.take_back });
       items : g.K.Tokens.items l.tokens ≡ g.K.Tokens.items l.fn.tokens ++ recorded g.K.Tokens.records (items_told g.L.LevelCount.LEVELS (appended l.fn.replies.items l.replies.items));
       tokens : g.K.Tokens.has_room l.tokens (length l.calls - l.call-index);
-      serves : g.F.FrameKeeper.serves l.frames ≡ g.F.FrameKeeper.serves l.fn.frames;
     }

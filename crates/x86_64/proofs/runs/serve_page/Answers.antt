@@ -60,26 +60,26 @@ is_served g c =
 pub returns-clause-step : goal.returns-clause-step
 returns-clause-step g c = (is_served g c (sym c.is_allowed.ensures ∙ c.if-not-is_allowed.false)).step
 
-kept : (g : Over) (c : goal.Joined-call g) → IsKept (g.M.Tables.hierarchy c.args.mapper.now) (g.M.Tables.hierarchy c.match-call.mapper)
+kept : (g : Over) (c : goal.Joined-call g) → IsKept (g.M.Tables.hierarchy c.args.mapper.now) (g.M.Tables.hierarchy c.match-call.mapper) (g.F.FrameKeeper.serves c.args.frames.now) (g.F.FrameKeeper.serves c.match-call.frames)
 kept g c =
     let h = g.M.Tables.hierarchy c.args.mapper.now in
     elim c.match-call.branch [
-      | in-MapTo w ↦ rw w.mapper-is (map_kept h w.map_to.ensures.does)
-      | in-MapToWithTableFlags w ↦ rw w.mapper-is (map_kept h w.map_to_with_table_flags-mapped.ensures.does)
-      | in-IdentityMap w ↦ rw w.mapper-is (map_kept h w.identity_map.ensures.does)
-      | in-Unmap w ↦ rw w.mapper-is (change_kept h w.unmap.ensures.does)
-      | in-UpdateFlags w ↦ rw w.mapper-is (change_kept h w.update_flags.ensures.does)
-      | in-SetFlagsP5 w ↦ rw w.mapper-is (change_kept h w.set_table_flags-set.ensures)
-      | in-SetFlagsP4 w ↦ rw w.mapper-is (change_kept h w.set_table_flags-set-in-SetFlagsP4.ensures)
-      | in-SetFlagsP3 w ↦ rw w.mapper-is (change_kept h w.set_table_flags-set-in-SetFlagsP3.ensures)
-      | in-SetFlagsP2 w ↦ rw w.mapper-is (change_kept h w.set_table_flags-set-in-SetFlagsP2.ensures)
-      | in-TranslatePage w ↦ rw w.mapper-is (refl, refl)
+      | in-MapTo w ↦ rw (w.mapper-is, w.frames-is) (map_kept h w.map_to.ensures.does w.map_to.ensures.serves)
+      | in-MapToWithTableFlags w ↦ rw (w.mapper-is, w.frames-is) (map_kept h w.map_to_with_table_flags-mapped.ensures.does w.map_to_with_table_flags-mapped.ensures.serves)
+      | in-IdentityMap w ↦ rw (w.mapper-is, w.frames-is) (map_kept h w.identity_map.ensures.does w.identity_map.ensures.serves)
+      | in-Unmap w ↦ rw (w.mapper-is, w.frames-is) (change_kept h w.unmap.ensures.does)
+      | in-UpdateFlags w ↦ rw (w.mapper-is, w.frames-is) (change_kept h w.update_flags.ensures.does)
+      | in-SetFlagsP5 w ↦ rw (w.mapper-is, w.frames-is) (change_kept h w.set_table_flags-set.ensures)
+      | in-SetFlagsP4 w ↦ rw (w.mapper-is, w.frames-is) (change_kept h w.set_table_flags-set-in-SetFlagsP4.ensures)
+      | in-SetFlagsP3 w ↦ rw (w.mapper-is, w.frames-is) (change_kept h w.set_table_flags-set-in-SetFlagsP3.ensures)
+      | in-SetFlagsP2 w ↦ rw (w.mapper-is, w.frames-is) (change_kept h w.set_table_flags-set-in-SetFlagsP2.ensures)
+      | in-TranslatePage w ↦ rw (w.mapper-is, w.frames-is) (record { serves = refl; layout = refl; lent = refl })
     ]
 
 pub returns-clause-keeps : goal.returns-clause-keeps
 returns-clause-keeps g c =
     let same = kept g c in
-    record { keeps = (is_served g c (sym c.is_allowed.ensures ∙ c.if-not-is_allowed.false)).keeps; layout = same.0; lent = same.1 }
+    record { keeps = (is_served g c (sym c.is_allowed.ensures ∙ c.if-not-is_allowed.false)).keeps; serves = same.serves; layout = same.layout; lent = same.lent }
 
 pub returns-clause-still : goal.returns-clause-still
 returns-clause-still g c = (is_served g c (sym c.is_allowed.ensures ∙ c.if-not-is_allowed.false)).still
