@@ -8,6 +8,7 @@ ghost use Rattle.x86_64_tables.specs.LentMemory.{numbered};
 ghost use Rattle.x86_64_tables.specs.PageTableFlags.{bits_of};
 ghost use Rattle.x86_64.specs.Asked as asked;
 ghost use Rattle.x86_64.specs.Calls.{asks, size_asks};
+ghost use Rattle.x86_64.specs.Stores.{store};
 
 use crate::given::{AnyPage, Hierarchy, Located, MapRequest, frame_at, locate, page_at, page_of};
 use crate::status::{self, reply_status};
@@ -155,12 +156,10 @@ fn run_in<L: LevelCount, P5: LevelFiveFlags<L>, T: TableMemory, F: FrameStore>(
     frames: &mut F,
     call: CallIn<L, P5>,
 ) -> u32
-    requires { Fits (given.at L.LEVELS located (T.tables memory.old))
-        (calls.store_of (F.supply frames.old) (F.serves frames.old) F.take_back) }
+    requires { Fits (given.at L.LEVELS located (T.tables memory.old)) (store F.FrameStore frames.old) }
     ensures runs { calls.Runs (given.at L.LEVELS located (T.tables memory.old))
-        (calls.store_of (F.supply frames.old) (F.serves frames.old) F.take_back) (asks P5.bits call)
-        (given.at L.LEVELS located (T.tables memory.new))
-        (calls.store_of (F.supply frames.new) (F.serves frames.new) F.take_back) result }
+        (store F.FrameStore frames.old) (asks P5.bits call)
+        (given.at L.LEVELS located (T.tables memory.new)) (store F.FrameStore frames.new) result }
     ensures lent { T.lent memory.new ≡ T.lent memory.old }
     ensures serves { F.serves frames.new ≡ F.serves frames.old }
 {
