@@ -1,16 +1,15 @@
 -- What calls that take frames from a pool or return frames to it do: maps and clean ups.
-use Rattle.std.specs.Prelude.{◌≡◌, ◌≤◌, ℕ, ◌+◌, Bool, true, ◌==◌, ◌&&◌, nat_le, cond, List, ◌∷◌, length, Option, Some, None}
+use Rattle.std.specs.Prelude.{◌≡◌, ◌≤◌, ℕ, ◌+◌, true, ◌==◌, ◌&&◌, nat_le, cond, List, ◌∷◌, length, Option, Some, None}
 use Rattle.std.specs.Option.{option_or}
-use Rattle.x86_64_model.specs.Mapper.{Hierarchy, machine_of, state_of}
+use Rattle.x86_64_model.specs.Mapper.{Hierarchy}
 use Rattle.x86_64_model.specs.Store.{Store, Fits, put_first}
 use Rattle.x86_64_tables.specs.LentPool.{is_in, stacked}
 use Rattle.x86_64_tables.specs.PageTableFlags.{bits_of}
 use Rattle.x86_64.specs.Asked as asked
-use Rattle.x86_64.specs.Asked.{MapperCall, machine_call}
+use Rattle.x86_64.specs.Asked.{MapperCall}
 use Rattle.x86_64.specs.Calls.{asks, no_bits}
-use Rattle.x86_64.specs.FreeFrames.{KeepsFree, back_by}
 use Rattle.x86_64.specs.Replies.{Reply, changes_nothing}
-use Rattle.x86_64.specs.Runs.{KeepsPool, step_by}
+use Rattle.x86_64.specs.Runs.{KeepsPool, LeavesFree, Stepped}
 use Rattle.x86_64_c.specs.Calls.{reply_status}
 use Rattle.x86_64_c.specs.Given.{unless, bad_hierarchy, bad_page, bad_frame, hierarchy_in, starts_page, position_of}
 use Rattle.x86_64_c.specs.Status as status
@@ -90,11 +89,11 @@ pool_in own entries count = record { frames = stacked entries count; serves = is
 -- fits it. If the reply says that nothing changed, no word did. Free frames keep their words, except those that came back.
 pub record Runs (h : Hierarchy (Unit {0})) (pool : Store) (call : MapperCall) (after : Hierarchy (Unit {0})) (rest : Store) (status : ℕ) : Type 0 where
   pub reply : Reply
-  pub step : step_by (machine_of h.layout pool.take_back) (state_of h pool.frames) call ≡ record { state = state_of after rest.frames; reply = Some reply }
+  pub step : Stepped h pool call reply after rest.frames
   pub status_is : status ≡ reply_status reply
   pub keeps : KeepsPool h.layout pool.serves h.memory pool.frames after.memory rest.frames
   pub unchanged : changes_nothing reply ≡ true → after.memory ≡ h.memory
-  pub free : KeepsFree h.layout h.memory pool.frames (back_by (machine_of h.layout pool.take_back) (state_of h pool.frames) (machine_call h.layout.levels call)) after.memory rest.frames
+  pub free : LeavesFree h pool call after rest.frames
 
 -- A request may be made, with a pool that has these frames as its own.
 pub record MayExecute (own : List ℕ) (h : Given) (lent : Loan) (request : Request) : Type 0 where
