@@ -1,5 +1,5 @@
 -- What calls that take frames from a pool or return frames to it do: maps and clean ups.
-use Rattle.std.specs.Prelude.{◌≡◌, ◌≤◌, ℕ, ◌+◌, true, ◌==◌, ◌&&◌, nat_le, cond, List, ◌∷◌, length, Option, Some, None}
+use Rattle.std.specs.Prelude.{◌≡◌, ◌≤◌, ℕ, ◌+◌, true, ◌==◌, ◌&&◌, nat_le, cond, List, length, Option, Some, None}
 use Rattle.std.specs.Option.{option_or}
 use Rattle.x86_64_model.specs.Mapper.{Hierarchy}
 use Rattle.x86_64_model.specs.Store.{Store, Fits, put_first}
