@@ -23,8 +23,8 @@ StepsIfAllowed h supply call answer after rest = allows_page h call ≡ true →
 
 -- If the page was mapped (the result is `true`) with PRESENT, the page walk of each of its addresses arrives in the frame, with
 -- exactly the rights of the flags.
-abbrev pub ArrivesIfMapped : {Lent E : Type 0} → (result : Result Bool E) → Hierarchy Lent → (page frame flags : ℕ) → Type 0
-ArrivesIfMapped result h page frame given = IfOk result (λ mapped. IsTrue mapped → present given ≡ true → ArrivesIn h 4096 page frame given)
+abbrev pub MappedArrives : {Lent E : Type 0} → (result : Result Bool E) → Hierarchy Lent → (page frame flags : ℕ) → Type 0
+MappedArrives result h page frame given = IfOk result (λ mapped. IsTrue mapped → present given ≡ true → ArrivesIn h 4096 page frame given)
 
 -- ---- a buffer
 

@@ -1,6 +1,6 @@
 //! Maps a page, by any mapper.
 ghost use Rattle.std.specs.Prelude.{◌≡◌, false, IfOk};
-ghost use Rattle.uses.specs.PageMaps.{ArrivesIfMapped, MapsIfAllowed, allows_page};
+ghost use Rattle.uses.specs.PageMaps.{MappedArrives, MapsIfAllowed, allows_page};
 ghost use Rattle.x86_64_model.specs.Mapper.{SupplyFits};
 ghost use Rattle.x86_64_model.specs.PageCalls.{MapTo};
 ghost use Rattle.x86_64_tables.specs.MapperAnswers.{map_answer};
@@ -25,7 +25,7 @@ pub fn map_page<M: Mapper<Size4KiB>>(
     ensures does { MapsIfAllowed (M.hierarchy mapper.old) pool.old.frames (MapTo page frame (bits_of flags))
         (map_answer frame result) (M.hierarchy mapper.new) pool.new.frames }
     ensures kept { result ≡ Ok false → (mapper.new ≡ mapper.old) × (pool.new ≡ pool.old) }
-    ensures arrives { ArrivesIfMapped result (M.hierarchy mapper.new) page frame (bits_of flags) }
+    ensures arrives { MappedArrives result (M.hierarchy mapper.new) page frame (bits_of flags) }
 {
     if !mapper.map_allowed(page, flags, parent_flags(flags)) {
         return Ok(false);

@@ -1,7 +1,7 @@
 //! Maps a page in the caller's own tables.
 ghost use Rattle.std.specs.Prelude.{◌≡◌, ◌↔◌, false, IfOk, IsTrue};
 ghost use Rattle.uses.specs.Owned.{hierarchy};
-ghost use Rattle.uses.specs.PageMaps.{ArrivesIfMapped, StepsIfAllowed, allows_page};
+ghost use Rattle.uses.specs.PageMaps.{MappedArrives, StepsIfAllowed, allows_page};
 ghost use Rattle.x86_64_model.specs.Mapper.{SupplyFits};
 ghost use Rattle.x86_64_model.specs.PageCalls.{MapTo};
 ghost use Rattle.x86_64_model.specs.Store.{Fits};
@@ -34,7 +34,7 @@ pub fn map_in<T: TableMemory>(
         (MapTo page frame (bits_of flags)) (map_answer frame result)
         (hierarchy root (T.tables memory.new)) pool.new.frames }
     ensures kept { result ≡ Ok false → (T.tables memory.new ≡ T.tables memory.old) × (pool.new ≡ pool.old) }
-    ensures arrives { ArrivesIfMapped result (hierarchy root (T.tables memory.new)) page frame (bits_of flags) }
+    ensures arrives { MappedArrives result (hierarchy root (T.tables memory.new)) page frame (bits_of flags) }
     ensures lent { T.lent memory.new ≡ T.lent memory.old }
 {
     let mut mapper = MappedPageTable::new(memory, root, IdentityMapping);
@@ -79,7 +79,7 @@ pub fn map_in_slice(
         (MapTo page frame (bits_of flags)) (map_answer frame result)
         (hierarchy root (numbered tables.new)) pool.new.frames }
     ensures kept { result ≡ Ok false → (tables.new ≡ tables.old) × (pool.new ≡ pool.old) }
-    ensures arrives { ArrivesIfMapped result (hierarchy root (numbered tables.new)) page frame (bits_of flags) }
+    ensures arrives { MappedArrives result (hierarchy root (numbered tables.new)) page frame (bits_of flags) }
 {
     let mut memory = LentMemory::new(tables);
     map_in(&mut memory, root, page, frame, flags, pool)
