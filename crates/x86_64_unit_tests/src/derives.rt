@@ -1,17 +1,7 @@
 //! Common properties of addresses, pages, frames, indices, levels and flags: they can be copied, ordered and hashed.
-use crate::assertions::{assert_equal, assert_equal_in, unwrap, unwrap_some};
-use crate::page::{frame, page};
-use bitflags::Flags;
+use crate::prelude::*;
 use std::cmp::Ordering;
-use std::fmt::Debug;
 use std::hash::{BuildHasher, BuildHasherDefault, DefaultHasher, Hash};
-use std::process::Abort;
-use x86_64_addr::addr::{PhysAddr, VirtAddrIn};
-use x86_64_addr::index::{PageOffset, PageTableIndex, PageTableLevel, PageTableLevel57};
-use x86_64_addr::level_count::{FiveLevels, FourLevels, LevelCount};
-use x86_64_page::page::{PageSize, Size1GiB, Size2MiB, Size4KiB};
-use x86_64_page::range::{Block, BlockRange, BlockRangeInclusive};
-use x86_64_tables::page_table::PageTableFlags;
 
 /// Returns the hash of a value.
 fn hash_of<T: Hash + Drop>(value: T) -> u64 {

@@ -6,13 +6,13 @@
 #[cfg(test)]
 mod addr;
 #[cfg(test)]
-mod assertions;
-#[cfg(test)]
 mod derives;
 #[cfg(test)]
 mod mappings;
 #[cfg(test)]
 mod page;
+#[cfg(test)]
+mod prelude;
 #[cfg(test)]
 mod spaces;
 #[cfg(test)]

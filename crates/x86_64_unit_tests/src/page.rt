@@ -1,50 +1,33 @@
-//! Tests against independent values: the sizes, the starts of pages and frames, their indices, steps and sums, and
-//! the texts.
+//! Tests of pages and frames against independent values: the sizes, the starts, the indices, steps and sums, ranges from
+//! both ends, and the texts.
 ghost use Rattle.std.specs.Prelude.{◌≡◌, ◌<◌, ◌↔◌, IsTrue};
+ghost use Rattle.std.specs.Iterator.{IsFinite};
 
-mod ranges;
-
-use crate::addr::steps::{Stepped, Steps, check_backward, check_between, check_forward};
-use crate::assertions::{Test, assert_equal, assert_text, unwrap};
+use crate::addr::steps::{Stepped, Steps, check_steps};
+use crate::prelude::*;
 use std::hash::Hash;
-use std::process::Abort;
-use x86_64_addr::addr::{PhysAddr, VirtAddr, VirtAddr57, VirtAddrIn};
-use x86_64_addr::index::{PageTableIndex, PageTableLevel, PageTableLevel57};
-use x86_64_addr::level_count::{FiveLevels, FourLevels, LevelCount};
-use x86_64_page::frame::{PfnNotValid, PhysFrame};
 use x86_64_page::laws::{
-    frames_are_ordered_by_address, page_steps_are_counted, pages_are_ordered_by_position,
+    blocks_are_taken_in_turn, blocks_are_the_range, frames_are_ordered_by_address,
+    page_steps_are_counted, pages_are_ordered_by_position,
 };
-use x86_64_page::page::{
-    AddressNotAligned, NotGiantPageSize, Page, Page57, PageIn, PageSize, Size1GiB, Size2MiB,
-    Size4KiB,
-};
-use x86_64_page::range::Block;
 
-/// The last page of the lower half of the address space with four levels.
+/// The last page of the lower half of the address space and the first one of the upper half, with four levels.
 const LOWER_LAST: u64 = 0x7fff_ffff_f000;
 
-/// The first page of the upper half with four levels.
 const UPPER_FIRST: u64 = 0xffff_8000_0000_0000;
 
-/// The last page of the lower half of the address space with five levels.
+/// These with five levels.
 const LOWER_LAST_57: u64 = 0x00ff_ffff_ffff_f000;
 
-/// The first page of the upper half with five levels.
 const UPPER_FIRST_57: u64 = 0xff00_0000_0000_0000;
 
-/// The last page of the address space.
+/// The last page of the address space, and the one before it.
 const LAST: u64 = 0xffff_ffff_ffff_f000;
 
-/// Returns the page that contains a raw address.
-pub(crate) fn page<S: PageSize, L: LevelCount>(raw: u64) -> PageIn<S, L> {
-    PageIn::containing_address(VirtAddrIn::new_truncate(raw))
-}
+const LAST_BUT_ONE: u64 = 0xffff_ffff_ffff_e000;
 
-/// Returns the frame that contains a physical address.
-pub(crate) fn frame<S: PageSize>(raw: u64) -> PhysFrame<S> {
-    PhysFrame::containing_address(PhysAddr::new_truncate(raw))
-}
+/// The last frame of 4KiB.
+const LAST_FRAME: u64 = 0x000f_ffff_ffff_f000;
 
 /// Returns true if two frames are equal. They are if and only if their start addresses are equal.
 fn are_equal<S: PageSize>(left: PhysFrame<S>, right: PhysFrame<S>) -> bool
@@ -58,6 +41,14 @@ fn is_below<S: PageSize>(left: PhysFrame<S>, right: PhysFrame<S>) -> bool
     ensures { IsTrue result ↔ (left < right) }
 {
     left < right
+}
+
+/// Returns true if a page is below another one. It is if and only if its position (the address counted without the
+/// gap) is.
+fn are_ordered<S: PageSize, L: LevelCount>(left: PageIn<S, L>, right: PageIn<S, L>) -> bool
+    ensures { IsTrue result ↔ (left < right) }
+{
+    left < right && left != right
 }
 
 fn is_below_giant<S: NotGiantPageSize>() -> bool {
@@ -96,14 +87,6 @@ fn frames_and_sizes_have_an_order(rt: HostRuntime) {
     assert!(rt; is_below(first, second) && !are_equal(first, second));
 }
 
-/// Returns true if a page is below another one. It is if and only if its position (the address counted without the
-/// gap) is.
-fn are_ordered<S: PageSize, L: LevelCount>(left: PageIn<S, L>, right: PageIn<S, L>) -> bool
-    ensures { IsTrue result ↔ (left < right) }
-{
-    left < right && left != right
-}
-
 #[test]
 fn pages_have_indices(rt: HostRuntime) {
     let small = page::<Size4KiB, FourLevels>(0x8000_8040_3000);
@@ -135,29 +118,18 @@ fn pages_have_given_indices(rt: HostRuntime) {
 }
 
 #[test]
-fn pages_have_texts(rt: HostRuntime) {
-    let small: Page<Size4KiB> = page(0x4020_1abc);
-    assert_text(rt, &small, "Page[4KiB](0x40201000)");
-    let large: Page<Size2MiB> = page(0x4020_1abc);
-    assert_text(rt, &large, "Page[2MiB](0x40200000)");
-    let giant: Page<Size1GiB> = page(0x4020_1abc);
-    assert_text(rt, &giant, "Page[1GiB](0x40000000)");
+fn pages_and_frames_have_texts(rt: HostRuntime) {
+    let (small, large) = (page::<Size4KiB, FourLevels>(0x4020_1abc), 0x4020_1abc);
+    let (large, giant): (Page<Size2MiB>, Page<Size1GiB>) = (page(large), page(large));
+    let wanted = "(Page[4KiB](0x40201000), Page[2MiB](0x40200000), Page[1GiB](0x40000000))";
+    assert_text(rt, &(small, large, giant), wanted);
     let five: Page57<Size2MiB> = page(UPPER_FIRST_57);
     assert_text(rt, &five, "Page57[2MiB](0xff00000000000000)");
-}
-
-#[test]
-fn frames_have_texts(rt: HostRuntime) {
-    let small = frame::<Size4KiB>(0x4020_1abc);
-    assert_text(rt, &small, "PhysFrame[4KiB](0x40201000)");
-    let large = frame::<Size2MiB>(0x20_0000);
-    assert_text(rt, &large, "PhysFrame[2MiB](0x200000)");
+    let (small, large) = (frame::<Size4KiB>(0x4020_1abc), frame::<Size2MiB>(0x20_0000));
+    let wanted = "(PhysFrame[4KiB](0x40201000), PhysFrame[2MiB](0x200000))";
+    assert_text(rt, &(small, large), wanted);
     let giant = frame::<Size1GiB>(0x4020_1abc);
     assert_text(rt, &giant, "PhysFrame[1GiB](0x40000000)");
-}
-
-#[test]
-fn errors_have_texts(rt: HostRuntime) {
     let (error, past) = (AddressNotAligned, PfnNotValid(0x100_0000_0000));
     let text = unwrap(rt, format!(in rt.alloc(); "{error}: {past}"));
     let wanted = "the given address was not sufficiently aligned: PfnNotValid(0x10000000000)";
@@ -217,25 +189,12 @@ impl<S: PageSize, L: LevelCount> Stepped for PageIn<S, L> {
     }
 }
 
+/// The rows of `page_step_forward`, `page_step_backwards` and `page_steps_between` of the Rust crate, and more.
 #[test]
-fn page_step_forward(rt: HostRuntime) {
-    check_forward::<Page<Size4KiB>>(rt, &STEPS);
-    check_forward::<Page57<Size4KiB>>(rt, &STEPS_57);
-    check_forward::<Page<Size1GiB>>(rt, &GIANT_STEPS);
-}
-
-#[test]
-fn page_step_backwards(rt: HostRuntime) {
-    check_backward::<Page<Size4KiB>>(rt, &STEPS);
-    check_backward::<Page57<Size4KiB>>(rt, &STEPS_57);
-    check_backward::<Page<Size1GiB>>(rt, &GIANT_STEPS);
-}
-
-#[test]
-fn page_steps_between(rt: HostRuntime) {
-    check_between::<Page<Size4KiB>>(rt, &STEPS);
-    check_between::<Page57<Size4KiB>>(rt, &STEPS_57);
-    check_between::<Page<Size1GiB>>(rt, &GIANT_STEPS);
+fn pages_step(rt: HostRuntime) {
+    check_steps::<Page<Size4KiB>>(rt, &STEPS);
+    check_steps::<Page57<Size4KiB>>(rt, &STEPS_57);
+    check_steps::<Page<Size1GiB>>(rt, &GIANT_STEPS);
 }
 
 /// Compares sums and differences of pages or frames of 2MiB, of which the second is given, and how one is made of its
@@ -253,19 +212,11 @@ macro_rules! check_sums {
 }
 
 #[test]
-fn pages_have_sums(rt: HostRuntime) {
+fn pages_and_frames_have_sums(rt: HostRuntime) {
     let second = Page::<Size2MiB>::containing_address(VirtAddr::new(0x20_0000));
     check_sums!(rt, second, page::<Size2MiB, FourLevels>);
-}
-
-#[test]
-fn pages_of_57_bits_have_sums(rt: HostRuntime) {
     let second = Page57::<Size2MiB>::containing_address(VirtAddr57::new(0x20_0000));
     check_sums!(rt, second, page::<Size2MiB, FiveLevels>);
-}
-
-#[test]
-fn frames_have_sums(rt: HostRuntime) {
     let second = PhysFrame::<Size2MiB>::containing_address(PhysAddr::new(0x20_0000));
     check_sums!(rt, second, frame::<Size2MiB>);
 }
@@ -307,4 +258,207 @@ fn laws_hold_in_three_sizes(_rt: HostRuntime) {
     call_laws::<Size4KiB>();
     call_laws::<Size2MiB>();
     call_laws::<Size1GiB>();
+}
+
+/// Compares the number of blocks from one to another, without the other and with it.
+fn check_len<B: Block>(rt: impl Abort + Copy, start: B, end: B, lens: [u64; 2]) {
+    let (open, closed) = (BlockRange { start, end }, closed(start, end));
+    let found = [(open.len(), open.size()), (closed.len(), closed.size())];
+    let wanted = lens.map(|len| (len, len.saturating_mul(B::SIZE)));
+    assert_equal(rt, found, wanted);
+    let hints = [open.size_hint(), closed.size_hint()];
+    assert_equal(
+        rt,
+        hints,
+        lens.map(|len| (len as usize, Some(len as usize))),
+    );
+    assert_equal(
+        rt,
+        [open.is_empty(), closed.is_empty()],
+        lens.map(|len| len == 0),
+    );
+}
+
+/// The starts of 4KiB pages, and the number of pages from the first one to the second, without it and with it.
+const LENS: [(u64, u64, [u64; 2]); 6] = [
+    (0xdead_b000, 0xdead_b000 + 50 * 0x1000, [50, 51]),
+    (0xdead_b000, 0xdead_b000 + 1000 * 0x1000, [1000, 1001]),
+    (LOWER_LAST, UPPER_FIRST + 0x1000, [2, 3]),
+    (0x2000, 0x1000, [0, 0]),
+    (0x1000, 0x1000, [0, 1]),
+    (0, LAST, [68_719_476_735, 68_719_476_736]),
+];
+
+/// The rows of `test_page_range_len` of the Rust crate, and more.
+#[test]
+fn ranges_of_pages_have_lengths(rt: HostRuntime) {
+    for (start, end, lens) in LENS {
+        check_len(rt, page::<Size4KiB, FourLevels>(start), page(end), lens);
+    }
+    let (start, end) = (page::<Size2MiB, FourLevels>(0x20_0000), page(0x60_0000));
+    check_len(rt, start, end, [2, 3]);
+    let small = Page::range(start, end).as_4kib_page_range();
+    assert_equal(rt, (small.len(), small.size()), (1024, 4_194_304));
+    assert_equal(rt, small, Page::range(page(0x20_0000), page(0x60_0000)));
+    let giant = page::<Size1GiB, FourLevels>(0x7fff_c000_0000);
+    check_len(rt, giant, page(UPPER_FIRST), [1, 2]);
+    let below = page::<Size4KiB, FiveLevels>(LOWER_LAST_57);
+    check_len(rt, below, page(UPPER_FIRST_57), [1, 2]);
+    let zero = page::<Size4KiB, FiveLevels>(0);
+    check_len(rt, zero, page(LAST), [(1 << 45) - 1, 1 << 45]);
+}
+
+/// The rows of `test_frame_range_len` of the Rust crate, and more.
+#[test]
+fn ranges_of_frames_have_lengths(rt: HostRuntime) {
+    let start = frame::<Size4KiB>(0xdead_b000);
+    check_len(rt, start, frame(0xdead_b000 + 50 * 0x1000), [50, 51]);
+    check_len(rt, frame::<Size2MiB>(0), frame(0), [0, 1]);
+    let giant = frame::<Size1GiB>(0);
+    check_len(rt, giant, frame(LAST_FRAME), [4_194_303, 4_194_304]);
+    let all = [1_099_511_627_775, 1_099_511_627_776];
+    check_len(rt, frame::<Size4KiB>(0), frame(LAST_FRAME), all);
+}
+
+/// Iterates over pages, which start at `first` and at each multiple of 4KiB after it, `count` in all.
+fn check_each<I: Iterator<Item = Page<Size4KiB>> + Drop>(
+    rt: impl Abort + Copy,
+    pages: I,
+    first: u64,
+    count: u64,
+)
+    requires { I.Iterator.can_next pages × IsFinite (I.Iterator.remaining pages) }
+{
+    let mut seen = 0u64;
+    for page in pages {
+        let start = seen.wrapping_mul(0x1000).wrapping_add(first);
+        assert_equal(rt, page.start_address().as_u64(), start);
+        seen = seen.saturating_add(1);
+    }
+    assert_equal(rt, seen, count);
+}
+
+/// The rows of `test_page_ranges` and `test_page_range_inclusive_overflow` of the Rust crate.
+#[test]
+fn ranges_have_each_page(rt: HostRuntime) {
+    let first = 0xdead_b000;
+    let (start, end) = (page(first), page(first + 1000 * 0x1000));
+    check_each(rt, Page::range(start, end), first, 1000);
+    check_each(rt, Page::range_inclusive(start, end), first, 1001);
+    let first = 0xffff_ffff_ffc1_7000;
+    let range = Page::range_inclusive(page(first), page(LAST));
+    check_each(rt, range, first, 1001);
+}
+
+/// Takes the last page below the gap and the first one above it from a range of these two pages.
+fn check_gap<L: LevelCount>(rt: impl Abort + Copy, below: u64, above: u64) {
+    let (below, above) = (page::<Size4KiB, L>(below), page(above));
+    let mut range = PageIn::range_inclusive(below, above);
+    let taken = (range.next(), range.next_back());
+    assert_equal(rt, taken, (Some(below), Some(above)));
+    let more = (range.next(), range.next_back(), range.is_empty());
+    assert_equal(rt, more, (None, None, true));
+}
+
+#[test]
+fn ranges_go_on_after_the_gap(rt: HostRuntime) {
+    check_gap::<FourLevels>(rt, LOWER_LAST, UPPER_FIRST);
+    check_gap::<FiveLevels>(rt, LOWER_LAST_57, UPPER_FIRST_57);
+    let (below, above) = (page::<Size4KiB, FourLevels>(LOWER_LAST), page(UPPER_FIRST));
+    let mut range = Page::range(below, page(UPPER_FIRST + 0x1000));
+    let taken = (range.next_back(), range.next());
+    assert_equal(rt, taken, (Some(above), Some(below)));
+    assert_equal(rt, (range.next(), range.next_back()), (None, None));
+}
+
+/// Returns the range from a block to another one.
+fn closed<B: Block>(start: B, end: B) -> BlockRangeInclusive<B> {
+    BlockRangeInclusive { start, end }
+}
+
+/// Takes the last block of all, and compares the range that is left, from it to the one before.
+fn check_last<B: Block + Debug + PartialEq>(rt: impl Abort + Copy, last: B, before: B) {
+    let mut range = closed(last, last);
+    assert_equal(rt, range.next(), Some(last));
+    assert_equal(rt, range, closed(last, before));
+    assert_equal(rt, (range.next(), range.nth_back(0)), (None, None));
+}
+
+/// Takes the first block of all from the back, and compares the range that is left, from the second one to it.
+fn check_first<B: Block + Debug + PartialEq>(rt: impl Abort + Copy, first: B, second: B) {
+    let mut range = closed(first, first);
+    assert_equal(rt, range.next_back(), Some(first));
+    assert_equal(rt, range, closed(second, first));
+    assert_equal(rt, (range.next_back(), range.nth(0)), (None, None));
+}
+
+#[test]
+fn the_ends_of_memory_are_in_ranges(rt: HostRuntime) {
+    check_last(rt, page::<Size4KiB, FourLevels>(LAST), page(LAST_BUT_ONE));
+    check_last(rt, page::<Size4KiB, FiveLevels>(LAST), page(LAST_BUT_ONE));
+    let before: PhysFrame<Size4KiB> = frame(0x000f_ffff_ffff_e000);
+    check_last(rt, frame(LAST_FRAME), before);
+    check_first(rt, page::<Size4KiB, FourLevels>(0), page(0x1000));
+    check_first(rt, page::<Size4KiB, FiveLevels>(0), page(0x1000));
+}
+
+/// Skips pages of the range of all pages, from the front or from the back, and compares the page after them, if any, and
+/// the ends of what is left.
+fn check_skipped(
+    rt: impl Abort + Copy,
+    is_back: bool,
+    count: usize,
+    item: Option<u64>,
+    left: (u64, u64),
+) {
+    let mut range: PageRangeInclusive<Size4KiB> = closed(page(0), page(LAST));
+    let found = if is_back {
+        range.nth_back(count)
+    } else {
+        range.nth(count)
+    };
+    assert_equal_in(rt, count, found, item.map(page));
+    assert_equal_in(rt, count, range, closed(page(left.0), page(left.1)));
+}
+
+#[test]
+fn pages_and_frames_are_skipped(rt: HostRuntime) {
+    blocks_are_the_range();
+    blocks_are_taken_in_turn::<Page<Size4KiB>>();
+    let left = (UPPER_FIRST + 0x1000, LAST);
+    check_skipped(rt, false, 1 << 35, Some(UPPER_FIRST), left);
+    check_skipped(rt, false, 1 << 36, None, (LAST, LAST_BUT_ONE));
+    let left = (0, LOWER_LAST - 0x1000);
+    check_skipped(rt, true, 1 << 35, Some(LOWER_LAST), left);
+    check_skipped(rt, true, 1 << 36, None, (0x1000, 0));
+    let [second, third, fourth, fifth] = [0x2000, 0x3000, 0x4000, 0x5000].map(frame::<Size4KiB>);
+    let mut range = PhysFrame::range(second, fifth);
+    assert_equal(rt, range.nth(1), Some(third));
+    assert_equal(rt, range, PhysFrame::range(fourth, fifth));
+    assert_equal(rt, range.nth(1), None);
+    assert_equal(rt, range, PhysFrame::range(fifth, fifth));
+    let mut range = PhysFrame::range(second, fifth);
+    assert_equal(rt, range.nth_back(1), Some(third));
+    assert_equal(rt, range, PhysFrame::range(second, third));
+    assert_equal(rt, range.nth_back(1), None);
+    assert_equal(rt, range, PhysFrame::range(second, second));
+}
+
+#[test]
+fn ranges_have_texts(rt: HostRuntime) {
+    let (start, end) = (page::<Size4KiB, FourLevels>(0), page(0x1000));
+    let wanted = "PageRange { start: Page[4KiB](0x0), end: Page[4KiB](0x1000) }";
+    assert_text(rt, &Page::range(start, end), wanted);
+    let wanted = "PageRangeInclusive { start: Page[4KiB](0x0), end: Page[4KiB](0x1000) }";
+    assert_text(rt, &Page::range_inclusive(start, end), wanted);
+    let five = Page57::<Size4KiB>::range_inclusive(page(0), page(0x1000));
+    let wanted = "PageRangeInclusive57 { start: Page57[4KiB](0x0), end: Page57[4KiB](0x1000) }";
+    assert_text(rt, &five, wanted);
+    let (start, end) = (frame::<Size2MiB>(0), frame(0x20_0000));
+    let wanted = "PhysFrameRange { start: PhysFrame[2MiB](0x0), end: PhysFrame[2MiB](0x200000) }";
+    assert_text(rt, &PhysFrame::range(start, end), wanted);
+    let closed = PhysFrame::range_inclusive(start, end);
+    let wanted =
+        "PhysFrameRangeInclusive { start: PhysFrame[2MiB](0x0), end: PhysFrame[2MiB](0x200000) }";
+    assert_text(rt, &closed, wanted);
 }

@@ -1,12 +1,6 @@
 //! Tests of address spaces that share the upper half, with four levels of page tables and with five.
-
-use crate::assertions::{Test, assert_equal, assert_equal_in, unwrap};
-use crate::tables::frame_at;
-use crate::tables::phys_memory::{memory_of, pool_with, set_words};
-use x86_64_addr::index::PageTableIndex;
-use x86_64_addr::level_count::{FiveLevels, FourLevels, LevelCount};
+use crate::prelude::*;
 use x86_64_spaces::{SharedIndices, Space, spaces_fit, spaces_fit_by_marks};
-use x86_64_tables::phys_memory::{IdentityMapping, PhysMemory, TableMemory};
 
 /// The words of two spaces, which share the tables in frames 0x3000 and 0x4000. Frames 0x5000 and 0x6000 have a table of each.
 const TWO: [u64; 15] = [
@@ -103,7 +97,7 @@ const SELF_ENTRIES: [u64; 6] = [0x1000, 511, 0x1003, 0x2000, 511, 0x2003];
 #[test]
 fn spaces_share_the_upper_half(rt: HostRuntime) {
     for (words, roots, frames, wanted) in ROWS {
-        let mut memory = memory_of(rt, &TWO);
+        let mut memory = memory_of(rt, 16, &TWO);
         set_words(rt, &mut memory, words);
         let found = [
             fit::<FourLevels>(rt, &memory, roots, frames),
@@ -118,7 +112,7 @@ fn spaces_share_the_upper_half(rt: HostRuntime) {
 #[test]
 fn shared_tables_have_as_many_levels(rt: HostRuntime) {
     // The word maps a page with four levels. With five, no word of its level may have HUGE_PAGE.
-    let mut memory = memory_of(rt, &TWO);
+    let mut memory = memory_of(rt, 16, &TWO);
     set_words(rt, &mut memory, &[0x3000, 1, 0x83]);
     let four = fit::<FourLevels>(rt, &memory, &BOTH, &[]);
     let five = fit::<FiveLevels>(rt, &memory, &BOTH, &[]);
@@ -137,7 +131,7 @@ const ROOMS: [(&[u64], usize, bool); 6] = [
 
 #[test]
 fn arrays_have_room_for_all_spaces(rt: HostRuntime) {
-    let memory = memory_of(rt, &TWO);
+    let memory = memory_of(rt, 16, &TWO);
     for (frames, capacity, wanted) in ROOMS {
         let found = fit_in::<FourLevels>(rt, &memory, &BOTH, frames, capacity);
         assert_equal_in(rt, (frames, capacity), found, wanted);

@@ -1,26 +1,9 @@
-//! Tests of parent flags, tokens and memory, and functions for all tests.
-ghost use Rattle.std.specs.Prelude.{◌≡◌, ◌-◌, ◌%◌, ◌^◌};
-
+//! Tests of parent flags, flushes and memory.
 mod frame_alloc;
-mod mapper;
 mod page_table;
-pub(crate) mod phys_memory;
+mod phys_memory;
 
-use crate::assertions::{assert_equal, assert_equal_in, unwrap, unwrap_some};
-use bitflags::Flags;
-use x86_64_addr::addr::PhysAddr;
-use x86_64_page::frame::PhysFrame;
-use x86_64_page::page::Size4KiB;
-use x86_64_tables::mapper::parent_flags;
-use x86_64_tables::page_table::PageTableFlags;
-use x86_64_tables::phys_memory::{FramePlace, IdentityMapping, PageTableFrameMapping, PhysMemory};
-
-/// Returns the 4KiB frame that contains an address, of which the low 52 bits count.
-pub(crate) fn frame_at(address: u64) -> PhysFrame<Size4KiB>
-    ensures { let low = address % 2 ^ 52 in result ≡ low - low % 4096 }
-{
-    PhysFrame::containing_address(PhysAddr::new_truncate(address))
-}
+use crate::prelude::*;
 
 /// Bits, those of them that parents get, and whether there are address bits among them.
 const PARTS: [(u64, u64, bool); 6] = [
@@ -49,6 +32,10 @@ fn word_at(memory: &PhysMemory, place: FramePlace) -> Option<u64> {
 #[test]
 fn memory_has_tables_at_places(rt: HostRuntime) {
     let mut memory = unwrap(rt, PhysMemory::new(rt.alloc(), 8));
+    let place = FramePlace::new(6);
+    assert!(rt; memory[place].is_empty());
+    memory[place][3].set_word(0x2001);
+    assert_equal(rt, word_at(&memory, place), Some(0x2001));
     let frame = frame_at(0x7000);
     assert!(rt; IdentityMapping.covers(frame));
     let place = IdentityMapping.frame_to_pointer(frame);
@@ -59,11 +46,26 @@ fn memory_has_tables_at_places(rt: HostRuntime) {
     assert!(rt; memory.table_mut(FramePlace::new(8)).is_none());
 }
 
+/// Flushes the page of a size at an address, and compares the item, which is the only one.
+fn check_flush<S: PageSize, L: LevelCount>(rt: impl Test, start: u64, item: FlushItem) {
+    let (page, mut recorder) = (page::<S, L>(start), FlushRecorder::new(rt.alloc()));
+    assert!(rt; recorder.items().is_empty());
+    let token = MapperFlushIn::new(page);
+    assert_equal(rt, token.page(), page);
+    let answer = token.flush(&mut recorder);
+    assert_equal(rt, answer.map_err(MapperFlushIn::ignore), Ok(()));
+    assert_equal(rt, recorder.items(), [item].as_slice());
+}
+
+/// More flushes, in order and with room reserved, are in the crates `x86_64_tests` and `x86_64_mapper_tests`.
 #[test]
-fn memory_is_indexed_by_places(rt: HostRuntime) {
-    let mut memory = unwrap(rt, PhysMemory::new(rt.alloc(), 8));
-    let place = FramePlace::new(7);
-    assert!(rt; memory[place].is_empty());
-    memory[place][3].set_word(0x1001);
-    assert_equal(rt, word_at(&memory, place), Some(0x1001));
+fn flushes_of_pages_are_recorded(rt: HostRuntime) {
+    let (start, size) = (VirtAddr::new(0xffff_8000_0000_0000), 4096);
+    let item = FlushItem::Page { start, size };
+    check_flush::<Size4KiB, FourLevels>(rt, 0xffff_8000_0000_0000, item);
+    for raw in [0x20_0000, 0xff00_0000_0000_0000] {
+        let (start, size) = (VirtAddr57::new_truncate(raw), 2_097_152);
+        let item = FlushItem::Page57 { start, size };
+        check_flush::<Size2MiB, FiveLevels>(rt, raw, item);
+    }
 }

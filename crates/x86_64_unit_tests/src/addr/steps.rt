@@ -1,11 +1,6 @@
 //! Steps along addresses and indices, from the tests of the Rust crate and beyond.
 use crate::addr::{FIRST_HIGH, FIRST_HIGH_57, LAST_LOW, LAST_LOW_57};
-use crate::assertions::assert_equal_in;
-use std::fmt::Debug;
-use std::process::Abort;
-use x86_64_addr::addr::{VirtAddr, VirtAddr57, VirtAddrIn};
-use x86_64_addr::index::PageTableIndex;
-use x86_64_addr::level_count::LevelCount;
+use crate::prelude::*;
 
 /// The raw value of a start, a number of steps, and the raw value of the end that they lead to. Without a start, that
 /// many steps back from the end lead nowhere, and without an end, that many from the start.
@@ -78,51 +73,31 @@ fn at<T: Stepped>(raw: Option<u64>) -> Option<T> {
     Some(T::at(raw?))
 }
 
-/// Compares what is a number of steps after a start.
-pub(crate) fn check_forward<T: Stepped>(rt: impl Abort + Copy, rows: &[Steps]) {
+/// Compares what is a number of steps after each start and before each end, and the numbers of steps between both, and
+/// back.
+pub(crate) fn check_steps<T: Stepped>(rt: impl Abort + Copy, rows: &[Steps]) {
     for (start, count, end) in rows {
         if let Some(start) = at::<T>(*start) {
             assert_equal_in(rt, (start, *count), start.forward(*count), at(*end));
         }
-    }
-}
-
-/// Compares what is a number of steps before an end.
-pub(crate) fn check_backward<T: Stepped>(rt: impl Abort + Copy, rows: &[Steps]) {
-    for (start, count, end) in rows {
         if let Some(end) = at::<T>(*end) {
             assert_equal_in(rt, (end, *count), end.backward(*count), at(*start));
         }
-    }
-}
-
-/// Compares the numbers of steps between a start and an end, and back.
-pub(crate) fn check_between<T: Stepped>(rt: impl Abort + Copy, rows: &[Steps]) {
-    for (start, count, end) in rows {
         if let (Some(start), Some(end)) = (at::<T>(*start), at::<T>(*end)) {
             let found = (start.steps_to(end), end.steps_to(start));
             let back = if *count == 0 { Some(0) } else { None };
-            assert_equal_in(rt, (start, end), found, ((*count, Some(*count)), (0, back)));
+            let wanted = ((*count, Some(*count)), (0, back));
+            assert_equal_in(rt, (start, end), found, wanted);
         }
     }
 }
 
+/// The rows of `virtaddr_step_forward`, `virtaddr_step_backward` and `virtaddr_steps_between` of the Rust crate, and
+/// more.
 #[test]
-fn virtaddr_step_forward(rt: HostRuntime) {
-    check_forward::<VirtAddr>(rt, &STEPS);
-    check_forward::<VirtAddr57>(rt, &STEPS_57);
-}
-
-#[test]
-fn virtaddr_step_backward(rt: HostRuntime) {
-    check_backward::<VirtAddr>(rt, &STEPS);
-    check_backward::<VirtAddr57>(rt, &STEPS_57);
-}
-
-#[test]
-fn virtaddr_steps_between(rt: HostRuntime) {
-    check_between::<VirtAddr>(rt, &STEPS);
-    check_between::<VirtAddr57>(rt, &STEPS_57);
+fn addresses_step(rt: HostRuntime) {
+    check_steps::<VirtAddr>(rt, &STEPS);
+    check_steps::<VirtAddr57>(rt, &STEPS_57);
 }
 
 /// Indices, numbers of steps, and the indices that they lead to forward and backward, if any.

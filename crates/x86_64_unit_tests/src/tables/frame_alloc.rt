@@ -4,15 +4,7 @@ ghost use Rattle.x86_64_model.specs.Lists.{EachOnce};
 
 mod lent_pool;
 
-use crate::assertions::{assert_equal, assert_equal_in, unwrap};
-use crate::tables::frame_at;
-use crate::tables::phys_memory::pool_with;
-use std::process::Abort;
-use x86_64_page::frame::PhysFrame;
-use x86_64_page::page::Size4KiB;
-use x86_64_tables::frame_alloc::{
-    FrameAllocator, FrameDeallocator, FramePool, FrameStore, PoolRefusal,
-};
+use crate::prelude::*;
 
 /// Compares the frames of a pool, in order, and asserts that there are no more.
 fn check_frames(rt: impl Abort + Copy, pool: &FramePool, frames: &[u64]) {
@@ -42,16 +34,12 @@ fn pool_refuses_what_it_cannot_serve(rt: HostRuntime) {
     }
     check_frames(rt, &pool, &[0x2000, 0x7000]);
     assert!(rt; !pool.contains(frame_at(0x3000)));
-}
-
-#[test]
-fn limits_may_be_any(rt: HostRuntime) {
+    // The limit may be any.
     let mut pool = pool_with(rt, 0, &[]);
     let added = (pool.try_add(frame_at(0x0)), pool.try_add(frame_at(0x1000)));
     let wanted = (Err(PoolRefusal::Zero), Err(PoolRefusal::OutOfRange));
     assert_equal(rt, added, wanted);
     assert_equal(rt, pool.allocate_frame(), None);
-    assert!(rt; FramePool::new(rt.alloc(), u64::MAX).is_err());
 }
 
 #[test]

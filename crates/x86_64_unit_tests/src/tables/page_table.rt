@@ -1,10 +1,5 @@
 //! Tests of flags, entries and tables.
-use crate::assertions::{Test, assert_equal, assert_equal_in, assert_text, unwrap, unwrap_some};
-use crate::tables::frame_at;
-use bitflags::Flags;
-use x86_64_addr::addr::PhysAddr;
-use x86_64_addr::index::PageTableIndex;
-use x86_64_tables::page_table::{FrameError, PageTable, PageTableEntry, PageTableFlags};
+use crate::prelude::*;
 
 #[test]
 fn flags_have_places(rt: HostRuntime) {
@@ -187,17 +182,20 @@ fn entries_are_changed(rt: HostRuntime) {
 
 #[test]
 fn flags_and_entries_have_texts(rt: HostRuntime) {
-    let none = PageTableFlags::empty();
-    assert_text(rt, &none, "PageTableFlags(0x0)");
     let odd = PageTableFlags::from_bits_retain(0x1003);
-    assert_text(rt, &odd, "PageTableFlags(0x1003)");
-    let all = PageTableFlags::all();
-    assert_text(rt, &all, "PageTableFlags(0xfff0000000000fff)");
+    let flags = (PageTableFlags::empty(), odd, PageTableFlags::all());
+    let wanted =
+        "(PageTableFlags(0x0), PageTableFlags(0x1003), PageTableFlags(0xfff0000000000fff))";
+    assert_text(rt, &flags, wanted);
     let entry = PageTableEntry::from_word(0x5003);
     let wanted = "PageTableEntry { addr: PhysAddr(0x5000), flags: PageTableFlags(0x3) }";
     assert_text(rt, &entry, wanted);
     let errors = [FrameError::FrameNotPresent, FrameError::HugeFrame];
     assert_text(rt, &errors, "[FrameNotPresent, HugeFrame]");
+    let mut table = PageTable::new();
+    table[511].set_addr(PhysAddr::new(0x6000), PageTableFlags::WRITABLE);
+    let wanted = text_of(rt, &table);
+    assert_text(rt, &table, &wanted);
 }
 
 #[test]
@@ -213,14 +211,6 @@ fn tables_are_lists_of_words(rt: HostRuntime) {
     table.zero();
     assert!(rt; table.is_empty());
     assert_equal(rt, copy[511].word(), 0x6002);
-}
-
-#[test]
-fn tables_have_texts(rt: HostRuntime) {
-    let mut table = PageTable::new();
-    table[511].set_addr(PhysAddr::new(0x6000), PageTableFlags::WRITABLE);
-    let wanted = text_of(rt, &table);
-    assert_text(rt, &table, &wanted);
 }
 
 /// Returns the texts of all entries, separated by commas, in brackets.

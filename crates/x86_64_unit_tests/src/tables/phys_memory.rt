@@ -1,72 +1,15 @@
-//! Tests of page walks, of hierarchies and of pools that fit them, over memories that are given as words, with four
-//! levels of page tables and with five. Here is what `pagetab` doesn't show: see `tests/pagetab/validity.txt` and
-//! `tests/pagetab/page_walks.txt`.
+//! Tests of hierarchies and of pools that fit them, over memories that are given as words, with four levels of page tables
+//! and with five. Here is what `pagetab` doesn't show: see `tests/pagetab/validity.txt`.
 mod active;
 mod alike;
 mod places;
 
-use crate::assertions::{Test, assert_equal_in, unwrap, unwrap_some};
-use crate::tables::frame_at;
-use x86_64_addr::addr::VirtAddrIn;
-use x86_64_addr::index::PageTableIndex;
-use x86_64_addr::level_count::{FiveLevels, FourLevels, LevelCount};
-use x86_64_tables::frame_alloc::FramePool;
+use crate::prelude::*;
 use x86_64_tables::phys_memory::{
-    FramePlace, IdentityMapping, PhysMemory, TableMemory, is_valid_by_marks, is_valid_hierarchy,
-    is_valid_hierarchy_57, is_valid_recursive, is_valid_recursive_57, page_walk, pool_fits,
-    pool_fits_57, pool_fits_by_marks, pool_fits_recursive, pool_fits_recursive_57,
+    is_valid_by_marks, is_valid_hierarchy, is_valid_hierarchy_57, is_valid_recursive,
+    is_valid_recursive_57, pool_fits, pool_fits_57, pool_fits_by_marks, pool_fits_recursive,
+    pool_fits_recursive_57,
 };
-
-/// Sets words of a memory, each given as its frame, its index and its value, as in the lines of `pagetab`.
-pub(crate) fn set_words<T: TableMemory>(rt: impl Test, memory: &mut T, words: &[u64]) {
-    for word in words.chunks_exact(3) {
-        if let [frame, index, word] = word {
-            let table = unwrap_some(rt, memory.table_mut(FramePlace::new(*frame / 0x1000)));
-            table[PageTableIndex::new_truncate((*index % 512) as u16)].set_word(*word);
-        }
-    }
-}
-
-/// Creates a memory of 16 places with words. A place is the index of a table in memory.
-pub(crate) fn memory_of(rt: impl Test, words: &[u64]) -> PhysMemory {
-    let mut memory = unwrap(rt, PhysMemory::new(rt.alloc(), 16));
-    set_words(rt, &mut memory, words);
-    memory
-}
-
-/// Creates a memory of 8 places with words.
-fn small_memory_of(rt: impl Test, words: &[u64]) -> PhysMemory {
-    let mut memory = unwrap(rt, PhysMemory::new(rt.alloc(), 8));
-    set_words(rt, &mut memory, words);
-    memory
-}
-
-/// Creates a pool with a limit and with frames, given by their start addresses.
-pub(crate) fn pool_with(rt: impl Test, limit: u64, frames: &[u64]) -> FramePool {
-    let mut pool = unwrap(rt, FramePool::new(rt.alloc(), limit));
-    for frame in frames {
-        unwrap(rt, pool.try_add(frame_at(*frame)));
-    }
-    pool
-}
-
-/// Walks the tables from the root in frame 0x1000, and returns the raw address where the walk arrives, and its rights.
-fn walk<L: LevelCount>(memory: &PhysMemory, addr: u64) -> Option<(u64, bool, bool)> {
-    let addr = VirtAddrIn::<L>::new_truncate(addr);
-    let walked = page_walk(memory, &IdentityMapping, frame_at(0x1000), addr)?;
-    Some((walked.address.as_u64(), walked.write, walked.user))
-}
-
-#[test]
-fn walks_end_in_words_that_name_no_table(rt: HostRuntime) {
-    let memory = small_memory_of(rt, &[0x1000, 0, 0x9003, 0x1000, 1, 0x83]);
-    assert_equal_in(rt, "a missing table", walk::<FourLevels>(&memory, 0), None);
-    assert_equal_in(rt, "level five", walk::<FiveLevels>(&memory, 1 << 48), None);
-    let memory = small_memory_of(rt, &[0x1000, 0, 0x2003, 0x2000, 0, 0x83]);
-    assert_equal_in(rt, "level four", walk::<FiveLevels>(&memory, 0), None);
-    let wanted = Some((0, true, false));
-    assert_equal_in(rt, "level three", walk::<FourLevels>(&memory, 0), wanted);
-}
 
 /// The number of levels, and whether there is the recursive index 510 (that of the root's entry for itself).
 type Form = (u64, bool);
@@ -102,16 +45,16 @@ const RECURSIVE_57: [u64; 18] = [
 /// Words, and whether they are a valid hierarchy in each form.
 const HIERARCHIES: [(&[u64], [bool; 4]); 7] = [
     (&[], [true, true, false, false]),
-    (
-        &[0x1000, 0, 0x2003, 0x2000, 0, 0x83],
-        [true, false, false, false],
-    ),
+    (&GIANT, [true, false, false, false]),
     (&FOUR_TABLES, [true, false, false, false]),
     (&[0x1000, 0, 0x1003], [false; 4]),
     (&RECURSIVE_57, [false, false, true, true]),
     (&NAMED_TWICE, [false, false, true, false]),
     (&[0x1000, 510, 0x1002], [false; 4]),
 ];
+
+/// Words of which the last one maps a page of 1GiB with four levels.
+const GIANT: [u64; 6] = [0x1000, 0, 0x2003, 0x2000, 0, 0x83];
 
 /// Words of which the last one maps a page with four levels. With five it names a table that the memory lacks.
 const FOUR_TABLES: [u64; 12] = [
@@ -127,14 +70,13 @@ const NAMED_TWICE: [u64; 18] = [
 #[test]
 fn hierarchies_are_valid_with_as_many_levels(rt: HostRuntime) {
     for (words, wanted) in HIERARCHIES {
-        let memory = small_memory_of(rt, words);
+        let memory = memory_of(rt, 8, words);
         let found = FORMS.map(|form| is_valid(rt, form, &memory));
         assert_equal_in(rt, words, found, wanted);
-        let by_marks = (
-            is_valid_in::<FourLevels>(rt, &memory),
-            is_valid_in::<FiveLevels>(rt, &memory),
-        );
-        assert_equal_in(rt, words, by_marks, (wanted[0], wanted[1]));
+        let by_marks = is_valid_in::<FourLevels>(rt, &memory);
+        assert_equal_in(rt, words, by_marks, wanted[0]);
+        let by_marks = is_valid_in::<FiveLevels>(rt, &memory);
+        assert_equal_in(rt, words, by_marks, wanted[1]);
     }
 }
 
@@ -189,25 +131,15 @@ static POOLS: [(Form, &[u64], Pool, bool); 14] = [
 #[test]
 fn pools_have_limits(rt: HostRuntime) {
     for (form, words, pool, wanted) in &POOLS {
-        let memory = small_memory_of(rt, words);
-        assert_equal_in(
-            rt,
-            (*form, *words, *pool),
-            fits(rt, *form, &memory, *pool),
-            *wanted,
-        );
+        let memory = memory_of(rt, 8, words);
+        let found = fits(rt, *form, &memory, *pool);
+        assert_equal_in(rt, (*form, *words, *pool), found, *wanted);
     }
-}
-
-#[test]
-fn no_root_past_the_memory_is_valid(rt: HostRuntime) {
-    let memory = unwrap(rt, PhysMemory::new(rt.alloc(), 1));
+    // The root is past the memory.
+    let memory = memory_of(rt, 1, &[]);
     for form in FORMS {
-        let found = (
-            is_valid(rt, form, &memory),
-            fits(rt, form, &memory, (8, &[])),
-        );
-        assert_equal_in(rt, form, found, (false, false));
+        let fits = fits(rt, form, &memory, (8, &[]));
+        assert!(rt; !fits && !is_valid(rt, form, &memory));
     }
 }
 
@@ -240,11 +172,7 @@ const ROOMS_57: [Room; 3] = [
 
 /// Compares whether pools fit a hierarchy by marks, all of them set at first.
 fn check_rooms<L: LevelCount>(rt: impl Test, words: &[u64], rooms: &[Room]) {
-    let (memory, mapping, root) = (
-        small_memory_of(rt, words),
-        IdentityMapping,
-        frame_at(0x1000),
-    );
+    let (memory, mapping, root) = (memory_of(rt, 8, words), IdentityMapping, frame_at(0x1000));
     for (frames, room, wanted) in rooms {
         let mut marks = unwrap(rt, vec![in rt.alloc(); true; memory.len()]);
         let fits = pool_fits_by_marks::<L, _, _>(

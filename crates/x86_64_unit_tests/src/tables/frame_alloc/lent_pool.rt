@@ -2,10 +2,7 @@
 ghost use Rattle.std.specs.Prelude.{◌≡◌, ◌∷◌, ◌≤◌, []};
 
 use super::take_and_put_back;
-use crate::assertions::assert_equal_in;
-use crate::tables::frame_at;
-use std::process::Abort;
-use x86_64_tables::frame_alloc::{FrameAllocator, FrameDeallocator, LentPool, OwnFrames};
+use crate::prelude::*;
 
 /// The entries of each array when it is lent.
 const ENTRIES: [u64; 4] = [0x2000, 0x3000, 0x5000, 0x7000];

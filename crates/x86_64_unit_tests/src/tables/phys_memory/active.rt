@@ -1,13 +1,7 @@
 //! Tests of tables that are reached through the root's entry for itself, with four levels of page tables and with
 //! five.
-use super::{RECURSIVE_57, set_words, small_memory_of};
-use crate::assertions::{Test, assert_equal, assert_equal_in, unwrap_some};
-use crate::tables::frame_at;
-use x86_64_addr::addr::{VirtAddr, VirtAddrIn};
-use x86_64_addr::index::PageTableIndex;
-use x86_64_addr::level_count::{FiveLevels, FourLevels, LevelCount};
-use x86_64_tables::page_table::PageTable;
-use x86_64_tables::phys_memory::{Active, ActiveMemory, FramePlace, PhysMemory};
+use super::RECURSIVE_57;
+use crate::prelude::*;
 
 /// The window (page) of the root for the recursive index 510.
 const ROOT_WINDOW: u64 = 0xffff_ff7f_bfdf_e000;
@@ -21,7 +15,7 @@ const PAGES: [u64; 24] = [
 
 /// Creates a memory with words in which word 511 of each table has the table's own address and lacks `PRESENT`.
 fn memory_with(rt: impl Test, words: &[u64]) -> PhysMemory {
-    let mut memory = small_memory_of(rt, words);
+    let mut memory = memory_of(rt, 8, words);
     for frame in [0x0, 0x1000, 0x2000, 0x3000, 0x4000, 0x5000, 0x6000, 0x7000] {
         set_words(rt, &mut memory, &[frame, 511, frame | 2]);
     }
@@ -49,7 +43,7 @@ const SELF_ENTRIES: [([u64; 3], u64, bool); 9] = [
 #[test]
 fn roots_have_self_entries(rt: HostRuntime) {
     for (word, cr3, wanted) in SELF_ENTRIES {
-        let mut memory = small_memory_of(rt, &word);
+        let mut memory = memory_of(rt, 8, &word);
         let active = ActiveMemory::new(&mut memory, frame_at(cr3));
         let found = (active.cr3(), active.self_entry(PageTableIndex::new(510)));
         assert_equal_in(rt, (word, cr3), found, (frame_at(cr3), wanted));
@@ -126,10 +120,8 @@ fn tables_are_lent_where_walks_arrive(rt: HostRuntime) {
 fn walks_go_through_the_words_of_the_moment(rt: HostRuntime) {
     let mut memory = memory_with(rt, &PAGES);
     let mut active = ActiveMemory::new(&mut memory, frame_at(0x1000));
-    let (root, window) = (
-        VirtAddr::new(ROOT_WINDOW),
-        VirtAddr::new(0xffff_ff7f_bfc0_1000),
-    );
+    let window = VirtAddr::new(0xffff_ff7f_bfc0_1000);
+    let root = VirtAddr::new(ROOT_WINDOW);
     assert_equal(rt, address_of(active.table(window)), None);
     unwrap_some(rt, active.table_mut(root))[1].set_word(0x6001);
     assert_equal(rt, address_of(active.table(window)), Some(0x6000));

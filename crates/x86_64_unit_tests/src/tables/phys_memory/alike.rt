@@ -6,15 +6,9 @@ ghost use Rattle.x86_64_model.specs.Memory.{identity_places, words_of};
 ghost use Rattle.x86_64_model.specs.Window.{outside_window};
 ghost use Rattle.x86_64_tables.specs.SelfEntries.{window_at};
 
-use super::{RECURSIVE_57, set_words, small_memory_of};
-use crate::assertions::{Test, assert_equal_in};
-use crate::tables::frame_at;
-use x86_64_addr::index::PageTableIndex;
-use x86_64_page::frame::PhysFrame;
-use x86_64_page::page::Size4KiB;
-use x86_64_tables::phys_memory::{
-    IdentityMapping, PhysMemory, ShiftMapping, tables_alike, tables_alike_57,
-};
+use super::RECURSIVE_57;
+use crate::prelude::*;
+use x86_64_tables::phys_memory::{tables_alike, tables_alike_57};
 
 /// The words of a hierarchy with a 4KiB page, whose table entries are not writable.
 const DIRECT: [u64; 12] = [
@@ -97,7 +91,7 @@ static DIFFERENCES_57: [Difference; 9] = [
 
 /// Creates a memory with words, and then with more words.
 fn changed(rt: impl Test, words: &[u64], more: &[u64]) -> PhysMemory {
-    let mut memory = small_memory_of(rt, words);
+    let mut memory = memory_of(rt, 8, words);
     set_words(rt, &mut memory, more);
     memory
 }
@@ -128,7 +122,7 @@ const SHIFTED: [u64; 12] = [
 
 #[test]
 fn hierarchies_are_alike_by_their_own_mappings(rt: HostRuntime) {
-    let (one, other) = (small_memory_of(rt, &SHIFTED), small_memory_of(rt, &DIRECT));
+    let (one, other) = (memory_of(rt, 8, &SHIFTED), memory_of(rt, 8, &DIRECT));
     let (root, own) = (frame_at(0x1000), IdentityMapping);
     for (first, wanted) in [(1, true), (0, false), (2, false)] {
         let mapping = ShiftMapping::new(first);
@@ -139,7 +133,7 @@ fn hierarchies_are_alike_by_their_own_mappings(rt: HostRuntime) {
 
 #[test]
 fn words_that_name_their_own_table_are_alike(rt: HostRuntime) {
-    let memory = small_memory_of(rt, &RECURSIVE);
+    let memory = memory_of(rt, 8, &RECURSIVE);
     let (root, own, index) = (frame_at(0x1000), IdentityMapping, PageTableIndex::new(510));
     assert!(rt; tables_alike(&memory, &own, root, None, &memory, &own, root, None));
     assert!(rt; !tables_alike(&memory, &own, root, None, &memory, &own, root, Some(index)));

@@ -1,16 +1,8 @@
 //! Tests of memories with gaps between their places, and of memories whose tables are lent. A place is the index of a
 //! table in memory.
-use super::{Pool, fits, is_valid, set_words, walk};
-use crate::assertions::{Test, assert_equal, assert_equal_in, unwrap, unwrap_some};
-use crate::tables::frame_at;
-use std::alloc::AllocError;
-use x86_64_addr::addr::VirtAddr;
-use x86_64_addr::index::PageTableIndex;
-use x86_64_addr::level_count::FourLevels;
-use x86_64_tables::page_table::PageTable;
-use x86_64_tables::phys_memory::{
-    FramePlace, LentMemory, PhysMemory, PlacesRefusal, ShiftMapping, TableMemory, page_walk,
-};
+use super::{Pool, fits, is_valid};
+use crate::prelude::*;
+use x86_64_tables::phys_memory::page_walk;
 
 /// Creates a memory with places in ascending order.
 fn memory_at(rt: impl Test, places: &[u64]) -> PhysMemory {
@@ -85,8 +77,7 @@ fn memory_has_the_places_of_a_list(rt: HostRuntime) {
     for (places, others) in &PLACES {
         check_places(rt, &memory_at(rt, places), places, others);
     }
-    let memory = unwrap(rt, PhysMemory::new(rt.alloc(), 3));
-    check_places(rt, &memory, &[0, 1, 2], &[3, u64::MAX]);
+    check_places(rt, &memory_of(rt, 3, &[]), &[0, 1, 2], &[3, u64::MAX]);
     assert!(rt; !is_valid(rt, (4, false), &memory_at(rt, &[])));
 }
 
@@ -145,29 +136,21 @@ fn places_with_gaps(rt: impl Test, first: u64, count: u64) -> Vec<u64> {
 }
 
 #[test]
-fn a_million_places_with_gaps_must_rise(rt: HostRuntime) {
-    let mut places = places_with_gaps(rt, 1, 1_000_000);
-    unwrap(rt, places.push(0));
-    let wanted = Some(PlacesRefusal::NotIncreasing);
-    assert_equal(rt, refusal(rt, &places), wanted);
-}
-
-#[test]
-fn ten_thousand_places_have_gaps(rt: HostRuntime) {
-    let memory = memory_at(rt, &places_with_gaps(rt, 1, 10_000));
-    assert_equal(rt, memory.len(), 10_000);
-    check_tables(rt, &memory, &[1, 3, 10_001, 19_999], Some(true));
-    let gaps = [0, 2, 4, 10_000, 10_002, 19_998, 20_000];
-    check_tables(rt, &memory, &gaps, None);
-}
-
-#[test]
-fn tables_lie_between_gaps(rt: HostRuntime) {
+fn tables_lie_between_many_gaps(rt: HostRuntime) {
     for first in [0, 1] {
         let places = places_with_gaps(rt, first, 1000);
         let gaps = places_with_gaps(rt, 1_u64.wrapping_sub(first), 1000);
         check_places(rt, &memory_at(rt, &places), &places, &gaps);
     }
+    let memory = memory_at(rt, &places_with_gaps(rt, 1, 10_000));
+    assert_equal(rt, memory.len(), 10_000);
+    check_tables(rt, &memory, &[1, 3, 10_001, 19_999], Some(true));
+    let gaps = [0, 2, 4, 10_000, 10_002, 19_998, 20_000];
+    check_tables(rt, &memory, &gaps, None);
+    let mut places = places_with_gaps(rt, 1, 1_000_000);
+    unwrap(rt, places.push(0));
+    let wanted = Some(PlacesRefusal::NotIncreasing);
+    assert_equal(rt, refusal(rt, &places), wanted);
 }
 
 /// Each of several places after gaps, with the others.
@@ -196,8 +179,10 @@ fn hierarchies_are_valid_after_gaps(rt: HostRuntime) {
     set_words(rt, &mut memory, &[0x8_0000_0000_0000, 0, 0x8000_0003]);
     set_words(rt, &mut memory, &[0x8000_0000, 1, 0x40_0083]);
     assert!(rt; is_valid(rt, (4, false), &memory));
-    let wanted = Some((0x43_4567, true, false));
-    assert_equal(rt, walk::<FourLevels>(&memory, 0x23_4567), wanted);
+    let (root, address) = (frame_at(0x1000), VirtAddr::new_truncate(0x23_4567));
+    let walked = unwrap_some(rt, page_walk(&memory, &IdentityMapping, root, address));
+    assert_equal(rt, walked.address.as_u64(), 0x43_4567);
+    assert!(rt; walked.write && !walked.user);
     set_words(rt, &mut memory, &[0x8000_0000, 0, 0x2003]);
     assert!(rt; !is_valid(rt, (4, false), &memory));
 }
