@@ -28,19 +28,14 @@ fn run_in_turn<T: TableMemory>(
 }
 
 /// Creates a pool that fits two empty roots in a memory of empty tables.
-fn pool_of_two<T: TableMemory>(
-    rt: impl Abort + Copy,
-    alloc: Global,
-    memory: &T,
-    roots: (Frame, Frame),
-) -> FramePool
+fn pool_of_two<T: TableMemory>(rt: impl Test, memory: &T, roots: (Frame, Frame)) -> FramePool
     requires { (place : ℕ) → get (T.tables memory.now) place
         ≡ (if nat_lt place 0x10 then Some zero_words else None) }
     ensures { AreTwo roots.0 roots.1 (T.tables memory.now) (serves_below result.limit) result.frames }
 {
     one_hierarchy_is_a_space();
     empty_roots_are_spaces();
-    let pool = pool_of(rt, alloc, 3, PLACES);
+    let (alloc, pool) = (rt.alloc(), pool_of(rt, 3, PLACES));
     let (one, two) = roots;
     assert!(rt; one != two);
     assert!(rt; unwrap(rt, pool_fits(alloc, memory, &IdentityMapping, one, &pool)));
@@ -49,10 +44,10 @@ fn pool_of_two<T: TableMemory>(
 }
 
 /// Creates as many empty tables as there are places.
-pub fn empty_tables(rt: impl Abort + Copy, alloc: Global) -> Vec<PageTable>
+pub fn empty_tables(rt: impl Test) -> Vec<PageTable>
     ensures { result.items ≡ replicate 0x10 zero_words }
 {
-    let mut tables = unwrap(rt, Vec::with_capacity(alloc, PLACES as usize));
+    let mut tables = unwrap(rt, Vec::with_capacity(rt.alloc(), PLACES as usize));
     for _ in 0..PLACES {
         tables.push_reserved(PageTable::new());
     }
@@ -61,8 +56,7 @@ pub fn empty_tables(rt: impl Abort + Copy, alloc: Global) -> Vec<PageTable>
 
 /// Maps a page in each of two hierarchies.
 fn map_in_both<T: TableMemory>(
-    rt: impl Abort + Copy,
-    alloc: Global,
+    rt: impl Test,
     memory: &mut T,
     roots: (Frame, Frame),
     pool: &mut FramePool,
@@ -71,8 +65,7 @@ fn map_in_both<T: TableMemory>(
     requires { AreTwo roots.0 roots.1 (T.tables memory.old) (serves_below pool.old.limit) pool.old.frames }
     ensures { AreTwo roots.0 roots.1 (T.tables memory.new) (serves_below pool.new.limit) pool.new.frames }
 {
-    let mut replies = Vec::new(alloc);
-    let (page, to) = given;
+    let (mut replies, (page, to)) = (Vec::new(rt.alloc()), given);
     let (calls, others) = ([map(page, to)], [map(page, to | 0x1000)]);
     let both = (&calls[..], &others[..]);
     let served = run_in_turn(memory, roots, pool, both, &mut replies);
@@ -80,16 +73,16 @@ fn map_in_both<T: TableMemory>(
 }
 
 /// Maps two pages in each of two hierarchies in a memory of empty tables, and compares where page walks arrive.
-fn map_pages_in_both<T: TableMemory>(rt: impl Abort + Copy, alloc: Global, memory: &mut T)
+fn map_pages_in_both<T: TableMemory>(rt: impl Test, memory: &mut T)
     requires { (place : ℕ) → get (T.tables memory.old) place
         ≡ (if nat_lt place 0x10 then Some zero_words else None) }
 {
     let (one, two) = (frame(0x1000), frame(0x2000));
-    let mut pool = pool_of_two(rt, alloc, memory, (one, two));
+    let mut pool = pool_of_two(rt, memory, (one, two));
     let call = (0x1000, 0x2_0000);
-    map_in_both(rt, alloc, memory, (one, two), &mut pool, call);
+    map_in_both(rt, memory, (one, two), &mut pool, call);
     let call = (0x8000_0000, 0x3_0000);
-    map_in_both(rt, alloc, memory, (one, two), &mut pool, call);
+    map_in_both(rt, memory, (one, two), &mut pool, call);
     assert_equal(rt, pool.len(), 3);
     for (page, to) in [(0x1000, 0x2_0000), (0x8000_0000, 0x3_0000)] {
         assert_equal(rt, walk::<FourLevels, _>(memory, one, page), Some(to));
@@ -99,23 +92,23 @@ fn map_pages_in_both<T: TableMemory>(rt: impl Abort + Copy, alloc: Global, memor
 }
 
 /// Maps these pages in a slice of empty tables.
-fn map_pages_in_slice(rt: impl Abort + Copy, alloc: Global, tables: &mut [PageTable])
+fn map_pages_in_slice(rt: impl Test, tables: &mut [PageTable])
     requires { tables.old ≡ replicate 0x10 zero_words }
 {
     let mut memory = LentMemory::new(tables);
-    map_pages_in_both(rt, alloc, &mut memory);
+    map_pages_in_both(rt, &mut memory);
 }
 
 #[test]
 fn two_hierarchies_share_a_memory_and_a_pool(rt: HostRuntime) {
     let mut memory = unwrap(rt, PhysMemory::new(rt.alloc(), PLACES));
-    map_pages_in_both(rt, rt.alloc(), &mut memory);
+    map_pages_in_both(rt, &mut memory);
 }
 
 #[test]
 fn two_hierarchies_share_a_lent_memory(rt: HostRuntime) {
-    let mut tables = empty_tables(rt, rt.alloc());
-    map_pages_in_slice(rt, rt.alloc(), &mut tables);
+    let mut tables = empty_tables(rt);
+    map_pages_in_slice(rt, &mut tables);
     for (root, below) in [(1, 0x3000), (2, 0x6000)] {
         let table = unwrap_some(rt, tables.get(root));
         let named = table[PageTableIndex::new_truncate(0)].frame();

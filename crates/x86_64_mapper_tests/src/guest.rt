@@ -48,30 +48,23 @@ fn word_in(tables: &[PageTable], frame: Frame, index: PageTableIndex) -> Option<
 }
 
 /// Returns whether a pool fits the hierarchy of a guest, which is tested in place.
-fn fits(
-    rt: impl Abort + Copy,
-    alloc: Global,
-    tables: &mut [PageTable],
-    root: Frame,
-    pool: &FramePool,
-) -> bool
+fn fits(rt: impl Test, tables: &mut [PageTable], root: Frame, pool: &FramePool) -> bool
     ensures { let layout = direct identity_places root in let serves = serves_below pool.now.limit in
         IsTrue result → FitsPool layout (numbered tables.new) serves pool.now.frames }
 {
-    let memory = LentMemory::new(tables);
+    let (alloc, memory) = (rt.alloc(), LentMemory::new(tables));
     unwrap(rt, pool_fits(alloc, &memory, &IdentityMapping, root, pool))
 }
 
 /// Executes calls with the root in frame 0x1000, and returns the replies.
 fn serve(
-    rt: impl Abort + Copy,
-    alloc: Global,
+    rt: impl Test,
     tables: &mut [PageTable],
     mut pool: FramePool,
     calls: &[Call],
 ) -> Vec<Reply> {
-    let (root, mut replies) = (frame(0x1000), Vec::new(alloc));
-    assert!(rt; fits(rt, alloc, tables, root, &pool));
+    let (root, mut replies) = (frame(0x1000), Vec::new(rt.alloc()));
+    assert!(rt; fits(rt, tables, root, &pool));
     let ran = run_in_tables(tables, root, &mut pool, calls, &mut replies);
     unwrap(rt, ran);
     replies
@@ -79,9 +72,9 @@ fn serve(
 
 #[test]
 fn a_guest_is_mapped_and_read(rt: HostRuntime) {
-    let mut tables = empty_tables(rt, rt.alloc());
-    let pool = pool_of(rt, rt.alloc(), 2, PLACES);
-    let replies = serve(rt, rt.alloc(), &mut tables, pool, &[map(0x1000, 0x5000)]);
+    let mut tables = empty_tables(rt);
+    let pool = pool_of(rt, 2, PLACES);
+    let replies = serve(rt, &mut tables, pool, &[map(0x1000, 0x5000)]);
     let mapped = Reply::Of4KiB(PageReply::Map(Ok(page(0x1000))));
     assert_equal(rt, replies.as_slice(), &[mapped]);
     let word = word_in(&tables, frame(0x1000), PageTableIndex::new(0));
@@ -89,25 +82,22 @@ fn a_guest_is_mapped_and_read(rt: HostRuntime) {
 }
 
 /// Sets words of a guest.
-fn set_in(rt: impl Abort + Copy, tables: &mut [PageTable], words: &[Word]) {
+fn set_in(rt: impl Test, tables: &mut [PageTable], words: &[Word]) {
     set_words(rt, &mut LentMemory::new(tables), words);
 }
 
 /// Compares all words of a guest, of which only these aren't 0.
-fn check_in(rt: impl Abort + Copy, tables: &mut [PageTable], words: &[Word]) {
+fn check_in(rt: impl Test, tables: &mut [PageTable], words: &[Word]) {
     check_words(rt, &LentMemory::new(tables), words)
 }
 
 #[test]
 fn pages_of_a_guest_are_unmapped_once(rt: HostRuntime) {
-    let mut tables = empty_tables(rt, rt.alloc());
+    let mut tables = empty_tables(rt);
     set_in(rt, &mut tables, &WORDS[1..]);
-    let (page, pool) = (page(0x1000), pool_of(rt, rt.alloc(), 0, 0));
-    let calls = [
-        Call::Of4KiB(SizeCall::Unmap { page }),
-        Call::Of4KiB(SizeCall::Unmap { page }),
-    ];
-    let replies = serve(rt, rt.alloc(), &mut tables, pool, &calls);
+    let (page, pool) = (page(0x1000), pool_of(rt, 0, 0));
+    let calls = [Call::Of4KiB(SizeCall::Unmap { page }); 2];
+    let replies = serve(rt, &mut tables, pool, &calls);
     let wanted = [
         Reply::Of4KiB(PageReply::Unmap(Ok((frame(0x5000), page)))),
         Reply::Of4KiB(PageReply::Unmap(Err(UnmapError::PageNotMapped))),

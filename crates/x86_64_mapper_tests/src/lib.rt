@@ -3,8 +3,6 @@
 #![tactic(auto)]
 
 #[cfg(test)]
-mod assertions;
-#[cfg(test)]
 mod beside;
 #[cfg(test)]
 mod guest;

@@ -87,8 +87,8 @@ const LINES: [&str; 4] = [
 ];
 
 /// Loads these segments, and lists all mappings.
-fn load_both(rt: impl Abort + Copy, world: &mut World) -> Vec<Mapping> {
-    let (root, alloc) = (frame(0x1000), world.alloc);
+fn load_both(rt: impl Test, world: &mut World) -> Vec<Mapping> {
+    let (root, alloc) = (frame(0x1000), rt.alloc());
     world.assert_fits::<FourLevels>(rt, root);
     let code = segment(0x40_0000, 0x80_0000, 2, READ);
     let segments = [code, segment(0x5f_f000, 0x9f_f000, 2, WRITE)];
@@ -99,7 +99,7 @@ fn load_both(rt: impl Abort + Copy, world: &mut World) -> Vec<Mapping> {
 
 #[test]
 fn loaded_segments_are_listed(rt: HostRuntime) {
-    let mut world = World::new(rt, rt.alloc(), &[], (2, PLACES));
+    let mut world = World::new(rt, &[], (2, PLACES));
     let listed = load_both(rt, &mut world);
     assert_equal(rt, listed.len(), LINES.len());
     for (mapping, line) in listed.iter().zip(LINES) {

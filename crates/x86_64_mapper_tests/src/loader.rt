@@ -57,7 +57,7 @@ pub fn load_unmapped<M: MapperAllSizes>(
 /// Loads a program with pages of 4KiB, or with larger ones where they fit, and returns the number of frames that
 /// suffices and what the load returns, or `None` if the program isn't allowed.
 fn load_by(
-    rt: impl Abort + Copy,
+    rt: impl Test,
     world: &mut World,
     is_large: bool,
     segments: &[Segment],
@@ -82,7 +82,7 @@ fn load_by(
 type Arrival = Option<(u64, bool, bool)>;
 
 /// Compares where page walks of addresses arrive.
-fn check_walks(rt: impl Abort + Copy, world: &World, walks: &[(u64, Arrival)]) {
+fn check_walks(rt: impl Test, world: &World, walks: &[(u64, Arrival)]) {
     for (start, wanted) in walks {
         let address = VirtAddr::new_truncate(*start);
         let walked = page_walk(&world.memory, &IdentityMapping, frame(0x1000), address);
@@ -116,7 +116,7 @@ const WALKS: [(u64, Arrival); 8] = [
 #[test]
 fn programs_are_loaded_by_pages_of_2mib_where_they_fit(rt: HostRuntime) {
     for (is_large, left) in [(false, 6), (true, 7)] {
-        let mut world = World::new(rt, rt.alloc(), &[], (2, PLACES));
+        let mut world = World::new(rt, &[], (2, PLACES));
         let loaded = load_by(rt, &mut world, is_large, &program());
         assert_equal(rt, loaded, Some((Some(11), Ok(()))));
         check_walks(rt, &world, &WALKS);
@@ -131,12 +131,12 @@ const OVERLAP: [(u64, Arrival); 2] = [
 ];
 
 /// Loads two overlapping segments, and compares where the load stops and where page walks arrive.
-fn check_overlap(rt: impl Abort + Copy, alloc: Global, is_large: bool) {
+fn check_overlap(rt: impl Test, is_large: bool) {
     let segments = [
         segment(0x40_0000, 0x80_0000, 4, READ),
         segment(0x3f_e000, 0x9f_e000, 3, WRITE),
     ];
-    let mut world = World::new(rt, alloc, &[], (2, PLACES));
+    let mut world = World::new(rt, &[], (2, PLACES));
     let loaded = load_by(rt, &mut world, is_large, &segments);
     let wanted = LoadError {
         segment: 1,
@@ -150,13 +150,13 @@ fn check_overlap(rt: impl Abort + Copy, alloc: Global, is_large: bool) {
 
 #[test]
 fn segments_that_overlap_are_refused(rt: HostRuntime) {
-    check_overlap(rt, rt.alloc(), false);
-    check_overlap(rt, rt.alloc(), true);
+    check_overlap(rt, false);
+    check_overlap(rt, true);
 }
 
 /// Asserts that a segment isn't allowed.
-fn check_refused(rt: impl Abort + Copy, alloc: Global, segment: Segment) {
-    let mut world = World::new(rt, alloc, &[], (2, PLACES));
+fn check_refused(rt: impl Test, segment: Segment) {
+    let mut world = World::new(rt, &[], (2, PLACES));
     let loaded = load_by(rt, &mut world, false, &[segment]);
     assert_equal(rt, loaded, None);
 }
@@ -164,10 +164,10 @@ fn check_refused(rt: impl Abort + Copy, alloc: Global, segment: Segment) {
 #[test]
 fn segments_are_allowed_as_their_pages_are(rt: HostRuntime) {
     let (page, frame) = (0x40_0000, 0x80_0000);
-    check_refused(rt, rt.alloc(), segment(page, frame, 1, 2));
-    check_refused(rt, rt.alloc(), segment(page, frame, 1, READ | 0x80));
+    check_refused(rt, segment(page, frame, 1, 2));
+    check_refused(rt, segment(page, frame, 1, READ | 0x80));
     let last = 0xffff_ffff_ffff_f000;
-    check_refused(rt, rt.alloc(), segment(last, frame, 2, READ));
+    check_refused(rt, segment(last, frame, 2, READ));
     let last = 0xf_ffff_ffff_f000;
-    check_refused(rt, rt.alloc(), segment(page, last, 2, READ));
+    check_refused(rt, segment(page, last, 2, READ));
 }

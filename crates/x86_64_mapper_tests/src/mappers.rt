@@ -8,7 +8,6 @@ ghost use Rattle.x86_64_mappers.specs.Layouts.{direct_at};
 ghost use Rattle.x86_64_mappers.specs.Recursive.{recursive_now_at};
 
 mod five_levels;
-mod flushing;
 mod layer;
 mod offset;
 mod recursive;
@@ -31,26 +30,23 @@ pub fn mapped(frame: Frame, offset: u64, bits: u64) -> TranslateResult {
 }
 
 /// Compares what the direct mapper says about its tables.
-fn check_mapper(rt: impl Abort + Copy, world: &mut World, root: Frame) {
-    let (alloc, address) = (world.alloc, VirtAddr::new(0x1abc));
+fn check_mapper(rt: impl Test, world: &mut World, root: Frame) {
+    let address = VirtAddr::new(0x1abc);
     world.assert_fits::<FourLevels>(rt, root);
     let mapper = MappedPageTable::new(&mut world.memory, root, IdentityMapping);
-    assert!(rt; unwrap(rt, mapper.is_valid(alloc)));
+    assert!(rt; unwrap(rt, mapper.is_valid(rt.alloc())));
     assert_equal(rt, mapper.recursive_index(), None);
     let place = mapper.page_table_frame_mapping().frame_to_pointer(root);
     assert_equal(rt, place.number(), 1);
-    assert_equal(
-        rt,
-        mapper.translate_addr(address),
-        Some(PhysAddr::new(0x5abc)),
-    );
+    let wanted = Some(PhysAddr::new(0x5abc));
+    assert_equal(rt, mapper.translate_addr(address), wanted);
     let wanted = mapped(frame(0x5000), 0xabc, 3);
     assert_equal(rt, mapper.translate(address), wanted);
 }
 
 #[test]
 fn mappers_tell_of_their_tables(rt: HostRuntime) {
-    let mut world = World::new(rt, rt.alloc(), &WORDS[1..], (0, 0));
+    let mut world = World::new(rt, &WORDS[1..], (0, 0));
     check_mapper(rt, &mut world, frame(0x1000));
 }
 
@@ -113,16 +109,11 @@ fn clear_window_57(memory: &mut PhysMemory, root: Frame, index: PageTableIndex) 
 #[test]
 fn root_tables_are_lent(rt: HostRuntime) {
     let root = frame(0x1000);
-    let mut world = World::new(rt, rt.alloc(), &WORDS[1..], (0, 0));
+    let mut world = World::new(rt, &WORDS[1..], (0, 0));
     world.assert_fits::<FourLevels>(rt, root);
     assert_equal(rt, clear_root(&mut world.memory, root), 0x2003);
-    check_words(rt, &world.memory, &WORDS[2..])
-}
-
-#[test]
-fn root_tables_of_level_five_are_lent(rt: HostRuntime) {
-    let root = frame(0x1000);
-    let mut world = World::new(rt, rt.alloc(), &WORDS_57[1..], (0, 0));
+    check_words(rt, &world.memory, &WORDS[2..]);
+    let mut world = World::new(rt, &WORDS_57[1..], (0, 0));
     world.assert_fits::<FiveLevels>(rt, root);
     assert_equal(rt, clear_root_57(&mut world.memory, root), 0x2003);
     check_words(rt, &world.memory, &WORDS_57[2..])
@@ -131,17 +122,12 @@ fn root_tables_of_level_five_are_lent(rt: HostRuntime) {
 #[test]
 fn root_tables_are_lent_through_windows(rt: HostRuntime) {
     let (root, index) = (frame(0x1000), PageTableIndex::new(510));
-    let mut world = World::new(rt, rt.alloc(), &WORDS, (0, 0));
+    let mut world = World::new(rt, &WORDS, (0, 0));
     let tested = is_valid::<FourLevels>(rt.alloc(), &world.memory, root, index);
     assert!(rt; unwrap(rt, tested));
     assert_equal(rt, clear_window(&mut world.memory, root, index), 0x2003);
-    check_words(rt, &world.memory, &WORDS[2..])
-}
-
-#[test]
-fn root_tables_of_level_five_are_lent_through_windows(rt: HostRuntime) {
-    let (root, index) = (frame(0x1000), PageTableIndex::new(510));
-    let mut world = World::new(rt, rt.alloc(), &WORDS_57, (0, 0));
+    check_words(rt, &world.memory, &WORDS[2..]);
+    let mut world = World::new(rt, &WORDS_57, (0, 0));
     let tested = is_valid::<FiveLevels>(rt.alloc(), &world.memory, root, index);
     assert!(rt; unwrap(rt, tested));
     assert_equal(rt, clear_window_57(&mut world.memory, root, index), 0x2003);

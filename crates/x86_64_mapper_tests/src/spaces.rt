@@ -20,20 +20,20 @@ fn space(root: Frame) -> Space
 }
 
 /// Aborts unless a hierarchy is an address space that the pool fits, together with the other one, if that differs.
-fn assert_fit<L: LevelCount>(rt: impl Abort + Copy, world: &World, root: Frame, other: Frame)
+fn assert_fit<L: LevelCount>(rt: impl Test, world: &World, root: Frame, other: Frame)
     ensures { let layout = direct_at L.LEVELS identity_places root in
         let pool = world.now.pool in FitsPool layout world.now.memory (serves_below pool.limit) pool.frames }
 {
     let (both, half) = ([space(root), space(other)], SharedIndices::UPPER_HALF);
     let spaces = if root == other { &both[..1] } else { &both[..] };
     let (memory, pool) = (&world.memory, &world.pool);
-    let fit = spaces_fit::<L, _, _>(world.alloc, memory, &IdentityMapping, spaces, half, pool);
+    let fit = spaces_fit::<L, _, _>(rt.alloc(), memory, &IdentityMapping, spaces, half, pool);
     assert!(rt; unwrap(rt, fit));
     world.assert_fits::<L>(rt, root);
 }
 
 /// Aborts unless the pool serves a frame.
-fn assert_served(rt: impl Abort + Copy, frame: Frame, pool: &FramePool)
+fn assert_served(rt: impl Test, frame: Frame, pool: &FramePool)
     ensures { serves_below pool.now.limit frame ≡ true }
 {
     let number = frame.start_address().as_u64() / 0x1000;
@@ -42,7 +42,7 @@ fn assert_served(rt: impl Abort + Copy, frame: Frame, pool: &FramePool)
 
 /// Executes a call on the first of two address spaces, which may be the same.
 fn call<L: LevelCount, P5: LevelFiveFlags<L>>(
-    rt: impl Abort + Copy,
+    rt: impl Test,
     world: &mut World,
     (root, other): (Frame, Frame),
     call: CallIn<L, P5>,
@@ -53,7 +53,7 @@ fn call<L: LevelCount, P5: LevelFiveFlags<L>>(
 }
 
 /// Creates an address space that shares the upper half of another one, and returns its root.
-fn add_space<L: LevelCount>(rt: impl Abort + Copy, world: &mut World, root: Frame) -> Frame {
+fn add_space<L: LevelCount>(rt: impl Test, world: &mut World, root: Frame) -> Frame {
     assert_fit::<L>(rt, world, root, root);
     let (space, half) = (space(root), SharedIndices::UPPER_HALF);
     let (memory, pool) = (&mut world.memory, &mut world.pool);
@@ -63,7 +63,7 @@ fn add_space<L: LevelCount>(rt: impl Abort + Copy, world: &mut World, root: Fram
 
 /// Unmaps a page of the first of two address spaces, frees its tables, and gives it up.
 fn end_space<L: LevelCount, P5: LevelFiveFlags<L>>(
-    rt: impl Abort + Copy,
+    rt: impl Test,
     world: &mut World,
     (root, other): (Frame, Frame),
     mapped: u64,
@@ -90,8 +90,8 @@ const ROWS: [(bool, bool, u64, u64, (u64, u64)); 3] = [
 ];
 
 /// Returns the words of the tables at the places up to but excluding `end`.
-fn words(rt: impl Abort + Copy, world: &World, end: u64) -> Vec<u64> {
-    let mut words = Vec::new(world.alloc);
+fn words(rt: impl Test, world: &World, end: u64) -> Vec<u64> {
+    let mut words = Vec::new(rt.alloc());
     for place in 0..end {
         let table = unwrap_some(rt, world.memory.table(FramePlace::new(place)));
         for index in 0..512 {
@@ -103,45 +103,31 @@ fn words(rt: impl Abort + Copy, world: &World, end: u64) -> Vec<u64> {
 
 /// Maps the page of a row in one of two address spaces, and compares where the page's walks in both arrive.
 fn map_row<L: LevelCount, P5: LevelFiveFlags<L>>(
-    rt: impl Abort + Copy,
+    rt: impl Test,
     world: &mut World,
     (first, second): (Frame, Frame),
     (is_second, is_upper, offset, to, wanted): (bool, bool, u64, u64, (u64, u64)),
 ) {
     let start = if is_upper { L::POSITION_COUNT / 2 } else { 0 };
-    let (address, map) = (
-        start.wrapping_add(offset),
-        map::<L, P5>(start.wrapping_add(offset), to),
-    );
-    if is_second {
-        call(rt, world, (second, first), map);
+    let address = start.wrapping_add(offset);
+    let roots = if is_second {
+        (second, first)
     } else {
-        call(rt, world, (first, second), map);
-    }
+        (first, second)
+    };
+    call(rt, world, roots, map::<L, P5>(address, to));
     let memory = &world.memory;
     assert_equal(rt, walk::<L, _>(memory, first, address), Some(wanted.0));
     assert_equal(rt, walk::<L, _>(memory, second, address), Some(wanted.1));
 }
 
 /// Maps pages in two address spaces that share the upper half, and ends one of them.
-fn share_the_upper_half<L: LevelCount, P5: LevelFiveFlags<L>>(
-    rt: impl Abort + Copy,
-    alloc: Global,
-) {
+fn share_the_upper_half<L: LevelCount, P5: LevelFiveFlags<L>>(rt: impl Test) {
     let (first, upper) = (frame(0x1000), L::POSITION_COUNT / 2);
-    let mut world = World::new(rt, alloc, &[], (2, PLACES));
-    call(
-        rt,
-        &mut world,
-        (first, first),
-        map::<L, P5>(upper, 0x10_0000),
-    );
-    call(
-        rt,
-        &mut world,
-        (first, first),
-        map::<L, P5>(0x1000, 0x20_0000),
-    );
+    let mut world = World::new(rt, &[], (2, PLACES));
+    for (address, to) in [(upper, 0x10_0000), (0x1000, 0x20_0000)] {
+        call(rt, &mut world, (first, first), map::<L, P5>(address, to));
+    }
     let free = world.pool.len();
     let second = add_space::<L>(rt, &mut world, first);
     for row in ROWS {
@@ -157,22 +143,18 @@ fn share_the_upper_half<L: LevelCount, P5: LevelFiveFlags<L>>(
 
 #[test]
 fn spaces_share_the_upper_half(rt: HostRuntime) {
-    share_the_upper_half::<FourLevels, NoLevelFive>(rt, rt.alloc());
-}
-
-#[test]
-fn spaces_of_five_levels_share_the_upper_half(rt: HostRuntime) {
-    share_the_upper_half::<FiveLevels, PageTableFlags>(rt, rt.alloc());
+    share_the_upper_half::<FourLevels, NoLevelFive>(rt);
+    share_the_upper_half::<FiveLevels, PageTableFlags>(rt);
 }
 
 /// Starts a process, beside another one, or beside the kernel alone.
-fn start_one(rt: impl Abort + Copy, world: &mut World, kernel: Frame, other: Frame) -> Frame {
+fn start_one(rt: impl Test, world: &mut World, kernel: Frame, other: Frame) -> Frame {
     assert_fit::<FourLevels>(rt, world, kernel, other);
     unwrap_some(rt, start(&mut world.memory, kernel, &mut world.pool))
 }
 
 /// Maps a page of a process, and doesn't map one of the kernel's half.
-fn map_one(rt: impl Abort + Copy, world: &mut World, (process, kernel): (Frame, Frame), to: u64) {
+fn map_one(rt: impl Test, world: &mut World, (process, kernel): (Frame, Frame), to: u64) {
     for (address, is_mapped) in [(0x1000, true), (0xffff_8000_0000_1000, false)] {
         assert_fit::<FourLevels>(rt, world, process, kernel);
         let (memory, pool) = (&mut world.memory, &mut world.pool);
@@ -184,7 +166,7 @@ fn map_one(rt: impl Abort + Copy, world: &mut World, (process, kernel): (Frame, 
 
 /// Ends the first of two processes with these pages.
 fn end_one(
-    rt: impl Abort + Copy,
+    rt: impl Test,
     world: &mut World,
     (process, other): (Frame, Frame),
     pages: &[Page<Size4KiB>],
@@ -195,7 +177,7 @@ fn end_one(
 }
 
 /// Doesn't end a process while a page is mapped, and then ends it.
-fn end_mapped(rt: impl Abort + Copy, world: &mut World, process: Frame, other: Frame) {
+fn end_mapped(rt: impl Test, world: &mut World, process: Frame, other: Frame) {
     let ended = end_one(rt, world, (process, other), &[]);
     assert_equal(rt, ended, Err(GiveUpError::EntryUsed));
     let ended = end_one(rt, world, (process, other), &[page(0x1000)]);
@@ -203,14 +185,14 @@ fn end_mapped(rt: impl Abort + Copy, world: &mut World, process: Frame, other: F
 }
 
 /// Compares where the page walk of an address arrives in a process.
-fn check_walk(rt: impl Abort + Copy, world: &World, process: Frame, (address, to): (u64, u64)) {
+fn check_walk(rt: impl Test, world: &World, process: Frame, (address, to): (u64, u64)) {
     let found = walk::<FourLevels, _>(&world.memory, process, address);
     assert_equal_in(rt, address, found, Some(to));
 }
 
 #[test]
 fn a_process_ends_while_another_runs(rt: HostRuntime) {
-    let mut world = World::new(rt, rt.alloc(), &[], (2, PLACES));
+    let mut world = World::new(rt, &[], (2, PLACES));
     let kernel = frame(0x1000);
     let shared = map::<FourLevels, NoLevelFive>(0xffff_8000_0000_0000, 0x10_0000);
     call(rt, &mut world, (kernel, kernel), shared);

@@ -67,7 +67,7 @@ pub fn walk<L: LevelCount, T: TableMemory>(memory: &T, root: Frame, address: u64
 }
 
 /// Sets words of a memory.
-pub fn set_words<T: TableMemory>(rt: impl Abort + Copy, memory: &mut T, words: &[Word]) {
+pub fn set_words<T: TableMemory>(rt: impl Test, memory: &mut T, words: &[Word]) {
     for (place, index, word) in words {
         let table = unwrap_some(rt, memory.table_mut(FramePlace::new(*place)));
         table[PageTableIndex::new_truncate(*index)].set_word(*word);
@@ -75,7 +75,7 @@ pub fn set_words<T: TableMemory>(rt: impl Abort + Copy, memory: &mut T, words: &
 }
 
 /// Compares all words of a memory, of which only these aren't 0.
-pub fn check_words<T: TableMemory>(rt: impl Abort + Copy, memory: &T, words: &[Word]) {
+pub fn check_words<T: TableMemory>(rt: impl Test, memory: &T, words: &[Word]) {
     for place in 0..memory.len() as u64 {
         let table = unwrap_some(rt, memory.table(FramePlace::new(place)));
         for index in 0..512 {
@@ -88,8 +88,8 @@ pub fn check_words<T: TableMemory>(rt: impl Abort + Copy, memory: &T, words: &[W
 }
 
 /// Creates a pool of the frames from one number up to but excluding another.
-pub fn pool_of(rt: impl Abort + Copy, alloc: Global, first: u64, end: u64) -> FramePool {
-    let mut pool = unwrap(rt, FramePool::new(alloc, PLACES));
+pub fn pool_of(rt: impl Test, first: u64, end: u64) -> FramePool {
+    let mut pool = unwrap(rt, FramePool::new(rt.alloc(), PLACES));
     for number in first..end {
         unwrap(rt, pool.try_add(frame(number.wrapping_mul(0x1000))));
     }
@@ -117,40 +117,35 @@ fn fits<L: LevelCount>(
 /// A memory, and free frames among its own.
 #[derive(Drop)]
 pub struct World {
-    pub alloc: Global,
     pub memory: PhysMemory,
     pub pool: FramePool,
 }
 
 impl World {
     /// Creates a memory with these words, and with free frames from one number up to but excluding another.
-    pub fn new(rt: impl Abort + Copy, alloc: Global, words: &[Word], free: (u64, u64)) -> World {
-        let mut memory = unwrap(rt, PhysMemory::new(alloc, PLACES));
+    pub fn new(rt: impl Test, words: &[Word], free: (u64, u64)) -> World {
+        let mut memory = unwrap(rt, PhysMemory::new(rt.alloc(), PLACES));
         set_words(rt, &mut memory, words);
-        let pool = pool_of(rt, alloc, free.0, free.1);
-        World {
-            alloc,
-            memory,
-            pool,
-        }
+        let pool = pool_of(rt, free.0, free.1);
+        World { memory, pool }
     }
 
     /// Aborts unless the hierarchy below a root is valid, and the pool fits it.
     #[tactic(auto, using(x86_64_model::proofs::Lemmas::Machines::Fitting::ready_of_fits))]
-    pub fn assert_fits<L: LevelCount>(&self, rt: impl Abort + Copy, root: Frame)
+    pub fn assert_fits<L: LevelCount>(&self, rt: impl Test, root: Frame)
         ensures fits { let layout = direct_at L.LEVELS identity_places root in let pool = self.now.pool in
             FitsPool layout self.now.memory (serves_below pool.limit) pool.frames }
         ensures ready { let layout = direct_at L.LEVELS identity_places root in
             IsReady layout self.now.memory self.now.pool.frames }
         ensures valid { Valid (direct_at L.LEVELS identity_places root) self.now.memory }
     {
-        assert!(rt; unwrap(rt, fits::<L>(self.alloc, &self.memory, root, &self.pool)));
+        assert!(rt; unwrap(rt, fits::<L>(rt.alloc(), &self.memory, root, &self.pool)));
     }
 
     /// Compares the free frames, from one number up to but excluding another, and all words, of which only these aren't
     /// 0.
-    pub fn check(&self, rt: impl Abort + Copy, free: (u64, u64), words: &[Word]) {
-        assert!(rt; self.pool == pool_of(rt, self.alloc, free.0, free.1));
+    pub fn check(&self, rt: impl Test, free: (u64, u64), words: &[Word]) {
+        assert!(rt; self.pool == pool_of(rt, free.0, free.1));
         check_words(rt, &self.memory, words)
     }
 }

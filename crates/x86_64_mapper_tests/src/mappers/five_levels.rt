@@ -20,7 +20,7 @@ fn page_of(flush: MapperFlush57<Size4KiB>) -> Small {
 
 /// Maps the page at a frame's own address, another page with given parent flags, and the first one once more.
 fn map_pages<M: Mapper57<Size4KiB>>(
-    rt: impl Abort + Copy,
+    rt: impl Test,
     mapper: &mut M,
     same: Small,
     own: Frame,
@@ -39,15 +39,12 @@ fn map_pages<M: Mapper57<Size4KiB>>(
     assert_equal(rt, mapped.map(page_of), Ok(same));
     assert!(rt; mapper.map_allowed(same, parents, parent_flags(parents)));
     let again = mapper.map_to(same, own, parents, pool);
-    assert_equal(
-        rt,
-        again.map(page_of),
-        Err(MapToError::PageAlreadyMapped(own)),
-    );
+    let wanted = Err(MapToError::PageAlreadyMapped(own));
+    assert_equal(rt, again.map(page_of), wanted);
 }
 
 /// Sets the flags of a page, and of the entries of levels three and two above it.
-fn set_flags<M: Mapper57<Size4KiB>>(rt: impl Abort + Copy, mapper: &mut M, page: Small)
+fn set_flags<M: Mapper57<Size4KiB>>(rt: impl Test, mapper: &mut M, page: Small)
     requires { Valid (M.hierarchy mapper.old) }
     ensures { Valid (M.hierarchy mapper.new) }
 {
@@ -65,7 +62,7 @@ fn set_flags<M: Mapper57<Size4KiB>>(rt: impl Abort + Copy, mapper: &mut M, page:
 
 /// Sets the flags of the entries of levels five and four above a page.
 #[tactic(auto, unfolding(x86_64_model::specs::Entry::address, x86_64_model::specs::Entry::has))]
-fn set_upper_flags<M: Mapper57<Size4KiB>>(rt: impl Abort + Copy, mapper: &mut M, page: Small)
+fn set_upper_flags<M: Mapper57<Size4KiB>>(rt: impl Test, mapper: &mut M, page: Small)
     requires { Valid (M.hierarchy mapper.old) }
     ensures { Valid (M.hierarchy mapper.new) }
 {
@@ -79,17 +76,14 @@ fn set_upper_flags<M: Mapper57<Size4KiB>>(rt: impl Abort + Copy, mapper: &mut M,
 }
 
 /// Translates a page that is mapped to the frame at 0x6000, and unmaps it.
-fn unmap<M: Mapper57<Size4KiB> + Translate57>(rt: impl Abort + Copy, mapper: &mut M, page: Small)
+fn unmap<M: Mapper57<Size4KiB> + Translate57>(rt: impl Test, mapper: &mut M, page: Small)
     requires { Valid (M.hierarchy mapper.old) }
 {
     let (frame, address) = (frame(0x6000), page.start_address());
     assert_equal(rt, mapper.translate_page(page), Ok(frame));
     assert_equal(rt, mapper.translate(address), mapped(frame, 0, 3));
-    assert_equal(
-        rt,
-        mapper.translate_addr(address),
-        Some(PhysAddr::new(0x6000)),
-    );
+    let wanted = Some(PhysAddr::new(0x6000));
+    assert_equal(rt, mapper.translate_addr(address), wanted);
     assert!(rt; is_outside_window_57(mapper, page));
     let unmapped = mapper.unmap(page);
     let answer = unmapped.map(|(frame, flush)| (frame, page_of(flush)));
@@ -97,12 +91,12 @@ fn unmap<M: Mapper57<Size4KiB> + Translate57>(rt: impl Abort + Copy, mapper: &mu
 }
 
 /// Makes these calls with the direct mapper, which is then dropped.
-fn make_calls(rt: impl Abort + Copy, world: &mut World) {
-    let (alloc, root, own) = (world.alloc, frame(0x1000), frame(0x6000));
+fn make_calls(rt: impl Test, world: &mut World) {
+    let (root, own) = (frame(0x1000), frame(0x6000));
     world.assert_fits::<FiveLevels>(rt, root);
     let (memory, pool) = (&mut world.memory, &mut world.pool);
     let mut mapper = MappedPageTable57::new(memory, root, IdentityMapping);
-    assert!(rt; unwrap(rt, mapper.is_valid(alloc)));
+    assert!(rt; unwrap(rt, mapper.is_valid(rt.alloc())));
     let start = VirtAddr57::new_truncate(own.start_address().as_u64());
     let same = unwrap(rt, Page57::from_start_address(start));
     map_pages(rt, &mut mapper, same, own, pool);
@@ -113,7 +107,7 @@ fn make_calls(rt: impl Abort + Copy, world: &mut World) {
 
 #[test]
 fn each_call_on_a_page_of_57_bits_is_made(rt: HostRuntime) {
-    let mut world = World::new(rt, rt.alloc(), &[], (2, 6));
+    let mut world = World::new(rt, &[], (2, 6));
     make_calls(rt, &mut world);
     world.check(rt, (0, 0), &WORDS_57[1..])
 }
@@ -132,7 +126,7 @@ fn clean_up_by<M: CleanUp57>(mapper: &mut M, pool: &mut FramePool, range: Option
 }
 
 /// Cleans up with the direct mapper, which is then dropped.
-fn clean_up(rt: impl Abort + Copy, world: &mut World, range: Option<(u64, u64)>) {
+fn clean_up(rt: impl Test, world: &mut World, range: Option<(u64, u64)>) {
     let root = frame(0x1000);
     world.assert_fits::<FiveLevels>(rt, root);
     let (memory, pool) = (&mut world.memory, &mut world.pool);
@@ -142,12 +136,9 @@ fn clean_up(rt: impl Abort + Copy, world: &mut World, range: Option<(u64, u64)>)
 
 #[test]
 fn empty_tables_of_five_levels_go_back(rt: HostRuntime) {
-    let mut world = World::new(rt, rt.alloc(), &WORDS_57[1..5], (6, 8));
-    clean_up(
-        rt,
-        &mut world,
-        Some((0x1_0000_0000_0000, 0xff_ffff_ffff_f000)),
-    );
+    let mut world = World::new(rt, &WORDS_57[1..5], (6, 8));
+    let range = Some((0x1_0000_0000_0000, 0xff_ffff_ffff_f000));
+    clean_up(rt, &mut world, range);
     world.check(rt, (6, 8), &WORDS_57[1..5]);
     clean_up(rt, &mut world, None);
     world.check(rt, (2, 8), &[])
@@ -155,12 +146,12 @@ fn empty_tables_of_five_levels_go_back(rt: HostRuntime) {
 
 /// Executes calls, and records their flushes.
 fn record(
-    rt: impl Abort + Copy,
+    rt: impl Test,
     world: &mut World,
     calls: &[Call57],
     recorder: &mut FlushRecorder,
 ) -> Vec<Reply57> {
-    let (root, mut replies) = (frame(0x1000), Vec::new(world.alloc));
+    let (root, mut replies) = (frame(0x1000), Vec::new(rt.alloc()));
     world.assert_fits::<FiveLevels>(rt, root);
     let (memory, pool) = (&mut world.memory, &mut world.pool);
     let mut mapper = MappedPageTable57::new(memory, root, IdentityMapping);
@@ -183,7 +174,7 @@ fn calls_on(page: Small, flags: PageTableFlags) -> [Call57; 5] {
 
 #[test]
 fn accepted_calls_of_five_levels_are_recorded_and_no_others(rt: HostRuntime) {
-    let mut world = World::new(rt, rt.alloc(), &[], (2, 6));
+    let mut world = World::new(rt, &[], (2, 6));
     let mut recorder = FlushRecorder::new(rt.alloc());
     let page = page::<Size4KiB, _>(0xff00_0000_0000_1000);
     let calls = calls_on(page, flags(3));

@@ -139,7 +139,7 @@ fn unmap_counted<S: PageSize>(
 #[test]
 fn layers_unmap_pages(rt: HostRuntime) {
     let root = frame(0x1000);
-    let mut world = World::new(rt, rt.alloc(), &WORDS[1..], (0, 0));
+    let mut world = World::new(rt, &WORDS[1..], (0, 0));
     world.assert_fits::<FourLevels>(rt, root);
     let answer = unmap_counted::<Size4KiB>(&mut world.memory, root, page(0x1000));
     assert_equal(rt, answer, (Ok(frame(0x5000)), 1));
@@ -148,7 +148,7 @@ fn layers_unmap_pages(rt: HostRuntime) {
 
 /// Executes calls with a layer, and returns the number of tables that were lent to be changed.
 fn run_counted(
-    rt: impl Abort + Copy,
+    rt: impl Test,
     memory: &mut PhysMemory,
     root: Frame,
     pool: &mut FramePool,
@@ -165,8 +165,8 @@ fn run_counted(
 }
 
 /// Does this in a memory with the root in frame 0x1000.
-fn run_in(rt: impl Abort + Copy, world: &mut World, calls: &[Call]) -> u64 {
-    let (root, mut replies) = (frame(0x1000), Vec::new(world.alloc));
+fn run_in(rt: impl Test, world: &mut World, calls: &[Call]) -> u64 {
+    let (root, mut replies) = (frame(0x1000), Vec::new(rt.alloc()));
     world.assert_fits::<FourLevels>(rt, root);
     let (memory, pool) = (&mut world.memory, &mut world.pool);
     let count = run_counted(rt, memory, root, pool, calls, &mut replies);
@@ -180,7 +180,7 @@ fn run_in(rt: impl Abort + Copy, world: &mut World, calls: &[Call]) -> u64 {
 /// unused.
 #[test]
 fn layers_run_lists(rt: HostRuntime) {
-    let mut world = World::new(rt, rt.alloc(), &[], (2, 5));
+    let mut world = World::new(rt, &[], (2, 5));
     let (page, flags) = (page(0x1000), flags(3));
     let calls = [
         map(0x1000, 0x5000),

@@ -25,7 +25,7 @@ const OFFSETS: [(u64, bool); 9] = [
 ];
 
 /// Compares whether an offset fits a memory.
-fn check<L: LevelCount>(rt: impl Abort + Copy, memory: &PhysMemory, raw: u64, wanted: bool) {
+fn check<L: LevelCount>(rt: impl Test, memory: &PhysMemory, raw: u64, wanted: bool) {
     let offset = VirtAddrIn::<L>::new_truncate(raw);
     let fits = OffsetPageTableIn::offset_fits(memory, offset);
     assert_equal_in(rt, raw, (offset.as_u64(), fits), (raw, wanted));
@@ -70,12 +70,12 @@ fn run_at_offset<L: LevelCount, P5: LevelFiveFlags<L>>(
 
 /// Executes calls twice, each time with a new mapper. Whether the offset fits is tested only once.
 fn run_twice<L: LevelCount, P5: LevelFiveFlags<L>>(
-    rt: impl Abort + Copy,
+    rt: impl Test,
     world: &mut World,
     offset: VirtAddrIn<L>,
     calls: &[CallIn<L, P5>],
 ) -> Vec<ReplyIn<L>> {
-    let (root, mut replies) = (frame(0x1000), Vec::new(world.alloc));
+    let (root, mut replies) = (frame(0x1000), Vec::new(rt.alloc()));
     world.assert_fits::<L>(rt, root);
     let (memory, pool) = (&mut world.memory, &mut world.pool);
     assert!(rt; OffsetPageTableIn::offset_fits(memory, offset));
@@ -88,7 +88,7 @@ fn run_twice<L: LevelCount, P5: LevelFiveFlags<L>>(
 
 #[test]
 fn offsets_that_fit_fit_after_maps(rt: HostRuntime) {
-    let mut world = World::new(rt, rt.alloc(), &[], (2, 6));
+    let mut world = World::new(rt, &[], (2, 6));
     let (page, frame, flags) = (page(0x1000), frame(0x6000), flags(3));
     let calls = [
         Call57::Of4KiB(SizeCall57::MapTo { page, frame, flags }),
@@ -108,11 +108,7 @@ fn offsets_that_fit_fit_after_maps(rt: HostRuntime) {
 }
 
 /// Compares a mapper's offset, and what it maps an address to.
-fn check_mapper<L: LevelCount>(
-    rt: impl Abort + Copy,
-    world: &mut World,
-    (raw, wanted): (u64, u64),
-) {
+fn check_mapper<L: LevelCount>(rt: impl Test, world: &mut World, (raw, wanted): (u64, u64)) {
     let (root, offset) = (frame(0x1000), VirtAddrIn::<L>::new_truncate(raw));
     world.assert_fits::<L>(rt, root);
     let memory = &mut world.memory;
@@ -126,8 +122,8 @@ fn check_mapper<L: LevelCount>(
 
 #[test]
 fn mappers_at_an_offset_find_their_tables(rt: HostRuntime) {
-    let mut world = World::new(rt, rt.alloc(), &WORDS[1..], (0, 0));
+    let mut world = World::new(rt, &WORDS[1..], (0, 0));
     check_mapper::<FourLevels>(rt, &mut world, (0xffff_8000_0000_0000, 0x5abc));
-    let mut world = World::new(rt, rt.alloc(), &WORDS_57[1..], (0, 0));
+    let mut world = World::new(rt, &WORDS_57[1..], (0, 0));
     check_mapper::<FiveLevels>(rt, &mut world, (0xff00_0000_0000_0000, 0x6abc));
 }

@@ -51,15 +51,14 @@ pub fn is_valid<L: LevelCount>(
 /// Creates a mapper from the addresses of the frame in CR3, of a table's frame and of a window, with a hierarchy that
 /// is valid unless the mapper is refused.
 fn make_tested<L: LevelCount>(
-    rt: impl Abort + Copy,
-    alloc: Global,
+    rt: impl Test,
     memory: &mut PhysMemory,
     [cr3, table, virt]: [u64; 3],
 ) -> Result<(), InvalidPageTable> {
     let (cr3, table) = (frame(cr3), frame(table));
     let virt = VirtAddrIn::<L>::new_truncate(virt);
     if RecursivePageTableIn::refusal(&Active::new(memory, cr3), table, virt).is_none() {
-        let tested = is_valid::<L>(alloc, memory, cr3, virt.root_index());
+        let tested = is_valid::<L>(rt.alloc(), memory, cr3, virt.root_index());
         assert!(rt; unwrap(rt, tested));
     }
     make(memory, cr3, table, virt)
@@ -92,14 +91,13 @@ const MADE_57: [([u64; 3], Result<(), InvalidPageTable>); 7] = [
 
 /// Compares which mappers are created in a memory with these words, which stay.
 fn check_made<L: LevelCount>(
-    rt: impl Abort + Copy,
-    alloc: Global,
+    rt: impl Test,
     words: &[Word],
     rows: &[([u64; 3], Result<(), InvalidPageTable>)],
 ) {
-    let mut world = World::new(rt, alloc, words, (0, 0));
+    let mut world = World::new(rt, words, (0, 0));
     for (given, wanted) in rows {
-        let made = make_tested::<L>(rt, alloc, &mut world.memory, *given);
+        let made = make_tested::<L>(rt, &mut world.memory, *given);
         assert_equal_in(rt, *given, made, *wanted);
         check_words(rt, &world.memory, words);
     }
@@ -107,16 +105,8 @@ fn check_made<L: LevelCount>(
 
 #[test]
 fn mappers_of_other_tables_are_refused(rt: HostRuntime) {
-    check_made::<FourLevels>(rt, rt.alloc(), &WORDS, &MADE);
-}
-
-#[test]
-fn mappers_of_other_tables_of_level_five_are_refused(rt: HostRuntime) {
-    check_made::<FiveLevels>(rt, rt.alloc(), &WORDS_57, &MADE_57);
-}
-
-#[test]
-fn refusals_have_texts(rt: HostRuntime) {
+    check_made::<FourLevels>(rt, &WORDS, &MADE);
+    check_made::<FiveLevels>(rt, &WORDS_57, &MADE_57);
     let text = unwrap(rt, format!(in rt.alloc(); "{NotRecursive}, {NotActive}"));
     let wanted =
         "given page table address is not recursive, given page table is not active on the CPU";

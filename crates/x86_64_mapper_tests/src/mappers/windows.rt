@@ -8,7 +8,7 @@ fn start<L: LevelCount>(page: PageIn<Size4KiB, L>) -> u64 {
 }
 
 /// Compares the windows of levels three, two and one on the paths of the pages at an address.
-fn check<L: LevelCount>(rt: impl Abort + Copy, address: u64, [three, two, one]: [u64; 3]) {
+fn check<L: LevelCount>(rt: impl Test, address: u64, [three, two, one]: [u64; 3]) {
     let (index, small) = (PageTableIndex::new(510), page::<Size4KiB, L>(address));
     let (large, giant) = (page::<Size2MiB, L>(address), page::<Size1GiB, L>(address));
     assert_equal(rt, start(p3_window(small, index)), three);
