@@ -17,9 +17,9 @@ mod report;
 mod rounds;
 mod workload;
 
-use crate::ranges::{RangeRound, Way, measure_ranges};
-use crate::report::{Measured, report_change_table, report_changes, report_counts, report_table};
-use crate::rounds::{Access, measure};
+use crate::ranges::{CHANGES, Way, measure_ranges};
+use crate::report::{Measured, report_counts, report_table};
+use crate::rounds::{Access, OPERATIONS, measure};
 use crate::workload::{Pattern, Workload};
 use std::process::ExitCode;
 use std::{env, io};
@@ -28,8 +28,8 @@ use x86_64::structures::paging::{PageSize, Size2MiB, Size4KiB};
 /// The number of rounds.
 const ROUNDS: usize = 7;
 
-/// The workload of the small run.
-const SMALL: (u32, Pattern) = (1000, Pattern::Scattered);
+/// The number of pages of the small run.
+const SMALL: u32 = 1000;
 
 fn main(rt: HostRuntime) -> io::Result<ExitCode> {
     let mut words = Vec::new(rt.alloc());
@@ -65,88 +65,53 @@ fn parse_workload(pages: &str, pattern: &str) -> Option<Workload> {
     Some(Workload::new(pages.parse().ok()?, pattern))
 }
 
-/// Does one round of a small workload for each size with each mapper, and prints the number of times that each
-/// operation was done.
+/// Does one round of a small workload for each size in each way, and prints the number of times that each operation was
+/// done.
 fn run_once(rt: &HostRuntime) -> io::Result<ExitCode> {
-    for access in Access::ALL {
-        if !count::<Size4KiB>(rt, access)? || !count::<Size2MiB>(rt, access)? {
-            return Ok(ExitCode::from(2));
-        }
-    }
-    for way in Way::ALL {
-        if !count_changes::<Size4KiB>(rt, way)? || !count_changes::<Size2MiB>(rt, way)? {
-            return Ok(ExitCode::from(2));
-        }
+    if !count::<Size4KiB>(rt)? || !count::<Size2MiB>(rt)? {
+        return Ok(ExitCode::from(2));
     }
     Ok(ExitCode::from(0))
 }
 
-/// Does one round of changes of contiguous pages of a size, and prints the number of times that each was done. Returns
-/// true if the round could be done.
-fn count_changes<S: PageSize>(rt: &HostRuntime, way: Way) -> io::Result<bool> {
-    let workload = Workload::new(SMALL.0, Pattern::Contiguous);
-    match measure_ranges::<S>(rt.alloc(), rt, workload, way)? {
-        Some(round) => {
-            report_changes(rt, way, S::DEBUG_STR, &round)?;
-            Ok(true)
-        }
-        None => Ok(false),
+/// Does this with pages of a size. Returns true if the rounds could be done.
+fn count<S: PageSize>(rt: &HostRuntime) -> io::Result<bool> {
+    let (mut rounds, mut changes) = (Vec::new(rt.alloc()), Vec::new(rt.alloc()));
+    let scattered = Workload::new(SMALL, Pattern::Scattered);
+    let contiguous = Workload::new(SMALL, Pattern::Contiguous);
+    if !add_rounds::<S>(rt, scattered, &mut rounds)?
+        || !add_changes::<S>(rt, contiguous, &mut changes)?
+    {
+        return Ok(false);
     }
+    for (by, parts) in &rounds {
+        report_counts(rt, by, S::DEBUG_STR, &OPERATIONS, parts)?;
+    }
+    for (by, parts) in &changes {
+        report_counts(rt, by, S::DEBUG_STR, &CHANGES, parts)?;
+    }
+    Ok(true)
 }
 
-/// Does one round of the small workload with pages of a size, and prints the number of times that each operation was
-/// done. Returns true if the round could be done.
-fn count<S: PageSize>(rt: &HostRuntime, access: Access) -> io::Result<bool> {
-    let workload = Workload::new(SMALL.0, SMALL.1);
-    match measure::<S>(rt.alloc(), rt, access, workload)? {
-        Some(round) => {
-            report_counts(rt, access, S::DEBUG_STR, &round)?;
-            Ok(true)
-        }
-        None => Ok(false),
-    }
-}
-
-/// Does all rounds with pages of a size, each with one mapper after another, and prints the time of each operation.
+/// Does all rounds with pages of a size, each with one mapper after another, and those of changes of contiguous pages.
+/// Prints the time of each operation.
 fn compare<S: PageSize>(rt: &HostRuntime, workload: Workload) -> io::Result<ExitCode> {
-    let mut rounds = Vec::new(rt.alloc());
+    let (mut rounds, mut changes) = (Vec::new(rt.alloc()), Vec::new(rt.alloc()));
     for _ in 0..ROUNDS {
         if !add_rounds::<S>(rt, workload, &mut rounds)? {
             return Ok(ExitCode::from(2));
         }
     }
-    report_table(rt, &rounds)?;
-    match workload.pattern {
-        Pattern::Contiguous => compare_changes::<S>(rt, workload),
-        Pattern::Scattered => Ok(ExitCode::from(0)),
-    }
-}
-
-/// Does all rounds of changes of contiguous pages of a size, and prints the time of each change.
-fn compare_changes<S: PageSize>(rt: &HostRuntime, workload: Workload) -> io::Result<ExitCode> {
-    let mut rounds = Vec::new(rt.alloc());
-    for _ in 0..ROUNDS {
-        if !add_changes::<S>(rt, workload, &mut rounds)? {
-            return Ok(ExitCode::from(2));
+    report_table(rt, Access::ALL.len(), &OPERATIONS[..5], &rounds)?;
+    if let Pattern::Contiguous = workload.pattern {
+        for _ in 0..ROUNDS {
+            if !add_changes::<S>(rt, workload, &mut changes)? {
+                return Ok(ExitCode::from(2));
+            }
         }
+        report_table(rt, Way::ALL.len(), &CHANGES, &changes)?;
     }
-    report_change_table(rt, &rounds)?;
     Ok(ExitCode::from(0))
-}
-
-/// Does a round of changes in each way. Returns true if all could be done.
-fn add_changes<S: PageSize>(
-    rt: &HostRuntime,
-    workload: Workload,
-    rounds: &mut Vec<(Way, RangeRound)>,
-) -> io::Result<bool> {
-    for way in Way::ALL {
-        let Some(round) = measure_ranges::<S>(rt.alloc(), rt, workload, way)? else {
-            return Ok(false);
-        };
-        rounds.push((way, round))?;
-    }
-    Ok(true)
 }
 
 /// Does a round with each mapper. Returns true if all could be done.
@@ -155,11 +120,26 @@ fn add_rounds<S: PageSize>(
     workload: Workload,
     rounds: &mut Vec<Measured>,
 ) -> io::Result<bool> {
-    for access in Access::ALL {
-        let Some(round) = measure::<S>(rt.alloc(), rt, access, workload)? else {
+    for (access, name) in Access::ALL {
+        let Some(parts) = measure::<S>(rt.alloc(), rt, access, workload)? else {
             return Ok(false);
         };
-        rounds.push((access, round))?;
+        rounds.push((name, Vec::from_slice(rt.alloc(), &parts)?))?;
+    }
+    Ok(true)
+}
+
+/// Does a round of changes in each way. Returns true if all could be done.
+fn add_changes<S: PageSize>(
+    rt: &HostRuntime,
+    workload: Workload,
+    rounds: &mut Vec<Measured>,
+) -> io::Result<bool> {
+    for (way, name) in Way::ALL {
+        let Some(parts) = measure_ranges::<S>(rt.alloc(), rt, workload, way)? else {
+            return Ok(false);
+        };
+        rounds.push((name, Vec::from_slice(rt.alloc(), &parts)?))?;
     }
     Ok(true)
 }

@@ -19,7 +19,7 @@ use x86_64_mappers::calls::{
 use x86_64_mappers::mapped_page_table::MappedPageTableIn;
 
 /// How pages are mapped, changed and unmapped.
-#[derive(Clone, Copy, PartialEq)]
+#[derive(Clone, Copy)]
 pub enum Way {
     /// One page at a time.
     Singly,
@@ -28,61 +28,12 @@ pub enum Way {
 }
 
 impl Way {
-    /// Both ways. The second is compared with the first one.
-    pub const ALL: [Way; 2] = [Way::Singly, Way::AsRange];
-
-    /// Returns the name of the way.
-    pub fn name(self) -> &'static str {
-        match self {
-            Way::Singly => "singly",
-            Way::AsRange => "as range",
-        }
-    }
+    /// Both ways, with their names. The second is compared with the first one.
+    pub const ALL: [(Way, &'static str); 2] = [(Way::Singly, "singly"), (Way::AsRange, "as range")];
 }
 
-/// An operation that is measured.
-#[derive(Clone, Copy)]
-pub enum Change {
-    /// The maps of all pages.
-    Map,
-    /// The changes of the flags of all pages.
-    Update,
-    /// The unmaps of all pages.
-    Unmap,
-}
-
-impl Change {
-    /// All operations, in the order in which a round does them.
-    pub const ALL: [Change; 3] = [Change::Map, Change::Update, Change::Unmap];
-
-    /// Returns the operation's name.
-    pub fn name(self) -> &'static str {
-        match self {
-            Change::Map => "map",
-            Change::Update => "update",
-            Change::Unmap => "unmap",
-        }
-    }
-}
-
-/// The results of a round.
-#[derive(Clone, Copy)]
-pub struct RangeRound {
-    map: Part,
-    update: Part,
-    unmap: Part,
-}
-
-impl RangeRound {
-    /// Returns the results of an operation.
-    pub fn part(&self, change: Change) -> Part {
-        match change {
-            Change::Map => self.map,
-            Change::Update => self.update,
-            Change::Unmap => self.unmap,
-        }
-    }
-}
+/// What a round measures, in order.
+pub const CHANGES: [&str; 3] = ["map", "update", "unmap"];
 
 /// Counts frames.
 #[derive(Clone, Copy)]
@@ -186,7 +137,7 @@ pub fn measure_ranges<S: PageSize>(
     clock: &impl CpuClock,
     workload: Workload,
     way: Way,
-) -> io::Result<Option<RangeRound>> {
+) -> io::Result<Option<[Part; 3]>> {
     let places = Access::Direct.places(alloc, workload.places())?;
     let mut pool = new_pool(alloc, &places)?;
     let mut memory = PhysMemory::new(alloc, workload.places())?;
@@ -201,7 +152,7 @@ fn measure_in<S: PageSize, T: TableMemory>(
     pool: &mut FramePool,
     workload: Workload,
     way: Way,
-) -> io::Result<Option<RangeRound>> {
+) -> io::Result<Option<[Part; 3]>> {
     let root = root();
     if !pool_fits_in::<FourLevels, _>(alloc, memory, root, pool)? {
         return Ok(None);
@@ -222,7 +173,7 @@ fn measure_changes<S: PageSize, M: TableAccess + TablesIn<FourLevels>>(
     pool: &mut FramePool,
     workload: Workload,
     way: Way,
-) -> io::Result<RangeRound>
+) -> io::Result<[Part; 3]>
     requires { SupplyFits (M.hierarchy mapper.old) pool.old.frames }
 {
     let start = clock.thread_cpu_time()?;
@@ -252,5 +203,5 @@ fn measure_changes<S: PageSize, M: TableAccess + TablesIn<FourLevels>>(
         count,
         time: since(clock, start)?,
     };
-    Ok(RangeRound { map, update, unmap })
+    Ok([map, update, unmap])
 }

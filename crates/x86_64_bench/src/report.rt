@@ -1,49 +1,48 @@
 //! The output about rounds.
-use crate::ranges::{Change, RangeRound, Way};
-use crate::rounds::{Access, Operation, Part, Round};
+use crate::rounds::Part;
 use std::io;
 
-/// A round, and the mapper that did it.
-pub type Measured = (Access, Round);
+/// The results of a round: the name of what did it, and its parts, in order.
+pub type Measured = (&'static str, Vec<Part>);
 
-/// Prints the number of times that each operation was done in a round on pages of a size, and the number of new
-/// tables.
+/// Prints the number of times that each operation was done in a round on pages of a size.
 pub fn report_counts(
     out: &impl Print,
-    access: Access,
+    by: &str,
     size: &str,
-    round: &Round,
+    names: &[&str],
+    parts: &[Part],
 ) -> io::Result<()> {
-    let access = access.name();
-    for operation in Operation::ALL {
-        let (name, count) = (operation.name(), round.part(operation).count);
-        println!(out; "{access} {size} {name} {count}")?;
-    }
-    println!(out; "{access} {size} tables {}", round.tables)
-}
-
-/// Prints a table of the least time of each operation with each mapper, in nanoseconds, and its ratio to the time of
-/// the first mapper.
-pub fn report_table(out: &impl Eprint, rounds: &[Measured]) -> io::Result<()> {
-    eprint!(out; "{:<10}", "ns")?;
-    for access in Access::ALL {
-        eprint!(out; "{:>17}", access.name())?;
-    }
-    eprintln!(out; "")?;
-    for operation in Operation::ALL {
-        report_row(out, operation, rounds)?;
+    for (name, part) in names.iter().zip(parts) {
+        println!(out; "{by} {size} {name} {}", part.count)?;
     }
     Ok(())
 }
 
-/// Prints the row of an operation.
-fn report_row(out: &impl Eprint, operation: Operation, rounds: &[Measured]) -> io::Result<()> {
-    let direct = least_time(operation, Access::Direct, rounds);
-    eprint!(out; "{:<10}", operation.name())?;
-    for access in Access::ALL {
-        report_time(out, least_time(operation, access, rounds), direct)?;
+/// Prints a table of the least time of each operation, in nanoseconds, and its ratio to the time of the first column.
+/// The first few rounds are those of the columns in order.
+pub fn report_table(
+    out: &impl Eprint,
+    columns: usize,
+    names: &[&str],
+    rounds: &[Measured],
+) -> io::Result<()> {
+    let (columns, _) = rounds.split_at(columns.min(rounds.len()));
+    eprint!(out; "{:<10}", "ns")?;
+    for (column, _) in columns {
+        eprint!(out; "{column:>17}")?;
     }
-    eprintln!(out; "")
+    eprintln!(out; "")?;
+    for (row, name) in names.iter().enumerate() {
+        eprint!(out; "{name:<10}")?;
+        let first = columns.first().map_or("", |(column, _)| *column);
+        for (column, _) in columns {
+            let time = least_time(row, column, rounds);
+            report_time(out, time, least_time(row, first, rounds))?;
+        }
+        eprintln!(out; "")?;
+    }
+    Ok(())
 }
 
 /// Prints a time in hundredths of a nanosecond, and its ratio to another one.
@@ -58,12 +57,12 @@ fn report_time(out: &impl Eprint, time: u64, other: u64) -> io::Result<()> {
     )
 }
 
-/// Returns the least time of an operation with a mapper, in hundredths of a nanosecond.
-fn least_time(operation: Operation, access: Access, rounds: &[Measured]) -> u64 {
+/// Returns the least time of an operation by its row, in hundredths of a nanosecond.
+fn least_time(row: usize, column: &str, rounds: &[Measured]) -> u64 {
     let mut least = u64::MAX;
-    for (by, round) in rounds {
-        if *by == access {
-            least = least.min(hundredths_each(round.part(operation)));
+    for (by, parts) in rounds {
+        if let (true, Some(part)) = (*by == column, parts.get(row)) {
+            least = least.min(hundredths_each(*part));
         }
     }
     least
@@ -73,58 +72,4 @@ fn least_time(operation: Operation, access: Access, rounds: &[Measured]) -> u64 
 fn hundredths_each(part: Part) -> u64 {
     let nanos = u64::try_from(part.time.as_nanos()).unwrap_or(u64::MAX);
     nanos.saturating_mul(100) / part.count.max(1)
-}
-
-/// Prints the number of times that each change of contiguous pages of a size was done.
-pub fn report_changes(
-    out: &impl Print,
-    way: Way,
-    size: &str,
-    round: &RangeRound,
-) -> io::Result<()> {
-    let way = way.name();
-    for change in Change::ALL {
-        let (name, count) = (change.name(), round.part(change).count);
-        println!(out; "{way} {size} {name} {count}")?;
-    }
-    Ok(())
-}
-
-/// Prints a table of the least time of each change of contiguous pages, one page at a time and as a range, in
-/// nanoseconds per page, and its ratio to the time of one page at a time.
-pub fn report_change_table(out: &impl Eprint, rounds: &[(Way, RangeRound)]) -> io::Result<()> {
-    eprint!(out; "{:<10}", "ns")?;
-    for way in Way::ALL {
-        eprint!(out; "{:>17}", way.name())?;
-    }
-    eprintln!(out; "")?;
-    for change in Change::ALL {
-        report_change_row(out, change, rounds)?;
-    }
-    Ok(())
-}
-
-/// Prints the row of a change.
-fn report_change_row(
-    out: &impl Eprint,
-    change: Change,
-    rounds: &[(Way, RangeRound)],
-) -> io::Result<()> {
-    let singly = least_change(change, Way::Singly, rounds);
-    eprint!(out; "{:<10}", change.name())?;
-    for way in Way::ALL {
-        report_time(out, least_change(change, way, rounds), singly)?;
-    }
-    eprintln!(out; "")
-}
-
-/// Returns the least time of a change, in hundredths of a nanosecond per page.
-fn least_change(change: Change, way: Way, rounds: &[(Way, RangeRound)]) -> u64 {
-    let mut least = u64::MAX;
-    for (by, round) in rounds {
-        if *by == way {
-            least = least.min(hundredths_each(round.part(change)));
-        }
-    }
-    least
 }

@@ -36,7 +36,7 @@ const RECURSIVE_INDEX: u16 = 511;
 const ROOT: u64 = 1;
 
 /// The mapper of a round.
-#[derive(Clone, Copy, PartialEq)]
+#[derive(Clone, Copy)]
 pub enum Access {
     /// The mapper that finds tables by their frames.
     Direct,
@@ -51,13 +51,13 @@ pub enum Access {
 }
 
 impl Access {
-    /// All mappers. The others are compared with the first one.
-    pub const ALL: [Access; 5] = [
-        Access::Direct,
-        Access::Lent,
-        Access::Sparse,
-        Access::FiveLevels,
-        Access::Recursive,
+    /// All mappers, with their names. The others are compared with the first one.
+    pub const ALL: [(Access, &'static str); 5] = [
+        (Access::Direct, "direct"),
+        (Access::Lent, "lent"),
+        (Access::Sparse, "sparse"),
+        (Access::FiveLevels, "direct5"),
+        (Access::Recursive, "recursive"),
     ];
 
     /// Returns the numbers of `count` places: the first ones, or every second one from 1 on.
@@ -70,17 +70,6 @@ impl Access {
             })?;
         }
         Ok(places)
-    }
-
-    /// Returns the mapper's name.
-    pub fn name(self) -> &'static str {
-        match self {
-            Access::Direct => "direct",
-            Access::Lent => "lent",
-            Access::Sparse => "sparse",
-            Access::FiveLevels => "direct5",
-            Access::Recursive => "recursive",
-        }
     }
 }
 
@@ -150,42 +139,9 @@ fn translate_once<S: PageSize, L: LevelCount, M: TableAccess + TablesIn<L>>(
     found
 }
 
-/// An operation that is measured.
-#[derive(Clone, Copy)]
-pub enum Operation {
-    /// The maps of all pages.
-    Map,
-    /// The translations of all pages to their frames.
-    Translate,
-    /// The list of all mappings.
-    List,
-    /// The unmaps of all pages.
-    Unmap,
-    /// The clean up of the tables that the unmaps left, counted by the returned frames.
-    CleanUp,
-}
-
-impl Operation {
-    /// All operations, in the order in which a round does them.
-    pub const ALL: [Operation; 5] = [
-        Operation::Map,
-        Operation::Translate,
-        Operation::List,
-        Operation::Unmap,
-        Operation::CleanUp,
-    ];
-
-    /// Returns the operation's name.
-    pub fn name(self) -> &'static str {
-        match self {
-            Operation::Map => "map",
-            Operation::Translate => "translate",
-            Operation::List => "list",
-            Operation::Unmap => "unmap",
-            Operation::CleanUp => "clean up",
-        }
-    }
-}
+/// What a round measures, in order. The clean up of the tables that the unmaps left is counted by the returned frames.
+/// Last is what isn't measured, the number of frames that the new tables took.
+pub const OPERATIONS: [&str; 6] = ["map", "translate", "list", "unmap", "clean up", "tables"];
 
 /// The number of times that an operation was done, and the total time.
 #[derive(Clone, Copy)]
@@ -196,28 +152,11 @@ pub struct Part {
     pub time: Duration,
 }
 
-/// The results of a round.
-#[derive(Clone, Copy)]
-pub struct Round {
-    map: Part,
-    translate: Part,
-    list: Part,
-    unmap: Part,
-    clean_up: Part,
-    /// The number of frames that the new tables took.
-    pub tables: usize,
-}
-
-impl Round {
-    /// Returns the results of an operation.
-    pub fn part(&self, operation: Operation) -> Part {
-        match operation {
-            Operation::Map => self.map,
-            Operation::Translate => self.translate,
-            Operation::List => self.list,
-            Operation::Unmap => self.unmap,
-            Operation::CleanUp => self.clean_up,
-        }
+impl Part {
+    /// Creates the part of what isn't measured.
+    fn count_of(count: usize) -> Part {
+        let (count, time) = (count as u64, Duration::ZERO);
+        Part { count, time }
     }
 }
 
@@ -304,7 +243,7 @@ pub fn measure<S: PageSize>(
     clock: &impl CpuClock,
     access: Access,
     workload: Workload,
-) -> io::Result<Option<Round>> {
+) -> io::Result<Option<[Part; 6]>> {
     let places = access.places(alloc, workload.places())?;
     let mut pool = new_pool(alloc, &places)?;
     let order = workload.shuffled(alloc)?;
@@ -366,7 +305,7 @@ fn measure_direct<S: PageSize, L: LevelCount, T: TableMemory>(
     pool: &mut FramePool,
     workload: Workload,
     order: &[u32],
-) -> io::Result<Option<Round>> {
+) -> io::Result<Option<[Part; 6]>> {
     let root = root();
     if !pool_fits_in::<L, _>(alloc, memory, root, pool)? {
         return Ok(None);
@@ -375,7 +314,7 @@ fn measure_direct<S: PageSize, L: LevelCount, T: TableMemory>(
     let mut mapper = MappedPageTableIn::<IdentityMapping, L, T>::new(memory, root, IdentityMapping);
     let (map, translate) = measure_maps::<S, L, _>(clock, &mut mapper, pool, workload, order)?;
     drop(mapper);
-    let tables = free.saturating_sub(pool.len());
+    let tables = Part::count_of(free.saturating_sub(pool.len()));
     let list = measure_list::<S, L, T>(clock, memory, workload)?;
     if !pool_fits_in::<L, _>(alloc, memory, root, pool)? {
         return Ok(None);
@@ -388,14 +327,7 @@ fn measure_direct<S: PageSize, L: LevelCount, T: TableMemory>(
     }
     let mut mapper = MappedPageTableIn::<IdentityMapping, L, T>::new(memory, root, IdentityMapping);
     let clean_up = measure_clean_up::<L, _>(clock, &mut mapper, pool)?;
-    Ok(Some(Round {
-        map,
-        translate,
-        list,
-        unmap,
-        clean_up,
-        tables,
-    }))
+    Ok(Some([map, translate, list, unmap, clean_up, tables]))
 }
 
 /// Writes the root's entry for itself, and does a round with the mapper that reaches tables through it.
@@ -406,7 +338,7 @@ fn measure_recursive<S: PageSize>(
     pool: &mut FramePool,
     workload: Workload,
     order: &[u32],
-) -> io::Result<Option<Round>> {
+) -> io::Result<Option<[Part; 6]>> {
     let (root, index) = (root(), PageTableIndex::new(RECURSIVE_INDEX));
     write_self_entry(memory, index);
     if !pool_fits_recursive(alloc, memory, root, index, pool)? {
@@ -422,7 +354,7 @@ fn measure_recursive<S: PageSize>(
         order,
     )?;
     drop(mapper);
-    let tables = free.saturating_sub(pool.len());
+    let tables = Part::count_of(free.saturating_sub(pool.len()));
     let list = measure_list::<S, FourLevels, _>(clock, memory, workload)?;
     if !pool_fits_recursive(alloc, memory, root, index, pool)? {
         return Ok(None);
@@ -435,14 +367,7 @@ fn measure_recursive<S: PageSize>(
     }
     let mut mapper = RecursivePageTable::new_unchecked(ActiveMemory::new(memory, root), index);
     let clean_up = measure_clean_up::<FourLevels, _>(clock, &mut mapper, pool)?;
-    Ok(Some(Round {
-        map,
-        translate,
-        list,
-        unmap,
-        clean_up,
-        tables,
-    }))
+    Ok(Some([map, translate, list, unmap, clean_up, tables]))
 }
 
 /// Makes the root's entry at an index name the root.

@@ -1,9 +1,5 @@
 //! Calls as numbers, so that tables of them can be constants, converted to calls of a list with any number of levels.
-use crate::images::{flags_of, frame_at, page_at};
-use x86_64::addr::VirtAddrIn;
-use x86_64::structures::paging::PageSize;
-use x86_64::structures::paging::page::PageIn;
-use x86_64::{CallIn, LevelCount, LevelFiveFlags, SizeCallIn};
+use crate::prelude::*;
 
 /// A call on a page, with those of these numbers that it needs: the level of the entry whose flags are set, the page,
 /// the frame, the flags and the parent flags.

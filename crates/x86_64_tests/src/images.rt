@@ -7,25 +7,7 @@ ghost use Rattle.x86_64_mappers.specs.Offsets.{offset_places, OffsetFits};
 ghost use Rattle.x86_64_mappers.specs.Recursive.{recursive_now_at};
 ghost use Rattle.x86_64.specs.Runs.{FitsPool};
 
-use crate::assertions::{unwrap, unwrap_some};
-use bitflags::Flags;
-use std::alloc::{AllocError, Global};
-use std::process::Abort;
-use x86_64::addr::VirtAddrIn;
-use x86_64::structures::paging::mapper::PageTableFrameMapping;
-use x86_64::structures::paging::page::PageIn;
-use x86_64::structures::paging::{
-    MappedPageTable, OffsetPageTable, PageSize, PageTableFlags, PageTableIndex, PhysFrame, Size4KiB,
-};
-use x86_64::{
-    Call, CallIn, FlushRecorder, FramePlace, FramePool, IdentityMapping, LevelCount,
-    LevelFiveFlags, PhysAddr, PhysMemory, Reply, ReplyIn, VirtAddr, pool_fits, pool_fits_57,
-    pool_fits_recursive, pool_fits_recursive_57, run, run_flushed,
-};
-use x86_64_mappers::laws::offset_has_the_tables_of_the_identity;
-use x86_64_mappers::mapped_page_table::MappedPageTableIn;
-use x86_64_mappers::recursive_page_table::RecursivePageTableIn;
-use x86_64_tables::phys_memory::Active;
+use crate::prelude::*;
 
 /// The number of words of a table.
 pub const WORD_COUNT: u16 = 512;
@@ -49,27 +31,27 @@ pub fn flags_of(bits: u64) -> PageTableFlags {
 }
 
 /// Sets the word at an index of the table in a frame.
-pub fn set_word(rt: impl Abort + Copy, memory: &mut PhysMemory, frame: u64, index: u16, word: u64) {
+pub fn set_word(rt: impl Test, memory: &mut PhysMemory, frame: u64, index: u16, word: u64) {
     let table = unwrap_some(rt, memory.table_mut(FramePlace::new(frame / 0x1000)));
     table[PageTableIndex::new_truncate(index)].set_word(word);
 }
 
 /// Sets all bits of the words of the table in a frame.
-pub fn fill(rt: impl Abort + Copy, memory: &mut PhysMemory, frame: u64) {
+pub fn fill(rt: impl Test, memory: &mut PhysMemory, frame: u64) {
     for index in 0..WORD_COUNT {
         set_word(rt, memory, frame, index, u64::MAX);
     }
 }
 
 /// Returns the word at an index of the table in a frame.
-pub fn word_at(rt: impl Abort + Copy, memory: &PhysMemory, frame: u64, index: u16) -> u64 {
+pub fn word_at(rt: impl Test, memory: &PhysMemory, frame: u64, index: u16) -> u64 {
     let table = unwrap_some(rt, memory.table(FramePlace::new(frame / 0x1000)));
     table[PageTableIndex::new_truncate(index)].word()
 }
 
 /// Creates a pool of free frames, with numbers below a limit.
-pub fn pool_of(rt: impl Abort + Copy, alloc: Global, limit: u64, frames: &[u64]) -> FramePool {
-    let mut pool = unwrap(rt, FramePool::new(alloc, limit));
+pub fn pool_of(rt: impl Test, limit: u64, frames: &[u64]) -> FramePool {
+    let mut pool = unwrap(rt, FramePool::new(rt.alloc(), limit));
     for frame in frames {
         unwrap(rt, pool.try_add(frame_at(*frame)));
     }
@@ -115,8 +97,7 @@ fn pool_fits_recursive_in<L: LevelCount>(
 
 /// Returns whether a hierarchy with this number of levels is valid and a pool fits it.
 pub fn fits<L: LevelCount>(
-    rt: impl Abort + Copy,
-    alloc: Global,
+    rt: impl Test,
     memory: &PhysMemory,
     root: PhysFrame<Size4KiB>,
     pool: &FramePool,
@@ -124,13 +105,12 @@ pub fn fits<L: LevelCount>(
     ensures { let layout = direct_at L.LEVELS identity_places root in
         IsTrue result → FitsPool layout memory.now (serves_below pool.now.limit) pool.now.frames }
 {
-    unwrap(rt, pool_fits_in::<L>(alloc, memory, root, pool))
+    unwrap(rt, pool_fits_in::<L>(rt.alloc(), memory, root, pool))
 }
 
 /// Returns whether a hierarchy with this number of levels is valid for a recursive index and a pool fits it.
 pub fn fits_recursive<L: LevelCount>(
-    rt: impl Abort + Copy,
-    alloc: Global,
+    rt: impl Test,
     memory: &PhysMemory,
     root: PhysFrame<Size4KiB>,
     index: PageTableIndex,
@@ -139,10 +119,8 @@ pub fn fits_recursive<L: LevelCount>(
     ensures { let layout = recursive_now_at L.LEVELS memory.now root index in
         IsTrue result → FitsPool layout memory.now (serves_below pool.now.limit) pool.now.frames }
 {
-    unwrap(
-        rt,
-        pool_fits_recursive_in::<L>(alloc, memory, root, index, pool),
-    )
+    let ran = pool_fits_recursive_in::<L>(rt.alloc(), memory, root, index, pool);
+    unwrap(rt, ran)
 }
 
 /// Executes calls with a mapper over a frame mapping. The mapper is then dropped, and the owner of the memory and of

@@ -7,13 +7,13 @@
 #[cfg(test)]
 mod agreement;
 #[cfg(test)]
-mod assertions;
-#[cfg(test)]
 mod call_rows;
 #[cfg(test)]
 mod images;
 #[cfg(test)]
 mod pairs;
+#[cfg(test)]
+mod prelude;
 #[cfg(test)]
 mod program;
 #[cfg(test)]

@@ -10,17 +10,8 @@ ghost use Rattle.x86_64_mappers.specs.Recursive.{recursive_now_at};
 ghost use Rattle.x86_64.specs.Calls.{names};
 ghost use Rattle.x86_64_tests.specs.Pairs.{IsPair};
 
-use crate::images::{fits, fits_recursive};
-use std::alloc::{AllocError, Global};
-use std::process::Abort;
-use x86_64::structures::paging::{PageTableIndex, PhysFrame, Size4KiB};
-use x86_64::{
-    CallIn, FramePool, IdentityMapping, LevelCount, LevelFiveFlags, PhysMemory, ReplyIn, run_pair,
-    tables_alike, tables_alike_57,
-};
-use x86_64_mappers::mapped_page_table::MappedPageTableIn;
-use x86_64_mappers::recursive_page_table::RecursivePageTableIn;
-use x86_64_tables::phys_memory::Active;
+use crate::prelude::*;
+use x86_64::{run_pair, tables_alike, tables_alike_57};
 
 /// Returns whether the path maps of two hierarchies with this number of levels are alike. The second one has a
 /// recursive index.
@@ -45,8 +36,7 @@ fn are_alike<L: LevelCount>(
 /// Returns true if two hierarchies with this number of levels are valid, the second one for a recursive index, their
 /// pools fit them, the path maps are alike, and the free frames equal.
 pub fn is_pair<L: LevelCount>(
-    rt: impl Abort + Copy,
-    alloc: Global,
+    rt: impl Test,
     root: PhysFrame<Size4KiB>,
     index: PageTableIndex,
     memory: &PhysMemory,
@@ -56,8 +46,8 @@ pub fn is_pair<L: LevelCount>(
 ) -> bool
     ensures { IsTrue result → IsPair L.LEVELS root index memory.now pool.now walked.now walked_pool.now }
 {
-    let fits = fits::<L>(rt, alloc, memory, root, pool);
-    let walked_fits = fits_recursive::<L>(rt, alloc, walked, root, index, walked_pool);
+    let fits = fits::<L>(rt, memory, root, pool);
+    let walked_fits = fits_recursive::<L>(rt, walked, root, index, walked_pool);
     let alike = are_alike::<L>(memory, walked, root, index);
     let same_free = *pool == *walked_pool;
     fits & walked_fits & alike & same_free

@@ -1,13 +1,8 @@
 //! Replies of the plain program, converted to replies to a list with any number of levels.
 use crate::call_rows::{CallRow, PageCallRow};
-use crate::images::{flags_of, frame_at, page_at};
-use x86_64::structures::paging::mapper::{
-    FlagUpdateError, MapToError, MappedFrame, TranslateError, TranslateResult, UnmapError,
-};
-use x86_64::structures::paging::page::PageIn;
-use x86_64::structures::paging::{PageSize, PhysFrame};
-use x86_64::{LevelCount, MapperReply, PageReply, PhysAddr, ReplyIn, SizeReplyIn};
-use x86_64_plain::{Answer, PlainReply, Refusal, Translated};
+use crate::prelude::*;
+use x86_64::SizeReplyIn;
+use x86_64::structures::paging::mapper::{MapToError, TranslateError, TranslateResult};
 
 /// Converts the plain program's answer to a map of a page to a mapper's result.
 fn map_result<S: PageSize, L: LevelCount>(

@@ -1,27 +1,15 @@
 //! Calls on an empty root, as tables: the replies, every word and free frame afterwards, and what is flushed. Here are
 //! rows that `pagetab` can't show. Others are transcripts, in `tests/pagetab`.
 mod calls;
+mod flushing;
 mod hierarchies;
 mod mappings;
-mod names;
 mod single;
 
-use crate::assertions::{assert_equal_in, unwrap, unwrap_some};
 use crate::call_rows::{CallRow, call_of};
-use crate::images::{
-    ROOT, WORD_COUNT, fill, fits, fits_recursive, frame_at, pool_of, run_at_offset, run_flushed_on,
-    run_over, run_recursive_on, set_word, word_at,
-};
+use crate::prelude::*;
 use crate::replies::reply_to;
 use single::answer_singly;
-use std::alloc::Global;
-use std::process::Abort;
-use x86_64::structures::paging::{OffsetPageTable, PageTableIndex};
-use x86_64::{
-    Call, FlushItem, FlushRecorder, FourLevels, FramePool, IdentityMapping, PhysMemory, Reply,
-    VirtAddr,
-};
-use x86_64_plain::PlainReply;
 
 /// A word, after its frame and its index.
 pub type Word = (u64, u16, u64);
@@ -90,19 +78,19 @@ struct State {
 impl State {
     /// Creates an empty root in a row's memory, with the root's entry for itself if tables are reached through it,
     /// and a pool of the row's free frames.
-    fn new(rt: impl Abort + Copy, alloc: Global, row: &Row<'_>, by: By) -> State {
-        let mut memory = unwrap_some(rt, PhysMemory::with_places(alloc, row.places).ok());
+    fn new(rt: impl Test, row: &Row<'_>, by: By) -> State {
+        let mut memory = unwrap_some(rt, PhysMemory::with_places(rt.alloc(), row.places).ok());
         for frame in row.free {
             fill(rt, &mut memory, *frame);
         }
-        let mut recorder = FlushRecorder::new(alloc);
+        let mut recorder = FlushRecorder::new(rt.alloc());
         match by {
             By::Recursive => set_word(rt, &mut memory, ROOT, RECURSIVE_INDEX, SELF_ENTRY),
             By::Recorded(room) | By::Single(room) => unwrap(rt, recorder.reserve(room)),
             _ => (),
         }
         let last = row.places.last().copied().unwrap_or(0);
-        let pool = pool_of(rt, alloc, last.saturating_add(1), row.free);
+        let pool = pool_of(rt, last.saturating_add(1), row.free);
         State {
             memory,
             pool,
@@ -129,7 +117,7 @@ fn wanted_word(row: &Row<'_>, by: By, frame: u64, index: u16) -> u64 {
 
 /// Compares every word of the table at a place, given as the frame with its number, with a row.
 fn compare_table(
-    rt: impl Abort + Copy,
+    rt: impl Test,
     memory: &PhysMemory,
     frame: u64,
     row: &Row<'_>,
@@ -144,7 +132,7 @@ fn compare_table(
 }
 
 /// Compares the free frames of a pool with these.
-pub fn compare_pool(rt: impl Abort + Copy, pool: &FramePool, frames: &[u64], title: &str) {
+pub fn compare_pool(rt: impl Test, pool: &FramePool, frames: &[u64], title: &str) {
     assert_equal_in(rt, title, pool.len(), frames.len());
     for (n, frame) in frames.iter().enumerate() {
         assert_equal_in(rt, (n, title), pool.frame_at(n), Some(frame_at(*frame)));
@@ -161,7 +149,7 @@ fn flushed_by(item: &FlushItem) -> Flushed {
 }
 
 /// Compares what was flushed.
-fn compare_flushes(rt: impl Abort + Copy, items: &[FlushItem], flushed: &[Flushed], title: &str) {
+fn compare_flushes(rt: impl Test, items: &[FlushItem], flushed: &[Flushed], title: &str) {
     assert_equal_in(rt, title, items.len(), flushed.len());
     for (n, wanted) in flushed.iter().enumerate() {
         let found = items.get(n).map(flushed_by);
@@ -170,7 +158,7 @@ fn compare_flushes(rt: impl Abort + Copy, items: &[FlushItem], flushed: &[Flushe
 }
 
 /// Compares every word, the free frames and what was flushed with a row.
-fn compare(rt: impl Abort + Copy, state: &State, row: &Row<'_>, by: By, title: &str) {
+fn compare(rt: impl Test, state: &State, row: &Row<'_>, by: By, title: &str) {
     for place in row.places {
         let frame = place.saturating_mul(0x1000);
         compare_table(rt, &state.memory, frame, row, by, title);
@@ -184,8 +172,8 @@ fn compare(rt: impl Abort + Copy, state: &State, row: &Row<'_>, by: By, title: &
 }
 
 /// Returns the calls of exchanges.
-fn calls_of(rt: impl Abort + Copy, alloc: Global, exchanges: &[Exchange]) -> Vec<Call> {
-    let mut calls = Vec::new(alloc);
+fn calls_of(rt: impl Test, exchanges: &[Exchange]) -> Vec<Call> {
+    let mut calls = Vec::new(rt.alloc());
     for (call, _) in exchanges {
         unwrap(rt, calls.push(unwrap_some(rt, call_of(*call))));
     }
@@ -193,7 +181,7 @@ fn calls_of(rt: impl Abort + Copy, alloc: Global, exchanges: &[Exchange]) -> Vec
 }
 
 /// Appends the replies of exchanges.
-fn add_replies(rt: impl Abort + Copy, exchanges: &[Exchange], replies: &mut Vec<Reply>) {
+fn add_replies(rt: impl Test, exchanges: &[Exchange], replies: &mut Vec<Reply>) {
     for (call, reply) in exchanges {
         let wanted = unwrap_some(rt, reply_to::<FourLevels>(*call, *reply));
         unwrap(rt, replies.push(wanted));
@@ -202,8 +190,7 @@ fn add_replies(rt: impl Abort + Copy, exchanges: &[Exchange], replies: &mut Vec<
 
 /// Executes a list of calls with a mapper that reaches tables by their frames.
 fn answer_directly(
-    rt: impl Abort + Copy,
-    alloc: Global,
+    rt: impl Test,
     (by, root): (By, u64),
     state: &mut State,
     calls: &[Call],
@@ -215,7 +202,7 @@ fn answer_directly(
         pool,
         recorder,
     } = state;
-    assert!(rt; fits::<FourLevels>(rt, alloc, memory, root, pool));
+    assert!(rt; fits::<FourLevels>(rt, memory, root, pool));
     let answer = match by {
         By::Reference => run_over(memory, root, &IdentityMapping, pool, calls, replies),
         By::Offset => {
@@ -230,57 +217,43 @@ fn answer_directly(
 }
 
 /// Executes a list of calls with the recursive mapper.
-fn answer_recursively(
-    rt: impl Abort + Copy,
-    alloc: Global,
-    state: &mut State,
-    calls: &[Call],
-    replies: &mut Vec<Reply>,
-) {
+fn answer_recursively(rt: impl Test, state: &mut State, calls: &[Call], replies: &mut Vec<Reply>) {
     let (root, index) = (
         frame_at(ROOT),
         PageTableIndex::new_truncate(RECURSIVE_INDEX),
     );
     let State { memory, pool, .. } = state;
-    assert!(rt; fits_recursive::<FourLevels>(rt, alloc, memory, root, index, pool));
-    unwrap(
-        rt,
-        run_recursive_on(memory, root, index, pool, calls, replies),
-    )
+    assert!(rt; fits_recursive::<FourLevels>(rt, memory, root, index, pool));
+    let ran = run_recursive_on(memory, root, index, pool, calls, replies);
+    unwrap(rt, ran)
 }
 
 /// Executes the calls of a row with a number, the first one in a list of its own, after an earlier reply, and compares
 /// the results.
-fn check(
-    rt: impl Abort + Copy,
-    alloc: Global,
-    (number, row): (usize, &Row<'_>),
-    by: By,
-    state: &mut State,
-) {
-    let title = unwrap(rt, format!(in alloc; "row {number}, {by:?}"));
-    let mut replies = unwrap(rt, vec![in alloc; Reply::Address(None)]);
+fn check(rt: impl Test, (number, row): (usize, &Row<'_>), by: By, state: &mut State) {
+    let title = unwrap(rt, format!(in rt.alloc(); "row {number}, {by:?}"));
+    let mut replies = unwrap(rt, vec![in rt.alloc(); Reply::Address(None)]);
     let (first, others) = row.calls.split_at(row.calls.len().min(1));
     for exchanges in [first, others] {
-        let calls = calls_of(rt, alloc, exchanges);
+        let calls = calls_of(rt, exchanges);
         match by {
-            By::Single(_) => answer_singly(rt, alloc, state, exchanges, &mut replies),
-            By::Recursive => answer_recursively(rt, alloc, state, &calls, &mut replies),
-            _ => answer_directly(rt, alloc, (by, row.root), state, &calls, &mut replies),
+            By::Single(_) => answer_singly(rt, state, exchanges, &mut replies),
+            By::Recursive => answer_recursively(rt, state, &calls, &mut replies),
+            _ => answer_directly(rt, (by, row.root), state, &calls, &mut replies),
         }
     }
-    let mut wanted = unwrap(rt, vec![in alloc; Reply::Address(None)]);
+    let mut wanted = unwrap(rt, vec![in rt.alloc(); Reply::Address(None)]);
     add_replies(rt, row.calls, &mut wanted);
     assert_equal_in(rt, title.as_str(), replies, wanted);
     compare(rt, state, row, by, &title)
 }
 
 /// Does this for rows, each from an empty root on, in several ways.
-fn check_rows(rt: impl Abort + Copy, alloc: Global, rows: &[Row<'_>], ways: &[By]) {
+fn check_rows(rt: impl Test, rows: &[Row<'_>], ways: &[By]) {
     for (number, row) in rows.iter().enumerate() {
         for by in ways {
-            let mut state = State::new(rt, alloc, row, *by);
-            check(rt, alloc, (number, row), *by, &mut state);
+            let mut state = State::new(rt, row, *by);
+            check(rt, (number, row), *by, &mut state);
         }
     }
 }

@@ -38,38 +38,6 @@ impl Read for Source<'_> {
     }
 }
 
-/// A reader that returns its bytes, and then one byte forever, as many at a time as there is room for.
-#[derive(Drop)]
-pub struct Endless<'a> {
-    rest: &'a [u8],
-    again: u8,
-    /// The number of bytes returned.
-    pub given: u64,
-}
-
-impl<'a> Endless<'a> {
-    /// Creates a reader with these bytes, and the byte that follows them.
-    pub fn new(bytes: &'a [u8], again: u8) -> Endless<'a> {
-        Endless {
-            rest: bytes,
-            again,
-            given: 0,
-        }
-    }
-}
-
-impl Read for Endless<'_> {
-    fn read(&mut self, buf: &mut [u8]) -> io::Result<usize> {
-        self.given = self.given.saturating_add(buf.len() as u64);
-        let count = self.rest.len().min(buf.len());
-        let (given, rest) = self.rest.split_at(count);
-        buf[..count].copy_from_slice(given);
-        buf[count..].fill(self.again);
-        self.rest = rest;
-        Ok(buf.len())
-    }
-}
-
 /// A writer that keeps what is written, and fails at the call with a given number, counted from 1.
 #[derive(Drop)]
 pub struct Sink {

@@ -3,8 +3,7 @@
 ghost use Rattle.std.specs.Prelude.{◌≤◌};
 
 use crate::call_rows::{CallRow, PageCallRow};
-use std::alloc::{AllocError, Global};
-use x86_64_plain::PlainCall;
+use crate::prelude::*;
 use x86_64_plain::positions::path_at;
 
 /// Returns the call of the plain program, with this number of levels.

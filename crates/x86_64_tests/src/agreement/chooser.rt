@@ -34,24 +34,13 @@ const FRAMES: [u64; 8] = [
     0x000f_ffff_ffff_f000,
 ];
 
-/// `NO_EXECUTE`.
-const NX: u64 = 0x8000_0000_0000_0000;
+/// `PRESENT` and `NO_EXECUTE`.
+const NX: u64 = 0x8000_0000_0000_0001;
 
 /// The flags that are chosen. Some have an address bit or `HUGE_PAGE` or lack `PRESENT`, so that some calls aren't
 /// allowed.
 const FLAGS: [u64; 12] = [
-    0x1,
-    0x1,
-    0x3,
-    0x3,
-    0x7,
-    0x0,
-    0x2,
-    0x81,
-    0x83,
-    0x1003,
-    0x11,
-    NX | 0x1,
+    0x1, 0x1, 0x3, 0x3, 0x7, 0x0, 0x2, 0x81, 0x83, 0x1003, 0x11, NX,
 ];
 
 /// The sizes of pages that are chosen.

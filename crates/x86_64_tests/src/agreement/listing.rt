@@ -1,13 +1,8 @@
 //! The mappings, listed by the library and by the plain definition: the leaves among the entries at their paths.
-use crate::assertions::{assert_equal, unwrap_some};
-use crate::images::{ROOT, flags_of, frame_at};
-use std::process::Abort;
-use x86_64::addr::VirtAddrIn;
-use x86_64::structures::paging::mapper::MappedFrame;
-use x86_64::{IdentityMapping, LevelCount, PhysMemory, mappings_from};
+use crate::prelude::*;
+use x86_64::mappings_from;
 use x86_64_mappings::MappingIn;
-use x86_64_plain::PathEntries;
-use x86_64_plain::words::{address, flags, is_huge, is_present};
+use x86_64_plain::words::{flags, is_huge, is_present};
 
 /// `WRITABLE`, `USER_ACCESSIBLE` and `NO_EXECUTE`.
 const WRITABLE: u64 = 0x2;
@@ -66,11 +61,7 @@ fn first_from<L: LevelCount>(paths: &PathEntries, from: u64) -> Option<MappingIn
 }
 
 /// Compares the library's list with the plain mappings, in order.
-pub fn compare_mappings<L: LevelCount>(
-    rt: impl Abort + Copy,
-    memory: &PhysMemory,
-    paths: &PathEntries,
-) {
+pub fn compare_mappings<L: LevelCount>(rt: impl Test, memory: &PhysMemory, paths: &PathEntries) {
     let zero = VirtAddrIn::<L>::zero();
     let mut from = 0;
     for mapping in mappings_from(memory, &IdentityMapping, frame_at(ROOT), zero) {

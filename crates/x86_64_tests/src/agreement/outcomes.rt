@@ -1,8 +1,5 @@
 //! The kinds of replies that calls had.
-use crate::assertions::unwrap;
-use std::alloc::Global;
-use std::process::Abort;
-use x86_64_plain::{Answer, PlainCall, PlainReply, Refusal, Translated};
+use crate::prelude::*;
 
 /// The number of pairs of a call and a kind of its reply that can occur with four levels, which `tests/agreement` lists.
 pub const OUTCOMES: usize = 109;
@@ -29,7 +26,7 @@ impl Met {
     }
 
     /// Adds the reply to a call, which may have returned tables to the free frames.
-    pub fn add(&mut self, rt: impl Abort + Copy, call: &PlainCall, reply: PlainReply, back: bool) {
+    pub fn add(&mut self, rt: impl Test, call: &PlainCall, reply: PlainReply, back: bool) {
         let outcome = (number_of(call), kind_of(reply, back));
         if !self.outcomes.contains(&outcome) {
             unwrap(rt, self.outcomes.push(outcome));

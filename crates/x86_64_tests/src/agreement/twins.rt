@@ -1,14 +1,9 @@
 //! A hierarchy in a memory and as a plain state.
 ghost use Rattle.std.specs.Prelude.{◌≤◌};
 
-use crate::assertions::{assert_equal_in, unwrap};
-use crate::images::{ROOT, pool_of, set_word, word_at};
+use crate::prelude::*;
 use crate::rows::{SELF_ENTRY, compare_pool};
-use std::alloc::Global;
-use std::process::Abort;
-use x86_64::{FramePool, PhysMemory};
-use x86_64_plain::words::address;
-use x86_64_plain::{PathEntries, PlainCall, PlainMachine, PlainReply, PlainState, PlainWindow};
+use x86_64_plain::{PlainMachine, PlainState, PlainWindow};
 
 /// The recursive index, which is among the indices that calls choose.
 pub const RECURSIVE_INDEX: u64 = 1;
@@ -44,13 +39,13 @@ static ENTRIES: [(&[u64], u64); 12] = [
 ];
 
 /// Returns the initial entries. With five levels they are those of four, below one more entry.
-fn entries(rt: impl Abort + Copy, alloc: Global, levels: usize) -> PathEntries {
-    let mut paths = PathEntries::new(alloc);
+fn entries(rt: impl Test, levels: usize) -> PathEntries {
+    let mut paths = PathEntries::new(rt.alloc());
     if levels == 5 {
         unwrap(rt, paths.put(&[0], LEVEL_5_ENTRY));
     }
     for (below, word) in &ENTRIES {
-        let mut path = unwrap(rt, Vec::from_slice(alloc, below));
+        let mut path = unwrap(rt, Vec::from_slice(rt.alloc(), below));
         if levels == 5 {
             unwrap(rt, path.insert(0, 0));
         }
@@ -74,13 +69,7 @@ pub struct Twins {
 
 impl Twins {
     /// Creates both from the initial entries and at most `count` free frames.
-    pub fn new(
-        rt: impl Abort + Copy,
-        alloc: Global,
-        levels: usize,
-        is_recursive: bool,
-        count: usize,
-    ) -> Twins
+    pub fn new(rt: impl Test, levels: usize, is_recursive: bool, count: usize) -> Twins
         requires { levels ≤ 5 }
     {
         let free = FREE.get(..count).unwrap_or(&FREE);
@@ -89,11 +78,11 @@ impl Twins {
             self_entry: SELF_ENTRY,
         };
         let mut twins = Twins {
-            memory: unwrap(rt, PhysMemory::new(alloc, PLACES)),
-            pool: pool_of(rt, alloc, PLACES, free),
+            memory: unwrap(rt, PhysMemory::new(rt.alloc(), PLACES)),
+            pool: pool_of(rt, PLACES, free),
             plain: PlainState {
-                paths: entries(rt, alloc, levels),
-                pool: unwrap(rt, Vec::from_slice(alloc, free)),
+                paths: entries(rt, levels),
+                pool: unwrap(rt, Vec::from_slice(rt.alloc(), free)),
             },
             machine: PlainMachine {
                 levels,
@@ -102,13 +91,13 @@ impl Twins {
             },
             untouched: free.len(),
         };
-        let words = twins.words(rt, alloc);
+        let words = twins.words(rt);
         store(rt, &mut twins.memory, &words);
         twins
     }
 
     /// Executes a call with the plain program.
-    pub fn step(&mut self, rt: impl Abort + Copy, call: &PlainCall) -> PlainReply {
+    pub fn step(&mut self, rt: impl Test, call: &PlainCall) -> PlainReply {
         let machine = self.machine;
         let reply = unwrap(rt, machine.step(&mut self.plain, call));
         self.untouched = self.untouched.min(self.plain.pool.len());
@@ -116,8 +105,8 @@ impl Twins {
     }
 
     /// Returns the words of all frames by the plain state.
-    fn words(&self, rt: impl Abort + Copy, alloc: Global) -> Vec<u64> {
-        let mut words = unwrap(rt, vec![in alloc; 0; 16 * 512]);
+    fn words(&self, rt: impl Test) -> Vec<u64> {
+        let mut words = unwrap(rt, vec![in rt.alloc(); 0; 16 * 512]);
         let pool = self.plain.pool.as_slice();
         let (_, untouched) = pool.split_at(pool.len().saturating_sub(self.untouched));
         for frame in untouched {
@@ -142,8 +131,8 @@ impl Twins {
     }
 
     /// Compares every word, and the free frames.
-    pub fn compare(&self, rt: impl Abort + Copy, alloc: Global) {
-        for (n, word) in self.words(rt, alloc).iter().enumerate() {
+    pub fn compare(&self, rt: impl Test) {
+        for (n, word) in self.words(rt).iter().enumerate() {
             let (frame, index) = slot_of(n);
             let found = word_at(rt, &self.memory, frame, index);
             assert_equal_in(rt, (frame, index), found, *word);
@@ -153,7 +142,7 @@ impl Twins {
 }
 
 /// Sets all words of a memory.
-fn store(rt: impl Abort + Copy, memory: &mut PhysMemory, words: &[u64]) {
+fn store(rt: impl Test, memory: &mut PhysMemory, words: &[u64]) {
     for (n, word) in words.iter().enumerate() {
         let (frame, index) = slot_of(n);
         set_word(rt, memory, frame, index, *word);

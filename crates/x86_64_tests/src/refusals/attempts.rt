@@ -1,13 +1,10 @@
 //! Calls of the library that take memory and change nothing.
 use super::hoard_past;
-use crate::assertions::{assert_equal, assert_equal_in, unwrap};
-use crate::images::{ROOT, frame_at, pool_of, set_word};
-use std::alloc::{AllocError, Global};
-use x86_64::structures::paging::{MappedPageTable, MappedPageTable57, PageTableIndex};
+use crate::prelude::*;
+use x86_64::structures::paging::MappedPageTable57;
 use x86_64::{
-    FramePool, IdentityMapping, PhysMemory, PlacesRefusal, is_valid_hierarchy,
-    is_valid_hierarchy_57, is_valid_recursive, is_valid_recursive_57, pool_fits, pool_fits_57,
-    pool_fits_recursive, pool_fits_recursive_57,
+    PlacesRefusal, is_valid_hierarchy, is_valid_hierarchy_57, is_valid_recursive,
+    is_valid_recursive_57,
 };
 
 /// A call that takes memory and changes nothing.
@@ -96,9 +93,9 @@ fn memories_and_pools_are_made_and_tested_where_there_is_room(rt: HostRuntime) {
     let memory = unwrap(rt, PhysMemory::new(alloc, 4096));
     let mut walked = unwrap(rt, PhysMemory::new(alloc, 4096));
     set_word(rt, &mut walked, ROOT, 510, 0x1003);
-    let pool = pool_of(rt, alloc, 4096, &[0x2000, 0x3000, 0x4000]);
+    let pool = pool_of(rt, 4096, &[0x2000, 0x3000, 0x4000]);
     for (attempt, room) in &ATTEMPTS {
-        let hoard = hoard_past(rt, alloc, room);
+        let hoard = hoard_past(rt, room);
         let refused = make(alloc, *attempt, &memory, &walked, &pool);
         drop(hoard);
         assert_equal_in(rt, (*attempt, *room), refused, Err(AllocError));
@@ -107,36 +104,28 @@ fn memories_and_pools_are_made_and_tested_where_there_is_room(rt: HostRuntime) {
     }
 }
 
+/// Asserts that the test of a mapper of a type, made once this function finds the hierarchy valid, is refused if there
+/// is no memory.
+macro_rules! check_mapper {
+    ($rt:expr, $is_valid:ident, $Mapper:ident) => {
+        let (alloc, root) = ($rt.alloc(), frame_at(ROOT));
+        let mut memory = unwrap($rt, PhysMemory::new(alloc, 4096));
+        let is_valid = $is_valid(alloc, &memory, &IdentityMapping, root);
+        assert!($rt; unwrap($rt, is_valid));
+        let mapper = $Mapper::new(&mut memory, root, IdentityMapping);
+        let hoard = hoard_past($rt, &[]);
+        let refused = mapper.is_valid(alloc);
+        drop(hoard);
+        let answers = [refused, mapper.is_valid(alloc)];
+        assert_equal($rt, answers, [Err(AllocError), Ok(true)]);
+    };
+}
+
 #[test]
 fn mappers_are_tested_where_there_is_room(rt: HostRuntime) {
-    let (alloc, root) = (rt.alloc(), frame_at(ROOT));
-    let mut memory = unwrap(rt, PhysMemory::new(alloc, 4096));
-    let is_valid = is_valid_hierarchy(alloc, &memory, &IdentityMapping, root);
-    assert!(rt; unwrap(rt, is_valid));
-    let mapper = MappedPageTable::new(&mut memory, root, IdentityMapping);
-    let hoard = hoard_past(rt, alloc, &[]);
-    let refused = mapper.is_valid(alloc);
-    drop(hoard);
-    let answers = [refused, mapper.is_valid(alloc)];
-    assert_equal(rt, answers, [Err(AllocError), Ok(true)]);
-}
-
-#[test]
-fn mappers_of_five_levels_are_tested_where_there_is_room(rt: HostRuntime) {
-    let (alloc, root) = (rt.alloc(), frame_at(ROOT));
-    let mut memory = unwrap(rt, PhysMemory::new(alloc, 4096));
-    let is_valid = is_valid_hierarchy_57(alloc, &memory, &IdentityMapping, root);
-    assert!(rt; unwrap(rt, is_valid));
-    let mapper = MappedPageTable57::new(&mut memory, root, IdentityMapping);
-    let hoard = hoard_past(rt, alloc, &[]);
-    let refused = mapper.is_valid(alloc);
-    drop(hoard);
-    let answers = [refused, mapper.is_valid(alloc)];
-    assert_equal(rt, answers, [Err(AllocError), Ok(true)]);
-}
-
-#[test]
-fn more_than_there_is_is_refused(rt: HostRuntime) {
+    check_mapper!(rt, is_valid_hierarchy, MappedPageTable);
+    check_mapper!(rt, is_valid_hierarchy_57, MappedPageTable57);
+    // More than there is.
     let refusal = PhysMemory::new(rt.alloc(), u64::MAX).err();
     assert_equal(rt, refusal, Some(AllocError));
     let refusal = FramePool::new(rt.alloc(), u64::MAX).err();

@@ -3,23 +3,10 @@ ghost use Rattle.x86_64_model.specs.Pool.{serves_below};
 ghost use Rattle.x86_64_model.specs.Mapper.{PoolFits};
 
 use super::hoard_past;
-use crate::assertions::{assert_equal, unwrap};
-use crate::images::{ROOT, fits, fits_recursive, frame_at, page_at, pool_of, set_word};
-use std::alloc::{AllocError, Global};
-use std::process::Abort;
-use x86_64::addr::VirtAddrIn;
+use crate::prelude::*;
+use x86_64::TablesIn;
 use x86_64::structures::paging::mapper::TableAccess;
-use x86_64::structures::paging::{PageTableFlags, PageTableIndex};
-use x86_64::{
-    CallIn, FiveLevels, FlushRecorder, FourLevels, FramePlace, FramePool, IdentityMapping,
-    LevelCount, LevelFiveFlags, MapperReply, NoLevelFive, PageReply, PhysMemory, SizeCallIn,
-    TablesIn, run, run_flushed,
-};
-use x86_64_mappers::laws::offset_has_the_tables_of_the_identity;
-use x86_64_mappers::mapped_page_table::MappedPageTableIn;
 use x86_64_mappers::offset_page_table::OffsetPageTableIn;
-use x86_64_mappers::recursive_page_table::RecursivePageTableIn;
-use x86_64_tables::phys_memory::Active;
 
 /// The number of places of a memory. A place is the index of a table in memory.
 const PLACES: u64 = 6;
@@ -41,29 +28,26 @@ const OFFSET: u64 = 0xffff_8000_0000_0000;
 pub const CALL_COUNT: usize = 1024;
 
 /// Creates a memory without words, and a pool for it.
-pub fn begin(rt: impl Abort + Copy, alloc: Global) -> (PhysMemory, FramePool) {
-    let memory = unwrap(rt, PhysMemory::new(alloc, PLACES));
-    (memory, pool_of(rt, alloc, PLACES, &FREE))
+pub fn begin(rt: impl Test) -> (PhysMemory, FramePool) {
+    let memory = unwrap(rt, PhysMemory::new(rt.alloc(), PLACES));
+    (memory, pool_of(rt, PLACES, &FREE))
 }
 
 /// Creates a memory whose root has an entry for itself, and a pool for it.
-pub fn begin_recursive(rt: impl Abort + Copy, alloc: Global) -> (PhysMemory, FramePool) {
-    let (mut memory, pool) = begin(rt, alloc);
+pub fn begin_recursive(rt: impl Test) -> (PhysMemory, FramePool) {
+    let (mut memory, pool) = begin(rt);
     set_word(rt, &mut memory, ROOT, INDEX, 0x1003);
     (memory, pool)
 }
 
 /// Returns a list of calls that map one page, of which only the first one succeeds.
-pub fn maps_of_a_page<L: LevelCount, P5: LevelFiveFlags<L>>(
-    rt: impl Abort + Copy,
-    alloc: Global,
-) -> Vec<CallIn<L, P5>> {
+pub fn maps_of_a_page<L: LevelCount, P5: LevelFiveFlags<L>>(rt: impl Test) -> Vec<CallIn<L, P5>> {
     let call = CallIn::Of4KiB(SizeCallIn::MapTo {
         page: page_at(PAGE),
         frame: frame_at(0x5000),
         flags: PageTableFlags::PRESENT,
     });
-    unwrap(rt, vec![in alloc; call; CALL_COUNT])
+    unwrap(rt, vec![in rt.alloc(); call; CALL_COUNT])
 }
 
 /// Returns the number of used entries of a memory.
@@ -90,8 +74,7 @@ pub fn is_full(pool: &FramePool) -> bool {
 
 /// Asserts that a list is refused if there is no memory, and changes nothing.
 fn refuse<L: LevelCount, P5: LevelFiveFlags<L>, M: TableAccess + TablesIn<L>>(
-    rt: impl Abort + Copy,
-    alloc: Global,
+    rt: impl Test,
     mapper: &mut M,
     pool: &mut FramePool,
     calls: &[CallIn<L, P5>],
@@ -99,8 +82,8 @@ fn refuse<L: LevelCount, P5: LevelFiveFlags<L>, M: TableAccess + TablesIn<L>>(
     requires { PoolFits (M.hierarchy mapper.old) (serves_below pool.old.limit) pool.old.frames }
     ensures { PoolFits (M.hierarchy mapper.new) (serves_below pool.new.limit) pool.new.frames }
 {
-    let mut replies = unwrap(rt, vec![in alloc; MapperReply::NotAllowed]);
-    let hoard = hoard_past(rt, alloc, &[]);
+    let mut replies = unwrap(rt, vec![in rt.alloc(); MapperReply::NotAllowed]);
+    let hoard = hoard_past(rt, &[]);
     let refused = run(mapper, pool, calls, &mut replies);
     drop(hoard);
     assert_equal(rt, refused, Err(AllocError));
@@ -110,8 +93,7 @@ fn refuse<L: LevelCount, P5: LevelFiveFlags<L>, M: TableAccess + TablesIn<L>>(
 /// Asserts that a list with recorded flushes is refused if only these numbers of replies and items have room, and
 /// changes nothing.
 fn refuse_recorded<L: LevelCount, P5: LevelFiveFlags<L>, M: TableAccess + TablesIn<L>>(
-    rt: impl Abort + Copy,
-    alloc: Global,
+    rt: impl Test,
     mapper: &mut M,
     pool: &mut FramePool,
     calls: &[CallIn<L, P5>],
@@ -121,11 +103,11 @@ fn refuse_recorded<L: LevelCount, P5: LevelFiveFlags<L>, M: TableAccess + Tables
     requires { PoolFits (M.hierarchy mapper.old) (serves_below pool.old.limit) pool.old.frames }
     ensures { PoolFits (M.hierarchy mapper.new) (serves_below pool.new.limit) pool.new.frames }
 {
-    let mut replies = unwrap(rt, vec![in alloc; MapperReply::NotAllowed]);
+    let mut replies = unwrap(rt, vec![in rt.alloc(); MapperReply::NotAllowed]);
     unwrap(rt, replies.reserve(reply_room));
-    let mut recorder = FlushRecorder::new(alloc);
+    let mut recorder = FlushRecorder::new(rt.alloc());
     unwrap(rt, recorder.reserve(item_room));
-    let hoard = hoard_past(rt, alloc, &[]);
+    let hoard = hoard_past(rt, &[]);
     let refused = run_flushed(mapper, pool, calls, &mut replies, &mut recorder);
     drop(hoard);
     assert_equal(rt, refused, Err(AllocError));
@@ -136,19 +118,18 @@ fn refuse_recorded<L: LevelCount, P5: LevelFiveFlags<L>, M: TableAccess + Tables
 /// Asserts that lists are refused if there is no memory, and that one is executed afterwards, and then again with its
 /// flushes recorded. Only the first call maps the page.
 fn refuse_and_answer<L: LevelCount, P5: LevelFiveFlags<L>, M: TableAccess + TablesIn<L>>(
-    rt: impl Abort + Copy,
-    alloc: Global,
+    rt: impl Test,
     mapper: &mut M,
     pool: &mut FramePool,
     calls: &[CallIn<L, P5>],
 )
     requires { PoolFits (M.hierarchy mapper.old) (serves_below pool.old.limit) pool.old.frames }
 {
-    refuse(rt, alloc, mapper, pool, calls);
-    refuse_recorded(rt, alloc, mapper, pool, calls, 0, 0);
-    refuse_recorded(rt, alloc, mapper, pool, calls, CALL_COUNT, 0);
-    refuse_recorded(rt, alloc, mapper, pool, calls, 0, CALL_COUNT);
-    let (mut replies, mut recorder) = (Vec::new(alloc), FlushRecorder::new(alloc));
+    refuse(rt, mapper, pool, calls);
+    refuse_recorded(rt, mapper, pool, calls, 0, 0);
+    refuse_recorded(rt, mapper, pool, calls, CALL_COUNT, 0);
+    refuse_recorded(rt, mapper, pool, calls, 0, CALL_COUNT);
+    let (mut replies, mut recorder) = (Vec::new(rt.alloc()), FlushRecorder::new(rt.alloc()));
     unwrap(rt, run(mapper, pool, calls, &mut replies));
     let mapped = MapperReply::Of4KiB(PageReply::Map(Ok(page_at(PAGE))));
     assert_equal(rt, replies.first(), Some(&mapped));
@@ -159,58 +140,57 @@ fn refuse_and_answer<L: LevelCount, P5: LevelFiveFlags<L>, M: TableAccess + Tabl
 }
 
 /// Asserts this for the mapper over the identity mapping, which uses an entry of each level.
-fn check_identity<L: LevelCount, P5: LevelFiveFlags<L>>(rt: impl Abort + Copy, alloc: Global) {
+fn check_identity<L: LevelCount, P5: LevelFiveFlags<L>>(rt: impl Test) {
     let root = frame_at(ROOT);
-    let calls = maps_of_a_page::<L, P5>(rt, alloc);
-    let (mut memory, mut pool) = begin(rt, alloc);
-    assert!(rt; fits::<L>(rt, alloc, &memory, root, &pool));
+    let calls = maps_of_a_page::<L, P5>(rt);
+    let (mut memory, mut pool) = begin(rt);
+    assert!(rt; fits::<L>(rt, &memory, root, &pool));
     let mut mapper = MappedPageTableIn::<IdentityMapping, L>::new(
         &mut memory,
         root,
         IdentityMapping,
     );
-    refuse_and_answer(rt, alloc, &mut mapper, &mut pool, &calls);
+    refuse_and_answer(rt, &mut mapper, &mut pool, &calls);
     drop(mapper);
     assert_equal(rt, used_entries(&memory), L::LEVELS);
 }
 
 /// Asserts this for the mapper of a memory at an offset.
-fn check_offset<L: LevelCount, P5: LevelFiveFlags<L>>(rt: impl Abort + Copy, alloc: Global) {
+fn check_offset<L: LevelCount, P5: LevelFiveFlags<L>>(rt: impl Test) {
     let (root, offset) = (frame_at(ROOT), VirtAddrIn::<L>::new_truncate(OFFSET));
-    let calls = maps_of_a_page::<L, P5>(rt, alloc);
-    let (mut memory, mut pool) = begin(rt, alloc);
-    assert!(rt; fits::<L>(rt, alloc, &memory, root, &pool));
+    let calls = maps_of_a_page::<L, P5>(rt);
+    let (mut memory, mut pool) = begin(rt);
+    assert!(rt; fits::<L>(rt, &memory, root, &pool));
     assert!(rt; OffsetPageTableIn::<L>::offset_fits(&memory, offset));
     offset_has_the_tables_of_the_identity(&memory, offset);
     let mut mapper = OffsetPageTableIn::<L>::new(&mut memory, root, offset);
-    refuse_and_answer(rt, alloc, &mut mapper, &mut pool, &calls);
+    refuse_and_answer(rt, &mut mapper, &mut pool, &calls);
     drop(mapper);
     assert_equal(rt, used_entries(&memory), L::LEVELS);
 }
 
 /// Asserts this for the recursive mapper, whose root also has an entry for itself.
-fn check_recursive<L: LevelCount, P5: LevelFiveFlags<L>>(rt: impl Abort + Copy, alloc: Global) {
+fn check_recursive<L: LevelCount, P5: LevelFiveFlags<L>>(rt: impl Test) {
     let (root, index) = (frame_at(ROOT), PageTableIndex::new(INDEX));
-    let calls = maps_of_a_page::<L, P5>(rt, alloc);
-    let (mut memory, mut pool) = begin_recursive(rt, alloc);
-    assert!(rt; fits_recursive::<L>(rt, alloc, &memory, root, index, &pool));
+    let calls = maps_of_a_page::<L, P5>(rt);
+    let (mut memory, mut pool) = begin_recursive(rt);
+    assert!(rt; fits_recursive::<L>(rt, &memory, root, index, &pool));
     let active = Active::<L>::new(&mut memory, root);
     let mut mapper = RecursivePageTableIn::<L>::new_unchecked(active, index);
-    refuse_and_answer(rt, alloc, &mut mapper, &mut pool, &calls);
+    refuse_and_answer(rt, &mut mapper, &mut pool, &calls);
     drop(mapper);
     assert_equal(rt, used_entries(&memory), L::LEVELS.saturating_add(1));
 }
 
-#[test]
-fn lists_of_four_levels_change_nothing_where_there_is_no_room(rt: HostRuntime) {
-    check_identity::<FourLevels, NoLevelFive>(rt, rt.alloc());
-    check_offset::<FourLevels, NoLevelFive>(rt, rt.alloc());
-    check_recursive::<FourLevels, NoLevelFive>(rt, rt.alloc())
+/// Asserts this for each mapper.
+fn check_mappers<L: LevelCount, P5: LevelFiveFlags<L>>(rt: impl Test) {
+    check_identity::<L, P5>(rt);
+    check_offset::<L, P5>(rt);
+    check_recursive::<L, P5>(rt)
 }
 
 #[test]
-fn lists_of_five_levels_change_nothing_where_there_is_no_room(rt: HostRuntime) {
-    check_identity::<FiveLevels, PageTableFlags>(rt, rt.alloc());
-    check_offset::<FiveLevels, PageTableFlags>(rt, rt.alloc());
-    check_recursive::<FiveLevels, PageTableFlags>(rt, rt.alloc())
+fn lists_change_nothing_where_there_is_no_room(rt: HostRuntime) {
+    check_mappers::<FourLevels, NoLevelFive>(rt);
+    check_mappers::<FiveLevels, PageTableFlags>(rt)
 }

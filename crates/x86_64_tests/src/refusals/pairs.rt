@@ -3,33 +3,24 @@ use super::hoard_past;
 use super::lists::{
     CALL_COUNT, INDEX, begin, begin_recursive, is_full, maps_of_a_page, used_entries,
 };
-use crate::assertions::{assert_equal, unwrap};
-use crate::images::{ROOT, frame_at};
 use crate::pairs::{is_pair, none_names, run_pair_on};
-use std::alloc::Global;
-use std::process::Abort;
-use x86_64::structures::paging::{PageTableFlags, PageTableIndex};
-use x86_64::{FiveLevels, FourLevels, LevelCount, LevelFiveFlags, NoLevelFive, Reply};
+use crate::prelude::*;
 
 /// The first allocation of a pair: the replies of one mapper. Those of the other follow.
 const REPLIES_OF_ONE: [usize; 1] = [CALL_COUNT * size_of::<Reply>()];
 
 /// Asserts that a list is refused if only these blocks have room, and changes nothing, and that it is executed
 /// afterwards, with each mapper using an entry of each level.
-fn check_pair<L: LevelCount, P5: LevelFiveFlags<L>>(
-    rt: impl Abort + Copy,
-    alloc: Global,
-    room: &[usize],
-) {
+fn check_pair<L: LevelCount, P5: LevelFiveFlags<L>>(rt: impl Test, room: &[usize]) {
     let (root, index) = (frame_at(ROOT), PageTableIndex::new(INDEX));
-    let (mut memory, mut pool) = begin(rt, alloc);
-    let (mut walked, mut walked_pool) = begin_recursive(rt, alloc);
+    let (alloc, (mut memory, mut pool)) = (rt.alloc(), begin(rt));
+    let (mut walked, mut walked_pool) = begin_recursive(rt);
     let (memory, pool) = (&mut memory, &mut pool);
     let (walked, walked_pool) = (&mut walked, &mut walked_pool);
-    let list = maps_of_a_page::<L, P5>(rt, alloc);
-    assert!(rt; is_pair::<L>(rt, alloc, root, index, memory, pool, walked, walked_pool));
+    let list = maps_of_a_page::<L, P5>(rt);
+    assert!(rt; is_pair::<L>(rt, root, index, memory, pool, walked, walked_pool));
     assert!(rt; none_names(&list, index));
-    let hoard = hoard_past(rt, alloc, room);
+    let hoard = hoard_past(rt, room);
     let refused = run_pair_on(alloc, root, index, memory, pool, walked, walked_pool, &list);
     drop(hoard);
     assert!(rt; refused.is_err() && is_full(pool) && is_full(walked_pool));
@@ -42,12 +33,8 @@ fn check_pair<L: LevelCount, P5: LevelFiveFlags<L>>(
 
 #[test]
 fn lists_of_pairs_change_nothing_where_there_is_no_room(rt: HostRuntime) {
-    check_pair::<FourLevels, NoLevelFive>(rt, rt.alloc(), &[]);
-    check_pair::<FourLevels, NoLevelFive>(rt, rt.alloc(), &REPLIES_OF_ONE)
-}
-
-#[test]
-fn lists_of_pairs_of_five_levels_change_nothing_where_there_is_no_room(rt: HostRuntime) {
-    check_pair::<FiveLevels, PageTableFlags>(rt, rt.alloc(), &[]);
-    check_pair::<FiveLevels, PageTableFlags>(rt, rt.alloc(), &REPLIES_OF_ONE)
+    for room in [&[][..], &REPLIES_OF_ONE] {
+        check_pair::<FourLevels, NoLevelFive>(rt, room);
+        check_pair::<FiveLevels, PageTableFlags>(rt, room);
+    }
 }

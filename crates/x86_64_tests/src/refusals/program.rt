@@ -1,13 +1,9 @@
 //! Runs of the program `pagetab`.
 use super::hoard_past;
-use crate::assertions::{assert_equal, assert_equal_in, unwrap, unwrap_some};
-use crate::program::words_of;
+use crate::prelude::*;
+use crate::program::{SELF_ENTRY, words_of};
 use crate::streams::{Sink, Source};
-use pagetab_engine::ending::{Ending, Fault};
 use pagetab_engine::engine::run;
-use std::alloc::Global;
-use std::process::Abort;
-use x86_64::{Call, Reply};
 
 /// The last lines of an image, with a table in frame 0x2000, and commands. The first command takes memory only for the
 /// text of its reply.
@@ -54,9 +50,6 @@ static BLOCKS: [(Stage, usize, bool); 15] = [
     (3, 2048, false),
 ];
 
-/// The root's word for itself, at the index 510.
-const SELF_ENTRY: &str = "word 0x1000 510 0x1003\n";
-
 /// With four levels, the image needs no more words, and a clean up returns the table in frame 0x2000.
 const FOUR: (&str, &str) = ("", " 0x2000");
 
@@ -91,17 +84,16 @@ const USED_WRONGLY: Ending = Ending::Stopped(Fault::Usage);
 /// Runs the program with room for these blocks, and returns how it ends and its progress. Asserts that it writes the
 /// first of the replies, and all of them if it ends well.
 fn attempt(
-    rt: impl Abort + Copy,
-    alloc: Global,
+    rt: impl Test,
     arguments: &str,
     (input, replies): (&str, &str),
     room: &[usize],
 ) -> (Ending, Stage) {
-    let words = words_of(rt, alloc, arguments);
-    let written = unwrap(rt, Vec::with_capacity(alloc, REPLY_ROOM));
+    let words = words_of(rt, arguments);
+    let written = unwrap(rt, Vec::with_capacity(rt.alloc(), REPLY_ROOM));
     let (mut source, mut sink) = (Source::new(input.as_bytes(), 0), Sink::new(written, 0));
-    let hoard = hoard_past(rt, alloc, room);
-    let ending = run(alloc, &words, &mut source, &mut sink);
+    let hoard = hoard_past(rt, room);
+    let ending = run(rt.alloc(), &words, &mut source, &mut sink);
     drop(hoard);
     let rest = unwrap_some(rt, replies.as_bytes().strip_prefix(sink.bytes.as_slice()));
     assert!(rt; ending != Ending::Done || rest.is_empty());
@@ -112,26 +104,29 @@ fn attempt(
 }
 
 /// Refuses each block in turn, with room only for those before it. With room for all of them, the program ends well.
-fn refuse_each(rt: impl Abort + Copy, alloc: Global, (arguments, own, levels, is_pair): Mode) {
-    let input = unwrap(rt, format!(in alloc; "{own}{}{INPUT}", levels.0));
-    let replies = unwrap(rt, format!(in alloc; "{REPLIES}{}{FREE_AT_END}", levels.1));
+fn refuse_each(rt: impl Test, (arguments, own, levels, is_pair): Mode) {
+    let input = unwrap(rt, format!(in rt.alloc(); "{own}{}{INPUT}", levels.0));
+    let replies = unwrap(
+        rt,
+        format!(in rt.alloc(); "{REPLIES}{}{FREE_AT_END}", levels.1),
+    );
     let texts = (input.as_str(), replies.as_str());
-    let mut room: Vec<usize> = Vec::new(alloc);
+    let mut room: Vec<usize> = Vec::new(rt.alloc());
     for (stage, size, of_pair) in &BLOCKS {
         if is_pair || !*of_pair {
-            let stopped = attempt(rt, alloc, arguments, texts, &room);
+            let stopped = attempt(rt, arguments, texts, &room);
             assert_equal_in(rt, (arguments, room.len()), stopped, (REFUSED, *stage));
             unwrap(rt, room.push(*size));
         }
     }
-    let (ending, _) = attempt(rt, alloc, arguments, texts, &room);
+    let (ending, _) = attempt(rt, arguments, texts, &room);
     assert_equal_in(rt, arguments, ending, Ending::Done);
 }
 
 #[test]
 fn the_program_stops_at_each_block_that_is_refused(rt: HostRuntime) {
     for mode in &MODES {
-        refuse_each(rt, rt.alloc(), *mode);
+        refuse_each(rt, *mode);
     }
 }
 
@@ -149,7 +144,7 @@ static WRONG: [&str; 6] = [
 #[test]
 fn wrong_arguments_want_no_memory(rt: HostRuntime) {
     for arguments in &WRONG {
-        let stopped = attempt(rt, rt.alloc(), arguments, ("", ""), &[]);
+        let stopped = attempt(rt, arguments, ("", ""), &[]);
         assert_equal_in(rt, *arguments, stopped, (USED_WRONGLY, 0));
     }
 }
@@ -157,9 +152,9 @@ fn wrong_arguments_want_no_memory(rt: HostRuntime) {
 #[test]
 fn offsets_are_tested_once_the_memory_is_made(rt: HostRuntime) {
     let arguments = "offset 512 0x7ffffffff000";
-    let stopped = attempt(rt, rt.alloc(), arguments, ("", ""), &[]);
+    let stopped = attempt(rt, arguments, ("", ""), &[]);
     assert_equal(rt, stopped, (REFUSED, 0));
     let room = [8 * PLACES, 4096 * PLACES, 8 * PLACES, PLACES];
-    let stopped = attempt(rt, rt.alloc(), arguments, ("", ""), &room);
+    let stopped = attempt(rt, arguments, ("", ""), &room);
     assert_equal(rt, stopped, (USED_WRONGLY, 0));
 }

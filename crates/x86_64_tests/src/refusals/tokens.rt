@@ -1,13 +1,7 @@
 //! TLB flushes.
 use super::hoard_past;
-use crate::assertions::{assert_equal_in, unwrap};
-use std::alloc::{AllocError, Global};
-use std::process::Abort;
-use x86_64::addr::VirtAddrIn;
-use x86_64::structures::paging::Size4KiB;
-use x86_64::structures::paging::mapper::MapperFlushAll;
-use x86_64::structures::paging::page::PageIn;
-use x86_64::{FiveLevels, FlushItem, FlushRecorder, FourLevels, LevelCount, VirtAddr, VirtAddr57};
+use crate::prelude::*;
+use x86_64::VirtAddr57;
 use x86_64_tables::mapper::MapperFlushIn;
 
 /// The number of items of a recorder. It is so large that further items need a new block.
@@ -31,7 +25,7 @@ const GROWTHS: [Growth; 4] = [
 
 /// Flushes the page at 0x1000. Asserts that a token that comes back is for this page.
 fn flush_page<L: LevelCount>(
-    rt: impl Abort + Copy,
+    rt: impl Test,
     recorder: &mut FlushRecorder,
 ) -> Result<(), AllocError> {
     let page: PageIn<Size4KiB, L> = PageIn::containing_address(VirtAddrIn::new_truncate(0x1000));
@@ -58,11 +52,7 @@ fn flush_all(recorder: &mut FlushRecorder) -> Result<(), AllocError> {
 }
 
 /// Makes the list of a recorder grow.
-fn grow(
-    rt: impl Abort + Copy,
-    growth: Growth,
-    recorder: &mut FlushRecorder,
-) -> Result<(), AllocError> {
+fn grow(rt: impl Test, growth: Growth, recorder: &mut FlushRecorder) -> Result<(), AllocError> {
     match growth {
         Growth::FlushPage => flush_page::<FourLevels>(rt, recorder),
         Growth::FlushPage57 => flush_page::<FiveLevels>(rt, recorder),
@@ -88,8 +78,8 @@ fn item_of(growth: Growth) -> Option<FlushItem> {
 }
 
 /// Creates a recorder whose items fill the room that was reserved.
-fn full_recorder(rt: impl Abort + Copy, alloc: Global) -> FlushRecorder {
-    let mut recorder = FlushRecorder::new(alloc);
+fn full_recorder(rt: impl Test) -> FlushRecorder {
+    let mut recorder = FlushRecorder::new(rt.alloc());
     unwrap(rt, recorder.reserve(ITEM_COUNT));
     for _ in 0..ITEM_COUNT {
         unwrap(rt, flush_all(&mut recorder));
@@ -111,8 +101,8 @@ fn has(recorder: &FlushRecorder, last: Option<FlushItem>) -> bool {
 fn flushes_are_recorded_where_there_is_room(rt: HostRuntime) {
     let alloc = rt.alloc();
     for growth in GROWTHS {
-        let mut recorder = full_recorder(rt, alloc);
-        let hoard = hoard_past(rt, alloc, &[]);
+        let mut recorder = full_recorder(rt);
+        let hoard = hoard_past(rt, &[]);
         let refused = grow(rt, growth, &mut recorder);
         drop(hoard);
         assert_equal_in(rt, growth, refused, Err(AllocError));

@@ -7,10 +7,9 @@ use crate::call_rows::CallRow::{
 use crate::call_rows::PageCallRow::{
     IdentityMap, MapTo, MapToWithTableFlags, SetFlags, TranslatePage, Unmap, UpdateFlags,
 };
-use crate::images::ROOT;
-use x86_64_plain::Answer::{Done, Refused};
-use x86_64_plain::PlainReply;
-use x86_64_plain::PlainReply::{Address, Answered, Cleaned, NotAllowed, Position};
+use crate::prelude::*;
+use x86_64_plain::Answer::Refused;
+use x86_64_plain::PlainReply::{Address, NotAllowed, Position};
 use x86_64_plain::Refusal::{
     FrameAllocationFailed, InvalidFrameAddress, PageAlreadyMapped, PageNotMapped,
     ParentEntryHugePage,
@@ -199,7 +198,7 @@ static ROWS: [Row<'static>; 5] = [
 
 #[test]
 fn calls_are_answered_and_recorded(rt: HostRuntime) {
-    check_rows(rt, rt.alloc(), &ROWS, &WAYS)
+    check_rows(rt, &ROWS, &WAYS)
 }
 
 /// The first map, with two of the free frames past a gap between places.
@@ -224,5 +223,5 @@ fn tables_are_made_past_a_gap(rt: HostRuntime) {
         By::Single(0),
         By::Recursive,
     ];
-    check_rows(rt, rt.alloc(), &PAST_A_GAP, &ways)
+    check_rows(rt, &PAST_A_GAP, &ways)
 }

@@ -2,12 +2,7 @@
 use super::{By, Row, State, Word, check};
 use crate::call_rows::CallRow::{CleanUp, Small};
 use crate::call_rows::PageCallRow::{MapTo, Unmap};
-use crate::images::{fits, frame_at};
-use std::alloc::Global;
-use std::process::Abort;
-use x86_64::FourLevels;
-use x86_64_plain::Answer::Done;
-use x86_64_plain::PlainReply::{Answered, Cleaned};
+use crate::prelude::*;
 
 /// The words that map the page 0x1000 of the second hierarchy to the frame 0xa000.
 const TWO: [Word; 4] = [
@@ -90,17 +85,17 @@ static STEPS: [Row<'static>; 4] = [
 
 /// Executes steps one after another in one memory, compares the results of each, and asserts that the pool fits both
 /// hierarchies again.
-fn check_steps(rt: impl Abort + Copy, alloc: Global, steps: &[Row<'_>]) {
-    let mut state = State::new(rt, alloc, &BOTH, By::Identity);
+fn check_steps(rt: impl Test, steps: &[Row<'_>]) {
+    let mut state = State::new(rt, &BOTH, By::Identity);
     for step in steps.iter().enumerate() {
-        check(rt, alloc, step, By::Identity, &mut state);
+        check(rt, step, By::Identity, &mut state);
         for root in [0x1000, 0x2000] {
-            assert!(rt; fits::<FourLevels>(rt, alloc, &state.memory, frame_at(root), &state.pool));
+            assert!(rt; fits::<FourLevels>(rt, &state.memory, frame_at(root), &state.pool));
         }
     }
 }
 
 #[test]
 fn hierarchies_take_tables_from_one_pool(rt: HostRuntime) {
-    check_steps(rt, rt.alloc(), &STEPS)
+    check_steps(rt, &STEPS)
 }

@@ -1,12 +1,8 @@
 //! Frames that don't lie at the places of their numbers.
 use super::calls::MAPPED;
 use super::{By, Row, State, add_replies, calls_of, compare};
-use crate::assertions::{assert_equal, unwrap};
-use crate::images::{frame_at, pool_of, run_over};
-use std::alloc::Global;
-use std::process::Abort;
-use x86_64::structures::paging::mapper::PageTableFrameMapping;
-use x86_64::{FlushRecorder, PhysMemory, ShiftMapping, pool_fits};
+use crate::prelude::*;
+use x86_64::ShiftMapping;
 
 /// The first map, with the root's frame at place 0. The words are given with the addresses of their places.
 static ROW: Row<'static> = Row {
@@ -22,38 +18,30 @@ static ROW: Row<'static> = Row {
     ..MAPPED
 };
 
-#[test]
-fn mappings_cover_frames_from_a_first_one_on(rt: HostRuntime) {
-    let mapping = ShiftMapping::new(0x100);
-    let root = frame_at(0x10_0000);
-    assert!(rt; !mapping.covers(frame_at(0xf_f000)));
-    assert!(rt; mapping.covers(root));
-    assert_equal(rt, mapping.frame_to_pointer(root).number(), 0);
-}
-
 /// Executes a row's calls with frame 0x100000 at place 0, and compares the results.
-fn check_shifted(rt: impl Abort + Copy, alloc: Global, row: &Row<'_>) {
-    let mut memory = unwrap(rt, PhysMemory::new(alloc, 4));
-    let mut pool = pool_of(rt, alloc, 0x104, row.free);
+fn check_shifted(rt: impl Test, row: &Row<'_>) {
+    let mut memory = unwrap(rt, PhysMemory::new(rt.alloc(), 4));
+    let mut pool = pool_of(rt, 0x104, row.free);
     let (root, mapping) = (frame_at(row.root), ShiftMapping::new(0x100));
-    let calls = calls_of(rt, alloc, row.calls);
-    let (mut replies, mut wanted) = (Vec::new(alloc), Vec::new(alloc));
+    let calls = calls_of(rt, row.calls);
+    let (mut replies, mut wanted) = (Vec::new(rt.alloc()), Vec::new(rt.alloc()));
     add_replies(rt, row.calls, &mut wanted);
-    assert!(rt; unwrap(rt, pool_fits(alloc, &memory, &mapping, root, &pool)));
-    unwrap(
-        rt,
-        run_over(&mut memory, root, mapping, &mut pool, &calls, &mut replies),
-    );
+    assert!(rt; unwrap(rt, pool_fits(rt.alloc(), &memory, &mapping, root, &pool)));
+    let ran = run_over(&mut memory, root, mapping, &mut pool, &calls, &mut replies);
+    unwrap(rt, ran);
     assert_equal(rt, replies, wanted);
     let state = State {
         memory,
         pool,
-        recorder: FlushRecorder::new(alloc),
+        recorder: FlushRecorder::new(rt.alloc()),
     };
     compare(rt, &state, row, By::Identity, "shifted")
 }
 
 #[test]
 fn frames_lie_from_a_first_one_on(rt: HostRuntime) {
-    check_shifted(rt, rt.alloc(), &ROW)
+    let (mapping, root) = (ShiftMapping::new(0x100), frame_at(0x10_0000));
+    assert!(rt; !mapping.covers(frame_at(0xf_f000)) && mapping.covers(root));
+    assert_equal(rt, mapping.frame_to_pointer(root).number(), 0);
+    check_shifted(rt, &ROW)
 }

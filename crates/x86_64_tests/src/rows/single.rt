@@ -5,27 +5,15 @@ ghost use Rattle.x86_64_model.specs.Mapper.{Valid, May, PoolFits, SupplyFits, pa
 ghost use Rattle.x86_64_model.specs.Pool.{serves_below};
 
 use super::{Exchange, State};
-use crate::assertions::{assert_equal, unwrap};
 use crate::call_rows::{CallRow, PageCallRow};
-use crate::images::{ROOT, fits, flags_of, frame_at, page_at};
-use bitflags::Flags;
-use std::alloc::Global;
-use std::process::Abort;
-use x86_64::structures::paging::mapper::{
-    CleanUp, FlagUpdateError, MapperAllSizes, MapperFlush, MapperFlushAll, UnmapError,
-};
-use x86_64::structures::paging::{
-    MappedPageTable, Mapper, Page, PageSize, PageTableFlags, PhysFrame, Size1GiB, Size2MiB,
-    Size4KiB, Translate,
-};
-use x86_64::{
-    FlushRecorder, FourLevels, FramePool, IdentityMapping, MapperReply, PageReply, Reply,
-    SizeReply, VirtAddr, is_outside_window, parent_flags,
-};
+use crate::prelude::*;
+use x86_64::structures::paging::mapper::{CleanUp, MapperAllSizes, MapperFlush};
+use x86_64::structures::paging::{Mapper, Page, Size1GiB, Size2MiB, Translate};
+use x86_64::{SizeReply, is_outside_window, parent_flags};
 
 /// Flushes the token of a change to a page, if there is one, and returns the page.
 fn flush<S: PageSize, E: Drop>(
-    rt: impl Abort + Copy,
+    rt: impl Test,
     changed: Result<MapperFlush<S>, E>,
     recorder: &mut FlushRecorder,
 ) -> Result<Page<S>, E> {
@@ -42,7 +30,7 @@ fn flush<S: PageSize, E: Drop>(
 
 /// Flushes the token of a change of flags, if there is one.
 fn flush_all(
-    rt: impl Abort + Copy,
+    rt: impl Test,
     changed: Result<MapperFlushAll, FlagUpdateError>,
     recorder: &mut FlushRecorder,
 ) -> Result<(), FlagUpdateError> {
@@ -68,7 +56,7 @@ fn identity_page<S: PageSize>(frame: PhysFrame<S>) -> Option<Page<S>>
 
 /// Maps the page at a frame's own address, if that is allowed.
 fn map_identity<S: PageSize, M: Mapper<S>>(
-    rt: impl Abort + Copy,
+    rt: impl Test,
     mapper: &mut M,
     pool: &mut FramePool,
     page: Page<S>,
@@ -89,7 +77,7 @@ fn map_identity<S: PageSize, M: Mapper<S>>(
 
 /// Maps a page, with given parent flags or with those from its flags, if that is allowed.
 fn map<S: PageSize, M: Mapper<S>>(
-    rt: impl Abort + Copy,
+    rt: impl Test,
     mapper: &mut M,
     pool: &mut FramePool,
     page: Page<S>,
@@ -113,7 +101,7 @@ fn map<S: PageSize, M: Mapper<S>>(
 /// Sets the flags of the entry of a level on a page's path, if that is allowed.
 #[tactic(auto, unfolding(x86_64_model::specs::Entry::address, x86_64_model::specs::Entry::has))]
 fn set_flags<S: PageSize, M: Mapper<S>>(
-    rt: impl Abort + Copy,
+    rt: impl Test,
     mapper: &mut M,
     level: u8,
     page: Page<S>,
@@ -144,7 +132,7 @@ fn set_flags<S: PageSize, M: Mapper<S>>(
 
 /// Unmaps a page.
 fn unmap<S: PageSize, M: Mapper<S>>(
-    rt: impl Abort + Copy,
+    rt: impl Test,
     mapper: &mut M,
     page: Page<S>,
     recorder: &mut FlushRecorder,
@@ -159,7 +147,7 @@ fn unmap<S: PageSize, M: Mapper<S>>(
 /// Makes a call on a page, if it is allowed.
 #[tactic(auto, unfolding(x86_64_model::specs::Entry::address))]
 fn answer_page<S: PageSize, M: Mapper<S>>(
-    rt: impl Abort + Copy,
+    rt: impl Test,
     mapper: &mut M,
     pool: &mut FramePool,
     call: PageCallRow,
@@ -208,7 +196,7 @@ fn answer_page<S: PageSize, M: Mapper<S>>(
 
 /// Makes a call, if it is allowed.
 fn answer_call<M: MapperAllSizes + Translate + CleanUp>(
-    rt: impl Abort + Copy,
+    rt: impl Test,
     mapper: &mut M,
     pool: &mut FramePool,
     call: CallRow,
@@ -247,8 +235,7 @@ fn answer_call<M: MapperAllSizes + Translate + CleanUp>(
 /// Makes the calls of exchanges one by one, each with a mapper over the identity mapping that is then dropped, and
 /// appends the replies.
 pub fn answer_singly(
-    rt: impl Abort + Copy,
-    alloc: Global,
+    rt: impl Test,
     state: &mut State,
     exchanges: &[Exchange],
     replies: &mut Vec<Reply>,
@@ -260,7 +247,7 @@ pub fn answer_singly(
             pool,
             recorder,
         } = &mut *state;
-        assert!(rt; fits::<FourLevels>(rt, alloc, memory, root, pool));
+        assert!(rt; fits::<FourLevels>(rt, memory, root, pool));
         let mut mapper = MappedPageTable::new(memory, root, IdentityMapping);
         let answer = answer_call(rt, &mut mapper, pool, *call, recorder);
         unwrap(rt, replies.push(answer.unwrap_or(Reply::NotAllowed)));
