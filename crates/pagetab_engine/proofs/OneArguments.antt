@@ -2,7 +2,7 @@
 use Rattle.std.proofs.Common.{◌≡◌, ℕ, ◌-◌, ◌^◌, sym, ap₂, ◌∙◌, nat_lt, if◌then◌else◌, cond, bytes_eq, codes, List, [], ◌∷◌, arith}
 use Rattle.std.proofs.lemmas.Bool.Decides.{nat_tests}
 use Rattle.x86_64_model.specs.Position.{raw, lower_half, position_count}
-use Rattle.x86_64_numbers.specs.Numbers.{number_of}
+use Rattle.x86_64_mappings.specs.Numbers.{number_of}
 use Rattle.pagetab_engine.specs.Arguments.{SaysMode, Says}
 use Rattle.pagetab_engine.specs.declared.arguments.Arguments.{Arguments}
 use Rattle.pagetab_engine.specs.declared.arguments.Levels.TheVariants.{Four, Five}

@@ -21,7 +21,7 @@ use Rattle.pagetab_engine.specs.Program.{Answers, SaysCommand}
 use Rattle.pagetab_engine.specs.Reply.{IsReply, back_of, state_after}
 use Rattle.pagetab_engine.specs.Requests.{asked, is_refused, walk_to}
 use Rattle.pagetab_engine.specs.Slot.{word_in}
-use Rattle.x86_64_numbers.specs.Numbers.{hexadecimal}
+use Rattle.x86_64_mappings.specs.Numbers.{hexadecimal}
 use Rattle.pagetab_engine.specs.Texts.{call_text, pool_text, reply_line, walked_text}
 use Rattle.pagetab_engine.specs.declared.arguments.Arguments.{Arguments}
 use Rattle.pagetab_engine.specs.declared.arguments.Mode.{Mode}

@@ -1,6 +1,6 @@
 -- A line has at most one name, SIZE or none, and one list of numbers.
 use Rattle.std.proofs.Common.{◌≡◌, ◌≤◌, ◌<◌, ℕ, refl, sym, ap, ap₂, subst, ◌∙◌, cond, bytes_eq, List, [], ◌∷◌, ◌++◌, length, Option, Some, None, arith}
-use Rattle.x86_64_numbers.specs.Numbers.{IsNumber}
+use Rattle.x86_64_mappings.specs.Numbers.{IsNumber}
 use Rattle.pagetab_engine.specs.Fields.{name_text, size_text, size_texts, AreNumbers, Says}
 use Rattle.pagetab_engine.specs.PageCalls.{IsPageCall, bytes_of}
 use Rattle.pagetab_engine.specs.Statements.{IsOnAddresses, IsPlain, IsStatement, levels_in}

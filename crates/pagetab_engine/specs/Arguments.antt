@@ -1,7 +1,7 @@
 -- The program's arguments.
 use Rattle.std.specs.Prelude.{◌≡◌, ◌≤◌, ◌<◌, ℕ, List, [], ◌∷◌, codes}
 use Rattle.x86_64_model.specs.Position.{raw}
-use Rattle.x86_64_numbers.specs.Numbers.{IsNumber, number_of}
+use Rattle.x86_64_mappings.specs.Numbers.{IsNumber, number_of}
 use Rattle.pagetab_engine.specs.declared.arguments.Arguments.{Arguments}
 use Rattle.pagetab_engine.specs.declared.arguments.Levels.{Levels}
 use Rattle.pagetab_engine.specs.declared.arguments.Levels.TheVariants.{Four, Five}

@@ -1,7 +1,7 @@
 -- The fields of a line as texts.
 use Rattle.std.specs.Prelude.{◌≡◌, ◌==◌, ℕ, ⊤, Bool, true, false, List, [], ◌∷◌, ◌++◌, codes, filter, Option, Some, None}
 use Rattle.std.specs.List.{slice_split}
-use Rattle.x86_64_numbers.specs.Numbers.{IsNumber, number_of}
+use Rattle.x86_64_mappings.specs.Numbers.{IsNumber, number_of}
 use Rattle.pagetab_engine.specs.declared.fields.Name.{Name}
 use Rattle.pagetab_engine.specs.declared.fields.Name.TheVariants.{Word, Free, Translate, Addr, Walk, Show, Pool, Map, MapWith, Identity, Unmap, Update, P5, P4, P3, P2, TranslatePage, CleanUp, CleanUpRange}
 use Rattle.pagetab_engine.specs.declared.fields.Size.{Size}

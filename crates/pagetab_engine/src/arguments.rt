@@ -2,13 +2,13 @@
 ghost use Rattle.std.specs.Prelude.{◌<◌, ℕ, [], ◌∷◌, map, string_bytes, IfSome, IfNone};
 ghost use Rattle.std.specs.Option.{SomeIff};
 ghost use Rattle.pagetab_engine.specs.Arguments.{IsPlaces, IsAddress, IsIndex, Says, SaysMode};
-ghost use Rattle.x86_64_numbers.specs.Numbers.{number_of};
+ghost use Rattle.x86_64_mappings.specs.Numbers.{number_of};
 ghost use Rattle.pagetab_engine.specs.declared.arguments.Mode.TheVariants.{Recursive, Pair};
 
 use crate::request::Request;
 use x86_64::VirtAddr;
 use x86_64::structures::paging::PageTableIndex;
-use x86_64_numbers::parse_number;
+use x86_64_mappings::text::parse_number;
 
 /// The number of levels of page tables.
 #[derive(Clone, Copy)]

@@ -11,16 +11,13 @@ ghost use Rattle.pagetab_engine.specs.Hierarchy.{IsTwin, TwinAnswers};
 use crate::frames::{Frames, root};
 use std::alloc::{AllocError, Global};
 use x86_64::structures::paging::PageTableIndex;
-use x86_64::structures::paging::mapper::{TableAccess, Tables};
-use x86_64::{
-    CallIn, FramePool, IdentityMapping, LevelCount, LevelFiveFlags, PhysMemory, ReplyIn, TablesIn,
-    run, run_pair,
+use x86_64::structures::paging::mapper::{
+    MappedPageTableIn, OffsetPageTableIn, RecursivePageTableIn, TableAccess, Tables,
 };
-use x86_64_addr::addr::VirtAddrIn;
-use x86_64_mappers::mapped_page_table::MappedPageTableIn;
-use x86_64_mappers::offset_page_table::OffsetPageTableIn;
-use x86_64_mappers::recursive_page_table::RecursivePageTableIn;
-use x86_64_tables::phys_memory::Active;
+use x86_64::{
+    Active, CallIn, FramePool, IdentityMapping, LevelCount, LevelFiveFlags, PhysMemory, ReplyIn,
+    TablesIn, VirtAddrIn, run, run_pair,
+};
 
 /// Runs the list of one call with a mapper, and returns the reply.
 ///

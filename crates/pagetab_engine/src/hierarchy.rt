@@ -16,8 +16,7 @@ use crate::request::{Answer, Request};
 use crate::statement::ImageLine;
 use std::alloc::{AllocError, Global};
 use x86_64::structures::paging::OffsetPageTable;
-use x86_64::{CallIn, LevelCount, LevelFiveFlags, PoolRefusal, ReplyIn};
-use x86_64_addr::addr::VirtAddrIn;
+use x86_64::{CallIn, LevelCount, LevelFiveFlags, PoolRefusal, ReplyIn, VirtAddrIn};
 
 /// The frames of a hierarchy, and the mapper that executes calls.
 ///

@@ -7,10 +7,8 @@ ghost use Rattle.pagetab_engine.specs.PageCalls.{IsPageCall, bytes_of, call_writ
 
 use crate::fields::{Name, Size};
 use bitflags::Flags;
-use x86_64::structures::paging::{PageSize, PageTableFlags, PhysFrame};
-use x86_64::{CallIn, LevelCount, LevelFiveFlags, PhysAddr, SizeCallIn};
-use x86_64_addr::addr::VirtAddrIn;
-use x86_64_page::page::PageIn;
+use x86_64::structures::paging::{PageIn, PageSize, PageTableFlags, PhysFrame};
+use x86_64::{CallIn, LevelCount, LevelFiveFlags, PhysAddr, SizeCallIn, VirtAddrIn};
 
 /// Parses a call on a page of a size. A page and a frame are written as their start addresses.
 ///

@@ -1,7 +1,7 @@
 //! The texts of replies.
 ghost use Rattle.std.specs.Prelude.{◌≡◌, Some};
 ghost use Rattle.std.specs.Fmt.{WritesOnOk};
-ghost use Rattle.x86_64_numbers.specs.Numbers.{hexadecimal};
+ghost use Rattle.x86_64_mappings.specs.Numbers.{hexadecimal};
 ghost use Rattle.pagetab_engine.specs.Texts as texts;
 
 use crate::request::Answer;
@@ -12,7 +12,7 @@ use x86_64::structures::paging::mapper::{
 };
 use x86_64::structures::paging::{PageSize, PhysFrame, Size1GiB, Size2MiB, Size4KiB};
 use x86_64::{MapperReply, PageReply, PhysAddr, Walked};
-use x86_64_numbers::write_hexadecimal;
+use x86_64_mappings::text::write_hexadecimal;
 
 /// The reply to a call on a page that is not mapped.
 const PAGE_NOT_MAPPED: &str = "page not mapped";

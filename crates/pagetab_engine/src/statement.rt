@@ -15,10 +15,8 @@ use crate::fields::{Fields, Name, Size};
 use crate::page_call::{page_at, parse_call};
 use crate::request::{Address, Request};
 use crate::slot::{Slot, frame_at, slot_at};
-use x86_64::structures::paging::{PageTableFlags, PhysFrame, Size4KiB};
-use x86_64::{CallIn, FiveLevels, FourLevels, LevelCount, LevelFiveFlags, NoLevelFive};
-use x86_64_addr::addr::VirtAddrIn;
-use x86_64_page::page::PageIn;
+use x86_64::structures::paging::{PageIn, PageTableFlags, PhysFrame, Size4KiB};
+use x86_64::{CallIn, FiveLevels, FourLevels, LevelCount, LevelFiveFlags, NoLevelFive, VirtAddrIn};
 
 /// A question about the hierarchy, or a call on it.
 #[derive(Clone, Copy)]

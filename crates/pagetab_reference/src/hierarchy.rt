@@ -1,8 +1,8 @@
 //! The entries of a hierarchy by their paths, and the words that are no entries.
 use crate::mode::Mode;
 use std::alloc::{AllocError, Global};
-use x86_64_plain::words::{address, is_huge};
-use x86_64_plain::{PathEntries, PlainCall, PlainReply, PlainState};
+use test_reference::words::{address, is_huge};
+use test_reference::{PathEntries, PlainCall, PlainReply, PlainState};
 
 /// The address of the root's frame.
 const ROOT: u64 = 0x1000;

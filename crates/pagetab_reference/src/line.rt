@@ -2,9 +2,9 @@
 use crate::mode::Mode;
 use anyhow::Context;
 use std::alloc::{AllocError, Global};
-use x86_64_numbers::parse_number;
-use x86_64_plain::PlainCall;
-use x86_64_plain::positions::path_at;
+use test_reference::PlainCall;
+use test_reference::positions::path_at;
+use x86_64_mappings::text::parse_number;
 
 /// A line of the image, or a command.
 #[derive(Drop)]

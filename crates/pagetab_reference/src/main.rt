@@ -19,7 +19,7 @@ use reply::{CallReply, write_pool};
 use std::alloc::Global;
 use std::env;
 use std::io::{self, BufRead, BufReader, BufWriter, Write};
-use x86_64_numbers::parse_number;
+use x86_64_mappings::text::parse_number;
 
 fn main(rt: HostRuntime) -> anyhow::Result<()> {
     let alloc = rt.alloc();

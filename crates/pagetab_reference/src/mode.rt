@@ -1,8 +1,8 @@
 //! The modes of the program, and the plain machines that answer in them.
 ghost use Rattle.std.specs.Prelude.{◌≤◌};
 
-use x86_64_plain::positions::index;
-use x86_64_plain::{PlainCall, PlainMachine, PlainWindow};
+use test_reference::positions::index;
+use test_reference::{PlainCall, PlainMachine, PlainWindow};
 
 /// The number of levels, and how tables are found.
 #[derive(Clone, Copy)]

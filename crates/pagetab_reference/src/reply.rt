@@ -1,7 +1,7 @@
 //! The texts of replies.
 use std::fmt::{Display, Formatter, Result as FmtResult, Write};
 use std::io;
-use x86_64_plain::{Answer, PlainCall, PlainReply, Refusal, Translated};
+use test_reference::{Answer, PlainCall, PlainReply, Refusal, Translated};
 
 /// The reply to a call.
 #[derive(Drop)]

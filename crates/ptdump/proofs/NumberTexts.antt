@@ -6,7 +6,7 @@ use Rattle.std.proofs.Math.ListN.{get_or-map}
 use Rattle.clap.specs.Matches.{raw_values}
 use Rattle.clap.specs.declared.parser.matches.MatchedArg.{MatchedArg}
 use Rattle.std.specs.Borrow.{Bor}
-use Rattle.x86_64_numbers.specs.Numbers.{IsNumber, number_of}
+use Rattle.x86_64_mappings.specs.Numbers.{IsNumber, number_of}
 use Rattle.ptdump.specs.Requests.{AreNumbers}
 
 -- one more number

@@ -11,7 +11,7 @@ use Rattle.ptdump_engine.specs.declared.request.Request.{Request}
 use Rattle.ptdump_engine.specs.declared.failure.Failure.TheVariants.{OutOfMemory}
 use Rattle.ptdump.specs.declared.stop.Stop.{Stop}
 use Rattle.ptdump.specs.declared.stop.Stop.TheVariants.{Failed, NoCommand}
-use Rattle.x86_64_numbers.specs.Numbers.{IsNumber, number_of}
+use Rattle.x86_64_mappings.specs.Numbers.{IsNumber, number_of}
 
 -- each text is a number, and these are their numbers
 abbrev pub AreNumbers : (texts : List (List ℕ)) → (numbers : List ℕ) → Type 0

@@ -3,7 +3,7 @@ ghost use Rattle.std.specs.Prelude.{ℕ, Option, IfOk, IfErr, map};
 ghost use Rattle.std.specs.Option.{option_copied};
 ghost use Rattle.std.specs.Result.{OkIff};
 ghost use Rattle.clap.specs.Matches.{found_of};
-ghost use Rattle.x86_64_numbers.specs.Numbers.{IsNumber, number_of};
+ghost use Rattle.x86_64_mappings.specs.Numbers.{IsNumber, number_of};
 ghost use Rattle.ptdump.specs.Requests.{AreNumbers, IsCommand, IsLevels, IsOption, IsRequest, IsRefused, IsUnread};
 ghost use Rattle.ptdump_engine.specs.declared.request.Levels.{Levels};
 
@@ -11,7 +11,7 @@ use crate::stop::Stop;
 use clap::ArgMatches;
 use ptdump_engine::{Command, Levels, Request};
 use std::alloc::Global;
-use x86_64_numbers::parse_number;
+use x86_64_mappings::text::parse_number;
 
 /// Returns the request for a command and its arguments.
 ///

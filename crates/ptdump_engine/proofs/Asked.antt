@@ -7,7 +7,7 @@ use Rattle.x86_64_model.specs.Mappings.{Mapping, mappings_of}
 use Rattle.x86_64_model.specs.Memory.{Words, identity_places}
 use Rattle.x86_64_model.specs.Position.{position_count, raw}
 use Rattle.x86_64_model.proofs.Lemmas.Mappings.Placed.{mappings_fit}
-use Rattle.x86_64_summaries.specs.Wanted.{asked_mappings, asked_of, is_wanted, leads_to}
+use Rattle.x86_64_mappings.specs.Wanted.{asked_mappings, asked_of, is_wanted, leads_to}
 use Rattle.ptdump_engine.specs.Loaded.{IsLoaded, words_loaded}
 use Rattle.ptdump_engine.specs.Reports.{addresses_text, found_text}
 use Rattle.ptdump_engine.specs.Walks.{line, access_text}

@@ -6,3 +6,4 @@ pub mod WalkLaws
 pub mod WalkLines
 pub mod Walking
 pub mod Wholly
+pub mod Renamed

@@ -2,7 +2,7 @@
 use Rattle.std.proofs.Common.{◌≡◌, ◌∙◌, ◌+◌, ◌-◌, ◌%◌, ◌&&◌, ℕ, zero, suc, Bool, true, false, cond, get_or, List, Option, Some, None, option_map, option_and_then, is_some, refl, sym, ap}
 use Rattle.std.specs.Option.{option_map_or}
 use Rattle.std.proofs.Math.Nat.{mod-eq-sub-div-mul}
-use Rattle.x86_64_dump_tables.specs.Reached.{SameBelow}
+use Rattle.x86_64_dump.specs.Reached.{SameBelow}
 use Rattle.x86_64_model.specs.Entry.{present, huge, address}
 use Rattle.x86_64_model.specs.Laws.Mappings.{arrival_in}
 use Rattle.x86_64_model.specs.Mappings.{Rights, Mapping, maps_page}

@@ -8,14 +8,14 @@ use Rattle.std.specs.declared.alloc.Global.{Global}
 use Rattle.x86_64_dump.specs.Dump.{Contents}
 use Rattle.x86_64_dump.specs.Opening.{Fails, contents_of}
 use Rattle.x86_64_dump.specs.declared.error.DumpError.{DumpError}
-use Rattle.x86_64_dump_tables.specs.Reached.{SameBelow}
+use Rattle.x86_64_dump.specs.Reached.{SameBelow}
 use Rattle.x86_64_mappings.specs.Texts.{mapping_text, region_text}
 use Rattle.x86_64_model.specs.Mappings.{mappings_of}
 use Rattle.x86_64_model.specs.Memory.{Words}
 use Rattle.x86_64_model.specs.PageWalk.{page_walk}
 use Rattle.x86_64_model.specs.Position.{position_count}
 use Rattle.x86_64_model.specs.Regions.{regions_in}
-use Rattle.x86_64_summaries.specs.Wanted.{leads_to}
+use Rattle.x86_64_mappings.specs.Wanted.{leads_to}
 use Rattle.ptdump_engine.specs.Output.{Puts, put_in}
 use Rattle.ptdump_engine.specs.Failure.{failure_of}
 use Rattle.ptdump_engine.specs.Program.{Opened, Reports, ReportsOf, Runs, completeness_of, opened_for, report_of, start_for}

@@ -7,10 +7,15 @@ pub mod Reports
 pub mod Start
 pub mod Steps
 pub mod Walks
+pub mod Entries
+pub mod FindingTexts
+pub mod Colours
+pub mod Links
 pub mod private
 pub use Rattle.x86_64_dump.specs.Opening
 pub use Rattle.x86_64_mappings.specs.Texts
-pub use Rattle.x86_64_summaries.specs.Wanted
+pub use Rattle.x86_64_mappings.specs.Wanted
 pub use Rattle.x86_64_model.specs.Mappings
 pub use Rattle.x86_64_model.specs.PageWalk
 pub use Rattle.x86_64_model.specs.Regions
+pub use Rattle.x86_64_model.specs.Memory

@@ -1,6 +1,6 @@
 -- Loaded: the data for reports.
 use Rattle.std.specs.Prelude.{◌≡◌, ℕ, None}
-use Rattle.x86_64_dump_tables.specs.Loaded.{words_in}
+use Rattle.x86_64_dump.specs.Loaded.{words_in}
 use Rattle.x86_64_model.specs.Memory.{Words}
 use Rattle.ptdump_engine.specs.declared.loaded.Loaded.{Loaded}
 

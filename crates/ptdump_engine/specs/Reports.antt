@@ -7,7 +7,7 @@ use Rattle.x86_64_model.specs.PageWalk.{page_walk}
 use Rattle.x86_64_model.specs.Position.{position_count, raw}
 use Rattle.x86_64_model.specs.Regions.{regions_of}
 use Rattle.x86_64_mappings.specs.Texts.{mapping_text, region_text}
-use Rattle.x86_64_summaries.specs.Wanted.{leads_to}
+use Rattle.x86_64_mappings.specs.Wanted.{leads_to}
 use Rattle.ptdump_engine.specs.Walks.{line, access_text, walk_of, walk_text}
 
 -- a line for each region

@@ -4,7 +4,7 @@
 use Rattle.std.specs.Prelude.{zero, suc, ℕ, ◌+◌, ◌%◌, ◌++◌, Bool, true, false, cond, List, [], ◌∷◌, map, Option, Some, None, codes, decimal}
 use Rattle.std.specs.List.{flat_map}
 use Rattle.std.specs.Option.{option_map_or}
-use Rattle.x86_64_numbers.specs.Numbers.{hexadecimal}
+use Rattle.x86_64_mappings.specs.Numbers.{hexadecimal}
 use Rattle.x86_64_model.specs.Entry.{present, huge, address}
 use Rattle.x86_64_model.specs.Mappings.{Rights, maps_page, rights_of}
 use Rattle.x86_64_model.specs.Memory.{Words}

@@ -2,8 +2,7 @@
 ghost use Rattle.std.specs.Prelude.{Some};
 
 use std::fmt::{Display, Formatter, Result as FmtResult, Write};
-use x86_64_mappings::text::write_rights;
-use x86_64_numbers::write_hexadecimal;
+use x86_64_mappings::text::{write_hexadecimal, write_rights};
 use x86_64_tables::phys_memory::Rights;
 
 /// An address with the rights that are allowed there.

@@ -1,14 +1,13 @@
 //! The report of a check.
 ghost use Rattle.std.specs.Prelude.{⊤};
 
+use crate::findings::table_findings;
 use crate::loaded::Loaded;
 use crate::output::{Output, OutputError};
-use ptdump_findings::table_findings;
 use std::alloc::Global;
 use std::io::Write;
 use x86_64_addr::level_count::LevelCount;
-use x86_64_mappings::RegionIn;
-use x86_64_summaries::{Visitor, visit_regions};
+use x86_64_mappings::{RegionIn, Visitor, visit_regions};
 
 /// A flaw of a region.
 #[derive(Clone, Copy)]

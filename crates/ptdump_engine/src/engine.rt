@@ -23,11 +23,10 @@ use std::alloc::Global;
 use std::io::Write;
 use std::marker::PhantomData;
 use x86_64_addr::level_count::{FiveLevels, FourLevels, LevelCount};
-use x86_64_dump::{ByteSource, Dump};
-use x86_64_dump_tables::{Progress, read_tables};
+use x86_64_dump::{ByteSource, Dump, Progress, read_tables};
+use x86_64_mappings::Summaries;
 use x86_64_page::frame::PhysFrame;
 use x86_64_page::page::Size4KiB;
-use x86_64_summaries::Summaries;
 use x86_64_tables::phys_memory::IdentityMapping;
 
 /// Runs the program on the bytes of a file: opens it as a dump, reads the tables that a root leads to, and writes the requested

@@ -8,8 +8,7 @@ use crate::output::{Output, OutputError};
 use std::io::Write;
 use x86_64_addr::addr::{PhysAddr, VirtAddrIn};
 use x86_64_addr::level_count::LevelCount;
-use x86_64_mappings::MappingIn;
-use x86_64_summaries::Visitor;
+use x86_64_mappings::{MappingIn, Visitor};
 use x86_64_tables::phys_memory::Rights;
 
 /// A destination for lines that describe the rights at addresses.

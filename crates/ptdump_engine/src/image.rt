@@ -3,9 +3,9 @@ ghost use Rattle.std.specs.Prelude.{IfErr};
 ghost use Rattle.ptdump_engine.specs.Steps.{IsForced};
 
 use crate::failure::Failure;
+use crate::findings::{Image, Table};
 use crate::loaded::Loaded;
 use crate::output::{Output, OutputError};
-use ptdump_findings::{Image, Table};
 use std::alloc::Global;
 use std::io::Write;
 use x86_64_addr::level_count::LevelCount;

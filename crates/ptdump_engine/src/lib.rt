@@ -4,9 +4,11 @@
 mod access;
 mod arguments;
 mod check;
+mod drawing;
 mod engine;
 mod failure;
 mod finder;
+mod findings;
 mod image;
 mod lines;
 mod loaded;
@@ -24,4 +26,4 @@ pub use failure::Failure;
 pub use loaded::Loaded;
 pub use output::{Output, OutputError};
 pub use request::{Command, Levels, Outcome, Request};
-pub use x86_64_dump_tables::{NoProgress, Progress};
+pub use x86_64_dump::{NoProgress, Progress};

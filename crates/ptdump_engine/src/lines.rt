@@ -8,8 +8,7 @@ ghost use Rattle.ptdump_engine.specs.private.Puts.{puts_nothing, puts_each};
 use crate::output::{Output, OutputError};
 use std::io::Write;
 use x86_64_addr::level_count::LevelCount;
-use x86_64_mappings::{MappingIn, RegionIn};
-use x86_64_summaries::Visitor;
+use x86_64_mappings::{MappingIn, RegionIn, Visitor};
 
 impl<L: LevelCount, W: Write> Visitor<MappingIn<L>> for Output<'_, W> {
     type Error = OutputError;

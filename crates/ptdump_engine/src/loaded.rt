@@ -2,10 +2,10 @@
 
 use std::marker::PhantomData;
 use x86_64_addr::level_count::LevelCount;
-use x86_64_dump_tables::DumpTables;
+use x86_64_dump::DumpTables;
+use x86_64_mappings::Summaries;
 use x86_64_page::frame::PhysFrame;
 use x86_64_page::page::Size4KiB;
-use x86_64_summaries::Summaries;
 use x86_64_tables::phys_memory::{IdentityMapping, PhysMemory};
 
 /// The data for all reports: the tables that a root leads to, with the number of levels of `L`, and what they map.

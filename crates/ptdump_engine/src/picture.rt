@@ -1,15 +1,14 @@
 //! The report that is a picture.
 ghost use Rattle.std.specs.Prelude.{⊤};
 
+use crate::drawing::{MOST_DRAWN_TABLES, Mapped, Picture, TableLink, table_links};
 use crate::loaded::Loaded;
 use crate::output::{Output, OutputError};
 use crate::totals::Totals;
-use ptdump_picture::{MOST_DRAWN_TABLES, Mapped, Picture, TableLink, table_links};
 use std::alloc::{AllocError, Global};
 use std::io::Write;
 use x86_64_addr::level_count::LevelCount;
-use x86_64_mappings::RegionIn;
-use x86_64_summaries::{Visitor, visit_regions};
+use x86_64_mappings::{RegionIn, Visitor, visit_regions};
 use x86_64_tables::phys_memory::IdentityMapping;
 
 /// A visitor that collects the regions.

@@ -2,7 +2,7 @@
 ghost use Rattle.std.specs.Prelude.{◌≡◌, ◌^◌, nat_le, None, OnOk, IfOk};
 ghost use Rattle.std.specs.List.{find, list_any};
 ghost use Rattle.x86_64_model.specs.Mappings.{mappings_of};
-ghost use Rattle.x86_64_summaries.specs.Wanted.{leads_to};
+ghost use Rattle.x86_64_mappings.specs.Wanted.{leads_to};
 ghost use Rattle.ptdump_engine.specs.Loaded.{IsLoaded, words_loaded};
 ghost use Rattle.ptdump_engine.specs.Output.{Puts};
 ghost use Rattle.ptdump_engine.specs.Reports as reports;
@@ -17,7 +17,7 @@ use std::alloc::Global;
 use std::io::Write;
 use x86_64_addr::addr::{PhysAddr, VirtAddrIn};
 use x86_64_addr::level_count::LevelCount;
-use x86_64_summaries::{Summaries, visit_mappings, visit_regions};
+use x86_64_mappings::{Summaries, visit_mappings, visit_regions};
 use x86_64_tables::phys_memory::{IdentityMapping, PhysMemory};
 
 /// Writes a line for each region.

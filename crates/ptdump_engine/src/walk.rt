@@ -1,6 +1,6 @@
 //! The walks to addresses.
 ghost use Rattle.std.specs.Prelude.{◌≡◌, ◌≤◌, ◌+◌, ◌%◌, true, OnOk, IfOk};
-ghost use Rattle.x86_64_dump_tables.specs.Loaded.{words_in};
+ghost use Rattle.x86_64_dump.specs.Loaded.{words_in};
 ghost use Rattle.x86_64_mappings.specs.Views.{seen_rights};
 ghost use Rattle.x86_64_model.specs.Mappings.{Rights as Allowed, maps_page as page_mapped};
 ghost use Rattle.x86_64_model.specs.Memory.{words_of, identity_places};

@@ -12,8 +12,9 @@ ghost use Rattle.x86_64.specs.Runs.{Stepped};
 
 use x86_64::flushing::{Flush, flush_after};
 use x86_64::structures::paging::mapper::TableAccess;
-use x86_64::{CallIn, FrameStore, LevelCount, LevelFiveFlags, ReplyIn, Tables, TablesIn, run_call};
-use x86_64_addr::addr::VirtAddrIn;
+use x86_64::{
+    CallIn, FrameStore, LevelCount, LevelFiveFlags, ReplyIn, Tables, TablesIn, VirtAddrIn, run_call,
+};
 
 /// A processor that uses the tables of a hierarchy, and caches what it finds in them.
 pub trait Processor {

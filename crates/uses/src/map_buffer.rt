@@ -6,10 +6,9 @@ ghost use Rattle.x86_64_model.specs.Mapper.{SupplyFits};
 ghost use Rattle.x86_64_tables.specs.MapperAnswers.{map_refusal};
 ghost use Rattle.x86_64_tables.specs.PageTableFlags.{bits_of};
 
-use x86_64::structures::paging::mapper::MapToError;
+use x86_64::structures::paging::mapper::{MapRangeErrorIn, MapToError};
 use x86_64::structures::paging::{Mapper, Page, PageTableFlags, PhysFrame, Size4KiB};
 use x86_64::{FramePool, parent_flags};
-use x86_64_mappers::calls::MapRangeErrorIn;
 
 /// How far a map of a buffer came, and why it stopped.
 #[derive(Clone, Copy)]

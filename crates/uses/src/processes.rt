@@ -16,9 +16,9 @@ ghost use Rattle.x86_64.specs.Pairs.{pool_store};
 use crate::run_in_space::call_on;
 use x86_64::structures::paging::{Page, PageTableFlags, PhysFrame, Size4KiB};
 use x86_64::{
-    Call, FourLevels, FramePool, IdentityMapping, Reply, SizeCall, TableMemory, VirtAddr,
+    Call, FourLevels, FramePool, GiveUpError, IdentityMapping, Reply, SharedIndices, SizeCall,
+    Space, TableMemory, VirtAddr, give_up_space, new_space,
 };
-use x86_64_spaces::{GiveUpError, SharedIndices, Space, give_up_space, new_space};
 
 /// Starts a process: makes an address space for it, with the kernel's half and nothing mapped in its own half. Returns
 /// its root, or `None` if no frame is free. Whatever other processes run, they keep their maps.

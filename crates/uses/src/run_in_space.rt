@@ -9,10 +9,9 @@ ghost use Rattle.x86_64.specs.Calls.{asks};
 ghost use Rattle.x86_64.specs.Runs.{Ran, Stepped};
 
 use std::alloc::AllocError;
-use x86_64::structures::paging::mapper::PageTableFrameMapping;
+use x86_64::structures::paging::mapper::{MappedPageTableIn, PageTableFrameMapping};
 use x86_64::structures::paging::{PhysFrame, Size4KiB};
 use x86_64::{CallIn, FrameStore, LevelCount, LevelFiveFlags, ReplyIn, TableMemory, run, run_call};
-use x86_64_mappers::mapped_page_table::MappedPageTableIn;
 use x86_64_model::laws::spaces::{
     calls_keep_root_entries, calls_keep_what_they_avoid, shared_halves_stay, spaces_stay,
 };

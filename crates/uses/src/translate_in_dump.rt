@@ -8,8 +8,7 @@ ghost use Rattle.x86_64_tables.specs.Walks.{walked_of};
 use std::alloc::Global;
 use x86_64::structures::paging::{PhysFrame, Size4KiB};
 use x86_64::{FourLevels, IdentityMapping, VirtAddr, Walked, page_walk};
-use x86_64_dump::{Dump, DumpError};
-use x86_64_dump_tables::{NoProgress, read_tables};
+use x86_64_dump::{Dump, DumpError, NoProgress, read_tables};
 
 /// Returns where the page walk of an address arrives in the memory of a dump, or `None` if it faults.
 pub fn walk_in_dump(

@@ -11,39 +11,112 @@ pub mod laws;
 mod runs;
 pub mod structures;
 
-pub use calls::{
-    Call, Call57, CallIn, LevelFiveFlags, MapperReply, NoLevelFive, PageReply, Reply, Reply57,
-    ReplyIn, SizeCall, SizeCall57, SizeCallIn, SizeReply, SizeReply57, SizeReplyIn,
-};
-pub use runs::{
-    is_outside_window, is_outside_window as is_outside_window_57, run, run as run_57, run_call,
-    run_call as run_call_57, run_flushed, run_flushed as run_flushed_57, run_pair,
-    run_pair as run_pair_57,
-};
+pub use calls::Call;
+pub use calls::Call57;
+pub use calls::CallIn;
+pub use calls::LevelFiveFlags;
+pub use calls::MapperReply;
+pub use calls::NoLevelFive;
+pub use calls::PageReply;
+pub use calls::Reply;
+pub use calls::Reply57;
+pub use calls::ReplyIn;
+pub use calls::SizeCall;
+pub use calls::SizeCall57;
+pub use calls::SizeCallIn;
+pub use calls::SizeReply;
+pub use calls::SizeReply57;
+pub use calls::SizeReplyIn;
+pub use runs::is_outside_window;
+pub use runs::is_outside_window as is_outside_window_57;
+pub use runs::run;
+pub use runs::run as run_57;
+pub use runs::run_call;
+pub use runs::run_call as run_call_57;
+pub use runs::run_flushed;
+pub use runs::run_flushed as run_flushed_57;
+pub use runs::run_pair;
+pub use runs::run_pair as run_pair_57;
 pub use x86_64_addr::addr;
-pub use x86_64_addr::addr::{PhysAddr, VirtAddr, VirtAddr57};
-pub use x86_64_addr::level_count::{FiveLevels, FourLevels, LevelCount};
-pub use x86_64_mappers::recursive_page_table::{
-    WalkedTables, p1_window, p1_window_57, p2_window, p2_window_57, p3_window, p3_window_57,
-    p4_window_57,
-};
-pub use x86_64_mappings::{
-    Mapping, Mapping57, MappingIn, Mappings, Mappings57, MappingsIn, Region, Region57, RegionIn,
-    Regions, Regions57, RegionsIn, mappings, mappings_57, mappings_from,
-    mappings_from as mappings_from_57, regions, regions_57,
-};
+pub use x86_64_addr::addr::PhysAddr;
+pub use x86_64_addr::addr::VirtAddr;
+pub use x86_64_addr::addr::VirtAddr57;
+pub use x86_64_addr::addr::VirtAddrIn;
+pub use x86_64_addr::level_count::FiveLevels;
+pub use x86_64_addr::level_count::FourLevels;
+pub use x86_64_addr::level_count::LevelCount;
+pub use x86_64_mappers::recursive_page_table::WalkedTables;
+pub use x86_64_mappers::recursive_page_table::p1_window;
+pub use x86_64_mappers::recursive_page_table::p1_window_57;
+pub use x86_64_mappers::recursive_page_table::p2_window;
+pub use x86_64_mappers::recursive_page_table::p2_window_57;
+pub use x86_64_mappers::recursive_page_table::p3_window;
+pub use x86_64_mappers::recursive_page_table::p3_window_57;
+pub use x86_64_mappers::recursive_page_table::p4_window_57;
+pub use x86_64_mappings::Mapping;
+pub use x86_64_mappings::Mapping57;
+pub use x86_64_mappings::MappingIn;
+pub use x86_64_mappings::Mappings;
+pub use x86_64_mappings::Mappings57;
+pub use x86_64_mappings::MappingsIn;
+pub use x86_64_mappings::Region;
+pub use x86_64_mappings::Region57;
+pub use x86_64_mappings::RegionIn;
+pub use x86_64_mappings::Regions;
+pub use x86_64_mappings::Regions57;
+pub use x86_64_mappings::RegionsIn;
+pub use x86_64_mappings::mappings;
+pub use x86_64_mappings::mappings_57;
+pub use x86_64_mappings::mappings_from;
+pub use x86_64_mappings::mappings_from as mappings_from_57;
+pub use x86_64_mappings::regions;
+pub use x86_64_mappings::regions_57;
 pub use x86_64_page::range::Block;
-pub use x86_64_tables::frame_alloc::{
-    FrameKeeper, FramePool, FrameStore, LentPool, OwnFrames, PoolRefusal,
-};
-pub use x86_64_tables::mapper::{
-    FlushItem, FlushRecorder, MOST_PAGE_ITEMS, PageTables, PageTables57, Tables, TablesIn,
-    page_after, parent_flags,
-};
-pub use x86_64_tables::phys_memory::{
-    ActiveMemory, ActiveMemory57, FramePlace, IdentityMapping, LentMemory, PhysMemory,
-    PlacesRefusal, ShiftMapping, TableMemory, Walked, is_valid_by_marks, is_valid_hierarchy,
-    is_valid_hierarchy_57, is_valid_recursive, is_valid_recursive_57, page_walk, page_walk_57,
-    pool_fits, pool_fits_57, pool_fits_by_marks, pool_fits_recursive, pool_fits_recursive_57,
-    tables_alike, tables_alike_57,
-};
+pub use x86_64_spaces::GiveUpError;
+pub use x86_64_spaces::SharedIndices;
+pub use x86_64_spaces::Space;
+pub use x86_64_spaces::give_up_space;
+pub use x86_64_spaces::new_space;
+pub use x86_64_spaces::roots_fit_by_marks;
+pub use x86_64_spaces::spaces_fit;
+pub use x86_64_spaces::spaces_fit_by_marks;
+pub use x86_64_tables::frame_alloc::FrameKeeper;
+pub use x86_64_tables::frame_alloc::FramePool;
+pub use x86_64_tables::frame_alloc::FrameStore;
+pub use x86_64_tables::frame_alloc::LentPool;
+pub use x86_64_tables::frame_alloc::OwnFrames;
+pub use x86_64_tables::frame_alloc::PoolRefusal;
+pub use x86_64_tables::mapper::FlushItem;
+pub use x86_64_tables::mapper::FlushRecorder;
+pub use x86_64_tables::mapper::MOST_PAGE_ITEMS;
+pub use x86_64_tables::mapper::PageTables;
+pub use x86_64_tables::mapper::PageTables57;
+pub use x86_64_tables::mapper::Tables;
+pub use x86_64_tables::mapper::TablesIn;
+pub use x86_64_tables::mapper::page_after;
+pub use x86_64_tables::mapper::parent_flags;
+pub use x86_64_tables::phys_memory::Active;
+pub use x86_64_tables::phys_memory::ActiveMemory;
+pub use x86_64_tables::phys_memory::ActiveMemory57;
+pub use x86_64_tables::phys_memory::FramePlace;
+pub use x86_64_tables::phys_memory::IdentityMapping;
+pub use x86_64_tables::phys_memory::LentMemory;
+pub use x86_64_tables::phys_memory::PhysMemory;
+pub use x86_64_tables::phys_memory::PlacesRefusal;
+pub use x86_64_tables::phys_memory::ShiftMapping;
+pub use x86_64_tables::phys_memory::TableMemory;
+pub use x86_64_tables::phys_memory::Walked;
+pub use x86_64_tables::phys_memory::is_valid_by_marks;
+pub use x86_64_tables::phys_memory::is_valid_hierarchy;
+pub use x86_64_tables::phys_memory::is_valid_hierarchy_57;
+pub use x86_64_tables::phys_memory::is_valid_recursive;
+pub use x86_64_tables::phys_memory::is_valid_recursive_57;
+pub use x86_64_tables::phys_memory::page_walk;
+pub use x86_64_tables::phys_memory::page_walk_57;
+pub use x86_64_tables::phys_memory::pool_fits;
+pub use x86_64_tables::phys_memory::pool_fits_57;
+pub use x86_64_tables::phys_memory::pool_fits_by_marks;
+pub use x86_64_tables::phys_memory::pool_fits_recursive;
+pub use x86_64_tables::phys_memory::pool_fits_recursive_57;
+pub use x86_64_tables::phys_memory::tables_alike;
+pub use x86_64_tables::phys_memory::tables_alike_57;

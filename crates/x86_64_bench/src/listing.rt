@@ -1,8 +1,7 @@
 //! Lists of mappings.
 use bitflags::Flags;
 use x86_64::structures::paging::{PhysFrame, Size4KiB};
-use x86_64::{IdentityMapping, LevelCount, MappingIn, TableMemory, mappings_from};
-use x86_64_addr::addr::VirtAddrIn;
+use x86_64::{IdentityMapping, LevelCount, MappingIn, TableMemory, VirtAddrIn, mappings_from};
 
 /// The number of listed mappings, and the sum of all their contents.
 #[derive(Clone, Copy)]

@@ -5,10 +5,8 @@ use crate::listing::SUPERVISOR_RIGHTS;
 use rand::seq::SliceRandom;
 use rand_pcg::Pcg32;
 use std::alloc::{AllocError, Global};
-use x86_64::structures::paging::{PageSize, PhysFrame};
-use x86_64::{LevelCount, PhysAddr};
-use x86_64_addr::addr::VirtAddrIn;
-use x86_64_page::page::PageIn;
+use x86_64::structures::paging::{PageIn, PageSize, PhysFrame};
+use x86_64::{LevelCount, PhysAddr, VirtAddrIn};
 
 /// The number of page numbers in a scattered workload.
 const SCATTERED_PAGES: u64 = 1 << 22;

@@ -12,13 +12,12 @@ ghost use Rattle.x86_64_tables.specs.PageTableFlags.{bits_of};
 use crate::given::{AnyPage, Hierarchy, Located, Page, locate, page_of};
 use crate::status::{self, flags_status};
 use bitflags::Flags;
-use x86_64::structures::paging::mapper::{FlagUpdateError, MapperFlushAll, UnmapError};
-use x86_64::structures::paging::{PageSize, PageTable, PageTableFlags, PhysFrame};
+use x86_64::structures::paging::mapper::calls::{self, TableAccess};
+use x86_64::structures::paging::mapper::{
+    FlagUpdateError, MappedPageTableIn, MapperFlushAll, MapperFlushIn, TablesIn, UnmapError,
+};
+use x86_64::structures::paging::{PageIn, PageSize, PageTable, PageTableFlags, PhysFrame};
 use x86_64::{FiveLevels, FourLevels, LentMemory, LevelCount, TableMemory, is_outside_window};
-use x86_64_mappers::calls::{self, TableAccess};
-use x86_64_mappers::mapped_page_table::MappedPageTableIn;
-use x86_64_page::page::PageIn;
-use x86_64_tables::mapper::{MapperFlushIn, TablesIn};
 
 /// Unmaps a page, as the mapper's `unmap` does, and writes the address of the frame that it was mapped to.
 ///

@@ -5,10 +5,8 @@ ghost use Rattle.x86_64_c.specs.Status as status;
 ghost use Rattle.x86_64_tables.specs.Shifted.{shifted_places};
 
 use crate::status;
-use x86_64::structures::paging::{PageSize, PhysFrame, Size1GiB, Size2MiB, Size4KiB};
-use x86_64::{LevelCount, PhysAddr, ShiftMapping};
-use x86_64_addr::addr::VirtAddrIn;
-use x86_64_page::page::PageIn;
+use x86_64::structures::paging::{PageIn, PageSize, PhysFrame, Size1GiB, Size2MiB, Size4KiB};
+use x86_64::{LevelCount, PhysAddr, ShiftMapping, VirtAddrIn};
 
 /// A hierarchy of page tables in an array of tables.
 #[derive(Drop)]

@@ -9,10 +9,9 @@ use bitflags::Flags;
 use x86_64::structures::paging::PageTable;
 use x86_64::structures::paging::mapper::PageTableFrameMapping;
 use x86_64::{
-    FiveLevels, FourLevels, LentMemory, LevelCount, MappingIn, MappingsIn, TableMemory,
+    FiveLevels, FourLevels, LentMemory, LevelCount, MappingIn, MappingsIn, TableMemory, VirtAddrIn,
     mappings_from,
 };
-use x86_64_addr::addr::VirtAddrIn;
 
 /// What a leaf maps: the addresses from `start` on, `size` bytes, to those from `frame` on.
 #[derive(Drop)]

@@ -12,13 +12,12 @@ ghost use Rattle.x86_64.specs.Calls.{asks, size_asks};
 use crate::given::{AnyPage, Hierarchy, Located, MapRequest, frame_at, locate, page_at, page_of};
 use crate::status::{self, reply_status};
 use bitflags::Flags;
-use x86_64::structures::paging::{PageSize, PageTable, PageTableFlags, Size4KiB};
+use x86_64::structures::paging::mapper::MappedPageTableIn;
+use x86_64::structures::paging::{PageIn, PageSize, PageTable, PageTableFlags, Size4KiB};
 use x86_64::{
     Call, Call57, CallIn, FrameStore, LentMemory, LentPool, LevelCount, LevelFiveFlags, OwnFrames,
     SizeCallIn, TableMemory, run_call,
 };
-use x86_64_mappers::mapped_page_table::MappedPageTableIn;
-use x86_64_page::page::PageIn;
 
 /// Maps a page, as the mapper's `map_to_with_table_flags` does. The frames of tables that are missing come from the pool.
 ///

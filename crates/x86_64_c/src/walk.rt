@@ -8,11 +8,8 @@ use crate::given::{Hierarchy, Located, locate};
 use crate::status;
 use bitflags::Flags;
 use x86_64::structures::paging::PageTable;
-use x86_64::structures::paging::mapper::TranslateResult;
-use x86_64::{FiveLevels, FourLevels, LentMemory, LevelCount, TableMemory, page_walk};
-use x86_64_addr::addr::VirtAddrIn;
-use x86_64_mappers::calls;
-use x86_64_mappers::mapped_page_table::MappedPageTableIn;
+use x86_64::structures::paging::mapper::{MappedPageTableIn, TranslateResult, calls};
+use x86_64::{FiveLevels, FourLevels, LentMemory, LevelCount, TableMemory, VirtAddrIn, page_walk};
 
 /// Where a page walk arrives, and what all entries on its way allow.
 #[derive(Drop)]

@@ -4,3 +4,8 @@ pub mod Frames
 pub mod NotesRead
 pub mod Headers
 pub mod NotesTold
+pub mod SameMappings
+pub mod Closed
+pub mod Listing
+pub mod Places
+pub mod Failing

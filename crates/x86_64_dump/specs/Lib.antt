@@ -4,6 +4,11 @@ pub mod Opening
 pub mod Opened
 pub mod Notes
 pub mod Source
+pub mod Reached
+pub mod Tables
+pub mod Loaded
 pub mod private
 pub use Rattle.x86_64_model.specs.Entry
 pub use Rattle.x86_64_model.specs.Memory
+pub use Rattle.x86_64_model.specs.Mappings
+pub use Rattle.x86_64_model.specs.PageWalk

@@ -1,1 +1,2 @@
 pub mod NotesLeft
+pub mod FrameNumbers

@@ -1,4 +1,4 @@
-//! The words of physical memory in a dump file.
+//! The words of physical memory in a dump file, and the page tables that a root leads to in them.
 #![tactic(auto)]
 
 mod dump;
@@ -11,9 +11,11 @@ mod notes;
 mod numbers;
 mod segment;
 mod source;
+mod tables;
 
 pub use dump::Dump;
 pub use error::{DumpError, Fault};
 pub use note::Note;
 pub use segment::Segment;
 pub use source::{ByteSource, FileSource};
+pub use tables::{DumpTables, NoProgress, Progress, read_tables};

@@ -1,8 +1,10 @@
 pub mod Views
 pub mod Texts
 pub mod Ahead
+pub mod Summaries
+pub mod Wanted
+pub mod Numbers
 pub mod private
-pub use Rattle.x86_64_numbers.specs.Numbers
 pub use Rattle.x86_64_model.specs.Position
 pub use Rattle.x86_64_model.specs.Mappings
 pub use Rattle.x86_64_model.specs.Memory

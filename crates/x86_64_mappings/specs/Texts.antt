@@ -1,6 +1,6 @@
 -- Mappings and regions as text.
 use Rattle.std.specs.Prelude.{ℕ, Bool, ◌==◌, ◌+◌, ◌-◌, ◌/◌, ◌%◌, ◌++◌, if◌then◌else◌, List, codes, decimal}
-use Rattle.x86_64_numbers.specs.Numbers.{hexadecimal}
+use Rattle.x86_64_mappings.specs.Numbers.{hexadecimal}
 use Rattle.x86_64_model.specs.Mappings.{Mapping}
 use Rattle.x86_64_model.specs.Regions.{Region}
 use Rattle.x86_64_model.specs.Position.{raw}

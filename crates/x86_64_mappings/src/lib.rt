@@ -6,6 +6,7 @@ mod listing;
 mod mapping;
 mod region;
 mod region_list;
+mod summaries;
 pub mod text;
 
 pub use listing::{
@@ -14,3 +15,4 @@ pub use listing::{
 pub use mapping::{Mapping, Mapping57, MappingIn};
 pub use region::{Region, Region57, RegionIn};
 pub use region_list::{Regions, Regions57, RegionsIn, regions, regions_57};
+pub use summaries::{Summaries, Summary, Visitor, visit_mappings, visit_regions};

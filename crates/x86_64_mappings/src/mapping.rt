@@ -7,13 +7,12 @@ ghost use Rattle.std.specs.Fmt.{WritesOnOk};
 ghost use Rattle.x86_64_mappings.specs.Texts as texts;
 ghost use Rattle.x86_64_mappings.specs.Views.{seen_rights};
 
-use crate::text::{write_rights, write_size};
+use crate::text::{write_hexadecimal, write_rights, write_size};
 use bitflags::Flags;
 use std::fmt::{Display, Formatter, Result as FmtResult, Write};
 use std::marker::Model;
 use x86_64_addr::addr::VirtAddrIn;
 use x86_64_addr::level_count::{FiveLevels, FourLevels, LevelCount};
-use x86_64_numbers::write_hexadecimal;
 use x86_64_page::frame::PhysFrame;
 use x86_64_tables::mapper::MappedFrame;
 use x86_64_tables::page_table::{PageTableEntry, PageTableFlags};

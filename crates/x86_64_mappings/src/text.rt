@@ -1,8 +1,11 @@
-//! Sizes and rights as text.
+//! Sizes, rights and numbers as text.
 ghost use Rattle.std.specs.Prelude.{◌≡◌, ◌<◌, ◌/◌, ◌++◌, decimal};
 ghost use Rattle.std.specs.Fmt.{WritesOnOk};
 ghost use Rattle.x86_64_mappings.specs.Texts as texts;
 
+mod numbers;
+
+pub use numbers::{parse_number, write_hexadecimal};
 use std::fmt::{Formatter, Result as FmtResult, Write};
 
 /// Writes a number of bytes in the largest of KiB, MiB, GiB and TiB that divides it. Writes 0 bytes as 0KiB, and rounds down

@@ -2,7 +2,7 @@
 use Rattle.std.specs.Prelude.{ℕ, List}
 use Rattle.x86_64_model.specs.Mappings.{Mapping}
 use Rattle.x86_64_model.specs.Memory.{Memory, identity_places}
-use Rattle.x86_64_summaries.specs.Wanted.{Asking, asked_mappings, asked_of}
+use Rattle.x86_64_mappings.specs.Wanted.{Asking, asked_mappings, asked_of}
 
 -- the mappings of a memory with each table at the place, its index in memory, that is the number of its frame
 abbrev pub mappings_asked : {P : Type 0} → Asking Memory P → (L root : ℕ) → List Mapping

@@ -8,6 +8,6 @@ pub use mapper::{
 };
 pub use page_table::{PageOffset, PageTable, PageTableFlags, PageTableIndex};
 pub use x86_64_page::frame::PhysFrame;
-pub use x86_64_page::page::{Page, Page57, PageSize, Size1GiB, Size2MiB, Size4KiB};
+pub use x86_64_page::page::{Page, Page57, PageIn, PageSize, Size1GiB, Size2MiB, Size4KiB};
 pub use x86_64_page::{frame, page};
 pub use x86_64_tables::frame_alloc::{FrameAllocator, FrameDeallocator};

@@ -2,7 +2,7 @@ use Rattle.std.proofs.Common.{◌≡◌, IfSome, subst}
 use Rattle.std.specs.Io.KnownBytes.{Appends}
 use Rattle.x86_64_dump.specs.Dump.{words_of_dump}
 use Rattle.x86_64_dump.specs.Opened.{opened}
-use Rattle.x86_64_dump_tables.specs.Loaded.{words_in}
+use Rattle.x86_64_dump.specs.Loaded.{words_in}
 use Rattle.ptdump_engine.proofs.Wholly.{same_report, same_completeness}
 use Rattle.ptdump_engine.proofs.engine.report.Goals as goal
 

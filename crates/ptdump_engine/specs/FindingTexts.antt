@@ -1,0 +1,24 @@
+-- Texts: the texts of entries and findings.
+use Rattle.std.specs.Prelude.{ℕ, List, ◌++◌, codes, decimal}
+use Rattle.x86_64_mappings.specs.Numbers.{hexadecimal}
+use Rattle.ptdump_engine.specs.declared.findings.entry.Slot.{Slot}
+use Rattle.ptdump_engine.specs.declared.findings.entry.Entry.{Entry}
+use Rattle.ptdump_engine.specs.declared.findings.finding.Finding.{Finding}
+use Rattle.ptdump_engine.specs.declared.findings.finding.Finding.TheVariants.{NamedOften, NotInDump, HugePage}
+
+-- a slot as 0xTABLE[INDEX]
+abbrev pub slot_text : Slot → List ℕ
+slot_text slot = hexadecimal slot.table ++ codes "[" ++ decimal slot.index ++ codes "]"
+
+-- an entry as 0xTABLE[INDEX] = 0xWORD
+abbrev pub entry_text : Entry → List ℕ
+entry_text entry = slot_text entry.slot ++ codes " = " ++ hexadecimal entry.word
+
+-- the line of a finding, without its line feed
+abbrev pub finding_text : Finding → List ℕ
+finding_text (NamedOften frame count) =
+    codes "table " ++ hexadecimal frame ++ codes " named " ++ decimal count ++ codes " times"
+finding_text (NotInDump frame by) =
+    codes "table " ++ hexadecimal frame ++ codes " not in the dump" ++ (codes ", named by " ++ slot_text by)
+finding_text (HugePage slot level) =
+    codes "HUGE_PAGE at level " ++ decimal level ++ codes " in " ++ slot_text slot

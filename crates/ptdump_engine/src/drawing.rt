@@ -1,0 +1,16 @@
+//! A picture of what page tables map: an SVG image, 1,000 pixels wide, with a bar for each half of the address space, and with
+//! the tables as a tree by level.
+
+mod area;
+mod bar;
+mod legend;
+mod links;
+mod picture;
+mod piece;
+mod rights;
+mod size;
+mod tree;
+
+pub use links::{TableLink, table_links};
+pub use picture::{Mapped, Picture};
+pub use tree::MOST_DRAWN_TABLES;

@@ -1,3 +1,0 @@
-pub mod Colours
-pub mod Links
-pub use Rattle.x86_64_model.specs.Memory

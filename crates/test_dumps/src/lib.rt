@@ -1,0 +1,7 @@
+//! Tests of dumps and of the program `ptdump`. The transcripts in `tests/ptdump` show what it prints.
+#![tactic(auto)]
+
+#[cfg(test)]
+mod library;
+#[cfg(test)]
+mod program;

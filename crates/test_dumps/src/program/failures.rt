@@ -1,0 +1,148 @@
+//! Tests of reads and writes that fail.
+use crate::program::machines::{MIXED, core_file};
+use crate::program::runs::{EACH, Ran, Sink, Word, run_into, run_on, unwrap};
+use ptdump_engine::Failure;
+use std::alloc::Global;
+use std::cell::Cell;
+use std::io::{self, ErrorKind};
+use std::process::Abort;
+use x86_64_dump::ByteSource;
+
+/// A file of which only a number of reads succeed, and none after them.
+#[derive(Drop)]
+struct BrokenSource<'a> {
+    bytes: &'a [u8],
+    reads: Cell<u64>,
+}
+
+impl<'a> ByteSource for BrokenSource<'a> {
+    ghost use Rattle.std.specs.Prelude.{[], length};
+
+    ghost IsKnown = { ⊥ };
+
+    ghost size = { λ source. length source.bytes.now };
+
+    ghost bytes = { λ _. [] };
+
+    ghost counted = { λ known _. absurd known };
+
+    fn len(&self) -> u64 {
+        self.bytes.len() as u64
+    }
+
+    fn read_exact_at(&self, buffer: &mut [u8], offset: u64) -> io::Result<()> {
+        let Some(left) = self.reads.get().checked_sub(1) else {
+            return Err(io::Error::from(ErrorKind::Other));
+        };
+        self.reads.set(left);
+        ByteSource::read_exact_at(&self.bytes, buffer, offset)
+    }
+}
+
+/// Runs a command on a file of which a number of reads succeed.
+fn run_with_reads(
+    rt: impl Abort + Copy,
+    alloc: Global,
+    file: &[u8],
+    word: Word,
+    reads: u64,
+) -> Ran {
+    let source = BrokenSource {
+        bytes: file,
+        reads: Cell::new(reads),
+    };
+    run_into(
+        rt,
+        alloc,
+        source,
+        word,
+        Sink::wide(alloc),
+        Sink::wide(alloc),
+    )
+}
+
+/// Runs a command with ever more reads that succeed until it ends well, and returns how many are needed. With fewer of them,
+/// the run ends at the read that fails.
+fn reads_needed(
+    rt: impl Abort + Copy,
+    alloc: Global,
+    file: &[u8],
+    word: Word,
+    wanted: &[u8],
+) -> u64 {
+    for reads in 0..1000 {
+        let ran = run_with_reads(rt, alloc, file, word, reads);
+        if ran.status() < 2 {
+            assert_eq!(rt; ran.output.bytes[..], *wanted, "{word:?}, {reads} reads");
+            return reads;
+        }
+        assert_eq!(rt; ran.status(), 3, "{word:?}, {reads} reads");
+        let is_of_read = matches!(ran.ended, Err(Failure::Read(_)));
+        assert!(rt; is_of_read, "{word:?}, {reads} reads");
+    }
+    1000
+}
+
+#[test]
+fn each_failed_read_ends_a_run(rt: HostRuntime) {
+    let alloc = rt.alloc();
+    let file = unwrap(rt, core_file(alloc, &MIXED));
+    for word in EACH {
+        let wanted = run_on(rt, alloc, &file, word).output.bytes;
+        let needed = reads_needed(rt, alloc, &file, word, &wanted);
+        // At least the header, the program headers, the note, two registers and six tables are read.
+        assert!(rt; (11..1000).contains(&needed), "{word:?}");
+    }
+}
+
+/// The number of bytes that a writer takes at once if it is to fail later.
+const AT_ONCE: usize = 211;
+
+/// Runs a command with ever more room in the output, and checks that it ends there, with the output that has room.
+fn check_output(rt: impl Abort + Copy, alloc: Global, file: &[u8], word: Word, wanted: &[u8]) {
+    for room in (0..wanted.len()).step_by(AT_ONCE) {
+        let (narrow, wide) = (Sink::new(alloc, AT_ONCE, room), Sink::wide(alloc));
+        let ran = run_into(rt, alloc, file, word, narrow, wide);
+        assert_eq!(rt; ran.status(), 5, "{word:?}, {room} bytes");
+        assert_eq!(rt;
+            ran.output.bytes[..],
+            wanted[..room],
+            "{word:?}, {room} bytes"
+        );
+    }
+}
+
+/// Runs a command with ever more room in standard error, and checks that it ends there, with the text that has room.
+fn check_errors(rt: impl Abort + Copy, alloc: Global, file: &[u8], word: Word, wanted: &[u8]) {
+    for room in (0..wanted.len()).step_by(AT_ONCE) {
+        let (wide, narrow) = (Sink::wide(alloc), Sink::new(alloc, AT_ONCE, room));
+        let ran = run_into(rt, alloc, file, word, wide, narrow);
+        assert_eq!(rt; ran.status(), 5, "{word:?}, {room} bytes");
+        assert_eq!(rt;
+            ran.errors.bytes[..],
+            wanted[..room],
+            "{word:?}, {room} bytes"
+        );
+    }
+}
+
+/// Runs a command with writers that take one byte at once, and checks that they get all.
+fn check_slow(rt: impl Abort + Copy, alloc: Global, file: &[u8], word: Word, whole: &Ran) {
+    let slow = || Sink::new(alloc, 1, usize::MAX);
+    let ran = run_into(rt, alloc, file, word, slow(), slow());
+    assert_eq!(rt; ran.status(), whole.status(), "{word:?}");
+    assert_eq!(rt; ran.output.bytes, whole.output.bytes, "{word:?}");
+    assert_eq!(rt; ran.errors.bytes, whole.errors.bytes, "{word:?}");
+}
+
+#[test]
+fn each_failed_write_ends_a_run(rt: HostRuntime) {
+    let alloc = rt.alloc();
+    let file = unwrap(rt, core_file(alloc, &MIXED));
+    for word in EACH {
+        let whole = run_on(rt, alloc, &file, word);
+        check_output(rt, alloc, &file, word, &whole.output.bytes);
+        check_errors(rt, alloc, &file, word, &whole.errors.bytes);
+        check_slow(rt, alloc, &file, word, &whole);
+    }
+}

@@ -1,0 +1,106 @@
+//! A test of memory allocations that fail.
+use crate::program::machines::{MIXED, core_file};
+use crate::program::runs::{EACH, Ran, Sink, run_on, unwrap};
+use ptdump_engine::{Failure, NoProgress, Request, run};
+use std::alloc::Global;
+use std::process::Abort;
+use test_support::Hoard;
+
+/// The greatest number of rooms that are tried.
+const MOST_ROOMS: usize = 60;
+
+/// Prepares a run of each command, with writers that need no memory.
+fn runs_to_come(rt: impl Abort + Copy, alloc: Global) -> Vec<(Request, Ran)> {
+    let mut runs = Vec::new(alloc);
+    for word in EACH {
+        let request = unwrap(rt, word.request(alloc));
+        let mut ran = Ran {
+            output: Sink::wide(alloc),
+            errors: Sink::wide(alloc),
+            ended: Err(Failure::Output),
+        };
+        assert!(rt; ran.output.bytes.reserve(0x1_0000).is_ok());
+        assert!(rt; ran.errors.bytes.reserve(0x1_0000).is_ok());
+        assert!(rt; runs.push((request, ran)).is_ok());
+    }
+    runs
+}
+
+/// Runs each command with room for one block of a size.
+fn run_with_room(
+    rt: impl Abort + Copy,
+    alloc: Global,
+    file: &[u8],
+    room: usize,
+) -> Vec<(Request, Ran)> {
+    let mut runs = runs_to_come(rt, alloc);
+    let hoard = unwrap(rt, Hoard::past(alloc, &[room]));
+    for (request, ran) in &mut runs {
+        ran.ended = run(
+            alloc,
+            file,
+            request,
+            &mut ran.output,
+            &mut ran.errors,
+            &mut NoProgress,
+        );
+    }
+    drop(hoard);
+    runs
+}
+
+/// Runs each command with all memory.
+fn whole_runs(rt: impl Abort + Copy, alloc: Global, file: &[u8]) -> Vec<Ran> {
+    let mut runs = Vec::new(alloc);
+    for word in EACH {
+        assert!(rt; runs.push(run_on(rt, alloc, file, word)).is_ok());
+    }
+    runs
+}
+
+/// Checks what a run wrote, whole or until memory allocation failed, and returns true if it is whole.
+fn is_whole(rt: impl Abort + Copy, request: &Request, ran: &Ran, wanted: &Ran) -> bool {
+    let (taken, whole) = (&ran.output.bytes, &wanted.output.bytes);
+    if ran.status() == wanted.status() {
+        assert_eq!(rt; taken, whole, "{request:?}");
+        return true;
+    }
+    assert_eq!(rt; ran.status(), 4, "{request:?}");
+    assert!(rt; whole.starts_with(taken), "{request:?}");
+    false
+}
+
+/// Checks runs with room for one block of a size, and returns how many are whole.
+fn count_whole(
+    rt: impl Abort + Copy,
+    alloc: Global,
+    file: &[u8],
+    room: usize,
+    wanted: &[Ran],
+) -> usize {
+    let mut done = 0_usize;
+    let runs = run_with_room(rt, alloc, file, room);
+    for ((request, ran), wanted) in runs.iter().zip(wanted) {
+        if is_whole(rt, request, ran, wanted) {
+            done = done.saturating_add(1);
+        }
+    }
+    done
+}
+
+#[test]
+fn each_growth_may_be_refused(rt: HostRuntime) {
+    let alloc = rt.alloc();
+    let file = unwrap(rt, core_file(alloc, &MIXED));
+    let wanted = whole_runs(rt, alloc, &file);
+    let mut room = 0_usize;
+    for _ in 0..MOST_ROOMS {
+        let done = count_whole(rt, alloc, &file, room, &wanted);
+        assert!(rt; room > 0 || done == 0, "{done} runs need no memory");
+        if done == EACH.len() {
+            return;
+        }
+        room = room.saturating_add(1024).saturating_add(room / 16);
+    }
+    panic!(rt; "not all runs are whole with {room} bytes");
+}

@@ -1,0 +1,30 @@
+-- The plain program's machine and states as those of the model.
+use Rattle.std.specs.Prelude.{ℕ, ◌+◌, ◌^◌, ◌<◌, List}
+use Rattle.x86_64_model.specs.Store.{put_first}
+use Rattle.x86_64_model.specs.Translation.{Translated, NotMapped, Mapped}
+use Rattle.x86_64_model.specs.Call.{Call}
+use Rattle.x86_64_model.specs.Machine.{Machine, State, AfterCall, do_call}
+use Rattle.test_reference.specs.Windows.{window_of}
+use Rattle.test_reference.specs.Calls.{reply_of}
+use Rattle.test_reference.specs.declared.calls.PlainReply.{PlainReply}
+use Rattle.test_reference.specs.declared.machine.PlainMachine.{PlainMachine}
+use Rattle.test_reference.specs.declared.machine.PlainState.{PlainState}
+
+abbrev pub machine_of : PlainMachine → Machine
+machine_of m = record { levels = m.levels; window = window_of m.window; added_flags = m.added_flags; take_back = put_first }
+
+abbrev pub plain_state : PlainState → State
+plain_state s = record { paths = s.paths; pool = s.pool.items }
+
+-- The state after a call, and the reply.
+abbrev pub outcome : PlainState → PlainReply → AfterCall
+outcome state reply = record { state = plain_state state; reply = reply_of reply }
+
+-- The outcome of an allowed call.
+abbrev pub allowed_outcome : PlainMachine → PlainState → Call → AfterCall
+allowed_outcome m state call = do_call (machine_of m) (plain_state state) call
+
+-- The sum of the frame and the offset fits a word.
+abbrev pub CanAdd : Translated → Type 0
+CanAdd NotMapped = Unit {0}
+CanAdd (Mapped size frame offset given) = frame + offset < 2 ^ 64

@@ -1,0 +1,22 @@
+-- The path map of a list of paths and entries.
+use Rattle.std.specs.Prelude.{ℕ, List, map, filter, find, not, Option, option_map}
+use Rattle.std.specs.Str.{bytes_eq}
+use Rattle.std.specs.FinMap.{from_entries}
+use Rattle.x86_64_model.specs.PathMap.{PathMap}
+use Rattle.test_reference.specs.declared.entries.PathEntry.{PathEntry}
+
+-- Each path with its entry.
+abbrev pub pairs : List PathEntry → List (List ℕ × ℕ)
+pairs items = map (λ item. (item.path.items, item.word)) items
+
+-- If a path occurs twice, its first entry counts.
+abbrev pub paths_of_items : List PathEntry → PathMap
+paths_of_items items = from_entries (pairs items)
+
+-- The first word stored for a path.
+abbrev pub found : List PathEntry → List ℕ → Option ℕ
+found items q = option_map (λ item. item.word) (find (λ item. bytes_eq item.path.items q) items)
+
+-- The items at other paths.
+abbrev pub without : List PathEntry → List ℕ → List PathEntry
+without items q = filter (λ item. not (bytes_eq item.path.items q)) items

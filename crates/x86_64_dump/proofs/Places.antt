@@ -1,0 +1,136 @@
+-- The numbers of frames, and memories that are filled place by place.
+use Rattle.std.proofs.Common.{◌≡◌, ◌≢◌, ⊎_elim, ℕ, ◌+◌, ◌*◌, ◌/◌, ◌%◌, ◌^◌, ◌<◌, ◌≤◌, ◌==◌, ◌||◌, Bool, true, false, cond, List, [], ◌∷◌, ◌++◌, length, take, get_or, Option, Some, None, refl, sym, ap, ap₂, ◌∙◌, arith, eq-eqb, eqb-true, ne_eqb}
+use Rattle.std.specs.Prelude.{Vec}
+use Rattle.std.specs.FinMap.{get, insert, get-insert}
+use Rattle.std.specs.List.{list_any, dedup, dedup_from}
+use Rattle.std.specs.Cmp.{nat_cmp_total}
+use Rattle.std.specs.Ordering.{nat_cmp, eq_by_cmp}
+use Rattle.std.proofs.lemmas.Bool.{cases_eq}
+use Rattle.std.proofs.lemmas.List.{take_all}
+use Rattle.std.proofs.lemmas.List.Folds.{list_any_at, list_any_more, list_any-append}
+use Rattle.std.proofs.Math.Bool.{or_assoc, or-false, or-true}
+use Rattle.x86_64_model.specs.Entry.{is_frame, address}
+use Rattle.x86_64_model.proofs.Lemmas.Entries.Bits.{same_frame}
+use Rattle.x86_64_model.proofs.Lemmas.Entries.Words.{address-multiple, address_aligned}
+use Rattle.x86_64_model.proofs.Lemmas.Hierarchies.Memories.{same_key, other_key}
+use Rattle.x86_64_model.specs.Memory.{Memory, Words, words_of, identity_places}
+use Rattle.x86_64_tables.specs.PageTable.{zero_words}
+use Rattle.x86_64_dump.specs.Loaded.{frames_of}
+use Rattle.x86_64_dump.specs.Tables.{is_among, is_in, words_in_frames}
+use Rattle.x86_64_dump.proofs.Closed.{none_either}
+use Rattle.x86_64_dump.specs.private.FrameNumbers.{has_number, AreNumbers, HoldsFor}
+
+-- ---- numbers
+
+-- frames are equal if and only if their numbers are
+pub same_number : (f g : ℕ) → is_frame f ≡ true → is_frame g ≡ true → (f / 4096 == g / 4096) ≡ (f == g)
+same_number f g a b = ⊎_elim
+    (λ same. ap (λ n. f / 4096 == n / 4096) (sym same) ∙ eq-eqb (f / 4096) (f / 4096) refl ∙ sym (eq-eqb f g same))
+    (λ other. ne_eqb (f / 4096) (g / 4096) (λ same. other (same_frame f g a b same)) ∙ sym (ne_eqb f g other))
+    (cases_eq f g)
+
+-- one more number
+number_added : (numbers : List ℕ) (f g : ℕ) → is_frame f ≡ true → g % 4096 ≡ 0 → g < 2 ^ 52 → has_number (numbers ++ g / 4096 ∷ []) f ≡ (has_number numbers f || (f == g))
+number_added numbers f g is aligned below =
+    list_any-append (λ n. f / 4096 == n) numbers (g / 4096 ∷ [])
+    ∙ ap (λ b. has_number numbers f || b) (or-false (f / 4096 == g / 4096) ∙ same_number f g is (eq-eqb (address g) g (address-multiple g aligned below)))
+
+pub number_more : (numbers old frames : List ℕ) (i g : ℕ) → i < length frames → g ≡ get_or frames i g → g % 4096 ≡ 0 → g < 2 ^ 52
+    → ((f : ℕ) → is_frame f ≡ true → has_number numbers f ≡ (has_number old f || is_among (take i frames) f))
+    → (f : ℕ) → is_frame f ≡ true → has_number (numbers ++ g / 4096 ∷ []) f ≡ (has_number old f || is_among (take (i + 1) frames) f)
+number_more numbers old frames i g within at aligned below so_far f is =
+    number_added numbers f g is aligned below
+    ∙ ap (λ b. b || (f == g)) (so_far f is)
+    ∙ or_assoc (has_number old f) (is_among (take i frames) f) (f == g)
+    ∙ ap (λ h. has_number old f || (is_among (take i frames) f || (f == h))) at
+    ∙ ap (λ b. has_number old f || b) (sym (list_any_more (λ h. f == h) frames i g within))
+
+-- one more level
+pub numbers_more : {A : Type 0} (numbers new : List ℕ) (levels : List (Vec ℕ A)) (i : ℕ) (level : Vec ℕ A) → i < length levels → level ≡ get_or levels i level
+    → ((f : ℕ) → is_frame f ≡ true → has_number new f ≡ (has_number numbers f || is_among level.items f))
+    → ((f : ℕ) → is_frame f ≡ true → has_number numbers f ≡ list_any (λ level. is_among level.items f) (take i levels))
+    → (f : ℕ) → is_frame f ≡ true → has_number new f ≡ list_any (λ level. is_among level.items f) (take (i + 1) levels)
+numbers_more numbers new levels i level within at added so_far f is =
+    added f is
+    ∙ ap₂ (λ a level. a || is_among level.items f) (so_far f is) at
+    ∙ sym (list_any_more (λ level. is_among level.items f) levels i level within)
+
+-- all levels
+pub all_numbers : {A : Type 0} (levels : List (Vec ℕ A)) (f : ℕ) → list_any (λ level. is_among level.items f) levels ≡ is_in (frames_of levels) f
+all_numbers [] f = refl
+all_numbers (level ∷ levels) f = ap (λ b. is_among level.items f || b) (all_numbers levels f)
+
+list_any-dedup_from : (p : ℕ → Bool) (k : ℕ) (xs : List ℕ) → list_any p (dedup_from (λ a b. a == b) k xs) ≡ (p k || list_any p xs)
+list_any-dedup_from p k [] = refl
+list_any-dedup_from p k (x ∷ xs) = elim (x == k) as (λ b. (x == k) ≡ b → list_any p (cond b (dedup_from (λ a b. a == b) k xs) (k ∷ dedup_from (λ a b. a == b) x xs)) ≡ (p k || (p x || list_any p xs))) [
+  | true ↦ λ is. list_any-dedup_from p k xs ∙ twice (p k) (list_any p xs) ∙ ap (λ y. p k || (p y || list_any p xs)) (sym (eqb-true x k is))
+  | false ↦ λ _. ap (λ b. p k || b) (list_any-dedup_from p x xs)
+] refl
+  where
+    twice : (a b : Bool) → (a || b) ≡ (a || (a || b))
+    twice true b = refl
+    twice false b = refl
+
+pub list_any-dedup : (p : ℕ → Bool) (xs : List ℕ) → list_any p (dedup (λ a b. a == b) xs) ≡ list_any p xs
+list_any-dedup p [] = refl
+list_any-dedup p (x ∷ xs) = list_any-dedup_from p x xs
+
+-- the frame of a number
+pub number_there : (numbers : List ℕ) (i : ℕ) → i < length numbers → AreNumbers numbers → (is_frame (get_or numbers i 0 * 4096) ≡ true) × (has_number numbers (get_or numbers i 0 * 4096) ≡ true)
+number_there numbers i within below =
+    let n = get_or numbers i 0 in (
+      eq-eqb (address (n * 4096)) (n * 4096) (address-multiple (n * 4096) (omega arith) (below i 0 within)),
+      list_any_at (λ m. n * 4096 / 4096 == m) numbers i 0 within (eq-eqb (n * 4096 / 4096) n (omega arith)),
+    )
+
+-- ---- memories
+
+-- the tables of the first i numbers are read, and the others are zero
+abbrev pub so_far : Words → (numbers : List ℕ) → (i : ℕ) → (place : ℕ) → Option (List ℕ)
+so_far W numbers i place = cond (list_any (λ n. place == n) (take i numbers)) (W (place * 4096)) (Some zero_words)
+
+pub place_filled : (W : Words) (numbers : List ℕ) (i : ℕ) (memory : Memory) (words : List ℕ) → i < length numbers → Some words ≡ W (get_or numbers i 0 * 4096)
+    → HoldsFor numbers (so_far W numbers i) memory → HoldsFor numbers (so_far W numbers (i + 1)) (insert memory (get_or numbers i 0) words)
+place_filled W numbers i memory words within read held place =
+    get-insert nat_cmp_total memory (get_or numbers i 0) words place ∙ ⊎_elim here elsewhere (cases_eq place (get_or numbers i 0))
+  where
+    one_more : (b : Bool) → (place == get_or numbers i 0) ≡ b → list_any (λ n. place == n) (take (i + 1) numbers) ≡ (list_any (λ n. place == n) (take i numbers) || b)
+    one_more b is = list_any_more (λ n. place == n) numbers i 0 within ∙ ap (λ b. list_any (λ n. place == n) (take i numbers) || b) is
+
+    here : place ≡ get_or numbers i 0 → cond (eq_by_cmp nat_cmp place (get_or numbers i 0)) (Some words) (get memory place) ≡ cond (list_any (λ n. place == n) numbers) (so_far W numbers (i + 1) place) None
+    here same =
+        let is = eq-eqb place (get_or numbers i 0) same in
+        ap (λ n. cond (eq_by_cmp nat_cmp place n) (Some words) (get memory place)) (sym same)
+        ∙ ap (λ b. cond b (Some words) (get memory place)) (same_key place)
+        ∙ read ∙ ap (λ n. W (n * 4096)) (sym same)
+        ∙ sym (ap₂ (λ a b. cond a (cond b (W (place * 4096)) (Some zero_words)) None) (list_any_at (λ n. place == n) numbers i 0 within is) (one_more true is ∙ or-true (list_any (λ n. place == n) (take i numbers))))
+
+    elsewhere : place ≢ get_or numbers i 0 → cond (eq_by_cmp nat_cmp place (get_or numbers i 0)) (Some words) (get memory place) ≡ cond (list_any (λ n. place == n) numbers) (so_far W numbers (i + 1) place) None
+    elsewhere other =
+        ap (λ b. cond b (Some words) (get memory place)) (other_key place (get_or numbers i 0) other)
+        ∙ held place
+        ∙ ap (λ b. cond (list_any (λ n. place == n) numbers) (cond b (W (place * 4096)) (Some zero_words)) None)
+        (sym (one_more false (ne_eqb place (get_or numbers i 0) other) ∙ or-false (list_any (λ n. place == n) (take i numbers))))
+
+-- the memory for all numbers holds the words of their frames
+pub words_filled : (W : Words) (numbers : List ℕ) (i : ℕ) (memory : Memory) (levels : List (List ℕ)) → length numbers ≤ i → ((f : ℕ) → is_frame f ≡ false → W f ≡ None)
+    → ((f : ℕ) → is_frame f ≡ true → has_number numbers f ≡ is_in levels f) → HoldsFor numbers (so_far W numbers i) memory → words_of memory identity_places ≡ words_in_frames levels W
+words_filled W numbers i memory levels all only same held = λ k f. at f k
+  where
+    twice : (b : Bool) (o p : Option (List ℕ)) → cond b (cond b o p) None ≡ cond b o None
+    twice true o p = refl
+    twice false o p = refl
+
+    frame : (f : ℕ) → is_frame f ≡ true → get memory (f / 4096) ≡ cond (is_in levels f) (W f) None
+    frame f is =
+        let whole : f / 4096 * 4096 ≡ f = omega (arith, address_aligned f, eqb-true (address f) f is) in
+        held (f / 4096)
+        ∙ ap (λ ns. cond (has_number numbers f) (cond (list_any (λ n. f / 4096 == n) ns) (W (f / 4096 * 4096)) (Some zero_words)) None) (take_all i numbers all)
+        ∙ twice (has_number numbers f) (W (f / 4096 * 4096)) (Some zero_words)
+        ∙ ap₂ (λ b g. cond b (W g) None) (same f is) whole
+
+    at : (f : ℕ) → words_of memory identity_places f ≡ words_in_frames levels W f
+    at f = elim (is_frame f) as (λ b. is_frame f ≡ b → cond b (get memory (f / 4096)) None ≡ cond (is_in levels f) (W f) None) [
+      | true ↦ λ is. frame f is
+      | false ↦ λ no. sym (ap (λ o. cond (is_in levels f) o None) (only f no) ∙ none_either (is_in levels f))
+    ] refl

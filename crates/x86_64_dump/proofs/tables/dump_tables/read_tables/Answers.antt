@@ -1,0 +1,45 @@
+use Rattle.std.proofs.Common.{◌≡◌, List, ℕ, ◌∙◌, sym, ap, subst}
+use Rattle.x86_64_dump.specs.Dump.{words_of_dump}
+use Rattle.x86_64_dump.specs.Opened.{opened}
+use Rattle.x86_64_dump.specs.declared.error.DumpError.{DumpError}
+use Rattle.x86_64_model.specs.Memory.{words_of, identity_places}
+use Rattle.x86_64_dump.specs.Loaded.{MayFail, frames_of}
+use Rattle.x86_64_dump.specs.Tables.{tables_by_level, words_in_frames, AreThere}
+use Rattle.x86_64_dump.proofs.Closed.{same_below_root, levels_are_there}
+use Rattle.x86_64_dump.proofs.Failing.{fails_as, fails_knowing}
+use Rattle.x86_64_dump.proofs.SameMappings.{same_mappings, same_walks}
+use Rattle.x86_64_dump.proofs.tables.dump_tables.read_tables.Given.{Over}
+use Rattle.x86_64_dump.proofs.tables.dump_tables.read_tables.Goals as goal
+use Rattle.x86_64_dump.proofs.tables.dump_tables.read_tables.Goals.{After-read_memory}
+
+-- the frames whose tables are read
+levels : (g : Over) (c : After-read_memory g) → g.S.ByteSource.IsKnown
+    → frames_of c.deref.result.now ≡ tables_by_level g.L.LevelCount.LEVELS (words_of_dump (opened g.S.ByteSource.bytes c.args.dump.now)) c.args.root
+levels g c known = ap frames_of c.deref.ensures.value ∙ c.in_ok-frames.ensures.frames known
+    ∙ ap (λ n. tables_by_level n (words_of_dump (opened g.S.ByteSource.bytes c.args.dump.now)) c.args.root) c.LEVELS.ensures
+
+pub returns-in_err-memory-clause-errors : goal.returns-in_err-memory-clause-errors
+returns-in_err-memory-clause-errors g c =
+    let W = words_of_dump (opened g.S.ByteSource.bytes c.args.dump.now) in
+    let Fails : DumpError → Type 0 = MayFail g.S.ByteSource.IsKnown in
+    let There : List (List ℕ) → Type 0 = AreThere W in
+    fails_as c.from_residual-in_err-memory.result _ Fails c.from_residual-in_err-memory.ensures.1 (λ e is. subst Fails (sym is)
+    (fails_knowing g.S.ByteSource.IsKnown (AreThere W (frames_of c.deref.result.now))
+    (λ known. subst There (sym (levels g (goal.at.returns-in_err-memory-clause-errors g c).After-read_memory known)) (levels_are_there g.L.LevelCount.LEVELS W c.args.root))
+    c.in_err-memory.field-0.0 c.in_err-memory.ensures.errors))
+
+pub returns-clause-same : goal.returns-clause-same
+returns-clause-same g c known =
+    let W = words_of_dump (opened g.S.ByteSource.bytes c.args.dump.now) in
+    same_below_root g.L.LevelCount.LEVELS W c.args.root (words_of c.in_ok-memory.memory identity_places) (c.in_ok-memory.ensures.words known
+    ∙ ap (λ frames. words_in_frames frames W) (levels g (goal.at.returns-clause-same g c).After-read_memory known))
+
+pub returns-clause-mappings : goal.returns-clause-mappings
+returns-clause-mappings g c known =
+    let W = words_of_dump (opened g.S.ByteSource.bytes c.args.dump.now) in
+    same_mappings g.L.LevelCount.LEVELS (words_of c.in_ok-memory.memory identity_places) W c.args.root (returns-clause-same g c known)
+
+pub returns-clause-walks : goal.returns-clause-walks
+returns-clause-walks g c known p =
+    let W = words_of_dump (opened g.S.ByteSource.bytes c.args.dump.now) in
+    same_walks g.L.LevelCount.LEVELS (words_of c.in_ok-memory.memory identity_places) W c.args.root p (returns-clause-same g c known)

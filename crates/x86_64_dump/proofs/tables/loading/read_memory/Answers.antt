@@ -1,0 +1,48 @@
+use Rattle.std.proofs.Common.{◌≡◌, ℕ, ◌*◌, ◌+◌, true, false, List, Some, IsSome, get_or, ◌∙◌, sym, ap, subst}
+use Rattle.std.specs.FinMap.{insert}
+use Rattle.x86_64_dump.specs.Dump.{words_of_dump}
+use Rattle.x86_64_dump.specs.Opened.{opened}
+use Rattle.x86_64_dump.specs.declared.error.DumpError.{DumpError}
+use Rattle.x86_64_model.specs.Entry.{is_frame}
+use Rattle.x86_64_tables.specs.private.TableLaws.{stays_there}
+use Rattle.x86_64_dump.specs.Loaded.{MayFail, frames_of}
+use Rattle.x86_64_dump.specs.Tables.{AreThere, is_in}
+use Rattle.x86_64_dump.specs.private.FrameNumbers.{has_number, AreNumbers, HoldsFor}
+use Rattle.x86_64_dump.proofs.Failing.{fails_as, no_frame}
+use Rattle.x86_64_dump.proofs.Places.{number_there, place_filled, so_far, words_filled}
+use Rattle.x86_64_dump.proofs.tables.loading.read_memory.Given.{Over}
+use Rattle.x86_64_dump.proofs.tables.loading.read_memory.Goals as goal
+use Rattle.x86_64_dump.proofs.tables.loading.read_memory.Goals.{After-deref-number-items}
+
+-- the numbers are those of the frames
+all_there : (g : Over) (c : After-deref-number-items g) (f : ℕ) → is_frame f ≡ true → has_number c.deref-number-items.result.now f ≡ is_in (frames_of c.args.frames.now) f
+all_there g c f is = ap (λ numbers. has_number numbers f) c.deref-number-items.ensures.value ∙ c.in_ok-numbers.ensures.numbers f is
+
+pub returns-in_err-words-clause-errors : goal.returns-in_err-words-clause-errors
+returns-in_err-words-clause-errors g c =
+    let W = words_of_dump (opened g.S.ByteSource.bytes c.args.dump.now) in
+    let numbers = c.deref-number-items.result.now in
+    let P : List ℕ → Type 0 = AreNumbers in
+    let there = number_there numbers c.loop-i.i c.loop-i-test.true (subst P (sym c.deref-number-items.ensures.value) c.in_ok-numbers.ensures.below) in
+    let among = sym (all_there g (goal.at.returns-in_err-words-clause-errors g c).After-deref-number-items (get_or numbers c.loop-i.i 0 * 4096) there.0) ∙ there.1 in
+    let Fails : DumpError → Type 0 = MayFail (g.S.ByteSource.IsKnown × AreThere W (frames_of c.args.frames.now)) in
+    let There : ℕ → Type 0 = λ f. IsSome (W f) in
+    fails_as c.from_residual-in_err-words.result _ Fails c.from_residual-in_err-words.ensures.1 (λ e is. subst Fails (sym is) (λ known.
+    let never : false ≡ true = c.in_err-words.ensures.succeeds known.0 (subst There (sym c.from_pfn.ensures) (known.1 (get_or numbers c.loop-i.i 0 * 4096) among)) in cc))
+
+pub loop-i-preserved : goal.loop-i-preserved
+loop-i-preserved g c = record {
+  places = λ place h. stays_there c.loop-i.memory c.new.result c.table_of.result place (c.loop-i.invariant.places place h);
+  tables = λ known.
+      let W = words_of_dump (opened g.S.ByteSource.bytes c.args.dump.now) in
+      let numbers = c.deref-number-items.result.now in
+      let read = ap Some c.table_of.ensures ∙ c.in_ok-words.ensures.words known ∙ ap W c.from_pfn.ensures in
+      let P : ℕ → Type 0 = λ n. HoldsFor numbers (so_far W numbers (c.loop-i.i + 1)) (insert c.loop-i.memory n c.table_of.result) in
+      subst P (sym c.new.ensures) (place_filled W numbers c.loop-i.i c.loop-i.memory c.table_of.result c.loop-i-test.true read (c.loop-i.invariant.tables known));
+}
+
+pub returns-clause-words : goal.returns-clause-words
+returns-clause-words g c known =
+    words_filled (words_of_dump (opened g.S.ByteSource.bytes c.args.dump.now)) c.deref-number-items.result.now c.loop-i.i c.loop-i.memory (frames_of c.args.frames.now)
+    c.loop-i-test.false (no_frame (opened g.S.ByteSource.bytes c.args.dump.now))
+    (all_there g (goal.at.returns-clause-words g c).After-deref-number-items) (c.loop-i.invariant.tables known)

@@ -1,0 +1,16 @@
+use Rattle.std.proofs.Common.{◌≡◌, ◌==◌, ◌*◌, ℕ, true, cond, take, Some, IsSome}
+use Rattle.std.specs.FinMap.{get}
+use Rattle.std.specs.List.{list_any}
+use Rattle.x86_64_dump.specs.Dump.{words_of_dump}
+use Rattle.x86_64_dump.specs.Opened.{opened}
+use Rattle.x86_64_tables.specs.PageTable.{zero_words}
+use Rattle.x86_64_dump.specs.private.FrameNumbers.{HoldsFor}
+use Rattle.x86_64_dump.proofs.tables.loading.read_memory.Given as goal
+
+-- the memory has all places, and the tables of the numbers so far
+abbrev pub invariant-loop-i : goal.invariant-loop-i
+invariant-loop-i g l = record {
+  places : (place : ℕ) → list_any (λ n. place == n) l.number-items ≡ true → IsSome (get l.memory place);
+  tables : g.S.ByteSource.IsKnown → HoldsFor l.number-items (λ place. cond (list_any (λ n. place == n) (take l.i l.number-items))
+      (words_of_dump (opened g.S.ByteSource.bytes l.dump) (place * 4096)) (Some zero_words)) l.memory;
+}

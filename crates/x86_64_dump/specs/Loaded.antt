@@ -1,0 +1,30 @@
+-- Loaded: the contents of tables that were read, and why tables can't be read.
+use Rattle.std.specs.Prelude.{◌≡◌, ℕ, List, Vec, map, ⊤}
+use Rattle.x86_64_model.specs.Memory.{Words, words_of, identity_places}
+use Rattle.x86_64_dump.specs.declared.error.DumpError.{DumpError}
+use Rattle.x86_64_dump.specs.declared.error.DumpError.TheVariants as errors
+use Rattle.x86_64_dump.specs.Tables.{tables_by_level, words_in_frames}
+use Rattle.x86_64_dump.specs.declared.tables.dump_tables.DumpTables.{DumpTables}
+
+-- the words of the tables, by their frames
+abbrev pub words_in : DumpTables → Words
+words_in tables = words_of tables.memory identity_places
+
+-- frames by level, each level as a list
+abbrev pub frames_of : {A : Type 0} → List (Vec ℕ A) → List (List ℕ)
+frames_of levels = map (λ frames. frames.items) levels
+
+-- the frames of the tables, by level
+abbrev pub frames_in : DumpTables → List (List ℕ)
+frames_in tables = frames_of tables.frames.items
+
+-- The tables that a root leads to in W, with L levels of tables: their frames level by level, and their words.
+pub record AreTables (L : ℕ) (W : Words) (root : ℕ) (tables : DumpTables) : Type 0 where
+  pub frames : frames_in tables ≡ tables_by_level L W root
+  pub words : words_in tables ≡ words_in_frames (frames_in tables) W
+
+-- an error: memory allocation failed, or the source can't be read, which is impossible if its bytes are known
+abbrev pub MayFail : (known : Type 0) → DumpError → Type 0
+MayFail known errors.OutOfMemory = ⊤
+MayFail known (errors.Read error) = ¬ known
+MayFail known (errors.Fault fault) = ⊥

@@ -1,0 +1,11 @@
+//! The page tables that a root leads to, read from a dump.
+
+mod dump_tables;
+mod frame_set;
+mod levels;
+mod loading;
+mod progress;
+mod words;
+
+pub use dump_tables::{DumpTables, read_tables};
+pub use progress::{NoProgress, Progress};

@@ -1,0 +1,117 @@
+//! The frames of the tables that a root leads to, level by level.
+ghost use Rattle.std.specs.Prelude.{◌≡◌, ◌<◌, IfOk, IfErr, OnOk};
+ghost use Rattle.std.specs.List.{filter_map, flat_map, fold};
+ghost use Rattle.x86_64_dump.specs.Dump.{words_of_dump};
+ghost use Rattle.x86_64_dump.specs.Opened.{opened};
+ghost use Rattle.x86_64_dump.specs.Loaded.{MayFail, frames_of};
+ghost use Rattle.x86_64_dump.specs.Tables.{table_named, tables_named, met, each_once, tables_by_level, if_there};
+
+use crate::tables::frame_set::FrameSet;
+use crate::{ByteSource, Dump, DumpError};
+use std::alloc::{AllocError, Global};
+use x86_64_page::frame::PhysFrame;
+use x86_64_page::page::Size4KiB;
+use x86_64_tables::page_table::PageTableEntry;
+
+/// Finds the tables that a root leads to, and returns their frames by level, level one first. Those of a level are in the order
+/// in which they are found.
+pub fn read_levels<S: ByteSource>(
+    alloc: Global,
+    dump: &Dump<S>,
+    root: PhysFrame<Size4KiB>,
+    levels: u64,
+) -> Result<Vec<Vec<PhysFrame<Size4KiB>>>, DumpError>
+    requires { 0 < levels }
+    ensures frames { S.IsKnown → IfOk result (λ frames. frames_of frames.items
+        ≡ tables_by_level levels (words_of_dump (opened S.bytes dump.now)) root) }
+    ensures errors { IfErr result (MayFail S.IsKnown) }
+{
+    let mut frames = Vec::new(alloc);
+    let mut level = root_level(alloc, dump, root)?;
+    for _ in 1..levels {
+        let below = read_below(alloc, dump, &level)?;
+        frames.push(level)?;
+        level = below;
+    }
+    frames.push(level)?;
+    frames.reverse();
+    Ok(frames)
+}
+
+/// Returns the root's frame, if the dump has it.
+fn root_level<S: ByteSource>(
+    alloc: Global,
+    dump: &Dump<S>,
+    root: PhysFrame<Size4KiB>,
+) -> Result<Vec<PhysFrame<Size4KiB>>, AllocError>
+    ensures { S.IsKnown → IfOk result (λ frames.
+        frames.items ≡ if_there (words_of_dump (opened S.bytes dump.now)) root) }
+{
+    let mut frames = Vec::new(alloc);
+    if dump.has_frame(root) {
+        frames.push(root)?;
+    }
+    Ok(frames)
+}
+
+/// Returns the frames of the tables that the tables in some frames name, each once.
+fn read_below<S: ByteSource>(
+    alloc: Global,
+    dump: &Dump<S>,
+    frames: &[PhysFrame<Size4KiB>],
+) -> Result<Vec<PhysFrame<Size4KiB>>, DumpError>
+    ensures frames { S.IsKnown → IfOk result (λ below. below.items
+        ≡ each_once (flat_map (tables_named (words_of_dump (opened S.bytes dump.now))) frames.now)) }
+    ensures errors { IfErr result (MayFail S.IsKnown) }
+{
+    let mut below = FrameSet::new(alloc);
+    for frame in frames {
+        read_named(dump, *frame, &mut below)?;
+    }
+    Ok(below.into_frames())
+}
+
+/// Adds the frames of the tables that the words of a frame name.
+fn read_named<S: ByteSource>(
+    dump: &Dump<S>,
+    frame: PhysFrame<Size4KiB>,
+    below: &mut FrameSet,
+) -> Result<(), DumpError>
+    ensures frames { S.IsKnown → OnOk result (below.new
+        ≡ fold met below.old (tables_named (words_of_dump (opened S.bytes dump.now)) frame)) }
+    ensures errors { IfErr result (MayFail S.IsKnown) }
+{
+    if let Some(words) = dump.read_frame(frame)? {
+        add_named(dump, &words, below)?;
+    }
+    Ok(())
+}
+
+/// Adds the frames of the tables that some words name.
+fn add_named<S: ByteSource>(
+    dump: &Dump<S>,
+    words: &[u64],
+    below: &mut FrameSet,
+) -> Result<(), AllocError>
+    ensures { S.IsKnown → OnOk result (below.new ≡ fold met below.old
+        (filter_map (table_named (words_of_dump (opened S.bytes dump.now))) words.now)) }
+{
+    for word in words {
+        if let Some(named) = table_named(dump, *word) {
+            below.insert(named)?;
+        }
+    }
+    Ok(())
+}
+
+/// Returns the frame of the table that a word above level one names, if the dump has it.
+fn table_named<S: ByteSource>(dump: &Dump<S>, word: u64) -> Option<PhysFrame<Size4KiB>>
+    ensures { S.IsKnown → result ≡ table_named (words_of_dump (opened S.bytes dump.now)) word }
+{
+    let frame = PageTableEntry::from_word(word).frame().ok()?;
+    if dump.has_frame(frame) {
+        Some(frame)
+    } else {
+        None
+    }
+}

@@ -1,0 +1,85 @@
+//! Summaries of mappings.
+ghost use Rattle.std.specs.Prelude.{◌≡◌, ◌+◌, IfSome};
+ghost use Rattle.x86_64_mappings.specs.private.Merged as merged;
+
+use x86_64_tables::phys_memory::Rights;
+
+/// A summary of mappings.
+#[derive(Clone, Copy)]
+pub struct Summary {
+    /// The number of mappings.
+    pub count: u64,
+    /// The number of bytes that they map.
+    pub bytes: u64,
+    /// The rights that at least one mapping has.
+    pub some: Rights,
+    /// The rights that all mappings have. These are all rights if there is no mapping.
+    pub all: Rights,
+}
+
+impl Summary {
+    /// The summary of no mappings.
+    pub(crate) const NONE: Summary = Summary {
+        count: 0,
+        bytes: 0,
+        some: Rights {
+            write: false,
+            user: false,
+            execute: false,
+        },
+        all: Rights::ALL,
+    };
+
+    /// Returns the summary of one mapping, by its size and what it allows.
+    pub(crate) fn of_one(bytes: u64, rights: Rights) -> Summary
+        ensures { result ≡ record { count = 1; bytes = bytes; some = rights; all = rights } }
+    {
+        Summary {
+            count: 1,
+            bytes,
+            some: rights,
+            all: rights,
+        }
+    }
+
+    /// Returns the summary of these mappings and others together, or `None` if the numbers don't fit.
+    pub(crate) fn with(self, others: Summary) -> Option<Summary>
+        ensures { IfSome result (λ both. both ≡ merged.joined self others) }
+    {
+        Some(Summary {
+            count: self.count.checked_add(others.count)?,
+            bytes: self.bytes.checked_add(others.bytes)?,
+            some: Rights {
+                write: self.some.write || others.some.write,
+                user: self.some.user || others.some.user,
+                execute: self.some.execute || others.some.execute,
+            },
+            all: common(self.all, others.all),
+        })
+    }
+
+    /// Returns the summary of the mappings below entries that allow `above`.
+    pub(crate) fn below(self, above: Rights) -> Summary
+        ensures { result ≡ merged.lessened above self }
+    {
+        if self.count == 0 {
+            return self;
+        }
+        Summary {
+            some: common(above, self.some),
+            all: common(above, self.all),
+            ..self
+        }
+    }
+}
+
+/// Returns what both allow.
+fn common(some: Rights, others: Rights) -> Rights
+    ensures { result ≡ merged.both some others }
+{
+    Rights {
+        write: some.write && others.write,
+        user: some.user && others.user,
+        execute: some.execute && others.execute,
+    }
+}

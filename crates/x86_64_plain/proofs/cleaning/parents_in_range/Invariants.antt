@@ -1,9 +1,0 @@
-use Rattle.std.proofs.Common.{◌≡◌}
-use Rattle.std.specs.List.{list_all}
-use Rattle.x86_64_model.specs.Path.{parents}
-use Rattle.x86_64_model.specs.CleanUp.{in_range}
-use Rattle.x86_64_plain.proofs.Parents.{rest}
-use Rattle.x86_64_plain.proofs.cleaning.parents_in_range.Given as goal
-
-abbrev pub invariant-loop-length : goal.invariant-loop-length
-invariant-loop-length l = list_all (in_range l.levels l.paths l.low l.high) (rest l.path l.length) ≡ list_all (in_range l.levels l.paths l.low l.high) (parents l.path)

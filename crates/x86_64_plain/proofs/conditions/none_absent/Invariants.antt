@@ -1,8 +1,0 @@
-use Rattle.std.proofs.Common.{◌≡◌}
-use Rattle.x86_64_model.specs.Path.{parents}
-use Rattle.x86_64_plain.specs.Fronts.{first_present}
-use Rattle.x86_64_plain.proofs.Parents.{rest}
-use Rattle.x86_64_plain.proofs.conditions.none_absent.Given as goal
-
-abbrev pub invariant-loop-length : goal.invariant-loop-length
-invariant-loop-length l = first_present l.paths (rest l.path l.length) ≡ first_present l.paths (parents l.path)

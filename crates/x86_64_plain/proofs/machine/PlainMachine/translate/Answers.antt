@@ -1,5 +1,0 @@
-use Rattle.x86_64_plain.proofs.Addresses.{can_add, can_add_if_ok}
-use Rattle.x86_64_plain.proofs.machine.PlainMachine.translate.Goals as goal
-
-pub returns-clause-can_add : goal.returns-clause-can_add
-returns-clause-can_add c = can_add_if_ok c.translate.result _ (can_add _ _ _) c.translate.ensures

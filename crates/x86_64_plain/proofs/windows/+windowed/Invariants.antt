@@ -1,5 +1,0 @@
-use Rattle.std.proofs.Common.{length}
-use Rattle.x86_64_plain.proofs.windows.+windowed.Given as goal
-
-abbrev pub decreases-windowed : goal.decreases-windowed
-decreases-windowed l = length l.path.now

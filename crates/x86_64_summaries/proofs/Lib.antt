@@ -1,8 +1,0 @@
-pub mod Placed
-pub mod Tables
-pub mod Visited
-mod Summed
-mod Joined
-mod Whole
-mod Spans
-mod Levels

@@ -1,6 +1,0 @@
-pub mod Merged
-pub mod Placed
-pub mod Targets
-pub mod Known
-pub mod Joined
-pub mod Extents
