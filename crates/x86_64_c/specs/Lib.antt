@@ -1,9 +1,10 @@
 pub mod Status
 pub mod Given
-pub mod Reads
+pub mod Lookups
+pub mod Validity
 pub mod Listing
-pub mod Calls
-pub mod PoolCalls
+pub mod EntryChanges
+pub mod MapsAndCleanUps
 pub use Rattle.x86_64_model.specs.Mapper
 pub use Rattle.x86_64_model.specs.Translation
 pub use Rattle.x86_64_model.specs.Mappings

@@ -7,7 +7,9 @@
 mod changes;
 mod given;
 mod listing;
+mod page_walk;
 mod runs;
 mod status;
-mod tests;
-mod walk;
+mod translate;
+mod validity;
+
