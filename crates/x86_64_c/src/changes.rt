@@ -114,10 +114,8 @@ impl Changed {
     fn without_frame(status: u32) -> Changed
         ensures { result ≡ record { status = status; frame = None } }
     {
-        Changed {
-            status,
-            frame: None,
-        }
+        let frame = None;
+        Changed { status, frame }
     }
 }
 
@@ -144,6 +142,7 @@ impl EntryChange {
     }
 
     /// Returns whether the call is allowed.
+    #[tactic(auto, unfolding(x86_64_model::specs::Entry::has))]
     fn is_allowed<S: PageSize, L: LevelCount, M: TableAccess + TablesIn<L>>(
         self,
         mapper: &M,
@@ -159,7 +158,14 @@ impl EntryChange {
             EntryChange::UpdateFlags(flags) => {
                 !flags.has_address_bits() && is_outside_window(mapper, page)
             }
-            EntryChange::SetTableFlags(level, flags) => may_set(mapper, page, level, flags),
+            EntryChange::SetTableFlags(level, flags) if level <= 3 => {
+                calls::table_flags_allowed(mapper, page, level, flags)
+            }
+            EntryChange::SetTableFlags(_, flags) => {
+                !flags.has_address_bits()
+                    && !flags.contains(PageTableFlags::HUGE_PAGE)
+                    && is_outside_window(mapper, page)
+            }
         }
     }
 
@@ -220,28 +226,6 @@ fn address_in(error: &UnmapError) -> Option<u64>
         UnmapError::InvalidFrameAddress(address) => Some(address.as_u64()),
         UnmapError::ParentEntryHugePage | UnmapError::PageNotMapped => None,
     }
-}
-
-/// Returns whether the flags of the entry of a level on a page's path may be set to these.
-#[tactic(auto, unfolding(x86_64_model::specs::Entry::has))]
-fn may_set<S: PageSize, L: LevelCount, M: TableAccess + TablesIn<L>>(
-    mapper: &M,
-    page: PageIn<S, L>,
-    level: u64,
-    flags: PageTableFlags,
-) -> bool
-    requires low { 2 ≤ level }
-    requires high { level ≤ L.LEVELS }
-    requires valid { Valid (M.hierarchy mapper.now) }
-    ensures { result ≡ allows (M.hierarchy mapper.now)
-        (SetFlags level (path_of (M.hierarchy mapper.now) S.LEVEL page) (bits_of flags)) }
-{
-    if level <= 3 {
-        return calls::table_flags_allowed(mapper, page, level, flags);
-    }
-    !flags.has_address_bits()
-        && !flags.contains(PageTableFlags::HUGE_PAGE)
-        && is_outside_window(mapper, page)
 }
 
 /// Changes an entry on a page's path, if no argument is wrong and the call is allowed.

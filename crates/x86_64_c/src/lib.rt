@@ -12,4 +12,3 @@ mod runs;
 mod status;
 mod translate;
 mod validity;
-

@@ -12,6 +12,11 @@ pub run_lent-requires : goal.run_lent-requires
 run_lent-requires g c =
     let h = c.args.hierarchy.now in
     let within : c.args.free_count.now ≤ length c.args.pool.now = omega (arith, c.if-pool-free_count.false) in
-    let right = with_pool h _ (length c.args.pool.now) c.args.free_count.now h.levels (request_of c.args.request).wrong c.in-Ok.ensures.good within refl ∙ c.in-Ok-call.ensures.good in
-    (within, (c.requires.room, held h c.in-Ok.located (any_levels c.in-Ok-call.call) (sym c.in-Ok-call.ensures.levels) c.in-Ok.ensures.root c.in-Ok.ensures.places
-        (λ a. Fits a (pool_in g.own c.args.pool.now c.args.free_count.now)) c.args.tables.now _ refl (c.requires.fits right)))
+    let right = with_pool h _ (length c.args.pool.now) c.args.free_count.now h.levels (request_of c.args.request).wrong c.in-Ok.ensures.good within refl ∙ c.in-Ok-call.ensures.good in (
+      within,
+      (
+        c.requires.room,
+        held h c.in-Ok.located (any_levels c.in-Ok-call.call) (sym c.in-Ok-call.ensures.levels) c.in-Ok.ensures.root c.in-Ok.ensures.places
+            (λ a. Fits a (pool_in g.own c.args.pool.now c.args.free_count.now)) c.args.tables.now _ refl (c.requires.fits right),
+      ),
+    )
