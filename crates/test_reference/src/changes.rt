@@ -7,7 +7,7 @@ ghost use Rattle.x86_64_model.specs.MapRule.{leaf_entry as leaf_entry_of};
 ghost use Rattle.x86_64_model.specs.Refusal.{Done, PageNotMapped, answer_unless, refused_if};
 ghost use Rattle.x86_64_model.specs.PageRules.{AfterChange, refused_or, unmap_refusal as unmap_refusal_of, update_refusal as update_refusal_of, translate_refusal as translate_refusal_of, unmap as unmap_of, update_flags as update_flags_of, translate_page as translate_page_of, set_flags as set_flags_of};
 ghost use Rattle.test_reference.specs.Windows.{entry_read};
-ghost use Rattle.test_reference.specs.Calls.{refusals_of, answer_of, changed};
+ghost use Rattle.test_reference.specs.Calls.{refusals_of, answer_of, after_change};
 
 use crate::calls::{Answer, Refusal};
 use crate::entries::PathEntries;
@@ -36,7 +36,7 @@ fn change(
     frame: u64,
 ) -> Result<Answer, AllocError>
     ensures { let next : AfterChange = record { paths = put paths.old path.now word; answer = Done frame } in
-        IfOk result (λ answer. changed paths.new answer ≡ refused_or paths.old (refusals_of refusal) next) }
+        IfOk result (λ answer. after_change paths.new answer ≡ refused_or paths.old (refusals_of refusal) next) }
 {
     match refusal {
         Some(why) => Ok(Answer::Refused(why)),
@@ -96,7 +96,7 @@ pub fn unmap(
 ) -> Result<Answer, AllocError>
     requires { levels ≤ 5 }
     ensures { let after = unmap_of levels (entry_read window paths.old) paths.old page.now in
-        IfOk result (λ answer. changed paths.new answer ≡ after) }
+        IfOk result (λ answer. after_change paths.new answer ≡ after) }
 {
     let word = entry_at(window, paths, page);
     let refusal = first_stop(window, paths, page).or(unmap_refusal(levels, page, word));
@@ -127,7 +127,7 @@ pub fn update_flags(
     flags: u64,
 ) -> Result<Answer, AllocError>
     ensures { let after = update_flags_of levels (entry_read window paths.old) paths.old page.now flags in
-        IfOk result (λ answer. changed paths.new answer ≡ after) }
+        IfOk result (λ answer. after_change paths.new answer ≡ after) }
 {
     let word = entry_at(window, paths, page);
     let frame = address(word);
@@ -216,7 +216,7 @@ pub fn set_flags(
 ) -> Result<Answer, AllocError>
     requires { levels ≤ 5 }
     ensures { let after = set_flags_of levels (entry_read window paths.old) paths.old level page.now flags in
-        IfOk result (λ answer. changed paths.new answer ≡ after) }
+        IfOk result (λ answer. after_change paths.new answer ≡ after) }
 {
     if level <= level_of(levels, page) {
         return Ok(Answer::Refused(Refusal::ParentEntryHugePage));

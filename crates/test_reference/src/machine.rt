@@ -12,7 +12,7 @@ ghost use Rattle.test_reference.specs.Machine.{CanAdd, machine_of, plain_state, 
 
 use crate::calls::{PlainCall, PlainReply, Translated};
 use crate::changes::{set_flags, translate_page, unmap, update_flags};
-use crate::cleaning::clean_up;
+use crate::cleaning::CleanUpRange;
 use crate::conditions::{is_allowed, parent_part};
 use crate::entries::PathEntries;
 use crate::maps::map_call;
@@ -211,8 +211,8 @@ impl PlainMachine {
         ensures { let call = CleanUp low high in
             IfOk result (λ reply. outcome state.new reply ≡ allowed_outcome self.now state.old call) }
     {
-        let alloc = *state.pool.allocator();
-        let back = clean_up(alloc, self.levels, &mut state.paths, low, high)?;
+        let levels = self.levels;
+        let back = CleanUpRange { levels, low, high }.clean_up(&mut state.paths)?;
         give_back(&mut state.pool, &back)?;
         Ok(PlainReply::Cleaned)
     }

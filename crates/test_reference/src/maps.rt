@@ -3,7 +3,7 @@ ghost use Rattle.std.specs.Prelude.{◌≡◌, OnOk, IfOk, filter, drop};
 ghost use Rattle.std.specs.List.{list_any};
 ghost use Rattle.x86_64_model.specs.Path.{parents};
 ghost use Rattle.x86_64_model.specs.MapRule.{with_flags, with_tables, map_call as map_call_of};
-ghost use Rattle.test_reference.specs.Calls.{mapped};
+ghost use Rattle.test_reference.specs.Calls.{after_map};
 ghost use Rattle.test_reference.specs.Fronts.{fronts, is_wanted, has_huge_page};
 
 use crate::calls::{Answer, Refusal};
@@ -108,7 +108,7 @@ pub fn map_call(
     flags: u64,
 ) -> Result<Answer, AllocError>
     ensures { let before = map_call_of levels paths.old pool.old.items parent_flags added_flags in
-        IfOk result (λ answer. mapped paths.new pool.new.items answer ≡ before page.now frame flags) }
+        IfOk result (λ answer. after_map paths.new pool.new.items answer ≡ before page.now frame flags) }
 {
     let alloc = *pool.allocator();
     let used = parents_where(alloc, paths, page, true)?;
