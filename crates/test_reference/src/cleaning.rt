@@ -86,7 +86,8 @@ impl CleanUpRange {
 
     /// Returns true if all parents of a path are present table entries whose spans overlap the range.
     fn has_parents(self, paths: &PathEntries, path: &[u64]) -> bool
-        ensures { result ≡ list_all (in_range_of self.levels paths.now self.low self.high) (parents path.now) }
+        ensures { let holds = in_range_of self.levels paths.now self.low self.high in
+            result ≡ list_all holds (parents path.now) }
     {
         for length in 1..path.len() {
             if !self.has_table(paths, &path[..length]) {
