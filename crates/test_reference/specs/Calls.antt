@@ -33,12 +33,12 @@ answer_of (Done frame) = refusal.Done frame
 answer_of (Refused why) = refusal.Refused (refusal_of why)
 
 -- The path map and the answer after a call on one entry.
-abbrev pub changed : PathMap → Answer → AfterChange
-changed paths answer = record { paths = paths; answer = answer_of answer }
+abbrev pub after_change : PathMap → Answer → AfterChange
+after_change paths answer = record { paths = paths; answer = answer_of answer }
 
 -- The path map, the free frames and the answer after a map.
-abbrev pub mapped : PathMap → (supply : List ℕ) → Answer → AfterMap
-mapped paths supply answer = record { paths = paths; supply = supply; answer = answer_of answer }
+abbrev pub after_map : PathMap → (supply : List ℕ) → Answer → AfterMap
+after_map paths supply answer = record { paths = paths; supply = supply; answer = answer_of answer }
 
 abbrev pub translated_of : Translated → translation.Translated
 translated_of NotMapped = translation.NotMapped

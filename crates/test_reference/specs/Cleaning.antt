@@ -23,5 +23,5 @@ abbrev pub stays : (L : ℕ) → PathMap → (low high : ℕ) → PathEntry → 
 stays L paths low high item = not (is_removed L paths low high item.path.items)
 
 -- The path map after a clean up, and the freed frames.
-abbrev pub cleaned : PathMap → (back : List ℕ) → AfterCleanUp
-cleaned paths back = record { paths = paths; back = back }
+abbrev pub after_clean_up : PathMap → (back : List ℕ) → AfterCleanUp
+after_clean_up paths back = record { paths = paths; back = back }

@@ -1,18 +1,19 @@
 //! The calls on one entry.
-ghost use Rattle.std.specs.Prelude.{◌≡◌, ◌≤◌, ◌%◌, ◌==◌, IfOk, None, not, take};
+ghost use Rattle.std.specs.Prelude.{◌≡◌, ◌≤◌, ◌%◌, ◌==◌, IfOk, None, not};
 ghost use Rattle.x86_64_model.specs.Entry.{used, address as address_of};
-ghost use Rattle.x86_64_model.specs.Path.{span_size as span_size_of, front_at as front_at_of};
+ghost use Rattle.x86_64_model.specs.Path.{span_size as span_size_of};
 ghost use Rattle.x86_64_model.specs.PathMap.{put};
 ghost use Rattle.x86_64_model.specs.MapRule.{leaf_entry as leaf_entry_of};
 ghost use Rattle.x86_64_model.specs.Refusal.{Done, PageNotMapped, answer_unless, refused_if};
 ghost use Rattle.x86_64_model.specs.PageRules.{AfterChange, refused_or, unmap_refusal as unmap_refusal_of, update_refusal as update_refusal_of, translate_refusal as translate_refusal_of, unmap as unmap_of, update_flags as update_flags_of, translate_page as translate_page_of, set_flags as set_flags_of};
 ghost use Rattle.test_reference.specs.Windows.{entry_read};
-ghost use Rattle.test_reference.specs.Calls.{refusals_of, answer_of, changed};
+ghost use Rattle.test_reference.specs.Calls.{refusals_of, answer_of, after_change};
 
 use crate::calls::{Answer, Refusal};
 use crate::entries::PathEntries;
-use crate::positions::{is_small, level_of, span_size};
-use crate::windows::{PlainWindow, entry_at, first_stop};
+use crate::machine::PlainMachine;
+use crate::positions::{front_at, is_small, level_of, span_size};
+use crate::windows::{entry_at, first_stop};
 use crate::words::{HUGE_PAGE, address, is_huge, is_present, is_used};
 use std::alloc::AllocError;
 
@@ -36,7 +37,8 @@ fn change(
     frame: u64,
 ) -> Result<Answer, AllocError>
     ensures { let next : AfterChange = record { paths = put paths.old path.now word; answer = Done frame } in
-        IfOk result (λ answer. changed paths.new answer ≡ refused_or paths.old (refusals_of refusal) next) }
+        let after = refused_or paths.old (refusals_of refusal) next in
+        IfOk result (λ answer. after_change paths.new answer ≡ after) }
 {
     match refusal {
         Some(why) => Ok(Answer::Refused(why)),
@@ -82,27 +84,6 @@ fn unmap_refusal(levels: usize, page: &[u64], word: u64) -> Option<Refusal>
     None
 }
 
-/// Unmaps a page. Its entry must be present. It must be huge if and only if the page is a 2MiB or 1GiB page, and then its address
-/// must be a multiple of the page's size.
-///
-/// # Errors
-///
-/// `AllocError` if memory allocation fails. The entries are then unspecified.
-pub fn unmap(
-    levels: usize,
-    window: Option<PlainWindow>,
-    paths: &mut PathEntries,
-    page: &[u64],
-) -> Result<Answer, AllocError>
-    requires { levels ≤ 5 }
-    ensures { let after = unmap_of levels (entry_read window paths.old) paths.old page.now in
-        IfOk result (λ answer. changed paths.new answer ≡ after) }
-{
-    let word = entry_at(window, paths, page);
-    let refusal = first_stop(window, paths, page).or(unmap_refusal(levels, page, word));
-    change(paths, refusal, page, 0, address(word))
-}
-
 /// Returns the refusal to change a page's flags by its own entry, if any.
 fn update_refusal(levels: usize, page: &[u64], word: u64) -> Option<Refusal>
     ensures { refusals_of result ≡ update_refusal_of levels page.now word }
@@ -112,33 +93,6 @@ fn update_refusal(levels: usize, page: &[u64], word: u64) -> Option<Refusal>
     } else {
         None
     }
-}
-
-/// Sets the flags of a page. Its entry must be used, and huge for a 2MiB or 1GiB page.
-///
-/// # Errors
-///
-/// `AllocError` if memory allocation fails. The entries are then unspecified.
-pub fn update_flags(
-    levels: usize,
-    window: Option<PlainWindow>,
-    paths: &mut PathEntries,
-    page: &[u64],
-    flags: u64,
-) -> Result<Answer, AllocError>
-    ensures { let after = update_flags_of levels (entry_read window paths.old) paths.old page.now flags in
-        IfOk result (λ answer. changed paths.new answer ≡ after) }
-{
-    let word = entry_at(window, paths, page);
-    let frame = address(word);
-    let refusal = first_stop(window, paths, page).or(update_refusal(levels, page, word));
-    change(
-        paths,
-        refusal,
-        page,
-        leaf_entry(levels, page, frame, flags),
-        frame,
-    )
 }
 
 /// Returns the refusal to name a page's frame by its own entry, if any.
@@ -155,41 +109,6 @@ fn translate_refusal(levels: usize, page: &[u64], word: u64) -> Option<Refusal>
     None
 }
 
-/// Returns the frame of a page. Its entry must be used. For a 2MiB or 1GiB page it must be huge, with an address that is a
-/// multiple of the page's size.
-pub fn translate_page(
-    levels: usize,
-    window: Option<PlainWindow>,
-    paths: &PathEntries,
-    page: &[u64],
-) -> Answer
-    requires { levels ≤ 5 }
-    ensures { answer_of result ≡ translate_page_of levels (entry_read window paths.now) page.now }
-{
-    let word = entry_at(window, paths, page);
-    let refusal = first_stop(window, paths, page).or(translate_refusal(levels, page, word));
-    answer(refusal, address(word))
-}
-
-/// Returns the first `length` indices of a path, or all of it if it is shorter.
-pub fn front(path: &[u64], length: usize) -> &[u64]
-    ensures { result.now ≡ take length path.now }
-{
-    if length < path.len() {
-        &path[..length]
-    } else {
-        path
-    }
-}
-
-/// Returns the front part of a path that names the entry of a level.
-pub fn front_at(levels: usize, level: usize, path: &[u64]) -> &[u64]
-    requires { levels ≤ 5 }
-    ensures { result.now ≡ front_at_of levels level path.now }
-{
-    front(path, (levels + 1).saturating_sub(level))
-}
-
 /// Returns the refusal to change an entry if it is absent.
 fn unused_refusal(word: u64) -> Option<Refusal>
     ensures { refusals_of result ≡ refused_if (not (used word)) PageNotMapped None }
@@ -201,29 +120,99 @@ fn unused_refusal(word: u64) -> Option<Refusal>
     }
 }
 
-/// Sets the flags of the entry of a level on a page's path. The level must be above the page's own, and the entry must be used.
-///
-/// # Errors
-///
-/// `AllocError` if memory allocation fails. The entries are then unspecified.
-pub fn set_flags(
-    levels: usize,
-    window: Option<PlainWindow>,
-    paths: &mut PathEntries,
-    level: usize,
-    page: &[u64],
-    flags: u64,
-) -> Result<Answer, AllocError>
-    requires { levels ≤ 5 }
-    ensures { let after = set_flags_of levels (entry_read window paths.old) paths.old level page.now flags in
-        IfOk result (λ answer. changed paths.new answer ≡ after) }
-{
-    if level <= level_of(levels, page) {
-        return Ok(Answer::Refused(Refusal::ParentEntryHugePage));
+impl PlainMachine {
+    /// Unmaps a page. Its entry must be present. It must be huge if and only if the page is a 2MiB or 1GiB page, and then its address
+    /// must be a multiple of the page's size.
+    ///
+    /// # Errors
+    ///
+    /// `AllocError` if memory allocation fails. The entries are then unspecified.
+    pub fn unmap(&self, paths: &mut PathEntries, page: &[u64]) -> Result<Answer, AllocError>
+        requires { self.now.levels ≤ 5 }
+        ensures { let read = entry_read self.now.window paths.old in
+            let after = unmap_of self.now.levels read paths.old page.now in
+            IfOk result (λ answer. after_change paths.new answer ≡ after) }
+    {
+        let word = entry_at(self.window, paths, page);
+        let refusal = first_stop(self.window, paths, page).or(unmap_refusal(
+            self.levels,
+            page,
+            word,
+        ));
+        change(paths, refusal, page, 0, address(word))
     }
-    let path = front_at(levels, level, page);
-    let word = entry_at(window, paths, path);
-    let frame = address(word);
-    let refusal = first_stop(window, paths, path).or(unused_refusal(word));
-    change(paths, refusal, path, frame | flags, frame)
+
+    /// Sets the flags of a page. Its entry must be used, and huge for a 2MiB or 1GiB page.
+    ///
+    /// # Errors
+    ///
+    /// `AllocError` if memory allocation fails. The entries are then unspecified.
+    pub fn update_flags(
+        &self,
+        paths: &mut PathEntries,
+        page: &[u64],
+        flags: u64,
+    ) -> Result<Answer, AllocError>
+        ensures { let read = entry_read self.now.window paths.old in
+            let after = update_flags_of self.now.levels read paths.old page.now flags in
+            IfOk result (λ answer. after_change paths.new answer ≡ after) }
+    {
+        let word = entry_at(self.window, paths, page);
+        let frame = address(word);
+        let refusal = first_stop(self.window, paths, page).or(update_refusal(
+            self.levels,
+            page,
+            word,
+        ));
+        change(
+            paths,
+            refusal,
+            page,
+            leaf_entry(self.levels, page, frame, flags),
+            frame,
+        )
+    }
+
+    /// Returns the frame of a page. Its entry must be used. For a 2MiB or 1GiB page it must be huge, with an address that is a
+    /// multiple of the page's size.
+    pub fn translate_page(&self, paths: &PathEntries, page: &[u64]) -> Answer
+        requires { self.now.levels ≤ 5 }
+        ensures { let read = entry_read self.now.window paths.now in
+            answer_of result ≡ translate_page_of self.now.levels read page.now }
+    {
+        let word = entry_at(self.window, paths, page);
+        let refusal = first_stop(self.window, paths, page).or(translate_refusal(
+            self.levels,
+            page,
+            word,
+        ));
+        answer(refusal, address(word))
+    }
+
+    /// Sets the flags of the entry of a level on a page's path. The level must be above the page's own, and the entry must be used.
+    ///
+    /// # Errors
+    ///
+    /// `AllocError` if memory allocation fails. The entries are then unspecified.
+    pub fn set_flags(
+        &self,
+        paths: &mut PathEntries,
+        level: usize,
+        page: &[u64],
+        flags: u64,
+    ) -> Result<Answer, AllocError>
+        requires { self.now.levels ≤ 5 }
+        ensures { let read = entry_read self.now.window paths.old in
+            let after = set_flags_of self.now.levels read paths.old level page.now flags in
+            IfOk result (λ answer. after_change paths.new answer ≡ after) }
+    {
+        if level <= level_of(self.levels, page) {
+            return Ok(Answer::Refused(Refusal::ParentEntryHugePage));
+        }
+        let path = front_at(self.levels, level, page);
+        let word = entry_at(self.window, paths, path);
+        let frame = address(word);
+        let refusal = first_stop(self.window, paths, path).or(unused_refusal(word));
+        change(paths, refusal, path, frame | flags, frame)
+    }
 }

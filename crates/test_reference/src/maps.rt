@@ -3,12 +3,14 @@ ghost use Rattle.std.specs.Prelude.{◌≡◌, OnOk, IfOk, filter, drop};
 ghost use Rattle.std.specs.List.{list_any};
 ghost use Rattle.x86_64_model.specs.Path.{parents};
 ghost use Rattle.x86_64_model.specs.MapRule.{with_flags, with_tables, map_call as map_call_of};
-ghost use Rattle.test_reference.specs.Calls.{mapped};
+ghost use Rattle.test_reference.specs.Calls.{after_map};
 ghost use Rattle.test_reference.specs.Fronts.{fronts, is_wanted, has_huge_page};
 
 use crate::calls::{Answer, Refusal};
-use crate::changes::{front, leaf_entry};
+use crate::changes::leaf_entry;
 use crate::entries::PathEntries;
+use crate::machine::PlainMachine;
+use crate::positions::front;
 use crate::words::{is_used, is_used_and_huge};
 use std::alloc::{AllocError, Global};
 
@@ -92,42 +94,44 @@ fn take_frames(pool: &mut Vec<u64>, count: usize)
     let _ = pool.drain(..count.min(pool.len()));
 }
 
-/// Maps a page to a frame, with these flags for the page's parents, and the added flags for new ones.
-///
-/// # Errors
-///
-/// `AllocError` if memory allocation fails. The entries and the pool are then unspecified.
-pub fn map_call(
-    levels: usize,
-    paths: &mut PathEntries,
-    pool: &mut Vec<u64>,
-    parent_flags: u64,
-    added_flags: u64,
-    page: &[u64],
-    frame: u64,
-    flags: u64,
-) -> Result<Answer, AllocError>
-    ensures { let before = map_call_of levels paths.old pool.old.items parent_flags added_flags in
-        IfOk result (λ answer. mapped paths.new pool.new.items answer ≡ before page.now frame flags) }
-{
-    let alloc = *pool.allocator();
-    let used = parents_where(alloc, paths, page, true)?;
-    let missing = parents_where(alloc, paths, page, false)?;
-    let is_stopped = has_huge_parent(paths, page);
-    let is_mapped = is_used(paths.entry(page));
-    add_flags(paths, parent_flags, page, &used)?;
-    if is_stopped {
-        return Ok(Answer::Refused(Refusal::ParentEntryHugePage));
+impl PlainMachine {
+    /// Maps a page to a frame, with these flags for the page's parents, and the added flags for new ones.
+    ///
+    /// # Errors
+    ///
+    /// `AllocError` if memory allocation fails. The entries and the pool are then unspecified.
+    pub fn map_call(
+        &self,
+        paths: &mut PathEntries,
+        pool: &mut Vec<u64>,
+        page: &[u64],
+        frame: u64,
+        flags: u64,
+        parent_flags: u64,
+    ) -> Result<Answer, AllocError>
+        ensures { let map = map_call_of self.now.levels paths.old pool.old.items in
+            let before = map parent_flags self.now.added_flags in
+            IfOk result (λ answer. after_map paths.new pool.new.items answer ≡ before page.now frame flags) }
+    {
+        let alloc = *pool.allocator();
+        let used = parents_where(alloc, paths, page, true)?;
+        let missing = parents_where(alloc, paths, page, false)?;
+        let is_stopped = has_huge_parent(paths, page);
+        let is_mapped = is_used(paths.entry(page));
+        add_flags(paths, parent_flags, page, &used)?;
+        if is_stopped {
+            return Ok(Answer::Refused(Refusal::ParentEntryHugePage));
+        }
+        make_tables(paths, parent_flags | self.added_flags, page, &missing, pool)?;
+        let is_short = pool.len() < missing.len();
+        take_frames(pool, missing.len());
+        if is_short {
+            return Ok(Answer::Refused(Refusal::FrameAllocationFailed));
+        }
+        if is_mapped {
+            return Ok(Answer::Refused(Refusal::PageAlreadyMapped(frame)));
+        }
+        paths.put(page, leaf_entry(self.levels, page, frame, flags))?;
+        Ok(Answer::Done(frame))
     }
-    make_tables(paths, parent_flags | added_flags, page, &missing, pool)?;
-    let is_short = pool.len() < missing.len();
-    take_frames(pool, missing.len());
-    if is_short {
-        return Ok(Answer::Refused(Refusal::FrameAllocationFailed));
-    }
-    if is_mapped {
-        return Ok(Answer::Refused(Refusal::PageAlreadyMapped(frame)));
-    }
-    paths.put(page, leaf_entry(levels, page, frame, flags))?;
-    Ok(Answer::Done(frame))
 }

@@ -1,8 +1,8 @@
 //! Spans, indices and paths of positions, which are the numbers of addresses counted without the gap in the middle of the address
 //! space.
-ghost use Rattle.std.specs.Prelude.{◌≡◌, ◌≤◌, IfOk};
+ghost use Rattle.std.specs.Prelude.{◌≡◌, ◌≤◌, IfOk, take};
 ghost use Rattle.x86_64_model.specs.Position.{span as span_of, index as index_of, page_path as page_path_of, lower_half as lower_half_of};
-ghost use Rattle.x86_64_model.specs.Path.{path_at as path_at_of, is_small as is_small_of, level_of as level_of_path, span_size as span_size_of};
+ghost use Rattle.x86_64_model.specs.Path.{path_at as path_at_of, front_at as front_at_of, is_small as is_small_of, level_of as level_of_path, span_size as span_size_of};
 
 use std::alloc::{AllocError, Global};
 
@@ -83,4 +83,23 @@ pub fn span_size(levels: usize, path: &[u64]) -> u64
     ensures nonzero { 1 ≤ result }
 {
     span(level_of(levels, path))
+}
+
+/// Returns the first `length` indices of a path, or all of it if it is shorter.
+pub fn front(path: &[u64], length: usize) -> &[u64]
+    ensures { result.now ≡ take length path.now }
+{
+    if length < path.len() {
+        &path[..length]
+    } else {
+        path
+    }
+}
+
+/// Returns the front part of a path that names the entry of a level.
+pub fn front_at(levels: usize, level: usize, path: &[u64]) -> &[u64]
+    requires { levels ≤ 5 }
+    ensures { result.now ≡ front_at_of levels level path.now }
+{
+    front(path, (levels + 1).saturating_sub(level))
 }

@@ -11,7 +11,7 @@ use crate::entries::PathEntries;
 use crate::positions::{index, span};
 use crate::windows::{PlainWindow, entry_at};
 use crate::words::{address, flags, is_huge, is_present, is_used};
-use std::alloc::{AllocError, Global};
+use std::alloc::AllocError;
 
 /// Returns a huge entry's address, rounded down to the page size of its level.
 fn page_start(level: usize, word: u64) -> u64
@@ -87,16 +87,15 @@ fn translate_on(
 /// Returns the translation of a position.
 #[tactic(auto, unfolding(x86_64_model::specs::Translation::translate))]
 pub fn translate(
-    alloc: Global,
+    levels: usize,
     window: Option<PlainWindow>,
     paths: &PathEntries,
-    levels: usize,
     position: u64,
 ) -> Result<Translated, AllocError>
     requires { levels ≤ 5 }
     ensures { let read = entry_read window paths.now in
         IfOk result (λ t. translated_of t ≡ translate_of levels read position) }
 {
-    let mut path = Vec::new(alloc);
+    let mut path = Vec::new(*paths.items.allocator());
     translate_on(window, paths, position, levels, &mut path)
 }

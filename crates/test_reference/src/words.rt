@@ -1,5 +1,6 @@
 //! Entries, as words.
 ghost use Rattle.std.specs.Prelude.{◌≡◌, ◌&&◌};
+ghost use Rattle.x86_64_model.specs.MapRule.{parent_part as parent_part_of};
 ghost use Rattle.x86_64_model.specs.Entry.{present, huge, used, address as address_of, flags as flags_of, no_address as has_no_address};
 
 /// The bits of an entry that hold an address.
@@ -66,4 +67,11 @@ pub fn no_address(flags: u64) -> bool
     ensures { result ≡ has_no_address flags }
 {
     address(flags) == 0
+}
+
+/// Returns the parent flags of a map: those of PRESENT, WRITABLE and USER_ACCESSIBLE that the page's flags have.
+pub fn parent_part(flags: u64) -> u64
+    ensures { result ≡ parent_part_of flags }
+{
+    flags & 0x7
 }

@@ -6,10 +6,13 @@
 //! itself. Those of free frames must be 0 if a clean up returned the frame, and otherwise as before. Those of all other
 //! frames must be as before. At the end, each kind of reply that a call can have must have occurred.
 //!
+//! Ranges of pages, which the direct mapper maps, changes and unmaps as a whole, are compared with calls on each page.
+//!
 //! The script `tests/agreement` compares the program `pagetab` with the plain one, a call at a time.
 mod calls;
 mod chooser;
 mod listing;
 mod lists;
 mod outcomes;
+mod ranges;
 mod twins;

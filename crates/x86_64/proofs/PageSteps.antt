@@ -30,7 +30,7 @@ use Rattle.x86_64.specs.declared.calls.PageReply.TheVariants as reply
 use Rattle.x86_64.specs.Replies.{SizeReply, map_error, unmap_error, update_error, translate_error, result_of, size_reply, size_answer, is_refused, size_changes_nothing}
 use Rattle.x86_64.specs.FreeFrames.{KeepsFree}
 use Rattle.x86_64.specs.Runs.{machine_of, state_in, FitsPool, KeepsPool}
-use Rattle.x86_64.specs.private.Served.{size_step}
+use Rattle.x86_64.specs.private.Served.{SetsFlags, size_step}
 use Rattle.x86_64_model.proofs.Lemmas.Machines.Fitting.{ready_of_fits, sound_of_fits}
 use Rattle.x86_64_model.proofs.Lemmas.Maps.Takes.{map_takes}
 use Rattle.x86_64.proofs.FreeFrames.{map_keeps_free, change_keeps_free, nothing_keeps_free}
@@ -216,12 +216,11 @@ module _ {Lent S : Type 0} (h : Hierarchy Lent) {take_back : List ℕ → ℕ �
       (ap (option_map reply.Update) (flags_result page frame r same r refl ∙ ap Some (sym tells))) (flags_refuse frame told r (ap flags_refusal tells))
 
   -- on the entry of another level
-  pub set_flags_served : (at page flags : ℕ) → 2 ≤ at → at ≤ h.layout.levels → {X : Type 0} (frame : ℕ) (r : Result X FlagUpdateError) (after : Hierarchy Lent)
-      → Does h (page_call h.layout.levels level (SetFlags at page flags)) (flags_answer frame r) after
-      → (told : Result Unit FlagUpdateError) → flags_refusal told ≡ flags_refusal r → Is (SetFlags at page flags) after.memory pool (reply.TableFlags told)
-  set_flags_served at page flags above below frame r after does told tells =
-      change_served (SetFlags at page flags) (above, below, is_page start page) (flags_answer frame r) after does (reply.TableFlags told)
-      (ap (option_map reply.TableFlags) (flags_result tt frame told (any_unit told) r tells)) (flags_refuse frame told r tells)
+  pub set_flags_served : (at page flags : ℕ) → 2 ≤ at → at ≤ h.layout.levels → (answer : SizeReply S) (after : Hierarchy Lent)
+      → SetsFlags h level (SetFlags at page flags) answer after → Is (SetFlags at page flags) after.memory pool answer
+  set_flags_served at page flags above below answer after (told, same, does) =
+      rw same (change_served (SetFlags at page flags) (above, below, is_page start page) (flags_answer _ told) after does (reply.TableFlags told)
+      (ap (option_map reply.TableFlags) (flags_result tt _ told (any_unit told) told refl)) (flags_refuse _ told told refl))
 
   -- ---- translations
 

@@ -3,14 +3,14 @@ ghost use Rattle.std.specs.Prelude.{◌≡◌, ◌+◌, ◌<◌, ◌≤◌, ◌+
 ghost use Rattle.std.specs.Vec.{vec_capacity};
 ghost use Rattle.x86_64_model.specs.Entry.{huge, no_address};
 ghost use Rattle.x86_64_model.specs.Mapper.{Valid, allows};
-ghost use Rattle.x86_64_model.specs.PageCalls.{asked};
+ghost use Rattle.x86_64_model.specs.PageCalls.{MayAsk, SetFlags, asked};
 ghost use Rattle.x86_64_model.specs.Store.{Fits, Kept, store_of};
 ghost use Rattle.x86_64_tables.specs.PageTableFlags.{bits_of};
 ghost use Rattle.x86_64.specs.Calls.{asks, size_asks, in_window};
-ghost use Rattle.x86_64.specs.Flushes.{items_of, items_told};
+ghost use Rattle.x86_64.specs.Flushes.{items_of, items_told, size_items};
 ghost use Rattle.x86_64.specs.Replies.{changes_nothing};
 ghost use Rattle.x86_64.specs.Runs.{LeavesFree, Ran, Stepped, appended};
-ghost use Rattle.x86_64.specs.private.Served.{PageStepped, PageLeavesFree, recorded, items_where, changes_nothing_where};
+ghost use Rattle.x86_64.specs.private.Served.{PageStepped, PageLeavesFree, SetsFlags, recorded, items_where, changes_nothing_where};
 
 mod flushed;
 mod pair;
@@ -74,8 +74,8 @@ pub fn run_call<L: LevelCount, P5: LevelFiveFlags<L>, M: TableAccess + TablesIn<
     call: CallIn<L, P5>,
 ) -> ReplyIn<L>
     requires { Fits (M.hierarchy mapper.old) (store_of F.FrameStore frames.old) }
-    ensures step { Stepped (M.hierarchy mapper.old) (store_of F.FrameStore frames.old) (asks P5.bits call) result
-        (M.hierarchy mapper.new) (F.supply frames.new) }
+    ensures step { Stepped (M.hierarchy mapper.old) (store_of F.FrameStore frames.old)
+        (asks P5.bits call) result (M.hierarchy mapper.new) (F.supply frames.new) }
     ensures unchanged { changes_nothing result ≡ true
         → (M.hierarchy mapper.new).memory ≡ (M.hierarchy mapper.old).memory }
     ensures free { LeavesFree (M.hierarchy mapper.old) (store_of F.FrameStore frames.old) (asks P5.bits call)
@@ -125,8 +125,8 @@ fn serve<
 >(mapper: &mut M, frames: &mut F, call: CallIn<L, P5>, tokens: &mut K) -> ReplyIn<L>
     requires fits { Fits (M.hierarchy mapper.old) (store_of F.FrameStore frames.old) }
     requires room { K.has_room tokens.old 1 }
-    ensures step { Stepped (M.hierarchy mapper.old) (store_of F.FrameStore frames.old) (asks P5.bits call) result
-        (M.hierarchy mapper.new) (F.supply frames.new) }
+    ensures step { Stepped (M.hierarchy mapper.old) (store_of F.FrameStore frames.old)
+        (asks P5.bits call) result (M.hierarchy mapper.new) (F.supply frames.new) }
     ensures still { changes_nothing result ≡ true
         → (M.hierarchy mapper.new).memory ≡ (M.hierarchy mapper.old).memory }
     ensures free { LeavesFree (M.hierarchy mapper.old) (store_of F.FrameStore frames.old) (asks P5.bits call)
@@ -224,26 +224,37 @@ fn serve_page<
             PageReply::Update(take(tokens, calls::update_flags(mapper, page, flags)))
         }
         SizeCallIn::SetFlagsP5 { page, flags } => {
-            let flags = P5::page_table_flags(Some(flags));
-            let set = calls::set_table_flags(mapper, page, 5, flags);
-            PageReply::TableFlags(take_all(tokens, set))
+            set_flags(mapper, tokens, page, 5, P5::page_table_flags(Some(flags)))
         }
-        SizeCallIn::SetFlagsP4 { page, flags } => {
-            let set = calls::set_table_flags(mapper, page, 4, flags);
-            PageReply::TableFlags(take_all(tokens, set))
-        }
-        SizeCallIn::SetFlagsP3 { page, flags } => {
-            let set = calls::set_table_flags(mapper, page, 3, flags);
-            PageReply::TableFlags(take_all(tokens, set))
-        }
-        SizeCallIn::SetFlagsP2 { page, flags } => {
-            let set = calls::set_table_flags(mapper, page, 2, flags);
-            PageReply::TableFlags(take_all(tokens, set))
-        }
+        SizeCallIn::SetFlagsP4 { page, flags } => set_flags(mapper, tokens, page, 4, flags),
+        SizeCallIn::SetFlagsP3 { page, flags } => set_flags(mapper, tokens, page, 3, flags),
+        SizeCallIn::SetFlagsP2 { page, flags } => set_flags(mapper, tokens, page, 2, flags),
         SizeCallIn::TranslatePage { page } => {
             PageReply::Frame(calls::translate_page(mapper, page))
         }
     })
+}
+
+/// Sets the flags of the entry of a level on a page's path, and returns the reply.
+fn set_flags<S: PageSize, L: LevelCount, M: TableAccess + TablesIn<L>, K: Tokens>(
+    mapper: &mut M,
+    tokens: &mut K,
+    page: PageIn<S, L>,
+    level: u64,
+    flags: PageTableFlags,
+) -> SizeReplyIn<S, L>
+    requires low { 2 ≤ level }
+    requires high { level ≤ L.LEVELS }
+    requires may { MayAsk (M.hierarchy mapper.old) S.LEVEL (SetFlags level page (bits_of flags)) }
+    requires room { K.has_room tokens.old 1 }
+    ensures sets { SetsFlags (M.hierarchy mapper.old) S.LEVEL (SetFlags level page (bits_of flags))
+        result (M.hierarchy mapper.new) }
+    ensures items { K.items tokens.new ≡ K.items tokens.old
+        ++ recorded K.records (size_items L.LEVELS S.SIZE result) }
+    ensures room { (n : ℕ) → K.has_room tokens.old (n + 1) → K.has_room tokens.new n }
+{
+    let set = calls::set_table_flags(mapper, page, level, flags);
+    PageReply::TableFlags(take_all(tokens, set))
 }
 
 /// Returns true if the condition of a call on a page holds.

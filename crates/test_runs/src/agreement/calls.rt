@@ -68,7 +68,7 @@ fn page_call(
 }
 
 /// Returns the page of a call.
-fn page_of(call: PageCallRow) -> u64 {
+pub fn page_of(call: PageCallRow) -> u64 {
     match call {
         PageCallRow::MapTo(page, ..)
         | PageCallRow::MapToWithTableFlags(page, ..)

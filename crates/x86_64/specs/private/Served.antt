@@ -1,12 +1,15 @@
 -- Notions for calls on pages and for their tokens.
-use Rattle.std.specs.Prelude.{◌≡◌, ◌≤◌, ◌+◌, ℕ, Bool, true, false, List, [], Option, Some, None}
+use Rattle.std.specs.Prelude.{◌≡◌, ◌≤◌, ◌+◌, ℕ, Bool, true, false, List, [], Option, Some, None, Result}
 use Rattle.std.proofs.Common.{arith}
 use Rattle.x86_64_model.specs.Machine.{Machine, State, step}
 use Rattle.x86_64_model.specs.Mapper.{Hierarchy}
 use Rattle.x86_64_model.specs.Store.{Store}
+use Rattle.x86_64_mappers.specs.PageAnswers.{AnswersFlags}
+use Rattle.x86_64_tables.specs.declared.mapper.FlagUpdateError.{FlagUpdateError}
 use Rattle.x86_64_tables.specs.declared.mapper.recorder.FlushItem.{FlushItem}
 use Rattle.std.specs.declared.convert.Infallible.{Infallible}
 use Rattle.x86_64.specs.Asked.{PageCall, page_call}
+use Rattle.x86_64.specs.declared.calls.PageReply.TheVariants.{TableFlags}
 use Rattle.x86_64.specs.Flushes.{size_items}
 use Rattle.x86_64.specs.Replies.{SizeReply, size_answer, size_changes_nothing}
 use Rattle.x86_64.specs.Runs.{AfterStep, machine_with, state_in, state_with}
@@ -44,6 +47,10 @@ PageStepped h store level call reply after rest =
 -- A call on a page returns no frame, and the frames that are free afterwards keep their words.
 abbrev pub PageLeavesFree : {Lent : Type 0} → (h : Hierarchy Lent) → (pool : List ℕ) → (after : Hierarchy Lent) → (rest : List ℕ) → Type 0
 PageLeavesFree h pool after rest = KeepsFree h.layout h.memory pool [] after.memory rest
+
+-- The hierarchy answers a change of a table entry's flags with this reply, and is `after` then.
+abbrev pub SetsFlags : {S Lent : Type 0} → Hierarchy Lent → (level : ℕ) → PageCall → SizeReply S → (after : Hierarchy Lent) → Type 0
+SetsFlags h level call reply after = (told : Result Unit FlagUpdateError) × (reply ≡ TableFlags told) × AnswersFlags h level call told after
 
 -- with four levels there are no flags of level five
 pub no_flags : (flags : Infallible) → let four : ℕ = 4 in four ≡ 5

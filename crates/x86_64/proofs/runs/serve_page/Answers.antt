@@ -1,11 +1,9 @@
 use Rattle.std.proofs.Common.{◌≤◌, refl, sym, ◌∙◌, subst, lit≤, arith}
 use Rattle.x86_64_model.proofs.Lemmas.Machines.Giving.{giving_from}
-use Rattle.x86_64_model.specs.Call.{SetFlags}
-use Rattle.x86_64_model.specs.Mapper.{Does, named}
-use Rattle.x86_64_model.specs.Path.{path_at}
-use Rattle.x86_64_tables.specs.MapperAnswers.{flags_answer}
+use Rattle.x86_64_model.specs.PageCalls.{SetFlags}
 use Rattle.x86_64_tables.specs.PageTableFlags.{bits_of}
 use Rattle.x86_64.specs.Calls.{size_asks}
+use Rattle.x86_64.specs.private.Served.{SetsFlags}
 use Rattle.x86_64.proofs.PageSteps.{Start, IsServed, map_to_served, map_with_flags_served, identity_map_served, unmap_served, update_served, set_flags_served, translate_served, IsKept, map_kept, change_kept}
 use Rattle.x86_64.proofs.runs.serve_page.Given.{Over}
 use Rattle.x86_64.proofs.runs.serve_page.Goals as goal
@@ -40,19 +38,14 @@ is_served g c =
       | in-SetFlagsP5 w ↦ rw (w.in-SetFlagsP5.is, w.mapper-is, w.frames-is, w.result-is)
           (let five = g.met.M.TablesIn.level_count mapper ∙ g.met.P5.LevelFiveFlags.five w.in-SetFlagsP5.flags in
           let h = g.M.Tables.hierarchy mapper in
-          let path = path_at h.layout.levels g.S.PageSize.LEVEL w.in-SetFlagsP5.page in
-          set_flags_served h start 5 w.in-SetFlagsP5.page (g.P5.LevelFiveFlags.bits w.in-SetFlagsP5.flags) (lit≤ tt) (subst (λ n. 5 ≤ n) (sym five) (lit≤ tt))
-          _ w.set_table_flags-set.result _ (subst (λ given. Does h (SetFlags 5 path given) (flags_answer (named h (SetFlags 5 path given)) w.set_table_flags-set.result) (g.M.Tables.hierarchy w.set_table_flags-set.new.mapper)) w.page_table_flags-flags.ensures.some w.set_table_flags-set.ensures)
-          w.take_all.result w.take_all.ensures.result)
+          set_flags_served h start 5 w.in-SetFlagsP5.page (g.P5.LevelFiveFlags.bits w.in-SetFlagsP5.flags) (lit≤ tt) (subst (λ n. 5 ≤ n) (sym five) (lit≤ tt)) w.set_flags.result _
+          (subst (λ given. SetsFlags h g.S.PageSize.LEVEL (SetFlags 5 w.in-SetFlagsP5.page given) w.set_flags.result (g.M.Tables.hierarchy w.set_flags.new.mapper)) w.page_table_flags.ensures.some w.set_flags.ensures.sets))
       | in-SetFlagsP4 w ↦ rw (w.in-SetFlagsP4.is, w.mapper-is, w.frames-is, w.result-is)
-          (set_flags_served (g.M.Tables.hierarchy mapper) start 4 w.in-SetFlagsP4.page (bits_of w.in-SetFlagsP4.flags) (lit≤ tt) some
-          _ w.set_table_flags-set-in-SetFlagsP4.result _ w.set_table_flags-set-in-SetFlagsP4.ensures w.take_all-in-SetFlagsP4.result w.take_all-in-SetFlagsP4.ensures.result)
+          (set_flags_served (g.M.Tables.hierarchy mapper) start 4 w.in-SetFlagsP4.page (bits_of w.in-SetFlagsP4.flags) (lit≤ tt) some w.set_flags-in-SetFlagsP4.result _ w.set_flags-in-SetFlagsP4.ensures.sets)
       | in-SetFlagsP3 w ↦ rw (w.in-SetFlagsP3.is, w.mapper-is, w.frames-is, w.result-is)
-          (set_flags_served (g.M.Tables.hierarchy mapper) start 3 w.in-SetFlagsP3.page (bits_of w.in-SetFlagsP3.flags) (lit≤ tt) (omega (arith, some))
-          _ w.set_table_flags-set-in-SetFlagsP3.result _ w.set_table_flags-set-in-SetFlagsP3.ensures w.take_all-in-SetFlagsP3.result w.take_all-in-SetFlagsP3.ensures.result)
+          (set_flags_served (g.M.Tables.hierarchy mapper) start 3 w.in-SetFlagsP3.page (bits_of w.in-SetFlagsP3.flags) (lit≤ tt) (omega (arith, some)) w.set_flags-in-SetFlagsP3.result _ w.set_flags-in-SetFlagsP3.ensures.sets)
       | in-SetFlagsP2 w ↦ rw (w.in-SetFlagsP2.is, w.mapper-is, w.frames-is, w.result-is)
-          (set_flags_served (g.M.Tables.hierarchy mapper) start 2 w.in-SetFlagsP2.page (bits_of w.in-SetFlagsP2.flags) (lit≤ tt) (omega (arith, some))
-          _ w.set_table_flags-set-in-SetFlagsP2.result _ w.set_table_flags-set-in-SetFlagsP2.ensures w.take_all-in-SetFlagsP2.result w.take_all-in-SetFlagsP2.ensures.result)
+          (set_flags_served (g.M.Tables.hierarchy mapper) start 2 w.in-SetFlagsP2.page (bits_of w.in-SetFlagsP2.flags) (lit≤ tt) (omega (arith, some)) w.set_flags-in-SetFlagsP2.result _ w.set_flags-in-SetFlagsP2.ensures.sets)
       | in-TranslatePage w ↦ rw (w.in-TranslatePage.is, w.mapper-is, w.frames-is, w.result-is)
           (translate_served (g.M.Tables.hierarchy mapper) start w.in-TranslatePage.page w.translate_page.result w.translate_page.ensures)
     ]
@@ -69,10 +62,10 @@ kept g c =
       | in-IdentityMap w ↦ rw (w.mapper-is, w.frames-is) (map_kept h w.identity_map.ensures.does w.identity_map.ensures.serves)
       | in-Unmap w ↦ rw (w.mapper-is, w.frames-is) (change_kept h w.unmap.ensures.does)
       | in-UpdateFlags w ↦ rw (w.mapper-is, w.frames-is) (change_kept h w.update_flags.ensures.does)
-      | in-SetFlagsP5 w ↦ rw (w.mapper-is, w.frames-is) (change_kept h w.set_table_flags-set.ensures)
-      | in-SetFlagsP4 w ↦ rw (w.mapper-is, w.frames-is) (change_kept h w.set_table_flags-set-in-SetFlagsP4.ensures)
-      | in-SetFlagsP3 w ↦ rw (w.mapper-is, w.frames-is) (change_kept h w.set_table_flags-set-in-SetFlagsP3.ensures)
-      | in-SetFlagsP2 w ↦ rw (w.mapper-is, w.frames-is) (change_kept h w.set_table_flags-set-in-SetFlagsP2.ensures)
+      | in-SetFlagsP5 w ↦ rw (w.mapper-is, w.frames-is) (change_kept h w.set_flags.ensures.sets.2)
+      | in-SetFlagsP4 w ↦ rw (w.mapper-is, w.frames-is) (change_kept h w.set_flags-in-SetFlagsP4.ensures.sets.2)
+      | in-SetFlagsP3 w ↦ rw (w.mapper-is, w.frames-is) (change_kept h w.set_flags-in-SetFlagsP3.ensures.sets.2)
+      | in-SetFlagsP2 w ↦ rw (w.mapper-is, w.frames-is) (change_kept h w.set_flags-in-SetFlagsP2.ensures.sets.2)
       | in-TranslatePage w ↦ rw (w.mapper-is, w.frames-is) (record { serves = refl; layout = refl; lent = refl })
     ]
 

@@ -3,7 +3,7 @@ use Rattle.std.specs.List.{list_all}
 use Rattle.x86_64_model.specs.Path.{parents}
 use Rattle.x86_64_model.specs.CleanUp.{in_range}
 use Rattle.test_reference.proofs.Parents.{rest}
-use Rattle.test_reference.proofs.cleaning.parents_in_range.Given as goal
+use Rattle.test_reference.proofs.cleaning.CleanUpRange.has_parents.Given as goal
 
 abbrev pub invariant-loop-length : goal.invariant-loop-length
-invariant-loop-length l = list_all (in_range l.levels l.paths l.low l.high) (rest l.path l.length) ≡ list_all (in_range l.levels l.paths l.low l.high) (parents l.path)
+invariant-loop-length l = list_all (in_range l.self.levels l.paths l.self.low l.self.high) (rest l.path l.length) ≡ list_all (in_range l.self.levels l.paths l.self.low l.self.high) (parents l.path)

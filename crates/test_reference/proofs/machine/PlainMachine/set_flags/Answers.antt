@@ -1,6 +1,6 @@
 use Rattle.std.proofs.Common.{refl, arith}
 use Rattle.test_reference.proofs.EntryCalls.{changed_along, set_flags_is, set_flags_low}
-use Rattle.test_reference.proofs.changes.set_flags.Goals as goal
+use Rattle.test_reference.proofs.machine.PlainMachine.set_flags.Goals as goal
 
 pub returns-then-level-level_of : goal.returns-then-level-level_of
 returns-then-level-level_of c = set_flags_low _ _ _ _ _ _ (omega (arith, c.if-level-level_of.true, c.level_of.ensures.value))
