@@ -34,8 +34,7 @@ returns-clause-totals g c = λ known not_image.
     let same = c.in_ok-is_complete.ensures.notes not_image in
     let (totals, tables, mapped, puts) = c.in_ok-write_totals.ensures.text in
     let Mapped : List Mapping → Type 0 = λ ms. IsMapped ms totals in
-    let before : Output g.row.E.Denot (String Global) → Type 0 = λ notes. Appends (put_in contents notes) (contents c.write_totals.new.notes.writer.now) (line (totals_text totals)) in
-    (
+    let before : Output g.row.E.Denot (String Global) → Type 0 = λ notes. Appends (put_in contents notes) (contents c.write_totals.new.notes.writer.now) (line (totals_text totals)) in (
       puts.writer ∙ ap (λ (notes : Output g.row.E.Denot (String Global)). notes.writer.ghost_name) same,
       (
         totals,

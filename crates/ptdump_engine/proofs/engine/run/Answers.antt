@@ -17,8 +17,11 @@ returns-in_err-dump-clause-run g c = λ known.
 pub returns-in_err-start-clause-run : goal.returns-in_err-start-clause-run
 returns-in_err-start-clause-run g c = λ known.
     let is : c.from_residual-in_err-start.result ≡ Err c.in_err-start.field-0.0 = search rules in
-    rw is (no_start c.args.request.now (g.S.ByteSource.bytes c.args.source) (opened g.S.ByteSource.bytes c.in_ok-dump.dump) c.in_err-start.field-0.0
-    (c.in_ok-dump.ensures known) (c.in_err-start.ensures.start known), inr refl)
+    rw is (
+      no_start c.args.request.now (g.S.ByteSource.bytes c.args.source) (opened g.S.ByteSource.bytes c.in_ok-dump.dump) c.in_err-start.field-0.0
+          (c.in_ok-dump.ensures known) (c.in_err-start.ensures.start known),
+      inr refl,
+    )
 
 pub returns-in-Four-clause-run : goal.returns-in-Four-clause-run
 returns-in-Four-clause-run g c = λ known.
@@ -75,8 +78,13 @@ returns-in-Four-clause-notes g c = λ known.
     let begun : Appends (contents c.args.errors.now) (put_in contents c.write_short.new.notes) (short_text dump) =
     subst (λ e. Appends (contents e) (put_in contents c.write_short.new.notes) (short_text dump)) c.new-notes.ensures.now short in
     on_ok c.report.result (λ totals not_image. let ends = totals not_image in let same = ends.0 in
-    let result : Notes request file (contents c.args.errors.now) (contents c.report.new.notes.writer.now) = (record { dump = dump; start = start }, put_in contents c.write_short.new.notes, opens request file dump start (c.in_ok-dump.ensures known) (c.in_ok-start.ensures.start known), begun,
-    subst (λ levels. EndsByTotals (level_count levels) (words_of_dump dump) start.root (put_in contents c.write_short.new.notes) (contents c.report.new.notes.writer.now)) (sym c.in-Four.is) ends.1) in
+    let result : Notes request file (contents c.args.errors.now) (contents c.report.new.notes.writer.now) = (
+      record { dump = dump; start = start },
+      put_in contents c.write_short.new.notes,
+      opens request file dump start (c.in_ok-dump.ensures known) (c.in_ok-start.ensures.start known),
+      begun,
+      subst (λ levels. EndsByTotals (level_count levels) (words_of_dump dump) start.root (put_in contents c.write_short.new.notes) (contents c.report.new.notes.writer.now)) (sym c.in-Four.is) ends.1,
+    ) in
     search (rules, result))
     (c.report.ensures.totals known)
 
@@ -91,7 +99,12 @@ returns-clause-notes g c = λ known.
     let begun : Appends (contents c.args.errors.now) (put_in contents c.write_short.new.notes) (short_text dump) =
     subst (λ e. Appends (contents e) (put_in contents c.write_short.new.notes) (short_text dump)) c.new-notes.ensures.now short in
     on_ok c.report-in-Five.result (λ totals not_image. let ends = totals not_image in let same = ends.0 in
-    let result : Notes request file (contents c.args.errors.now) (contents c.report-in-Five.new.notes.writer.now) = (record { dump = dump; start = start }, put_in contents c.write_short.new.notes, opens request file dump start (c.in_ok-dump.ensures known) (c.in_ok-start.ensures.start known), begun,
-    subst (λ levels. EndsByTotals (level_count levels) (words_of_dump dump) start.root (put_in contents c.write_short.new.notes) (contents c.report-in-Five.new.notes.writer.now)) (sym c.in-Five.is) ends.1) in
+    let result : Notes request file (contents c.args.errors.now) (contents c.report-in-Five.new.notes.writer.now) = (
+      record { dump = dump; start = start },
+      put_in contents c.write_short.new.notes,
+      opens request file dump start (c.in_ok-dump.ensures known) (c.in_ok-start.ensures.start known),
+      begun,
+      subst (λ levels. EndsByTotals (level_count levels) (words_of_dump dump) start.root (put_in contents c.write_short.new.notes) (contents c.report-in-Five.new.notes.writer.now)) (sym c.in-Five.is) ends.1,
+    ) in
     search (rules, result))
     (c.report-in-Five.ensures.totals known)
