@@ -25,6 +25,10 @@ impl<'a, R: Eprint> ProgressLine<'a, R> {
 }
 
 impl<R: Eprint> Progress for ProgressLine<'_, R> {
+    ghost Told = { λ _ _ _. Unit {0} };
+
+    ghost Ended = { λ _ _. Unit {0} };
+
     fn tables(&mut self, count: usize) {
         if self.is_terminal && count % STEP == 0 {
             // if the terminal fails, only the progress is missing: the report is unaffected
@@ -39,4 +43,8 @@ impl<R: Eprint> Progress for ProgressLine<'_, R> {
             self.is_shown = false;
         }
     }
+
+    ghost none = { λ _. tt };
+
+    ghost both = { λ _ _ _ _ _ _ _. tt };
 }

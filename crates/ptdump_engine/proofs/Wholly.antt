@@ -1,5 +1,5 @@
 -- Whole reports: the writer receives all that was put in, and words with equal mappings have equal reports.
-use Rattle.std.proofs.Common.{◌≡◌, ◌∙◌, ◌%◌, ◌++◌, ℕ, List, [], Option, None, Some, String, IfSome, IfOk, IfErr, Result, Ok, Err, is_some, filter, refl, sym, ap, subst, append-nil}
+use Rattle.std.proofs.Common.{◌≡◌, ◌∙◌, ◌%◌, ◌++◌, ℕ, List, [], Option, None, Some, String, IfSome, IfOk, IfErr, Result, Ok, Err, is_some, filter, inl, refl, sym, ap, subst, append-nil}
 use Rattle.std.proofs.KnownBytes.{Appends-trans}
 use Rattle.std.specs.Io.KnownBytes.{Appends, append_known}
 use Rattle.std.specs.List.{flat_map, list_all, list_any}
@@ -42,16 +42,29 @@ known_alone : (known : Option (List ℕ)) → append_known known [] ≡ known
 known_alone None = refl
 known_alone (Some bytes) = ap Some (append-nil bytes)
 
--- all that was put in is written once nothing is collected any more
+-- what was put in is written once nothing is collected any more
+pub written_rest : {W : Type 0} (contents : W → Option (List ℕ)) (begun ended : Output W (String Global)) (text : List ℕ)
+    → string_bytes ended.text ≡ [] → Puts contents begun ended text → Appends (put_in contents begun) (contents ended.writer.now) text
+written_rest contents begun ended text all puts =
+    subst (λ k. Appends (put_in contents begun) k text) (ap (append_known (contents ended.writer.now)) all ∙ known_alone (contents ended.writer.now)) puts.appends
+
+-- what was put into an output in which nothing was collected
+pub put_first : {W : Type 0} (contents : W → Option (List ℕ)) (begun ended : Output W (String Global)) (text : List ℕ)
+    → string_bytes begun.text ≡ [] → Puts contents begun ended text → Appends (contents begun.writer.now) (put_in contents ended) text
+put_first contents begun ended text none puts =
+    subst (λ k. Appends k (put_in contents ended) text) (ap (append_known (contents begun.writer.now)) none ∙ known_alone (contents begun.writer.now)) puts.appends
+
+-- likewise from an output in which nothing was collected
 pub written_whole : {W : Type 0} (contents : W → Option (List ℕ)) (begun now ended : Output W (String Global)) (text : List ℕ)
     → string_bytes begun.text ≡ [] → string_bytes ended.text ≡ [] → Puts contents begun now text → Puts contents now ended []
     → Appends (contents begun.writer.now) (contents ended.writer.now) text
 written_whole contents begun now ended text none all puts rest =
     let before : put_in contents begun ≡ contents begun.writer.now = ap (append_known (contents begun.writer.now)) none ∙ known_alone (contents begun.writer.now) in
-    let after : put_in contents ended ≡ contents ended.writer.now = ap (append_known (contents ended.writer.now)) all ∙ known_alone (contents ended.writer.now) in
-    subst (λ k. Appends k (contents ended.writer.now) text) before
-    (subst (λ k. Appends (put_in contents begun) k text) after
-    (subst (Appends (put_in contents begun) (put_in contents ended)) (append-nil text) (Appends-trans _ _ _ text [] puts.appends rest.appends)))
+    let both : Puts contents begun ended text = record {
+      writer = rest.writer ∙ puts.writer;
+      appends = subst (Appends (put_in contents begun) (put_in contents ended)) (append-nil text) (Appends-trans _ _ _ text [] puts.appends rest.appends);
+    } in
+    subst (λ k. Appends k (contents ended.writer.now) text) before (written_rest contents begun ended text all both)
 
 -- ---- words with equal mappings
 
@@ -103,4 +116,4 @@ no_start request file dump failure contents fails =
 pub runs_by : (request : Request) (file : List ℕ) (before after : Option (List ℕ)) (o : Opened) (result : Result Outcome Failure) → opened_for request file ≡ Ok o
     → IfOk result (λ outcome. ReportsOf request before after outcome o) → IfErr result IsForced → Runs request file before after result
 runs_by request file before after o (Ok outcome) opened reports forced = (o, opened, reports)
-runs_by request file before after o (Err failure) opened reports forced = forced_fails failure (opened_for request file) forced
+runs_by request file before after o (Err failure) opened reports forced = (forced_fails failure (opened_for request file) forced, inl forced)

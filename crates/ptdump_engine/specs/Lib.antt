@@ -6,6 +6,7 @@ pub mod Program
 pub mod Reports
 pub mod Start
 pub mod Steps
+pub mod Totals
 pub mod Walks
 pub mod Entries
 pub mod FindingTexts

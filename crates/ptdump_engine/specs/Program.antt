@@ -1,14 +1,17 @@
 -- The output of the program for a file, or why it fails.
-use Rattle.std.specs.Prelude.{◌≡◌, ℕ, ◌-◌, ◌^◌, ◌&&◌, ◌||◌, nat_le, nat_lt, not, true, false, Bool, if◌then◌else◌, List, [], Option, None, Some, IfSome, is_some, option_map, Result, Ok, Err, ⊤}
+use Rattle.std.specs.Prelude.{◌≡◌, ◌⊎◌, ℕ, ◌-◌, ◌^◌, codes, length, ◌&&◌, ◌||◌, nat_le, nat_lt, not, true, false, Bool, if◌then◌else◌, List, [], Option, None, Some, IfSome, is_some, option_map, Result, Ok, Err, ⊤}
 use Rattle.std.specs.List.{find}
 use Rattle.std.specs.Io.KnownBytes.{Appends}
-use Rattle.x86_64_dump.specs.Dump.{Contents, words_of_dump}
+use Rattle.x86_64_dump.specs.Dump.{Contents, is_short, words_of_dump}
+use Rattle.x86_64_dump.specs.Loaded.{IsTableCount, up_to}
 use Rattle.x86_64_dump.specs.Opening.{contents_of}
 use Rattle.x86_64_model.specs.Memory.{Words}
 use Rattle.x86_64_model.specs.Position.{lower_half}
 use Rattle.ptdump_engine.specs.Reports.{regions_text, pages_text, walks_text, find_text, all_arrive, all_found}
 use Rattle.ptdump_engine.specs.Start.{start_of}
-use Rattle.ptdump_engine.specs.Steps.{FailsBy, and_then, of_dump, unless}
+use Rattle.ptdump_engine.specs.Steps.{FailsBy, IsForced, and_then, of_dump, unless}
+use Rattle.ptdump_engine.specs.Totals.{AreTotals, totals_text}
+use Rattle.ptdump_engine.specs.Walks.{line}
 use Rattle.ptdump_engine.specs.declared.failure.Failure.{Failure}
 use Rattle.ptdump_engine.specs.declared.failure.Failure.TheVariants as failures
 use Rattle.ptdump_engine.specs.declared.request.Command.{Command}
@@ -18,6 +21,7 @@ use Rattle.ptdump_engine.specs.declared.request.Levels.TheVariants.{Four, Five}
 use Rattle.ptdump_engine.specs.declared.request.Outcome.{Outcome}
 use Rattle.ptdump_engine.specs.declared.request.Request.{Request}
 use Rattle.ptdump_engine.specs.declared.start.Start.{Start}
+use Rattle.ptdump_engine.specs.declared.totals.Totals.{Totals}
 
 abbrev pub level_count : Levels → ℕ
 level_count Four = 4
@@ -92,7 +96,37 @@ abbrev pub ReportsOf : Request → (before after : Option (List ℕ)) → Outcom
 ReportsOf request before after outcome o =
     Reports request.command (level_count o.start.levels) (words_of_dump o.dump) o.start.root before after outcome
 
--- the result and the output of a run on a file
+-- The result and the output of a run on a file. A run that fails because of its request or its file has written nothing.
 abbrev pub Runs : Request → (file : List ℕ) → (before after : Option (List ℕ)) → Result Outcome Failure → Type 0
 Runs request file before after (Ok outcome) = (o : Opened) × (opened_for request file ≡ Ok o) × ReportsOf request before after outcome o
-Runs request file before after (Err failure) = FailsBy failure (opened_for request file)
+Runs request file before after (Err failure) = FailsBy failure (opened_for request file) × (IsForced failure ⊎ (after ≡ before))
+
+-- ---- standard error, and the progress
+
+-- the first line, if the file is shorter than its headers say
+abbrev pub short_text : Contents → List ℕ
+short_text dump = if is_short (length dump.file) dump.segments
+    then line (codes "the file is shorter than its headers say: frames behind its end are missing") else []
+
+-- whether the report on an image, which isn't specified here, stands on standard error too
+abbrev pub is_image : Command → Bool
+is_image commands.Image = true
+is_image command = false
+
+-- the last line has the totals of the tables
+abbrev pub EndsByTotals : (L : ℕ) → Words → (root : ℕ) → (before after : Option (List ℕ)) → Type 0
+EndsByTotals L T root before after = (totals : Totals) × AreTotals L T root totals × Appends before after (line (totals_text totals))
+
+-- standard error after a run: that the file is short, and the totals
+abbrev pub Notes : Request → (file : List ℕ) → (before after : Option (List ℕ)) → Type 0
+Notes request file before after = (o : Opened) × (between : Option (List ℕ)) × (opened_for request file ≡ Ok o) × Appends before between (short_text o.dump)
+    × EndsByTotals (level_count o.start.levels) (words_of_dump o.dump) o.start.root between after
+
+-- the observer was told of each table that the root leads to, and of the end
+abbrev pub ToldOfTables : {G : Type 0} (Told : G → G → List ℕ → Type 0) (Ended : G → G → Type 0) → (L : ℕ) → Words → (root : ℕ) → (before after : G) → Type 0
+ToldOfTables {G} Told Ended L T root before after = (count : ℕ) × (between : G) × IsTableCount L T root count × Told before between (up_to count) × Ended between after
+
+-- likewise for the tables of a run
+abbrev pub ToldOfRun : {G : Type 0} (Told : G → G → List ℕ → Type 0) (Ended : G → G → Type 0) → Request → (file : List ℕ) → (before after : G) → Type 0
+ToldOfRun Told Ended request file before after = (o : Opened) × (opened_for request file ≡ Ok o)
+    × ToldOfTables Told Ended (level_count o.start.levels) (words_of_dump o.dump) o.start.root before after

@@ -1,12 +1,17 @@
 //! The run of the program.
-ghost use Rattle.std.specs.Prelude.{◌≡◌, None, OnOk, IfOk, IfErr, IfSome};
+ghost use Rattle.std.specs.Prelude.{◌≡◌, [], false, None, OnOk, IfOk, IfErr, IfSome, string_bytes};
+ghost use Rattle.std.specs.FinMap as finite;
 ghost use Rattle.std.specs.Io.KnownBytes.{Appends};
 ghost use Rattle.x86_64_dump.specs.Dump.{words_of_dump};
 ghost use Rattle.x86_64_dump.specs.Opened.{opened};
+ghost use Rattle.x86_64_model.specs.Mappings.{mappings_of};
 ghost use Rattle.ptdump_engine.specs.Loaded.{IsLoaded, words_loaded};
-ghost use Rattle.ptdump_engine.specs.Output.{Puts};
+ghost use Rattle.ptdump_engine.specs.Output.{Puts, put_in};
 ghost use Rattle.ptdump_engine.specs.Program as program;
 ghost use Rattle.ptdump_engine.specs.Steps.{Finds, IsForced};
+ghost use Rattle.ptdump_engine.specs.Totals.{IsMapped, totals_text};
+ghost use Rattle.ptdump_engine.specs.Walks.{line};
+ghost use Rattle.ptdump_engine.specs.declared.totals.Totals.{Totals};
 
 use crate::arguments::{argument_failure, root_failure};
 use crate::check::write_findings;
@@ -48,8 +53,12 @@ pub fn run<S: ByteSource, W: Write, E: Write, G: Progress>(
     errors: &mut E,
     progress: &mut G,
 ) -> Result<Outcome, Failure>
-    ensures { S.IsKnown →
+    ensures run { S.IsKnown →
         program.Runs request.now (S.bytes source) (W.contents writer.old) (W.contents writer.new) result }
+    ensures notes { S.IsKnown → OnOk result (program.is_image request.now.command ≡ false →
+        program.Notes request.now (S.bytes source) (E.contents errors.old) (E.contents errors.new)) }
+    ensures told { S.IsKnown → OnOk result
+        (program.ToldOfRun G.Told G.Ended request.now (S.bytes source) progress.old progress.new) }
 {
     let mut notes = Output::new(alloc, errors);
     let dump = Dump::open(alloc, source, request.base)?;
@@ -75,7 +84,11 @@ pub fn run<S: ByteSource, W: Write, E: Write, G: Progress>(
 fn write_short<S: ByteSource, E: Write>(
     dump: &Dump<S>,
     notes: &mut Output<'_, E>,
-) -> Result<(), OutputError> {
+) -> Result<(), OutputError>
+    ensures text { S.IsKnown → OnOk result
+        (Puts E.contents notes.old notes.new (program.short_text (opened S.bytes dump.now))) }
+    ensures all { OnOk result (string_bytes notes.old.text ≡ [] → string_bytes notes.new.text ≡ []) }
+{
     if dump.is_short() {
         writeln!(
             notes,
@@ -120,6 +133,12 @@ fn report<L: LevelCount, S: ByteSource, W: Write, E: Write, G: Progress>(
     requires { program.IsTested command.now }
     ensures written { S.IsKnown → IfOk result (program.Reports command.now L.LEVELS
         (words_of_dump (opened S.bytes dump.now)) root (W.contents writer.old) (W.contents writer.new)) }
+    ensures totals { S.IsKnown → OnOk result (program.is_image command.now ≡ false →
+        (notes.new.writer.ghost_name ≡ notes.old.writer.ghost_name)
+        × program.EndsByTotals L.LEVELS (words_of_dump (opened S.bytes dump.now)) root
+        (put_in E.contents notes.old) (E.contents notes.new.writer.now)) }
+    ensures told { S.IsKnown → OnOk result (program.ToldOfTables G.Told G.Ended L.LEVELS
+        (words_of_dump (opened S.bytes dump.now)) root progress.old progress.new) }
     ensures errors { S.IsKnown → IfErr result IsForced }
 {
     let tables = read_tables::<L, S, G>(alloc, dump, root, progress);
@@ -155,6 +174,7 @@ fn write_whole<L: LevelCount, S: ByteSource, W: Write, E: Write>(
     ensures complete { IfOk result (λ is.
         IfSome (program.completeness_of command.now L.LEVELS (words_loaded loaded.now) loaded.now.root)
         (λ all. is ≡ all)) }
+    ensures notes { OnOk result (program.is_image command.now ≡ false → notes.new ≡ notes.old) }
     ensures errors { S.IsKnown → IfErr result IsForced }
 {
     let mut output = Output::new(alloc, writer);
@@ -180,6 +200,7 @@ fn write_report<L: LevelCount, S: ByteSource, W: Write, E: Write>(
     ensures complete { IfOk result (λ is.
         IfSome (program.completeness_of command.now L.LEVELS (words_loaded loaded.now) loaded.now.root)
         (λ all. is ≡ all)) }
+    ensures notes { OnOk result (program.is_image command.now ≡ false → notes.new ≡ notes.old) }
     ensures errors { S.IsKnown → IfErr result IsForced }
 {
     match command {
@@ -209,7 +230,14 @@ fn write_report<L: LevelCount, S: ByteSource, W: Write, E: Write>(
 fn write_totals<L: LevelCount, E: Write>(
     loaded: &Loaded<'_, L>,
     notes: &mut Output<'_, E>,
-) -> Result<(), OutputError> {
+) -> Result<(), OutputError>
+    requires { IsLoaded loaded.now }
+    ensures text { OnOk result ((totals : Totals)
+        × (totals.tables ≡ finite.len loaded.now.tables.now.memory)
+        × IsMapped (mappings_of L.LEVELS (words_loaded loaded.now) loaded.now.root) totals
+        × Puts E.contents notes.old notes.new (line (totals_text totals))) }
+    ensures all { OnOk result (string_bytes notes.new.text ≡ []) }
+{
     let totals = Totals::of(loaded);
     writeln!(notes, "{totals}")?;
     notes.finish()

@@ -1,4 +1,9 @@
 //! The totals of what was read, and what it maps.
+ghost use Rattle.std.specs.Prelude.{◌≡◌, Some};
+ghost use Rattle.std.specs.FinMap as finite;
+ghost use Rattle.x86_64_model.specs.Mappings.{mappings_of};
+ghost use Rattle.ptdump_engine.specs.Loaded.{IsLoaded, words_loaded};
+ghost use Rattle.ptdump_engine.specs.Totals.{IsMapped};
 
 use crate::loaded::Loaded;
 use std::fmt::{Display, Formatter, Result as FmtResult, Write};
@@ -18,7 +23,11 @@ pub struct Totals {
 
 impl Totals {
     /// Returns the totals of the tables below a root. A missing root maps nothing.
-    pub fn of<L: LevelCount>(loaded: &Loaded<'_, L>) -> Totals {
+    pub fn of<L: LevelCount>(loaded: &Loaded<'_, L>) -> Totals
+        ensures tables { result.tables ≡ finite.len loaded.now.tables.now.memory }
+        ensures mapped { IsLoaded loaded.now →
+            IsMapped (mappings_of L.LEVELS (words_loaded loaded.now) loaded.now.root) result }
+    {
         let (mappings, bytes) = match loaded.summaries.of(L::LEVELS, loaded.root) {
             Some(summary) => (summary.count, summary.bytes),
             None => (0, 0),
@@ -32,6 +41,10 @@ impl Totals {
 }
 
 impl Display for Totals {
+    ghost use Rattle.ptdump_engine.specs.Totals.{totals_text};
+
+    ghost output = { λ totals. Some (totals_text totals) };
+
     fn fmt<W: Write>(&self, f: &mut Formatter<W>) -> FmtResult {
         let tables = self.tables;
         let mappings = self.mappings;

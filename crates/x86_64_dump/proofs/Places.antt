@@ -1,13 +1,14 @@
 -- The numbers of frames, and memories that are filled place by place.
-use Rattle.std.proofs.Common.{◌≡◌, ◌≢◌, ⊎_elim, ℕ, ◌+◌, ◌*◌, ◌/◌, ◌%◌, ◌^◌, ◌<◌, ◌≤◌, ◌==◌, ◌||◌, Bool, true, false, cond, List, [], ◌∷◌, ◌++◌, length, take, get_or, Option, Some, None, refl, sym, ap, ap₂, ◌∙◌, arith, eq-eqb, eqb-true, ne_eqb}
+use Rattle.std.proofs.Common.{◌≡◌, ◌≢◌, ⊎_elim, ℕ, ◌+◌, ◌*◌, ◌/◌, ◌%◌, ◌^◌, ◌<◌, ◌≤◌, ◌==◌, ◌||◌, Bool, true, false, cond, List, [], ◌∷◌, ◌++◌, length, replicate, take, get_or, Option, Some, None, IsSome, is_some, refl, sym, ap, ap₂, subst, ◌∙◌, arith, eq-eqb, eqb-true, ne_eqb}
 use Rattle.std.specs.Prelude.{Vec}
-use Rattle.std.specs.FinMap.{get, insert, get-insert}
+use Rattle.std.specs.FinMap.{get, insert, len, get-insert, len-insert, same_map, nat_cmp-IsAntisymmetric}
 use Rattle.std.specs.List.{list_any, dedup, dedup_from}
 use Rattle.std.specs.Cmp.{nat_cmp_total}
+use Rattle.std.specs.List.Sorted.{IsStrictlyIncreasing}
 use Rattle.std.specs.Ordering.{nat_cmp, eq_by_cmp}
 use Rattle.std.proofs.lemmas.Bool.{cases_eq}
-use Rattle.std.proofs.lemmas.List.{take_all}
-use Rattle.std.proofs.lemmas.List.Folds.{list_any_at, list_any_more, list_any-append}
+use Rattle.std.proofs.lemmas.List.{length-replicate, take_all}
+use Rattle.std.proofs.lemmas.List.Folds.{Any-from_list_any, list_any_at, list_any_more, list_any-append}
 use Rattle.std.proofs.Math.Bool.{or_assoc, or-false, or-true}
 use Rattle.x86_64_model.specs.Entry.{is_frame, address}
 use Rattle.x86_64_model.proofs.Lemmas.Entries.Bits.{same_frame}
@@ -15,6 +16,9 @@ use Rattle.x86_64_model.proofs.Lemmas.Entries.Words.{address-multiple, address_a
 use Rattle.x86_64_model.proofs.Lemmas.Hierarchies.Memories.{same_key, other_key}
 use Rattle.x86_64_model.specs.Memory.{Memory, Words, words_of, identity_places}
 use Rattle.x86_64_tables.specs.PageTable.{zero_words}
+use Rattle.x86_64_tables.specs.PhysMemory.{length_keys, zero_tables_at}
+use Rattle.x86_64_tables.proofs.Places.{get-zero_tables}
+use Rattle.x86_64_tables.proofs.PlacesInOrder.{keys-tables}
 use Rattle.x86_64_dump.specs.Loaded.{frames_of}
 use Rattle.x86_64_dump.specs.Tables.{is_among, is_in, words_in_frames}
 use Rattle.x86_64_dump.proofs.Closed.{none_either}
@@ -111,6 +115,29 @@ place_filled W numbers i memory words within read held place =
         ∙ held place
         ∙ ap (λ b. cond (list_any (λ n. place == n) numbers) (cond b (W (place * 4096)) (Some zero_words)) None)
         (sym (one_more false (ne_eqb place (get_or numbers i 0) other) ∙ or-false (list_any (λ n. place == n) (take i numbers))))
+
+-- the places of a memory for numbers of frames are such numbers
+pub places_below : (numbers : List ℕ) (tables : ℕ → Option (List ℕ)) (memory : Memory) → AreNumbers numbers → HoldsFor numbers tables memory
+    → (place : ℕ) → IsSome (get memory place) → place * 4096 < 2 ^ 52
+places_below numbers tables memory are held place there = by (list_any (λ n. place == n) numbers) refl
+  where
+    by : (b : Bool) → list_any (λ n. place == n) numbers ≡ b → place * 4096 < 2 ^ 52
+    by true is =
+        let found = Any-from_list_any (λ n. place == n) numbers is in
+        let same : place ≡ found.1 = eqb-true place found.1 found.4 in
+        let P : ℕ → Type 0 = λ n. n * 4096 < 2 ^ 52 in
+        subst P (found.3 ∙ sym same) (are found.0 found.1 found.2)
+    by false not = let never : false ≡ true = sym (ap is_some (held place ∙ ap (λ b. cond b (tables place) None) not)) ∙ there in cc
+
+-- a memory has as many places as there are numbers, which differ
+pub places_counted : (numbers : List ℕ) (memory : Memory) → IsStrictlyIncreasing numbers → HoldsFor numbers (λ _. Some zero_words) memory → len memory ≡ length numbers
+places_counted numbers memory up held =
+    let same : memory ≡ zero_tables_at numbers = same_map nat_cmp_total nat_cmp-IsAntisymmetric memory (zero_tables_at numbers) (λ q. held q ∙ sym (get-zero_tables numbers q)) in
+    ap len same ∙ sym (length_keys (zero_tables_at numbers)) ∙ ap length (keys-tables numbers (replicate (length numbers) zero_words) up (length-replicate (length numbers) zero_words))
+
+-- a table in place of another leaves the number of places as it is
+pub places_kept : (memory : Memory) (place : ℕ) (words : List ℕ) → IsSome (get memory place) → len (insert memory place words) ≡ len memory
+places_kept memory place words there = len-insert nat_cmp_total memory place words ∙ ap (λ b. cond b (len memory) (len memory + 1)) there
 
 -- the memory for all numbers holds the words of their frames
 pub words_filled : (W : Words) (numbers : List ℕ) (i : ℕ) (memory : Memory) (levels : List (List ℕ)) → length numbers ≤ i → ((f : ℕ) → is_frame f ≡ false → W f ≡ None)

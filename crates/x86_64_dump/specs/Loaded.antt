@@ -1,6 +1,8 @@
 -- Loaded: the contents of tables that were read, and why tables can't be read.
-use Rattle.std.specs.Prelude.{◌≡◌, ℕ, List, Vec, map, ⊤}
-use Rattle.x86_64_model.specs.Memory.{Words, words_of, identity_places}
+use Rattle.std.specs.Prelude.{◌≡◌, ◌+◌, ◌*◌, ◌<◌, ◌^◌, ℕ, IsSome, List, Vec, map, ⊤}
+use Rattle.std.specs.FinMap.{get, len}
+use Rattle.std.specs.List.{range_with_len}
+use Rattle.x86_64_model.specs.Memory.{Memory, Words, words_of, identity_places}
 use Rattle.x86_64_dump.specs.declared.error.DumpError.{DumpError}
 use Rattle.x86_64_dump.specs.declared.error.DumpError.TheVariants as errors
 use Rattle.x86_64_dump.specs.Tables.{tables_by_level, words_in_frames}
@@ -22,6 +24,19 @@ frames_in tables = frames_of tables.frames.items
 pub record AreTables (L : ℕ) (W : Words) (root : ℕ) (tables : DumpTables) : Type 0 where
   pub frames : frames_in tables ≡ tables_by_level L W root
   pub words : words_in tables ≡ words_in_frames (frames_in tables) W
+
+-- The memory holds the tables in the frames of these levels and nothing else. The place of a table is the number of its frame.
+pub record HoldsTables (levels : List (List ℕ)) (W : Words) (memory : Memory) : Type 0 where
+  pub words : words_of memory identity_places ≡ words_in_frames levels W
+  pub places : (place : ℕ) → IsSome (get memory place) → place * 4096 < 2 ^ 52
+
+-- The number of tables that a root leads to in W, with L levels of tables. A table at several levels counts once.
+abbrev pub IsTableCount : (L : ℕ) → Words → (root count : ℕ) → Type 0
+IsTableCount L W root count = (memory : Memory) × HoldsTables (tables_by_level L W root) W memory × (len memory ≡ count)
+
+-- the numbers from 1 on, up to a last one
+abbrev pub up_to : (last : ℕ) → List ℕ
+up_to last = map (λ i. i + 1) (range_with_len 0 last)
 
 -- an error: memory allocation failed, or the source can't be read, which is impossible if its bytes are known
 abbrev pub MayFail : (known : Type 0) → DumpError → Type 0

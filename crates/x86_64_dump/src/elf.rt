@@ -12,6 +12,27 @@ use crate::source::ByteSource;
 use std::alloc::{AllocError, Global};
 use std::io;
 
+/// The first four bytes of ELF files, `ELFMAG`.
+const ELF_MAGIC: u32 = 0x464c_457f;
+
+/// The first eight bytes of kdump's compressed dumps, `KDUMP   `.
+const KDUMP_MAGIC: u64 = 0x2020_2050_4d55_444b;
+
+/// The first eight bytes of diskdump's compressed dumps, `DISKDUMP`.
+const DISKDUMP_MAGIC: u64 = 0x504d_5544_4b53_4944;
+
+/// The value `ELFCLASS64` of `EI_CLASS`.
+const CLASS_64_BITS: u8 = 2;
+
+/// The value `ELFDATA2LSB` of `EI_DATA`.
+const LITTLE_ENDIAN: u8 = 1;
+
+/// The value `ET_CORE` of `e_type`.
+const CORE_FILE: u16 = 4;
+
+/// The value `EM_X86_64` of `e_machine`.
+const X86_64: u16 = 62;
+
 /// The size of an ELF header, and of a section header.
 const HEADER_SIZE: u64 = 64;
 
@@ -36,7 +57,7 @@ pub fn read_segments<S: ByteSource>(
     if is_kdump(&header) {
         return Err(DumpError::Fault(Fault::Compressed));
     }
-    if header.magic != 0x464c_457f {
+    if header.magic != ELF_MAGIC {
         let whole = raw(source.len(), base.unwrap_or(0));
         return Ok(vec![in alloc; whole]?);
     }
@@ -50,7 +71,7 @@ pub fn read_segments<S: ByteSource>(
 fn is_kdump(header: &Header) -> bool
     ensures { result ≡ is_compressed header.now }
 {
-    header.start == 0x2020_2050_4d55_444b || header.start == 0x504d_5544_4b53_4944
+    header.start == KDUMP_MAGIC || header.start == DISKDUMP_MAGIC
 }
 
 /// Returns the one segment of a raw file, which is all of its bytes.
@@ -102,23 +123,23 @@ fn fault_of_header(header: &Header, length: u64) -> Option<Fault>
 {
     if length < HEADER_SIZE {
         Some(Fault::HeaderCut { length })
-    } else if header.class != 2 {
+    } else if header.class != CLASS_64_BITS {
         Some(Fault::WrongClass {
             class: header.class,
         })
-    } else if header.order != 1 {
+    } else if header.order != LITTLE_ENDIAN {
         Some(Fault::WrongByteOrder {
             order: header.order,
         })
-    } else if header.file_type != 4 {
+    } else if header.file_type != CORE_FILE {
         Some(Fault::WrongType {
             file_type: header.file_type,
         })
-    } else if header.machine != 62 {
+    } else if header.machine != X86_64 {
         Some(Fault::WrongMachine {
             machine: header.machine,
         })
-    } else if header.entry_size != 56 {
+    } else if u64::from(header.entry_size) != ENTRY_SIZE {
         Some(Fault::WrongEntrySize {
             size: header.entry_size,
         })

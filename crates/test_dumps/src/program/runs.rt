@@ -127,6 +127,10 @@ struct Watcher {
 }
 
 impl Progress for Watcher {
+    ghost Told = { λ _ _ _. Unit {0} };
+
+    ghost Ended = { λ _ _. Unit {0} };
+
     fn tables(&mut self, count: usize) {
         let is_next = count == self.count.saturating_add(1);
         self.is_in_order = self.is_in_order && is_next && self.ends == 0;
@@ -136,6 +140,10 @@ impl Progress for Watcher {
     fn end(&mut self) {
         self.ends = self.ends.saturating_add(1);
     }
+
+    ghost none = { λ _. tt };
+
+    ghost both = { λ _ _ _ _ _ _ _. tt };
 }
 
 /// Returns the value, for which memory allocation doesn't fail.

@@ -6,7 +6,7 @@ ghost use Rattle.x86_64_dump.specs.Opened.{opened};
 ghost use Rattle.x86_64_model.specs.Mappings.{mappings_of};
 ghost use Rattle.x86_64_model.specs.PageWalk.{page_walk};
 ghost use Rattle.x86_64_dump.specs.Reached.{SameBelow};
-ghost use Rattle.x86_64_dump.specs.Loaded.{words_in, AreTables, MayFail};
+ghost use Rattle.x86_64_dump.specs.Loaded.{words_in, up_to, AreTables, IsTableCount, MayFail};
 
 use crate::tables::levels::read_levels;
 use crate::tables::loading::read_memory;
@@ -56,7 +56,7 @@ impl DumpTables {
     }
 }
 
-/// Reads the tables that a root leads to, as far as the dump has them, and reports each to `progress`.
+/// Reads the tables that a root leads to, as far as the dump has them, and reports each to `progress`: first 1, then 2, and so on.
 ///
 /// A page walk from the root finds the words that the dump has, so the mappings are those of the dump. The memory holds each
 /// table once, however many entries name it.
@@ -79,6 +79,10 @@ pub fn read_tables<L: LevelCount, S: ByteSource, G: Progress>(
     ensures walks { S.IsKnown → IfOk result (λ tables. (position : ℕ) →
         page_walk L.LEVELS (words_in tables) root position
         ≡ page_walk L.LEVELS (words_of_dump (opened S.bytes dump.now)) root position) }
+    ensures count { S.IsKnown → IfOk result (λ tables. IsTableCount L.LEVELS
+        (words_of_dump (opened S.bytes dump.now)) root (finite.len tables.memory)) }
+    ensures told { IfOk result (λ tables.
+        G.Told progress.old progress.new (up_to (finite.len tables.memory))) }
     ensures errors { IfErr result (MayFail S.IsKnown) }
 {
     let frames = read_levels(alloc, dump, root, L::LEVELS)?;

@@ -1,13 +1,13 @@
 //! Memories that hold the tables in some frames.
 ghost use Rattle.std.specs.Prelude.{◌≡◌, ◌||◌, ℕ, true, Some, IsSome, IfOk, IfErr, IsOk, OnOk};
+ghost use Rattle.std.specs.FinMap as finite;
 ghost use Rattle.std.specs.List.Sorted.{IsStrictlyIncreasing};
 ghost use Rattle.x86_64_dump.specs.Dump.{words_of_dump};
 ghost use Rattle.x86_64_dump.specs.Opened.{opened};
 ghost use Rattle.x86_64_model.specs.Entry.{is_frame};
-ghost use Rattle.x86_64_model.specs.Memory.{words_of, identity_places};
 ghost use Rattle.x86_64_tables.specs.PageTable.{zero_words};
-ghost use Rattle.x86_64_dump.specs.Loaded.{MayFail, frames_of};
-ghost use Rattle.x86_64_dump.specs.Tables.{is_among, is_in, words_in_frames, AreThere};
+ghost use Rattle.x86_64_dump.specs.Loaded.{HoldsTables, MayFail, frames_of, up_to};
+ghost use Rattle.x86_64_dump.specs.Tables.{is_among, is_in, AreThere};
 ghost use Rattle.x86_64_dump.specs.private.FrameNumbers.{has_number, AreNumbers, HoldsFor};
 
 use crate::tables::progress::Progress;
@@ -19,15 +19,18 @@ use x86_64_page::frame::PhysFrame;
 use x86_64_page::page::{PageSize, Size4KiB};
 use x86_64_tables::phys_memory::{FramePlace, PhysMemory, PlacesRefusal};
 
-/// Reads the tables in the frames. Each table's place, its index in memory, is the number of its frame.
+/// Reads the tables in the frames, and reports each to `progress`. Each table's place, its index in memory, is the number of its
+/// frame.
 pub fn read_memory<S: ByteSource, G: Progress>(
     alloc: Global,
     dump: &Dump<S>,
     frames: &[Vec<PhysFrame<Size4KiB>>],
     progress: &mut G,
 ) -> Result<PhysMemory, DumpError>
-    ensures words { S.IsKnown → IfOk result (λ memory. words_of memory identity_places
-        ≡ words_in_frames (frames_of frames.now) (words_of_dump (opened S.bytes dump.now))) }
+    ensures tables { S.IsKnown → IfOk result
+        (HoldsTables (frames_of frames.now) (words_of_dump (opened S.bytes dump.now))) }
+    ensures told { IfOk result (λ memory.
+        G.Told progress.old progress.new (up_to (finite.len memory))) }
     ensures errors { IfErr result (MayFail
         (S.IsKnown × AreThere (words_of_dump (opened S.bytes dump.now)) (frames_of frames.now))) }
 {

@@ -1,12 +1,28 @@
 //! Progress while tables are read.
+ghost use Rattle.std.specs.Prelude.{ℕ, List, [], ◌∷◌, ◌++◌};
 
 /// An observer of the number of tables that have been read.
 pub trait Progress {
+    /// How an observer changes when it is told these numbers of tables, in order: from the observer before to the observer after.
+    ghost Told: { Self → Self → (counts : List ℕ) → Type 0 };
+
+    /// How an observer changes when it is told that no more tables are read.
+    ghost Ended: { Self → Self → Type 0 };
+
     /// Called after each table is read, with the number of tables so far.
-    fn tables(&mut self, count: usize);
+    fn tables(&mut self, count: usize)
+        ensures { Told self.old self.new (count ∷ []) };
 
     /// Called when no more tables are read.
-    fn end(&mut self);
+    fn end(&mut self)
+        ensures { Ended self.old self.new };
+
+    /// An observer that is told nothing doesn't change.
+    ghost none: { (observer : Self) → Told observer observer [] };
+
+    /// Numbers may be told in parts.
+    ghost both: { (before between after : Self) (front back : List ℕ) →
+        Told before between front → Told between after back → Told before after (front ++ back) };
 }
 
 /// An observer that ignores all calls.
@@ -14,7 +30,15 @@ pub trait Progress {
 pub struct NoProgress;
 
 impl Progress for NoProgress {
+    ghost Told = { λ _ _ _. Unit {0} };
+
+    ghost Ended = { λ _ _. Unit {0} };
+
     fn tables(&mut self, _count: usize) {}
 
     fn end(&mut self) {}
+
+    ghost none = { λ _. tt };
+
+    ghost both = { λ _ _ _ _ _ _ _. tt };
 }

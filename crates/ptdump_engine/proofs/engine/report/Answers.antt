@@ -1,9 +1,16 @@
-use Rattle.std.proofs.Common.{◌≡◌, IfSome, subst}
+use Rattle.std.proofs.Common.{◌≡◌, ◌∙◌, List, String, IfSome, sym, ap, subst}
+use Rattle.std.specs.FinMap.{len}
 use Rattle.std.specs.Io.KnownBytes.{Appends}
 use Rattle.x86_64_dump.specs.Dump.{words_of_dump}
 use Rattle.x86_64_dump.specs.Opened.{opened}
-use Rattle.x86_64_dump.specs.Loaded.{words_in}
-use Rattle.ptdump_engine.proofs.Wholly.{same_report, same_completeness}
+use Rattle.x86_64_dump.specs.Loaded.{words_in, IsTableCount}
+use Rattle.x86_64_model.specs.Mappings.{Mapping}
+use Rattle.std.specs.declared.alloc.Global.{Global}
+use Rattle.ptdump_engine.specs.Output.{put_in}
+use Rattle.ptdump_engine.specs.Totals.{IsMapped, totals_text}
+use Rattle.ptdump_engine.specs.Walks.{line}
+use Rattle.ptdump_engine.specs.declared.output.Output.{Output}
+use Rattle.ptdump_engine.proofs.Wholly.{same_report, same_completeness, written_rest}
 use Rattle.ptdump_engine.proofs.engine.report.Goals as goal
 
 pub returns-clause-written : goal.returns-clause-written
@@ -18,3 +25,26 @@ returns-clause-written g c = λ known.
       complete = subst (λ complete. IfSome complete (λ all. c.in_ok-is_complete.is_complete ≡ all))
           (same_completeness c.args.command.now L T W c.args.root (c.in_ok-tables.ensures.mappings known) (c.in_ok-tables.ensures.walks known)) c.in_ok-is_complete.ensures.complete;
     }
+
+pub returns-clause-totals : goal.returns-clause-totals
+returns-clause-totals g c = λ known not_image.
+    let L = g.L.LevelCount.LEVELS in
+    let W = words_of_dump (opened g.S.ByteSource.bytes c.args.dump.now) in
+    let contents = g.E.Write.contents in
+    let same = c.in_ok-is_complete.ensures.notes not_image in
+    let (totals, tables, mapped, puts) = c.in_ok-write_totals.ensures.text in
+    let Mapped : List Mapping → Type 0 = λ ms. IsMapped ms totals in
+    let before : Output g.row.E.Denot (String Global) → Type 0 = λ notes. Appends (put_in contents notes) (contents c.write_totals.new.notes.writer.now) (line (totals_text totals)) in (
+      puts.writer ∙ ap (λ (notes : Output g.row.E.Denot (String Global)). notes.writer.ghost_name) same,
+      (
+        totals,
+        record {
+          tables = subst (IsTableCount L W c.args.root) (sym tables) (c.in_ok-tables.ensures.count known);
+          mapped = subst Mapped (c.in_ok-tables.ensures.mappings known) mapped;
+        },
+        subst before same (written_rest contents c.write_whole.new.notes c.write_totals.new.notes (line (totals_text totals)) c.in_ok-write_totals.ensures.all puts),
+      ),
+    )
+
+pub returns-clause-told : goal.returns-clause-told
+returns-clause-told g c = λ known. (len c.in_ok-tables.tables.memory, c.read_tables-tables.new.progress, c.in_ok-tables.ensures.count known, c.in_ok-tables.ensures.told, c.end.ensures)

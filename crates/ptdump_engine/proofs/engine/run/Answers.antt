@@ -1,24 +1,30 @@
-use Rattle.std.proofs.Common.{rules, ◌≡◌, sym, subst, IfOk, Ok, Err}
+use Rattle.std.proofs.Common.{rules, ◌≡◌, OnOk, inr, refl, sym, subst, IfOk, Ok, Err}
 use Rattle.x86_64_dump.specs.Dump.{words_of_dump}
 use Rattle.x86_64_dump.specs.Opened.{opened}
 use Rattle.ptdump_engine.specs.Failure.{failure_of}
-use Rattle.ptdump_engine.specs.Program.{Reports, level_count}
-use Rattle.ptdump_engine.proofs.Wholly.{no_dump, no_start, opens, runs_by}
+use Rattle.ptdump_engine.specs.Program.{EndsByTotals, Notes, Reports, ToldOfTables, level_count, short_text}
+use Rattle.std.specs.Io.KnownBytes.{Appends}
+use Rattle.ptdump_engine.specs.Output.{put_in}
+use Rattle.ptdump_engine.proofs.Results.{on_ok}
+use Rattle.ptdump_engine.proofs.Wholly.{no_dump, no_start, opens, runs_by, put_first}
 use Rattle.ptdump_engine.proofs.engine.run.Goals as goal
 
-pub returns-in_err-dump : goal.returns-in_err-dump
-returns-in_err-dump g c = λ known.
+pub returns-in_err-dump-clause-run : goal.returns-in_err-dump-clause-run
+returns-in_err-dump-clause-run g c = λ known.
     let is : c.from_residual.result ≡ Err (failure_of c.in_err-dump.field-0.0) = search rules in
-    rw is (no_dump c.args.request.now (g.S.ByteSource.bytes c.args.source) c.in_err-dump.field-0.0 (c.in_err-dump.ensures known))
+    rw is (no_dump c.args.request.now (g.S.ByteSource.bytes c.args.source) c.in_err-dump.field-0.0 (c.in_err-dump.ensures known), inr refl)
 
-pub returns-in_err-start : goal.returns-in_err-start
-returns-in_err-start g c = λ known.
+pub returns-in_err-start-clause-run : goal.returns-in_err-start-clause-run
+returns-in_err-start-clause-run g c = λ known.
     let is : c.from_residual-in_err-start.result ≡ Err c.in_err-start.field-0.0 = search rules in
-    rw is (no_start c.args.request.now (g.S.ByteSource.bytes c.args.source) (opened g.S.ByteSource.bytes c.in_ok-dump.dump) c.in_err-start.field-0.0
-    (c.in_ok-dump.ensures known) (c.in_err-start.ensures.start known))
+    rw is (
+      no_start c.args.request.now (g.S.ByteSource.bytes c.args.source) (opened g.S.ByteSource.bytes c.in_ok-dump.dump) c.in_err-start.field-0.0
+          (c.in_ok-dump.ensures known) (c.in_err-start.ensures.start known),
+      inr refl,
+    )
 
-pub returns-in-Four : goal.returns-in-Four
-returns-in-Four g c = λ known.
+pub returns-in-Four-clause-run : goal.returns-in-Four-clause-run
+returns-in-Four-clause-run g c = λ known.
     let request = c.args.request.now in
     let dump = opened g.S.ByteSource.bytes c.in_ok-dump.dump in
     let start = c.in_ok-start.start in
@@ -29,8 +35,8 @@ returns-in-Four g c = λ known.
     Reports request.command (level_count levels) (words_of_dump dump) start.root (contents c.args.writer.now) (contents c.report.new.writer) outcome)) (sym c.in-Four.is) (c.report.ensures.written known))
     (c.report.ensures.errors known)
 
-pub returns : goal.returns
-returns g c = λ known.
+pub returns-clause-run : goal.returns-clause-run
+returns-clause-run g c = λ known.
     let request = c.args.request.now in
     let dump = opened g.S.ByteSource.bytes c.in_ok-dump.dump in
     let start = c.in_ok-start.start in
@@ -40,3 +46,65 @@ returns g c = λ known.
     (subst (λ levels. IfOk c.report-in-Five.result (λ outcome.
     Reports request.command (level_count levels) (words_of_dump dump) start.root (contents c.args.writer.now) (contents c.report-in-Five.new.writer) outcome)) (sym c.in-Five.is) (c.report-in-Five.ensures.written known))
     (c.report-in-Five.ensures.errors known)
+
+pub returns-in-Four-clause-told : goal.returns-in-Four-clause-told
+returns-in-Four-clause-told g c = λ known.
+    let request = c.args.request.now in
+    let file = g.S.ByteSource.bytes c.args.source in
+    let dump = opened g.S.ByteSource.bytes c.in_ok-dump.dump in
+    let start = c.in_ok-start.start in
+    on_ok c.report.result (λ told. (record { dump = dump; start = start }, opens request file dump start (c.in_ok-dump.ensures known) (c.in_ok-start.ensures.start known), told))
+    (subst (λ levels. OnOk c.report.result (ToldOfTables g.G.Progress.Told g.G.Progress.Ended (level_count levels) (words_of_dump dump) start.root c.args.progress.now c.report.new.progress))
+    (sym c.in-Four.is) (c.report.ensures.told known))
+
+pub returns-clause-told : goal.returns-clause-told
+returns-clause-told g c = λ known.
+    let request = c.args.request.now in
+    let file = g.S.ByteSource.bytes c.args.source in
+    let dump = opened g.S.ByteSource.bytes c.in_ok-dump.dump in
+    let start = c.in_ok-start.start in
+    on_ok c.report-in-Five.result (λ told. (record { dump = dump; start = start }, opens request file dump start (c.in_ok-dump.ensures known) (c.in_ok-start.ensures.start known), told))
+    (subst (λ levels. OnOk c.report-in-Five.result (ToldOfTables g.G.Progress.Told g.G.Progress.Ended (level_count levels) (words_of_dump dump) start.root c.args.progress.now c.report-in-Five.new.progress))
+    (sym c.in-Five.is) (c.report-in-Five.ensures.told known))
+
+pub returns-in-Four-clause-notes : goal.returns-in-Four-clause-notes
+returns-in-Four-clause-notes g c = λ known.
+    let request = c.args.request.now in
+    let file = g.S.ByteSource.bytes c.args.source in
+    let dump = opened g.S.ByteSource.bytes c.in_ok-dump.dump in
+    let start = c.in_ok-start.start in
+    let contents = g.E.Write.contents in
+    let short = put_first contents c.new-notes.result c.write_short.new.notes (short_text dump) c.new-notes.ensures.empty (c.in_ok-write_short.ensures.text known) in
+    let begun : Appends (contents c.args.errors.now) (put_in contents c.write_short.new.notes) (short_text dump) =
+    subst (λ e. Appends (contents e) (put_in contents c.write_short.new.notes) (short_text dump)) c.new-notes.ensures.now short in
+    on_ok c.report.result (λ totals not_image. let ends = totals not_image in let same = ends.0 in
+    let result : Notes request file (contents c.args.errors.now) (contents c.report.new.notes.writer.now) = (
+      record { dump = dump; start = start },
+      put_in contents c.write_short.new.notes,
+      opens request file dump start (c.in_ok-dump.ensures known) (c.in_ok-start.ensures.start known),
+      begun,
+      subst (λ levels. EndsByTotals (level_count levels) (words_of_dump dump) start.root (put_in contents c.write_short.new.notes) (contents c.report.new.notes.writer.now)) (sym c.in-Four.is) ends.1,
+    ) in
+    search (rules, result))
+    (c.report.ensures.totals known)
+
+pub returns-clause-notes : goal.returns-clause-notes
+returns-clause-notes g c = λ known.
+    let request = c.args.request.now in
+    let file = g.S.ByteSource.bytes c.args.source in
+    let dump = opened g.S.ByteSource.bytes c.in_ok-dump.dump in
+    let start = c.in_ok-start.start in
+    let contents = g.E.Write.contents in
+    let short = put_first contents c.new-notes.result c.write_short.new.notes (short_text dump) c.new-notes.ensures.empty (c.in_ok-write_short.ensures.text known) in
+    let begun : Appends (contents c.args.errors.now) (put_in contents c.write_short.new.notes) (short_text dump) =
+    subst (λ e. Appends (contents e) (put_in contents c.write_short.new.notes) (short_text dump)) c.new-notes.ensures.now short in
+    on_ok c.report-in-Five.result (λ totals not_image. let ends = totals not_image in let same = ends.0 in
+    let result : Notes request file (contents c.args.errors.now) (contents c.report-in-Five.new.notes.writer.now) = (
+      record { dump = dump; start = start },
+      put_in contents c.write_short.new.notes,
+      opens request file dump start (c.in_ok-dump.ensures known) (c.in_ok-start.ensures.start known),
+      begun,
+      subst (λ levels. EndsByTotals (level_count levels) (words_of_dump dump) start.root (put_in contents c.write_short.new.notes) (contents c.report-in-Five.new.notes.writer.now)) (sym c.in-Five.is) ends.1,
+    ) in
+    search (rules, result))
+    (c.report-in-Five.ensures.totals known)

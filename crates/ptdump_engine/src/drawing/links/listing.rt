@@ -17,7 +17,8 @@ pub fn table_links<T: TableMemory, P: PageTableFrameMapping>(
     mapping: &P,
     tables: &[Vec<PhysFrame<Size4KiB>>],
 ) -> Result<Vec<TableLink>, AllocError>
-    ensures { IfOk result (λ links. All (IsLink (words_of (T.tables memory.now) (P.places mapping.now))) links.items) }
+    ensures { IfOk result (λ links.
+        All (IsLink (words_of (T.tables memory.now) (P.places mapping.now))) links.items) }
 {
     let mut links = Vec::new(alloc);
     for (index, frames) in tables.iter().enumerate().skip(1) {
@@ -38,7 +39,8 @@ fn push_links<T: TableMemory, P: PageTableFrameMapping>(
     parent: PhysFrame<Size4KiB>,
 ) -> Result<(), AllocError>
     requires { All (IsLink (words_of (T.tables memory.now) (P.places mapping.now))) links.old.items }
-    ensures { OnOk result (All (IsLink (words_of (T.tables memory.now) (P.places mapping.now))) links.new.items) }
+    ensures { OnOk result (
+        All (IsLink (words_of (T.tables memory.now) (P.places mapping.now))) links.new.items) }
 {
     for index in 0..512 {
         if let Some(link) = link_at(memory, mapping, level, parent, index) {

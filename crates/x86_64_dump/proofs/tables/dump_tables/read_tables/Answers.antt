@@ -1,9 +1,9 @@
-use Rattle.std.proofs.Common.{◌≡◌, List, ℕ, ◌∙◌, sym, ap, subst}
+use Rattle.std.proofs.Common.{◌≡◌, List, ℕ, refl, ◌∙◌, sym, ap, subst}
 use Rattle.x86_64_dump.specs.Dump.{words_of_dump}
 use Rattle.x86_64_dump.specs.Opened.{opened}
 use Rattle.x86_64_dump.specs.declared.error.DumpError.{DumpError}
 use Rattle.x86_64_model.specs.Memory.{words_of, identity_places}
-use Rattle.x86_64_dump.specs.Loaded.{MayFail, frames_of}
+use Rattle.x86_64_dump.specs.Loaded.{HoldsTables, MayFail, frames_of}
 use Rattle.x86_64_dump.specs.Tables.{tables_by_level, words_in_frames, AreThere}
 use Rattle.x86_64_dump.proofs.Closed.{same_below_root, levels_are_there}
 use Rattle.x86_64_dump.proofs.Failing.{fails_as, fails_knowing}
@@ -31,7 +31,7 @@ returns-in_err-memory-clause-errors g c =
 pub returns-clause-same : goal.returns-clause-same
 returns-clause-same g c known =
     let W = words_of_dump (opened g.S.ByteSource.bytes c.args.dump.now) in
-    same_below_root g.L.LevelCount.LEVELS W c.args.root (words_of c.in_ok-memory.memory identity_places) (c.in_ok-memory.ensures.words known
+    same_below_root g.L.LevelCount.LEVELS W c.args.root (words_of c.in_ok-memory.memory identity_places) ((c.in_ok-memory.ensures.tables known).words
     ∙ ap (λ frames. words_in_frames frames W) (levels g (goal.at.returns-clause-same g c).After-read_memory known))
 
 pub returns-clause-mappings : goal.returns-clause-mappings
@@ -43,3 +43,9 @@ pub returns-clause-walks : goal.returns-clause-walks
 returns-clause-walks g c known p =
     let W = words_of_dump (opened g.S.ByteSource.bytes c.args.dump.now) in
     same_walks g.L.LevelCount.LEVELS (words_of c.in_ok-memory.memory identity_places) W c.args.root p (returns-clause-same g c known)
+
+pub returns-clause-count : goal.returns-clause-count
+returns-clause-count g c known =
+    let W = words_of_dump (opened g.S.ByteSource.bytes c.args.dump.now) in
+    let Holds : List (List ℕ) → Type 0 = λ frames. HoldsTables frames W c.in_ok-memory.memory in
+    (c.in_ok-memory.memory, subst Holds (levels g (goal.at.returns-clause-count g c).After-read_memory known) (c.in_ok-memory.ensures.tables known), refl)

@@ -1,15 +1,19 @@
-use Rattle.std.proofs.Common.{◌≡◌, ℕ, ◌*◌, ◌+◌, true, false, List, Some, IsSome, get_or, ◌∙◌, sym, ap, subst}
-use Rattle.std.specs.FinMap.{insert}
+use Rattle.std.proofs.Common.{◌≡◌, ℕ, ◌*◌, ◌+◌, ◌==◌, ◌∷◌, true, false, List, [], cond, Some, None, IsSome, is_some, get_or, length, refl, ◌∙◌, sym, ap, subst, arith, eq-eqb}
+use Rattle.std.proofs.lemmas.List.Folds.{list_any_at}
+use Rattle.std.proofs.lemmas.List.FromFn.{map-range_with_len_more}
+use Rattle.std.specs.FinMap.{insert, len}
 use Rattle.x86_64_dump.specs.Dump.{words_of_dump}
 use Rattle.x86_64_dump.specs.Opened.{opened}
 use Rattle.x86_64_dump.specs.declared.error.DumpError.{DumpError}
 use Rattle.x86_64_model.specs.Entry.{is_frame}
+use Rattle.std.specs.List.Sorted.{IsStrictlyIncreasing}
+use Rattle.x86_64_tables.specs.PageTable.{zero_words}
 use Rattle.x86_64_tables.specs.private.TableLaws.{stays_there}
-use Rattle.x86_64_dump.specs.Loaded.{MayFail, frames_of}
+use Rattle.x86_64_dump.specs.Loaded.{MayFail, frames_of, up_to}
 use Rattle.x86_64_dump.specs.Tables.{AreThere, is_in}
 use Rattle.x86_64_dump.specs.private.FrameNumbers.{has_number, AreNumbers, HoldsFor}
 use Rattle.x86_64_dump.proofs.Failing.{fails_as, no_frame}
-use Rattle.x86_64_dump.proofs.Places.{number_there, place_filled, so_far, words_filled}
+use Rattle.x86_64_dump.proofs.Places.{number_there, place_filled, places_below, places_counted, places_kept, so_far, words_filled}
 use Rattle.x86_64_dump.proofs.tables.loading.read_memory.Given.{Over}
 use Rattle.x86_64_dump.proofs.tables.loading.read_memory.Goals as goal
 use Rattle.x86_64_dump.proofs.tables.loading.read_memory.Goals.{After-deref-number-items}
@@ -30,9 +34,33 @@ returns-in_err-words-clause-errors g c =
     fails_as c.from_residual-in_err-words.result _ Fails c.from_residual-in_err-words.ensures.1 (λ e is. subst Fails (sym is) (λ known.
     let never : false ≡ true = c.in_err-words.ensures.succeeds known.0 (subst There (sym c.from_pfn.ensures) (known.1 (get_or numbers c.loop-i.i 0 * 4096) among)) in cc))
 
+pub loop-i-init : goal.loop-i-init
+loop-i-init g c =
+    let numbers = c.deref-number-items.result.now in
+    let memory = c.in_ok-memory.memory in
+    let Holds : List ℕ → Type 0 = λ ns. HoldsFor ns (λ _. Some zero_words) memory in
+    let Up : List ℕ → Type 0 = IsStrictlyIncreasing in
+    let held = subst Holds (c.deref.ensures.value ∙ sym c.deref-number-items.ensures.value) c.in_ok-memory.ensures in
+    record {
+      places = λ place is. ap is_some (held place ∙ ap (λ b. cond b (Some zero_words) None) is);
+      count = places_counted numbers memory (subst Up (sym c.deref-number-items.ensures.value) c.in_ok-numbers.ensures.increasing) held;
+      told = g.met.G.Progress.none c.args.progress.now;
+      tables = λ known place. held place;
+    }
+
 pub loop-i-preserved : goal.loop-i-preserved
 loop-i-preserved g c = record {
   places = λ place h. stays_there c.loop-i.memory c.new.result c.table_of.result place (c.loop-i.invariant.places place h);
+  count =
+      let numbers = c.deref-number-items.result.now in
+      let P : ℕ → Type 0 = λ n. len (insert c.loop-i.memory n c.table_of.result) ≡ length numbers in
+      let there = list_any_at (λ n. get_or numbers c.loop-i.i 0 == n) numbers c.loop-i.i 0 c.loop-i-test.true (eq-eqb (get_or numbers c.loop-i.i 0) (get_or numbers c.loop-i.i 0) refl) in
+      subst P (sym c.new.ensures)
+      (places_kept c.loop-i.memory (get_or numbers c.loop-i.i 0) c.table_of.result (c.loop-i.invariant.places (get_or numbers c.loop-i.i 0) there) ∙ c.loop-i.invariant.count);
+  told =
+      let Told : List ℕ → Type 0 = g.G.Progress.Told c.args.progress.now c.tables.new.self in
+      subst Told (sym (map-range_with_len_more (λ i. i + 1) 0 c.loop-i.i c.loop-i.i (omega arith)))
+      (g.met.G.Progress.both c.args.progress.now c.loop-i.progress c.tables.new.self (up_to c.loop-i.i) ((c.loop-i.i + 1) ∷ []) c.loop-i.invariant.told c.tables.ensures);
   tables = λ known.
       let W = words_of_dump (opened g.S.ByteSource.bytes c.args.dump.now) in
       let numbers = c.deref-number-items.result.now in
@@ -41,8 +69,13 @@ loop-i-preserved g c = record {
       subst P (sym c.new.ensures) (place_filled W numbers c.loop-i.i c.loop-i.memory c.table_of.result c.loop-i-test.true read (c.loop-i.invariant.tables known));
 }
 
-pub returns-clause-words : goal.returns-clause-words
-returns-clause-words g c known =
-    words_filled (words_of_dump (opened g.S.ByteSource.bytes c.args.dump.now)) c.deref-number-items.result.now c.loop-i.i c.loop-i.memory (frames_of c.args.frames.now)
-    c.loop-i-test.false (no_frame (opened g.S.ByteSource.bytes c.args.dump.now))
-    (all_there g (goal.at.returns-clause-words g c).After-deref-number-items) (c.loop-i.invariant.tables known)
+pub returns-clause-tables : goal.returns-clause-tables
+returns-clause-tables g c known =
+    let W = words_of_dump (opened g.S.ByteSource.bytes c.args.dump.now) in
+    let numbers = c.deref-number-items.result.now in
+    let P : List ℕ → Type 0 = AreNumbers in
+    record {
+      words = words_filled W numbers c.loop-i.i c.loop-i.memory (frames_of c.args.frames.now) c.loop-i-test.false (no_frame (opened g.S.ByteSource.bytes c.args.dump.now))
+          (all_there g (goal.at.returns-clause-tables g c).After-deref-number-items) (c.loop-i.invariant.tables known);
+      places = places_below numbers (so_far W numbers c.loop-i.i) c.loop-i.memory (subst P (sym c.deref-number-items.ensures.value) c.in_ok-numbers.ensures.below) (c.loop-i.invariant.tables known);
+    }
