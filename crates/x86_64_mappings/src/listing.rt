@@ -8,7 +8,7 @@ mod cursor;
 
 use crate::mapping::MappingIn;
 use cursor::{Cursor, find_page};
-pub use cursor::{maps_page, span};
+pub use cursor::span;
 use std::marker::{Model, PhantomData};
 use x86_64_addr::addr::VirtAddrIn;
 use x86_64_addr::level_count::{FiveLevels, FourLevels, LevelCount};

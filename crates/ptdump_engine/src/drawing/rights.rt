@@ -6,8 +6,7 @@ use crate::drawing::area::Area;
 use std::fmt::{Display, Formatter, Result as FmtResult, Write};
 use x86_64_addr::level_count::LevelCount;
 use x86_64_mappings::RegionIn;
-use x86_64_mappings::text::write_rights;
-use x86_64_tables::phys_memory::Rights;
+use x86_64_tables::page_table::Rights;
 
 /// The number of kinds of rights.
 pub(crate) const KIND_COUNT: usize = 8;
@@ -22,11 +21,7 @@ impl Kind {
     /// Returns the kind of a region.
     pub fn of<L: LevelCount>(region: &RegionIn<L>) -> Kind {
         Kind {
-            rights: Rights {
-                write: region.write,
-                user: region.user,
-                execute: region.execute,
-            },
+            rights: region.rights,
         }
     }
 
@@ -92,11 +87,7 @@ impl Kind {
 
 impl Display for Kind {
     fn fmt<W: Write>(&self, f: &mut Formatter<W>) -> FmtResult {
-        let Rights {
-            write,
-            user,
-            execute,
-        } = self.rights;
-        write_rights(f, write, user, execute)
+        let rights = self.rights;
+        write!(f, "{rights}")
     }
 }

@@ -1,19 +1,17 @@
 //! The cursor of a listing of mappings, and how it moves to the next mapping.
-ghost use Rattle.std.specs.Prelude.{◌≡◌, ◌<◌, ◌≤◌, ◌+◌, ◌*◌, ◌/◌, ◌==◌, ◌||◌, true, false, cond, ℕ, None, [], length, drop, slice_index};
+ghost use Rattle.std.specs.Prelude.{◌≡◌, ◌<◌, ◌≤◌, ◌+◌, ◌*◌, ◌/◌, true, false, ℕ, [], length, drop, slice_index};
 ghost use Rattle.std.specs.Option.{option_copied};
-ghost use Rattle.x86_64_model.specs.Entry.{present, huge, address};
-ghost use Rattle.x86_64_model.specs.Mappings.{maps_page as page_mapped};
+ghost use Rattle.x86_64_model.specs.Entry.{present};
 ghost use Rattle.x86_64_model.specs.Memory.{words_of};
 ghost use Rattle.x86_64_model.specs.Position.{span as span_of, index, position_count};
+ghost use Rattle.x86_64_tables.specs.EntryTargets.{target_of};
 ghost use Rattle.x86_64_mappings.specs.private.Cursors as cursors;
 
 use x86_64_addr::level_count::LevelCount;
 use x86_64_page::frame::PhysFrame;
 use x86_64_page::page::Size4KiB;
-use x86_64_tables::page_table::{PageTable, PageTableEntry, PageTableFlags};
-use x86_64_tables::phys_memory::{
-    PageTableFrameMapping, Rights, TableMemory, has_flag, index_of, table_in,
-};
+use x86_64_tables::page_table::{EntryTarget, PageTable, PageTableEntry, PageTableFlags, Rights, has_flag};
+use x86_64_tables::phys_memory::{PageTableFrameMapping, TableMemory, index_of, table_in};
 
 /// Where a listing continues: at a position (the number of an address counted without the gap), with the remaining entries
 /// of a table, from the one that spans the position on.
@@ -99,7 +97,7 @@ impl<'a> Cursor<'a> {
             ≡ cursors.is_there L.LEVELS self.entry.next self.entry.level self.entry.rest.now }
     {
         match self.rest.first() {
-            Some(entry) => has_flag(entry, PageTableFlags::PRESENT) && maps_page(self.level, entry),
+            Some(entry) => has_flag(entry, PageTableFlags::PRESENT) && entry.maps_page(self.level),
             None => self.next == L::POSITION_COUNT,
         }
     }
@@ -192,33 +190,21 @@ fn count_absent(entries: &[PageTableEntry]) -> usize
     entries.len()
 }
 
-/// Returns the table that an entry of a level leads to, or `None` if the entry is of level one or has `HUGE_PAGE`, or if its
-/// frame has no table in the memory.
-#[tactic(auto, using(x86_64_model::proofs::Lemmas::Entries::Words::address_aligned))]
+/// Returns the table that an entry of a level leads to, or `None` if it leads to none in the memory.
 fn table_below<'a, T: TableMemory, P: PageTableFrameMapping>(
     memory: &'a T,
     mapping: &P,
     level: u64,
     entry: &PageTableEntry,
 ) -> Option<&'a PageTable>
-    ensures { option_copied result ≡ cond ((level == 1) || huge entry.now) None
-        (words_of (T.tables memory.now) (P.places mapping.now) (address entry.now)) }
+    requires { 1 ≤ level }
+    ensures { option_copied result ≡ cursors.table_by
+        (words_of (T.tables memory.now) (P.places mapping.now)) (target_of level entry.now) }
 {
-    if level == 1 || has_flag(entry, PageTableFlags::HUGE_PAGE) {
-        return None;
+    match entry.target(level) {
+        EntryTarget::Table(frame) => table_in(memory, mapping, frame),
+        EntryTarget::Page | EntryTarget::Nothing => None,
     }
-    table_in(
-        memory,
-        mapping,
-        PhysFrame::from_start_address_unchecked(entry.addr()),
-    )
-}
-
-/// Returns true if an entry of a level maps a page, provided that it has `PRESENT`.
-pub fn maps_page(level: u64, entry: &PageTableEntry) -> bool
-    ensures { result ≡ page_mapped level entry.now }
-{
-    level == 1 || (has_flag(entry, PageTableFlags::HUGE_PAGE) && (level == 2 || level == 3))
 }
 
 /// Returns the number of positions that an entry of a level spans.
