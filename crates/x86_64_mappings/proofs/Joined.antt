@@ -1,11 +1,14 @@
 -- Regions that are joined as they arrive are those that the mappings form. Mappings without a gap and with equal rights are
 -- joined at once.
-use Rattle.std.proofs.Common.{◌≡◌, ◌≢◌, ◌⊎◌, inl, inr, ⊎_elim, ◌<◌, ◌≤◌, ◌+◌, ◌-◌, ◌==◌, ℕ, Bool, true, false, not, cond, List, [], ◌∷◌, ◌++◌, filter, Option, Some, None, refl, sym, ap, ap₂, ◌∙◌, subst, subst₂, arith, append-nil, append_assoc}
+use Rattle.std.proofs.Common.{◌≡◌, ◌≢◌, ◌⊎◌, inl, inr, ⊎_elim, ◌<◌, ◌≤◌, ◌+◌, ◌-◌, ◌==◌, ℕ, Bool, true, false, not, cond, List, [], ◌∷◌, ◌++◌, filter, Option, Some, None, MatchOption, refl, sym, ap, ap₂, ◌∙◌, subst, subst₂, arith, append-nil, append_assoc}
+use Rattle.std.specs.Prelude.{⊤}
+use Rattle.std.specs.Iterator.{MakesProgress, item_count}
 use Rattle.std.proofs.lemmas.Bool.{and_from, eq-eqb, eqb-true}
 use Rattle.x86_64_model.specs.Position.{lower_half}
 use Rattle.x86_64_model.specs.Mappings.{Mapping, Rights}
 use Rattle.x86_64_model.specs.Regions.{Region, region_of, same_rights, follows, grown_to, regions_in}
 use Rattle.x86_64_model.proofs.Lemmas.Mappings.Regions.{begun, from_follows, same_rights_itself, regions_are_begun}
+use Rattle.x86_64_page.proofs.Blocks.{goes_first}
 use Rattle.x86_64_mappings.specs.private.Extents.{AreWhole}
 use Rattle.x86_64_mappings.specs.private.Joined.{region_between, held_with, given_with, held_after, given_after, listed, regions_from, JoinsRegion, Joins}
 
@@ -50,9 +53,22 @@ one_arrives L held left ms m s given next first is gives holds =
     ∙ append_assoc (given_with L held (region_of m)) (given_after L after ms) (listed (held_after L after ms))
     ∙ ap₂ (λ g h. g ++ regions_from L h ms) (sym (gives ∙ ap (given_with L held) is)) (sym (holds ∙ ap (λ s. Some (held_with L held s)) is))
 
-pub all_arrived : (L : ℕ) (held : Option Region) (left : List Mapping) → left ≡ [] → regions_from L held left ≡ listed held
+all_arrived : (L : ℕ) (held : Option Region) (left : List Mapping) → left ≡ [] → regions_from L held left ≡ listed held
 unfolding held_after given_after
 all_arrived L held left none = ap (regions_from L held) none
+
+-- the region that is held back comes last
+pub last_arrives : (L : ℕ) (now : List Region) (held next : Option Region) (left behind : List Mapping) (result : Option Region) → now ≡ regions_from L held left
+    → left ≡ [] → behind ≡ [] → result ≡ held → next ≡ None → MatchOption result ((now ≡ []) × (regions_from L next behind ≡ [])) (λ r. now ≡ r ∷ regions_from L next behind)
+last_arrives L now held next left behind None is none gone same taken =
+    (is ∙ all_arrived L held left none ∙ ap listed (sym same), all_arrived L next behind gone ∙ ap listed taken)
+last_arrives L now held next left behind (Some r) is none gone same taken =
+    is ∙ all_arrived L held left none ∙ ap listed (sym same) ∙ ap (λ rest. r ∷ rest) (sym (all_arrived L next behind gone ∙ ap listed taken))
+
+pub goes_by : (before after : List Region) (result : Option Region) → MatchOption result ((before ≡ []) × (after ≡ [])) (λ r. before ≡ r ∷ after)
+    → MakesProgress (λ _. ⊤) (item_count (λ rs. rs)) before result after
+goes_by before after None yields = record { on = λ _. tt; keeps = tt; rests = λ _. tt }
+goes_by before after (Some r) yields = goes_first (λ rs. rs) before after r r yields
 
 -- ---- mappings without a gap
 

@@ -14,7 +14,8 @@ use Rattle.x86_64_tables.specs.declared.page_table.target.EntryTarget.TheVariant
 use Rattle.x86_64_mappings.specs.private.Placed.{placed}
 use Rattle.x86_64_tables.specs.EntryTargets.{target_of}
 use Rattle.x86_64_mappings.specs.private.Targets.{asked_by, asked_on}
-use Rattle.x86_64_mappings.specs.private.Merged.{both, joined, lessened}
+use Rattle.x86_64_tables.specs.Rights.{both}
+use Rattle.x86_64_mappings.specs.private.Merged.{joined, lessened}
 use Rattle.x86_64_model.specs.Position.{span}
 use Rattle.x86_64_model.specs.private.Found.{every_right, narrowed}
 use Rattle.x86_64_mappings.proofs.Tables.{by_table, on_more}

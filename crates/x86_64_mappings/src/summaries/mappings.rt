@@ -5,9 +5,9 @@ ghost use Rattle.x86_64_mappings.specs.Wanted.{asked_of, asked_mappings};
 ghost use Rattle.x86_64_mappings.specs.private.Targets.{asked_in, asked_on};
 ghost use Rattle.x86_64_mappings.specs.private.Known.{asking};
 
-use crate::summaries::table_summaries::Summaries;
 use crate::summaries::query::Query;
 use crate::summaries::reached_table::ReachedTable;
+use crate::summaries::table_summaries::Summaries;
 use crate::summaries::visitor::Visitor;
 use crate::{MappingIn, span};
 use x86_64_addr::level_count::LevelCount;
@@ -36,21 +36,22 @@ pub fn visit_mappings<
     ensures { OnOk result (V.Visits visitor.old visitor.new
         (asked_mappings (asked_of T.tables P.places summaries.now) L.LEVELS root)) }
 {
-    visit_table::<L, T, P, V>(summaries, ReachedTable::root::<L>(root), visitor)
+    let table = ReachedTable::root::<L>(root);
+    visit_table::<L, T, P, V>(summaries, &table, visitor)
 }
 
 /// Visits the wanted mappings of a table.
 fn visit_table<L: LevelCount, T: TableMemory, P: PageTableFrameMapping, V: Visitor<MappingIn<L>>>(
     summaries: &Summaries<'_, T, P>,
-    table: ReachedTable,
+    table: &ReachedTable,
     visitor: &mut V,
 ) -> Result<(), V::Error>
-    requires low { 1 ≤ table.level }
-    requires high { table.level ≤ 5 }
-    requires aligned { table.start % span_of table.level ≡ 0 }
-    requires inside { table.start + 512 * span_of table.level ≤ position_count L.LEVELS }
+    requires low { 1 ≤ table.now.level }
+    requires high { table.now.level ≤ 5 }
+    requires aligned { table.now.start % span_of table.now.level ≡ 0 }
+    requires inside { table.now.start + 512 * span_of table.now.level ≤ position_count L.LEVELS }
     ensures { OnOk result (V.Visits visitor.old visitor.new
-        (asked_in (asked_of T.tables P.places summaries.now) table)) }
+        (asked_in (asked_of T.tables P.places summaries.now) table.now)) }
 {
     let query = summaries.query();
     let Some(words) = query.table(table.frame) else {
@@ -73,7 +74,7 @@ fn visit_table<L: LevelCount, T: TableMemory, P: PageTableFrameMapping, V: Visit
             EntryTarget::Table(frame) => {
                 if !maps_nothing(summaries, table.level - 1, frame) {
                     let below = table.below(entry, frame, start);
-                    visit_table::<L, T, P, V>(summaries, below, visitor)?;
+                    visit_table::<L, T, P, V>(summaries, &below, visitor)?;
                 }
             }
             EntryTarget::Nothing => {}

@@ -8,7 +8,7 @@ use x86_64_page::page::Size4KiB;
 use x86_64_tables::page_table::{PageTableEntry, Rights};
 
 /// A table, as a walk down from a root reaches it.
-#[derive(Clone, Copy)]
+#[derive(Drop)]
 pub(crate) struct ReachedTable {
     /// The frame of the table.
     pub(crate) frame: PhysFrame<Size4KiB>,
@@ -36,17 +36,17 @@ impl ReachedTable {
     /// Returns the table in a frame that an entry of this table names. `start` is the position at which the entry's span
     /// starts.
     pub(crate) fn below(
-        self,
+        &self,
         entry: &PageTableEntry,
         frame: PhysFrame<Size4KiB>,
         start: u64,
     ) -> ReachedTable
-        requires { 1 ≤ self.level }
+        requires { 1 ≤ self.now.level }
         ensures { result ≡ record {
           frame = frame;
-          level = self.level - 1;
+          level = self.now.level - 1;
           start = start;
-          above = narrowed self.above entry.now;
+          above = narrowed self.now.above entry.now;
         } }
     {
         ReachedTable {

@@ -8,9 +8,9 @@ ghost use Rattle.x86_64_mappings.specs.private.Targets.{asked_in};
 mod extent;
 
 use crate::joiner::Joiner;
-use crate::summaries::table_summaries::Summaries;
 use crate::summaries::query::Query;
 use crate::summaries::reached_table::ReachedTable;
+use crate::summaries::table_summaries::Summaries;
 use crate::summaries::visitor::Visitor;
 use crate::{MappingIn, RegionIn, span};
 use extent::{Extent, extent_of};
@@ -43,7 +43,8 @@ pub fn visit_regions<
         (asked_regions (asked_of T.tables P.places summaries.now) L.LEVELS root)) }
 {
     let mut joiner = Joiner::new();
-    join_table(summaries, ReachedTable::root::<L>(root), &mut joiner, visitor)?;
+    let table = ReachedTable::root::<L>(root);
+    join_table(summaries, &table, &mut joiner, visitor)?;
     visit_joined(joiner.finish(), visitor)
 }
 
@@ -51,16 +52,16 @@ pub fn visit_regions<
 #[cycle(regions)]
 fn join_table<L: LevelCount, T: TableMemory, P: PageTableFrameMapping, V: Visitor<RegionIn<L>>>(
     summaries: &Summaries<'_, T, P>,
-    table: ReachedTable,
+    table: &ReachedTable,
     joiner: &mut Joiner<L>,
     visitor: &mut V,
 ) -> Result<(), V::Error>
-    requires low { 1 ≤ table.level }
-    requires high { table.level ≤ L.LEVELS }
-    requires aligned { table.start % span_of table.level ≡ 0 }
-    requires inside { table.start + 512 * span_of table.level ≤ position_count L.LEVELS }
+    requires low { 1 ≤ table.now.level }
+    requires high { table.now.level ≤ L.LEVELS }
+    requires aligned { table.now.start % span_of table.now.level ≡ 0 }
+    requires inside { table.now.start + 512 * span_of table.now.level ≤ position_count L.LEVELS }
     ensures { OnOk result (Joins V.Visits L.LEVELS
-        (asked_in (asked_of T.tables P.places summaries.now) table)
+        (asked_in (asked_of T.tables P.places summaries.now) table.now)
         joiner.old visitor.old joiner.new visitor.new) }
 {
     let query = summaries.query();
@@ -77,7 +78,7 @@ fn join_table<L: LevelCount, T: TableMemory, P: PageTableFrameMapping, V: Visito
             }
             EntryTarget::Table(frame) => {
                 let below = table.below(entry, frame, start);
-                join_below(summaries, below, joiner, visitor)?;
+                join_below(summaries, &below, joiner, visitor)?;
             }
             EntryTarget::Nothing => {}
         }
@@ -90,19 +91,23 @@ fn join_table<L: LevelCount, T: TableMemory, P: PageTableFrameMapping, V: Visito
 #[cycle(regions)]
 fn join_below<L: LevelCount, T: TableMemory, P: PageTableFrameMapping, V: Visitor<RegionIn<L>>>(
     summaries: &Summaries<'_, T, P>,
-    table: ReachedTable,
+    table: &ReachedTable,
     joiner: &mut Joiner<L>,
     visitor: &mut V,
 ) -> Result<(), V::Error>
-    requires low { 1 ≤ table.level }
-    requires high { table.level < L.LEVELS }
-    requires aligned { table.start % position_count table.level ≡ 0 }
-    requires inside { table.start + position_count table.level ≤ position_count L.LEVELS }
+    requires low { 1 ≤ table.now.level }
+    requires high { table.now.level < L.LEVELS }
+    requires aligned { table.now.start % position_count table.now.level ≡ 0 }
+    requires inside { table.now.start + position_count table.now.level ≤ position_count L.LEVELS }
     ensures { OnOk result (Joins V.Visits L.LEVELS
-        (asked_in (asked_of T.tables P.places summaries.now) table)
+        (asked_in (asked_of T.tables P.places summaries.now) table.now)
         joiner.old visitor.old joiner.new visitor.new) }
 {
-    match extent_of(summaries.of(table.level, table.frame), table.level, table.above) {
+    match extent_of(
+        summaries.of(table.level, table.frame),
+        table.level,
+        table.above,
+    ) {
         Extent::Nothing => Ok(()),
         Extent::Whole(rights) => {
             let region = region_of_span(table.level, table.start, rights);

@@ -12,7 +12,7 @@ pub returns-then-absent-gt0 : goal.returns-then-absent-gt0
 returns-then-absent-gt0 g c =
     let L = g.L.LevelCount.LEVELS in
     let words = words_of (g.T.TableMemory.tables c.args.memory.now) (g.P.PageTableFrameMapping.places c.args.mapping.now) in
-    let from = c.args.cursor in
+    let from = c.args.cursor.now in
     let some : 1 ≤ c.count_absent-absent.result = omega (arith, c.if-absent-gt0.true) in
     let few = c.count_absent-absent.ensures.within in
     past_step L words c.args.root from c.past.result g.L.LevelCount.at_most_five c.requires.on c.count_absent-absent.result some few
@@ -23,7 +23,7 @@ pub returns-in-Some-table_below : goal.returns-in-Some-table_below
 returns-in-Some-table_below g c =
     let L = g.L.LevelCount.LEVELS in
     let words = words_of (g.T.TableMemory.tables c.args.memory.now) (g.P.PageTableFrameMapping.places c.args.mapping.now) in
-    let from = c.args.cursor in
+    let from = c.args.cursor.now in
     let e = get_or from.rest.now 0 0 in
     let some : 0 < length from.rest.now = c.in-Some.ensures.item.3.0 in
     let first : c.in-Some.first.now ≡ e = c.in-Some.ensures.item.3.1 0 in
@@ -38,7 +38,7 @@ pub returns-in-None : goal.returns-in-None
 returns-in-None g c =
     let L = g.L.LevelCount.LEVELS in
     let words = words_of (g.T.TableMemory.tables c.args.memory.now) (g.P.PageTableFrameMapping.places c.args.mapping.now) in
-    let from = c.args.cursor in
+    let from = c.args.cursor.now in
     let e = get_or from.rest.now 0 0 in
     let some : 0 < length from.rest.now = c.in-Some.ensures.item.3.0 in
     let first : c.in-Some.first.now ≡ e = c.in-Some.ensures.item.3.1 0 in

@@ -15,33 +15,33 @@ use Rattle.x86_64_mappings.proofs.summaries.mappings.+visit_table.Goals.{in-Page
 pub returns-in_default : goal.returns-in_default
 returns-in_default g t c =
     let asked = asked_of g.T.TableMemory.tables g.P.PageTableFrameMapping.places c.args.summaries.now in
-    let none : asked.words c.args.table.frame ≡ None =
-    ap (λ a. (asked_of g.T.TableMemory.tables g.P.PageTableFrameMapping.places a).words c.args.table.frame) (sym c.query-query.ensures)
+    let none : asked.words c.args.table.now.frame ≡ None =
+    ap (λ a. (asked_of g.T.TableMemory.tables g.P.PageTableFrameMapping.places a).words c.args.table.now.frame) (sym c.query-query.ensures)
     ∙ sym c.table.ensures ∙ none_copied c.table.result c.in_default.not-Some in
     subst (g.V.Visitor.Visits c.args.visitor.now c.args.visitor.now)
-    (sym (ap (map (placed c.args.table.start c.args.table.above)) (asked_none asked c.args.table.level c.args.table.frame none)))
+    (sym (ap (map (placed c.args.table.now.start c.args.table.now.above)) (asked_none asked c.args.table.now.level c.args.table.now.frame none)))
     (g.met.V.Visitor.none c.args.visitor.now)
 
-pub returns-then-level-eq1 : goal.returns-then-level-eq1
-returns-then-level-eq1 g t c =
+pub returns-then-table-eq1 : goal.returns-then-table-eq1
+returns-then-table-eq1 g t c =
     let asking_by = asked_of g.T.TableMemory.tables g.P.PageTableFrameMapping.places in
     let asked = asking_by c.args.summaries.now in
     let words = c.as_slice-entries.result.now in
-    let r = c.args.table.above in
-    let there : asked.words c.args.table.frame ≡ Some words =
-    ap (λ a. (asking_by a).words c.args.table.frame) (sym c.query-query.ensures) ∙ sym c.in-Some.ensures ∙ ap Some (sym c.as_slice-entries.ensures.words) in
+    let r = c.args.table.now.above in
+    let there : asked.words c.args.table.now.frame ≡ Some words =
+    ap (λ a. (asking_by a).words c.args.table.now.frame) (sym c.query-query.ensures) ∙ sym c.in-Some.ensures ∙ ap Some (sym c.as_slice-entries.ensures.words) in
     let size : length words ≡ 512 = ap length c.as_slice-entries.ensures.words ∙ c.as_slice-entries.ensures.size in
     subst (λ ms. OnOk c.visit_small_pages.result (g.V.Visitor.Visits c.args.visitor.now c.visit_small_pages.new.visitor ms))
-    (ap (λ a. asked_on (asking_by a) 1 c.args.table.start r words) c.query-query.ensures
-    ∙ ap (λ level. asked_on asked level c.args.table.start r words) (sym c.if-level-eq1.true)
-    ∙ sym (asked_table asked c.args.table.level c.args.table.start r c.args.table.frame words c.requires.low there size))
+    (ap (λ a. asked_on (asking_by a) 1 c.args.table.now.start r words) c.query-query.ensures
+    ∙ ap (λ level. asked_on asked level c.args.table.now.start r words) (sym c.if-table-eq1.true)
+    ∙ sym (asked_table asked c.args.table.now.level c.args.table.now.start r c.args.table.now.frame words c.requires.low there size))
     c.visit_small_pages.ensures
 
 pub visit_table-requires : goal.visit_table-requires
 visit_table-requires g t c =
-    let level = c.args.table.level in
+    let level = c.args.table.now.level in
     let w = span level in
-    let s = c.args.table.start in
+    let s = c.args.table.now.start in
     let i = c.loop-entry.entry-index in
     let low : 1 < level = c.in-Table.ensures.table tt in
     let start : c.loop-entry.start ≡ s + i * w = c.loop-entry.invariant.start in
@@ -54,21 +54,21 @@ visit_table-requires g t c =
 
 pub overflow_add-start : goal.overflow_add-start
 overflow_add-start g t c =
-    let w = span c.args.table.level in
+    let w = span c.args.table.now.level in
     let most : 12 + 9 * g.L.LevelCount.LEVELS ≤ 57 = (let five = g.L.LevelCount.at_most_five in omega (arith, five)) in
     let few : position_count g.L.LevelCount.LEVELS ≤ 2 ^ 57 = pow_mono {j = 57} most in
     let size : length c.as_slice-entries.result.now ≡ 512 = ap length c.as_slice-entries.ensures.words ∙ c.as_slice-entries.ensures.size in
-    let within = start_inside c.args.table.start c.loop-entry.entry-index w (position_count g.L.LevelCount.LEVELS) (omega (arith, c.loop-entry-test.true, size)) c.requires.inside in
+    let within = start_inside c.args.table.now.start c.loop-entry.entry-index w (position_count g.L.LevelCount.LEVELS) (omega (arith, c.loop-entry-test.true, size)) c.requires.inside in
     omega (arith, c.loop-entry.invariant.start, c.span-size.ensures, within, few)
 
 pub loop-entry-preserved : goal.loop-entry-preserved
 loop-entry-preserved g t c =
     let asking_by = asked_of g.T.TableMemory.tables g.P.PageTableFrameMapping.places in
     let asked = asking_by c.args.summaries.now in
-    let level = c.args.table.level in
-    let r = c.args.table.above in
+    let level = c.args.table.now.level in
+    let r = c.args.table.now.above in
     let words = c.as_slice-entries.result.now in
-    let s = c.args.table.start in
+    let s = c.args.table.now.start in
     let i = c.loop-entry.entry-index in
     let e = c.entry-item.result in
     let less : i < length words = c.loop-entry-test.true in
@@ -122,11 +122,11 @@ returns g t c =
     let asking_by = asked_of g.T.TableMemory.tables g.P.PageTableFrameMapping.places in
     let asked = asking_by c.args.summaries.now in
     let words = c.as_slice-entries.result.now in
-    let r = c.args.table.above in
-    let there : asked.words c.args.table.frame ≡ Some words =
-    ap (λ a. (asking_by a).words c.args.table.frame) (sym c.query-query.ensures) ∙ sym c.in-Some.ensures ∙ ap Some (sym c.as_slice-entries.ensures.words) in
+    let r = c.args.table.now.above in
+    let there : asked.words c.args.table.now.frame ≡ Some words =
+    ap (λ a. (asking_by a).words c.args.table.now.frame) (sym c.query-query.ensures) ∙ sym c.in-Some.ensures ∙ ap Some (sym c.as_slice-entries.ensures.words) in
     let size : length words ≡ 512 = ap length c.as_slice-entries.ensures.words ∙ c.as_slice-entries.ensures.size in
     subst (g.V.Visitor.Visits c.args.visitor.now c.loop-entry.visitor)
-    (ap (asked_on asked c.args.table.level c.args.table.start r) (take_all c.loop-entry.entry-index words c.loop-entry-test.false)
-    ∙ sym (asked_table asked c.args.table.level c.args.table.start r c.args.table.frame words c.requires.low there size))
+    (ap (asked_on asked c.args.table.now.level c.args.table.now.start r) (take_all c.loop-entry.entry-index words c.loop-entry-test.false)
+    ∙ sym (asked_table asked c.args.table.now.level c.args.table.now.start r c.args.table.now.frame words c.requires.low there size))
     c.loop-entry.invariant.visited

@@ -5,7 +5,7 @@ use Rattle.x86_64_mappings.specs.private.Targets.{asked_on}
 use Rattle.x86_64_mappings.proofs.summaries.mappings.+visit_table.Given as goal
 
 abbrev pub decreases-visit_table : goal.decreases-visit_table
-decreases-visit_table g l = l.table.level
+decreases-visit_table g l = l.table.now.level
 
 -- the entries so far are visited
 abbrev pub invariant-loop-entry : goal.invariant-loop-entry

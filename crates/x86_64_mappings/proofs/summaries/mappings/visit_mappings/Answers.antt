@@ -10,5 +10,5 @@ returns g c =
     let L = g.L.LevelCount.LEVELS in
     let asked = asked_of g.T.TableMemory.tables g.P.PageTableFrameMapping.places c.args.summaries.now in
     subst (λ ms. OnOk c.visit_table.result (g.V.Visitor.Visits c.args.visitor.now c.visit_table.new.visitor ms))
-    (ap (asked_in asked) c.root.ensures ∙ asked_here asked L c.args.root)
+    (ap (asked_in asked) c.root-table.ensures ∙ asked_here asked L c.args.root)
     c.visit_table.ensures

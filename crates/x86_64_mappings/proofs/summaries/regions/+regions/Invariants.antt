@@ -6,10 +6,10 @@ use Rattle.x86_64_mappings.specs.private.Targets.{asked_on}
 use Rattle.x86_64_mappings.proofs.summaries.regions.+regions.Given as goal
 
 abbrev pub decreases-join_below : goal.decreases-join_below
-decreases-join_below g l = 2 * l.table.level + 1
+decreases-join_below g l = 2 * l.table.now.level + 1
 
 abbrev pub decreases-join_table : goal.decreases-join_table
-decreases-join_table g l = 2 * l.table.level
+decreases-join_table g l = 2 * l.table.now.level
 
 -- the entries so far are joined
 abbrev pub invariant-join_table-loop-entry : goal.invariant-join_table-loop-entry

@@ -15,8 +15,8 @@ returns g c =
     let all = asked_mappings asked L c.args.root in
     let joins : Joins visits L all None c.args.visitor.now c.join_table.new.joiner c.join_table.new.visitor =
     subst₂ (λ ms held. Joins visits L ms held c.args.visitor.now c.join_table.new.joiner c.join_table.new.visitor)
-    (ap (asked_in asked) c.root.ensures ∙ asked_here asked L c.args.root) c.new-joiner.ensures
+    (ap (asked_in asked) c.root-table.ensures ∙ asked_here asked L c.args.root) c.new-joiner.ensures
     c.in_ok-join_table.ensures in
     on_ok_weaker c.visit_joined.result
-    (λ visited. joins_last visits L g.met.V.Visitor.both all _ _ _ _ joins (subst (λ held. visits _ _ (listed held)) c.finish.ensures.given visited))
+    (λ visited. joins_last visits L g.met.V.Visitor.both all _ _ _ _ joins (subst (λ held. visits c.join_table.new.visitor c.visit_joined.new.visitor (listed held)) c.finish.ensures.given visited))
     c.visit_joined.ensures
