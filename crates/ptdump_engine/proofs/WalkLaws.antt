@@ -14,12 +14,13 @@ use Rattle.x86_64_model.proofs.Lemmas.Mappings.Walked.{walk_finds}
 use Rattle.ptdump_engine.specs.Laws.{WrittenWalksArrive}
 use Rattle.ptdump_engine.specs.Walks.{End, Walk, arrives_at, not_present, huge_page, no_table, after, behind, ends, arrival_with, arrival_of, walk_from, walk_of, walk_rights}
 use Rattle.ptdump_engine.specs.declared.word_read.WordRead.{WordRead}
-use Rattle.ptdump_engine.specs.private.WalkLines.{both_rights, is_arrival}
+use Rattle.x86_64_tables.specs.Rights.{both}
+use Rattle.ptdump_engine.specs.private.WalkLines.{is_arrival}
 use Rattle.ptdump_engine.proofs.WalkLines.{narrowed_first, rights_kept, word_read}
 
 -- the arrival of a walk, below words that allow these rights
 abbrev arrival_below : Rights → Walk → Option Walked
-arrival_below r walk = arrival_with (both_rights r (walk_rights walk)) walk.end
+arrival_below r walk = arrival_with (both r (walk_rights walk)) walk.end
 
 -- reading a word only narrows the rights
 arrival-after : (r : Rights) (w : WordRead) (walk : Walk) → arrival_below r (after w walk) ≡ arrival_below (narrowed r w.word) walk

@@ -10,7 +10,8 @@ use Rattle.x86_64_model.specs.Position.{index}
 use Rattle.x86_64_model.specs.private.Found.{every_right, narrowed}
 use Rattle.ptdump_engine.specs.Walks.{Walk, End, no_table, after, behind, ends, end_text, line, walk_from, walk_rights, walk_text, word_text}
 use Rattle.ptdump_engine.specs.declared.word_read.WordRead.{WordRead}
-use Rattle.ptdump_engine.specs.private.WalkLines.{both_rights, lines_below}
+use Rattle.x86_64_tables.specs.Rights.{both}
+use Rattle.ptdump_engine.specs.private.WalkLines.{lines_below}
 
 -- the word at the index for a position in a table of a level
 abbrev pub word_read : (p level frame word : ℕ) → WordRead
@@ -19,7 +20,7 @@ word_read p level f e = record { level = level; table = f; index = index level p
 -- ---- rights
 
 -- the rights of words below another word
-pub narrowed_first : (r : Rights) (w : WordRead) (walk : Walk) → both_rights r (walk_rights (after w walk)) ≡ both_rights (narrowed r w.word) (walk_rights walk)
+pub narrowed_first : (r : Rights) (w : WordRead) (walk : Walk) → both r (walk_rights (after w walk)) ≡ both (narrowed r w.word) (walk_rights walk)
 narrowed_first r w walk = let below = walk_rights walk in λ i. record {
   write = sym (and_assoc r.write (writable w.word) below.write) i;
   user = sym (and_assoc r.user (user w.word) below.user) i;
@@ -27,7 +28,7 @@ narrowed_first r w walk = let below = walk_rights walk in λ i. record {
 }
 
 -- a walk without words keeps the rights
-pub rights_kept : (r : Rights) (end : End) → both_rights r (walk_rights (ends end)) ≡ r
+pub rights_kept : (r : Rights) (end : End) → both r (walk_rights (ends end)) ≡ r
 rights_kept r end = λ i. record { write = and-true r.write i; user = and-true r.user i; execute = and-true r.execute i }
 
 -- ---- lines
@@ -36,7 +37,7 @@ pub lines-after : (r : Rights) (w : WordRead) (walk : Walk) → lines_below r (a
 unfolding lines_below
 lines-after r w walk =
     let lines = flat_map (λ v. line (word_text v)) walk.words in
-    append_assoc (line (word_text w)) lines (line (end_text (both_rights r (walk_rights (after w walk))) walk.end))
+    append_assoc (line (word_text w)) lines (line (end_text (both r (walk_rights (after w walk))) walk.end))
     ∙ ap (λ s. line (word_text w) ++ (lines ++ line (end_text s walk.end))) (narrowed_first r w walk)
 
 pub lines-ends : (r : Rights) (end : End) → lines_below r (ends end) ≡ line (end_text r end)

@@ -15,6 +15,7 @@ pub mod Links
 pub mod private
 pub use Rattle.x86_64_dump.specs.Opening
 pub use Rattle.x86_64_mappings.specs.Texts
+pub use Rattle.x86_64_tables.specs.Rights
 pub use Rattle.x86_64_mappings.specs.Wanted
 pub use Rattle.x86_64_model.specs.Mappings
 pub use Rattle.x86_64_model.specs.PageWalk

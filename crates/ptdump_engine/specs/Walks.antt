@@ -10,7 +10,7 @@ use Rattle.x86_64_model.specs.Mappings.{Rights, maps_page, rights_of}
 use Rattle.x86_64_model.specs.Memory.{Words}
 use Rattle.x86_64_model.specs.PageWalk.{Walked, arrives, page_start, read}
 use Rattle.x86_64_model.specs.Position.{index, span}
-use Rattle.x86_64_mappings.specs.Texts.{rights_text}
+use Rattle.x86_64_tables.specs.Rights.{rights_text}
 use Rattle.ptdump_engine.specs.declared.word_read.WordRead.{WordRead}
 
 -- the end of a walk: it arrives at a physical address, a word lacks PRESENT, a table is missing, or a word has HUGE_PAGE at a
@@ -78,7 +78,7 @@ missing_text frame = codes "table " ++ hexadecimal frame ++ codes " is not in th
 
 -- the text "0xADDRESS RIGHTS"
 abbrev pub access_text : (address : ℕ) → Rights → List ℕ
-access_text address rights = hexadecimal address ++ codes " " ++ rights_text rights.write rights.user rights.execute
+access_text address rights = hexadecimal address ++ codes " " ++ rights_text rights
 
 -- the address at which the walk arrives, or why it doesn't arrive
 abbrev pub end_text : Rights → End → List ℕ

@@ -2,8 +2,8 @@
 ghost use Rattle.std.specs.Prelude.{Some};
 
 use std::fmt::{Display, Formatter, Result as FmtResult, Write};
-use x86_64_mappings::text::{write_hexadecimal, write_rights};
-use x86_64_tables::phys_memory::Rights;
+use x86_64_mappings::text::write_hexadecimal;
+use x86_64_tables::page_table::Rights;
 
 /// An address with the rights that are allowed there.
 #[derive(Clone, Copy)]
@@ -15,14 +15,13 @@ pub struct Access {
 }
 
 impl Display for Access {
-    ghost use Rattle.x86_64_mappings.specs.Views.{seen_rights};
     ghost use Rattle.ptdump_engine.specs.Walks.{access_text};
 
-    ghost output = { λ access. Some (access_text access.address (seen_rights access.rights)) };
+    ghost output = { λ access. Some (access_text access.address access.rights) };
 
     fn fmt<W: Write>(&self, f: &mut Formatter<W>) -> FmtResult {
         write_hexadecimal(f, self.address)?;
-        f.write_str(" ")?;
-        write_rights(f, self.rights.write, self.rights.user, self.rights.execute)
+        let rights = self.rights;
+        write!(f, " {rights}")
     }
 }

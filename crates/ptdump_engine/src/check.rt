@@ -22,9 +22,9 @@ impl Flaw {
     /// Returns true if a region has the flaw.
     fn is_in<L: LevelCount>(self, region: &RegionIn<L>) -> bool {
         match self {
-            Flaw::WritableAndExecutable => region.write && region.execute,
+            Flaw::WritableAndExecutable => region.rights.write && region.rights.execute,
             Flaw::UserInUpperHalf => {
-                region.user && region.first.position() >= L::POSITION_COUNT / 2
+                region.rights.user && region.first.position() >= L::POSITION_COUNT / 2
             }
         }
     }

@@ -1,6 +1,5 @@
 //! The search for a physical address.
 ghost use Rattle.std.specs.Prelude.{◌≡◌, ◌++◌, ℕ, List, [], false, OnOk};
-ghost use Rattle.x86_64_mappings.specs.Views.{seen_rights};
 ghost use Rattle.ptdump_engine.specs.Walks.{line, access_text};
 
 use crate::access::Access;
@@ -9,7 +8,6 @@ use std::io::Write;
 use x86_64_addr::addr::{PhysAddr, VirtAddrIn};
 use x86_64_addr::level_count::LevelCount;
 use x86_64_mappings::{MappingIn, Visitor};
-use x86_64_tables::phys_memory::Rights;
 
 /// A destination for lines that describe the rights at addresses.
 pub trait AccessLines {
@@ -24,7 +22,7 @@ pub trait AccessLines {
     /// Puts a line in.
     fn write_access(&mut self, access: Access) -> Result<(), OutputError>
         ensures { OnOk result (puts self.old self.new
-            (line (access_text access.address (seen_rights access.rights)))) };
+            (line (access_text access.address access.rights))) };
 }
 
 impl<W: Write> AccessLines for Output<'_, W> {
@@ -96,14 +94,9 @@ impl<L: LevelCount, O: AccessLines> Visitor<MappingIn<L>> for Finder<'_, O> {
         let start = mapping.frame.start_address().as_u64();
         let offset = self.physical.as_u64().saturating_sub(start);
         let address = VirtAddrIn::<L>::new_truncate(mapping.start.position() + offset);
-        let rights = Rights {
-            write: mapping.write,
-            user: mapping.user,
-            execute: mapping.execute,
-        };
         let access = Access {
             address: address.as_u64(),
-            rights,
+            rights: mapping.rights,
         };
         self.is_found = true;
         self.output.write_access(access)

@@ -1,7 +1,6 @@
 //! The walks to addresses.
 ghost use Rattle.std.specs.Prelude.{◌≡◌, ◌≤◌, ◌+◌, ◌%◌, true, OnOk, IfOk};
 ghost use Rattle.x86_64_dump.specs.Loaded.{words_in};
-ghost use Rattle.x86_64_mappings.specs.Views.{seen_rights};
 ghost use Rattle.x86_64_model.specs.Mappings.{Rights as Allowed, maps_page as page_mapped};
 ghost use Rattle.x86_64_model.specs.Memory.{words_of, identity_places};
 ghost use Rattle.x86_64_model.specs.PageWalk.{page_start};
@@ -18,13 +17,11 @@ use crate::word_read::{MissingTable, WordRead};
 use std::io::Write;
 use x86_64_addr::addr::VirtAddrIn;
 use x86_64_addr::level_count::LevelCount;
-use x86_64_mappings::{maps_page, span};
+use x86_64_mappings::span;
 use x86_64_page::frame::PhysFrame;
 use x86_64_page::page::Size4KiB;
-use x86_64_tables::page_table::{PageTableEntry, PageTableFlags};
-use x86_64_tables::phys_memory::{
-    IdentityMapping, PhysMemory, Rights, has_flag, index_of, table_in,
-};
+use x86_64_tables::page_table::{PageTableEntry, PageTableFlags, Rights, has_flag};
+use x86_64_tables::phys_memory::{IdentityMapping, PhysMemory, index_of, table_in};
 
 /// Writes the walk to an address, with a line for each word that it reads and one for its end, and returns true if it arrives.
 ///
@@ -66,7 +63,7 @@ fn walk_on<W: Write>(
 ) -> Result<bool, OutputError>
     requires low { 1 ≤ level }
     requires high { level ≤ 5 }
-    ensures text { OnOk result (Puts W.contents output.old output.new (lines_below (seen_rights above)
+    ensures text { OnOk result (Puts W.contents output.old output.new (lines_below above
         (walks.walk_from (words_of memory.now identity_places) position level frame))) }
     ensures arrives { IfOk result (λ arrives. arrives
         ≡ is_arrival (walks.walk_from (words_of memory.now identity_places) position level frame).end) }
@@ -89,7 +86,7 @@ fn walk_on<W: Write>(
         writeln!(output, "not present")?;
         return Ok(false);
     }
-    if maps_page(level, entry) {
+    if entry.maps_page(level) {
         write_arrival(position, level, entry, rights, output)?;
         return Ok(true);
     }
@@ -138,7 +135,7 @@ fn write_arrival<W: Write>(
     requires low { 1 ≤ level }
     requires page { page_mapped level entry.now ≡ true }
     ensures { OnOk result (Puts W.contents output.old output.new (walks.line (
-        walks.access_text (page_start level entry.now + position % span_of level) (seen_rights rights)))) }
+        walks.access_text (page_start level entry.now + position % span_of level) rights))) }
 {
     let size = span(level);
     let address = entry.addr().as_u64() / size * size + position % size;

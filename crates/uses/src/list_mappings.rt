@@ -27,7 +27,7 @@ pub fn writable_code<T: TableMemory>(memory: &T, root: PhysFrame<Size4KiB>) -> O
         result ≡ find (λ region. region.rights.write && region.rights.execute) (regions_of 4 words root) }
 {
     for region in regions(memory, &IdentityMapping, root) {
-        if region.write && region.execute {
+        if region.rights.write && region.rights.execute {
             return Some(region);
         }
     }

@@ -95,6 +95,7 @@ pub use x86_64_tables::mapper::Tables;
 pub use x86_64_tables::mapper::TablesIn;
 pub use x86_64_tables::mapper::page_after;
 pub use x86_64_tables::mapper::parent_flags;
+pub use x86_64_tables::page_table::Rights;
 pub use x86_64_tables::phys_memory::Active;
 pub use x86_64_tables::phys_memory::ActiveMemory;
 pub use x86_64_tables::phys_memory::ActiveMemory57;

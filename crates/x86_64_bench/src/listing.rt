@@ -34,9 +34,9 @@ pub fn list_all<L: LevelCount, T: TableMemory>(
 
 /// Returns the sum of the contents of a mapping.
 fn sum_of<L: LevelCount>(mapping: &MappingIn<L>) -> u64 {
-    let rights = u64::from(mapping.write)
-        + 2 * u64::from(mapping.user)
-        + 4 * u64::from(mapping.execute);
+    let rights = u64::from(mapping.rights.write)
+        + 2 * u64::from(mapping.rights.user)
+        + 4 * u64::from(mapping.rights.execute);
     let frame = mapping.frame.start_address().as_u64();
     mapping
         .start

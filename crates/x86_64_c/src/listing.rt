@@ -43,9 +43,9 @@ impl Mapping {
             size: mapping.size(),
             frame: mapping.frame.start_address().as_u64(),
             flags: mapping.flags.bits(),
-            write: mapping.write,
-            user: mapping.user,
-            execute: mapping.execute,
+            write: mapping.rights.write,
+            user: mapping.rights.user,
+            execute: mapping.rights.execute,
         }
     }
 }

@@ -1,13 +1,16 @@
 -- Regions that are joined as they arrive are those that the mappings form. Mappings without a gap and with equal rights are
 -- joined at once.
-use Rattle.std.proofs.Common.{◌≡◌, ◌≢◌, ◌⊎◌, inl, inr, ⊎_elim, ◌<◌, ◌≤◌, ◌+◌, ◌-◌, ◌==◌, ℕ, Bool, true, false, not, cond, List, [], ◌∷◌, ◌++◌, filter, Option, Some, None, refl, sym, ap, ◌∙◌, subst, subst₂, arith, append-nil, append_assoc}
+use Rattle.std.proofs.Common.{◌≡◌, ◌≢◌, ◌⊎◌, inl, inr, ⊎_elim, ◌<◌, ◌≤◌, ◌+◌, ◌-◌, ◌==◌, ℕ, Bool, true, false, not, cond, List, [], ◌∷◌, ◌++◌, filter, Option, Some, None, MatchOption, refl, sym, ap, ap₂, ◌∙◌, subst, subst₂, arith, append-nil, append_assoc}
+use Rattle.std.specs.Prelude.{⊤}
+use Rattle.std.specs.Iterator.{MakesProgress, item_count}
 use Rattle.std.proofs.lemmas.Bool.{and_from, eq-eqb, eqb-true}
 use Rattle.x86_64_model.specs.Position.{lower_half}
 use Rattle.x86_64_model.specs.Mappings.{Mapping, Rights}
 use Rattle.x86_64_model.specs.Regions.{Region, region_of, same_rights, follows, grown_to, regions_in}
 use Rattle.x86_64_model.proofs.Lemmas.Mappings.Regions.{begun, from_follows, same_rights_itself, regions_are_begun}
+use Rattle.x86_64_page.proofs.Blocks.{goes_first}
 use Rattle.x86_64_mappings.specs.private.Extents.{AreWhole}
-use Rattle.x86_64_mappings.specs.private.Joined.{region_between, held_with, given_with, held_after, given_after, listed, JoinsRegion, Joins}
+use Rattle.x86_64_mappings.specs.private.Joined.{region_between, held_with, given_with, held_after, given_after, listed, regions_from, JoinsRegion, Joins}
 
 -- ---- mappings, in two parts
 
@@ -25,7 +28,7 @@ given_after-append L held (m ∷ ms) ns = let next = Some (held_with L held (reg
 
 -- ---- all regions
 
-begun_joined : (L : ℕ) (r : Region) (ms : List Mapping) → begun L r ms ≡ given_after L (Some r) ms ++ listed (held_after L (Some r) ms)
+begun_joined : (L : ℕ) (r : Region) (ms : List Mapping) → begun L r ms ≡ regions_from L (Some r) ms
 unfolding begun held_after given_after
 begun_joined L r [] = refl
 begun_joined L r (m ∷ ms) = let s = region_of m in
@@ -35,10 +38,37 @@ begun_joined L r (m ∷ ms) = let s = region_of m in
       | false ↦ ap (λ rs. r ∷ rs) (begun_joined L s ms)
     ]
 
-regions_joined : (L : ℕ) (ms : List Mapping) → regions_in L ms ≡ given_after L None ms ++ listed (held_after L None ms)
+pub regions_joined : (L : ℕ) (ms : List Mapping) → regions_in L ms ≡ regions_from L None ms
 unfolding regions_in held_after given_after
 regions_joined L [] = refl
 regions_joined L (m ∷ ms) = regions_are_begun L m ms ∙ begun_joined L (region_of m) ms
+
+-- one mapping less
+pub one_arrives : (L : ℕ) (held : Option Region) (left ms : List Mapping) (m : Mapping) (s : Region) (given next : Option Region) → left ≡ m ∷ ms → s ≡ region_of m
+    → listed given ≡ given_with L held s → next ≡ Some (held_with L held s) → regions_from L held left ≡ listed given ++ regions_from L next ms
+unfolding held_after given_after
+one_arrives L held left ms m s given next first is gives holds =
+    let after = Some (held_with L held (region_of m)) in
+    ap (regions_from L held) first
+    ∙ append_assoc (given_with L held (region_of m)) (given_after L after ms) (listed (held_after L after ms))
+    ∙ ap₂ (λ g h. g ++ regions_from L h ms) (sym (gives ∙ ap (given_with L held) is)) (sym (holds ∙ ap (λ s. Some (held_with L held s)) is))
+
+all_arrived : (L : ℕ) (held : Option Region) (left : List Mapping) → left ≡ [] → regions_from L held left ≡ listed held
+unfolding held_after given_after
+all_arrived L held left none = ap (regions_from L held) none
+
+-- the region that is held back comes last
+pub last_arrives : (L : ℕ) (now : List Region) (held next : Option Region) (left behind : List Mapping) (result : Option Region) → now ≡ regions_from L held left
+    → left ≡ [] → behind ≡ [] → result ≡ held → next ≡ None → MatchOption result ((now ≡ []) × (regions_from L next behind ≡ [])) (λ r. now ≡ r ∷ regions_from L next behind)
+last_arrives L now held next left behind None is none gone same taken =
+    (is ∙ all_arrived L held left none ∙ ap listed (sym same), all_arrived L next behind gone ∙ ap listed taken)
+last_arrives L now held next left behind (Some r) is none gone same taken =
+    is ∙ all_arrived L held left none ∙ ap listed (sym same) ∙ ap (λ rest. r ∷ rest) (sym (all_arrived L next behind gone ∙ ap listed taken))
+
+pub goes_by : (before after : List Region) (result : Option Region) → MatchOption result ((before ≡ []) × (after ≡ [])) (λ r. before ≡ r ∷ after)
+    → MakesProgress (λ _. ⊤) (item_count (λ rs. rs)) before result after
+goes_by before after None yields = record { on = λ _. tt; keeps = tt; rests = λ _. tt }
+goes_by before after (Some r) yields = goes_first (λ rs. rs) before after r r yields
 
 -- ---- mappings without a gap
 
@@ -118,6 +148,10 @@ module _ {V : Type 0} (visits : V → V → List Region → Type 0) (L : ℕ) wh
         given = subst (visits u w) (ap (λ h. given_after L a ms ++ given_after L h ns) middle ∙ sym (given_after-append L a ms ns)) (both u v w (given_after L a ms) (given_after L b ns) front.given back.given);
         held = back.held ∙ ap (λ h. held_after L h ns) middle ∙ sym (held_after-append L a ms ns);
       }
+
+  -- a region arrives, and what is handed out is visited
+  pub joins_region : (s : Region) (a given b : Option Region) (u v : V) → listed given ≡ given_with L a s → b ≡ Some (held_with L a s) → visits u v (listed given) → JoinsRegion visits L s a u b v
+  joins_region s a given b u v is held visited = record { given = subst (visits u v) is visited; held = held }
 
   -- the region of a mapping arrives, if the mapping is wanted
   pub joins_wanted : (p : Mapping → Bool) (m : Mapping) (s : Region) → s ≡ region_of m → p m ≡ true

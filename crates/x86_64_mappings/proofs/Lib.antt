@@ -1,4 +1,3 @@
-pub mod Ahead
 mod Entries
 mod Steps
 mod Pages
@@ -6,7 +5,7 @@ pub mod Placed
 pub mod Tables
 pub mod Visited
 mod Summed
-mod Joined
+pub mod Joined
 mod Whole
 mod Spans
 mod Levels

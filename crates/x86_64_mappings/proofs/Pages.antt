@@ -1,11 +1,11 @@
 -- The mapping by an entry, part by part.
-use Rattle.std.proofs.Common.{not, ◌≡◌, ◌≢◌, ◌<◌, ◌-◌, ◌*◌, ◌/◌, ◌%◌, ◌==◌, ◌&&◌, ◌||◌, ℕ, Bool, true, false, sym, ap, ◌∙◌, arith, eqb-true, ne_eqb}
+use Rattle.std.proofs.Common.{◌≡◌, ◌≢◌, ◌<◌, ◌-◌, ◌*◌, ◌/◌, ◌%◌, ◌==◌, ◌&&◌, ◌||◌, ℕ, Bool, true, false, sym, ap, ◌∙◌, arith, eqb-true, ne_eqb}
 use Rattle.std.proofs.Math.Nat.{div-add-mod, div-mul-le_self, mod-eq_of_lt, mul_comm}
-use Rattle.x86_64_model.specs.Entry.{huge, address, writable, user, no_execute, flags}
+use Rattle.x86_64_model.specs.Entry.{huge, address, flags}
 use Rattle.x86_64_model.specs.PageWalk.{page_start}
 use Rattle.x86_64_model.specs.Position.{span, position_count}
 use Rattle.x86_64_model.specs.Mappings.{Rights, maps_page}
-use Rattle.x86_64_model.specs.private.Found.{page_at}
+use Rattle.x86_64_model.specs.private.Found.{narrowed, page_at}
 use Rattle.x86_64_tables.specs.PageTableFlags.{bits_of}
 use Rattle.x86_64_tables.specs.Translations.{frame_start, frame_size}
 use Rattle.x86_64_tables.specs.declared.mapper.MappedFrame.{MappedFrame}
@@ -29,12 +29,11 @@ sized level n size start e is_level is_size is =
     let same : size ≡ span level = is_size ∙ ap span (sym is_level) in
     (same, is ∙ (let all = div-add-mod (address e) size in let turn = mul_comm size (address e / size) in let e : address e - address e % size ≡ address e / size * size = omega (arith, all, turn) in e) ∙ ap (λ s. address e / s * s) same)
 
-module _ (L level position e : ℕ) (r : Rights) (start : ℕ) (frame : MappedFrame) (given : PageTableFlags) (w u x : Bool) where
+module _ (L level position e : ℕ) (r : Rights) (start : ℕ) (frame : MappedFrame) (given : PageTableFlags) (rights : Rights) where
   pub page_made : position < position_count L → start ≡ (position / frame_size frame * frame_size frame) % position_count L
       → frame_size frame ≡ span level → frame_start frame ≡ page_start level e → bits_of given ≡ flags e
-      → w ≡ (r.write && writable e) → u ≡ (r.user && user e) → x ≡ (r.execute && not (no_execute e))
-      → mapping_to start frame given w u x ≡ page_at position level r e
-  page_made inside at size from bits write may_user execute =
+      → rights ≡ narrowed r e → mapping_to start frame given rights ≡ page_at position level r e
+  page_made inside at size from bits allowed =
       let down = div-mul-le_self position (frame_size frame) in
       let start_is : start ≡ position / span level * span level = at ∙ mod-eq_of_lt (omega (arith, down, inside)) ∙ ap (λ s. position / s * s) size in
       λ i. record {
@@ -42,5 +41,5 @@ module _ (L level position e : ℕ) (r : Rights) (start : ℕ) (frame : MappedFr
         size = size i;
         frame = from i;
         flags = bits i;
-        rights = record { write = write i; user = may_user i; execute = execute i };
+        rights = allowed i;
       }

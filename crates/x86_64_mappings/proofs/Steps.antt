@@ -11,9 +11,10 @@ use Rattle.x86_64_model.specs.Mappings.{Rights, Mapping, maps_page}
 use Rattle.x86_64_model.specs.private.Found.{every_right, narrowed, page_at, found_on, found}
 use Rattle.x86_64_model.proofs.Lemmas.Mappings.Found.{leads_first, found_unread}
 use Rattle.x86_64_model.proofs.Lemmas.Mappings.Listing.{from_found, from_past, from_last}
-use Rattle.x86_64_mappings.specs.private.Cursors.{found_by, IsOn, IsCursor, IsStep, listed_from, small_page_first, is_there, way_left}
+use Rattle.x86_64_mappings.specs.private.Cursors.{found_by, IsOn, IsCursor, IsStep, listed_from, small_page_first, is_there, way_left, table_by}
+use Rattle.x86_64_tables.specs.EntryTargets.{target_of}
+use Rattle.x86_64_tables.specs.declared.page_table.target.EntryTarget.TheVariants.{Nothing, Page, Table}
 use Rattle.x86_64_mappings.specs.declared.listing.cursor.Cursor.{Cursor}
-use Rattle.x86_64_mappings.specs.Views.{seen_rights}
 use Rattle.x86_64_mappings.proofs.Entries.{index_below, on_table, next_inside, next_before, within, on_past, none_before, first_found, leads_below}
 
 -- ---- the bound on the steps to the end
@@ -75,20 +76,19 @@ no_table T x zero r f none = refl
 no_table T x (suc n) r f none = found_unread T x n r f (ap (option_map (λ words. get_or words (index (suc n) x) 0)) none)
 
 -- an entry that maps no page, and leads to no table
-pub unmapped_says : (T : Words) (x level : ℕ) (r : Rights) (e : ℕ) → (present e && maps_page level e) ≡ false → cond ((level == 1) || huge e) None (T (address e)) ≡ None
+pub unmapped_says : (T : Words) (x level : ℕ) (r : Rights) (e : ℕ) → (present e && maps_page level e) ≡ false → table_by T (target_of level e) ≡ None
     → found_by T x level r e ≡ None
-unmapped_says T x level r e no_page none = by (present e) (level == 1) (huge e) ((level == 2) || (level == 3)) no_page none
+unmapped_says T x level r e no_page none = by (present e) (maps_page level e) (huge e) no_page none
   where
     below : Option Mapping
     below = found_on T x (level - 1) (narrowed r e) (address e)
 
-    by : (p one h few : Bool) → (p && (one || (h && few))) ≡ false → cond (one || h) None (T (address e)) ≡ None
-        → cond p (cond (one || (h && few)) (Some (page_at x level r e)) (cond h None below)) None ≡ None
-    by false one h few page none = refl
-    by true true h few page none = absurd (let t : true ≡ false = page in cc)
-    by true false true true page none = absurd (let t : true ≡ false = page in cc)
-    by true false true false page none = refl
-    by true false false few page none = no_table T x (level - 1) (narrowed r e) (address e) none
+    by : (p m h : Bool) → (p && m) ≡ false → table_by T (cond p (cond m Page (cond h Nothing (Table (address e)))) Nothing) ≡ None
+        → cond p (cond m (Some (page_at x level r e)) (cond h None below)) None ≡ None
+    by false m h page none = refl
+    by true true h page none = absurd (let t : true ≡ false = page in cc)
+    by true false true page none = refl
+    by true false false page none = no_table T x (level - 1) (narrowed r e) (address e) none
 
 -- an entry that maps a page
 page_says : (T : Words) (x level : ℕ) (r : Rights) (e : ℕ) → (present e && maps_page level e) ≡ true → found_by T x level r e ≡ Some (page_at x level r e)
@@ -128,7 +128,7 @@ module _ (L : ℕ) (T : Words) (root next level : ℕ) (r : Rights) (rest : List
       → listed_from L T root next ≡ listed_from L T root (next / span level * span level + k * span level)
   past_absent k some few absent = same_past k some few (λ i x less. absent_says T x level r (get_or rest i 0) (absent i less))
 
-  pub past_unmapped : 0 < length rest → (let e = get_or rest 0 0 in (present e && maps_page level e) ≡ false → cond ((level == 1) || huge e) None (T (address e)) ≡ None
+  pub past_unmapped : 0 < length rest → (let e = get_or rest 0 0 in (present e && maps_page level e) ≡ false → table_by T (target_of level e) ≡ None
       → listed_from L T root next ≡ listed_from L T root (next / span level * span level + 1 * span level))
   past_unmapped some no_page none = same_past 1 (omega arith) (omega (arith, some))
       (λ i x less. let first : 0 ≡ i = omega (arith, less) in subst (λ i. found_by T x level r (get_or rest i 0) ≡ None) first (unmapped_says T x level r (get_or rest 0 0) no_page none))
@@ -142,31 +142,28 @@ module _ (L : ℕ) (T : Words) (root next level : ℕ) (r : Rights) (rest : List
       ∙ ap (λ z. page_at next level r e ∷ listed_from L T root z) (let e : next / span level * span level + span level ≡ next / span level * span level + 1 * span level = omega arith in e)
 
   -- the table below the first entry
-  pub on_below : (table : List ℕ) → 0 < length rest → (let e = get_or rest 0 0 in present e ≡ true → (present e && maps_page level e) ≡ false
-      → cond ((level == 1) || huge e) None (T (address e)) ≡ Some table → length table ≡ 512
+  pub on_below : (table : List ℕ) → 0 < length rest → (let e = get_or rest 0 0 in table_by T (target_of level e) ≡ Some table → length table ≡ 512
       → (1 ≤ level - 1) × IsOn L T root next (level - 1) (narrowed r e) (drop (index (level - 1) next) table))
-  on_below table some there no_page is size =
+  on_below table some is size =
       let e = get_or rest 0 0 in
-      let parts = split ((level == 1)) (huge e) (T (address e)) is in
-      let above : 1 ≤ level - 1 = not_one level on.low parts.0 in (
+      let parts = split e (present e) (maps_page level e) (huge e) is in
+      let above : 1 ≤ level - 1 = not_one level e on.low parts.1 in (
         above,
         on_table L T root next (level - 1) (narrowed r e) (address e) table above (let high = on.high in omega (arith, high)) (next_inside L T root next level r rest on some)
-            (leads_below L T root next level r rest on some there (maps_none (present e) (maps_page level e) there no_page) parts.1) parts.2 size,
+            (leads_below L T root next level r rest on some parts.0 parts.1 parts.2) parts.3 size,
       )
     where
-      split : (one h : Bool) (o : Option (List ℕ)) → cond (one || h) None o ≡ Some table → (one ≡ false) × (h ≡ false) × (o ≡ Some table)
-      split true h o is = absurd (let t : None ≡ Some table = is in cc)
-      split false true o is = absurd (let t : None ≡ Some table = is in cc)
-      split false false o is = (refl, refl, is)
+      split : (e : ℕ) (p m h : Bool) → table_by T (cond p (cond m Page (cond h Nothing (Table (address e)))) Nothing) ≡ Some table
+          → (p ≡ true) × (m ≡ false) × (h ≡ false) × (T (address e) ≡ Some table)
+      split e false m h is = absurd (let t : None ≡ Some table = is in cc)
+      split e true true h is = absurd (let t : None ≡ Some table = is in cc)
+      split e true false true is = absurd (let t : None ≡ Some table = is in cc)
+      split e true false false is = (refl, refl, refl, is)
 
-      not_one : (n : ℕ) → 1 ≤ n → (n == 1) ≡ false → 1 ≤ n - 1
-      not_one zero low e = absurd (omega arith)
-      not_one (suc zero) low e = absurd (let t : true ≡ false = e in cc)
-      not_one (suc (suc n)) low e = omega arith
-
-      maps_none : (p m : Bool) → p ≡ true → (p && m) ≡ false → m ≡ false
-      maps_none true m p is = is
-      maps_none false m p is = absurd (let t : false ≡ true = p in cc)
+      not_one : (n e : ℕ) → 1 ≤ n → maps_page n e ≡ false → 1 ≤ n - 1
+      not_one zero e low no_page = absurd (omega arith)
+      not_one (suc zero) e low no_page = absurd (let t : true ≡ false = no_page in cc)
+      not_one (suc (suc n)) e low no_page = omega arith
 
 -- ---- steps of cursors
 
@@ -176,7 +173,7 @@ module _ (L : ℕ) (T : Words) (root : ℕ) (from to : Cursor) (high : L ≤ 5) 
       → to.next ≡ from.next / span from.level * span from.level + k * span from.level → to.level ≡ from.level → to.rights ≡ from.rights → to.rest.now ≡ drop k from.rest.now
       → listed_from L T root from.next ≡ listed_from L T root (from.next / span from.level * span from.level + k * span from.level) → IsStep L T root from to
   past_step k some few next level rights rest same =
-      let r = seen_rights from.rights in
+      let r = from.rights in
       let before = next_before L T root from.next from.level r from.rest.now on k some in
       let inside = within L T root from.next from.level r from.rest.now on k few in
       let low = on.low in
@@ -189,8 +186,8 @@ module _ (L : ℕ) (T : Words) (root : ℕ) (from to : Cursor) (high : L ≤ 5) 
 
   -- down to the table below the first entry
   pub below_step : (table : List ℕ) → length table ≡ 512 → 0 < length from.rest.now → 1 ≤ from.level - 1
-      → (let e = get_or from.rest.now 0 0 in IsOn L T root from.next (from.level - 1) (narrowed (seen_rights from.rights) e) (drop (index (from.level - 1) from.next) table)
-      → to.next ≡ from.next → to.level ≡ from.level - 1 → seen_rights to.rights ≡ narrowed (seen_rights from.rights) e → to.rest.now ≡ drop (index (from.level - 1) from.next) table
+      → (let e = get_or from.rest.now 0 0 in IsOn L T root from.next (from.level - 1) (narrowed from.rights e) (drop (index (from.level - 1) from.next) table)
+      → to.next ≡ from.next → to.level ≡ from.level - 1 → to.rights ≡ narrowed from.rights e → to.rest.now ≡ drop (index (from.level - 1) from.next) table
       → IsStep L T root from to)
   below_step table size some above below next level rights rest =
       let old = way_some L from.next from.level from.rest.now some in

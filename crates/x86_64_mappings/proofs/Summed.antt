@@ -6,16 +6,16 @@ use Rattle.std.proofs.lemmas.Bool.{cond-false, true≢false}
 use Rattle.std.proofs.lemmas.List.Sums.{sum_by-append, sum_by-cons}
 use Rattle.std.proofs.lemmas.List.{length-map}
 use Rattle.std.proofs.lemmas.List.Folds.{list_any-append, list_all-append}
-use Rattle.x86_64_tables.specs.declared.phys_memory.walk.Rights.{Rights as Allowed}
 use Rattle.x86_64_model.specs.Mappings.{Rights, Mapping}
-use Rattle.x86_64_mappings.specs.Views.{seen_rights}
 use Rattle.x86_64_mappings.specs.declared.summaries.summary.Summary.{Summary}
 use Rattle.x86_64_mappings.specs.Summaries.{summary_of}
 use Rattle.x86_64_mappings.specs.Wanted.{Asked, is_wanted, asked_mappings}
-use Rattle.x86_64_mappings.specs.declared.summaries.entries.Target.TheVariants.{Table}
+use Rattle.x86_64_tables.specs.declared.page_table.target.EntryTarget.TheVariants.{Table}
 use Rattle.x86_64_mappings.specs.private.Placed.{placed}
-use Rattle.x86_64_mappings.specs.private.Targets.{target_of, asked_by, asked_on}
-use Rattle.x86_64_mappings.specs.private.Merged.{both, joined, lessened}
+use Rattle.x86_64_tables.specs.EntryTargets.{target_of}
+use Rattle.x86_64_mappings.specs.private.Targets.{asked_by, asked_on}
+use Rattle.x86_64_tables.specs.Rights.{both}
+use Rattle.x86_64_mappings.specs.private.Merged.{joined, lessened}
 use Rattle.x86_64_model.specs.Position.{span}
 use Rattle.x86_64_model.specs.private.Found.{every_right, narrowed}
 use Rattle.x86_64_mappings.proofs.Tables.{by_table, on_more}
@@ -63,10 +63,10 @@ all-placed s r b p same m (n ∷ ms) = (λ i. same m i && all-placed s r b p sam
     by true c d = refl
     by false c d = refl
 
-some-placed : (s : ℕ) (r : Allowed) (m : Mapping) (ms : List Mapping) → (let t = summary_of (m ∷ ms) in
-    summary_of (map (placed s (seen_rights r)) (m ∷ ms)) ≡ record { count = t.count; bytes = t.bytes; some = both r t.some; all = both r t.all })
+some-placed : (s : ℕ) (r : Rights) (m : Mapping) (ms : List Mapping) → (let t = summary_of (m ∷ ms) in
+    summary_of (map (placed s r) (m ∷ ms)) ≡ record { count = t.count; bytes = t.bytes; some = both r t.some; all = both r t.all })
 unfolding summary_of
-some-placed s r m ms = let q = seen_rights r in λ i. record {
+some-placed s r m ms = let q = r in λ i. record {
   count = length-map (m ∷ ms) (placed s q) i;
   bytes = sum-placed s q (m ∷ ms) i;
   some = record {
@@ -85,7 +85,7 @@ not_none : (m : Mapping) (ms : List Mapping) → ((summary_of (m ∷ ms)).count 
 unfolding summary_of
 not_none m ms = eqb-suc-zero (length ms)
 
-pub summary-placed : (s : ℕ) (r : Allowed) (ms : List Mapping) → summary_of (map (placed s (seen_rights r)) ms) ≡ lessened r (summary_of ms)
+pub summary-placed : (s : ℕ) (r : Rights) (ms : List Mapping) → summary_of (map (placed s r) ms) ≡ lessened r (summary_of ms)
 unfolding summary_of
 summary-placed s r [] = refl
 summary-placed s r (m ∷ ms) = let t = summary_of (m ∷ ms) in
@@ -101,7 +101,7 @@ no_summary = record {
   all = record { write = true; user = true; execute = true };
 }
 
-abbrev pub one_summary : (bytes : ℕ) → Allowed → Summary
+abbrev pub one_summary : (bytes : ℕ) → Rights → Summary
 one_summary bytes r = record { count = 1; bytes = bytes; some = r; all = r }
 
 of_nothing : no_summary ≡ summary_of []
@@ -116,7 +116,7 @@ pub none_counted : (ms : List Mapping) (s : Summary) → s ≡ summary_of ms →
 none_counted [] s is zero = refl
 none_counted (m ∷ ms) s is zero = absurd (true≢false (sym zero ∙ ap (λ s. s.count == 0) is ∙ not_none m ms))
 
-of_one : (m : Mapping) (r : Allowed) → seen_rights r ≡ m.rights → one_summary m.size r ≡ summary_of (m ∷ [])
+of_one : (m : Mapping) (r : Rights) → r ≡ m.rights → one_summary m.size r ≡ summary_of (m ∷ [])
 unfolding summary_of
 of_one m r same = λ i. record {
   count = 1;
@@ -138,7 +138,7 @@ wanted_at : (wanted : Option ℕ) (m : Mapping) (start : ℕ) → is_wanted want
 wanted_at None m start = refl
 wanted_at (Some a) m start = refl
 
-pub of_wanted : (wanted : Option ℕ) (m : Mapping) (start : ℕ) (r : Allowed) → seen_rights r ≡ m.rights → is_wanted wanted m ≡ true
+pub of_wanted : (wanted : Option ℕ) (m : Mapping) (start : ℕ) (r : Rights) → r ≡ m.rights → is_wanted wanted m ≡ true
     → one_summary m.size r ≡ summary_of (filter (is_wanted wanted) (record m { start = start } ∷ []))
 of_wanted wanted m start r same is = let n : Mapping = record m { start = start } in
     of_one n r same ∙ ap (λ b. summary_of (cond b (n ∷ []) [])) (sym (wanted_at wanted m start ∙ is))
@@ -151,7 +151,7 @@ of_unwanted wanted m start is = let n : Mapping = record m { start = start } in
 -- ---- entry by entry
 
 -- the summary of the mappings by an entry that names a table
-pub of_table : (asked : Asked) (n start e f : ℕ) (r : Allowed) (s : Summary) → Table f ≡ target_of (n + 1) e → seen_rights r ≡ narrowed every_right e
+pub of_table : (asked : Asked) (n start e f : ℕ) (r : Rights) (s : Summary) → Table f ≡ target_of (n + 1) e → r ≡ narrowed every_right e
     → s ≡ summary_of (asked_mappings asked n f) → lessened r s ≡ summary_of (asked_by asked (n + 1) start every_right e)
 of_table asked n start e f r s named rights is =
     ap (lessened r) is ∙ sym (summary-placed start r (asked_mappings asked n f))

@@ -14,10 +14,11 @@ use Rattle.x86_64_model.specs.Path.{indices}
 use Rattle.x86_64_model.specs.Mappings.{Rights, Mapping, maps_page, mappings_of}
 use Rattle.x86_64_model.specs.private.Found.{every_right, narrowed, page_from, page_at}
 use Rattle.x86_64_model.proofs.Lemmas.Mappings.Listed.{listed_by, list_and_then, listed_on, mappings_listed}
-use Rattle.x86_64_mappings.specs.declared.summaries.entries.Target.TheVariants.{Nothing, Page, Table}
+use Rattle.x86_64_tables.specs.declared.page_table.target.EntryTarget.TheVariants.{Nothing, Page, Table}
 use Rattle.x86_64_mappings.specs.Wanted.{Asked, is_wanted, asked_mappings}
 use Rattle.x86_64_mappings.specs.private.Placed.{placed}
-use Rattle.x86_64_mappings.specs.private.Targets.{target_of, mapped_by, asked_by, asked_on}
+use Rattle.x86_64_tables.specs.EntryTargets.{target_of}
+use Rattle.x86_64_mappings.specs.private.Targets.{mapped_by, asked_by, asked_on}
 use Rattle.x86_64_mappings.proofs.Placed.{flat_map-same, mappings_placed}
 
 -- ---- by the words that are read

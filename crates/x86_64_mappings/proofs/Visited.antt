@@ -6,8 +6,9 @@ use Rattle.x86_64_model.specs.Position.{span}
 use Rattle.x86_64_model.specs.Mappings.{Rights, Mapping}
 use Rattle.x86_64_model.proofs.Lemmas.Mappings.SpanEnds.{span-next, count-next}
 use Rattle.x86_64_mappings.specs.Wanted.{Asked}
-use Rattle.x86_64_mappings.specs.declared.summaries.entries.Target.TheVariants.{Nothing, Page}
-use Rattle.x86_64_mappings.specs.private.Targets.{target_of, asked_by, asked_on}
+use Rattle.x86_64_tables.specs.declared.page_table.target.EntryTarget.TheVariants.{Nothing, Page}
+use Rattle.x86_64_tables.specs.EntryTargets.{target_of}
+use Rattle.x86_64_mappings.specs.private.Targets.{asked_by, asked_on}
 use Rattle.x86_64_mappings.proofs.Tables.{on_more}
 
 -- ---- where the spans of entries start

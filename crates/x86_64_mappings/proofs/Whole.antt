@@ -9,8 +9,6 @@ use Rattle.x86_64_model.proofs.Lemmas.Lists.All.{all_in, every_in}
 use Rattle.x86_64_model.proofs.Lemmas.Mappings.Chains.{IsChain, chain_wider}
 use Rattle.x86_64_model.proofs.Lemmas.Mappings.Positions.{mappings_chain}
 use Rattle.x86_64_model.proofs.Lemmas.Mappings.SpanEnds.{span-next}
-use Rattle.x86_64_tables.specs.declared.phys_memory.walk.Rights.{Rights as Allowed}
-use Rattle.x86_64_mappings.specs.Views.{seen_rights}
 use Rattle.x86_64_mappings.specs.declared.summaries.summary.Summary.{Summary}
 use Rattle.x86_64_mappings.specs.Summaries.{summary_of}
 use Rattle.x86_64_mappings.specs.Wanted.{Asked, is_wanted, asked_mappings}
@@ -98,12 +96,12 @@ asked_chain asked n f s r =
     subst (λ z. IsChain z (s + position_count n) (map (placed s r) (asked_mappings asked n f))) (let e : s + 0 ≡ s = omega arith in e) (placed_chain s 0 (position_count n) r (asked_mappings asked n f) all)
 
 -- mappings fill the span if their sizes add up to its size
-pub whole_span : (asked : Asked) (n f s : ℕ) (r : Allowed) (b : Summary) → b ≡ lessened r (summary_of (asked_mappings asked n f)) → b.bytes ≡ span (n + 1) → b.some ≡ b.all
-    → AreWhole s (s + position_count n) (seen_rights b.all) (map (placed s (seen_rights r)) (asked_mappings asked n f))
+pub whole_span : (asked : Asked) (n f s : ℕ) (r : Rights) (b : Summary) → b ≡ lessened r (summary_of (asked_mappings asked n f)) → b.bytes ≡ span (n + 1) → b.some ≡ b.all
+    → AreWhole s (s + position_count n) b.all (map (placed s r) (asked_mappings asked n f))
 unfolding summary_of
 whole_span asked n f s r b is full same =
-    let ms = map (placed s (seen_rights r)) (asked_mappings asked n f) in
+    let ms = map (placed s r) (asked_mappings asked n f) in
     let its : b ≡ summary_of ms = is ∙ sym (summary-placed s r (asked_mappings asked n f)) in
     let bytes : sizes ms ≡ position_count n = ap (λ b. b.bytes) (sym its) ∙ full ∙ ap span (let e : n + 1 ≡ suc n = omega arith in e) ∙ span-next n in
-    let rights : some_rights ms ≡ common_rights ms = ap (λ b. seen_rights b.some) (sym its) ∙ ap seen_rights same ∙ ap (λ b. seen_rights b.all) its in
-    subst (λ rights. AreWhole s (s + position_count n) rights ms) (ap (λ b. seen_rights b.all) (sym its)) (are_whole s (s + position_count n) ms (asked_chain asked n f s (seen_rights r)) (ap (λ z. s + z) bytes) rights)
+    let rights : some_rights ms ≡ common_rights ms = ap (λ b. b.some) (sym its) ∙ same ∙ ap (λ b. b.all) its in
+    subst (λ rights. AreWhole s (s + position_count n) rights ms) (ap (λ b. b.all) (sym its)) (are_whole s (s + position_count n) ms (asked_chain asked n f s r) (ap (λ z. s + z) bytes) rights)

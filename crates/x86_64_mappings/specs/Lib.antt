@@ -1,6 +1,5 @@
 pub mod Views
 pub mod Texts
-pub mod Ahead
 pub mod Summaries
 pub mod Wanted
 pub mod Numbers
@@ -9,5 +8,6 @@ pub use Rattle.x86_64_model.specs.Position
 pub use Rattle.x86_64_model.specs.Mappings
 pub use Rattle.x86_64_model.specs.Memory
 pub use Rattle.x86_64_model.specs.Regions
+pub use Rattle.x86_64_tables.specs.Rights
 pub use Rattle.x86_64_tables.specs.Translations
 pub use Rattle.x86_64_tables.specs.PageTableFlags

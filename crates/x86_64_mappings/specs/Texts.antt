@@ -1,7 +1,8 @@
 -- Mappings and regions as text.
-use Rattle.std.specs.Prelude.{ℕ, Bool, ◌==◌, ◌+◌, ◌-◌, ◌/◌, ◌%◌, ◌++◌, if◌then◌else◌, List, codes, decimal}
+use Rattle.std.specs.Prelude.{ℕ, ◌==◌, ◌+◌, ◌-◌, ◌/◌, ◌%◌, ◌++◌, if◌then◌else◌, List, codes, decimal}
 use Rattle.x86_64_mappings.specs.Numbers.{hexadecimal}
-use Rattle.x86_64_model.specs.Mappings.{Mapping}
+use Rattle.x86_64_model.specs.Mappings.{Mapping, Rights}
+use Rattle.x86_64_tables.specs.Rights.{rights_text}
 use Rattle.x86_64_model.specs.Regions.{Region}
 use Rattle.x86_64_model.specs.Position.{raw}
 
@@ -14,28 +15,20 @@ size_text bytes =
     else (if bytes % 0x10_0000 == 0 then decimal (bytes / 0x10_0000) ++ codes "MiB"
     else decimal (bytes / 0x400) ++ codes "KiB")))
 
--- the letter of a right, or - without the right
-abbrev pub letter_text : Bool → (letter : List ℕ) → List ℕ
-letter_text holds letter = if holds then letter else codes "-"
-
--- four letters, the first of which is always r
-unfoldable pub rights_text : (write user execute : Bool) → List ℕ
-rights_text w u x = codes "r" ++ letter_text w (codes "w") ++ letter_text x (codes "x") ++ letter_text u (codes "u")
-
 -- START SIZE FRAME
 unfoldable pub place_text : (start size frame : ℕ) → List ℕ
 place_text start size frame = hexadecimal start ++ codes " " ++ size_text size ++ codes " " ++ hexadecimal frame
 
 -- START SIZE FRAME RIGHTS FLAGS
-abbrev pub line_text : (start size frame : ℕ) → (write user execute : Bool) → (flags : ℕ) → List ℕ
-line_text start size frame w u x given =
-    place_text start size frame ++ codes " " ++ rights_text w u x ++ codes " " ++ hexadecimal given
+abbrev pub line_text : (start size frame : ℕ) → Rights → (flags : ℕ) → List ℕ
+line_text start size frame rights given =
+    place_text start size frame ++ codes " " ++ rights_text rights ++ codes " " ++ hexadecimal given
 
 abbrev pub mapping_text : (L : ℕ) → Mapping → List ℕ
-mapping_text L m = line_text (raw L m.start) m.size m.frame m.rights.write m.rights.user m.rights.execute m.flags
+mapping_text L m = line_text (raw L m.start) m.size m.frame m.rights m.flags
 
 -- FIRST-LAST SIZE RIGHTS
 abbrev pub region_text : (L : ℕ) → Region → List ℕ
 region_text L r =
     hexadecimal (raw L r.first) ++ codes "-" ++ hexadecimal (raw L r.last) ++ codes " " ++ size_text (r.last + 1 - r.first)
-    ++ codes " " ++ rights_text r.rights.write r.rights.user r.rights.execute
+    ++ codes " " ++ rights_text r.rights

@@ -1,25 +1,20 @@
 -- Mappings as code represents them.
-use Rattle.std.specs.Prelude.{◌≡◌, ℕ, Bool, ◌==◌, if◌then◌else◌, refl}
+use Rattle.std.specs.Prelude.{◌≡◌, ℕ, ◌==◌, if◌then◌else◌, refl}
 use Rattle.x86_64_model.specs.Mappings.{Mapping, Rights}
 use Rattle.x86_64_tables.specs.PageTableFlags.{bits_of}
 use Rattle.x86_64_tables.specs.Translations.{frame_start, frame_size}
 use Rattle.x86_64_tables.specs.declared.mapper.MappedFrame.{MappedFrame}
 use Rattle.x86_64_tables.specs.declared.mapper.MappedFrame.TheVariants.{Size4KiB, Size2MiB, Size1GiB}
-use Rattle.x86_64_tables.specs.declared.phys_memory.walk.Rights.{Rights as Allowed}
 use Rattle.x86_64_tables.specs.declared.page_table.flags.PageTableFlags.{PageTableFlags}
 
--- the rights of the code, as rights of the model
-abbrev pub seen_rights : Allowed → Rights
-seen_rights r = record { write = r.write; user = r.user; execute = r.execute }
-
 -- the mapping from a start on to a frame, with flags and rights
-abbrev pub mapping_to : (start : ℕ) → MappedFrame → PageTableFlags → (write user execute : Bool) → Mapping
-mapping_to start frame flags w u x = record {
+abbrev pub mapping_to : (start : ℕ) → MappedFrame → PageTableFlags → Rights → Mapping
+mapping_to start frame flags rights = record {
   start = start;
   size = frame_size frame;
   frame = frame_start frame;
   flags = bits_of flags;
-  rights = record { write = w; user = u; execute = x };
+  rights = rights;
 }
 
 -- the frame of one of the three sizes with a start

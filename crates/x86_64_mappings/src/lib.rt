@@ -2,6 +2,7 @@
 //! by one, and the regions that they form.
 #![tactic(auto)]
 
+mod joiner;
 mod listing;
 mod mapping;
 mod region;
@@ -9,9 +10,7 @@ mod region_list;
 mod summaries;
 pub mod text;
 
-pub use listing::{
-    Mappings, Mappings57, MappingsIn, mappings, mappings_57, mappings_from, maps_page, span,
-};
+pub use listing::{Mappings, Mappings57, MappingsIn, mappings, mappings_57, mappings_from, span};
 pub use mapping::{Mapping, Mapping57, MappingIn};
 pub use region::{Region, Region57, RegionIn};
 pub use region_list::{Regions, Regions57, RegionsIn, regions, regions_57};

@@ -7,8 +7,8 @@ ghost use Rattle.x86_64_model.specs.Memory.{words_of};
 mod cursor;
 
 use crate::mapping::MappingIn;
+pub use cursor::span;
 use cursor::{Cursor, find_page};
-pub use cursor::{maps_page, span};
 use std::marker::{Model, PhantomData};
 use x86_64_addr::addr::VirtAddrIn;
 use x86_64_addr::level_count::{FiveLevels, FourLevels, LevelCount};
@@ -63,18 +63,20 @@ impl<'a, L: LevelCount, T: TableMemory, P: PageTableFrameMapping> Iterator
 
     #[inline]
     fn next(&mut self) -> Option<MappingIn<L>> {
-        let cursor = self.cursor;
-        if cursor.is_at_small_page() {
+        if self.cursor.is_at_small_page() {
             // The level is a constant here, and so is all that follows from it.
-            let entry = &cursor.rest[0];
-            self.cursor = cursor.past(1);
-            return Some(MappingIn::of_page(1, cursor.next, entry, cursor.rights));
+            let entry = &self.cursor.rest[0];
+            let page = MappingIn::of_page(1, self.cursor.next, entry, self.cursor.rights);
+            self.cursor = self.cursor.past(1);
+            return Some(page);
         }
         // The call changes a copy, so that the cursor itself can stay in registers.
-        let mut found = cursor;
+        let mut found = self.cursor.copied();
         find_page::<L, T, P>(self.memory, self.mapping, self.root, &mut found);
-        self.cursor = found;
-        let entry = found.rest.first()?;
+        let Some(entry) = found.rest.first() else {
+            self.cursor = found;
+            return None;
+        };
         self.cursor = found.past(1);
         Some(MappingIn::of_page(found.level, found.next, entry, found.rights))
     }

@@ -5,9 +5,8 @@ ghost use Rattle.x86_64_model.specs.Position.{position_count};
 ghost use Rattle.x86_64_model.specs.private.Found.{page_at};
 ghost use Rattle.std.specs.Fmt.{WritesOnOk};
 ghost use Rattle.x86_64_mappings.specs.Texts as texts;
-ghost use Rattle.x86_64_mappings.specs.Views.{seen_rights};
 
-use crate::text::{write_hexadecimal, write_rights, write_size};
+use crate::text::{write_hexadecimal, write_size};
 use bitflags::Flags;
 use std::fmt::{Display, Formatter, Result as FmtResult, Write};
 use std::marker::Model;
@@ -15,8 +14,7 @@ use x86_64_addr::addr::VirtAddrIn;
 use x86_64_addr::level_count::{FiveLevels, FourLevels, LevelCount};
 use x86_64_page::frame::PhysFrame;
 use x86_64_tables::mapper::MappedFrame;
-use x86_64_tables::page_table::{PageTableEntry, PageTableFlags};
-use x86_64_tables::phys_memory::Rights;
+use x86_64_tables::page_table::{PageTableEntry, PageTableFlags, Rights};
 
 /// What a leaf maps, with `L::LEVELS` levels of page tables: the addresses from `start` on, for as many bytes as the frame
 /// has, are mapped to the frame.
@@ -33,12 +31,8 @@ pub struct MappingIn<L: LevelCount> {
     pub frame: MappedFrame,
     /// The flags of the leaf's entry.
     pub flags: PageTableFlags,
-    /// Whether the leaf and all entries above it have `WRITABLE`.
-    pub write: bool,
-    /// Whether the leaf and all entries above it have `USER_ACCESSIBLE`.
-    pub user: bool,
-    /// Whether neither the leaf nor an entry above it has `NO_EXECUTE`.
-    pub execute: bool,
+    /// What the leaf and all entries above it allow.
+    pub rights: Rights,
 }
 
 /// A mapping with four levels of page tables.
@@ -54,15 +48,13 @@ impl<L: LevelCount> Model for MappingIn<L> {
 
     ghost Value = { Mapping };
 
-    ghost view = { λ m. mapping_to m.start m.frame m.flags m.write m.user m.execute };
+    ghost view = { λ m. mapping_to m.start m.frame m.flags m.rights };
 
     ghost inverse = { λ m. record {
       start = m.start;
       frame = frame_at m.size m.frame;
       flags = record { 0 = m.flags };
-      write = m.rights.write;
-      user = m.rights.user;
-      execute = m.rights.execute;
+      rights = m.rights;
     } };
 
     ghost inverse_ok = { λ m _. ap (λ frame. record m { frame = frame }) (frame_at_frame m.frame) };
@@ -78,21 +70,18 @@ impl<L: LevelCount> MappingIn<L> {
         requires low { 1 ≤ level }
         requires page { maps_page level entry.now ≡ true }
         requires inside { position < position_count L.LEVELS }
-        ensures { result ≡ page_at position level (seen_rights above) entry.now }
+        ensures { result ≡ page_at position level above entry.now }
     {
         let frame = match level {
             1 => MappedFrame::Size4KiB(PhysFrame::containing_address(entry.addr())),
             2 => MappedFrame::Size2MiB(PhysFrame::containing_address(entry.addr())),
             _ => MappedFrame::Size1GiB(PhysFrame::containing_address(entry.addr())),
         };
-        let rights = above.below(entry);
         MappingIn {
             start: VirtAddrIn::new_truncate(position / frame.size() * frame.size()),
             frame,
             flags: entry.flags(),
-            write: rights.write,
-            user: rights.user,
-            execute: rights.execute,
+            rights: above.below(entry),
         }
     }
 
@@ -111,14 +100,9 @@ impl<L: LevelCount> Display for MappingIn<L> {
 
     fn fmt<W: Write>(&self, f: &mut Formatter<W>) -> FmtResult {
         let start = self.start.as_u64();
-        let rights = Rights {
-            write: self.write,
-            user: self.user,
-            execute: self.execute,
-        };
         let frame = self.frame.start_address().as_u64();
         let flags = self.flags.bits();
-        write_line(f, start, self.frame.size(), frame, rights, flags)
+        write_line(f, start, self.frame.size(), frame, self.rights, flags)
     }
 }
 
@@ -132,12 +116,10 @@ fn write_line<W: Write>(
     flags: u64,
 ) -> FmtResult
     ensures { WritesOnOk W.write_str_gives f.old result
-        (texts.line_text start size frame rights.write rights.user rights.execute flags) f.new }
+        (texts.line_text start size frame rights flags) f.new }
 {
     write_place(f, start, size, frame)?;
-    f.write_str(" ")?;
-    write_rights(f, rights.write, rights.user, rights.execute)?;
-    f.write_str(" ")?;
+    write!(f, " {rights} ")?;
     write_hexadecimal(f, flags)
 }
 

@@ -4,11 +4,12 @@ ghost use Rattle.x86_64_model.specs.Position.{position_count};
 ghost use Rattle.x86_64_model.specs.Regions as model;
 
 use crate::mapping::MappingIn;
-use crate::text::{write_rights, write_size};
+use crate::text::write_size;
 use std::fmt::{Display, Formatter, Result as FmtResult, Write};
 use std::marker::Model;
 use x86_64_addr::addr::VirtAddrIn;
 use x86_64_addr::level_count::{FiveLevels, FourLevels, LevelCount};
+use x86_64_tables::page_table::Rights;
 
 /// A region, with `L::LEVELS` levels of page tables: a run of mappings as long as possible, in which each starts where the
 /// one before ended, in one half of the address space, with equal rights.
@@ -19,12 +20,8 @@ pub struct RegionIn<L: LevelCount> {
     pub first: VirtAddrIn<L>,
     /// The last address.
     pub last: VirtAddrIn<L>,
-    /// Whether all entries that lead to a page of the region have `WRITABLE`.
-    pub write: bool,
-    /// Whether all entries that lead to a page of the region have `USER_ACCESSIBLE`.
-    pub user: bool,
-    /// Whether no entry that leads to a page of the region has `NO_EXECUTE`.
-    pub execute: bool,
+    /// What all entries that lead to a page of the region allow.
+    pub rights: Rights,
 }
 
 /// A region with four levels of page tables.
@@ -42,15 +39,13 @@ impl<L: LevelCount> Model for RegionIn<L> {
     ghost view = { λ r. record {
       first = r.first;
       last = r.last;
-      rights = record { write = r.write; user = r.user; execute = r.execute };
+      rights = r.rights;
     } };
 
     ghost inverse = { λ r. record {
       first = r.first;
       last = r.last;
-      write = r.rights.write;
-      user = r.rights.user;
-      execute = r.rights.execute;
+      rights = r.rights;
     } };
 
     ghost inverse_ok = { λ r _. refl };
@@ -68,9 +63,7 @@ impl<L: LevelCount> RegionIn<L> {
         RegionIn {
             first: mapping.start,
             last: VirtAddrIn::new_truncate(start + (mapping.size() - 1)),
-            write: mapping.write,
-            user: mapping.user,
-            execute: mapping.execute,
+            rights: mapping.rights,
         }
     }
 
@@ -80,10 +73,7 @@ impl<L: LevelCount> RegionIn<L> {
     {
         let first = next.first.position();
         let consecutive = first == self.last.position() + 1 && first != L::POSITION_COUNT / 2;
-        consecutive
-            && self.write == next.write
-            && self.user == next.user
-            && self.execute == next.execute
+        consecutive && self.rights == next.rights
     }
 
     /// Returns this region, extended to the last address of another.
@@ -114,7 +104,7 @@ impl<L: LevelCount> Display for RegionIn<L> {
         let last = self.last.as_u64();
         write!(f, "0x{first:x}-0x{last:x} ")?;
         write_size(f, self.size())?;
-        f.write_str(" ")?;
-        write_rights(f, self.write, self.user, self.execute)
+        let rights = self.rights;
+        write!(f, " {rights}")
     }
 }

@@ -4,8 +4,8 @@ ghost use Rattle.std.specs.Iterator.{YieldsFirst, item_count};
 ghost use Rattle.x86_64_model.specs.Memory.{words_of};
 ghost use Rattle.x86_64_model.specs.Regions as model;
 
+use crate::joiner::Joiner;
 use crate::listing::{MappingsIn, all_mappings};
-use crate::mapping::MappingIn;
 use crate::region::RegionIn;
 use std::marker::Model;
 use x86_64_addr::level_count::{FiveLevels, FourLevels, LevelCount};
@@ -19,7 +19,7 @@ use x86_64_tables::phys_memory::{PageTableFrameMapping, TableMemory};
 /// It allocates no memory. It iterates over the mappings, and reads one mapping ahead.
 #[derive(Drop)]
 pub struct RegionsIn<'a, L: LevelCount, T: TableMemory, P: PageTableFrameMapping> {
-    ahead: Option<MappingIn<L>>,
+    joiner: Joiner<L>,
     mappings: MappingsIn<'a, L, T, P>,
 }
 
@@ -31,14 +31,14 @@ pub type Regions57<'a, T, P> = RegionsIn<'a, FiveLevels, T, P>;
 
 impl<'a, L: LevelCount, T: TableMemory, P: PageTableFrameMapping> Model for RegionsIn<'a, L, T, P> {
     ghost use Rattle.std.specs.Prelude.{List};
-    ghost use Rattle.x86_64_model.specs.Regions.{Region, regions_in};
-    ghost use Rattle.x86_64_mappings.specs.Ahead.{AllFit, with_ahead};
+    ghost use Rattle.x86_64_model.specs.Regions.{Region};
+    ghost use Rattle.x86_64_mappings.specs.private.Joined.{AllFit, regions_from};
 
     ghost Value = { List Region };
 
-    ghost view = { λ s. regions_in L.LEVELS (with_ahead s.ahead s.mappings) };
+    ghost view = { λ s. regions_from L.LEVELS s.joiner s.mappings };
 
-    ghost invariant = { λ s. AllFit L.LEVELS (with_ahead s.ahead s.mappings) };
+    ghost invariant = { λ s. AllFit L.LEVELS s.mappings };
 }
 
 impl<'a, L: LevelCount, T: TableMemory, P: PageTableFrameMapping> Iterator
@@ -50,20 +50,12 @@ impl<'a, L: LevelCount, T: TableMemory, P: PageTableFrameMapping> Iterator
     ghost remaining = { item_count (λ s. s) };
 
     fn next(&mut self) -> Option<RegionIn<L>> {
-        let Some(first) = self.ahead else {
-            return None;
-        };
-        self.ahead = None;
-        let mut region = RegionIn::of(&first);
         while let Some(mapping) = self.mappings.next() {
-            let next = RegionIn::of(&mapping);
-            if !region.is_followed_by(&next) {
-                self.ahead = Some(mapping);
+            if let Some(region) = self.joiner.join(RegionIn::of(&mapping)) {
                 return Some(region);
             }
-            region = region.grown_to(&next);
         }
-        Some(region)
+        self.joiner.finish()
     }
 }
 
@@ -90,7 +82,7 @@ pub fn regions_57<'a, T: TableMemory, P: PageTableFrameMapping>(
 }
 
 /// Returns an iterator over the regions below a root with `L::LEVELS` levels of page tables.
-#[tactic(auto, using(x86_64_model::proofs::Lemmas::Mappings::Placed::mappings_fit, crate::proofs::Ahead::ahead_fits))]
+#[tactic(auto, using(x86_64_model::proofs::Lemmas::Mappings::Placed::mappings_fit, crate::proofs::Joined::regions_joined))]
 fn all_regions<'a, L: LevelCount, T: TableMemory, P: PageTableFrameMapping>(
     memory: &'a T,
     mapping: &'a P,
@@ -99,7 +91,8 @@ fn all_regions<'a, L: LevelCount, T: TableMemory, P: PageTableFrameMapping>(
     ensures { result
         ≡ model.regions_of L.LEVELS (words_of (T.tables memory.now) (P.places mapping.now)) root }
 {
-    let mut mappings = all_mappings(memory, mapping, root);
-    let ahead = mappings.next();
-    RegionsIn { ahead, mappings }
+    RegionsIn {
+        joiner: Joiner::new(),
+        mappings: all_mappings(memory, mapping, root),
+    }
 }

@@ -1,4 +1,4 @@
-//! Sizes, rights and numbers as text.
+//! Sizes and numbers as text.
 ghost use Rattle.std.specs.Prelude.{◌≡◌, ◌<◌, ◌/◌, ◌++◌, decimal};
 ghost use Rattle.std.specs.Fmt.{WritesOnOk};
 ghost use Rattle.x86_64_mappings.specs.Texts as texts;
@@ -35,21 +35,4 @@ fn unit_of(bytes: u64) -> (u64, &'static str)
     } else {
         (1 << 10, "KiB")
     }
-}
-
-/// Writes the letters `rwxu`: whether pages may be read, written, executed, and accessed by user code. A letter is replaced
-/// by `-` if its right is missing.
-#[tactic(auto, unfolding(crate::specs::Texts::rights_text))]
-pub fn write_rights<W: Write>(
-    f: &mut Formatter<W>,
-    write: bool,
-    user: bool,
-    execute: bool,
-) -> FmtResult
-    ensures { WritesOnOk W.write_str_gives f.old result (texts.rights_text write user execute) f.new }
-{
-    f.write_str("r")?;
-    f.write_str(if write { "w" } else { "-" })?;
-    f.write_str(if execute { "x" } else { "-" })?;
-    f.write_str(if user { "u" } else { "-" })
 }

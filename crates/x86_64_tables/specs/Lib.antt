@@ -1,5 +1,7 @@
 pub mod PageTableFlags
 pub mod PageTableEntry
+pub mod Rights
+pub mod EntryTargets
 pub mod PageTable
 pub mod PhysMemory
 pub mod LentMemory
@@ -23,8 +25,10 @@ pub use Rattle.x86_64_model.specs.Hierarchy
 pub use Rattle.x86_64_model.specs.Alike
 pub use Rattle.x86_64_model.specs.Pool
 pub use Rattle.x86_64_model.specs.PageWalk
+pub use Rattle.x86_64_model.specs.Mappings
 pub use Rattle.x86_64_model.specs.Layout
 pub use Rattle.x86_64_model.specs.Translation
 pub use Rattle.x86_64_model.specs.Lists
+pub use Rattle.x86_64_model.specs.private.Found
 pub use Rattle.x86_64_model.specs.private.Tables
 pub use Rattle.x86_64_model.specs.private.Marks

@@ -4,29 +4,38 @@ ghost use Rattle.ptdump_engine.specs.Colours.{colour_of};
 
 use crate::drawing::area::Area;
 use std::fmt::{Display, Formatter, Result as FmtResult, Write};
+use std::marker::Model;
 use x86_64_addr::level_count::LevelCount;
 use x86_64_mappings::RegionIn;
-use x86_64_mappings::text::write_rights;
-use x86_64_tables::phys_memory::Rights;
+use x86_64_tables::page_table::Rights;
 
 /// The number of kinds of rights.
 pub(crate) const KIND_COUNT: usize = 8;
 
-/// A kind of rights: which of write, user and execute are allowed.
+/// A kind of rights: which of write, user and execute are allowed. Contracts see it as the rights.
 #[derive(Clone, Copy)]
 pub(crate) struct Kind {
     rights: Rights,
+}
+
+impl Model for Kind {
+    ghost use Rattle.std.specs.Prelude.{refl};
+    ghost use Rattle.x86_64_model.specs.Mappings.{Rights as Allowed};
+
+    ghost Value = { Allowed };
+
+    ghost view = { λ kind. kind.rights };
+
+    ghost inverse = { λ rights. record { rights = rights } };
+
+    ghost inverse_ok = { λ rights _. refl };
 }
 
 impl Kind {
     /// Returns the kind of a region.
     pub fn of<L: LevelCount>(region: &RegionIn<L>) -> Kind {
         Kind {
-            rights: Rights {
-                write: region.write,
-                user: region.user,
-                execute: region.execute,
-            },
+            rights: region.rights,
         }
     }
 
@@ -45,17 +54,13 @@ impl Kind {
     pub fn number(self) -> usize
         ensures { result < KIND_COUNT }
     {
-        let Rights {
-            write,
-            user,
-            execute,
-        } = self.rights;
-        usize::from(write) + 2 * usize::from(execute) + 4 * usize::from(user)
+        let rights = self.rights;
+        usize::from(rights.write) + 2 * usize::from(rights.execute) + 4 * usize::from(rights.user)
     }
 
     /// Returns its colour. Whoever can distinguish dark from light, or blue from yellow, can distinguish the colours.
     pub fn colour(self) -> &'static str
-        ensures { result.now ≡ colour_of self.rights.write self.rights.execute }
+        ensures { result.now ≡ colour_of self.write self.execute }
     {
         match (self.rights.write, self.rights.execute) {
             (false, false) => "#a6cee3",
@@ -92,11 +97,7 @@ impl Kind {
 
 impl Display for Kind {
     fn fmt<W: Write>(&self, f: &mut Formatter<W>) -> FmtResult {
-        let Rights {
-            write,
-            user,
-            execute,
-        } = self.rights;
-        write_rights(f, write, user, execute)
+        let rights = self.rights;
+        write!(f, "{rights}")
     }
 }

@@ -3,6 +3,7 @@ use crate::prelude::*;
 use test_reference::words::{flags, is_huge, is_present};
 use x86_64::mappings_from;
 use x86_64_mappings::MappingIn;
+use x86_64_tables::page_table::Rights;
 
 /// `WRITABLE`, `USER_ACCESSIBLE` and `NO_EXECUTE`.
 const WRITABLE: u64 = 0x2;
@@ -35,9 +36,11 @@ fn mapping_at<L: LevelCount>(paths: &PathEntries, path: &[u64]) -> Option<Mappin
         start: VirtAddrIn::new_truncate(number.wrapping_mul(frame.size())),
         frame,
         flags: flags_of(flags(leaf)),
-        write: all & WRITABLE != 0,
-        user: all & USER_ACCESSIBLE != 0,
-        execute: any & NO_EXECUTE == 0,
+        rights: Rights {
+            write: all & WRITABLE != 0,
+            user: all & USER_ACCESSIBLE != 0,
+            execute: any & NO_EXECUTE == 0,
+        },
     })
 }
 

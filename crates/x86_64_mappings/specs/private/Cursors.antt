@@ -4,8 +4,9 @@ use Rattle.x86_64_model.specs.Entry.{present, huge, address}
 use Rattle.x86_64_model.specs.Memory.{Words}
 use Rattle.x86_64_model.specs.Position.{span, position_count}
 use Rattle.x86_64_model.specs.Mappings.{Rights, Mapping, maps_page, mappings_from, mappings_of}
+use Rattle.x86_64_tables.specs.declared.page_table.target.EntryTarget.{EntryTarget}
+use Rattle.x86_64_tables.specs.declared.page_table.target.EntryTarget.TheVariants.{Table}
 use Rattle.x86_64_model.specs.private.Found.{narrowed, page_at, found_on, found}
-use Rattle.x86_64_mappings.specs.Views.{seen_rights}
 use Rattle.x86_64_mappings.specs.declared.listing.cursor.Cursor.{Cursor}
 
 -- the mapping found at a position in the span of an entry of a level, below words with rights r
@@ -24,7 +25,7 @@ pub record IsOn (L : ℕ) (T : Words) (root next level : ℕ) (r : Rights) (rest
   pub reads : (i x : ℕ) → i < length rest → next ≤ x → x / span level ≡ next / span level + i → found L T root x ≡ found_by T x level r (get_or rest i 0)
 
 abbrev pub IsCursor : (L : ℕ) → Words → (root : ℕ) → Cursor → Type 0
-IsCursor L T root c = IsOn L T root c.next c.level (seen_rights c.rights) c.rest.now
+IsCursor L T root c = IsOn L T root c.next c.level c.rights c.rest.now
 
 -- the mappings from a position on
 abbrev pub listed_from : (L : ℕ) → Words → (root next : ℕ) → List Mapping
@@ -55,6 +56,11 @@ is_there L next level (e ∷ rest) = present e && maps_page level e
 abbrev pub way_left : (L next level : ℕ) (rest : List ℕ) → ℕ
 way_left L next level [] = (position_count L - next) * 8 + 7
 way_left L next level (e ∷ rest) = (position_count L - next) * 8 + level
+
+-- the table that an entry leads to, by what it leads to
+abbrev pub table_by : Words → EntryTarget → Option (List ℕ)
+table_by T (Table frame) = T frame
+table_by T _ = None
 
 -- one step of a listing, from one cursor to another
 pub record IsStep (L : ℕ) (T : Words) (root : ℕ) (from to : Cursor) : Type 0 where

@@ -2,7 +2,6 @@
 use Rattle.std.specs.Prelude.{◌≡◌, ℕ, ◌+◌, ◌<◌, List, [], ◌∷◌}
 use Rattle.x86_64_model.specs.Mappings.{Mapping, Rights}
 use Rattle.x86_64_model.specs.Position.{position_count}
-use Rattle.x86_64_mappings.specs.Views.{seen_rights}
 use Rattle.x86_64_mappings.specs.declared.summaries.regions.extent.Extent.{Extent}
 use Rattle.x86_64_mappings.specs.declared.summaries.regions.extent.Extent.TheVariants.{Nothing, Whole, Mixture}
 
@@ -14,5 +13,5 @@ AreWhole a b rights (m ∷ ms) = (m.start ≡ a) × (0 < m.size) × (m.rights �
 -- what an extent means for the mappings of a table of a level whose span starts at a position
 abbrev pub IsExtent : (level start : ℕ) → List Mapping → Extent → Type 0
 IsExtent level start ms Nothing = ms ≡ []
-IsExtent level start ms (Whole rights) = AreWhole start (start + position_count level) (seen_rights rights) ms
+IsExtent level start ms (Whole rights) = AreWhole start (start + position_count level) rights ms
 IsExtent level start ms Mixture = Unit {0}

@@ -1,5 +1,7 @@
 -- Joining regions as they are found. A region that may still grow is held back until a region arrives that doesn't follow it.
-use Rattle.std.specs.Prelude.{◌≡◌, ℕ, ◌-◌, cond, List, [], ◌∷◌, ◌++◌, Option, Some, None}
+use Rattle.std.specs.Prelude.{◌≡◌, ℕ, ◌+◌, ◌-◌, ◌≤◌, cond, List, [], ◌∷◌, ◌++◌, Option, Some, None}
+use Rattle.std.specs.List.{AllByRecursion}
+use Rattle.x86_64_model.specs.Position.{position_count}
 use Rattle.x86_64_model.specs.Mappings.{Mapping, Rights}
 use Rattle.x86_64_model.specs.Regions.{Region, region_of, follows, grown_to}
 
@@ -30,6 +32,14 @@ given_after L held (m ∷ ms) = given_with L held (region_of m) ++ given_after L
 abbrev pub listed : (held : Option Region) → List Region
 listed None = []
 listed (Some r) = r ∷ []
+
+-- the regions still to come, from the one that is held back on, if the regions of mappings arrive and then no other
+abbrev pub regions_from : (L : ℕ) → (held : Option Region) → List Mapping → List Region
+regions_from L held ms = given_after L held ms ++ listed (held_after L held ms)
+
+-- all mappings end within the address space
+abbrev pub AllFit : (L : ℕ) → List Mapping → Type 0
+AllFit L = AllByRecursion (λ m. m.start + m.size ≤ position_count L)
 
 -- A region arrives: a visitor takes the regions that are handed out, and the joiner holds the region that is held back.
 pub record JoinsRegion {V : Type 0} (visits : V → V → List Region → Type 0) (L : ℕ) (s : Region) (before : Option Region) (visitor : V) (after : Option Region) (visited : V) : Type 0 where

@@ -1,15 +1,8 @@
 -- Merging of summaries.
-use Rattle.std.specs.Prelude.{◌+◌, ◌==◌, ◌&&◌, ◌||◌, cond}
-use Rattle.x86_64_tables.specs.declared.phys_memory.walk.Rights.{Rights}
+use Rattle.std.specs.Prelude.{◌+◌, ◌==◌, cond}
+use Rattle.x86_64_model.specs.Mappings.{Rights}
+use Rattle.x86_64_tables.specs.Rights.{both, either}
 use Rattle.x86_64_mappings.specs.declared.summaries.summary.Summary.{Summary}
-
--- what both allow
-abbrev pub both : (r s : Rights) → Rights
-both r s = record { write = r.write && s.write; user = r.user && s.user; execute = r.execute && s.execute }
-
--- what at least one of them allows
-abbrev pub either : (r s : Rights) → Rights
-either r s = record { write = r.write || s.write; user = r.user || s.user; execute = r.execute || s.execute }
 
 -- the summary of mappings together with others
 abbrev pub joined : (some others : Summary) → Summary

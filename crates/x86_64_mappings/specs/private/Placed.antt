@@ -1,10 +1,7 @@
 -- Placed mappings: the mappings of a table, as seen from the tables above it.
-use Rattle.std.specs.Prelude.{ℕ, ◌+◌, ◌&&◌}
+use Rattle.std.specs.Prelude.{ℕ, ◌+◌}
 use Rattle.x86_64_model.specs.Mappings.{Rights, Mapping}
-
--- what both allow
-abbrev pub both : (r s : Rights) → Rights
-both r s = record { write = r.write && s.write; user = r.user && s.user; execute = r.execute && s.execute }
+use Rattle.x86_64_tables.specs.Rights.{both}
 
 -- a mapping of a table whose span starts at a position, below words with rights r
 abbrev pub placed : (start : ℕ) → Rights → Mapping → Mapping

@@ -1,23 +1,23 @@
 //! The cursor of a listing of mappings, and how it moves to the next mapping.
-ghost use Rattle.std.specs.Prelude.{◌≡◌, ◌<◌, ◌≤◌, ◌+◌, ◌*◌, ◌/◌, ◌==◌, ◌||◌, true, false, cond, ℕ, None, [], length, drop, slice_index};
+ghost use Rattle.std.specs.Prelude.{◌≡◌, ◌<◌, ◌≤◌, ◌+◌, ◌*◌, ◌/◌, true, false, ℕ, [], length, drop, slice_index};
 ghost use Rattle.std.specs.Option.{option_copied};
-ghost use Rattle.x86_64_model.specs.Entry.{present, huge, address};
-ghost use Rattle.x86_64_model.specs.Mappings.{maps_page as page_mapped};
+ghost use Rattle.x86_64_model.specs.Entry.{present};
 ghost use Rattle.x86_64_model.specs.Memory.{words_of};
 ghost use Rattle.x86_64_model.specs.Position.{span as span_of, index, position_count};
+ghost use Rattle.x86_64_tables.specs.EntryTargets.{target_of};
 ghost use Rattle.x86_64_mappings.specs.private.Cursors as cursors;
 
 use x86_64_addr::level_count::LevelCount;
 use x86_64_page::frame::PhysFrame;
 use x86_64_page::page::Size4KiB;
-use x86_64_tables::page_table::{PageTable, PageTableEntry, PageTableFlags};
-use x86_64_tables::phys_memory::{
-    PageTableFrameMapping, Rights, TableMemory, has_flag, index_of, table_in,
+use x86_64_tables::page_table::{
+    EntryTarget, PageTable, PageTableEntry, PageTableFlags, Rights, has_flag,
 };
+use x86_64_tables::phys_memory::{PageTableFrameMapping, TableMemory, index_of, table_in};
 
 /// Where a listing continues: at a position (the number of an address counted without the gap), with the remaining entries
 /// of a table, from the one that spans the position on.
-#[derive(Clone, Copy)]
+#[derive(Drop)]
 pub(super) struct Cursor<'a> {
     /// The position.
     pub(super) next: u64,
@@ -63,16 +63,28 @@ impl<'a> Cursor<'a> {
         }
     }
 
+    /// Returns a copy.
+    pub(super) fn copied(&self) -> Cursor<'a>
+        ensures { result ≡ self.now }
+    {
+        Cursor {
+            next: self.next,
+            level: self.level,
+            rights: self.rights,
+            rest: self.rest,
+        }
+    }
+
     /// Moves past `count` entries.
-    pub(super) fn past(self, count: usize) -> Cursor<'a>
-        requires low { 1 ≤ self.level }
-        requires high { self.level ≤ 5 }
-        requires within { count ≤ length self.rest.now }
-        requires room { cursors.position_past self.level self.next count ≤ position_count 5 }
-        ensures next { result.next ≡ cursors.position_past self.entry.level self.entry.next count }
-        ensures level { result.level ≡ self.entry.level }
-        ensures rights { result.rights ≡ self.entry.rights }
-        ensures rest { result.rest.now ≡ drop count self.entry.rest.now }
+    pub(super) fn past(&self, count: usize) -> Cursor<'a>
+        requires low { 1 ≤ self.now.level }
+        requires high { self.now.level ≤ 5 }
+        requires within { count ≤ length self.now.rest.now }
+        requires room { cursors.position_past self.now.level self.now.next count ≤ position_count 5 }
+        ensures next { result.next ≡ cursors.position_past self.now.level self.now.next count }
+        ensures level { result.level ≡ self.now.level }
+        ensures rights { result.rights ≡ self.now.rights }
+        ensures rest { result.rest.now ≡ drop count self.now.rest.now }
     {
         let span = span(self.level);
         Cursor {
@@ -84,8 +96,8 @@ impl<'a> Cursor<'a> {
     }
 
     /// Returns true if the first remaining entry is of level one and maps a page.
-    pub(super) fn is_at_small_page(self) -> bool
-        ensures { result ≡ cursors.small_page_first self.entry.level self.entry.rest.now }
+    pub(super) fn is_at_small_page(&self) -> bool
+        ensures { result ≡ cursors.small_page_first self.now.level self.now.rest.now }
     {
         match self.rest.first() {
             Some(entry) => self.level == 1 && has_flag(entry, PageTableFlags::PRESENT),
@@ -94,12 +106,12 @@ impl<'a> Cursor<'a> {
     }
 
     /// Returns true if the first remaining entry maps a page, or no entry remains and all positions are past.
-    fn is_there<L: LevelCount>(self) -> bool
+    fn is_there<L: LevelCount>(&self) -> bool
         ensures { result
-            ≡ cursors.is_there L.LEVELS self.entry.next self.entry.level self.entry.rest.now }
+            ≡ cursors.is_there L.LEVELS self.now.next self.now.level self.now.rest.now }
     {
         match self.rest.first() {
-            Some(entry) => has_flag(entry, PageTableFlags::PRESENT) && maps_page(self.level, entry),
+            Some(entry) => has_flag(entry, PageTableFlags::PRESENT) && entry.maps_page(self.level),
             None => self.next == L::POSITION_COUNT,
         }
     }
@@ -124,7 +136,7 @@ pub(super) fn find_page<'a, L: LevelCount, T: TableMemory, P: PageTableFrameMapp
         cursor.new.next cursor.new.level cursor.new.rest.now ≡ true }
 {
     while !cursor.is_there::<L>() {
-        *cursor = step::<L, T, P>(memory, mapping, root, *cursor);
+        *cursor = step::<L, T, P>(memory, mapping, root, cursor);
     }
 }
 
@@ -133,13 +145,13 @@ fn step<'a, L: LevelCount, T: TableMemory, P: PageTableFrameMapping>(
     memory: &'a T,
     mapping: &P,
     root: PhysFrame<Size4KiB>,
-    cursor: Cursor<'a>,
+    cursor: &Cursor<'a>,
 ) -> Cursor<'a>
     requires on { cursors.IsCursor L.LEVELS
-        (words_of (T.tables memory.now) (P.places mapping.now)) root cursor }
-    requires not_there { cursors.is_there L.LEVELS cursor.next cursor.level cursor.rest.now ≡ false }
+        (words_of (T.tables memory.now) (P.places mapping.now)) root cursor.now }
+    requires not_there { cursors.is_there L.LEVELS cursor.now.next cursor.now.level cursor.now.rest.now ≡ false }
     ensures { cursors.IsStep L.LEVELS
-        (words_of (T.tables memory.now) (P.places mapping.now)) root cursor.entry result }
+        (words_of (T.tables memory.now) (P.places mapping.now)) root cursor.now result }
 {
     let Some(first) = cursor.rest.first() else {
         return start::<L, T, P>(memory, mapping, root, cursor.next);
@@ -192,33 +204,21 @@ fn count_absent(entries: &[PageTableEntry]) -> usize
     entries.len()
 }
 
-/// Returns the table that an entry of a level leads to, or `None` if the entry is of level one or has `HUGE_PAGE`, or if its
-/// frame has no table in the memory.
-#[tactic(auto, using(x86_64_model::proofs::Lemmas::Entries::Words::address_aligned))]
+/// Returns the table that an entry of a level leads to, or `None` if it leads to none in the memory.
 fn table_below<'a, T: TableMemory, P: PageTableFrameMapping>(
     memory: &'a T,
     mapping: &P,
     level: u64,
     entry: &PageTableEntry,
 ) -> Option<&'a PageTable>
-    ensures { option_copied result ≡ cond ((level == 1) || huge entry.now) None
-        (words_of (T.tables memory.now) (P.places mapping.now) (address entry.now)) }
+    requires { 1 ≤ level }
+    ensures { option_copied result ≡ cursors.table_by
+        (words_of (T.tables memory.now) (P.places mapping.now)) (target_of level entry.now) }
 {
-    if level == 1 || has_flag(entry, PageTableFlags::HUGE_PAGE) {
-        return None;
+    match entry.target(level) {
+        EntryTarget::Table(frame) => table_in(memory, mapping, frame),
+        EntryTarget::Page | EntryTarget::Nothing => None,
     }
-    table_in(
-        memory,
-        mapping,
-        PhysFrame::from_start_address_unchecked(entry.addr()),
-    )
-}
-
-/// Returns true if an entry of a level maps a page, provided that it has `PRESENT`.
-pub fn maps_page(level: u64, entry: &PageTableEntry) -> bool
-    ensures { result ≡ page_mapped level entry.now }
-{
-    level == 1 || (has_flag(entry, PageTableFlags::HUGE_PAGE) && (level == 2 || level == 3))
 }
 
 /// Returns the number of positions that an entry of a level spans.

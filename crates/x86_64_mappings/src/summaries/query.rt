@@ -13,8 +13,8 @@ use x86_64_addr::addr::PhysAddr;
 use x86_64_addr::level_count::{FiveLevels, LevelCount};
 use x86_64_page::frame::PhysFrame;
 use x86_64_page::page::Size4KiB;
-use x86_64_tables::page_table::{PageTable, PageTableEntry};
-use x86_64_tables::phys_memory::{PageTableFrameMapping, Rights, TableMemory, table_in};
+use x86_64_tables::page_table::{PageTable, PageTableEntry, Rights};
+use x86_64_tables::phys_memory::{PageTableFrameMapping, TableMemory, table_in};
 
 /// A query: a memory, and which mappings of its tables are wanted.
 #[derive(Clone, Copy)]
@@ -60,12 +60,7 @@ impl<'a, T, P> Query<'a, T, P> {
     {
         let page = MappingIn::<FiveLevels>::of_page(level, 0, entry, Rights::ALL);
         if self.wants(&page) {
-            let rights = Rights {
-                write: page.write,
-                user: page.user,
-                execute: page.execute,
-            };
-            Summary::of_one(page.size(), rights)
+            Summary::of_one(page.size(), page.rights)
         } else {
             Summary::NONE
         }

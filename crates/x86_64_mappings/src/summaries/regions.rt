@@ -1,29 +1,25 @@
 //! Visits of regions.
-ghost use Rattle.std.specs.Prelude.{◌≡◌, ◌<◌, ◌≤◌, ◌+◌, ◌*◌, ◌%◌, ◌∷◌, [], true, OnOk, filter};
-ghost use Rattle.x86_64_mappings.specs.Views.{seen_rights};
-ghost use Rattle.x86_64_model.specs.Mappings.{maps_page as page_mapped};
+ghost use Rattle.std.specs.Prelude.{◌≡◌, ◌<◌, ◌≤◌, ◌+◌, ◌*◌, ◌%◌, ◌∷◌, [], OnOk, filter};
 ghost use Rattle.x86_64_model.specs.Position.{span as span_of, position_count};
-ghost use Rattle.x86_64_model.specs.private.Found.{page_at};
 ghost use Rattle.x86_64_mappings.specs.Wanted.{asked_of, asked_regions, is_wanted};
-ghost use Rattle.x86_64_mappings.specs.private.Joined.{region_between, Joins};
+ghost use Rattle.x86_64_mappings.specs.private.Joined.{region_between, listed, Joins};
 ghost use Rattle.x86_64_mappings.specs.private.Targets.{asked_in};
 
 mod extent;
-mod joiner;
 
-use crate::summaries::by_table::Summaries;
-use crate::summaries::entries::{Target, target_of};
+use crate::joiner::Joiner;
 use crate::summaries::query::Query;
+use crate::summaries::reached_table::ReachedTable;
+use crate::summaries::table_summaries::Summaries;
 use crate::summaries::visitor::Visitor;
 use crate::{MappingIn, RegionIn, span};
 use extent::{Extent, extent_of};
-use joiner::Joiner;
 use x86_64_addr::addr::VirtAddrIn;
 use x86_64_addr::level_count::LevelCount;
 use x86_64_page::frame::PhysFrame;
 use x86_64_page::page::Size4KiB;
-use x86_64_tables::page_table::PageTableEntry;
-use x86_64_tables::phys_memory::{PageTableFrameMapping, Rights, TableMemory};
+use x86_64_tables::page_table::{EntryTarget, Rights};
+use x86_64_tables::phys_memory::{PageTableFrameMapping, TableMemory};
 
 /// Visits the regions formed by all wanted mappings below a root, in order of their addresses.
 ///
@@ -47,52 +43,44 @@ pub fn visit_regions<
         (asked_regions (asked_of T.tables P.places summaries.now) L.LEVELS root)) }
 {
     let mut joiner = Joiner::new();
-    join_table(
-        summaries,
-        L::LEVELS,
-        root,
-        0,
-        Rights::ALL,
-        &mut joiner,
-        visitor,
-    )?;
-    joiner.finish(visitor)
+    let table = ReachedTable::root::<L>(root);
+    join_table(summaries, &table, &mut joiner, visitor)?;
+    visit_joined(joiner.finish(), visitor)
 }
 
-/// Joins the regions of a frame's table of a level, whose span starts at a position (the number of an address counted
-/// without the gap), below entries that allow `above`.
+/// Joins the regions of a table.
 #[cycle(regions)]
 fn join_table<L: LevelCount, T: TableMemory, P: PageTableFrameMapping, V: Visitor<RegionIn<L>>>(
     summaries: &Summaries<'_, T, P>,
-    level: u64,
-    frame: PhysFrame<Size4KiB>,
-    start: u64,
-    above: Rights,
+    table: &ReachedTable,
     joiner: &mut Joiner<L>,
     visitor: &mut V,
 ) -> Result<(), V::Error>
-    requires low { 1 ≤ level }
-    requires high { level ≤ L.LEVELS }
-    requires aligned { start % span_of level ≡ 0 }
-    requires inside { start + 512 * span_of level ≤ position_count L.LEVELS }
+    requires low { 1 ≤ table.now.level }
+    requires high { table.now.level ≤ L.LEVELS }
+    requires aligned { table.now.start % span_of table.now.level ≡ 0 }
+    requires inside { table.now.start + 512 * span_of table.now.level ≤ position_count L.LEVELS }
     ensures { OnOk result (Joins V.Visits L.LEVELS
-        (asked_in (asked_of T.tables P.places summaries.now) level start (seen_rights above) frame)
+        (asked_in (asked_of T.tables P.places summaries.now) table.now)
         joiner.old visitor.old joiner.new visitor.new) }
 {
     let query = summaries.query();
-    let Some(table) = query.table(frame) else {
+    let Some(words) = query.table(table.frame) else {
         return Ok(());
     };
-    let size = span(level);
-    let mut start = start;
-    for entry in table.as_slice() {
-        match target_of(level, entry) {
-            Target::Page => join_page(query, level, entry, start, above, joiner, visitor)?,
-            Target::Table(below) => {
-                let rights = above.below(entry);
-                join_below(summaries, level - 1, below, start, rights, joiner, visitor)?;
+    let size = span(table.level);
+    let mut start = table.start;
+    for entry in words.as_slice() {
+        match entry.target(table.level) {
+            EntryTarget::Page => {
+                let page = MappingIn::of_page(table.level, start, entry, table.above);
+                join_page(query, &page, joiner, visitor)?;
             }
-            Target::Nothing => {}
+            EntryTarget::Table(frame) => {
+                let below = table.below(entry, frame, start);
+                join_below(summaries, &below, joiner, visitor)?;
+            }
+            EntryTarget::Nothing => {}
         }
         start += size;
     }
@@ -103,51 +91,60 @@ fn join_table<L: LevelCount, T: TableMemory, P: PageTableFrameMapping, V: Visito
 #[cycle(regions)]
 fn join_below<L: LevelCount, T: TableMemory, P: PageTableFrameMapping, V: Visitor<RegionIn<L>>>(
     summaries: &Summaries<'_, T, P>,
-    level: u64,
-    frame: PhysFrame<Size4KiB>,
-    start: u64,
-    above: Rights,
+    table: &ReachedTable,
     joiner: &mut Joiner<L>,
     visitor: &mut V,
 ) -> Result<(), V::Error>
-    requires low { 1 ≤ level }
-    requires high { level < L.LEVELS }
-    requires aligned { start % position_count level ≡ 0 }
-    requires inside { start + position_count level ≤ position_count L.LEVELS }
+    requires low { 1 ≤ table.now.level }
+    requires high { table.now.level < L.LEVELS }
+    requires aligned { table.now.start % position_count table.now.level ≡ 0 }
+    requires inside { table.now.start + position_count table.now.level ≤ position_count L.LEVELS }
     ensures { OnOk result (Joins V.Visits L.LEVELS
-        (asked_in (asked_of T.tables P.places summaries.now) level start (seen_rights above) frame)
+        (asked_in (asked_of T.tables P.places summaries.now) table.now)
         joiner.old visitor.old joiner.new visitor.new) }
 {
-    match extent_of(summaries.of(level, frame), level, above) {
+    match extent_of(
+        summaries.of(table.level, table.frame),
+        table.level,
+        table.above,
+    ) {
         Extent::Nothing => Ok(()),
-        Extent::Whole(rights) => joiner.push(region_of_span(level, start, rights), visitor),
-        Extent::Mixture => join_table(summaries, level, frame, start, above, joiner, visitor),
+        Extent::Whole(rights) => {
+            let region = region_of_span(table.level, table.start, rights);
+            visit_joined(joiner.join(region), visitor)
+        }
+        Extent::Mixture => join_table(summaries, table, joiner, visitor),
     }
 }
 
-/// Joins the page that an entry of a level maps, if it is wanted.
-#[tactic(auto, using(x86_64_model::proofs::Lemmas::Mappings::SpanEnds::span_from))]
-fn join_page<L: LevelCount, T: TableMemory, P: PageTableFrameMapping, V: Visitor<RegionIn<L>>>(
+/// Joins a page, if it is wanted.
+fn join_page<L: LevelCount, T, P, V: Visitor<RegionIn<L>>>(
     query: &Query<'_, T, P>,
-    level: u64,
-    entry: &PageTableEntry,
-    start: u64,
-    above: Rights,
+    page: &MappingIn<L>,
     joiner: &mut Joiner<L>,
     visitor: &mut V,
 ) -> Result<(), V::Error>
-    requires low { 1 ≤ level }
-    requires page { page_mapped level entry.now ≡ true }
-    requires inside { start + span_of level ≤ position_count L.LEVELS }
-    ensures { OnOk result (Joins V.Visits L.LEVELS
-        (filter (is_wanted query.now.wanted) (page_at start level (seen_rights above) entry.now ∷ []))
+    requires { page.now.start + page.now.size ≤ position_count L.LEVELS }
+    ensures { OnOk result (Joins V.Visits L.LEVELS (filter (is_wanted query.now.wanted) (page.now ∷ []))
         joiner.old visitor.old joiner.new visitor.new) }
 {
-    let page = MappingIn::of_page(level, start, entry, above);
-    if query.wants(&page) {
-        return joiner.push(RegionIn::of(&page), visitor);
+    if query.wants(page) {
+        return visit_joined(joiner.join(RegionIn::of(page)), visitor);
     }
     Ok(())
+}
+
+/// Visits a region that a joiner hands out, if there is one.
+fn visit_joined<L: LevelCount, V: Visitor<RegionIn<L>>>(
+    joined: Option<RegionIn<L>>,
+    visitor: &mut V,
+) -> Result<(), V::Error>
+    ensures { OnOk result (V.Visits visitor.old visitor.new (listed joined)) }
+{
+    match joined {
+        Some(region) => visitor.visit(region),
+        None => Ok(()),
+    }
 }
 
 /// Returns the region of the whole span of a table of a level.
@@ -155,13 +152,11 @@ fn region_of_span<L: LevelCount>(level: u64, start: u64, rights: Rights) -> Regi
     requires low { 1 ≤ level }
     requires high { level < 5 }
     requires inside { start + position_count level ≤ position_count L.LEVELS }
-    ensures { result ≡ region_between start (start + position_count level) (seen_rights rights) }
+    ensures { result ≡ region_between start (start + position_count level) rights }
 {
     RegionIn {
         first: VirtAddrIn::new_truncate(start),
         last: VirtAddrIn::new_truncate(start + (span(level + 1) - 1)),
-        write: rights.write,
-        user: rights.user,
-        execute: rights.execute,
+        rights,
     }
 }

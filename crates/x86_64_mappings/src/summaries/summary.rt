@@ -2,7 +2,7 @@
 ghost use Rattle.std.specs.Prelude.{◌≡◌, ◌+◌, IfSome};
 ghost use Rattle.x86_64_mappings.specs.private.Merged as merged;
 
-use x86_64_tables::phys_memory::Rights;
+use x86_64_tables::page_table::Rights;
 
 /// A summary of mappings.
 #[derive(Clone, Copy)]
@@ -22,11 +22,7 @@ impl Summary {
     pub(crate) const NONE: Summary = Summary {
         count: 0,
         bytes: 0,
-        some: Rights {
-            write: false,
-            user: false,
-            execute: false,
-        },
+        some: Rights::NONE,
         all: Rights::ALL,
     };
 
@@ -49,12 +45,8 @@ impl Summary {
         Some(Summary {
             count: self.count.checked_add(others.count)?,
             bytes: self.bytes.checked_add(others.bytes)?,
-            some: Rights {
-                write: self.some.write || others.some.write,
-                user: self.some.user || others.some.user,
-                execute: self.some.execute || others.some.execute,
-            },
-            all: common(self.all, others.all),
+            some: self.some.or(others.some),
+            all: self.all.and(others.all),
         })
     }
 
@@ -66,20 +58,9 @@ impl Summary {
             return self;
         }
         Summary {
-            some: common(above, self.some),
-            all: common(above, self.all),
+            some: above.and(self.some),
+            all: above.and(self.all),
             ..self
         }
-    }
-}
-
-/// Returns what both allow.
-fn common(some: Rights, others: Rights) -> Rights
-    ensures { result ≡ merged.both some others }
-{
-    Rights {
-        write: some.write && others.write,
-        user: some.user && others.user,
-        execute: some.execute && others.execute,
     }
 }

@@ -1,6 +1,6 @@
 //! Entries of page tables.
-ghost use Rattle.std.specs.Prelude.{◌≡◌, ◌<◌, ◌%◌, ◌^◌, false, not, bit_or};
-ghost use Rattle.x86_64_model.specs.Entry.{used, huge, address, flags};
+ghost use Rattle.std.specs.Prelude.{◌≡◌, ◌<◌, ◌%◌, ◌^◌, false, not, bit_and, bit_or};
+ghost use Rattle.x86_64_model.specs.Entry.{has, used, huge, address, flags};
 ghost use Rattle.x86_64_tables.specs.PageTableEntry.{frame_of};
 ghost use Rattle.x86_64_tables.specs.PageTableFlags.{bits_of};
 
@@ -168,4 +168,14 @@ impl fmt::Debug for PageTableEntry {
             .field("flags", &flags)
             .finish()
     }
+}
+
+/// Returns true if an entry has a flag.
+///
+/// Requires that the flag has none of the bits 12 to 51.
+pub fn has_flag(entry: &PageTableEntry, flag: PageTableFlags) -> bool
+    requires { bit_and 0xfff0_0000_0000_0fff (bits_of flag) ≡ bits_of flag }
+    ensures { result ≡ has entry.now (bits_of flag) }
+{
+    entry.flags().contains(flag)
 }

@@ -1,16 +1,14 @@
 //! The page walk: how the processor translates a virtual address.
-ghost use Rattle.std.specs.Prelude.{◌≡◌, ◌<◌, ◌≤◌, ◌&&◌, true, not, option_map, bit_and};
+ghost use Rattle.std.specs.Prelude.{◌≡◌, ◌<◌, ◌≤◌, true, option_map};
 ghost use Rattle.std.specs.Option.{option_copied};
-ghost use Rattle.x86_64_model.specs.Entry.{has, writable, user, no_execute};
 ghost use Rattle.x86_64_model.specs.Memory.{words_of};
 ghost use Rattle.x86_64_model.specs.Position.{index, span};
 ghost use Rattle.x86_64_model.specs.PageWalk.{read, walk_on, page_walk as page_walk_of};
-ghost use Rattle.x86_64_tables.specs.PageTableFlags.{bits_of};
 ghost use Rattle.x86_64_tables.specs.Walks.{walked_of, arrival, ends};
 
 use super::{PageTableFrameMapping, TableMemory};
-use crate::page_table::{PageTable, PageTableEntry, PageTableFlags};
-use bitflags::Flags;
+pub use crate::page_table::has_flag;
+use crate::page_table::{PageTable, PageTableEntry, PageTableFlags, Rights};
 use x86_64_addr::addr::{PhysAddr, VirtAddrIn};
 use x86_64_addr::level_count::LevelCount;
 use x86_64_page::frame::PhysFrame;
@@ -50,39 +48,6 @@ pub fn page_walk<T: TableMemory, P: PageTableFrameMapping, L: LevelCount>(
         ≡ page_walk_of L.LEVELS (words_of (T.tables memory.now) (P.places mapping.now)) root addr }
 {
     walk_from(memory, mapping, L::LEVELS, root, addr.position())
-}
-
-/// What the entries on the way so far allow.
-#[derive(Clone, Copy)]
-pub struct Rights {
-    /// Whether all have `WRITABLE`.
-    pub write: bool,
-    /// Whether all have `USER_ACCESSIBLE`.
-    pub user: bool,
-    /// Whether none has `NO_EXECUTE`.
-    pub execute: bool,
-}
-
-impl Rights {
-    /// What is allowed before the first entry: everything.
-    pub const ALL: Rights = Rights {
-        write: true,
-        user: true,
-        execute: true,
-    };
-
-    /// Returns what is still allowed below an entry.
-    pub fn below(self, entry: &PageTableEntry) -> Rights
-        ensures write { result.write ≡ (self.write && writable entry.now) }
-        ensures user { result.user ≡ (self.user && user entry.now) }
-        ensures execute { result.execute ≡ (self.execute && not (no_execute entry.now)) }
-    {
-        Rights {
-            write: self.write & has_flag(entry, PageTableFlags::WRITABLE),
-            user: self.user & has_flag(entry, PageTableFlags::USER_ACCESSIBLE),
-            execute: self.execute & !has_flag(entry, PageTableFlags::NO_EXECUTE),
-        }
-    }
 }
 
 /// Walks from the root down through `levels` levels to a position: the number of an address counted without the gap.
@@ -143,16 +108,6 @@ pub(super) fn entry_at<'a, T: TableMemory, P: PageTableFrameMapping>(
 {
     let table = table_in(memory, mapping, frame)?;
     Some(&table[index])
-}
-
-/// Returns true if an entry has a flag.
-///
-/// Requires that the flag has none of the bits 12 to 51.
-pub fn has_flag(entry: &PageTableEntry, flag: PageTableFlags) -> bool
-    requires { bit_and 0xfff0_0000_0000_0fff (bits_of flag) ≡ bits_of flag }
-    ensures { result ≡ has entry.now (bits_of flag) }
-{
-    entry.flags().contains(flag)
 }
 
 /// Returns where a walk arrives in the page that an entry of a level maps, or `None` if entries of the level map no page.

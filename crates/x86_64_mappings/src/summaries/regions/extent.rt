@@ -1,16 +1,15 @@
 //! How much of its span a table maps.
-ghost use Rattle.std.specs.Prelude.{◌≡◌, ◌+◌, ◌<◌, ◌≤◌, ◌↔◌, ℕ, IfSome, IsTrue};
-ghost use Rattle.x86_64_mappings.specs.Views.{seen_rights};
+ghost use Rattle.std.specs.Prelude.{◌≡◌, ◌+◌, ◌<◌, ◌≤◌, ℕ, map, IfSome};
 ghost use Rattle.x86_64_model.specs.Position.{span as span_of};
 ghost use Rattle.x86_64_mappings.specs.Summaries.{summary_of};
 ghost use Rattle.x86_64_mappings.specs.Wanted.{Asked, asked_mappings};
 ghost use Rattle.x86_64_mappings.specs.private.Extents.{IsExtent};
 ghost use Rattle.x86_64_mappings.specs.private.Merged.{lessened};
-ghost use Rattle.x86_64_mappings.specs.private.Targets.{asked_in};
+ghost use Rattle.x86_64_mappings.specs.private.Placed.{placed};
 
 use crate::span;
 use crate::summaries::summary::Summary;
-use x86_64_tables::phys_memory::Rights;
+use x86_64_tables::page_table::Rights;
 
 /// How much of its span a table maps, as far as it is known.
 #[derive(Clone, Copy)]
@@ -29,7 +28,7 @@ pub(super) fn extent_of(summary: Option<Summary>, level: u64, above: Rights) -> 
     requires high { level < 5 }
     ensures extent { (asked : Asked) (frame start : ℕ) →
         IfSome summary (λ summary. summary ≡ summary_of (asked_mappings asked level frame))
-        → IsExtent level start (asked_in asked level start (seen_rights above) frame) result }
+        → IsExtent level start (map (placed start above) (asked_mappings asked level frame)) result }
     ensures nothing { IfSome summary (λ summary. summary.count ≡ 0 → result ≡ Extent.Nothing) }
     ensures whole { IfSome summary (λ summary. let below = lessened above summary in
         0 < summary.count → below.bytes ≡ span_of (level + 1) → below.some ≡ below.all
@@ -42,16 +41,9 @@ pub(super) fn extent_of(summary: Option<Summary>, level: u64, above: Rights) -> 
         return Extent::Nothing;
     }
     let summary = summary.below(above);
-    if summary.bytes == span(level + 1) && are_equal(summary.some, summary.all) {
+    if summary.bytes == span(level + 1) && summary.some == summary.all {
         Extent::Whole(summary.all)
     } else {
         Extent::Mixture
     }
-}
-
-/// Returns true if rights are equal.
-fn are_equal(some: Rights, others: Rights) -> bool
-    ensures { IsTrue result ↔ (some ≡ others) }
-{
-    some.write == others.write && some.user == others.user && some.execute == others.execute
 }

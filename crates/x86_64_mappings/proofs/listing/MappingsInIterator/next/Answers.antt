@@ -3,7 +3,6 @@ use Rattle.std.proofs.lemmas.List.{get_or_read}
 use Rattle.x86_64_model.specs.Memory.{words_of}
 use Rattle.x86_64_model.specs.Position.{position_count}
 use Rattle.x86_64_model.specs.private.Found.{page_at}
-use Rattle.x86_64_mappings.specs.Views.{seen_rights}
 use Rattle.x86_64_mappings.specs.private.Cursors.{listed_from}
 use Rattle.x86_64_mappings.proofs.Entries.{on_past}
 use Rattle.x86_64_mappings.proofs.Steps.{small_first, there_first, there_last, page_first, none_last, goes_first}
@@ -17,7 +16,7 @@ invariant_of-self g c =
     let at = s.cursor in
     let small = small_first at.level at.rest.now (sym c.if-is_at_small_page.ensures) in
     rw (c.past-self-inside.ensures.rest, c.past-self-inside.ensures.next, c.past-self-inside.ensures.level, c.past-self-inside.ensures.rights)
-    (on_past L words s.root at.next at.level (seen_rights at.rights) at.rest.now c.self.invariant 1 (omega arith) (let some = small.some in omega (arith, some)))
+    (on_past L words s.root at.next at.level at.rights at.rest.now c.self.invariant 1 (omega arith) (let some = small.some in omega (arith, some)))
 
 pub returns-then-is_at_small_page-clause-steps : goal.returns-then-is_at_small_page-clause-steps
 returns-then-is_at_small_page-clause-steps g c =
@@ -26,25 +25,25 @@ returns-then-is_at_small_page-clause-steps g c =
     let words = words_of (g.T.TableMemory.tables s.memory.now) (g.P.PageTableFrameMapping.places s.mapping.now) in
     let at = s.cursor in
     let small = small_first at.level at.rest.now (sym c.if-is_at_small_page.ensures) in
-    let entry : get_or at.rest.now 0 c.index-cursor-0.result ≡ get_or at.rest.now 0 0 =
-    sym c.index-cursor-0.is ∙ get_or_read at.rest.now 0 c.index-cursor-0.result small.some c.index-cursor-0.is 0 in
-    let page : c.of_page.result ≡ page_at at.next at.level (seen_rights at.rights) (get_or at.rest.now 0 0) =
-    c.of_page.ensures ∙ ap₂ (λ level e. page_at at.next level (seen_rights at.rights) e) (sym small.level_is) entry in
-    sym c.self.view_is ∙ page_first L words s.root at.next at.level (seen_rights at.rights) at.rest.now c.self.invariant small.some small.page
+    let entry : get_or at.rest.now 0 c.index-self-0.result ≡ get_or at.rest.now 0 0 =
+    sym c.index-self-0.is ∙ get_or_read at.rest.now 0 c.index-self-0.result small.some c.index-self-0.is 0 in
+    let page : c.of_page-page.result ≡ page_at at.next at.level at.rights (get_or at.rest.now 0 0) =
+    c.of_page-page.ensures ∙ ap₂ (λ level e. page_at at.next level at.rights e) (sym small.level_is) entry in
+    sym c.self.view_is ∙ page_first L words s.root at.next at.level at.rights at.rest.now c.self.invariant small.some small.page
     ∙ ap₂ (λ m next. m ∷ listed_from L words s.root next) (sym page) (sym c.past-self-inside.ensures.next)
 
 pub returns-then-is_at_small_page-clause-goes : goal.returns-then-is_at_small_page-clause-goes
 returns-then-is_at_small_page-clause-goes g c = goes_first _ _ _ (returns-then-is_at_small_page-clause-steps g c)
 
-pub returns-in_err-entry-clause-steps : goal.returns-in_err-entry-clause-steps
-returns-in_err-entry-clause-steps g c =
+pub returns-in_default-clause-steps : goal.returns-in_default-clause-steps
+returns-in_default-clause-steps g c =
     let L = g.L.LevelCount.LEVELS in
     let s = c.self.inside in
     let words = words_of (g.T.TableMemory.tables s.memory.now) (g.P.PageTableFrameMapping.places s.mapping.now) in
     let at = c.find_page.new.cursor in
-    let last : at.next ≡ position_count L = there_last L at.next at.level at.rest.now c.in_err-entry.ensures.item.3 c.find_page.ensures.there in
+    let last : at.next ≡ position_count L = there_last L at.next at.level at.rest.now c.in_default.ensures.item.3 c.find_page.ensures.there in
     let ended : listed_from L words s.root at.next ≡ [] = ap (listed_from L words s.root) last ∙ none_last L words s.root in
-    rw c.from_residual.ensures (sym c.self.view_is ∙ c.find_page.ensures.same ∙ ended, ended)
+    (sym c.self.view_is ∙ ap (λ at. listed_from L words s.root at.next) (sym c.copied-found.ensures) ∙ c.find_page.ensures.same ∙ ended, ended)
 
 pub invariant_of-self-2 : goal.invariant_of-self-2
 invariant_of-self-2 g c =
@@ -52,9 +51,9 @@ invariant_of-self-2 g c =
     let s = c.self.inside in
     let words = words_of (g.T.TableMemory.tables s.memory.now) (g.P.PageTableFrameMapping.places s.mapping.now) in
     let at = c.find_page.new.cursor in
-    let some : 0 < length at.rest.now = c.in_ok-entry.ensures.item.3.0 in
+    let some : 0 < length at.rest.now = c.in-Some.ensures.item.3.0 in
     rw (c.past-self-inside-2.ensures.rest, c.past-self-inside-2.ensures.next, c.past-self-inside-2.ensures.level, c.past-self-inside-2.ensures.rights)
-    (on_past L words s.root at.next at.level (seen_rights at.rights) at.rest.now c.find_page.ensures.on 1 (omega arith) (omega (arith, some)))
+    (on_past L words s.root at.next at.level at.rights at.rest.now c.find_page.ensures.on 1 (omega arith) (omega (arith, some)))
 
 pub returns-clause-steps : goal.returns-clause-steps
 returns-clause-steps g c =
@@ -62,11 +61,11 @@ returns-clause-steps g c =
     let s = c.self.inside in
     let words = words_of (g.T.TableMemory.tables s.memory.now) (g.P.PageTableFrameMapping.places s.mapping.now) in
     let at = c.find_page.new.cursor in
-    let some : 0 < length at.rest.now = c.in_ok-entry.ensures.item.3.0 in
-    let entry : c.in_ok-entry.entry.now ≡ get_or at.rest.now 0 0 = c.in_ok-entry.ensures.item.3.1 0 in
+    let some : 0 < length at.rest.now = c.in-Some.ensures.item.3.0 in
+    let entry : c.in-Some.entry.now ≡ get_or at.rest.now 0 0 = c.in-Some.ensures.item.3.1 0 in
     let page = sym (there_first L at.next at.level at.rest.now some) ∙ c.find_page.ensures.there in
-    sym c.self.view_is ∙ c.find_page.ensures.same ∙ page_first L words s.root at.next at.level (seen_rights at.rights) at.rest.now c.find_page.ensures.on some page
-    ∙ ap₂ (λ m next. m ∷ listed_from L words s.root next) (sym (c.of_page-2.ensures ∙ ap (page_at at.next at.level (seen_rights at.rights)) entry)) (sym c.past-self-inside-2.ensures.next)
+    sym c.self.view_is ∙ ap (λ at. listed_from L words s.root at.next) (sym c.copied-found.ensures) ∙ c.find_page.ensures.same ∙ page_first L words s.root at.next at.level at.rights at.rest.now c.find_page.ensures.on some page
+    ∙ ap₂ (λ m next. m ∷ listed_from L words s.root next) (sym (c.of_page.ensures ∙ ap (page_at at.next at.level at.rights) entry)) (sym c.past-self-inside-2.ensures.next)
 
 pub returns-clause-goes : goal.returns-clause-goes
 returns-clause-goes g c = goes_first _ _ _ (returns-clause-steps g c)

@@ -3,7 +3,6 @@ use Rattle.x86_64_model.specs.PageWalk.{page_start}
 use Rattle.x86_64_model.specs.Position.{span, position_count}
 use Rattle.x86_64_tables.specs.Translations.{frame_start, frame_size}
 use Rattle.x86_64_tables.specs.declared.mapper.MappedFrame.{MappedFrame}
-use Rattle.x86_64_mappings.specs.Views.{seen_rights}
 use Rattle.x86_64_mappings.proofs.Pages.{third, sized, page_made}
 use Rattle.x86_64_mappings.proofs.mapping.MappingIn.of_page.Goals as goal
 use Rattle.x86_64_mappings.proofs.mapping.MappingIn.of_page.Goals.{in-1, in-2, in_default}
@@ -24,7 +23,7 @@ returns g c =
           let not_two : level ≢ 2 = λ e. omega (arith, e) in
           subst P (sym w.frame-is) (sized level 3 0x4000_0000 w.containing_address-in_default.result e (third level e c.requires.page not_one not_two) refl (w.containing_address-in_default.ensures ∙ ap (λ n. n - n % 0x4000_0000) w.addr-in_default.ensures))
     ] in
-    page_made L level c.args.position e (seen_rights c.args.above) c.new_truncate.result frame c.flags.result c.below-rights.result.write c.below-rights.result.user c.below-rights.result.execute
+    page_made L level c.args.position e c.args.above c.new_truncate.result frame c.flags.result c.below.result
     c.requires.inside
     (c.new_truncate.ensures ∙ ap₂ (λ a b. (c.args.position / a * b) % position_count L) c.size.ensures c.size-2.ensures)
-    sizes.0 sizes.1 c.flags.ensures.value c.below-rights.ensures.write c.below-rights.ensures.user c.below-rights.ensures.execute
+    sizes.0 sizes.1 c.flags.ensures.value c.below.ensures

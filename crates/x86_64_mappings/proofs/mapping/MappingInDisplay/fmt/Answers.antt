@@ -11,5 +11,5 @@ returns-clause-writes g c =
     let frame = c.as_u64-frame.ensures.value ∙ c.start_address.ensures in
     let given = c.bits-flags.ensures tt in
     subst (λ text. WritesOnOk g.W.Write.write_str_gives c.args.f.now c.write_line.result text c.write_line.new.f)
-    ((λ i. line_text (start i) (size i) (frame i) m.write m.user m.execute (given i)) ∙ ap (mapping_text g.L.LevelCount.LEVELS) c.self.view_is)
+    ((λ i. line_text (start i) (size i) (frame i) m.rights (given i)) ∙ ap (mapping_text g.L.LevelCount.LEVELS) c.self.view_is)
     c.write_line.ensures

@@ -1,16 +1,15 @@
-use Rattle.std.proofs.Common.{◌≡◌, ◌≤◌, ◌<◌, ◌+◌, ◌-◌, ◌*◌, ◌%◌, ◌^◌, [], ◌∷◌, None, Some, refl, sym, ap, ◌∙◌, subst, subst₂, arith, get_or, length, take, filter, map}
+use Rattle.std.proofs.Common.{◌≡◌, ◌≤◌, ◌<◌, ◌+◌, ◌-◌, ◌*◌, ◌%◌, ◌^◌, [], ◌∷◌, None, Some, sym, ap, ap₂, ◌∙◌, subst, subst₂, arith, get_or, length, take, filter, map}
 use Rattle.std.proofs.Math.Pow.{pow_mono}
 use Rattle.std.proofs.lemmas.List.{get_or_read, take_all}
 use Rattle.std.proofs.lemmas.Nat.{pow_pos}
 use Rattle.std.proofs.lemmas.Result.{on_ok_weaker}
-use Rattle.x86_64_mappings.specs.Views.{seen_rights}
 use Rattle.x86_64_model.specs.Position.{span, position_count}
-use Rattle.x86_64_model.specs.private.Found.{narrowed, page_at}
+use Rattle.x86_64_model.specs.private.Found.{narrowed}
 use Rattle.x86_64_mappings.specs.Wanted.{asked_of, asked_mappings, is_wanted}
 use Rattle.x86_64_mappings.specs.private.Joined.{Joins}
 use Rattle.x86_64_mappings.specs.private.Placed.{placed}
-use Rattle.x86_64_mappings.specs.private.Targets.{asked_by, asked_on}
-use Rattle.x86_64_mappings.proofs.Joined.{joins_none, joins_both, joins_whole}
+use Rattle.x86_64_mappings.specs.private.Targets.{asked_by, asked_in, asked_on}
+use Rattle.x86_64_mappings.proofs.Joined.{joins_none, joins_region, joins_both, joins_whole}
 use Rattle.x86_64_mappings.proofs.Spans.{span_in_half, count_span, table_aligned}
 use Rattle.x86_64_mappings.proofs.Tables.{asked_none, asked_table, by_nothing, by_page, by_table, none_copied}
 use Rattle.x86_64_mappings.proofs.Visited.{next_start, start_inside, start_aligned, visited_more, visited_same}
@@ -21,7 +20,7 @@ use Rattle.x86_64_mappings.proofs.summaries.regions.+regions.Goals.{join_table-i
 
 pub join_below-join_table-requires : goal.join_below-join_table-requires
 join_below-join_table-requires g t c κs within =
-    let level = c.args.level in
+    let level = c.args.table.now.level in
     let low : 1 ≤ level = c.requires.low in
     let high = c.requires.high in
     let size = count_span level low in (
@@ -30,7 +29,7 @@ join_below-join_table-requires g t c κs within =
         within.0,
         (
           within.1.0,
-          (within.1.1.0, (within.1.1.1.0, (within.1.1.1.1, (low, (omega (arith, high), (table_aligned level c.args.start low c.requires.aligned, omega (arith, size, c.requires.inside))))))),
+          (within.1.1.0, (within.1.1.1.0, (within.1.1.1.1, (low, (omega (arith, high), (table_aligned level c.args.table.now.start low c.requires.aligned, omega (arith, size, c.requires.inside))))))),
         ),
       ),
     )
@@ -38,19 +37,20 @@ join_below-join_table-requires g t c κs within =
 pub join_below-returns-in-Nothing : goal.join_below-returns-in-Nothing
 join_below-returns-in-Nothing g t c =
     let asked = asked_of g.T.TableMemory.tables g.P.PageTableFrameMapping.places c.args.summaries.now in
-    subst (λ ms. Joins g.V.Visitor.Visits g.L.LevelCount.LEVELS ms c.args.joiner.now c.args.visitor.now c.args.joiner.now c.args.visitor.now) (sym (c.in-Nothing.ensures.extent asked c.args.frame c.args.start c.of.ensures))
+    subst (λ ms. Joins g.V.Visitor.Visits g.L.LevelCount.LEVELS ms c.args.joiner.now c.args.visitor.now c.args.joiner.now c.args.visitor.now) (sym (c.in-Nothing.ensures.extent asked c.args.table.now.frame c.args.table.now.start c.of.ensures))
     (joins_none g.V.Visitor.Visits g.L.LevelCount.LEVELS g.met.V.Visitor.none _ _)
 
 pub join_below-returns-in-Whole : goal.join_below-returns-in-Whole
 join_below-returns-in-Whole g t c =
     let L = g.L.LevelCount.LEVELS in
-    let some : 0 < position_count c.args.level = pow_pos (12 + 9 * c.args.level) in
+    let some : 0 < position_count c.args.table.now.level = pow_pos (12 + 9 * c.args.table.now.level) in
     let asked = asked_of g.T.TableMemory.tables g.P.PageTableFrameMapping.places c.args.summaries.now in
-    let mappings = map (placed c.args.start (seen_rights c.args.above)) (asked_mappings asked c.args.level c.args.frame) in
-    on_ok_weaker c.push.result
-    (joins_whole g.V.Visitor.Visits L c.args.start (c.args.start + position_count c.args.level) (seen_rights c.in-Whole.rights) mappings (omega (arith, some)) (c.in-Whole.ensures.extent asked c.args.frame c.args.start c.of.ensures)
-    (span_in_half L c.args.level c.args.start c.requires.high c.requires.aligned) c.region_of_span.result c.region_of_span.ensures _ _ _ _)
-    c.push.ensures
+    let mappings = map (placed c.args.table.now.start c.args.table.now.above) (asked_mappings asked c.args.table.now.level c.args.table.now.frame) in
+    on_ok_weaker c.visit_joined.result
+    (λ visited. joins_whole g.V.Visitor.Visits L c.args.table.now.start (c.args.table.now.start + position_count c.args.table.now.level) c.in-Whole.rights mappings (omega (arith, some)) (c.in-Whole.ensures.extent asked c.args.table.now.frame c.args.table.now.start c.of.ensures)
+    (span_in_half L c.args.table.now.level c.args.table.now.start c.requires.high c.requires.aligned) c.region_of_span-region.result c.region_of_span-region.ensures _ _ _ _
+    (joins_region g.V.Visitor.Visits L c.region_of_span-region.result _ c.join.result _ _ _ c.join.ensures.given c.join.ensures.held visited))
+    c.visit_joined.ensures
 
 -- ---- a table
 
@@ -58,10 +58,10 @@ pub join_table-returns-in_default : goal.join_table-returns-in_default
 join_table-returns-in_default g t c =
     let asking_by = asked_of g.T.TableMemory.tables g.P.PageTableFrameMapping.places in
     let asked = asking_by c.args.summaries.now in
-    let none : asked.words c.args.frame ≡ None =
-    ap (λ a. (asking_by a).words c.args.frame) (sym c.query-query.ensures) ∙ sym c.table.ensures ∙ none_copied c.table.result c.in_default.not-Some in
+    let none : asked.words c.args.table.now.frame ≡ None =
+    ap (λ a. (asking_by a).words c.args.table.now.frame) (sym c.query-query.ensures) ∙ sym c.table.ensures ∙ none_copied c.table.result c.in_default.not-Some in
     subst (λ ms. Joins g.V.Visitor.Visits g.L.LevelCount.LEVELS ms c.args.joiner.now c.args.visitor.now c.args.joiner.now c.args.visitor.now)
-    (sym (ap (map (placed c.args.start (seen_rights c.args.above))) (asked_none asked c.args.level c.args.frame none)))
+    (sym (ap (map (placed c.args.table.now.start c.args.table.now.above)) (asked_none asked c.args.table.now.level c.args.table.now.frame none)))
     (joins_none g.V.Visitor.Visits g.L.LevelCount.LEVELS g.met.V.Visitor.none c.args.joiner.now c.args.visitor.now)
 
 pub join_table-loop-entry-init : goal.join_table-loop-entry-init
@@ -72,8 +72,8 @@ join_table-loop-entry-init g t c = record {
 
 pub join_table-join_below-requires : goal.join_table-join_below-requires
 join_table-join_below-requires g t c κs within =
-    let level = c.args.level in
-    let s = c.args.start in
+    let level = c.args.table.now.level in
+    let s = c.args.table.now.start in
     let w = span level in
     let i = c.loop-entry.entry-index in
     let low : 1 < level = c.in-Table.ensures.table tt in
@@ -81,20 +81,30 @@ join_table-join_below-requires g t c κs within =
     let start : c.loop-entry.start ≡ s + i * w = c.loop-entry.invariant.start in
     let aligned : c.loop-entry.start % w ≡ 0 = ap (λ s. s % w) start ∙ start_aligned s i w c.requires.aligned in
     let size : length c.as_slice-entry-items.result.now ≡ 512 = ap length c.as_slice-entry-items.ensures.words ∙ c.as_slice-entry-items.ensures.size in
-    let inside = start_inside s i w (position_count g.L.LevelCount.LEVELS) (omega (arith, c.loop-entry-test.true, size)) c.requires.inside in (
-      let d : 2 * level ≡ t = c.decreases in let m : 2 * (level - 1) + 1 < t = omega (arith, d, low) in m,
+    let inside = start_inside s i w (position_count g.L.LevelCount.LEVELS) (omega (arith, c.loop-entry-test.true, size)) c.requires.inside in
+    let below = c.below-below.result in
+    let level_is : below.level ≡ level - 1 = ap (λ table. table.level) c.below-below.ensures in
+    let start_is : below.start ≡ c.loop-entry.start = ap (λ table. table.start) c.below-below.ensures in
+    let count : position_count below.level ≡ w = ap position_count level_is in
+    let d : 2 * level ≡ t = c.decreases in
+    let falls : 2 * below.level + 1 < t = omega (arith, d, low, level_is) in
+    let below_low : 1 ≤ below.level = omega (arith, low, level_is) in
+    let below_high : below.level < g.L.LevelCount.LEVELS = omega (arith, low, high, level_is) in
+    let below_aligned : below.start % position_count below.level ≡ 0 = ap₂ (λ s p. s % p) start_is count ∙ aligned in
+    let below_inside : below.start + position_count below.level ≤ position_count g.L.LevelCount.LEVELS = omega (arith, start, inside, count, start_is) in (
+      falls,
       (
         within.0,
-        (within.1.0, (within.1.1.0, (within.1.1.1.0, (within.1.1.1.1, (omega (arith, low), (omega (arith, low, high), (aligned, omega (arith, start, inside)))))))),
+        (within.1.0, (within.1.1.0, (within.1.1.1.0, (within.1.1.1.1, (below_low, (below_high, (below_aligned, below_inside))))))),
       ),
     )
 
 pub join_table-overflow_add-start : goal.join_table-overflow_add-start
 join_table-overflow_add-start g t c =
-    let w = span c.args.level in
+    let w = span c.args.table.now.level in
     let few : position_count g.L.LevelCount.LEVELS ≤ 2 ^ 57 = pow_mono (let most : 12 + 9 * g.L.LevelCount.LEVELS ≤ 57 = (let five = g.L.LevelCount.at_most_five in omega (arith, five)) in most) in
     let size : length c.as_slice-entry-items.result.now ≡ 512 = ap length c.as_slice-entry-items.ensures.words ∙ c.as_slice-entry-items.ensures.size in
-    let inside = start_inside c.args.start c.loop-entry.entry-index w (position_count g.L.LevelCount.LEVELS) (omega (arith, c.loop-entry-test.true, size)) c.requires.inside in
+    let inside = start_inside c.args.table.now.start c.loop-entry.entry-index w (position_count g.L.LevelCount.LEVELS) (omega (arith, c.loop-entry-test.true, size)) c.requires.inside in
     omega (arith, c.loop-entry.invariant.start, c.span-size.ensures, inside, few)
 
 pub join_table-loop-entry-preserved : goal.join_table-loop-entry-preserved
@@ -102,10 +112,10 @@ join_table-loop-entry-preserved g t c =
     let L = g.L.LevelCount.LEVELS in
     let visits = g.V.Visitor.Visits in
     let asked = asked_of g.T.TableMemory.tables g.P.PageTableFrameMapping.places c.args.summaries.now in
-    let level = c.args.level in
-    let r = seen_rights c.args.above in
+    let level = c.args.table.now.level in
+    let r = c.args.table.now.above in
     let words = c.as_slice-entry-items.result.now in
-    let s = c.args.start in
+    let s = c.args.table.now.start in
     let i = c.loop-entry.entry-index in
     let e = c.entry-item.result in
     let less : i < length words = c.loop-entry-test.true in
@@ -120,9 +130,9 @@ join_table-loop-entry-preserved g t c =
     let next = next_start s i (span level) in
     record {
       start = omega (arith, start, c.span-size.ensures, next);
-      joined = elim c.match-target_of.branch [
+      joined = elim c.match-target.branch [
         | join_table-in-Page+in_ok-join_page-in-Page w ↦
-            let m = page_at c.loop-entry.start level r e in
+            let m = w.of_page-page.result in
             let back = filter (is_wanted asked.wanted) (m ∷ []) in
             let after = w.join_page.new.joiner in
             let visited = w.join_page.new.visitor in
@@ -130,20 +140,17 @@ join_table-loop-entry-preserved g t c =
             subst (λ wanted. Joins visits L (filter (is_wanted wanted) (m ∷ [])) c.loop-entry.joiner c.loop-entry.visitor after visited) wanted w.in_ok-join_page-in-Page.ensures in
             subst₂ (λ h v. Joins visits L (asked_on asked level s r (take (i + 1) words)) held old h v) (sym w.joiner-is) (sym w.visitor-is)
             (visited_more asked level s r words i less (λ ms. Joins visits L ms held old after visited) back
-            (here ∙ by_page asked level c.loop-entry.start r e m w.in-Page.ensures.value refl aligned)
+            (here ∙ by_page asked level c.loop-entry.start r e m w.in-Page.ensures.value w.of_page-page.ensures aligned)
             (joins_both visits L g.met.V.Visitor.both front back held c.loop-entry.joiner after old c.loop-entry.visitor visited c.loop-entry.invariant.joined joins))
         | join_table-in-Table+in_ok-join_below-in-Table w ↦
-            let back = map (placed c.loop-entry.start (narrowed r e)) (asked_mappings asked (level - 1) w.in-Table.below) in
+            let back = map (placed c.loop-entry.start (narrowed r e)) (asked_mappings asked (level - 1) w.in-Table.frame) in
             let after = w.join_below.new.joiner in
             let visited = w.join_below.new.visitor in
-            let rights : seen_rights w.below-rights.result ≡ narrowed r e =
-            (λ k. record { write = w.below-rights.ensures.write k; user = w.below-rights.ensures.user k; execute = w.below-rights.ensures.execute k }) in
             let joins : Joins visits L back c.loop-entry.joiner c.loop-entry.visitor after visited =
-            subst (λ r. Joins visits L (map (placed c.loop-entry.start r) (asked_mappings asked (level - 1) w.in-Table.below)) c.loop-entry.joiner c.loop-entry.visitor after visited)
-            rights w.in_ok-join_below-in-Table.ensures in
+            subst (λ table. Joins visits L (asked_in asked table) c.loop-entry.joiner c.loop-entry.visitor after visited) w.below-below.ensures w.in_ok-join_below-in-Table.ensures in
             subst₂ (λ h v. Joins visits L (asked_on asked level s r (take (i + 1) words)) held old h v) (sym w.joiner-is) (sym w.visitor-is)
             (visited_more asked level s r words i less (λ ms. Joins visits L ms held old after visited) back
-            (here ∙ by_table asked level c.loop-entry.start r e w.in-Table.below w.in-Table.ensures.value)
+            (here ∙ by_table asked level c.loop-entry.start r e w.in-Table.frame w.in-Table.ensures.value)
             (joins_both visits L g.met.V.Visitor.both front back held c.loop-entry.joiner after old c.loop-entry.visitor visited c.loop-entry.invariant.joined joins))
         | join_table-in-Nothing w ↦
             subst₂ (λ h v. Joins visits L (asked_on asked level s r (take (i + 1) words)) held old h v) (sym w.joiner-is) (sym w.visitor-is)
@@ -158,11 +165,11 @@ join_table-returns g t c =
     let asking_by = asked_of g.T.TableMemory.tables g.P.PageTableFrameMapping.places in
     let asked = asking_by c.args.summaries.now in
     let words = c.as_slice-entry-items.result.now in
-    let r = seen_rights c.args.above in
-    let there : asked.words c.args.frame ≡ Some words =
-    ap (λ a. (asking_by a).words c.args.frame) (sym c.query-query.ensures) ∙ sym c.in-Some.ensures ∙ ap Some (sym c.as_slice-entry-items.ensures.words) in
+    let r = c.args.table.now.above in
+    let there : asked.words c.args.table.now.frame ≡ Some words =
+    ap (λ a. (asking_by a).words c.args.table.now.frame) (sym c.query-query.ensures) ∙ sym c.in-Some.ensures ∙ ap Some (sym c.as_slice-entry-items.ensures.words) in
     let size : length words ≡ 512 = ap length c.as_slice-entry-items.ensures.words ∙ c.as_slice-entry-items.ensures.size in
     subst (λ ms. Joins g.V.Visitor.Visits g.L.LevelCount.LEVELS ms c.args.joiner.now c.args.visitor.now c.loop-entry.joiner c.loop-entry.visitor)
-    (ap (asked_on asked c.args.level c.args.start r) (take_all c.loop-entry.entry-index words c.loop-entry-test.false)
-    ∙ sym (asked_table asked c.args.level c.args.start r c.args.frame words c.requires.low there size))
+    (ap (asked_on asked c.args.table.now.level c.args.table.now.start r) (take_all c.loop-entry.entry-index words c.loop-entry-test.false)
+    ∙ sym (asked_table asked c.args.table.now.level c.args.table.now.start r c.args.table.now.frame words c.requires.low there size))
     c.loop-entry.invariant.joined

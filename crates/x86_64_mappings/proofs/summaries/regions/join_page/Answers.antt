@@ -1,24 +1,18 @@
-use Rattle.std.proofs.Common.{sym, ap, ◌∙◌}
+use Rattle.std.proofs.Common.{sym, ◌∙◌}
 use Rattle.std.proofs.lemmas.Result.{on_ok_weaker}
-use Rattle.x86_64_mappings.specs.Views.{seen_rights}
-use Rattle.x86_64_model.specs.Regions.{region_of}
-use Rattle.x86_64_model.specs.private.Found.{page_at}
 use Rattle.x86_64_mappings.specs.Wanted.{is_wanted}
-use Rattle.x86_64_mappings.proofs.Joined.{joins_wanted, joins_unwanted}
+use Rattle.x86_64_mappings.proofs.Joined.{joins_region, joins_wanted, joins_unwanted}
 use Rattle.x86_64_mappings.proofs.summaries.regions.join_page.Goals as goal
 
 pub returns-then-wants : goal.returns-then-wants
 returns-then-wants g c =
-    let page = page_at c.args.start c.args.level (seen_rights c.args.above) c.args.entry.now in
-    let wanted = is_wanted c.args.query.now.wanted in
-    on_ok_weaker c.push.result
-    (joins_wanted g.V.Visitor.Visits g.L.LevelCount.LEVELS wanted page c.of.result (c.of.ensures ∙ ap region_of c.of_page-page.ensures)
-    (ap wanted (sym c.of_page-page.ensures) ∙ sym c.wants.ensures ∙ c.if-wants.true) _ _ _ _)
-    c.push.ensures
+    on_ok_weaker c.visit_joined.result
+    (λ visited. joins_wanted g.V.Visitor.Visits g.L.LevelCount.LEVELS (is_wanted c.args.query.now.wanted) c.args.page.now c.of.result c.of.ensures
+    (sym c.wants.ensures ∙ c.if-wants.true) _ _ _ _
+    (joins_region g.V.Visitor.Visits g.L.LevelCount.LEVELS c.of.result _ c.join.result _ _ _ c.join.ensures.given c.join.ensures.held visited))
+    c.visit_joined.ensures
 
 pub returns : goal.returns
 returns g c =
-    let page = page_at c.args.start c.args.level (seen_rights c.args.above) c.args.entry.now in
-    let wanted = is_wanted c.args.query.now.wanted in
-    joins_unwanted g.V.Visitor.Visits g.L.LevelCount.LEVELS g.met.V.Visitor.none wanted page
-    (ap wanted (sym c.of_page-page.ensures) ∙ sym c.wants.ensures ∙ c.if-wants.false) _ _
+    joins_unwanted g.V.Visitor.Visits g.L.LevelCount.LEVELS g.met.V.Visitor.none (is_wanted c.args.query.now.wanted) c.args.page.now
+    (sym c.wants.ensures ∙ c.if-wants.false) _ _

@@ -1,9 +1,8 @@
-use Rattle.std.proofs.Common.{None, ◌∙◌, ap, subst₂, map}
+use Rattle.std.proofs.Common.{None, ◌∙◌, ap, subst, subst₂}
 use Rattle.std.proofs.lemmas.Result.{on_ok_weaker}
-use Rattle.x86_64_model.specs.private.Found.{every_right}
 use Rattle.x86_64_mappings.specs.Wanted.{asked_of, asked_mappings}
-use Rattle.x86_64_mappings.specs.private.Joined.{Joins}
-use Rattle.x86_64_mappings.specs.private.Placed.{placed}
+use Rattle.x86_64_mappings.specs.private.Joined.{Joins, listed}
+use Rattle.x86_64_mappings.specs.private.Targets.{asked_in}
 use Rattle.x86_64_mappings.proofs.Joined.{joins_last}
 use Rattle.x86_64_mappings.proofs.Tables.{asked_here}
 use Rattle.x86_64_mappings.proofs.summaries.regions.visit_regions.Goals as goal
@@ -16,6 +15,8 @@ returns g c =
     let all = asked_mappings asked L c.args.root in
     let joins : Joins visits L all None c.args.visitor.now c.join_table.new.joiner c.join_table.new.visitor =
     subst₂ (λ ms held. Joins visits L ms held c.args.visitor.now c.join_table.new.joiner c.join_table.new.visitor)
-    (ap (λ level. map (placed 0 every_right) (asked_mappings asked level c.args.root)) c.LEVELS.ensures ∙ asked_here asked L c.args.root) c.new-joiner.ensures
+    (ap (asked_in asked) c.root-table.ensures ∙ asked_here asked L c.args.root) c.new-joiner.ensures
     c.in_ok-join_table.ensures in
-    on_ok_weaker c.finish.result (joins_last visits L g.met.V.Visitor.both all _ _ _ _ joins) c.finish.ensures
+    on_ok_weaker c.visit_joined.result
+    (λ visited. joins_last visits L g.met.V.Visitor.both all _ _ _ _ joins (subst (λ held. visits c.join_table.new.visitor c.visit_joined.new.visitor (listed held)) c.finish.ensures.given visited))
+    c.visit_joined.ensures

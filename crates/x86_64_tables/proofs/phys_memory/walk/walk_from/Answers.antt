@@ -1,4 +1,4 @@
-use Rattle.std.proofs.Common.{rules, ap₂, ◌⊎◌, ◌≡◌, ◌<◌, ◌-◌, ◌+◌, ◌∙◌, true, false, None, Some, option_map, inl, inr, ap, arith}
+use Rattle.std.proofs.Common.{rules, ◌⊎◌, ◌≡◌, ◌<◌, ◌-◌, ◌+◌, ◌∙◌, true, false, None, Some, option_map, inl, inr, ap, arith}
 use Rattle.x86_64_model.proofs.Lemmas.Entries.Words.{address_aligned}
 use Rattle.x86_64_model.specs.Entry.{huge, present}
 use Rattle.x86_64_model.specs.Memory.{words_of}
@@ -38,7 +38,7 @@ returns-then-level-eq1 g c =
       | then-level-eq1-via-then-level-eq1 w ↦ inl (search rules)
       | then-level-eq1-via-else-level-eq1+then-has_flag w ↦ inr (search rules)
     ] in
-    c.arrive_at.ensures ∙ ap₂ (λ w u. ends level c.args.position w u e) c.below-rights.ensures.write c.below-rights.ensures.user
+    c.arrive_at.ensures ∙ ap (λ r. ends level c.args.position r.write r.user e) c.below-rights.ensures
     ∙ on_end words c.args.position level rights.write rights.user c.loop-above.frame e is (omega (arith, c.loop-above-test.true)) here ended ∙ c.loop-above.invariant
 
 pub from_start_address_unchecked-frame-requires : goal.from_start_address_unchecked-frame-requires
@@ -55,7 +55,7 @@ loop-above-preserved g c =
     let table : huge e ≡ false = search rules in
     let next : c.args.levels - (c.loop-above.above + 1) ≡ level - 1 = omega arith in
     let more : 1 < level = omega (arith, c.loop-above-test.true, c.if-level-eq1.false) in
-    rw (next, c.below-rights.ensures.write, c.below-rights.ensures.user, c.from_start_address_unchecked-frame.ensures, c.addr.ensures)
+    rw (next, c.below-rights.ensures, c.from_start_address_unchecked-frame.ensures, c.addr.ensures)
     (on_table words c.args.position level rights.write rights.user c.loop-above.frame e is more here table ∙ c.loop-above.invariant)
 
 pub returns : goal.returns

@@ -1,0 +1,132 @@
+//! Visits of mappings.
+ghost use Rattle.std.specs.Prelude.{◌≡◌, ◌<◌, ◌≤◌, ◌+◌, ◌*◌, ◌%◌, OnOk, length, true, []};
+ghost use Rattle.x86_64_model.specs.Position.{span as span_of, position_count};
+ghost use Rattle.x86_64_mappings.specs.Wanted.{asked_of, asked_mappings};
+ghost use Rattle.x86_64_mappings.specs.private.Targets.{asked_in, asked_on};
+ghost use Rattle.x86_64_mappings.specs.private.Known.{asking};
+
+use crate::summaries::query::Query;
+use crate::summaries::reached_table::ReachedTable;
+use crate::summaries::table_summaries::Summaries;
+use crate::summaries::visitor::Visitor;
+use crate::{MappingIn, span};
+use x86_64_addr::level_count::LevelCount;
+use x86_64_page::frame::PhysFrame;
+use x86_64_page::page::Size4KiB;
+use x86_64_tables::page_table::{EntryTarget, PageTableEntry, PageTableFlags, Rights, has_flag};
+use x86_64_tables::phys_memory::{PageTableFrameMapping, TableMemory};
+
+/// Visits all wanted mappings below a root, in order of their starts.
+///
+/// A table that is known to map nothing wanted is skipped.
+///
+/// # Errors
+///
+/// The error of the visitor, which ends the visits.
+pub fn visit_mappings<
+    L: LevelCount,
+    T: TableMemory,
+    P: PageTableFrameMapping,
+    V: Visitor<MappingIn<L>>,
+>(
+    summaries: &Summaries<'_, T, P>,
+    root: PhysFrame<Size4KiB>,
+    visitor: &mut V,
+) -> Result<(), V::Error>
+    ensures { OnOk result (V.Visits visitor.old visitor.new
+        (asked_mappings (asked_of T.tables P.places summaries.now) L.LEVELS root)) }
+{
+    let table = ReachedTable::root::<L>(root);
+    visit_table::<L, T, P, V>(summaries, &table, visitor)
+}
+
+/// Visits the wanted mappings of a table.
+fn visit_table<L: LevelCount, T: TableMemory, P: PageTableFrameMapping, V: Visitor<MappingIn<L>>>(
+    summaries: &Summaries<'_, T, P>,
+    table: &ReachedTable,
+    visitor: &mut V,
+) -> Result<(), V::Error>
+    requires low { 1 ≤ table.now.level }
+    requires high { table.now.level ≤ 5 }
+    requires aligned { table.now.start % span_of table.now.level ≡ 0 }
+    requires inside { table.now.start + 512 * span_of table.now.level ≤ position_count L.LEVELS }
+    ensures { OnOk result (V.Visits visitor.old visitor.new
+        (asked_in (asked_of T.tables P.places summaries.now) table.now)) }
+{
+    let query = summaries.query();
+    let Some(words) = query.table(table.frame) else {
+        return Ok(());
+    };
+    let entries = words.as_slice();
+    if table.level == 1 {
+        return visit_small_pages::<L, T, P, V>(query, entries, table.start, table.above, visitor);
+    }
+    let size = span(table.level);
+    let mut start = table.start;
+    for entry in entries {
+        match entry.target(table.level) {
+            EntryTarget::Page => {
+                let page = MappingIn::of_page(table.level, start, entry, table.above);
+                if query.wants(&page) {
+                    visitor.visit(page)?;
+                }
+            }
+            EntryTarget::Table(frame) => {
+                if !maps_nothing(summaries, table.level - 1, frame) {
+                    let below = table.below(entry, frame, start);
+                    visit_table::<L, T, P, V>(summaries, &below, visitor)?;
+                }
+            }
+            EntryTarget::Nothing => {}
+        }
+        start += size;
+    }
+    Ok(())
+}
+
+/// Returns true if a table is known to map nothing wanted.
+fn maps_nothing<T: TableMemory, P: PageTableFrameMapping>(
+    summaries: &Summaries<'_, T, P>,
+    level: u64,
+    frame: PhysFrame<Size4KiB>,
+) -> bool
+    ensures { result ≡ true → asked_mappings (asked_of T.tables P.places summaries.now) level frame ≡ [] }
+{
+    match summaries.of(level, frame) {
+        Some(summary) => summary.count == 0,
+        None => false,
+    }
+}
+
+/// Visits the wanted mappings by the entries of a table of level one, whose span starts at a position, below entries that
+/// allow `above`.
+fn visit_small_pages<
+    L: LevelCount,
+    T: TableMemory,
+    P: PageTableFrameMapping,
+    V: Visitor<MappingIn<L>>,
+>(
+    query: &Query<'_, T, P>,
+    entries: &[PageTableEntry],
+    start: u64,
+    above: Rights,
+    visitor: &mut V,
+) -> Result<(), V::Error>
+    requires size { length entries.now ≡ 512 }
+    requires aligned { start % span_of 1 ≡ 0 }
+    requires inside { start + 512 * span_of 1 ≤ position_count L.LEVELS }
+    ensures { OnOk result (V.Visits visitor.old visitor.new
+        (asked_on (asked_of T.tables P.places (asking query.now)) 1 start above entries.now)) }
+{
+    let mut start = start;
+    for entry in entries {
+        if has_flag(entry, PageTableFlags::PRESENT) {
+            let page = MappingIn::of_page(1, start, entry, above);
+            if query.wants(&page) {
+                visitor.visit(page)?;
+            }
+        }
+        start += 4096;
+    }
+    Ok(())
+}
