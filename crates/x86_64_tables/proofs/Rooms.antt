@@ -136,9 +136,6 @@ module _ (n : ℕ) (T : Words) (root : ℕ) (frames : OnlyFrames T) (capacity : 
 
 -- ---- through L levels, the root's and those below it
 
-pub valid_if_sound : (levels L : ℕ) (T : Words) (root : ℕ) → suc levels ≡ L → SoundTables levels T root (serves_below (2 ^ 40)) [] ↔ IsValid L T root (paths_of L T root)
-valid_if_sound levels L T root more = subst (λ L. SoundTables levels T root (serves_below (2 ^ 40)) [] ↔ IsValid L T root (paths_of L T root)) more (valid_means levels T root)
-
 pub room_if_sound : (levels L : ℕ) (T : Words) (root : ℕ) → OnlyFrames T → (capacity : ℕ) (pool : List ℕ) → suc levels ≡ L
     → IsSoundWithin levels T root capacity pool ↔ FitsRoom L T root capacity (reverse pool)
 room_if_sound levels L T root frames capacity pool more =
