@@ -18,7 +18,7 @@ returns-then-not-mark_tables g c =
     let words = seen_by (words_of m places) space in
     let w = word words space.root c.loop-index.index in
     let below = rw c.of-test.ensures at (sym c.in-Some.is ∙ c.table_below.ensures) in
-    let marked = rw (c.of-test.ensures, c.levels_below.ensures) at c.if-not-mark_tables.ensures in
+    let marked = rw (c.of-test.ensures, c.levels_below-levels.ensures) at c.if-not-mark_tables.ensures in
     let on = is_chosen (indices_of self.shared) c.args.is_shared c.loop-index.index c.contains.result c.contains.ensures c.if-contains-is_shared.true in
     sym (ap (mark_all slot c.args.marks.now) (rest_all test ((g.L.LevelCount.LEVELS - 1) - 1) words space.root) ∙ c.loop-index.invariant
     ∙ rest_named test ((g.L.LevelCount.LEVELS - 1) - 1) words space.root slot c.loop-index.index c.loop-index.marks None w c.in-Some.below c.loop-index-test.true on
@@ -36,7 +36,7 @@ loop-index-preserved g c =
     c.loop-index.invariant ∙ elim c.if-contains-is_shared.branch [
       | then-contains-is_shared+in-Some+else-not-mark_tables b ↦
           let below = rw c.of-test.ensures at (sym b.in-Some.is ∙ b.table_below.ensures) in
-          let marked = rw (c.of-test.ensures, c.levels_below.ensures) at b.if-not-mark_tables.ensures in
+          let marked = rw (c.of-test.ensures, c.levels_below-levels.ensures) at b.if-not-mark_tables.ensures in
           let on = is_chosen (indices_of self.shared) c.args.is_shared i c.contains.result c.contains.ensures b.if-contains-is_shared.true in
           rest_named test ((g.L.LevelCount.LEVELS - 1) - 1) words space.root slot i c.loop-index.marks (Some b.mark_tables.new.marks) w b.in-Some.below c.loop-index-test.true on
           refl (is_named w b.in-Some.below below) (named_at w b.in-Some.below below) marked
