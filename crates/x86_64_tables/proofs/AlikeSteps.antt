@@ -1,9 +1,9 @@
 -- Alike hierarchies, compared table by table.
-use Rattle.std.proofs.Common.{◌≡◌, ◌⊎◌, ◌↔◌, inl, inr, ⊎_elim, ◌<◌, ◌≤◌, ◌-◌, ℕ, zero, suc, Bool, true, false, cond, List, [], ◌∷◌, length, Option, Some, None, is_some, refl, sym, ap, ◌∙◌, subst, arith}
+use Rattle.std.proofs.Common.{◌≡◌, ◌⊎◌, ◌↔◌, inl, inr, ⊎_elim, ◌<◌, ◌≤◌, ◌-◌, ℕ, zero, suc, Bool, true, false, cond, List, [], ◌∷◌, length, Option, Some, None, refl, sym, ap, ◌∙◌, subst, arith}
 use Rattle.x86_64_model.specs.Alike.{Alike, AlikeTables, without_writable}
 use Rattle.x86_64_model.specs.Entry.{address, names_table}
 use Rattle.x86_64_model.specs.Hierarchy.{read_at, paths_of}
-use Rattle.x86_64_model.specs.Memory.{Memory, Places, Words, word, words_of}
+use Rattle.x86_64_model.specs.Memory.{Words, word}
 use Rattle.x86_64_model.specs.PathMap.{entry}
 use Rattle.x86_64_model.specs.private.Tables.{without_word}
 use Rattle.x86_64_model.specs.Window.{outside_window}

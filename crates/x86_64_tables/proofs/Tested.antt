@@ -1,5 +1,5 @@
 -- The tables and free frames of a hierarchy are sound exactly if its tests pass.
-use Rattle.std.proofs.Common.{◌≡◌, ◌↔◌, ◌^◌, suc, ℕ, List, [], Option, Some, None, subst}
+use Rattle.std.proofs.Common.{◌≡◌, ◌↔◌, ◌^◌, suc, ℕ, [], Option, Some, None, subst}
 use Rattle.x86_64_model.specs.Pool.{serves_below}
 use Rattle.x86_64_model.specs.Memory.{Memory, Places, IsMapping, Words, words_of}
 use Rattle.x86_64_model.specs.Window.{outside_window}

@@ -1,4 +1,4 @@
-use Rattle.std.proofs.Common.{◌-◌, ◌^◌, length, [], refl, sym, ◌∙◌, arith}
+use Rattle.std.proofs.Common.{◌-◌, ◌^◌, length, [], ◌∙◌, arith}
 use Rattle.std.specs.FinMap.{keys}
 use Rattle.x86_64_model.specs.Memory.{words_of}
 use Rattle.x86_64_model.proofs.Lemmas.Tables.Checked.{all_clear}
