@@ -100,6 +100,7 @@ pub use x86_64_tables::phys_memory::Active;
 pub use x86_64_tables::phys_memory::ActiveMemory;
 pub use x86_64_tables::phys_memory::ActiveMemory57;
 pub use x86_64_tables::phys_memory::FramePlace;
+pub use x86_64_tables::phys_memory::HierarchyView;
 pub use x86_64_tables::phys_memory::IdentityMapping;
 pub use x86_64_tables::phys_memory::LentMemory;
 pub use x86_64_tables::phys_memory::PhysMemory;

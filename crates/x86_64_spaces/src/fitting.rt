@@ -1,21 +1,21 @@
 //! Tests of whether address spaces share what they should, and whether a pool fits them.
-ghost use Rattle.std.specs.Prelude.{◌≡◌, ◌<◌, ◌≤◌, ◌+◌, ◌↔◌, ℕ, if◌then◌else◌, length, reverse, replicate, IfOk, IsTrue, Some, None, [], false, true};
+ghost use Rattle.std.specs.Prelude.{◌≡◌, ◌≤◌, ◌+◌, ◌↔◌, ℕ, if◌then◌else◌, length, reverse, replicate, IfOk, IsTrue, Some, None, [], false, true};
 ghost use Rattle.std.specs.FinMap as map;
 ghost use Rattle.x86_64_model.specs.Lists.{In};
 ghost use Rattle.x86_64_model.specs.Pool.{serves_below};
 ghost use Rattle.x86_64_model.specs.private.Marks.{spot_of, mark_all};
 ghost use Rattle.x86_64_spaces.specs.Room.{spaces_in, ShareAndFit, ShareWithRoom};
 ghost use Rattle.x86_64_spaces.specs.SpaceLayouts.{indices_of, spaces_at};
-ghost use Rattle.x86_64_spaces.specs.private.SpaceTables.{tested, seen_words, all_tables, tables_of, tables_below, slot_of, NamesItself, IsLike, AreSound};
+ghost use Rattle.x86_64_spaces.specs.private.SpaceTables.{tested, seen_words, all_tables, tables_of, tables_below, slot_of, IsLike, AreSound};
 
 use crate::space::{SharedIndices, Space};
 use crate::space_list::{Roots, SpaceList};
 use std::alloc::{AllocError, Global};
+use std::marker::PhantomData;
 use x86_64_addr::level_count::LevelCount;
 use x86_64_tables::frame_alloc::FramePool;
 use x86_64_tables::phys_memory::{
-    FRAME_COUNT, HierarchyTest, HierarchyView, PageTableFrameMapping, TableMemory, count_set,
-    has_self_entry,
+    FRAME_COUNT, HierarchyTest, PageTableFrameMapping, TableMemory, clear_marks, count_set,
 };
 
 /// Returns whether hierarchies are address spaces that share the tables below some indices, and a pool fits each.
@@ -45,12 +45,12 @@ pub fn spaces_fit<L: LevelCount, T: TableMemory, P: PageTableFrameMapping>(
     let Some(first) = spaces.first() else {
         return Ok(true);
     };
-    let mut marks = vec![in alloc; false; memory.len()]?;
-    let test = SpacesTest {
+    let mut marks = clear_marks(alloc, memory)?;
+    let test = SpacesTest::<L, _, _> {
         memory,
         mapping,
         shared,
-        levels: L::LEVELS as u8 - 1,
+        levels: PhantomData,
         limit: pool.limit(),
     };
     Ok(test.is_sound_by(first, &spaces, pool, &mut marks))
@@ -124,28 +124,27 @@ fn list_fits<L: LevelCount, T: TableMemory, P: PageTableFrameMapping, S: SpaceLi
         return true;
     }
     marks.fill(false);
-    let test = SpacesTest {
+    let test = SpacesTest::<L, _, _> {
         memory,
         mapping,
         shared,
-        levels: L::LEVELS as u8 - 1,
+        levels: PhantomData,
         limit: FRAME_COUNT,
     };
     test.has_room_by(&spaces.space_at(0), spaces, frames, capacity, marks)
 }
 
-/// Address spaces to be tested, with `levels` levels of tables below the roots. The frames that may be met are the roots, and those
-/// with numbers from 1 to `limit` - 1.
+/// Address spaces to be tested. The frames that may be met are the roots, and those with numbers from 1 to `limit` - 1.
 #[derive(Drop)]
-struct SpacesTest<'a, T, P> {
+struct SpacesTest<'a, L, T, P> {
     memory: &'a T,
     mapping: &'a P,
     shared: SharedIndices,
-    levels: u8,
+    levels: PhantomData<L>,
     limit: u64,
 }
 
-impl<'a, T: TableMemory, P: PageTableFrameMapping> SpacesTest<'a, T, P> {
+impl<'a, L: LevelCount, T: TableMemory, P: PageTableFrameMapping> SpacesTest<'a, L, T, P> {
     /// Returns true if the spaces are alike, and each of their tables and each frame of the pool is met once, is in the memory, and
     /// may be met, by marks that are all clear at first.
     fn is_sound_by<S: SpaceList>(
@@ -155,11 +154,10 @@ impl<'a, T: TableMemory, P: PageTableFrameMapping> SpacesTest<'a, T, P> {
         pool: &FramePool,
         marks: &mut [bool],
     ) -> bool
-        requires levels { 1 < self.now.levels }
         requires clear { marks.old ≡ replicate (length (map.keys (T.tables self.now.memory.now))) false }
         requires first { In (S.spaces spaces.now) first.now }
-        ensures { IsTrue result ↔ AreSound (tested T.tables P.places self.now) first.now (S.spaces spaces.now)
-            pool.now.frames }
+        ensures { IsTrue result ↔ AreSound (tested L.LEVELS T.tables P.places self.now) first.now
+            (S.spaces spaces.now) pool.now.frames }
     {
         if !self.mark_spaces(first, spaces, marks) {
             return false;
@@ -177,10 +175,9 @@ impl<'a, T: TableMemory, P: PageTableFrameMapping> SpacesTest<'a, T, P> {
         capacity: usize,
         marks: &mut [bool],
     ) -> bool
-        requires levels { 1 < self.now.levels }
         requires clear { marks.old ≡ replicate (length (map.keys (T.tables self.now.memory.now))) false }
         requires first { In (S.spaces spaces.now) first.now }
-        ensures { let test = tested T.tables P.places self.now in let list = S.spaces spaces.now in
+        ensures { let test = tested L.LEVELS T.tables P.places self.now in let list = S.spaces spaces.now in
             IsTrue result ↔ (AreSound test first.now list frames.now
             × (length (all_tables test first.now list) + length frames.now ≤ capacity)) }
     {
@@ -196,12 +193,11 @@ impl<'a, T: TableMemory, P: PageTableFrameMapping> SpacesTest<'a, T, P> {
     /// Marks the tables below the shared indices of the first root, and then each root and its own tables. Returns false if one of
     /// them can't be marked, or a space isn't like the first one.
     fn mark_spaces<S: SpaceList>(&self, first: &Space, spaces: &S, marks: &mut [bool]) -> bool
-        requires levels { 1 < self.now.levels }
         requires clear { marks.old ≡ replicate (length (map.keys (T.tables self.now.memory.now))) false }
         requires first { In (S.spaces spaces.now) first.now }
         ensures tells { IsTrue result
-            ↔ AreSound (tested T.tables P.places self.now) first.now (S.spaces spaces.now) [] }
-        ensures marks { let test = tested T.tables P.places self.now in
+            ↔ AreSound (tested L.LEVELS T.tables P.places self.now) first.now (S.spaces spaces.now) [] }
+        ensures marks { let test = tested L.LEVELS T.tables P.places self.now in
             IsTrue result → mark_all (spot_of test.memory test.places) marks.old
             (all_tables test first.now (S.spaces spaces.now)) ≡ Some marks.new }
     {
@@ -223,27 +219,17 @@ impl<'a, T: TableMemory, P: PageTableFrameMapping> SpacesTest<'a, T, P> {
     /// Returns true if a root names itself at the recursive index, if there is one, no word above level three has `HUGE_PAGE`, and
     /// the root has the words of the first one at the shared indices.
     fn is_alike(&self, first: &Space, space: &Space) -> bool
-        requires { 0 < self.now.levels }
-        ensures { IsTrue result ↔ IsLike (tested T.tables P.places self.now) first.now space.now }
+        ensures { IsTrue result ↔ IsLike (tested L.LEVELS T.tables P.places self.now) first.now space.now }
     {
-        self.names_itself(space)
-            && self.of(space).view.none_huge(space.root, self.levels)
+        let view = self.of(space).view;
+        view.names_itself()
+            && view.none_huge(space.root, view.levels_below())
             && self.has_words_of(first, space)
-    }
-
-    /// Returns true if the root names itself at the recursive index, if there is one.
-    fn names_itself(&self, space: &Space) -> bool
-        ensures { IsTrue result ↔ NamesItself (tested T.tables P.places self.now) space.now }
-    {
-        match space.recursive {
-            Some(index) => has_self_entry(self.memory, self.mapping, space.root, index),
-            None => true,
-        }
     }
 
     /// Returns true if a root has the words of the first one at the shared indices.
     fn has_words_of(&self, first: &Space, space: &Space) -> bool
-        ensures { let test = tested T.tables P.places self.now in
+        ensures { let test = tested L.LEVELS T.tables P.places self.now in
             IsTrue result ↔ ((i : ℕ) → test.shared i ≡ true
             → seen_words test space.now i ≡ seen_words test first.now i) }
     {
@@ -260,9 +246,8 @@ impl<'a, T: TableMemory, P: PageTableFrameMapping> SpacesTest<'a, T, P> {
 
     /// Marks a root and its own tables. Returns false if one of them can't be marked.
     fn mark_own(&self, space: &Space, marks: &mut [bool]) -> bool
-        requires levels { 0 < self.now.levels }
-        requires length { length marks.old ≡ length (map.keys (T.tables self.now.memory.now)) }
-        ensures { let test = tested T.tables P.places self.now in
+        requires { length marks.old ≡ length (map.keys (T.tables self.now.memory.now)) }
+        ensures { let test = tested L.LEVELS T.tables P.places self.now in
             (if result then Some marks.new else None)
             ≡ mark_all (slot_of test space.now) marks.old (tables_of test space.now) }
     {
@@ -275,17 +260,17 @@ impl<'a, T: TableMemory, P: PageTableFrameMapping> SpacesTest<'a, T, P> {
     /// Marks the tables below the root's indices that are shared, or below those that aren't. Returns false if one of them can't be
     /// marked.
     fn mark_parts(&self, space: &Space, is_shared: bool, marks: &mut [bool]) -> bool
-        requires levels { 0 < self.now.levels }
-        requires length { length marks.old ≡ length (map.keys (T.tables self.now.memory.now)) }
-        ensures { let test = tested T.tables P.places self.now in
+        requires { length marks.old ≡ length (map.keys (T.tables self.now.memory.now)) }
+        ensures { let test = tested L.LEVELS T.tables P.places self.now in
             (if result then Some marks.new else None)
             ≡ mark_all (slot_of test space.now) marks.old (tables_below test is_shared space.now) }
     {
         let test = self.of(space);
+        let levels = test.view.levels_below() - 1;
         for index in 0..512 {
             if self.shared.contains(index) == is_shared {
                 if let Some(below) = test.view.table_below(space.root, index) {
-                    if !test.mark_tables(marks, below, self.levels - 1) {
+                    if !test.mark_tables(marks, below, levels) {
                         return false;
                     }
                 }
@@ -295,7 +280,7 @@ impl<'a, T: TableMemory, P: PageTableFrameMapping> SpacesTest<'a, T, P> {
     }
 
     /// Returns the test of one of the hierarchies.
-    fn of(&self, space: &Space) -> HierarchyTest<'a, T, &'a P>
+    fn of(&self, space: &Space) -> HierarchyTest<'a, L, T, P>
         ensures { result ≡ record {
           limit = self.now.limit;
           view = record {
@@ -303,18 +288,10 @@ impl<'a, T: TableMemory, P: PageTableFrameMapping> SpacesTest<'a, T, P> {
             mapping = self.now.mapping;
             root = space.now.root;
             recursive = space.now.recursive;
+            levels = record {};
           };
         } }
     {
-        let view = HierarchyView {
-            memory: self.memory,
-            mapping: self.mapping,
-            root: space.root,
-            recursive: space.recursive,
-        };
-        HierarchyTest {
-            view,
-            limit: self.limit,
-        }
+        space.view(self.memory, self.mapping).test(self.limit)
     }
 }

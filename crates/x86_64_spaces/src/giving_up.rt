@@ -6,7 +6,6 @@ ghost use Rattle.x86_64_spaces.specs.SpaceLayouts.{indices_of, space_in};
 ghost use Rattle.x86_64_spaces.specs.private.SpaceTables.{root_words};
 
 use crate::space::{SharedIndices, Space};
-use crate::words::word_seen;
 use x86_64_addr::level_count::LevelCount;
 use x86_64_model::laws::spaces::spaces_are_given_up;
 use x86_64_tables::frame_alloc::FrameStore;
@@ -78,7 +77,7 @@ fn maps_nothing<T: TableMemory, P: PageTableFrameMapping>(
         → root_words (T.tables memory.now) (P.places mapping.now) space.now i ≡ 0) }
 {
     for index in 0..512 {
-        if !shared.contains(index) && word_seen(memory, mapping, space, index) != 0 {
+        if !shared.contains(index) && space.word(memory, mapping, index) != 0 {
             return false;
         }
     }

@@ -8,7 +8,6 @@ pub mod laws;
 mod making;
 mod space;
 mod space_list;
-mod words;
 
 pub use fitting::{roots_fit_by_marks, spaces_fit, spaces_fit_by_marks};
 pub use giving_up::{GiveUpError, give_up_space};

@@ -8,7 +8,6 @@ ghost use Rattle.x86_64_spaces.specs.private.SpaceTables.{root_words};
 ghost use Rattle.x86_64_spaces.specs.private.Writes.{Stores, HasShared, with_self_entry};
 
 use crate::space::{SharedIndices, Space};
-use crate::words::word_seen;
 use bitflags::Flags;
 use x86_64_addr::index::PageTableIndex;
 use x86_64_addr::level_count::LevelCount;
@@ -77,7 +76,7 @@ fn fill_root<T: TableMemory, P: PageTableFrameMapping>(
     memory.table_at_mut(place).zero();
     for index in 0..512 {
         if shared.contains(index) {
-            let word = word_seen(memory, mapping, template, index);
+            let word = template.word(memory, mapping, index);
             memory.table_at_mut(place)[index].set_word(word);
         }
     }

@@ -1,9 +1,11 @@
 //! An address space, and the indices that address spaces share.
-ghost use Rattle.std.specs.Prelude.{◌≡◌};
+ghost use Rattle.std.specs.Prelude.{◌≡◌, ◌<◌};
 
 use x86_64_addr::index::PageTableIndex;
+use x86_64_addr::level_count::{FourLevels, LevelCount};
 use x86_64_page::frame::PhysFrame;
 use x86_64_page::page::Size4KiB;
+use x86_64_tables::phys_memory::{HierarchyView, PageTableFrameMapping, TableMemory};
 
 /// The indices of the highest level below which address spaces have the same tables: those from `from` up to, but not including,
 /// `to`.
@@ -36,4 +38,42 @@ pub struct Space {
     pub root: PhysFrame<Size4KiB>,
     /// The recursive index.
     pub recursive: Option<PageTableIndex>,
+}
+
+impl Space {
+    ghost use Rattle.x86_64_spaces.specs.private.SpaceTables.{root_words};
+
+    /// Returns the view of the space's hierarchy in a memory.
+    pub(crate) fn view<'a, L: LevelCount, T: TableMemory, P: PageTableFrameMapping>(
+        &self,
+        memory: &'a T,
+        mapping: &'a P,
+    ) -> HierarchyView<'a, L, T, P>
+        ensures { result ≡ record {
+          memory = memory.entry;
+          mapping = mapping.entry;
+          root = self.now.root;
+          recursive = self.now.recursive;
+          levels = record {};
+        } }
+    {
+        HierarchyView::new(memory, mapping, self.root, self.recursive)
+    }
+
+    /// Returns a word of the root in a memory, or 0 at the recursive index.
+    ///
+    /// Requires that the index is below 512.
+    pub(crate) fn word<T: TableMemory, P: PageTableFrameMapping>(
+        &self,
+        memory: &T,
+        mapping: &P,
+        index: usize,
+    ) -> u64
+        requires { index < 512 }
+        ensures { result ≡ root_words (T.tables memory.now) (P.places mapping.now) self.now index }
+    {
+        // The root's words are the same for any number of levels.
+        let view = self.view::<FourLevels, _, _>(memory, mapping);
+        view.word(self.root, index)
+    }
 }

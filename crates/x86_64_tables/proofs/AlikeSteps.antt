@@ -1,15 +1,15 @@
 -- Alike hierarchies, compared table by table.
-use Rattle.std.proofs.Common.{◌≡◌, ◌⊎◌, ◌↔◌, inl, inr, ⊎_elim, ◌<◌, ◌≤◌, ◌-◌, ℕ, zero, suc, Bool, true, false, cond, List, [], ◌∷◌, length, Option, Some, None, is_some, refl, sym, ap, ◌∙◌, subst, arith}
+use Rattle.std.proofs.Common.{◌≡◌, ◌⊎◌, ◌↔◌, inl, inr, ⊎_elim, ◌<◌, ◌≤◌, ◌-◌, ℕ, zero, suc, Bool, true, false, cond, List, [], ◌∷◌, length, Option, Some, None, refl, sym, ap, ◌∙◌, subst, arith}
 use Rattle.x86_64_model.specs.Alike.{Alike, AlikeTables, without_writable}
 use Rattle.x86_64_model.specs.Entry.{address, names_table}
 use Rattle.x86_64_model.specs.Hierarchy.{read_at, paths_of}
-use Rattle.x86_64_model.specs.Memory.{Memory, Places, Words, word, words_of}
+use Rattle.x86_64_model.specs.Memory.{Words, word}
 use Rattle.x86_64_model.specs.PathMap.{entry}
 use Rattle.x86_64_model.specs.private.Tables.{without_word}
 use Rattle.x86_64_model.specs.Window.{outside_window}
 use Rattle.x86_64_model.proofs.Lemmas.Hierarchies.Exists.{read_or_in, entry_paths_of}
 use Rattle.x86_64_tables.specs.Views.{below_word}
-use Rattle.x86_64_tables.specs.PathsSeen.{AlikeFrom, places_for, paths_seen_at}
+use Rattle.x86_64_tables.specs.PathsSeen.{AlikeFrom, paths_in}
 use Rattle.x86_64_tables.specs.SelfEntries.{window_in}
 use Rattle.x86_64_tables.proofs.WordsSeen.{is_named, named_at, is_not_named}
 
@@ -167,25 +167,27 @@ module _ (L : ℕ) (T : Words) (root : ℕ) (U : Words) (other_root : ℕ) where
       (entry_paths_of L T root q) (entry_paths_of L U other_root q) (alike q)
 
 -- hierarchies are alike from their roots exactly if the path maps that are read are alike
-module _ (memory other_memory : Memory) (places other_places : Places) (root other_root : ℕ) (index other_index : Option ℕ) (levels : ℕ) where
-  abbrev words : Words
-  words = words_of memory (places_for (is_some index) places)
+module _ (words other_words : Words) (root other_root : ℕ) (index other_index : Option ℕ) where
+  abbrev AlikeMaps : (L : ℕ) → Words → Words → Type 0
+  AlikeMaps L T U = Alike L (paths_of L T root) (paths_of L U other_root)
 
-  abbrev other_words : Words
-  other_words = words_of other_memory (places_for (is_some other_index) other_places)
+  abbrev IsAlikeThrough : (levels L : ℕ) → Type 0
+  IsAlikeThrough levels L =
+      AlikeFrom levels (without_word index root words) root (without_word other_index other_root other_words) other_root
+      ↔ Alike L (paths_in L words root index) (paths_in L other_words other_root other_index)
 
-  abbrev AlikeMaps : Words → Words → Type 0
-  AlikeMaps T U = Alike (suc levels) (paths_of (suc levels) T root) (paths_of (suc levels) U other_root)
-
-  pub alike_seen : AlikeFrom levels (without_word index root words) root (without_word other_index other_root other_words) other_root
-      ↔ Alike (suc levels) (paths_seen_at (suc levels) memory places root index) (paths_seen_at (suc levels) other_memory other_places other_root other_index)
-  alike_seen =
+  alike_above : (levels : ℕ) → IsAlikeThrough levels (suc levels)
+  alike_above levels =
+      let L = suc levels in
       let e = seen_outside words root index in
       let d = seen_outside other_words other_root other_index in
       let T = without_word index root words in
       let U = without_word other_index other_root other_words in
       let V = outside_window (window_in words root index) root words in
       let W = outside_window (window_in other_words other_root other_index) other_root other_words in (
-        λ alike. subst (λ T. AlikeMaps T W) e (subst (λ U. AlikeMaps T U) d (alike_paths (suc levels) T root U other_root alike.at)),
-        λ alike. record { at = alike_read (suc levels) T root U other_root (subst (λ V. AlikeMaps V U) (sym e) (subst (λ W. AlikeMaps V W) (sym d) alike)) },
+        λ alike. subst (λ T. AlikeMaps L T W) e (subst (λ U. AlikeMaps L T U) d (alike_paths L T root U other_root alike.at)),
+        λ alike. record { at = alike_read L T root U other_root (subst (λ V. AlikeMaps L V U) (sym e) (subst (λ W. AlikeMaps L V W) (sym d) alike)) },
       )
+
+  pub alike_seen : (levels L : ℕ) → suc levels ≡ L → IsAlikeThrough levels L
+  alike_seen levels L more = subst (IsAlikeThrough levels) more (alike_above levels)

@@ -5,7 +5,7 @@ use Rattle.std.proofs.lemmas.Bool.{cases_lt}
 use Rattle.std.proofs.lemmas.List.{length-append, reverse-reverse}
 use Rattle.std.proofs.lemmas.List.Sorted.{IsPermutation-reverse}
 use Rattle.x86_64_model.specs.Entry.{address, is_frame}
-use Rattle.x86_64_model.specs.Hierarchy.{IsValid, paths_of}
+use Rattle.x86_64_model.specs.Hierarchy.{paths_of}
 use Rattle.x86_64_model.specs.Lists.{In, EachOnce}
 use Rattle.x86_64_model.specs.Memory.{Words, OnlyFrames}
 use Rattle.x86_64_model.specs.PathMap.{PathMap, table_at}
@@ -135,9 +135,6 @@ module _ (n : ℕ) (T : Words) (root : ℕ) (frames : OnlyFrames T) (capacity : 
   room_means = (has_room, λ room. (sound room, few room))
 
 -- ---- through L levels, the root's and those below it
-
-pub valid_if_sound : (levels L : ℕ) (T : Words) (root : ℕ) → suc levels ≡ L → SoundTables levels T root (serves_below (2 ^ 40)) [] ↔ IsValid L T root (paths_of L T root)
-valid_if_sound levels L T root more = subst (λ L. SoundTables levels T root (serves_below (2 ^ 40)) [] ↔ IsValid L T root (paths_of L T root)) more (valid_means levels T root)
 
 pub room_if_sound : (levels L : ℕ) (T : Words) (root : ℕ) → OnlyFrames T → (capacity : ℕ) (pool : List ℕ) → suc levels ≡ L
     → IsSoundWithin levels T root capacity pool ↔ FitsRoom L T root capacity (reverse pool)

@@ -1,5 +1,5 @@
 -- The marks of a view show whether its tables and the frames of a pool are sound.
-use Rattle.std.proofs.Common.{◌≡◌, ◌↔◌, ◌<◌, ℕ, ◌==◌, ◌||◌, Bool, true, false, cond, List, length, get_or, set, Option, Some, None, option_and_then, IsTrue, refl, sym, ap}
+use Rattle.std.proofs.Common.{◌≡◌, ◌↔◌, ◌<◌, ℕ, ◌==◌, ◌||◌, Bool, true, false, cond, List, [], length, get_or, set, Option, Some, None, option_and_then, IsTrue, refl, sym, ap}
 use Rattle.std.specs.List.{position}
 use Rattle.std.specs.Ordering.{nat_cmp, eq_by_cmp}
 use Rattle.std.specs.FinMap.{keys}
@@ -35,6 +35,15 @@ module _ (memory : Memory) (places : Places) (mapping : IsMapping places) (root 
   accepted = accepted_pool words (length (keys memory)) (spot_of memory places) (spots_of memory places mapping.distinct)
       root (serves_below limit) levels (seen memory places root recursive) pool marks clear
       (still_there recursive root words) (was_there recursive root words)
+
+-- the tables alone
+module _ (memory : Memory) (places : Places) (mapping : IsMapping places) (root : ℕ) (recursive : Option ℕ) (limit levels : ℕ)
+    (marks : List Bool) (clear : (k : ℕ) → k < length (keys memory) → get_or marks k true ≡ false) where
+  pub sound_alone : NoneHuge levels (seen memory places root recursive) root → (new : List Bool)
+      → Some new ≡ mark_all (mark_slot memory places root limit) marks (tables_from levels (seen memory places root recursive) root)
+      → SoundTables levels (seen memory places root recursive) root (serves_below limit) []
+  unfolding mark_all
+  sound_alone low new marked = (accepted memory places mapping root recursive limit levels [] marks clear low new new marked true refl).0 refl
 
 -- a number that is no frame's address is not marked
 pub never_marked : (memory : Memory) (places : Places) → IsMapping places → (root limit : ℕ) (marks : List Bool) (f : ℕ) → is_frame f ≡ false

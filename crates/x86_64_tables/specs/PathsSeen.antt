@@ -2,10 +2,9 @@
 use Rattle.std.specs.Prelude.{◌≡◌, ◌⊎◌, ◌<◌, suc, ℕ, List, length, Bool, true, false, Option, is_some}
 use Rattle.x86_64_model.specs.Alike.{AlikeTables}
 use Rattle.x86_64_model.specs.Hierarchy.{read_at, paths_of}
-use Rattle.x86_64_model.specs.Memory.{Memory, Places, IsMapping, Words, identity_places, words_of}
+use Rattle.x86_64_model.specs.Memory.{Memory, Places, Words, identity_places, words_of}
 use Rattle.x86_64_model.specs.PathMap.{PathMap}
 use Rattle.x86_64_model.specs.Window.{outside_window}
-use Rattle.x86_64_model.proofs.Lemmas.Hierarchies.Memories.{identity_is_mapping}
 use Rattle.x86_64_tables.specs.SelfEntries.{window_in}
 
 -- each frame at the place with its number, or the given places
@@ -13,15 +12,13 @@ abbrev pub places_for : (by_number : Bool) → Places → Places
 places_for false places = places
 places_for true places = identity_places
 
-pub is_mapping_for : (by_number : Bool) (places : Places) → IsMapping places → IsMapping (places_for by_number places)
-is_mapping_for false places mapping = mapping
-is_mapping_for true places mapping = identity_is_mapping
+-- the path map of words, of the given levels, without the root's word at the recursive index if there is one
+abbrev pub paths_in : (levels : ℕ) → Words → (root : ℕ) → (recursive : Option ℕ) → PathMap
+paths_in levels words root recursive = paths_of levels (outside_window (window_in words root recursive) root words) root
 
--- the path map of the memory's words, of the given levels, without the root's word at the recursive index if there is one
+-- the path map of the memory's words
 abbrev pub paths_seen_at : (levels : ℕ) → Memory → Places → (root : ℕ) → (recursive : Option ℕ) → PathMap
-paths_seen_at levels memory places root recursive =
-    let words = words_of memory (places_for (is_some recursive) places) in
-    paths_of levels (outside_window (window_in words root recursive) root words) root
+paths_seen_at levels memory places root recursive = paths_in levels (words_of memory (places_for (is_some recursive) places)) root recursive
 
 -- the path map of four levels
 abbrev pub paths_seen : Memory → Places → (root : ℕ) → (recursive : Option ℕ) → PathMap

@@ -26,7 +26,7 @@ mod walk;
 use crate::page_table::PageTable;
 pub use active::{Active, ActiveMemory, ActiveMemory57};
 pub use alike::{tables_alike, tables_alike_57};
-pub use hierarchy_view::{HierarchyView, has_self_entry};
+pub use hierarchy_view::HierarchyView;
 pub use lent_marks::{count_set, is_valid_by_marks, pool_fits_by_marks};
 pub use lent_memory::LentMemory;
 use places::{SortedPlaces, is_increasing};
@@ -36,8 +36,9 @@ use std::marker::Model;
 use std::ops::{Index, IndexMut};
 pub use table_memory::TableMemory;
 pub use validity::{
-    FRAME_COUNT, HierarchyTest, is_valid_hierarchy, is_valid_hierarchy_57, is_valid_recursive,
-    is_valid_recursive_57, pool_fits, pool_fits_57, pool_fits_recursive, pool_fits_recursive_57,
+    FRAME_COUNT, HierarchyTest, clear_marks, is_valid_hierarchy, is_valid_hierarchy_57,
+    is_valid_recursive, is_valid_recursive_57, pool_fits, pool_fits_57, pool_fits_recursive,
+    pool_fits_recursive_57,
 };
 pub use walk::{
     Walked, has_flag, index_of, page_walk, page_walk as page_walk_57, table_in,

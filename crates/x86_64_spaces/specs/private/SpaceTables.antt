@@ -71,13 +71,14 @@ pub record Tested : Type 0 where
   pub levels : ℕ
   pub limit : ℕ
 
--- What a value of the test's type looks at, by what the types of its memory and its mapping say.
-abbrev pub tested : {T P : Type 0} → (tables : T → Memory) → (places : P → Places) → SpacesTest T P → Tested
-tested tables places test = record {
+-- What a value of the test's type looks at, by what the types of its memory and its mapping say, and the number
+-- of levels.
+abbrev pub tested : {L T P : Type 0} → (levels : ℕ) → (tables : T → Memory) → (places : P → Places) → SpacesTest L T P → Tested
+tested levels tables places test = record {
   memory = tables test.memory.now;
   places = places test.mapping.now;
   shared = indices_of test.shared;
-  levels = test.levels - 1;
+  levels = (levels - 1) - 1;
   limit = test.limit;
 }
 
@@ -88,10 +89,6 @@ tested_words test = words_of test.memory test.places
 -- The words of a root as its space sees them.
 abbrev pub seen_words : Tested → Space → (index : ℕ) → ℕ
 seen_words test space = root_words test.memory test.places space
-
--- The root names itself at the recursive index, if there is one.
-abbrev pub NamesItself : Tested → Space → Type 0
-NamesItself test space = SelfEntry (tested_words test) space.root (window_in (tested_words test) space.root space.recursive)
 
 -- The space is like the first one.
 abbrev pub IsLike : Tested → (first space : Space) → Type 0

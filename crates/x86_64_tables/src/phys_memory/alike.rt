@@ -1,13 +1,14 @@
 //! A test of whether two hierarchies have path maps that are alike. A path map has the entry at each path: the list of
 //! indices from the root to the entry.
-ghost use Rattle.std.specs.Prelude.{◌≡◌, ◌==◌, ◌↔◌, IsTrue, suc};
+ghost use Rattle.std.specs.Prelude.{◌≡◌, ◌==◌, ◌↔◌, IsTrue};
 ghost use Rattle.x86_64_model.specs.Alike.{Alike, without_writable};
-ghost use Rattle.x86_64_tables.specs.Views.{words_seen};
-ghost use Rattle.x86_64_tables.specs.PathsSeen.{AlikeFrom, paths_seen, paths_seen_57, paths_seen_at, places_for};
+ghost use Rattle.x86_64_tables.specs.Views.{words_in, words_seen};
+ghost use Rattle.x86_64_tables.specs.PathsSeen.{AlikeFrom, paths_in, paths_seen, paths_seen_57, paths_seen_at};
 
 use super::hierarchy_view::HierarchyView;
-use super::{FramePlace, IdentityMapping, PageTableFrameMapping, TableMemory};
+use super::{IdentityMapping, PageTableFrameMapping, TableMemory};
 use x86_64_addr::index::PageTableIndex;
+use x86_64_addr::level_count::{FiveLevels, FourLevels, LevelCount};
 use x86_64_page::frame::PhysFrame;
 use x86_64_page::page::Size4KiB;
 
@@ -43,17 +44,20 @@ pub fn tables_alike<
         (paths_seen (T.tables memory.now) (P.places mapping.now) root index)
         (paths_seen (U.tables other_memory.now) (Q.places other_mapping.now) other_root other_index) }
 {
-    alike_through(
-        memory,
-        mapping,
-        root,
-        index,
-        other_memory,
-        other_mapping,
-        other_root,
-        other_index,
-        3,
-    )
+    match index {
+        Some(_) => HierarchyView::<FourLevels, _, _>::new(
+            memory,
+            &IdentityMapping,
+            root,
+            index,
+        ).is_alike_read(other_memory, other_mapping, other_root, other_index),
+        None => HierarchyView::<FourLevels, _, _>::new(memory, mapping, root, None).is_alike_read(
+            other_memory,
+            other_mapping,
+            other_root,
+            other_index,
+        ),
+    }
 }
 
 /// Returns true if two hierarchies of five levels are alike: their path maps are equal except for `WRITABLE` of table
@@ -80,70 +84,75 @@ pub fn tables_alike_57<
         (paths_seen_57 (T.tables memory.now) (P.places mapping.now) root index)
         (paths_seen_57 (U.tables other_memory.now) (Q.places other_mapping.now) other_root other_index) }
 {
-    alike_through(
-        memory,
-        mapping,
-        root,
-        index,
-        other_memory,
-        other_mapping,
-        other_root,
-        other_index,
-        4,
-    )
+    match index {
+        Some(_) => HierarchyView::<FiveLevels, _, _>::new(
+            memory,
+            &IdentityMapping,
+            root,
+            index,
+        ).is_alike_read(other_memory, other_mapping, other_root, other_index),
+        None => HierarchyView::<FiveLevels, _, _>::new(memory, mapping, root, None).is_alike_read(
+            other_memory,
+            other_mapping,
+            other_root,
+            other_index,
+        ),
+    }
 }
 
-/// Returns true if two hierarchies are alike, with `levels` levels of tables below each root.
-fn alike_through<
+impl<'a, L: LevelCount, T: TableMemory, P: PageTableFrameMapping> HierarchyView<'a, L, T, P> {
+    /// Returns true if the hierarchy and another one are alike: their path maps are equal except for `WRITABLE` of table entries.
+    ///
+    /// Entries without `PRESENT` count like others, and entries that name no table are compared in full. The test terminates for
+    /// any words: a table that the memory lacks is read as one of unused entries. It allocates no memory.
+    pub fn is_alike<U: TableMemory, Q: PageTableFrameMapping>(
+        &self,
+        other: &HierarchyView<L, U, Q>,
+    ) -> bool
+        ensures { IsTrue result ↔ Alike L.LEVELS
+            (paths_in L.LEVELS (words_in T.tables P.places self.now) self.now.root self.now.recursive)
+            (paths_in L.LEVELS (words_in U.tables Q.places other.now) other.now.root other.now.recursive) }
+    {
+        alike_from(self, self.root, other, other.root, self.levels_below())
+    }
+
+    /// Returns true if the hierarchy and another one are alike, of which each frame lies at the place with its number if it has a
+    /// recursive index, else as the mapping says.
+    fn is_alike_read<U: TableMemory, Q: PageTableFrameMapping>(
+        &self,
+        memory: &U,
+        mapping: &Q,
+        root: PhysFrame<Size4KiB>,
+        recursive: Option<PageTableIndex>,
+    ) -> bool
+        ensures { IsTrue result ↔ Alike L.LEVELS
+            (paths_in L.LEVELS (words_in T.tables P.places self.now) self.now.root self.now.recursive)
+            (paths_seen_at L.LEVELS (U.tables memory.now) (Q.places mapping.now) root recursive) }
+    {
+        match recursive {
+            Some(_) => self.is_alike(&HierarchyView::new(
+                memory,
+                &IdentityMapping,
+                root,
+                recursive,
+            )),
+            None => self.is_alike(&HierarchyView::new(memory, mapping, root, None)),
+        }
+    }
+}
+
+/// Returns true if the entries at each path from the tables in two frames are alike, with `levels` levels of tables below
+/// each.
+fn alike_from<
+    L: LevelCount,
     T: TableMemory,
     P: PageTableFrameMapping,
     U: TableMemory,
     Q: PageTableFrameMapping,
 >(
-    memory: &T,
-    mapping: &P,
-    root: PhysFrame<Size4KiB>,
-    index: Option<PageTableIndex>,
-    other_memory: &U,
-    other_mapping: &Q,
-    other_root: PhysFrame<Size4KiB>,
-    other_index: Option<PageTableIndex>,
-    levels: u8,
-) -> bool
-    ensures { IsTrue result ↔ Alike (suc levels)
-        (paths_seen_at (suc levels) (T.tables memory.now) (P.places mapping.now) root index)
-        (paths_seen_at (suc levels) (U.tables other_memory.now) (Q.places other_mapping.now)
-        other_root other_index) }
-{
-    let mapping = MappingFor {
-        by_number: index.is_some(),
-        mapping,
-    };
-    let other_mapping = MappingFor {
-        by_number: other_index.is_some(),
-        mapping: other_mapping,
-    };
-    let one = HierarchyView {
-        memory,
-        mapping,
-        root,
-        recursive: index,
-    };
-    let other = HierarchyView {
-        memory: other_memory,
-        mapping: other_mapping,
-        root: other_root,
-        recursive: other_index,
-    };
-    alike_from(&one, root, &other, other_root, levels)
-}
-
-/// Returns true if the entries at each path from the tables in two frames are alike, with `levels` levels of tables below
-/// each.
-fn alike_from<T: TableMemory, P: PageTableFrameMapping, U: TableMemory, Q: PageTableFrameMapping>(
-    one: &HierarchyView<T, P>,
+    one: &HierarchyView<L, T, P>,
     frame: PhysFrame<Size4KiB>,
-    other: &HierarchyView<U, Q>,
+    other: &HierarchyView<L, U, Q>,
     other_frame: PhysFrame<Size4KiB>,
     levels: u8,
 ) -> bool
@@ -175,36 +184,4 @@ fn equal_but_writable(word: u64, other: u64) -> bool
     ensures { result ≡ (without_writable word == without_writable other) }
 {
     word & ALL_BUT_WRITABLE == other & ALL_BUT_WRITABLE
-}
-
-/// The mapping of a hierarchy's frames: to the places with their numbers if it has a recursive index, else as given.
-#[derive(Drop)]
-struct MappingFor<'a, P> {
-    by_number: bool,
-    mapping: &'a P,
-}
-
-impl<'a, P: PageTableFrameMapping> PageTableFrameMapping for MappingFor<'a, P> {
-    ghost use Rattle.x86_64_tables.specs.PathsSeen.{is_mapping_for};
-
-    ghost places = { λ given. places_for given.by_number (P.places given.mapping.now) };
-
-    fn frame_to_pointer(&self, frame: PhysFrame<Size4KiB>) -> FramePlace {
-        if self.by_number {
-            IdentityMapping.frame_to_pointer(frame)
-        } else {
-            self.mapping.frame_to_pointer(frame)
-        }
-    }
-
-    fn covers(&self, frame: PhysFrame<Size4KiB>) -> bool {
-        if self.by_number {
-            IdentityMapping.covers(frame)
-        } else {
-            self.mapping.covers(frame)
-        }
-    }
-
-    ghost is_mapping = { λ given.
-        is_mapping_for given.by_number (P.places given.mapping.now) (P.is_mapping given.mapping.now) };
 }

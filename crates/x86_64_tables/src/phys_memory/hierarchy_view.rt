@@ -1,35 +1,79 @@
 //! A view of a hierarchy for reading: the words of its tables, without the root's word at the recursive index, the index at
 //! which the root names itself.
-ghost use Rattle.std.specs.Prelude.{◌≡◌, ◌<◌, ◌↔◌, IsTrue, unwrap_or};
+ghost use Rattle.std.specs.Prelude.{◌≡◌, ◌<◌, ◌-◌, ◌↔◌, IsTrue, unwrap_or};
 ghost use Rattle.std.specs.Option.{option_copied};
 ghost use Rattle.x86_64_model.specs.Entry.{huge};
 ghost use Rattle.x86_64_model.specs.Memory.{word, words_of};
+ghost use Rattle.x86_64_model.specs.Window.{SelfEntry};
 ghost use Rattle.x86_64_model.specs.private.Tables.{NoneHuge};
-ghost use Rattle.x86_64_tables.specs.Views.{words_seen, below_word};
-ghost use Rattle.x86_64_tables.specs.SelfEntries.{has_self_entry, names_frame};
+ghost use Rattle.x86_64_tables.specs.Views.{words_in, words_seen, below_word};
+ghost use Rattle.x86_64_tables.specs.SelfEntries.{has_self_entry, names_frame, window_in};
 
 use super::walk::{entry_at, has_flag};
 use super::{PageTableFrameMapping, TableMemory};
 use crate::page_table::{PageTableEntry, PageTableFlags};
 use bitflags::Flags;
+use std::marker::PhantomData;
 use x86_64_addr::index::PageTableIndex;
+use x86_64_addr::level_count::LevelCount;
 use x86_64_page::frame::PhysFrame;
 use x86_64_page::page::Size4KiB;
 
-/// A view of the hierarchy below a root in a memory. The root's word at the recursive index, if there is one, is read as 0.
+/// A view of the hierarchy of `L` levels below a root in a memory, whose frames lie where a mapping says. The root's word at the
+/// recursive index, if there is one, is read as 0.
 #[derive(Drop)]
-pub struct HierarchyView<'a, T, P> {
-    /// The memory with the tables.
-    pub memory: &'a T,
-    /// Where frames lie in the memory.
-    pub mapping: P,
-    /// The root's frame.
-    pub root: PhysFrame<Size4KiB>,
-    /// The recursive index.
-    pub recursive: Option<PageTableIndex>,
+pub struct HierarchyView<'a, L, T, P> {
+    pub(super) memory: &'a T,
+    pub(super) mapping: &'a P,
+    pub(super) root: PhysFrame<Size4KiB>,
+    pub(super) recursive: Option<PageTableIndex>,
+    levels: PhantomData<L>,
 }
 
-impl<'a, T: TableMemory, P: PageTableFrameMapping> HierarchyView<'a, T, P> {
+impl<'a, L: LevelCount, T: TableMemory, P: PageTableFrameMapping> HierarchyView<'a, L, T, P> {
+    /// Creates the view of the hierarchy below a root, with a recursive index or none.
+    pub fn new(
+        memory: &'a T,
+        mapping: &'a P,
+        root: PhysFrame<Size4KiB>,
+        recursive: Option<PageTableIndex>,
+    ) -> Self
+        ensures { result ≡ record {
+          memory = memory.entry;
+          mapping = mapping.entry;
+          root = root;
+          recursive = recursive;
+          levels = record {};
+        } }
+    {
+        HierarchyView {
+            memory,
+            mapping,
+            root,
+            recursive,
+            levels: PhantomData,
+        }
+    }
+
+    /// Returns the number of levels of tables below the root's.
+    pub fn levels_below(&self) -> u8
+        ensures { result ≡ L.LEVELS - 1 }
+    {
+        L::LEVELS as u8 - 1
+    }
+
+    /// Returns true if the root's word at the recursive index, if there is one, has `PRESENT`, lacks `HUGE_PAGE` and names the
+    /// root.
+    pub fn names_itself(&self) -> bool
+        ensures { let words = words_in T.tables P.places self.now in
+            IsTrue result ↔ SelfEntry words self.now.root (window_in words self.now.root self.now.recursive) }
+    {
+        match self.recursive {
+            Some(index) => has_self_entry(self.memory, self.mapping, self.root, index),
+            None => true,
+        }
+    }
+
     /// Returns true if no word above level three has `HUGE_PAGE`, in the table in a frame and in the tables of `levels` levels
     /// below it.
     pub fn none_huge(&self, frame: PhysFrame<Size4KiB>, levels: u8) -> bool
@@ -99,13 +143,13 @@ impl<'a, T: TableMemory, P: PageTableFrameMapping> HierarchyView<'a, T, P> {
     {
         match self.recursive {
             Some(recursive) if frame == self.root && index == usize::from(recursive) => None,
-            _ => entry_at(self.memory, &self.mapping, frame, index),
+            _ => entry_at(self.memory, self.mapping, frame, index),
         }
     }
 }
 
 /// Returns true if there is a table in the root's frame, and `frame` of its entry at an index is the root.
-pub fn has_self_entry<T: TableMemory, P: PageTableFrameMapping>(
+pub(super) fn has_self_entry<T: TableMemory, P: PageTableFrameMapping>(
     memory: &T,
     mapping: &P,
     root: PhysFrame<Size4KiB>,

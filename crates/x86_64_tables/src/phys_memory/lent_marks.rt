@@ -1,5 +1,5 @@
 //! The tests of a hierarchy over marks that the caller lends. They take no memory.
-ghost use Rattle.std.specs.Prelude.{◌≡◌, ◌≤◌, ◌+◌, ◌↔◌, suc, if◌then◌else◌, length, replicate, reverse, count_by, IsTrue, Some, None, false};
+ghost use Rattle.std.specs.Prelude.{◌≡◌, ◌≤◌, ◌+◌, ◌-◌, ◌↔◌, suc, if◌then◌else◌, length, replicate, reverse, count_by, IsTrue, Some, None, false};
 ghost use Rattle.std.specs.FinMap as map;
 ghost use Rattle.x86_64_model.specs.Entry.{is_frame};
 ghost use Rattle.x86_64_model.specs.Memory.{words_of};
@@ -34,14 +34,8 @@ pub fn is_valid_by_marks<L: LevelCount, T: TableMemory, P: PageTableFrameMapping
         ↔ ValidHierarchy L.LEVELS (words_of (T.tables memory.now) (P.places mapping.now)) root }
 {
     marks.fill(false);
-    let view = HierarchyView {
-        memory,
-        mapping,
-        root,
-        recursive: None,
-    };
-    let limit = FRAME_COUNT;
-    HierarchyTest { view, limit }.is_sound_by(L::LEVELS as u8 - 1, None, marks)
+    let view = HierarchyView::<L, _, _>::new(memory, mapping, root, None);
+    view.test(FRAME_COUNT).mark_hierarchy(marks)
 }
 
 /// Returns whether the words below the root are a valid hierarchy, a pool fits it, and an array has room for every frame that the
@@ -66,28 +60,20 @@ pub fn pool_fits_by_marks<L: LevelCount, T: TableMemory, P: PageTableFrameMappin
         (words_of (T.tables memory.now) (P.places mapping.now)) root capacity (reverse frames.now) }
 {
     marks.fill(false);
-    let view = HierarchyView {
-        memory,
-        mapping,
-        root,
-        recursive: None,
-    };
-    let limit = FRAME_COUNT;
-    HierarchyTest { view, limit }.has_room_by(L::LEVELS as u8 - 1, frames, capacity, marks)
+    let view = HierarchyView::<L, _, _>::new(memory, mapping, root, None);
+    view.test(FRAME_COUNT).has_room_by(frames, capacity, marks)
 }
 
-impl<'a, T: TableMemory, P: PageTableFrameMapping> HierarchyTest<'a, T, P> {
-    /// Returns whether the tables, of `levels` levels below the root's, and these frames are sound, and there are at most one more
-    /// of them than the capacity, by marks that are all clear at first.
-    fn has_room_by(&self, levels: u8, frames: &[u64], capacity: usize, marks: &mut [bool]) -> bool
+impl<'a, L: LevelCount, T: TableMemory, P: PageTableFrameMapping> HierarchyTest<'a, L, T, P> {
+    /// Returns whether the tables and these frames are sound, and there are at most one more of them than the capacity, by marks
+    /// that are all clear at first.
+    fn has_room_by(&self, frames: &[u64], capacity: usize, marks: &mut [bool]) -> bool
         requires { marks.old ≡ replicate (length (map.keys (T.tables self.now.view.memory.now))) false }
-        ensures { IsTrue result ↔ (TablesSoundFor T.tables P.places self.now levels frames.now
-            × (length (tables_met T.tables P.places self.now levels) + length frames.now ≤ suc capacity)) }
+        ensures { IsTrue result ↔ (TablesSoundFor T.tables P.places self.now (L.LEVELS - 1) frames.now
+            × (length (tables_met T.tables P.places self.now (L.LEVELS - 1)) + length frames.now
+            ≤ suc capacity)) }
     {
-        if !self.mark_tables(marks, self.view.root, levels) {
-            return false;
-        }
-        if !self.view.none_huge(self.view.root, levels) {
+        if !self.mark_hierarchy(marks) {
             return false;
         }
         if !self.mark_frames(marks, frames) {

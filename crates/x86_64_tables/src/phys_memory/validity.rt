@@ -1,20 +1,19 @@
 //! Tests of whether the words below a root form a valid hierarchy, and whether a pool fits it.
-ghost use Rattle.std.specs.Prelude.{◌≡◌, ◌<◌, ◌↔◌, suc, ℕ, if◌then◌else◌, length, IfOk, OnErr, IsTrue, Some, None, false, true, slice_index_or};
+ghost use Rattle.std.specs.Prelude.{◌≡◌, ◌<◌, ◌-◌, ◌↔◌, ℕ, List, if◌then◌else◌, length, replicate, IfOk, OnErr, IsTrue, Some, None, false};
 ghost use Rattle.std.specs.FinMap.{keys, len};
-ghost use Rattle.std.specs.Option.{option_copied};
 ghost use Rattle.x86_64_model.specs.Memory.{identity_places, words_of};
 ghost use Rattle.x86_64_model.specs.private.Tables.{tables_from};
 ghost use Rattle.x86_64_model.specs.private.Marks.{mark_one, mark_all};
-ghost use Rattle.x86_64_tables.specs.Tested.{ValidHierarchy, ValidRecursive, FitsHierarchy, FitsRecursive};
-ghost use Rattle.x86_64_tables.specs.Views.{words_seen, mark_of};
-ghost use Rattle.x86_64_tables.specs.private.Soundness.{free_in, SoundFor, TablesSoundFor};
-ghost use Rattle.x86_64_tables.specs.private.HierarchyTests.{limit_of, Passes};
+ghost use Rattle.x86_64_tables.specs.Tested.{ValidHierarchy, ValidRecursive, ValidWith, FitsHierarchy, FitsRecursive, FitsWith};
+ghost use Rattle.x86_64_tables.specs.Views.{words_in, words_seen, mark_of};
+ghost use Rattle.x86_64_tables.specs.private.Soundness.{AreMarked, TablesSoundFor};
 
-use super::hierarchy_view::{HierarchyView, has_self_entry};
+use super::hierarchy_view::HierarchyView;
 use super::{IdentityMapping, PageTableFrameMapping, TableMemory};
 use crate::frame_alloc::FramePool;
 use std::alloc::{AllocError, Global};
 use x86_64_addr::index::PageTableIndex;
+use x86_64_addr::level_count::{FiveLevels, FourLevels, LevelCount};
 use x86_64_page::frame::PhysFrame;
 use x86_64_page::page::{PageSize, Size4KiB};
 
@@ -42,7 +41,7 @@ pub fn is_valid_hierarchy<T: TableMemory, P: PageTableFrameMapping>(
         ↔ ValidHierarchy 4 (words_of (T.tables memory.now) (P.places mapping.now)) root) }
     ensures needs_memory { OnErr result (0 < len (T.tables memory.now)) }
 {
-    passes(alloc, memory, mapping, root, None, None, 3)
+    HierarchyView::<FourLevels, _, _>::new(memory, mapping, root, None).is_valid(alloc)
 }
 
 /// Returns true if the words below the root form a valid hierarchy of five levels.
@@ -65,7 +64,7 @@ pub fn is_valid_hierarchy_57<T: TableMemory, P: PageTableFrameMapping>(
         ↔ ValidHierarchy 5 (words_of (T.tables memory.now) (P.places mapping.now)) root) }
     ensures needs_memory { OnErr result (0 < len (T.tables memory.now)) }
 {
-    passes(alloc, memory, mapping, root, None, None, 4)
+    HierarchyView::<FiveLevels, _, _>::new(memory, mapping, root, None).is_valid(alloc)
 }
 
 /// Returns true if the words below the root form a valid hierarchy of four levels with a recursive index, the index at which
@@ -89,7 +88,9 @@ pub fn is_valid_recursive<T: TableMemory>(
         ↔ ValidRecursive 4 (words_of (T.tables memory.now) identity_places) root index) }
     ensures needs_memory { OnErr result (0 < len (T.tables memory.now)) }
 {
-    passes(alloc, memory, &IdentityMapping, root, Some(index), None, 3)
+    HierarchyView::<FourLevels, _, _>::new(memory, &IdentityMapping, root, Some(index)).is_valid(
+        alloc,
+    )
 }
 
 /// Returns true if the words below the root form a valid hierarchy of five levels with a recursive index. Each frame lies at
@@ -113,7 +114,9 @@ pub fn is_valid_recursive_57<T: TableMemory>(
         ↔ ValidRecursive 5 (words_of (T.tables memory.now) identity_places) root index) }
     ensures needs_memory { OnErr result (0 < len (T.tables memory.now)) }
 {
-    passes(alloc, memory, &IdentityMapping, root, Some(index), None, 4)
+    HierarchyView::<FiveLevels, _, _>::new(memory, &IdentityMapping, root, Some(index)).is_valid(
+        alloc,
+    )
 }
 
 /// Returns true if the words below the root form a valid hierarchy of four levels, and a pool fits it.
@@ -138,7 +141,7 @@ pub fn pool_fits<T: TableMemory, P: PageTableFrameMapping>(
         ↔ FitsHierarchy 4 (words_of (T.tables memory.now) (P.places mapping.now)) root pool.now) }
     ensures needs_memory { OnErr result (0 < len (T.tables memory.now)) }
 {
-    passes(alloc, memory, mapping, root, None, Some(pool), 3)
+    HierarchyView::<FourLevels, _, _>::new(memory, mapping, root, None).pool_fits(alloc, pool)
 }
 
 /// Returns true if the words below the root form a valid hierarchy of five levels, and a pool fits it.
@@ -161,7 +164,7 @@ pub fn pool_fits_57<T: TableMemory, P: PageTableFrameMapping>(
         ↔ FitsHierarchy 5 (words_of (T.tables memory.now) (P.places mapping.now)) root pool.now) }
     ensures needs_memory { OnErr result (0 < len (T.tables memory.now)) }
 {
-    passes(alloc, memory, mapping, root, None, Some(pool), 4)
+    HierarchyView::<FiveLevels, _, _>::new(memory, mapping, root, None).pool_fits(alloc, pool)
 }
 
 /// Returns true if the words below the root form a valid hierarchy of four levels with a recursive index, and a pool fits
@@ -186,14 +189,8 @@ pub fn pool_fits_recursive<T: TableMemory>(
         ↔ FitsRecursive 4 (words_of (T.tables memory.now) identity_places) root index pool.now) }
     ensures needs_memory { OnErr result (0 < len (T.tables memory.now)) }
 {
-    passes(
-        alloc,
-        memory,
-        &IdentityMapping,
-        root,
-        Some(index),
-        Some(pool),
-        3,
+    HierarchyView::<FourLevels, _, _>::new(memory, &IdentityMapping, root, Some(index)).pool_fits(
+        alloc, pool,
     )
 }
 
@@ -218,121 +215,105 @@ pub fn pool_fits_recursive_57<T: TableMemory>(
         ↔ FitsRecursive 5 (words_of (T.tables memory.now) identity_places) root index pool.now) }
     ensures needs_memory { OnErr result (0 < len (T.tables memory.now)) }
 {
-    passes(
-        alloc,
-        memory,
-        &IdentityMapping,
-        root,
-        Some(index),
-        Some(pool),
-        4,
+    HierarchyView::<FiveLevels, _, _>::new(memory, &IdentityMapping, root, Some(index)).pool_fits(
+        alloc, pool,
     )
 }
 
-/// Returns true if the words below the root form a valid hierarchy with `levels` levels of tables below the root, for the
-/// recursive index if there is one, and the pool, if there is one, fits it.
+impl<'a, L: LevelCount, T: TableMemory, P: PageTableFrameMapping> HierarchyView<'a, L, T, P> {
+    /// Returns true if the hierarchy is valid.
+    ///
+    /// Without a recursive index this is defined as for [`is_valid_hierarchy`] with four levels, and as for
+    /// [`is_valid_hierarchy_57`] with five; with one as for [`is_valid_recursive`] and [`is_valid_recursive_57`].
+    ///
+    /// The test terminates for any words. It allocates only one mark for each place.
+    ///
+    /// # Errors
+    ///
+    /// `AllocError` if memory allocation fails. A memory without places needs no allocation.
+    pub fn is_valid(&self, alloc: Global) -> Result<bool, AllocError>
+        ensures decides { IfOk result (λ b. IsTrue b ↔ ValidWith L.LEVELS
+            (words_in T.tables P.places self.now) self.now.root self.now.recursive) }
+        ensures needs_memory { OnErr result (0 < len (T.tables self.now.memory.now)) }
+    {
+        if !self.names_itself() {
+            return Ok(false);
+        }
+        let mut marks = clear_marks(alloc, self.memory)?;
+        Ok(self.test(FRAME_COUNT).mark_hierarchy(&mut marks))
+    }
+
+    /// Returns true if the hierarchy is valid as by [`is_valid`](HierarchyView::is_valid), and a pool fits it as defined for
+    /// [`pool_fits`].
+    ///
+    /// The test terminates for any words and any pool. It allocates only one mark for each place.
+    ///
+    /// # Errors
+    ///
+    /// `AllocError` if memory allocation fails. A memory without places needs no allocation.
+    pub fn pool_fits(&self, alloc: Global, pool: &FramePool) -> Result<bool, AllocError>
+        ensures decides { IfOk result (λ b. IsTrue b ↔ FitsWith L.LEVELS
+            (words_in T.tables P.places self.now) self.now.root self.now.recursive pool.now) }
+        ensures needs_memory { OnErr result (0 < len (T.tables self.now.memory.now)) }
+    {
+        if !self.names_itself() {
+            return Ok(false);
+        }
+        let mut marks = clear_marks(alloc, self.memory)?;
+        let marks: &mut [bool] = &mut marks;
+        let test = self.test(pool.limit());
+        Ok(test.mark_hierarchy(marks) && test.mark_pool(marks, pool))
+    }
+
+    /// Returns a test of the hierarchy in which the frames with numbers below a limit may be met.
+    pub fn test(&self, limit: u64) -> HierarchyTest<'a, L, T, P>
+        ensures { result ≡ record { limit = limit; view = self.now } }
+    {
+        let view = HierarchyView::new(self.memory, self.mapping, self.root, self.recursive);
+        HierarchyTest { view, limit }
+    }
+}
+
+/// Creates one clear mark for each place of a memory.
 ///
 /// # Errors
 ///
 /// `AllocError` if memory allocation fails. A memory without places needs no allocation.
-fn passes<T: TableMemory, P: PageTableFrameMapping>(
-    alloc: Global,
-    memory: &T,
-    mapping: &P,
-    root: PhysFrame<Size4KiB>,
-    recursive: Option<PageTableIndex>,
-    pool: Option<&FramePool>,
-    levels: u8,
-) -> Result<bool, AllocError>
-    ensures decides { IfOk result (λ b. IsTrue b ↔ Passes (suc levels)
-        (words_of (T.tables memory.now) (P.places mapping.now)) root recursive (option_copied pool.entry)) }
+#[tactic(auto, using(crate::specs::PhysMemory::length_keys))]
+pub fn clear_marks<T: TableMemory>(alloc: Global, memory: &T) -> Result<Vec<bool>, AllocError>
+    ensures clear { IfOk result (λ marks.
+        marks.items ≡ replicate (length (keys (T.tables memory.now))) false) }
     ensures needs_memory { OnErr result (0 < len (T.tables memory.now)) }
 {
-    let view = HierarchyView {
-        memory,
-        mapping,
-        root,
-        recursive,
-    };
-    let limit = limit_of(pool);
-    HierarchyTest { view, limit }.is_sound(alloc, levels, pool)
-}
-
-/// Returns the bound of frame numbers: the pool's limit, or the number of all frames if there is no pool.
-fn limit_of(pool: Option<&FramePool>) -> u64
-    ensures { result ≡ limit_of (option_copied pool.entry) }
-{
-    match pool {
-        Some(pool) => pool.limit(),
-        None => FRAME_COUNT,
-    }
+    let mut marks = Vec::new(alloc);
+    marks.resize(memory.len(), false)?;
+    Ok(marks)
 }
 
 /// A hierarchy to be tested. The frames that may be met are the root, and those with numbers from 1 to `limit` - 1.
 ///
 /// There is a mark for each place of the memory, which is set when its frame is met.
 #[derive(Drop)]
-pub struct HierarchyTest<'a, T, P> {
+pub struct HierarchyTest<'a, L, T, P> {
     /// The hierarchy.
-    pub view: HierarchyView<'a, T, P>,
+    pub view: HierarchyView<'a, L, T, P>,
     /// The bound of frame numbers.
     pub limit: u64,
 }
 
-impl<'a, T: TableMemory, P: PageTableFrameMapping> HierarchyTest<'a, T, P> {
-    /// Returns true if all of this holds: each table, with `levels` levels below the root, and each frame of the pool, if there
-    /// is one, is met once, is in the memory, and may be met; no word above level three has `HUGE_PAGE`; and the root's word at
-    /// the recursive index, if there is one, names the root.
-    ///
-    /// # Errors
-    ///
-    /// `AllocError` if memory allocation fails. A memory without places needs no allocation.
-    #[tactic(auto, using(crate::specs::PhysMemory::length_keys))]
-    fn is_sound(
-        &self,
-        alloc: Global,
-        levels: u8,
-        pool: Option<&FramePool>,
-    ) -> Result<bool, AllocError>
-        ensures decides { IfOk result (λ b. IsTrue b
-            ↔ SoundFor T.tables P.places self.now levels (free_in (option_copied pool.entry))) }
-        ensures needs_memory { OnErr result (0 < len (T.tables self.now.view.memory.now)) }
+impl<'a, L: LevelCount, T: TableMemory, P: PageTableFrameMapping> HierarchyTest<'a, L, T, P> {
+    /// Marks the tables, by marks that are all clear at first. Returns false if one of them can't be marked, or a word above level
+    /// three has `HUGE_PAGE`.
+    pub(super) fn mark_hierarchy(&self, marks: &mut [bool]) -> bool
+        requires { marks.old ≡ replicate (length (keys (T.tables self.now.view.memory.now))) false }
+        ensures sound { (pool : List ℕ)
+            → TablesSoundFor T.tables P.places self.now (L.LEVELS - 1) pool → IsTrue result }
+        ensures marked { IsTrue result
+            → AreMarked T.tables P.places self.now (L.LEVELS - 1) marks.old marks.new }
     {
-        if let Some(index) = self.view.recursive {
-            if !has_self_entry(self.view.memory, &self.view.mapping, self.view.root, index) {
-                return Ok(false);
-            }
-        }
-        let mut marks = Vec::new(alloc);
-        marks.resize(self.view.memory.len(), false)?;
-        Ok(self.is_sound_by(levels, pool, &mut marks))
-    }
-
-    /// Checks what `is_sound` checks, except for the recursive index, with one mark per place.
-    ///
-    /// Requires that all marks are clear.
-    pub(super) fn is_sound_by(
-        &self,
-        levels: u8,
-        pool: Option<&FramePool>,
-        marks: &mut [bool],
-    ) -> bool
-        requires length { length marks.old ≡ length (keys (T.tables self.now.view.memory.now)) }
-        requires clear { (k : ℕ) → k < length (keys (T.tables self.now.view.memory.now))
-            → slice_index_or marks.old k true ≡ false }
-        ensures { IsTrue result
-            ↔ TablesSoundFor T.tables P.places self.now levels (free_in (option_copied pool.entry)) }
-    {
-        if !self.mark_tables(marks, self.view.root, levels) {
-            return false;
-        }
-        if !self.view.none_huge(self.view.root, levels) {
-            return false;
-        }
-        match pool {
-            Some(pool) => self.mark_pool(marks, pool),
-            None => true,
-        }
+        let levels = self.view.levels_below();
+        self.mark_tables(marks, self.view.root, levels)
+            && self.view.none_huge(self.view.root, levels)
     }
 
     /// Marks the table in a frame and the tables of `levels` levels below it. Returns false if one of them can't be marked.

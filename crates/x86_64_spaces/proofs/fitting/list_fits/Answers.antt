@@ -15,9 +15,9 @@ returns g c =
     let mapping = g.met.P.PageTableFrameMapping.is_mapping c.args.mapping.now in
     let first = c.space_at.result in let spaces = g.S.SpaceList.spaces c.args.spaces.now in
     let member = in_first spaces first c.space_at.ensures in
-    let some = g.L.LevelCount.at_least_four in let levels = c.LEVELS.ensures in
-    let means = room_at (indices_of c.args.shared) ((c.LEVELS.result - 1) - 1) places mapping m first spaces member c.args.capacity c.args.frames.now
-    g.L.LevelCount.LEVELS (omega (arith, some, levels)) in
+    let some = g.L.LevelCount.at_least_four in
+    let means = room_at (indices_of c.args.shared) ((g.L.LevelCount.LEVELS - 1) - 1) places mapping m first spaces member c.args.capacity c.args.frames.now
+    g.L.LevelCount.LEVELS (omega (arith, some)) in
     let tells = c.has_room_by.ensures in
     (λ t. means.0 (tells.0 t), λ x. tells.1 (means.1 x))
 

@@ -34,7 +34,7 @@ loop-index-preserved g c =
           subst (λ memory. HasShared shared words m place (i + 1) (g.T.TableMemory.tables memory) × (g.T.TableMemory.lent memory ≡ g.T.TableMemory.lent c.args.memory.now))
           (sym w.memory-is) (
             one_shared shared words m place n i has (sym c.contains.ensures ∙ w.if-contains.true) c.loop-index-test.true w.set_word.new.self
-                (w.set_word.ensures ∙ w.word_seen-word.ensures ∙ same) lent at
+                (w.set_word.ensures ∙ w.word-word.ensures ∙ same) lent at
                 (g.T.TableMemory.tables (g.T.TableMemory.with_table now place written))
                 (g.met.T.TableMemory.puts now place written (subst IsSome (sym at) refl)),
             g.met.T.TableMemory.keeps_lent now place written ∙ c.loop-index.invariant.1,

@@ -12,7 +12,7 @@ returns-then-not-mark_spaces g c =
     let mapping = g.met.P.PageTableFrameMapping.is_mapping self.mapping.now in
     let shared = indices_of self.shared in let first = c.args.first.now in let spaces = g.S.SpaceList.spaces c.args.spaces.now in
     let marks = c.args.marks.now in
-    (λ t. cc, λ all. c.if-not-mark_spaces.ensures.tells.1 (sound_alone shared (self.levels - 1) m places first spaces self.limit marks c.args.frames.now all.0))
+    (λ t. cc, λ all. c.if-not-mark_spaces.ensures.tells.1 (sound_alone shared ((g.L.LevelCount.LEVELS - 1) - 1) m places first spaces self.limit marks c.args.frames.now all.0))
 
 pub returns-then-not-mark_frames : goal.returns-then-not-mark_frames
 returns-then-not-mark_frames g c =
@@ -21,7 +21,7 @@ returns-then-not-mark_frames g c =
     let mapping = g.met.P.PageTableFrameMapping.is_mapping self.mapping.now in
     let shared = indices_of self.shared in let first = c.args.first.now in let spaces = g.S.SpaceList.spaces c.args.spaces.now in
     let marks = c.args.marks.now in
-    let tells = pool_tells shared (self.levels - 1) m places first spaces self.limit marks mapping c.requires.first (all_clear marks (length (keys m)) c.requires.clear)
+    let tells = pool_tells shared ((g.L.LevelCount.LEVELS - 1) - 1) m places first spaces self.limit marks mapping c.requires.first (all_clear marks (length (keys m)) c.requires.clear)
     (c.if-not-mark_spaces.ensures.tells.0 refl) c.mark_spaces.new.marks (c.if-not-mark_spaces.ensures.marks refl)
     c.args.frames.now c.mark_frames.new.marks false (rw c.of.ensures at c.if-not-mark_frames.ensures) in
     (λ t. cc, λ all. tells.1 all.0)
@@ -33,10 +33,10 @@ returns g c =
     let mapping = g.met.P.PageTableFrameMapping.is_mapping self.mapping.now in
     let shared = indices_of self.shared in let first = c.args.first.now in let spaces = g.S.SpaceList.spaces c.args.spaces.now in
     let marks = c.args.marks.now in
-    let tells = pool_tells shared (self.levels - 1) m places first spaces self.limit marks mapping c.requires.first (all_clear marks (length (keys m)) c.requires.clear)
+    let tells = pool_tells shared ((g.L.LevelCount.LEVELS - 1) - 1) m places first spaces self.limit marks mapping c.requires.first (all_clear marks (length (keys m)) c.requires.clear)
     (c.if-not-mark_spaces.ensures.tells.0 refl) c.mark_spaces.new.marks (c.if-not-mark_spaces.ensures.marks refl)
     c.args.frames.now c.mark_frames.new.marks true (rw c.of.ensures at c.if-not-mark_frames.ensures) in
-    let counted = all_counted shared (self.levels - 1) m places first spaces self.limit marks c.requires.clear c.mark_spaces.new.marks (c.if-not-mark_spaces.ensures.marks refl)
+    let counted = all_counted shared ((g.L.LevelCount.LEVELS - 1) - 1) m places first spaces self.limit marks c.requires.clear c.mark_spaces.new.marks (c.if-not-mark_spaces.ensures.marks refl)
     c.args.frames.now c.mark_frames.new.marks (rw c.of.ensures at c.if-not-mark_frames.ensures) in
     let count = c.count_set.ensures in (
       λ few. (tells.0 refl, let l = leb-true c.count_set.result c.args.capacity few in omega (arith, count, counted, l)),

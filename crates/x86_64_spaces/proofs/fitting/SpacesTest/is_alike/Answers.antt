@@ -9,12 +9,13 @@ pub returns-then-none_huge : goal.returns-then-none_huge
 returns-then-none_huge g c =
     let self = c.args.self.now in let space = c.args.space.now in
     let words = words_of (g.T.TableMemory.tables self.memory.now) (g.P.PageTableFrameMapping.places self.mapping.now) in
-    let levels : self.levels ≡ suc (self.levels - 1) = let some = c.requires in omega arith in
+    let n = g.L.LevelCount.LEVELS in
+    let levels : n - 1 ≡ suc ((n - 1) - 1) = let some = g.L.LevelCount.at_least_four in omega (arith, some) in
     elim c.if-names_itself.branch [
       | then-names_itself w ↦
-          let low = rw w.of.ensures at w.none_huge.ensures.0 (sym w.value-is ∙ c.if-none_huge.true) in (
+          let low = rw (c.of.ensures, w.levels_below.ensures) at w.none_huge.ensures.0 (sym w.value-is ∙ c.if-none_huge.true) in (
             λ same. record {
-              self = c.names_itself.ensures.0 w.if-names_itself.true;
+              self = (rw c.of.ensures at c.names_itself.ensures).0 w.if-names_itself.true;
               none_huge = subst (λ n. NoneHuge n (seen_by words space) space.root) levels low;
               alike = c.has_words_of.ensures.0 same;
             },

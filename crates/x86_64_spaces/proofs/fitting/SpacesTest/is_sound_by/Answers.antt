@@ -12,7 +12,7 @@ returns-then-not-mark_spaces g c =
     let mapping = g.met.P.PageTableFrameMapping.is_mapping self.mapping.now in
     let shared = indices_of self.shared in let first = c.args.first.now in let spaces = g.S.SpaceList.spaces c.args.spaces.now in
     let marks = c.args.marks.now in
-    (λ t. cc, λ sound. c.if-not-mark_spaces.ensures.tells.1 (sound_alone shared (self.levels - 1) m places first spaces self.limit marks c.args.pool.now.frames sound))
+    (λ t. cc, λ sound. c.if-not-mark_spaces.ensures.tells.1 (sound_alone shared ((g.L.LevelCount.LEVELS - 1) - 1) m places first spaces self.limit marks c.args.pool.now.frames sound))
 
 pub returns : goal.returns
 returns g c =
@@ -21,6 +21,6 @@ returns g c =
     let mapping = g.met.P.PageTableFrameMapping.is_mapping self.mapping.now in
     let shared = indices_of self.shared in let first = c.args.first.now in let spaces = g.S.SpaceList.spaces c.args.spaces.now in
     let marks = c.args.marks.now in
-    pool_tells shared (self.levels - 1) m places first spaces self.limit marks mapping c.requires.first (all_clear marks (length (keys m)) c.requires.clear)
+    pool_tells shared ((g.L.LevelCount.LEVELS - 1) - 1) m places first spaces self.limit marks mapping c.requires.first (all_clear marks (length (keys m)) c.requires.clear)
     (c.if-not-mark_spaces.ensures.tells.0 refl) c.mark_spaces.new.marks (c.if-not-mark_spaces.ensures.marks refl)
     c.args.pool.now.frames c.mark_pool.new.marks c.mark_pool.result (rw c.of.ensures at c.mark_pool.ensures)

@@ -11,7 +11,7 @@ returns-then-not-mark g c =
     let self = c.args.self.now in let space = c.args.space.now in
     let m = g.T.TableMemory.tables self.memory.now in let places = g.P.PageTableFrameMapping.places self.mapping.now in
     root_refused (mark_slot m places space.root self.limit) c.args.marks.now space.root
-    (parts_where (chosen (indices_of self.shared) false) (self.levels - 1) (seen_by (words_of m places) space) space.root)
+    (parts_where (chosen (indices_of self.shared) false) ((g.L.LevelCount.LEVELS - 1) - 1) (seen_by (words_of m places) space) space.root)
     (rw c.of.ensures at c.if-not-mark.ensures)
 
 pub returns : goal.returns
@@ -19,5 +19,5 @@ returns g c =
     let self = c.args.self.now in let space = c.args.space.now in
     let m = g.T.TableMemory.tables self.memory.now in let places = g.P.PageTableFrameMapping.places self.mapping.now in
     c.mark_parts.ensures ∙ after_root (mark_slot m places space.root self.limit) c.args.marks.now c.mark.new.marks space.root
-    (parts_where (chosen (indices_of self.shared) false) (self.levels - 1) (seen_by (words_of m places) space) space.root)
+    (parts_where (chosen (indices_of self.shared) false) ((g.L.LevelCount.LEVELS - 1) - 1) (seen_by (words_of m places) space) space.root)
     (rw c.of.ensures at c.if-not-mark.ensures)

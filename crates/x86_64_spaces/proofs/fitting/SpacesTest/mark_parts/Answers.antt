@@ -18,10 +18,10 @@ returns-then-not-mark_tables g c =
     let words = seen_by (words_of m places) space in
     let w = word words space.root c.loop-index.index in
     let below = rw c.of-test.ensures at (sym c.in-Some.is ∙ c.table_below.ensures) in
-    let marked = rw c.of-test.ensures at c.if-not-mark_tables.ensures in
+    let marked = rw (c.of-test.ensures, c.levels_below-levels.ensures) at c.if-not-mark_tables.ensures in
     let on = is_chosen (indices_of self.shared) c.args.is_shared c.loop-index.index c.contains.result c.contains.ensures c.if-contains-is_shared.true in
-    sym (ap (mark_all slot c.args.marks.now) (rest_all test (self.levels - 1) words space.root) ∙ c.loop-index.invariant
-    ∙ rest_named test (self.levels - 1) words space.root slot c.loop-index.index c.loop-index.marks None w c.in-Some.below c.loop-index-test.true on
+    sym (ap (mark_all slot c.args.marks.now) (rest_all test ((g.L.LevelCount.LEVELS - 1) - 1) words space.root) ∙ c.loop-index.invariant
+    ∙ rest_named test ((g.L.LevelCount.LEVELS - 1) - 1) words space.root slot c.loop-index.index c.loop-index.marks None w c.in-Some.below c.loop-index-test.true on
     refl (is_named w c.in-Some.below below) (named_at w c.in-Some.below below) marked)
 
 pub loop-index-preserved : goal.loop-index-preserved
@@ -36,20 +36,20 @@ loop-index-preserved g c =
     c.loop-index.invariant ∙ elim c.if-contains-is_shared.branch [
       | then-contains-is_shared+in-Some+else-not-mark_tables b ↦
           let below = rw c.of-test.ensures at (sym b.in-Some.is ∙ b.table_below.ensures) in
-          let marked = rw c.of-test.ensures at b.if-not-mark_tables.ensures in
+          let marked = rw (c.of-test.ensures, c.levels_below-levels.ensures) at b.if-not-mark_tables.ensures in
           let on = is_chosen (indices_of self.shared) c.args.is_shared i c.contains.result c.contains.ensures b.if-contains-is_shared.true in
-          rest_named test (self.levels - 1) words space.root slot i c.loop-index.marks (Some b.mark_tables.new.marks) w b.in-Some.below c.loop-index-test.true on
+          rest_named test ((g.L.LevelCount.LEVELS - 1) - 1) words space.root slot i c.loop-index.marks (Some b.mark_tables.new.marks) w b.in-Some.below c.loop-index-test.true on
           refl (is_named w b.in-Some.below below) (named_at w b.in-Some.below below) marked
-          ∙ ap (λ m. mark_all slot m (rest test (self.levels - 1) words space.root (i + 1))) (sym b.marks-is)
+          ∙ ap (λ m. mark_all slot m (rest test ((g.L.LevelCount.LEVELS - 1) - 1) words space.root (i + 1))) (sym b.marks-is)
       | then-contains-is_shared+in_default b ↦
           let below = rw c.of-test.ensures at (sym b.in_default.is ∙ b.table_below.ensures) in
           let on = is_chosen (indices_of self.shared) c.args.is_shared i c.contains.result c.contains.ensures b.if-contains-is_shared.true in
-          rest_other test (self.levels - 1) words space.root slot i c.loop-index.marks w c.loop-index-test.true on refl (is_not_named w below)
-          ∙ ap (λ m. mark_all slot m (rest test (self.levels - 1) words space.root (i + 1))) (sym b.marks-is)
+          rest_other test ((g.L.LevelCount.LEVELS - 1) - 1) words space.root slot i c.loop-index.marks w c.loop-index-test.true on refl (is_not_named w below)
+          ∙ ap (λ m. mark_all slot m (rest test ((g.L.LevelCount.LEVELS - 1) - 1) words space.root (i + 1))) (sym b.marks-is)
       | else-contains-is_shared b ↦
           let off = not_chosen (indices_of self.shared) c.args.is_shared i c.contains.result c.contains.ensures b.if-contains-is_shared.false in
-          rest_passed test (self.levels - 1) words space.root slot i c.loop-index.marks c.loop-index-test.true off
-          ∙ ap (λ m. mark_all slot m (rest test (self.levels - 1) words space.root (i + 1))) (sym b.marks-is)
+          rest_passed test ((g.L.LevelCount.LEVELS - 1) - 1) words space.root slot i c.loop-index.marks c.loop-index-test.true off
+          ∙ ap (λ m. mark_all slot m (rest test ((g.L.LevelCount.LEVELS - 1) - 1) words space.root (i + 1))) (sym b.marks-is)
     ]
 
 pub returns : goal.returns
@@ -59,5 +59,5 @@ returns g c =
     let slot = mark_slot m places space.root self.limit in
     let test = chosen (indices_of self.shared) c.args.is_shared in
     let words = seen_by (words_of m places) space in
-    sym (ap (mark_all slot c.args.marks.now) (rest_all test (self.levels - 1) words space.root) ∙ c.loop-index.invariant
-    ∙ rest_done test (self.levels - 1) words space.root slot c.loop-index.index c.loop-index.marks c.loop-index-test.false)
+    sym (ap (mark_all slot c.args.marks.now) (rest_all test ((g.L.LevelCount.LEVELS - 1) - 1) words space.root) ∙ c.loop-index.invariant
+    ∙ rest_done test ((g.L.LevelCount.LEVELS - 1) - 1) words space.root slot c.loop-index.index c.loop-index.marks c.loop-index-test.false)

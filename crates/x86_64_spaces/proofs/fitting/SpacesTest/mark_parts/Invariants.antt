@@ -12,5 +12,5 @@ abbrev pub invariant-loop-index : goal.invariant-loop-index
 invariant-loop-index g l =
     let m = g.T.TableMemory.tables l.self.memory.now in let places = g.P.PageTableFrameMapping.places l.self.mapping.now in
     let slot = mark_slot m places l.space.root l.self.limit in
-    let below = rest (chosen (indices_of l.self.shared) l.is_shared) (l.self.levels - 1) (seen_by (words_of m places) l.space) l.space.root in
+    let below = rest (chosen (indices_of l.self.shared) l.is_shared) ((g.L.LevelCount.LEVELS - 1) - 1) (seen_by (words_of m places) l.space) l.space.root in
     mark_all slot l.initial.marks (below 0) ≡ mark_all slot l.marks (below l.index)

@@ -14,7 +14,7 @@ returns-then-not-mark_parts-clause-tells g c =
     let shared = indices_of self.shared in let first = c.args.first.now in let spaces = g.S.SpaceList.spaces c.args.spaces.now in
     let marks = c.args.marks.now in
     let clear = all_clear marks (length (keys m)) c.requires.clear in
-    (λ t. cc, λ sound. absurd (shared_marked shared (self.levels - 1) m places first spaces self.limit marks mapping c.requires.first clear [] sound c.if-not-mark_parts.ensures))
+    (λ t. cc, λ sound. absurd (shared_marked shared ((g.L.LevelCount.LEVELS - 1) - 1) m places first spaces self.limit marks mapping c.requires.first clear [] sound c.if-not-mark_parts.ensures))
 
 pub loop-n-init : goal.loop-n-init
 loop-n-init g c =
@@ -24,7 +24,7 @@ loop-n-init g c =
     let shared = indices_of self.shared in let first = c.args.first.now in let spaces = g.S.SpaceList.spaces c.args.spaces.now in
     let marks = c.args.marks.now in
     let clear = all_clear marks (length (keys m)) c.requires.clear in
-    begun shared (self.levels - 1) m places first spaces self.limit marks mapping c.requires.first clear c.mark_parts.new.marks c.if-not-mark_parts.ensures
+    begun shared ((g.L.LevelCount.LEVELS - 1) - 1) m places first spaces self.limit marks mapping c.requires.first clear c.mark_parts.new.marks c.if-not-mark_parts.ensures
 
 pub returns-then-not-is_alike-clause-tells : goal.returns-then-not-is_alike-clause-tells
 returns-then-not-is_alike-clause-tells g c =
@@ -34,7 +34,7 @@ returns-then-not-is_alike-clause-tells g c =
     let shared = indices_of self.shared in let first = c.args.first.now in let spaces = g.S.SpaceList.spaces c.args.spaces.now in
     let marks = c.args.marks.now in
     let clear = all_clear marks (length (keys m)) c.requires.clear in
-    let one = is_one shared (self.levels - 1) m places first spaces self.limit marks mapping c.requires.first clear c.loop-n.n c.loop-n.marks c.loop-n.invariant (rw c.count-n-end.ensures at c.loop-n-test.true) c.space_at-space.result (get_or_from_slice_get spaces c.loop-n.n c.space_at-space.result first c.space_at-space.ensures) in
+    let one = is_one shared ((g.L.LevelCount.LEVELS - 1) - 1) m places first spaces self.limit marks mapping c.requires.first clear c.loop-n.n c.loop-n.marks c.loop-n.invariant (rw c.count-n-end.ensures at c.loop-n-test.true) c.space_at-space.result (get_or_from_slice_get spaces c.loop-n.n c.space_at-space.result first c.space_at-space.ensures) in
     (λ t. cc, λ sound. c.if-not-is_alike.ensures.1 (sound.alike c.space_at-space.result one))
 
 pub returns-then-not-mark_own-clause-tells : goal.returns-then-not-mark_own-clause-tells
@@ -45,7 +45,7 @@ returns-then-not-mark_own-clause-tells g c =
     let shared = indices_of self.shared in let first = c.args.first.now in let spaces = g.S.SpaceList.spaces c.args.spaces.now in
     let marks = c.args.marks.now in
     let clear = all_clear marks (length (keys m)) c.requires.clear in
-    (λ t. cc, λ sound. absurd (stopped shared (self.levels - 1) m places first spaces self.limit marks mapping c.requires.first clear c.loop-n.n c.loop-n.marks c.loop-n.invariant (rw c.count-n-end.ensures at c.loop-n-test.true) c.space_at-space.result (get_or_from_slice_get spaces c.loop-n.n c.space_at-space.result first c.space_at-space.ensures) c.if-not-mark_own.ensures [] sound))
+    (λ t. cc, λ sound. absurd (stopped shared ((g.L.LevelCount.LEVELS - 1) - 1) m places first spaces self.limit marks mapping c.requires.first clear c.loop-n.n c.loop-n.marks c.loop-n.invariant (rw c.count-n-end.ensures at c.loop-n-test.true) c.space_at-space.result (get_or_from_slice_get spaces c.loop-n.n c.space_at-space.result first c.space_at-space.ensures) c.if-not-mark_own.ensures [] sound))
 
 pub loop-n-preserved : goal.loop-n-preserved
 loop-n-preserved g c =
@@ -55,7 +55,7 @@ loop-n-preserved g c =
     let shared = indices_of self.shared in let first = c.args.first.now in let spaces = g.S.SpaceList.spaces c.args.spaces.now in
     let marks = c.args.marks.now in
     let clear = all_clear marks (length (keys m)) c.requires.clear in
-    further shared (self.levels - 1) m places first spaces self.limit marks mapping c.requires.first clear c.loop-n.n c.loop-n.marks c.loop-n.invariant (rw c.count-n-end.ensures at c.loop-n-test.true) c.space_at-space.result (get_or_from_slice_get spaces c.loop-n.n c.space_at-space.result first c.space_at-space.ensures) (c.if-not-is_alike.ensures.0 refl) c.mark_own.new.marks c.if-not-mark_own.ensures
+    further shared ((g.L.LevelCount.LEVELS - 1) - 1) m places first spaces self.limit marks mapping c.requires.first clear c.loop-n.n c.loop-n.marks c.loop-n.invariant (rw c.count-n-end.ensures at c.loop-n-test.true) c.space_at-space.result (get_or_from_slice_get spaces c.loop-n.n c.space_at-space.result first c.space_at-space.ensures) (c.if-not-is_alike.ensures.0 refl) c.mark_own.new.marks c.if-not-mark_own.ensures
 
 pub returns-clause-tells : goal.returns-clause-tells
 returns-clause-tells g c =
@@ -65,7 +65,7 @@ returns-clause-tells g c =
     let shared = indices_of self.shared in let first = c.args.first.now in let spaces = g.S.SpaceList.spaces c.args.spaces.now in
     let marks = c.args.marks.now in
     let clear = all_clear marks (length (keys m)) c.requires.clear in
-    (λ t. done shared (self.levels - 1) m places first spaces self.limit marks mapping c.requires.first clear c.loop-n.n c.loop-n.marks c.loop-n.invariant (rw c.count-n-end.ensures at c.loop-n-test.false), λ sound. refl)
+    (λ t. done shared ((g.L.LevelCount.LEVELS - 1) - 1) m places first spaces self.limit marks mapping c.requires.first clear c.loop-n.n c.loop-n.marks c.loop-n.invariant (rw c.count-n-end.ensures at c.loop-n-test.false), λ sound. refl)
 
 pub returns-clause-marks : goal.returns-clause-marks
 returns-clause-marks g c =
@@ -75,4 +75,4 @@ returns-clause-marks g c =
     let shared = indices_of self.shared in let first = c.args.first.now in let spaces = g.S.SpaceList.spaces c.args.spaces.now in
     let marks = c.args.marks.now in
     let clear = all_clear marks (length (keys m)) c.requires.clear in
-    λ t. all_marked shared (self.levels - 1) m places first spaces self.limit marks mapping c.requires.first clear c.loop-n.n c.loop-n.marks c.loop-n.invariant (rw c.count-n-end.ensures at c.loop-n-test.false)
+    λ t. all_marked shared ((g.L.LevelCount.LEVELS - 1) - 1) m places first spaces self.limit marks mapping c.requires.first clear c.loop-n.n c.loop-n.marks c.loop-n.invariant (rw c.count-n-end.ensures at c.loop-n-test.false)

@@ -11,8 +11,8 @@ pub returns-then-not-is_alike : goal.returns-then-not-is_alike
 returns-then-not-is_alike g t c =
     let one = c.args.one.now in
     let other = c.args.other.now in
-    let T = seen (g.T.TableMemory.tables one.memory.now) (g.P.PageTableFrameMapping.places one.mapping) one.root one.recursive in
-    let U = seen (g.U.TableMemory.tables other.memory.now) (g.Q.PageTableFrameMapping.places other.mapping) other.root other.recursive in
+    let T = seen (g.T.TableMemory.tables one.memory.now) (g.P.PageTableFrameMapping.places one.mapping.now) one.root one.recursive in
+    let U = seen (g.U.TableMemory.tables other.memory.now) (g.Q.PageTableFrameMapping.places other.mapping.now) other.root other.recursive in
     let f = c.args.frame in
     let h = c.args.other_frame in
     let n = c.args.levels in
@@ -42,8 +42,8 @@ pub loop-index-preserved : goal.loop-index-preserved
 loop-index-preserved g t c k l =
     let one = c.args.one.now in
     let other = c.args.other.now in
-    let T = seen (g.T.TableMemory.tables one.memory.now) (g.P.PageTableFrameMapping.places one.mapping) one.root one.recursive in
-    let U = seen (g.U.TableMemory.tables other.memory.now) (g.Q.PageTableFrameMapping.places other.mapping) other.root other.recursive in
+    let T = seen (g.T.TableMemory.tables one.memory.now) (g.P.PageTableFrameMapping.places one.mapping.now) one.root one.recursive in
+    let U = seen (g.U.TableMemory.tables other.memory.now) (g.Q.PageTableFrameMapping.places other.mapping.now) other.root other.recursive in
     let f = c.args.frame in
     let h = c.args.other_frame in
     let n = c.args.levels in
@@ -72,6 +72,6 @@ pub returns : goal.returns
 returns g t c =
     let one = c.args.one.now in
     let other = c.args.other.now in
-    let T = seen (g.T.TableMemory.tables one.memory.now) (g.P.PageTableFrameMapping.places one.mapping) one.root one.recursive in
-    let U = seen (g.U.TableMemory.tables other.memory.now) (g.Q.PageTableFrameMapping.places other.mapping) other.root other.recursive in
+    let T = seen (g.T.TableMemory.tables one.memory.now) (g.P.PageTableFrameMapping.places one.mapping.now) one.root one.recursive in
+    let U = seen (g.U.TableMemory.tables other.memory.now) (g.Q.PageTableFrameMapping.places other.mapping.now) other.root other.recursive in
     (λ _. all_indices T c.args.frame U c.args.other_frame c.args.levels (λ i l. c.loop-index.invariant i (omega arith)), λ _. refl)

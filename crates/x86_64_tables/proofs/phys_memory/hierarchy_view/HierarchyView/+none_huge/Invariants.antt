@@ -9,5 +9,5 @@ decreases-none_huge g l = l.levels
 
 abbrev pub invariant-loop-index : goal.invariant-loop-index
 invariant-loop-index g l =
-    let words = seen (g.T.TableMemory.tables l.self.memory.now) (g.P.PageTableFrameMapping.places l.self.mapping) l.self.root l.self.recursive in
+    let words = seen (g.T.TableMemory.tables l.self.memory.now) (g.P.PageTableFrameMapping.places l.self.mapping.now) l.self.root l.self.recursive in
     (i : ℕ) → i < l.index → NotHuge (l.levels - 1) words (word words l.frame i)

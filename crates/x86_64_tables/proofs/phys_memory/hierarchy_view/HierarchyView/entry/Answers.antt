@@ -9,7 +9,7 @@ use Rattle.x86_64_tables.proofs.phys_memory.hierarchy_view.HierarchyView.entry.G
 pub returns-in-Some : goal.returns-in-Some
 returns-in-Some g c =
     let self = c.args.self.now in
-    let words = words_of (g.T.TableMemory.tables self.memory.now) (g.P.PageTableFrameMapping.places self.mapping) in
+    let words = words_of (g.T.TableMemory.tables self.memory.now) (g.P.PageTableFrameMapping.places self.mapping.now) in
     word-without_same c.in-Some.recursive self.root words c.args.frame c.args.index
     (are_equal c.args.frame self.root c.eq.result c.eq.ensures c.if-eq.true) (c.if-index-from.true ∙ c.from.ensures.0)
     ∙ ap (λ recursive. word (without_word recursive self.root words) c.args.frame c.args.index) (sym c.in-Some.is)
@@ -17,7 +17,7 @@ returns-in-Some g c =
 pub returns-in_default : goal.returns-in_default
 returns-in_default g c =
     let self = c.args.self.now in
-    let words = words_of (g.T.TableMemory.tables self.memory.now) (g.P.PageTableFrameMapping.places self.mapping) in
+    let words = words_of (g.T.TableMemory.tables self.memory.now) (g.P.PageTableFrameMapping.places self.mapping.now) in
     ap (λ word. unwrap_or word 0) c.entry_at.ensures ∙ word-read words c.args.frame c.args.index c.requires
     ∙ word-without_none self.recursive self.root words c.args.frame c.args.index
     (λ r e f i. elim c.in_default.branch [

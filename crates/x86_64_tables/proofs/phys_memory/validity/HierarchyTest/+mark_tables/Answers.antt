@@ -10,14 +10,14 @@ use Rattle.x86_64_tables.proofs.phys_memory.validity.HierarchyTest.+mark_tables.
 pub returns-then-not-mark : goal.returns-then-not-mark
 returns-then-not-mark g t c =
     let self = c.args.self.now in
-    let places = g.P.PageTableFrameMapping.places self.view.mapping in
+    let places = g.P.PageTableFrameMapping.places self.view.mapping.now in
     tables_none (mark_slot (g.T.TableMemory.tables self.view.memory.now) places self.view.root self.limit) c.args.levels
     (seen (g.T.TableMemory.tables self.view.memory.now) places self.view.root self.view.recursive) c.args.frame c.args.marks.now c.if-not-mark.ensures
 
 pub returns-else-levels-gt0 : goal.returns-else-levels-gt0
 returns-else-levels-gt0 g t c =
     let self = c.args.self.now in
-    let places = g.P.PageTableFrameMapping.places self.view.mapping in
+    let places = g.P.PageTableFrameMapping.places self.view.mapping.now in
     tables_one (mark_slot (g.T.TableMemory.tables self.view.memory.now) places self.view.root self.limit) c.args.levels
     (seen (g.T.TableMemory.tables self.view.memory.now) places self.view.root self.view.recursive) c.args.frame c.args.marks.now (Some c.mark.new.marks)
     c.if-levels-gt0.false c.if-not-mark.ensures
@@ -25,7 +25,7 @@ returns-else-levels-gt0 g t c =
 pub returns-after-loop-index : goal.returns-after-loop-index
 returns-after-loop-index g t c =
     let self = c.args.self.now in
-    let places = g.P.PageTableFrameMapping.places self.view.mapping in
+    let places = g.P.PageTableFrameMapping.places self.view.mapping.now in
     let slot = mark_slot (g.T.TableMemory.tables self.view.memory.now) places self.view.root self.limit in
     let words = seen (g.T.TableMemory.tables self.view.memory.now) places self.view.root self.view.recursive in
     sym (tables_begin slot c.args.levels words c.args.frame c.args.marks.now (Some c.mark.new.marks) c.if-levels-gt0.true c.if-not-mark.ensures
@@ -34,7 +34,7 @@ returns-after-loop-index g t c =
 pub returns-then-not-mark_tables : goal.returns-then-not-mark_tables
 returns-then-not-mark_tables g t c =
     let self = c.args.self.now in
-    let places = g.P.PageTableFrameMapping.places self.view.mapping in
+    let places = g.P.PageTableFrameMapping.places self.view.mapping.now in
     let slot = mark_slot (g.T.TableMemory.tables self.view.memory.now) places self.view.root self.limit in
     let words = seen (g.T.TableMemory.tables self.view.memory.now) places self.view.root self.view.recursive in
     let w = word words c.args.frame c.loop-index.index in
@@ -47,7 +47,7 @@ returns-then-not-mark_tables g t c =
 pub loop-index-preserved : goal.loop-index-preserved
 loop-index-preserved g t c =
     let self = c.args.self.now in
-    let places = g.P.PageTableFrameMapping.places self.view.mapping in
+    let places = g.P.PageTableFrameMapping.places self.view.mapping.now in
     let slot = mark_slot (g.T.TableMemory.tables self.view.memory.now) places self.view.root self.limit in
     let words = seen (g.T.TableMemory.tables self.view.memory.now) places self.view.root self.view.recursive in
     let w = word words c.args.frame c.loop-index.index in

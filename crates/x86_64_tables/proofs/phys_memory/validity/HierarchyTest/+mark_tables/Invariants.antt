@@ -10,7 +10,7 @@ decreases-mark_tables g l = l.levels
 -- marking all tables is marking the remaining ones from the current marks
 abbrev pub invariant-loop-index : goal.invariant-loop-index
 invariant-loop-index g l =
-    let places = g.P.PageTableFrameMapping.places l.self.view.mapping in
+    let places = g.P.PageTableFrameMapping.places l.self.view.mapping.now in
     let slot = mark_slot (g.T.TableMemory.tables l.self.view.memory.now) places l.self.view.root l.self.limit in
     let below = rest (l.levels - 1) (seen (g.T.TableMemory.tables l.self.view.memory.now) places l.self.view.root l.self.view.recursive) l.frame in
     mark_all slot l.initial.marks (below 0) ≡ mark_all slot l.marks (below l.index)

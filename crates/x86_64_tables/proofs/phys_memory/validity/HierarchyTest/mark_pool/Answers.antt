@@ -10,7 +10,7 @@ use Rattle.x86_64_tables.proofs.phys_memory.validity.HierarchyTest.mark_pool.Goa
 pub returns-then-not-mark : goal.returns-then-not-mark
 returns-then-not-mark g c =
     let self = c.args.self.now in
-    let slot = mark_slot (g.T.TableMemory.tables self.view.memory.now) (g.P.PageTableFrameMapping.places self.view.mapping) self.view.root self.limit in
+    let slot = mark_slot (g.T.TableMemory.tables self.view.memory.now) (g.P.PageTableFrameMapping.places self.view.mapping.now) self.view.root self.limit in
     let frames = c.args.pool.now.frames in
     let is = get_or_from_slice_get frames c.loop-n.n c.in-Some.frame 0 (sym c.frame_at.ensures ∙ c.in-Some.is) in
     sym (c.loop-n.invariant ∙ pool_more slot frames c.loop-n.n 0 c.loop-n.marks None (rw c.len-n-end.ensures at c.loop-n-test.true)
@@ -19,7 +19,7 @@ returns-then-not-mark g c =
 pub loop-n-preserved : goal.loop-n-preserved
 loop-n-preserved g c =
     let self = c.args.self.now in
-    let slot = mark_slot (g.T.TableMemory.tables self.view.memory.now) (g.P.PageTableFrameMapping.places self.view.mapping) self.view.root self.limit in
+    let slot = mark_slot (g.T.TableMemory.tables self.view.memory.now) (g.P.PageTableFrameMapping.places self.view.mapping.now) self.view.root self.limit in
     let frames = c.args.pool.now.frames in
     let within = rw c.len-n-end.ensures at c.loop-n-test.true in
     c.loop-n.invariant ∙ elim c.match-frame_at.branch [
@@ -35,6 +35,6 @@ pub returns : goal.returns
 unfolding mark_all
 returns g c =
     let self = c.args.self.now in
-    let slot = mark_slot (g.T.TableMemory.tables self.view.memory.now) (g.P.PageTableFrameMapping.places self.view.mapping) self.view.root self.limit in
+    let slot = mark_slot (g.T.TableMemory.tables self.view.memory.now) (g.P.PageTableFrameMapping.places self.view.mapping.now) self.view.root self.limit in
     let past = rw c.len-n-end.ensures at c.loop-n-test.false in
     sym (c.loop-n.invariant ∙ ap (mark_all slot c.loop-n.marks) (drop_all c.loop-n.n c.args.pool.now.frames past))

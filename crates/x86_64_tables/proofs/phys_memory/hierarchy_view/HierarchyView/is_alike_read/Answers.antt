@@ -1,0 +1,7 @@
+use Rattle.x86_64_tables.proofs.phys_memory.hierarchy_view.HierarchyView.is_alike_read.Goals as goal
+
+pub returns-in-Some : goal.returns-in-Some
+returns-in-Some g c = rw c.in-Some.is (rw (c.new.ensures, c.in-Some.is) at c.is_alike.ensures)
+
+pub returns-in-None : goal.returns-in-None
+returns-in-None g c = rw c.in-None.is (rw c.new-in-None.ensures at c.is_alike-in-None.ensures)
