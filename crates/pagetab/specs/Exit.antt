@@ -7,7 +7,7 @@ use Rattle.pagetab_engine.specs.Program.{IsRun}
 use Rattle.pagetab_engine.specs.declared.ending.Ending.{Ending}
 use Rattle.pagetab_engine.specs.declared.ending.Ending.TheVariants.{Done, Stopped}
 use Rattle.pagetab_engine.specs.declared.ending.Fault.TheVariants.{Output}
-use Rattle.pagetab_engine.specs.declared.reply.Reply.{Reply}
+use Rattle.pagetab_engine.specs.Reply.{Reply}
 
 -- The exit code is that of the ending. If the text of a fault can't be written, it may be that of a failed write.
 abbrev pub Reports : Ending → ExitCode → Type 0

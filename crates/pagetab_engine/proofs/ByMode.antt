@@ -1,5 +1,5 @@
 -- The hierarchy of a mode for a number of levels, and what the mapper of the mode does with it.
-use Rattle.std.proofs.Common.{◌≡◌, ◌||◌, ℕ, true, false, not, cond, List, [], Some, sym, ap, ap₂, ◌∙◌, subst}
+use Rattle.std.proofs.Common.{◌≡◌, ℕ, List, sym, ap, ◌∙◌, subst}
 use Rattle.x86_64_model.specs.Alike.{Alike}
 use Rattle.x86_64_model.specs.Layout.{Layout, paths}
 use Rattle.x86_64_model.specs.Pool.{serves_below}
@@ -7,17 +7,14 @@ use Rattle.x86_64_model.specs.Memory.{Memory}
 use Rattle.x86_64.specs.Asked.{MapperCall}
 use Rattle.x86_64.specs.Replies.{Reply}
 use Rattle.x86_64.specs.Runs as runs
-use Rattle.x86_64.specs.declared.calls.MapperReply.TheVariants.{NotAllowed}
 use Rattle.pagetab_engine.specs.Arguments.{count, levels_of}
-use Rattle.pagetab_engine.specs.Calls.{asked_back, IsAnswered}
+use Rattle.pagetab_engine.specs.Calls.{IsAnswered}
 use Rattle.pagetab_engine.specs.Frames.{direct_layout, recursive_layout, FitsBy}
-use Rattle.pagetab_engine.specs.Hierarchy.{layout, layout_of, machine_of, hierarchy_state, call_back, call_step, IsReached, IsTwin, HasTwin, KeepsHierarchy}
-use Rattle.pagetab_engine.specs.Requests.{asked, has_levels, is_named, is_refused}
+use Rattle.pagetab_engine.specs.Hierarchy.{layout, layout_of, IsReached, IsTwin, HasTwin, KeepsHierarchy}
 use Rattle.pagetab_engine.specs.declared.arguments.Mode.{Mode}
 use Rattle.pagetab_engine.specs.declared.arguments.Mode.TheVariants.{Direct, Offset, Recursive, Pair}
 use Rattle.pagetab_engine.specs.declared.frames.Frames.{Frames}
 use Rattle.pagetab_engine.specs.declared.hierarchy.Hierarchy.{Hierarchy}
-use Rattle.pagetab_engine.specs.declared.request.Request.{Request}
 use Rattle.pagetab_engine.proofs.Keeping.{kept_by}
 
 -- the layout of a mode with this number of levels
@@ -54,19 +51,6 @@ module _ (before : Hierarchy) (levels : ℕ) (known : count (levels_of before.mo
       let m = before.frames.memory in let n = after.frames.memory in
       kept_by before after same serves mode is (same_layout mode levels n here ∙ still ∙ sym (same_layout mode levels m here)) reached twin
       (subst (λ (l : Layout). runs.KeepsPool l (serves_below before.frames.pool.limit) m before.frames.pool.frames n after.frames.pool.frames) (sym (same_layout mode levels m here)) kept)
-
--- ---- a call that a mapper executes
-
--- the call is for the mode's number of levels, and doesn't name the recursive index of a pair
-pub is_asked : (mode : Mode) (request : Request) → has_levels (levels_of mode) request ≡ true → is_named mode request ≡ false → is_refused mode request ≡ false
-is_asked mode request has unnamed = ap₂ (λ has named. not has || named) has unnamed
-
-module _ (before : Hierarchy) (request : Request) (taken : is_refused before.mode request ≡ false) where
-  pub step_asked : call_step before request ≡ runs.step_by (machine_of before) (hierarchy_state before) (asked request)
-  step_asked = ap (λ b. cond b (record { state = hierarchy_state before; reply = Some NotAllowed }) (runs.step_by (machine_of before) (hierarchy_state before) (asked request))) taken
-
-  pub back_asked : call_back before request ≡ asked_back (machine_of before) (hierarchy_state before) (asked request)
-  back_asked = ap (λ b. cond b [] (asked_back (machine_of before) (hierarchy_state before) (asked request))) taken
 
 -- ---- two hierarchies
 

@@ -4,11 +4,11 @@ use Rattle.std.proofs.lemmas.Grind.{flat_map-append}
 use Rattle.std.specs.List.{flat_map}
 use Rattle.pagetab_engine.specs.Decided.{BytesAreDecided, Decides, DecidesBytes, IsForcedEnd, IsFrontOf, lines_told}
 use Rattle.pagetab_engine.specs.Program.{IsWritten}
+use Rattle.pagetab_engine.specs.Reply.{Reply}
 use Rattle.pagetab_engine.specs.Texts.{reply_line}
 use Rattle.pagetab_engine.specs.declared.ending.Ending.{Ending}
 use Rattle.pagetab_engine.specs.declared.ending.Ending.TheVariants.{Done, Stopped}
 use Rattle.pagetab_engine.specs.declared.ending.Fault.TheVariants.{BadLine, InvalidHierarchy, OutOfMemory, Input, Output, Usage}
-use Rattle.pagetab_engine.specs.declared.reply.Reply.{Reply}
 use Rattle.pagetab_engine.proofs.Decided.{runs_are_decided}
 
 -- of two first parts of one list, one is a first part of the other

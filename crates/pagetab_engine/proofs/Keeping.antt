@@ -1,18 +1,15 @@
 -- What no command changes, and so no list of commands.
-use Rattle.std.proofs.Common.{◌≡◌, ◌↔◌, ℕ, true, cond, List, [], refl, sym, ap, ◌∙◌, subst, subst₂}
+use Rattle.std.proofs.Common.{◌≡◌, ◌↔◌, ℕ, List, [], refl, sym, ap, ◌∙◌, subst, subst₂}
 use Rattle.x86_64_model.specs.Layout.{Layout}
 use Rattle.x86_64_model.specs.Layout.{Owns, KeepsOthers}
 use Rattle.x86_64_model.specs.Pool.{serves_below}
 use Rattle.x86_64_model.specs.Memory.{Memory, Places, identity_places}
 use Rattle.x86_64.specs.Runs as runs
 use Rattle.x86_64.proofs.FreeFrames.{nothing_keeps_free}
-use Rattle.pagetab_engine.specs.Calls.{asked_back}
-use Rattle.pagetab_engine.specs.Hierarchy.{layout, layout_of, machine_of, hierarchy_state, call_back, IsReached, HasTwin, IsHierarchy, KeepsHierarchy, KeepsFree}
-use Rattle.pagetab_engine.specs.Requests.{asked, is_refused}
+use Rattle.pagetab_engine.specs.Hierarchy.{layout, layout_of, IsReached, HasTwin, IsHierarchy, KeepsHierarchy, KeepsFree}
 use Rattle.pagetab_engine.specs.declared.arguments.Mode.{Mode}
 use Rattle.pagetab_engine.specs.declared.arguments.Mode.TheVariants.{Direct, Offset, Recursive, Pair}
 use Rattle.pagetab_engine.specs.declared.hierarchy.Hierarchy.{Hierarchy}
-use Rattle.pagetab_engine.specs.declared.request.Request.{Request}
 
 pub keeps_itself : (hierarchy : Hierarchy) → IsHierarchy hierarchy → KeepsHierarchy hierarchy hierarchy
 keeps_itself hierarchy fits = record { mode = refl; layout = refl; serves = refl; fits = fits; conserved = λ frame. (λ own. own, λ own. own); others = λ place none. refl }
@@ -71,7 +68,3 @@ kept_as before after kept =
 -- if nothing changes, no frame was returned
 pub free_itself : (hierarchy : Hierarchy) (back : List ℕ) → back ≡ [] → KeepsFree hierarchy back hierarchy
 free_itself hierarchy back none = subst (λ back. KeepsFree hierarchy back hierarchy) (sym none) (nothing_keeps_free (layout_of hierarchy) hierarchy.frames.memory hierarchy.frames.pool.frames)
-
--- a call that no mapper executes returns no frame
-pub none_back : (hierarchy : Hierarchy) (request : Request) → is_refused hierarchy.mode request ≡ true → call_back hierarchy request ≡ []
-none_back hierarchy request refused = ap (λ b. cond b [] (asked_back (machine_of hierarchy) (hierarchy_state hierarchy) (asked request))) refused

@@ -3,10 +3,9 @@ use Rattle.std.proofs.Common.{◌≡◌, ◌≤◌, ℕ, refl, sym, ap, subst, �
 use Rattle.std.specs.Bool.{⊤}
 use Rattle.std.proofs.lemmas.Bool.Decides.{nat_tests}
 use Rattle.std.specs.List.{list_all}
+use Rattle.pagetab_engine.specs.Commands.{Statement}
 use Rattle.pagetab_engine.specs.Fields.{is_space}
 use Rattle.pagetab_engine.specs.Lines.{Numbered, numbered_from, is_blank, lines_of, BeginsBad, BeginsTooLong, ForSome, IsBad, IsInput, SaysAccepted, TakesLine, TakesStatement, TracesBack}
-use Rattle.pagetab_engine.specs.declared.arguments.Arguments.{Arguments}
-use Rattle.pagetab_engine.specs.declared.statement.Statement.{Statement}
 
 -- lines with numbers that may be left after this number of lines
 abbrev pub MayFollow : (number : ℕ) (known : Option (List ℕ)) → List Numbered → Type 0
@@ -48,10 +47,10 @@ line_next number bytes line rest some takes =
     ap (numbered_from (suc number)) takes
     ∙ ap (λ b. cond b (numbered_from (suc (suc number)) (lines_of rest)) (record { number = suc number; line = line } ∷ numbered_from (suc (suc number)) (lines_of rest))) some
 
-pub statement_taken : (arguments : Arguments) (number next : ℕ) (old new : Option (List ℕ)) (line : List ℕ) (statement : Statement) → next ≡ suc number → is_blank line ≡ false
-    → TracesBack (IsInput old) (IsInput new) (λ bytes rest. TakesLine bytes line rest) → SaysAccepted arguments line statement
-    → TracesBack (MayFollow number old) (MayFollow next new) (λ lines rest. TakesStatement arguments lines next rest statement)
-statement_taken arguments number next old new line statement counted some takes says = λ lines may.
+pub statement_taken : (levels places : ℕ) (number next : ℕ) (old new : Option (List ℕ)) (line : List ℕ) (statement : Statement) → next ≡ suc number → is_blank line ≡ false
+    → TracesBack (IsInput old) (IsInput new) (λ bytes rest. TakesLine bytes line rest) → SaysAccepted levels places line statement
+    → TracesBack (MayFollow number old) (MayFollow next new) (λ lines rest. TakesStatement levels places lines next rest statement)
+statement_taken levels places number next old new line statement counted some takes says = λ lines may.
     let rest = may.0 in
     let bytes = takes rest may.1 in (
       numbered_from (suc number) (lines_of bytes.0),
@@ -64,15 +63,15 @@ statement_taken arguments number next old new line statement counted some takes 
       ),
     )
 
-pub bad_taken : (arguments : Arguments) (number next : ℕ) (old new : Option (List ℕ)) (line : List ℕ) → next ≡ suc number → is_blank line ≡ false
-    → TracesBack (IsInput old) (IsInput new) (λ bytes rest. TakesLine bytes line rest) → IsBad arguments line
-    → ForSome (MayFollow number old) (λ lines. BeginsBad arguments lines next)
-bad_taken arguments number next old new line counted some takes bad =
+pub bad_taken : (levels places : ℕ) (number next : ℕ) (old new : Option (List ℕ)) (line : List ℕ) → next ≡ suc number → is_blank line ≡ false
+    → TracesBack (IsInput old) (IsInput new) (λ bytes rest. TakesLine bytes line rest) → IsBad levels places line
+    → ForSome (MayFollow number old) (λ lines. BeginsBad levels places lines next)
+bad_taken levels places number next old new line counted some takes bad =
     let rest = some_input new in
     let bytes = takes rest.0 rest.1 in (
       numbered_from (suc number) (lines_of bytes.0),
       (bytes.0, bytes.1, refl),
-      subst (λ (lines : List Numbered). BeginsBad arguments lines next) (sym (line_next number bytes.0 line rest.0 some bytes.2)) (sym counted, bad),
+      subst (λ (lines : List Numbered). BeginsBad levels places lines next) (sym (line_next number bytes.0 line rest.0 some bytes.2)) (sym counted, bad),
     )
 
 -- a line that is too long is not blank
@@ -80,19 +79,19 @@ long_line : (line : List ℕ) → ¬ (length line ≤ 256) → is_blank line ≡
 long_line line long = grind (arith, nat_tests)
 
 -- if the first line is too long, it is bad
-pub long_taken : (arguments : Arguments) (number next : ℕ) (old new : Option (List ℕ)) → next ≡ suc number → TracesBack (IsInput old) (IsInput new) (λ bytes rest. BeginsTooLong (lines_of bytes))
-    → ForSome (MayFollow number old) (λ lines. BeginsBad arguments lines next)
-long_taken arguments number next old new counted long =
+pub long_taken : (levels places : ℕ) (number next : ℕ) (old new : Option (List ℕ)) → next ≡ suc number → TracesBack (IsInput old) (IsInput new) (λ bytes rest. BeginsTooLong (lines_of bytes))
+    → ForSome (MayFollow number old) (λ lines. BeginsBad levels places lines next)
+long_taken levels places number next old new counted long =
     let rest = some_input new in
     let bytes = long rest.0 rest.1 in
     (numbered_from (suc number) (lines_of bytes.0), (bytes.0, bytes.1, refl), begins (lines_of bytes.0) bytes.2)
   where
-    begins : (lines : List (List ℕ)) → BeginsTooLong lines → BeginsBad arguments (numbered_from (suc number) lines) next
+    begins : (lines : List (List ℕ)) → BeginsTooLong lines → BeginsBad levels places (numbered_from (suc number) lines) next
     begins [] too_long = absurd too_long
     begins (line ∷ lines) too_long =
         let first : numbered_from (suc number) (line ∷ lines) ≡ record { number = suc number; line = line } ∷ numbered_from (suc (suc number)) lines =
         ap (λ b. cond b (numbered_from (suc (suc number)) lines) (record { number = suc number; line = line } ∷ numbered_from (suc (suc number)) lines)) (long_line line too_long) in
-        subst (λ (numbered : List Numbered). BeginsBad arguments numbered next) (sym first) (sym counted, λ fits. absurd (too_long fits))
+        subst (λ (numbered : List Numbered). BeginsBad levels places numbered next) (sym first) (sym counted, λ fits. absurd (too_long fits))
 
 -- if there is no line, none is left
 pub none_taken : (number next : ℕ) (old new : Option (List ℕ)) → TracesBack (IsInput old) (IsInput new) (λ bytes rest. lines_of bytes ≡ [])

@@ -10,10 +10,7 @@ use Rattle.x86_64_model.proofs.Lemmas.Entries.Bits.{zero_absent}
 use Rattle.x86_64_model.proofs.Lemmas.Entries.Words.{address-multiple}
 use Rattle.x86_64_model.proofs.Lemmas.Walks.Walked.{index_small}
 use Rattle.x86_64.specs.EveryWord.{SameWords}
-use Rattle.pagetab_engine.specs.Requests.{walk_to}
 use Rattle.pagetab_engine.specs.Slot as slots
-use Rattle.pagetab_engine.specs.declared.request.Address.{Address}
-use Rattle.pagetab_engine.specs.declared.request.Address.TheVariants.{Four, Five}
 
 -- if there is no table, a word is read as 0
 read_word : (F : ℕ → Option Walked) → F 0 ≡ None → (T : Words) (frame i : ℕ) → i < 512 → option_and_then F (read T frame i) ≡ F (word T frame i)
@@ -44,11 +41,10 @@ module _ (T U : Words) (same : SameWords T U) (p : ℕ) where
       (same_walk_on (suc n) (w && writable (word U frame (index level p))) (u && user (word U frame (index level p))) (address (word U frame (index level p))))
       ∙ sym (read_word (F U) (leads_nowhere _) U frame (index level p) (index_small level p))
 
--- so page walks of an address arrive at the same address, with four levels and with five
-pub same_walk_to : (T U : Words) → SameWords T U → (root : ℕ) (address : Address) → walk_to T root address ≡ walk_to U root address
+-- so page walks of a position (the number of an address counted without the gap) arrive at the same address
+pub same_walk : (levels : ℕ) (T U : Words) → SameWords T U → (root position : ℕ) → page_walk levels T root position ≡ page_walk levels U root position
 unfolding page_walk
-same_walk_to T U same root (Four addr) = same_walk_on T U same addr 4 true true root
-same_walk_to T U same root (Five addr) = same_walk_on T U same addr 5 true true root
+same_walk levels T U same root position = same_walk_on T U same position levels true true root
 
 -- the word in a slot is that of the frame which lies there
 pub slot_word : (memory : Memory) (place index : ℕ) → index < 512 → place * 4096 < 2 ^ 52 → (place * 4096) % 4096 ≡ 0 → slots.word_in memory place index ≡ word (words_of memory identity_places) (place * 4096) index

@@ -3,8 +3,7 @@ use Rattle.std.proofs.Common.{◌≡◌, ◌≤◌, ◌<◌, ℕ, refl, sym, ap,
 use Rattle.x86_64_mappings.specs.Numbers.{IsNumber}
 use Rattle.pagetab_engine.specs.Fields.{name_text, size_text, size_texts, AreNumbers, Says}
 use Rattle.pagetab_engine.specs.PageCalls.{IsPageCall, bytes_of}
-use Rattle.pagetab_engine.specs.Statements.{IsOnAddresses, IsPlain, IsStatement, levels_in}
-use Rattle.pagetab_engine.specs.declared.arguments.Arguments.{Arguments}
+use Rattle.pagetab_engine.specs.Statements.{IsPlain, IsStatement}
 use Rattle.pagetab_engine.specs.declared.fields.Name.{Name}
 use Rattle.pagetab_engine.specs.declared.fields.Name.TheVariants as name
 use Rattle.pagetab_engine.specs.declared.fields.Size.{Size}
@@ -81,19 +80,15 @@ few P none (a ∷ b ∷ c ∷ []) is = omega arith
 few P none (a ∷ b ∷ c ∷ d ∷ []) is = omega arith
 few P none (a ∷ b ∷ c ∷ d ∷ e ∷ rest) is = absurd (none a b c d e rest is)
 
-no_addresses : (levels : ℕ) (name : Name) (a b c d e : ℕ) (rest : List ℕ) → IsOnAddresses levels name (a ∷ b ∷ c ∷ d ∷ e ∷ rest) → ⊥
-no_addresses levels name.Translate a b c d e rest is = is
-no_addresses levels name a b c d e rest is = is
-
-no_plain : (places levels : ℕ) (name : Name) (a b c d e : ℕ) (rest : List ℕ) → IsPlain places levels name (a ∷ b ∷ c ∷ d ∷ e ∷ rest) → ⊥
-no_plain places levels name.Word a b c d e rest is = is
-no_plain places levels name a b c d e rest is = is
+no_plain : (levels places : ℕ) (name : Name) (a b c d e : ℕ) (rest : List ℕ) → IsPlain levels places name (a ∷ b ∷ c ∷ d ∷ e ∷ rest) → ⊥
+no_plain levels places name.Word a b c d e rest is = is
+no_plain levels places name a b c d e rest is = is
 
 no_call : (levels bytes : ℕ) (name : Name) (a b c d e : ℕ) (rest : List ℕ) → IsPageCall levels bytes name (a ∷ b ∷ c ∷ d ∷ e ∷ rest) → ⊥
 no_call levels bytes name.Map a b c d e rest is = is
 no_call levels bytes name a b c d e rest is = is
 
 -- a statement has at most four numbers
-pub few_numbers : (arguments : Arguments) (name : Name) (size : Option Size) (numbers : List ℕ) → IsStatement arguments name size numbers → length numbers ≤ 4
-few_numbers arguments name None numbers is = few (IsPlain arguments.places (levels_in arguments) name) (no_plain arguments.places (levels_in arguments) name) numbers is
-few_numbers arguments name (Some size) numbers is = few (IsPageCall (levels_in arguments) (bytes_of size) name) (no_call (levels_in arguments) (bytes_of size) name) numbers is
+pub few_numbers : (levels places : ℕ) (name : Name) (size : Option Size) (numbers : List ℕ) → IsStatement levels places name size numbers → length numbers ≤ 4
+few_numbers levels places name None numbers is = few (IsPlain levels places name) (no_plain levels places name) numbers is
+few_numbers levels places name (Some size) numbers is = few (IsPageCall levels (bytes_of size) name) (no_call levels (bytes_of size) name) numbers is

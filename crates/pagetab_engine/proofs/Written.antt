@@ -3,8 +3,8 @@ use Rattle.std.proofs.Common.{◌≡◌, ◌<◌, ◌-◌, ◌∙◌, ℕ, List,
 use Rattle.std.proofs.lemmas.List.{take_rest}
 use Rattle.std.specs.Io.KnownBytes.{Appends}
 use Rattle.pagetab_engine.specs.Program.{AppendsFront}
+use Rattle.pagetab_engine.specs.Reply.{Reply}
 use Rattle.pagetab_engine.specs.Texts.{reply_line, reply_text}
-use Rattle.pagetab_engine.specs.declared.reply.Reply.{Reply}
 
 pub appends_nothing : (held : Option (List ℕ)) → Appends held held []
 appends_nothing None = tt

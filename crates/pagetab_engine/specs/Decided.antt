@@ -1,10 +1,10 @@
 -- The arguments and the input determine what is written and how the program ends.
 use Rattle.std.specs.Prelude.{◌≡◌, ◌⊎◌, List, [], ℕ, ◌++◌, map, Some}
 use Rattle.pagetab_engine.specs.Program.{IsForced, IsRun, Runs}
+use Rattle.pagetab_engine.specs.Reply.{Reply}
 use Rattle.pagetab_engine.specs.Texts.{reply_line}
 use Rattle.pagetab_engine.specs.declared.ending.Ending.{Ending}
 use Rattle.pagetab_engine.specs.declared.ending.Ending.TheVariants.{Done, Stopped}
-use Rattle.pagetab_engine.specs.declared.reply.Reply.{Reply}
 
 -- a run ended since memory allocation, a read or a write failed
 abbrev pub IsForcedEnd : Ending → Type 0

@@ -1,5 +1,5 @@
 -- The hierarchy that the program reads, or two with one image in a pair, as a machine.
-use Rattle.std.specs.Prelude.{◌≡◌, ◌↔◌, ℕ, ⊤, cond, false, List, [], Some}
+use Rattle.std.specs.Prelude.{◌≡◌, ◌↔◌, ℕ, ⊤, Bool, cond, false, List, [], Some}
 use Rattle.x86_64_model.specs.Alike.{Alike}
 use Rattle.x86_64_model.specs.Layout.{Layout, paths}
 use Rattle.x86_64_model.specs.Machine.{Machine, State}
@@ -7,21 +7,19 @@ use Rattle.x86_64_model.specs.Layout.{Owns, KeepsOthers}
 use Rattle.x86_64_model.specs.Pool.{serves_below}
 use Rattle.x86_64_model.specs.Memory.{Memory, identity_places}
 use Rattle.x86_64_mappers.specs.Offsets.{OffsetFits}
-use Rattle.x86_64.specs.Asked.{MapperCall}
+use Rattle.x86_64.specs.Asked.{MapperCall, names_by}
 use Rattle.x86_64.specs.FreeFrames.{KeepsFree as KeepsFreeFrames}
 use Rattle.x86_64.specs.Runs as runs
 use Rattle.x86_64.specs.Replies.{Reply}
 use Rattle.x86_64.specs.Runs.{AfterStep}
 use Rattle.x86_64.specs.declared.calls.MapperReply.TheVariants.{NotAllowed}
-use Rattle.pagetab_engine.specs.Arguments.{count}
+use Rattle.pagetab_engine.specs.Arguments.{count, levels_of}
 use Rattle.pagetab_engine.specs.Calls.{machine_by, asked_back, IsAnswered}
 use Rattle.pagetab_engine.specs.Frames.{direct_layout, recursive_layout, FitsBy, without_self_entry}
-use Rattle.pagetab_engine.specs.Requests.{asked, is_refused}
 use Rattle.pagetab_engine.specs.declared.arguments.Mode.{Mode}
 use Rattle.pagetab_engine.specs.declared.arguments.Mode.TheVariants.{Direct, Offset, Recursive, Pair}
 use Rattle.pagetab_engine.specs.declared.frames.Frames.{Frames}
 use Rattle.pagetab_engine.specs.declared.hierarchy.Hierarchy.{Hierarchy}
-use Rattle.pagetab_engine.specs.declared.request.Request.{Request}
 
 -- ---- the image
 
@@ -66,15 +64,24 @@ machine_of hierarchy = machine_by (layout_of hierarchy)
 abbrev pub hierarchy_state : Hierarchy → State
 hierarchy_state hierarchy = runs.state_in (layout_of hierarchy) hierarchy.frames.memory hierarchy.frames.pool.frames
 
+-- whether the recursive index of a pair is among these names
+abbrev pub is_index_named : Mode → (names : ℕ → Bool) → Bool
+is_index_named (Pair levels index) names = names index
+is_index_named mode names = false
+
+-- whether no mapper executes the call: its page or address has the recursive index of a pair
+abbrev pub is_refused : Mode → MapperCall → Bool
+is_refused mode call = is_index_named mode (names_by (count (levels_of mode)) call)
+
 -- the result of a call: the machine's step, or `NotAllowed` with no change if no mapper executes the call
-abbrev pub call_step : Hierarchy → Request → AfterStep Reply
-call_step hierarchy request = cond (is_refused hierarchy.mode request)
+abbrev pub call_step : Hierarchy → MapperCall → AfterStep Reply
+call_step hierarchy call = cond (is_refused hierarchy.mode call)
     (record { state = hierarchy_state hierarchy; reply = Some NotAllowed })
-    (runs.step_by (machine_of hierarchy) (hierarchy_state hierarchy) (asked request))
+    (runs.step_by (machine_of hierarchy) (hierarchy_state hierarchy) call)
 
 -- the frames that a call returns if a mapper executes it: those of the tables that a clean up removes
-abbrev pub call_back : Hierarchy → Request → List ℕ
-call_back hierarchy request = cond (is_refused hierarchy.mode request) [] (asked_back (machine_of hierarchy) (hierarchy_state hierarchy) (asked request))
+abbrev pub call_back : Hierarchy → MapperCall → List ℕ
+call_back hierarchy call = cond (is_refused hierarchy.mode call) [] (asked_back (machine_of hierarchy) (hierarchy_state hierarchy) call)
 
 -- free frames keep their words, except that returned frames hold zeros
 abbrev pub KeepsFree : (before : Hierarchy) → (back : List ℕ) → (after : Hierarchy) → Type 0
@@ -94,8 +101,8 @@ TwinTells (Pair levels index) asked before after reply = TwinAnswers (count leve
 TwinTells mode asked before after reply = ⊤
 
 -- this holds if the mappers execute the call
-abbrev pub BothAnswer : Mode → Request → Reply → (before after : Frames) → Type 0
-BothAnswer mode request reply before after = is_refused mode request ≡ false → TwinTells mode (asked request) before after reply
+abbrev pub BothAnswer : Mode → MapperCall → Reply → (before after : Frames) → Type 0
+BothAnswer mode call reply before after = is_refused mode call ≡ false → TwinTells mode call before after reply
 
 -- the mapper reaches each place of the memory
 abbrev pub IsReached : Mode → Memory → Type 0

@@ -1,9 +1,9 @@
 pub mod Arguments
 pub mod Starts
 pub mod Fields
-pub mod Requests
 pub mod PageCalls
 pub mod Slot
+pub mod Commands
 pub mod Statements
 pub mod Lines
 pub mod Frames

@@ -2,9 +2,9 @@
 use Rattle.std.specs.Prelude.{◌≡◌, ◌≤◌, ◌<◌, ◌^◌, ◌==◌, ◌&&◌, ℕ, ⊤, suc, nat_le, take, slice_range, cond, Bool, List, [], ◌∷◌, length, Option, Some, None}
 use Rattle.std.specs.Io.KnownBytes.{Consumes, IsAtEnd, Keeps, prepend_known}
 use Rattle.std.specs.List.{list_all, slice_split}
+use Rattle.pagetab_engine.specs.Commands.{Statement}
 use Rattle.pagetab_engine.specs.Fields.{is_space, has_bytes, Says}
-use Rattle.pagetab_engine.specs.Statements.{IsAccepted, IsStatement, SaysStatement}
-use Rattle.pagetab_engine.specs.declared.arguments.Arguments.{Arguments}
+use Rattle.pagetab_engine.specs.Statements.{IsStatement, SaysStatement}
 use Rattle.pagetab_engine.specs.declared.ending.Fault.{Fault}
 use Rattle.pagetab_engine.specs.declared.ending.Fault.TheVariants.{BadLine, Input}
 use Rattle.pagetab_engine.specs.declared.fields.Name.{Name}
@@ -12,7 +12,6 @@ use Rattle.pagetab_engine.specs.declared.fields.Size.{Size}
 use Rattle.pagetab_engine.specs.declared.lines.Line.{Line}
 use Rattle.pagetab_engine.specs.declared.lines.Line.TheVariants.{Text, TooLong, End}
 use Rattle.pagetab_engine.specs.declared.lines.Lines.{Lines}
-use Rattle.pagetab_engine.specs.declared.statement.Statement.{Statement}
 
 abbrev pub is_line_feed : ℕ → Bool
 is_line_feed byte = byte == 10
@@ -90,35 +89,35 @@ ReadsLine bytes rest line (Text length) = TakesLine bytes (take length line) res
 ReadsLine bytes rest line TooLong = BeginsTooLong (lines_of bytes)
 ReadsLine bytes rest line End = lines_of bytes ≡ []
 
--- the line is a statement for these arguments
-abbrev pub SaysAccepted : (arguments : Arguments) (line : List ℕ) → Statement → Type 0
-SaysAccepted arguments line statement = (length line ≤ 256) × SaysStatement line statement × IsAccepted arguments statement
+-- the line is this statement, for this number of levels and of places
+abbrev pub SaysAccepted : (levels places : ℕ) (line : List ℕ) → Statement → Type 0
+SaysAccepted levels places line statement = (length line ≤ 256) × SaysStatement levels places line statement
 
--- the line has more than 256 bytes, or is no statement for these arguments
-abbrev pub IsBad : (arguments : Arguments) (line : List ℕ) → Type 0
-IsBad arguments line =
-    (length line ≤ 256) → (name : Name) (size : Option Size) (numbers : List ℕ) → Says line name size numbers → ¬ (IsStatement arguments name size numbers)
+-- the line has more than 256 bytes, or is no statement
+abbrev pub IsBad : (levels places : ℕ) (line : List ℕ) → Type 0
+IsBad levels places line =
+    (length line ≤ 256) → (name : Name) (size : Option Size) (numbers : List ℕ) → Says line name size numbers → ¬ (IsStatement levels places name size numbers)
 
 -- the first line has this number and is this statement, and the lines after it are left
-abbrev pub TakesStatement : (arguments : Arguments) (lines : List Numbered) (number : ℕ) (rest : List Numbered) → Statement → Type 0
-TakesStatement arguments lines number rest statement =
-    (line : List ℕ) × (lines ≡ record { number = number; line = line } ∷ rest) × SaysAccepted arguments line statement
+abbrev pub TakesStatement : (levels places : ℕ) (lines : List Numbered) (number : ℕ) (rest : List Numbered) → Statement → Type 0
+TakesStatement levels places lines number rest statement =
+    (line : List ℕ) × (lines ≡ record { number = number; line = line } ∷ rest) × SaysAccepted levels places line statement
 
 -- what was read of these lines: the first one's statement, with this number, or that there is none
-abbrev pub ReadsStatement : (arguments : Arguments) (lines : List Numbered) (number : ℕ) (rest : List Numbered) → Option Statement → Type 0
-ReadsStatement arguments lines number rest (Some statement) = TakesStatement arguments lines number rest statement
-ReadsStatement arguments lines number rest None = lines ≡ []
+abbrev pub ReadsStatement : (levels places : ℕ) (lines : List Numbered) (number : ℕ) (rest : List Numbered) → Option Statement → Type 0
+ReadsStatement levels places lines number rest (Some statement) = TakesStatement levels places lines number rest statement
+ReadsStatement levels places lines number rest None = lines ≡ []
 
 -- the first line has this number and is bad
-abbrev pub BeginsBad : (arguments : Arguments) (lines : List Numbered) (number : ℕ) → Type 0
-BeginsBad arguments [] number = ⊥
-BeginsBad arguments (first ∷ lines) number = (first.number ≡ number) × IsBad arguments first.line
+abbrev pub BeginsBad : (levels places : ℕ) (lines : List Numbered) (number : ℕ) → Type 0
+BeginsBad levels places [] number = ⊥
+BeginsBad levels places (first ∷ lines) number = (first.number ≡ number) × IsBad levels places first.line
 
 -- why no statement of these lines was read: the first one is bad, or a read failed
-abbrev pub ExplainsRead : (arguments : Arguments) (lines : List Numbered) → Fault → Type 0
-ExplainsRead arguments lines (BadLine number) = BeginsBad arguments lines number
-ExplainsRead arguments lines Input = ⊤
-ExplainsRead arguments lines fault = ⊥
+abbrev pub ExplainsRead : (levels places : ℕ) (lines : List Numbered) → Fault → Type 0
+ExplainsRead levels places lines (BadLine number) = BeginsBad levels places lines number
+ExplainsRead levels places lines Input = ⊤
+ExplainsRead levels places lines fault = ⊥
 
 -- one line or more was counted
 abbrev pub IsCounted : (old new : ℕ) → Type 0

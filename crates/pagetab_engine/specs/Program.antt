@@ -3,11 +3,12 @@ use Rattle.std.specs.Prelude.{◌≡◌, ℕ, ⊤, if◌then◌else◌, nat_lt, 
 use Rattle.std.specs.FinMap.{get}
 use Rattle.std.specs.Io.KnownBytes.{Appends}
 use Rattle.x86_64_tables.specs.PageTable.{zero_words}
-use Rattle.pagetab_engine.specs.Arguments.{Says}
+use Rattle.pagetab_engine.specs.Arguments.{Says, count, levels_of}
+use Rattle.pagetab_engine.specs.Commands.{Command, Image, Asks}
 use Rattle.pagetab_engine.specs.Frames.{IsLoadable, memory_after, free_after}
 use Rattle.pagetab_engine.specs.Hierarchy.{hierarchy_state, first_memory, FitsImage, HasCopy, IsReached, KeepsHierarchy, KeepsFree}
 use Rattle.pagetab_engine.specs.Lines.{Numbered, numbered_from, lines_of, SaysAccepted, IsBad}
-use Rattle.pagetab_engine.specs.Reply.{IsReply, IsToldByBoth, OnlyReads, back_of, state_after}
+use Rattle.pagetab_engine.specs.Reply.{Reply, IsToldByBoth, OnlyReads, command_back, command_reply, command_state}
 use Rattle.pagetab_engine.specs.Texts.{reply_line}
 use Rattle.pagetab_engine.specs.declared.arguments.Arguments.{Arguments}
 use Rattle.pagetab_engine.specs.declared.ending.Ending.{Ending}
@@ -15,10 +16,7 @@ use Rattle.pagetab_engine.specs.declared.ending.Ending.TheVariants.{Done, Stoppe
 use Rattle.pagetab_engine.specs.declared.ending.Fault.{Fault}
 use Rattle.pagetab_engine.specs.declared.ending.Fault.TheVariants.{BadLine, InvalidHierarchy, OutOfMemory, Input, Output, Usage}
 use Rattle.pagetab_engine.specs.declared.hierarchy.Hierarchy.{Hierarchy}
-use Rattle.pagetab_engine.specs.declared.reply.Reply.{Reply}
-use Rattle.pagetab_engine.specs.declared.statement.Command.{Command}
 use Rattle.pagetab_engine.specs.declared.statement.ImageLine.{ImageLine}
-use Rattle.pagetab_engine.specs.declared.statement.Statement.TheVariants as says
 
 -- neither the arguments nor the input stop the program: memory allocation, a read or a write failed
 abbrev pub IsForced : Fault → Type 0
@@ -30,31 +28,31 @@ IsForced fault = ⊥
 -- ---- the commands
 
 -- the line is this command
-abbrev pub SaysCommand : (arguments : Arguments) → Numbered → Command → Type 0
-SaysCommand arguments line command = SaysAccepted arguments line.line (says.Command command)
+abbrev pub SaysCommand : (levels places : ℕ) → Numbered → Command → Type 0
+SaysCommand levels places line command = SaysAccepted levels places line.line (Asks command)
 
 -- the line is this line of an image
-abbrev pub SaysImage : (arguments : Arguments) → Numbered → ImageLine → Type 0
-SaysImage arguments line image = SaysAccepted arguments line.line (says.Image image)
+abbrev pub SaysImage : (levels places : ℕ) → Numbered → ImageLine → Type 0
+SaysImage levels places line image = SaysAccepted levels places line.line (Image image)
 
 -- The reply to a command, and its effect on the hierarchy, or on both hierarchies in a pair.
 pub record Answers (command : Command) (before : Hierarchy) (answer : Reply) (after : Hierarchy) : Type 0 where
-  pub reply : IsReply before command answer
-  pub state : hierarchy_state after ≡ state_after before command
+  pub reply : command_reply before command ≡ Some answer
+  pub state : hierarchy_state after ≡ command_state before command
   pub reads : OnlyReads before command → after ≡ before
-  pub free : KeepsFree before (back_of before command) after
+  pub free : KeepsFree before (command_back before command) after
   pub keeps : KeepsHierarchy before after
   pub both : IsToldByBoth before command answer after
 
 -- After the image, each line that is a command gets its reply, and the first other line is bad.
-pub data Serves (arguments : Arguments) : (lines : List Numbered) → Hierarchy → Ending → (replies : List Reply) → Type 0 where
-  ends : (hierarchy : Hierarchy) → Serves arguments [] hierarchy Done []
+pub data Serves (levels places : ℕ) : (lines : List Numbered) → Hierarchy → Ending → (replies : List Reply) → Type 0 where
+  ends : (hierarchy : Hierarchy) → Serves levels places [] hierarchy Done []
   answers : (line : Numbered) (lines : List Numbered) (command : Command) (before : Hierarchy) (reply : Reply) (after : Hierarchy) (ending : Ending) (replies : List Reply)
-      → SaysCommand arguments line command → Answers command before reply after → Serves arguments lines after ending replies → Serves arguments (line ∷ lines) before ending (reply ∷ replies)
-  bad_line : (line : Numbered) (lines : List Numbered) (hierarchy : Hierarchy) → IsBad arguments line.line → Serves arguments (line ∷ lines) hierarchy (Stopped (BadLine line.number)) []
+      → SaysCommand levels places line command → Answers command before reply after → Serves levels places lines after ending replies → Serves levels places (line ∷ lines) before ending (reply ∷ replies)
+  bad_line : (line : Numbered) (lines : List Numbered) (hierarchy : Hierarchy) → IsBad levels places line.line → Serves levels places (line ∷ lines) hierarchy (Stopped (BadLine line.number)) []
   late_image : (line : Numbered) (lines : List Numbered) (image : ImageLine) (hierarchy : Hierarchy)
-      → SaysImage arguments line image → Serves arguments (line ∷ lines) hierarchy (Stopped (BadLine line.number)) []
-  gives_up : (lines : List Numbered) (hierarchy : Hierarchy) (fault : Fault) → IsForced fault → Serves arguments lines hierarchy (Stopped fault) []
+      → SaysImage levels places line image → Serves levels places (line ∷ lines) hierarchy (Stopped (BadLine line.number)) []
+  gives_up : (lines : List Numbered) (hierarchy : Hierarchy) (fault : Fault) → IsForced fault → Serves levels places lines hierarchy (Stopped fault) []
 
 -- ---- the image
 
@@ -83,24 +81,28 @@ pub record IsFirst (image first : Hierarchy) : Type 0 where
   pub twin : first.twin ≡ image.twin
 
 -- the image is complete: the next line is a command, or there is none
-abbrev pub IsRead : (arguments : Arguments) → List Numbered → Type 0
-IsRead arguments [] = ⊤
-IsRead arguments (line ∷ lines) = (command : Command) × SaysCommand arguments line command
+abbrev pub IsRead : (levels places : ℕ) → List Numbered → Type 0
+IsRead levels places [] = ⊤
+IsRead levels places (line ∷ lines) = (command : Command) × SaysCommand levels places line command
 
 -- Each line of the image is loaded. The first command, or the end of the input, ends the image, which is then tested. Other
 -- lines are bad, and so are lines of the image that can't be loaded.
-pub data Reads (arguments : Arguments) : (lines : List Numbered) → Hierarchy → Ending → (replies : List Reply) → Type 0 where
+pub data Reads (levels places : ℕ) : (lines : List Numbered) → Hierarchy → Ending → (replies : List Reply) → Type 0 where
   loads : (line : Numbered) (lines : List Numbered) (image : ImageLine) (before after : Hierarchy) (ending : Ending) (replies : List Reply)
-      → SaysImage arguments line image → Loads image before after → Reads arguments lines after ending replies → Reads arguments (line ∷ lines) before ending replies
-  bad_line : (line : Numbered) (lines : List Numbered) (hierarchy : Hierarchy) → IsBad arguments line.line → Reads arguments (line ∷ lines) hierarchy (Stopped (BadLine line.number)) []
+      → SaysImage levels places line image → Loads image before after → Reads levels places lines after ending replies → Reads levels places (line ∷ lines) before ending replies
+  bad_line : (line : Numbered) (lines : List Numbered) (hierarchy : Hierarchy) → IsBad levels places line.line → Reads levels places (line ∷ lines) hierarchy (Stopped (BadLine line.number)) []
   refused : (line : Numbered) (lines : List Numbered) (image : ImageLine) (hierarchy : Hierarchy)
-      → SaysImage arguments line image → ¬ (IsLoadable hierarchy.frames image) → Reads arguments (line ∷ lines) hierarchy (Stopped (BadLine line.number)) []
-  unfit : (lines : List Numbered) (hierarchy : Hierarchy) → IsRead arguments lines → ¬ (FitsImage hierarchy) → Reads arguments lines hierarchy (Stopped InvalidHierarchy) []
+      → SaysImage levels places line image → ¬ (IsLoadable hierarchy.frames image) → Reads levels places (line ∷ lines) hierarchy (Stopped (BadLine line.number)) []
+  unfit : (lines : List Numbered) (hierarchy : Hierarchy) → IsRead levels places lines → ¬ (FitsImage hierarchy) → Reads levels places lines hierarchy (Stopped InvalidHierarchy) []
   fits : (lines : List Numbered) (image first : Hierarchy) (ending : Ending) (replies : List Reply)
-      → IsRead arguments lines → FitsImage image → IsFirst image first → Serves arguments lines first ending replies → Reads arguments lines image ending replies
-  gives_up : (lines : List Numbered) (hierarchy : Hierarchy) (fault : Fault) → IsForced fault → Reads arguments lines hierarchy (Stopped fault) []
+      → IsRead levels places lines → FitsImage image → IsFirst image first → Serves levels places lines first ending replies → Reads levels places lines image ending replies
+  gives_up : (lines : List Numbered) (hierarchy : Hierarchy) (fault : Fault) → IsForced fault → Reads levels places lines hierarchy (Stopped fault) []
 
 -- ---- the run
+
+-- the arguments' number of levels
+abbrev pub levels_in : Arguments → ℕ
+levels_in arguments = count (levels_of arguments.mode)
 
 -- The input is read if the arguments are a mode and a number of places, and the mapper reaches each place. Memory for the places
 -- may be refused then. The run may be forced to stop at each line.
@@ -110,7 +112,7 @@ pub data IsRun (words : List (List ℕ)) (input : List ℕ) : Ending → (replie
       → Says words arguments → IsEmpty arguments hierarchy → ¬ (IsReached hierarchy.mode hierarchy.frames.memory) → IsRun words input (Stopped Usage) []
   reads : (arguments : Arguments) (hierarchy : Hierarchy) (ending : Ending) (replies : List Reply)
       → Says words arguments → IsEmpty arguments hierarchy → IsReached hierarchy.mode hierarchy.frames.memory
-      → Reads arguments (numbered_from 1 (lines_of input)) hierarchy ending replies → IsRun words input ending replies
+      → Reads (levels_in arguments) arguments.places (numbered_from 1 (lines_of input)) hierarchy ending replies → IsRun words input ending replies
   no_memory : (arguments : Arguments) → Says words arguments → IsRun words input (Stopped OutOfMemory) []
 
 -- a first part of a line, but not all of it

@@ -1,41 +1,56 @@
--- The reply to a command, and the state after it.
-use Rattle.std.specs.Prelude.{◌≡◌, ℕ, ⊤, true, List, [], Some, option_map}
+-- The reply to a command, and its effect.
+use Rattle.std.specs.Prelude.{◌≡◌, ℕ, ⊤, true, List, [], Option, Some, option_map}
 use Rattle.x86_64_model.specs.Machine.{State}
 use Rattle.x86_64_model.specs.Memory.{words_of, identity_places}
+use Rattle.x86_64_model.specs.PageWalk.{Walked, page_walk}
+use Rattle.x86_64.specs.Replies.{Reply as CallReply}
 use Rattle.x86_64_tables.specs.Walks.{walked_of}
-use Rattle.pagetab_engine.specs.Hierarchy.{call_back, call_step, hierarchy_state, BothAnswer}
-use Rattle.pagetab_engine.specs.Requests.{is_refused, reply_in, walk_to}
+use Rattle.pagetab_engine.specs.Arguments.{count, levels_of}
+use Rattle.pagetab_engine.specs.Commands.{Command, Call, Walk, Show}
+use Rattle.pagetab_engine.specs.Commands as command
+use Rattle.pagetab_engine.specs.Hierarchy.{call_back, call_step, hierarchy_state, is_refused, BothAnswer}
 use Rattle.pagetab_engine.specs.Slot.{word_in}
 use Rattle.pagetab_engine.specs.declared.hierarchy.Hierarchy.{Hierarchy}
-use Rattle.pagetab_engine.specs.declared.statement.Command.{Command}
-use Rattle.pagetab_engine.specs.declared.statement.Command.TheVariants as command
-use Rattle.pagetab_engine.specs.declared.reply.Reply.{Reply}
+use Rattle.pagetab_engine.specs.declared.reply.Reply as rust
 use Rattle.pagetab_engine.specs.declared.reply.Reply.TheVariants as reply
 
+-- the reply to a command
+pub data Reply : Type 0 where
+  Answered : CallReply → Reply
+  Arrival : Option Walked → Reply
+  Word : ℕ → Reply
+  Pool : (frames : List ℕ) → Reply
+
+-- that of the program, for any number of levels
+abbrev pub reply_of : {L : Type 0} → rust.Reply L → Reply
+reply_of (reply.Answered answer) = Answered answer
+reply_of (reply.Arrival walked) = Arrival (option_map walked_of walked)
+reply_of (reply.Word word) = Word word
+reply_of (reply.Pool frames) = Pool frames.items
+
 -- the reply to a call is the machine's, and the reply to another command is what the definitions say about the hierarchy
-abbrev pub IsReply : Hierarchy → Command → Reply → Type 0
-IsReply hierarchy (command.Call call) (reply.Answered answer) = Some (reply_in answer) ≡ (call_step hierarchy call).reply
-IsReply hierarchy (command.Walk address) (reply.Arrival walked) = option_map walked_of walked ≡ walk_to (words_of hierarchy.frames.memory identity_places) 0x1000 address
-IsReply hierarchy (command.Show slot) (reply.Word word) = word ≡ word_in hierarchy.frames.memory slot.place slot.index
-IsReply hierarchy command.Pool (reply.Pool frames) = frames.items ≡ hierarchy.frames.pool.frames
-IsReply hierarchy asked told = ⊥
+abbrev pub command_reply : Hierarchy → Command → Option Reply
+command_reply hierarchy (Call call) = option_map Answered (call_step hierarchy call).reply
+command_reply hierarchy (Walk position) = Some (Arrival (page_walk (count (levels_of hierarchy.mode)) (words_of hierarchy.frames.memory identity_places) 0x1000 position))
+command_reply hierarchy (Show slot) = Some (Word (word_in hierarchy.frames.memory slot.place slot.index))
+command_reply hierarchy command.Pool = Some (Pool hierarchy.frames.pool.frames)
 
 -- a command other than a call only reads, and so does a call that no mapper executes
 abbrev pub OnlyReads : Hierarchy → Command → Type 0
-OnlyReads hierarchy (command.Call call) = is_refused hierarchy.mode call ≡ true
+OnlyReads hierarchy (Call call) = is_refused hierarchy.mode call ≡ true
 OnlyReads hierarchy asked = ⊤
 
 -- the state after a command: the machine's after a call, and unchanged otherwise
-abbrev pub state_after : Hierarchy → Command → State
-state_after hierarchy (command.Call call) = (call_step hierarchy call).state
-state_after hierarchy asked = hierarchy_state hierarchy
+abbrev pub command_state : Hierarchy → Command → State
+command_state hierarchy (Call call) = (call_step hierarchy call).state
+command_state hierarchy asked = hierarchy_state hierarchy
 
 -- the frames that a command returns, which only a call may do
-abbrev pub back_of : Hierarchy → Command → List ℕ
-back_of hierarchy (command.Call call) = call_back hierarchy call
-back_of hierarchy asked = []
+abbrev pub command_back : Hierarchy → Command → List ℕ
+command_back hierarchy (Call call) = call_back hierarchy call
+command_back hierarchy asked = []
 
 -- in a pair both mappers give the reply to a call if they execute it
 abbrev pub IsToldByBoth : (before : Hierarchy) → Command → Reply → (after : Hierarchy) → Type 0
-IsToldByBoth before (command.Call call) (reply.Answered answer) after = BothAnswer before.mode call (reply_in answer) before.twin after.twin
+IsToldByBoth before (Call call) (Answered answer) after = BothAnswer before.mode call answer before.twin after.twin
 IsToldByBoth before asked told after = ⊤

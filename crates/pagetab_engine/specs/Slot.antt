@@ -1,7 +1,12 @@
 -- Words in memory, by the places of tables (a place is the index of a table in memory).
-use Rattle.std.specs.Prelude.{ℕ, List, Option, Some, None, slice_set, slice_index}
+use Rattle.std.specs.Prelude.{◌/◌, ℕ, List, Option, Some, None, slice_set, slice_index}
 use Rattle.std.specs.FinMap.{get, insert}
 use Rattle.x86_64_model.specs.Memory.{Memory}
+use Rattle.pagetab_engine.specs.declared.slot.Slot.{Slot}
+
+-- the slot at an index of the table that starts at an address
+abbrev pub slot_at : (start index : ℕ) → Slot
+slot_at start index = record { place = start / 4096; index = index }
 
 abbrev pub word_of_table : Option (List ℕ) → (index : ℕ) → ℕ
 word_of_table None index = 0

@@ -1,6 +1,10 @@
 -- Start addresses of pages and frames of a size.
 use Rattle.std.specs.Prelude.{◌≡◌, ◌<◌, ◌/◌, ◌%◌, ◌^◌, ℕ}
-use Rattle.x86_64_addr.specs.Position.{IsCanonical}
+use Rattle.x86_64_addr.specs.Position.{IsCanonical, position_count}
+
+-- the position (the number of an address counted without the gap) of the address with this raw value
+abbrev pub position_at : (levels address : ℕ) → ℕ
+position_at levels address = address % position_count levels
 
 -- the start of a page with this number of levels
 abbrev pub IsPageStart : (levels size start : ℕ) → Type 0

@@ -1,81 +1,58 @@
 -- How lines write statements: a name, SIZE for statements about a page of a size, and numbers.
-use Rattle.std.specs.Prelude.{◌≡◌, ◌<◌, ◌*◌, ℕ, ⊤, true, List, [], ◌∷◌, Option, Some, None}
-use Rattle.x86_64_addr.specs.Position.{raw, IsCanonical}
+use Rattle.std.specs.Prelude.{◌≡◌, ◌<◌, ◌+◌, ℕ, ⊤, List, [], ◌∷◌, Option, Some, None, option_map}
+use Rattle.x86_64_addr.specs.Position.{IsCanonical}
+use Rattle.x86_64.specs.Asked.{Translate, TranslateAddr, CleanUp, CleanUpRange}
+use Rattle.pagetab_engine.specs.Commands.{Command, Call, Walk, Show, Pool, Statement, Image, Asks}
 use Rattle.pagetab_engine.specs.Fields.{Says}
-use Rattle.pagetab_engine.specs.Arguments.{count, levels_of}
-use Rattle.pagetab_engine.specs.PageCalls.{IsPageCall, Written, bytes_of, request_written, without_size}
-use Rattle.pagetab_engine.specs.Requests.{has_levels}
-use Rattle.pagetab_engine.specs.Starts.{IsPageStart, IsTableStart}
+use Rattle.pagetab_engine.specs.PageCalls.{IsPageCall, bytes_of, call_by}
+use Rattle.pagetab_engine.specs.Slot.{slot_at}
+use Rattle.pagetab_engine.specs.Starts.{IsPageStart, IsTableStart, position_at}
 use Rattle.pagetab_engine.specs.declared.fields.Name.{Name}
 use Rattle.pagetab_engine.specs.declared.fields.Name.TheVariants as name
 use Rattle.pagetab_engine.specs.declared.fields.Size.{Size}
-use Rattle.pagetab_engine.specs.declared.arguments.Arguments.{Arguments}
-use Rattle.pagetab_engine.specs.declared.arguments.Levels.{Levels}
-use Rattle.pagetab_engine.specs.declared.arguments.Levels.TheVariants as levels
-use Rattle.pagetab_engine.specs.declared.request.Address.TheVariants as address
 use Rattle.pagetab_engine.specs.declared.statement.ImageLine.TheVariants.{Word, Free}
-use Rattle.pagetab_engine.specs.declared.statement.Command.{Command as Asked}
-use Rattle.pagetab_engine.specs.declared.statement.Command.TheVariants as command
-use Rattle.pagetab_engine.specs.declared.statement.Statement.{Statement}
-use Rattle.pagetab_engine.specs.declared.statement.Statement.TheVariants.{Image, Command}
 
--- whether a name and numbers without SIZE are a command on addresses, with this number of levels
-abbrev pub IsOnAddresses : (levels : ℕ) → Name → List ℕ → Type 0
-IsOnAddresses levels name.Translate (addr ∷ []) = IsCanonical levels addr
-IsOnAddresses levels name.Addr (addr ∷ []) = IsCanonical levels addr
-IsOnAddresses levels name.Walk (addr ∷ []) = IsCanonical levels addr
-IsOnAddresses levels name.CleanUp [] = ⊤
-IsOnAddresses levels name.CleanUpRange (first ∷ last ∷ []) = IsPageStart levels 4096 first × IsPageStart levels 4096 last
-IsOnAddresses levels other numbers = ⊥
+-- whether a name and numbers without SIZE are a statement, for this number of levels and of places
+abbrev pub IsPlain : (levels places : ℕ) → Name → List ℕ → Type 0
+IsPlain levels places name.Word (frame ∷ index ∷ value ∷ []) = IsTableStart places frame × (index < 512)
+IsPlain levels places name.Free (frame ∷ []) = IsTableStart places frame
+IsPlain levels places name.Show (frame ∷ index ∷ []) = IsTableStart places frame × (index < 512)
+IsPlain levels places name.Pool [] = ⊤
+IsPlain levels places name.Walk (addr ∷ []) = IsCanonical levels addr
+IsPlain levels places name.Translate (addr ∷ []) = IsCanonical levels addr
+IsPlain levels places name.Addr (addr ∷ []) = IsCanonical levels addr
+IsPlain levels places name.CleanUp [] = ⊤
+IsPlain levels places name.CleanUpRange (first ∷ last ∷ []) = IsPageStart levels 4096 first × IsPageStart levels 4096 last
+IsPlain levels places other numbers = ⊥
 
--- whether they are a statement, for this number of places and levels
-abbrev pub IsPlain : (places levels : ℕ) → Name → List ℕ → Type 0
-IsPlain places levels name.Word (frame ∷ index ∷ value ∷ []) = IsTableStart places frame × (index < 512)
-IsPlain places levels name.Free (frame ∷ []) = IsTableStart places frame
-IsPlain places levels name.Show (frame ∷ index ∷ []) = IsTableStart places frame × (index < 512)
-IsPlain places levels name.Pool [] = ⊤
-IsPlain places levels other numbers = IsOnAddresses levels other numbers
+-- the statement that they write, if they write one; a range of pages ends at the last address of its last page
+abbrev pub plain_by : (levels : ℕ) → Name → List ℕ → Option Statement
+plain_by levels name.Word (frame ∷ index ∷ value ∷ []) = Some (Image (Word (slot_at frame index) value))
+plain_by levels name.Free (frame ∷ []) = Some (Image (Free frame))
+plain_by levels name.Show (frame ∷ index ∷ []) = Some (Asks (Show (slot_at frame index)))
+plain_by levels name.Pool [] = Some (Asks Pool)
+plain_by levels name.Walk (addr ∷ []) = Some (Asks (Walk (position_at levels addr)))
+plain_by levels name.Translate (addr ∷ []) = Some (Asks (Call (Translate (position_at levels addr))))
+plain_by levels name.Addr (addr ∷ []) = Some (Asks (Call (TranslateAddr (position_at levels addr))))
+plain_by levels name.CleanUp [] = Some (Asks (Call CleanUp))
+plain_by levels name.CleanUpRange (first ∷ last ∷ []) = Some (Asks (Call (CleanUpRange (position_at levels first) (position_at levels last + 0xfff))))
+plain_by levels other numbers = None
 
--- the arguments' number of levels
-abbrev pub levels_in : Arguments → ℕ
-levels_in arguments = count (levels_of arguments.mode)
+-- whether these fields are a statement
+abbrev pub IsStatement : (levels places : ℕ) → Name → Option Size → List ℕ → Type 0
+IsStatement levels places name None numbers = IsPlain levels places name numbers
+IsStatement levels places name (Some size) numbers = IsPageCall levels (bytes_of size) name numbers
 
--- whether these fields are a statement for these arguments
-abbrev pub IsStatement : Arguments → Name → Option Size → List ℕ → Type 0
-IsStatement arguments name None numbers = IsPlain arguments.places (levels_in arguments) name numbers
-IsStatement arguments name (Some size) numbers = IsPageCall (levels_in arguments) (bytes_of size) name numbers
+-- the statement that these fields write, if they write one
+abbrev pub statement_by : (levels : ℕ) → Name → Option Size → List ℕ → Option Statement
+statement_by levels name None numbers = plain_by levels name numbers
+statement_by levels name (Some size) numbers = option_map (λ call. Asks (Call call)) (call_by levels size name numbers)
 
--- ---- how a command and a statement are written
-
-abbrev pub command_written : Asked → Written
-command_written (command.Call request) = request_written request
-command_written (command.Walk (address.Four addr)) = without_size name.Walk (raw 4 addr ∷ [])
-command_written (command.Walk (address.Five addr)) = without_size name.Walk (raw 5 addr ∷ [])
-command_written (command.Show slot) = without_size name.Show ((slot.place * 4096) ∷ slot.index ∷ [])
-command_written command.Pool = without_size name.Pool []
-
-abbrev pub written : Statement → Written
-written (Image (Word slot value)) = without_size name.Word ((slot.place * 4096) ∷ slot.index ∷ value ∷ [])
-written (Image (Free frame)) = without_size name.Free (frame ∷ [])
-written (Command asked) = command_written asked
-
--- a call is for this number of levels, and so is the address of a walk
-abbrev pub CommandHas : Levels → Asked → Type 0
-CommandHas levels (command.Call request) = has_levels levels request ≡ true
-CommandHas levels.Four (command.Walk (address.Four addr)) = ⊤
-CommandHas levels.Five (command.Walk (address.Five addr)) = ⊤
-CommandHas levels (command.Walk other) = ⊥
-CommandHas levels (command.Show slot) = ⊤
-CommandHas levels command.Pool = ⊤
-
-abbrev pub HasLevels : Levels → Statement → Type 0
-HasLevels levels (Image line) = ⊤
-HasLevels levels (Command asked) = CommandHas levels asked
-
--- a line is a statement
-abbrev pub SaysStatement : (line : List ℕ) → Statement → Type 0
-SaysStatement line statement = let fields = written statement in Says line fields.name fields.size fields.numbers
-
-abbrev pub IsAccepted : Arguments → Statement → Type 0
-IsAccepted arguments statement =
-    let fields = written statement in IsStatement arguments fields.name fields.size fields.numbers × HasLevels (levels_of arguments.mode) statement
+-- The fields of a line are a statement, and write this one.
+pub record SaysStatement (levels places : ℕ) (line : List ℕ) (statement : Statement) : Type 0 where
+  pub name : Name
+  pub size : Option Size
+  pub numbers : List ℕ
+  pub says : Says line name size numbers
+  pub accepted : IsStatement levels places name size numbers
+  pub writes : statement_by levels name size numbers ≡ Some statement

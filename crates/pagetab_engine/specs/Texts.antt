@@ -1,6 +1,7 @@
 -- The texts that the program prints, for each reply and each fault.
 use Rattle.std.specs.Prelude.{ℕ, Bool, if◌then◌else◌, List, [], ◌∷◌, ◌++◌, flat_map, codes, decimal, Option, Some, None, Ok, Err}
 use Rattle.x86_64_mappings.specs.Numbers.{hexadecimal}
+use Rattle.x86_64_model.specs.PageWalk.{Walked}
 use Rattle.x86_64_tables.specs.PageTableFlags.{bits_of}
 use Rattle.x86_64_tables.specs.Translations.{frame_start}
 use Rattle.x86_64_tables.specs.declared.mapper.FlagUpdateError.{FlagUpdateError}
@@ -15,16 +16,13 @@ use Rattle.x86_64_tables.specs.declared.mapper.TranslateResult.{TranslateResult}
 use Rattle.x86_64_tables.specs.declared.mapper.TranslateResult.TheVariants.{Mapped, NotMapped, InvalidFrameAddress}
 use Rattle.x86_64_tables.specs.declared.mapper.UnmapError.{UnmapError}
 use Rattle.x86_64_tables.specs.declared.mapper.UnmapError.TheVariants as unmap
-use Rattle.x86_64_tables.specs.declared.phys_memory.walk.Walked.{Walked}
 use Rattle.x86_64.specs.declared.calls.MapperReply.{MapperReply}
 use Rattle.x86_64.specs.declared.calls.MapperReply.TheVariants as call
 use Rattle.x86_64.specs.declared.calls.PageReply.{PageReply}
 use Rattle.x86_64.specs.declared.calls.PageReply.TheVariants.{Map, Unmap, Update, TableFlags, Frame}
-use Rattle.pagetab_engine.specs.Requests.{reply_in}
+use Rattle.pagetab_engine.specs.Reply.{Reply, Answered, Arrival, Word, Pool}
 use Rattle.pagetab_engine.specs.declared.ending.Fault.{Fault}
 use Rattle.pagetab_engine.specs.declared.ending.Fault.TheVariants.{BadLine, InvalidHierarchy, OutOfMemory, Input, Output, Usage}
-use Rattle.pagetab_engine.specs.declared.reply.Reply.{Reply}
-use Rattle.pagetab_engine.specs.declared.reply.Reply.TheVariants.{Answered, Arrival, Word, Pool}
 
 -- 1 if it holds, otherwise 0
 abbrev pub bit : Bool → ℕ
@@ -113,10 +111,10 @@ abbrev pub pool_text : (frames : List ℕ) → List ℕ
 pool_text frames = codes "pool" ++ flat_map free_text frames
 
 abbrev pub reply_text : Reply → List ℕ
-reply_text (Answered answer) = call_text (reply_in answer)
+reply_text (Answered answer) = call_text answer
 reply_text (Arrival walked) = walked_text walked
 reply_text (Word word) = hexadecimal word
-reply_text (Pool frames) = pool_text frames.items
+reply_text (Pool frames) = pool_text frames
 
 -- each reply is a line
 abbrev pub reply_line : Reply → List ℕ

@@ -1,2 +1,1 @@
-pub mod AddressCommands
 pub mod RunParts

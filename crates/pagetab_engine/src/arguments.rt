@@ -5,9 +5,8 @@ ghost use Rattle.pagetab_engine.specs.Arguments.{IsPlaces, IsAddress, IsIndex, S
 ghost use Rattle.x86_64_mappings.specs.Numbers.{number_of};
 ghost use Rattle.pagetab_engine.specs.declared.arguments.Mode.TheVariants.{Recursive, Pair};
 
-use crate::request::Request;
-use x86_64::VirtAddr;
 use x86_64::structures::paging::PageTableIndex;
+use x86_64::{CallIn, LevelCount, LevelFiveFlags, VirtAddr};
 use x86_64_mappings::text::parse_number;
 
 /// The number of levels of page tables.
@@ -62,7 +61,8 @@ pub enum Mode {
 impl Mode {
     ghost use Rattle.std.specs.Prelude.{◌≡◌};
     ghost use Rattle.pagetab_engine.specs.Arguments.{levels_of};
-    ghost use Rattle.pagetab_engine.specs.Requests.{is_named};
+    ghost use Rattle.pagetab_engine.specs.Hierarchy.{is_index_named};
+    ghost use Rattle.x86_64.specs.Calls.{names};
 
     /// Returns the number of levels.
     pub fn levels(self) -> Levels
@@ -75,12 +75,12 @@ impl Mode {
     }
 
     /// Returns true if a call names the recursive index of a pair.
-    pub fn is_named(self, request: &Request) -> bool
-        ensures { result ≡ is_named self request.now }
+    pub fn is_named<L: LevelCount, P5: LevelFiveFlags<L>>(self, call: &CallIn<L, P5>) -> bool
+        ensures { result ≡ is_index_named self (names L.LEVELS P5.bits call.now) }
     {
         match self {
             Mode::Direct(_) | Mode::Offset(_) | Mode::Recursive(..) => false,
-            Mode::Pair(_, index) => request.names(index),
+            Mode::Pair(_, index) => call.names(index),
         }
     }
 }

@@ -1,14 +1,16 @@
 //! The run of the program.
-ghost use Rattle.std.specs.Prelude.{◌≡◌, ◌<◌, ℕ, List, length, map, string_bytes, IfOk, IfErr, OnOk, OnErr};
+ghost use Rattle.std.specs.Prelude.{◌≡◌, ◌<◌, ℕ, List, length, map, string_bytes, option_map, Some, IfOk, IfErr, OnOk, OnErr};
 ghost use Rattle.std.specs.Io.KnownBytes.{Appends};
+ghost use Rattle.pagetab_engine.specs.Arguments.{count, levels_of};
+ghost use Rattle.pagetab_engine.specs.Commands.{command_of};
 ghost use Rattle.pagetab_engine.specs.Hierarchy.{hierarchy_state, HasCopy, IsHierarchy, KeepsHierarchy, KeepsFree, ReachesAll};
 ghost use Rattle.pagetab_engine.specs.Lines.{ForSome, IsInput, MayBeLeft, TracesBack};
-ghost use Rattle.pagetab_engine.specs.Program.{AppendsFront, Runs};
+ghost use Rattle.pagetab_engine.specs.Program.{AppendsFront, Runs, levels_in};
 ghost use Rattle.pagetab_engine.specs.private.RunParts.{LoadsImage, Replies, RunsFrom, Served, StopsAt, StopsInImage, ending_of};
-ghost use Rattle.pagetab_engine.specs.Reply.{IsReply, IsToldByBoth, OnlyReads, back_of, state_after};
+ghost use Rattle.pagetab_engine.specs.Reply.{IsToldByBoth, OnlyReads, command_back, command_reply, command_state, reply_of};
 ghost use Rattle.pagetab_engine.specs.declared.ending.Fault.TheVariants.{Output};
 
-use crate::arguments::Arguments;
+use crate::arguments::{Arguments, Levels};
 use crate::ending::{Ending, Fault};
 use crate::hierarchy::Hierarchy;
 use crate::lines::Lines;
@@ -16,6 +18,8 @@ use crate::reply::Reply;
 use crate::statement::{Command, Statement};
 use std::alloc::{AllocError, Global};
 use std::io::{ErrorKind, Read, Write};
+use x86_64::structures::paging::PageTableFlags;
+use x86_64::{FiveLevels, FourLevels, LevelCount, LevelFiveFlags, NoLevelFive};
 
 /// Runs the program on its arguments. Reads an image and commands from `reader`, and writes a reply to each command.
 ///
@@ -67,52 +71,82 @@ fn serve<R: Read, W: Write>(
     if !hierarchy.is_reached() {
         return Err(Fault::Usage);
     }
-    serve_lines(alloc, &arguments, &mut hierarchy, reader, writer)
+    serve_levels(alloc, &arguments, &mut hierarchy, reader, writer)
 }
 
-/// Loads the image into a hierarchy, and executes the commands that follow.
-fn serve_lines<R: Read, W: Write>(
+/// The part of [`serve`] for an empty hierarchy of the arguments' mode: chooses the types for its number of levels.
+fn serve_levels<R: Read, W: Write>(
     alloc: Global,
     arguments: &Arguments,
     hierarchy: &mut Hierarchy,
     reader: &mut R,
     writer: &mut W,
 ) -> Result<(), Fault>
+    requires mode { hierarchy.old.mode ≡ arguments.now.mode }
     requires copy { HasCopy hierarchy.old }
     requires reached { ReachesAll hierarchy.old }
-    ensures { ForSome (IsInput (R.remaining reader.old)) (λ input. RunsFrom arguments.now hierarchy.old input
+    ensures { ForSome (IsInput (R.remaining reader.old)) (λ input.
+        RunsFrom (levels_in arguments.now) arguments.now.places hierarchy.old input
+        (W.contents writer.old) (W.contents writer.new) (ending_of result)) }
+{
+    let places = arguments.places;
+    match arguments.mode.levels() {
+        Levels::Four => {
+            serve_lines::<FourLevels, NoLevelFive, R, W>(alloc, places, hierarchy, reader, writer)
+        }
+        Levels::Five => {
+            serve_lines::<FiveLevels, PageTableFlags, R, W>(
+                alloc, places, hierarchy, reader, writer,
+            )
+        }
+    }
+}
+
+/// Loads the image into a hierarchy, which has this number of places, and executes the commands that follow.
+fn serve_lines<L: LevelCount, P5: LevelFiveFlags<L>, R: Read, W: Write>(
+    alloc: Global,
+    places: u64,
+    hierarchy: &mut Hierarchy,
+    reader: &mut R,
+    writer: &mut W,
+) -> Result<(), Fault>
+    requires levels { count (levels_of hierarchy.old.mode) ≡ L.LEVELS }
+    requires copy { HasCopy hierarchy.old }
+    requires reached { ReachesAll hierarchy.old }
+    ensures { ForSome (IsInput (R.remaining reader.old)) (λ input.
+        RunsFrom L.LEVELS places hierarchy.old input
         (W.contents writer.old) (W.contents writer.new) (ending_of result)) }
 {
     let mut lines = Lines::new(reader);
-    let first = read_image(&mut lines, hierarchy, arguments)?;
+    let first = read_image::<L, P5, R>(&mut lines, hierarchy, places)?;
     if !hierarchy.end_image(alloc)? {
         return Err(Fault::InvalidHierarchy);
     }
     match first {
-        Some(command) => {
-            answer_commands(alloc, &mut lines, hierarchy, arguments, command, writer)
-        }
+        Some(command) => answer_commands(alloc, &mut lines, hierarchy, places, command, writer),
         None => Ok(()),
     }
 }
 
 /// Loads the image, and returns the command that follows it, or `None` at the end of the input.
-fn read_image<R: Read>(
+fn read_image<L: LevelCount, P5: LevelFiveFlags<L>, R: Read>(
     lines: &mut Lines<'_, R>,
     hierarchy: &mut Hierarchy,
-    arguments: &Arguments,
-) -> Result<Option<Command>, Fault>
+    places: u64,
+) -> Result<Option<Command<L, P5>>, Fault>
     requires copy { HasCopy hierarchy.old }
     requires reached { ReachesAll hierarchy.old }
     ensures read { IfOk result (λ first.
         TracesBack (MayBeLeft R.remaining lines.old) (MayBeLeft R.remaining lines.new) (λ all behind.
-        LoadsImage arguments.now all hierarchy.old first behind hierarchy.new)) }
+        LoadsImage L.LEVELS places all hierarchy.old (option_map (command_of P5.bits) first) behind
+        hierarchy.new)) }
     ensures stopped { IfErr result (λ fault. ForSome (MayBeLeft R.remaining lines.old) (λ all.
-        StopsInImage arguments.now all hierarchy.old fault)) }
+        StopsInImage L.LEVELS places all hierarchy.old fault)) }
     ensures copy { HasCopy hierarchy.new }
     ensures reached { ReachesAll hierarchy.new }
+    ensures mode { hierarchy.new.mode ≡ hierarchy.old.mode }
 {
-    while let Some(statement) = lines.next_statement(arguments)? {
+    while let Some(statement) = lines.next_statement::<L, P5>(places)? {
         match statement {
             Statement::Image(line) => {
                 if hierarchy.load(&line).is_err() {
@@ -126,20 +160,22 @@ fn read_image<R: Read>(
 }
 
 /// Executes the first command and those that follow it.
-fn answer_commands<R: Read, W: Write>(
+fn answer_commands<L: LevelCount, P5: LevelFiveFlags<L>, R: Read, W: Write>(
     alloc: Global,
     lines: &mut Lines<'_, R>,
     hierarchy: &mut Hierarchy,
-    arguments: &Arguments,
-    first: Command,
+    places: u64,
+    first: Command<L, P5>,
     writer: &mut W,
 ) -> Result<(), Fault>
-    requires { IsHierarchy hierarchy.old }
-    ensures { ForSome (MayBeLeft R.remaining lines.old) (λ behind. Served arguments.now first behind
-        hierarchy.old (W.contents writer.old) (W.contents writer.new) (ending_of result)) }
+    requires fits { IsHierarchy hierarchy.old }
+    requires levels { count (levels_of hierarchy.old.mode) ≡ L.LEVELS }
+    ensures { ForSome (MayBeLeft R.remaining lines.old) (λ behind.
+        Served L.LEVELS places (command_of P5.bits first) behind hierarchy.old
+        (W.contents writer.old) (W.contents writer.new) (ending_of result)) }
 {
     write_reply(alloc, hierarchy, first, writer)?;
-    while let Some(statement) = lines.next_statement(arguments)? {
+    while let Some(statement) = lines.next_statement::<L, P5>(places)? {
         match statement {
             Statement::Command(command) => write_reply(alloc, hierarchy, command, writer)?,
             Statement::Image(_) => return Err(lines.fault()),
@@ -149,17 +185,18 @@ fn answer_commands<R: Read, W: Write>(
 }
 
 /// Executes a command, and writes the reply as a line.
-fn write_reply<W: Write>(
+fn write_reply<L: LevelCount, P5: LevelFiveFlags<L>, W: Write>(
     alloc: Global,
     hierarchy: &mut Hierarchy,
-    command: Command,
+    command: Command<L, P5>,
     writer: &mut W,
 ) -> Result<(), Fault>
-    requires { IsHierarchy hierarchy.old }
-    ensures answered { OnOk result (
-        Replies command hierarchy.old hierarchy.new (W.contents writer.old) (W.contents writer.new)) }
-    ensures stopped { IfErr result (
-        StopsAt command hierarchy.old hierarchy.new (W.contents writer.old) (W.contents writer.new)) }
+    requires fits { IsHierarchy hierarchy.old }
+    requires levels { count (levels_of hierarchy.old.mode) ≡ L.LEVELS }
+    ensures answered { OnOk result (Replies (command_of P5.bits command) hierarchy.old hierarchy.new
+        (W.contents writer.old) (W.contents writer.new)) }
+    ensures stopped { IfErr result (StopsAt (command_of P5.bits command) hierarchy.old hierarchy.new
+        (W.contents writer.old) (W.contents writer.new)) }
     ensures keeps { KeepsHierarchy hierarchy.old hierarchy.new }
 {
     let reply = answer(alloc, hierarchy, command)?;
@@ -201,18 +238,27 @@ fn write_line<W: Write>(line: &[u8], writer: &mut W) -> Result<(), Fault>
 /// # Errors
 ///
 /// `AllocError` if memory allocation fails. Then nothing changes.
-fn answer(alloc: Global, hierarchy: &mut Hierarchy, command: Command) -> Result<Reply, AllocError>
-    requires { IsHierarchy hierarchy.old }
-    ensures reply { IfOk result (IsReply hierarchy.old command) }
-    ensures state { OnOk result (hierarchy_state hierarchy.new ≡ state_after hierarchy.old command) }
-    ensures free { OnOk result (KeepsFree hierarchy.old (back_of hierarchy.old command) hierarchy.new) }
-    ensures both { IfOk result (λ reply. IsToldByBoth hierarchy.old command reply hierarchy.new) }
-    ensures reads { OnlyReads hierarchy.old command → hierarchy.new ≡ hierarchy.old }
+fn answer<L: LevelCount, P5: LevelFiveFlags<L>>(
+    alloc: Global,
+    hierarchy: &mut Hierarchy,
+    command: Command<L, P5>,
+) -> Result<Reply<L>, AllocError>
+    requires fits { IsHierarchy hierarchy.old }
+    requires levels { count (levels_of hierarchy.old.mode) ≡ L.LEVELS }
+    ensures reply { IfOk result (λ reply.
+        command_reply hierarchy.old (command_of P5.bits command) ≡ Some (reply_of reply)) }
+    ensures state { OnOk result (
+        hierarchy_state hierarchy.new ≡ command_state hierarchy.old (command_of P5.bits command)) }
+    ensures free { OnOk result (
+        KeepsFree hierarchy.old (command_back hierarchy.old (command_of P5.bits command)) hierarchy.new) }
+    ensures both { IfOk result (λ reply.
+        IsToldByBoth hierarchy.old (command_of P5.bits command) (reply_of reply) hierarchy.new) }
+    ensures reads { OnlyReads hierarchy.old (command_of P5.bits command) → hierarchy.new ≡ hierarchy.old }
     ensures unchanged { OnErr result (hierarchy.new ≡ hierarchy.old) }
     ensures keeps { KeepsHierarchy hierarchy.old hierarchy.new }
 {
     Ok(match command {
-        Command::Call(request) => Reply::Answered(hierarchy.answer_call(alloc, request)?),
+        Command::Call(call) => Reply::Answered(hierarchy.answer_call(alloc, call)?),
         Command::Walk(address) => Reply::Arrival(hierarchy.frames().walk(address)),
         Command::Show(slot) => Reply::Word(hierarchy.frames().word(slot)),
         Command::Pool => Reply::Pool(hierarchy.frames().free_frames(alloc)?),

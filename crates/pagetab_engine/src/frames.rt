@@ -3,22 +3,21 @@
 ghost use Rattle.std.specs.Prelude.{◌≡◌, ◌↔◌, [], ℕ, if◌then◌else◌, IsOk, IfOk, IfErr, OnOk, OnErr, IsTrue, Some, None, nat_lt, option_map};
 ghost use Rattle.std.specs.FinMap as map;
 ghost use Rattle.x86_64_model.specs.Memory.{words_of, identity_places};
+ghost use Rattle.x86_64_model.specs.PageWalk as model;
 ghost use Rattle.x86_64_tables.specs.PageTable.{zero_words};
 ghost use Rattle.x86_64_tables.specs.Walks.{walked_of};
 ghost use Rattle.pagetab_engine.specs.Arguments.{count};
 ghost use Rattle.pagetab_engine.specs.Frames.{direct_layout, recursive_layout, FitsBy, IsLoadable, IsRefusedFor, memory_after, free_after, without_self_entry};
-ghost use Rattle.pagetab_engine.specs.Requests.{walk_to};
 ghost use Rattle.pagetab_engine.specs.Slot.{word_in};
 
 use crate::arguments::Levels;
-use crate::request::Address;
 use crate::slot::Slot;
 use crate::statement::ImageLine;
 use std::alloc::{AllocError, Global};
 use x86_64::structures::paging::{PageTableIndex, PhysFrame, Size4KiB};
 use x86_64::{
-    FramePool, IdentityMapping, PhysAddr, PhysMemory, PoolRefusal, Walked, page_walk, pool_fits,
-    pool_fits_57, pool_fits_recursive, pool_fits_recursive_57,
+    FramePool, IdentityMapping, LevelCount, PhysAddr, PhysMemory, PoolRefusal, VirtAddrIn, Walked,
+    page_walk, pool_fits, pool_fits_57, pool_fits_recursive, pool_fits_recursive_57,
 };
 
 /// Page tables in a memory, and the frames that are free for new ones.
@@ -122,14 +121,11 @@ impl Frames {
     }
 
     /// Returns where the page walk of an address arrives, or `None` if the address isn't mapped.
-    pub fn walk(&self, address: Address) -> Option<Walked>
+    pub fn walk<L: LevelCount>(&self, address: VirtAddrIn<L>) -> Option<Walked>
         ensures { option_map walked_of result
-            ≡ walk_to (words_of self.now.memory identity_places) 0x1000 address }
+            ≡ model.page_walk L.LEVELS (words_of self.now.memory identity_places) 0x1000 address }
     {
-        match address {
-            Address::Four(addr) => page_walk(&self.memory, &IdentityMapping, root(), addr),
-            Address::Five(addr) => page_walk(&self.memory, &IdentityMapping, root(), addr),
-        }
+        page_walk(&self.memory, &IdentityMapping, root(), address)
     }
 
     /// Returns the free frames, in order.

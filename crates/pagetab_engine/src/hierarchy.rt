@@ -6,17 +6,16 @@ ghost use Rattle.x86_64.specs.Calls.{asks, names};
 ghost use Rattle.pagetab_engine.specs.Arguments.{count, levels_of};
 ghost use Rattle.pagetab_engine.specs.Calls.{IsAnswered};
 ghost use Rattle.pagetab_engine.specs.Frames.{IsLoadable, IsRefusedFor, memory_after, free_after};
-ghost use Rattle.pagetab_engine.specs.Hierarchy.{hierarchy_state, call_back, call_step, first_memory, layout_of, BothAnswer, FitsImage, HasCopy, ReachesAll, IsHierarchy, KeepsHierarchy, KeepsFree, TwinTells};
-ghost use Rattle.pagetab_engine.specs.Requests.{is_index_named, is_refused, reply_in};
+ghost use Rattle.pagetab_engine.specs.Hierarchy.{hierarchy_state, call_back, call_step, first_memory, is_index_named, is_refused, layout_of};
+ghost use Rattle.pagetab_engine.specs.Hierarchy.{BothAnswer, FitsImage, HasCopy, ReachesAll, IsHierarchy, KeepsHierarchy, KeepsFree, TwinTells};
 
 use crate::arguments::{Arguments, Levels, Mode};
 use crate::calls::{answer_at_offset, answer_by_both, answer_direct, answer_recursively};
 use crate::frames::Frames;
-use crate::request::{Answer, Request};
 use crate::statement::ImageLine;
 use std::alloc::{AllocError, Global};
 use x86_64::structures::paging::OffsetPageTable;
-use x86_64::{CallIn, LevelCount, LevelFiveFlags, PoolRefusal, ReplyIn, VirtAddrIn};
+use x86_64::{CallIn, LevelCount, LevelFiveFlags, MapperReply, PoolRefusal, ReplyIn, VirtAddrIn};
 
 /// The frames of a hierarchy, and the mapper that executes calls.
 ///
@@ -151,41 +150,41 @@ impl Hierarchy {
         }
     }
 
-    /// Runs the list of one call with the mapper of the mode, and returns the answer. A call for another number of
-    /// levels is not allowed. In a pair, a call that names the recursive index is not allowed either, even if it only
-    /// reads.
+    /// Runs the list of one call with the mapper of the mode, and returns the reply. In a pair, a call that names the
+    /// recursive index is not allowed, even if it only reads.
     ///
-    /// Requires that the hierarchy is valid, that its free frames fit it, and that the mapper reaches each place. In
-    /// a pair, both hierarchies must be valid and alike.
+    /// Requires that the hierarchy is valid, that its free frames fit it, that the mapper reaches each place, and that
+    /// the call is for its number of levels. In a pair, both hierarchies must be valid and alike.
     ///
     /// # Errors
     ///
     /// `AllocError` if memory allocation fails. Then nothing changes.
-    pub fn answer_call(&mut self, alloc: Global, request: Request) -> Result<Answer, AllocError>
-        requires { IsHierarchy self.old }
-        ensures answer { IfOk result (λ answer. Some (reply_in answer) ≡ (call_step self.old request).reply) }
-        ensures state { OnOk result (hierarchy_state self.new ≡ (call_step self.old request).state) }
-        ensures free { OnOk result (KeepsFree self.old (call_back self.old request) self.new) }
-        ensures both { IfOk result (λ answer.
-            BothAnswer self.old.mode request (reply_in answer) self.old.twin self.new.twin) }
-        ensures refused { is_refused self.old.mode request ≡ true → self.new ≡ self.old }
+    pub fn answer_call<L: LevelCount, P5: LevelFiveFlags<L>>(
+        &mut self,
+        alloc: Global,
+        call: CallIn<L, P5>,
+    ) -> Result<ReplyIn<L>, AllocError>
+        requires fits { IsHierarchy self.old }
+        requires levels { count (levels_of self.old.mode) ≡ L.LEVELS }
+        ensures reply { IfOk result (λ reply.
+            (call_step self.old (asks P5.bits call)).reply ≡ Some reply) }
+        ensures state { OnOk result (
+            hierarchy_state self.new ≡ (call_step self.old (asks P5.bits call)).state) }
+        ensures free { OnOk result (
+            KeepsFree self.old (call_back self.old (asks P5.bits call)) self.new) }
+        ensures both { IfOk result (λ reply.
+            BothAnswer self.old.mode (asks P5.bits call) reply self.old.twin self.new.twin) }
+        ensures refused { is_refused self.old.mode (asks P5.bits call) ≡ true → self.new ≡ self.old }
         ensures unchanged { OnErr result (self.new ≡ self.old) }
         ensures keeps { KeepsHierarchy self.old self.new }
     {
-        if self.mode.is_named(&request) {
-            return Ok(request.refusal());
+        if self.mode.is_named(&call) {
+            return Ok(MapperReply::NotAllowed);
         }
-        match (request, self.mode.levels()) {
-            (Request::Four(call), Levels::Four) => Ok(Answer::Four(self.answer(alloc, call)?)),
-            (Request::Five(call), Levels::Five) => Ok(Answer::Five(self.answer(alloc, call)?)),
-            (Request::Four(_), Levels::Five) | (Request::Five(_), Levels::Four) => {
-                Ok(request.refusal())
-            }
-        }
+        self.answer(alloc, call)
     }
 
-    /// Runs the list of one call, for the hierarchy's number of levels, with the mapper of the mode, and returns the
-    /// reply.
+    /// The part of [`answer_call`](Self::answer_call) for a call that a mapper executes.
     ///
     /// # Errors
     ///

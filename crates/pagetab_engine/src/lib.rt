@@ -12,6 +12,5 @@ pub mod laws;
 mod lines;
 mod page_call;
 mod reply;
-mod request;
 mod slot;
 mod statement;

@@ -1,15 +1,15 @@
 //! The lines of the input.
-ghost use Rattle.std.specs.Prelude.{◌≡◌, ◌≤◌, ◌<◌, IfOk, IfErr, IfSome, MatchBool};
+ghost use Rattle.std.specs.Prelude.{◌≡◌, ◌≤◌, ◌<◌, IfOk, IfErr, IfSome, MatchBool, option_map};
 ghost use Rattle.std.specs.Io.KnownBytes.{IsAtEnd, Keeps};
 ghost use Rattle.std.specs.List.{list_all};
 ghost use Rattle.pagetab_engine.specs.Fields.{is_space};
-ghost use Rattle.pagetab_engine.specs.Statements.{IsAccepted};
+ghost use Rattle.pagetab_engine.specs.Commands.{statement_of};
 ghost use Rattle.pagetab_engine.specs.declared.ending.Fault.TheVariants.{BadLine};
 
-use crate::arguments::Arguments;
 use crate::ending::Fault;
 use crate::statement::Statement;
 use std::io::{self, Read};
+use x86_64::{LevelCount, LevelFiveFlags};
 
 /// The maximum number of bytes of a line, without its line feed.
 const LONGEST: usize = 256;
@@ -60,22 +60,24 @@ impl<'a, R: Read> Lines<'a, R> {
 impl<R: Read> Lines<'_, R> {
     ghost use Rattle.pagetab_engine.specs.Lines.{bytes_left, ExplainsRead, FitsLine, ForSome, IsCounted, IsInput, IsReadFault, MayBeLeft, ReadsLine, ReadsStatement, TakesByte, TracesBack};
 
-    /// Returns the next statement, or `None` at the end of the input. The arguments say which memory and levels it is
-    /// about. Empty lines are skipped.
+    /// Returns the next statement, for a memory with this number of places, or `None` at the end of the input. Empty
+    /// lines are skipped.
     ///
     /// # Errors
     ///
     /// `Fault::BadLine` if the line can't be parsed. `Fault::Input` if the reader fails, or has more lines than a
     /// `u64` can count.
-    pub fn next_statement(&mut self, arguments: &Arguments) -> Result<Option<Statement>, Fault>
+    pub fn next_statement<L: LevelCount, P5: LevelFiveFlags<L>>(
+        &mut self,
+        places: u64,
+    ) -> Result<Option<Statement<L, P5>>, Fault>
         ensures next { IfOk result (λ next.
             TracesBack (MayBeLeft R.remaining self.old) (MayBeLeft R.remaining self.new) (λ lines rest.
-            ReadsStatement arguments.now lines self.new.number rest next)) }
-        ensures accepted { IfOk result (λ next.
-            IfSome next (λ statement. IsAccepted arguments.now statement)) }
+            ReadsStatement L.LEVELS places lines self.new.number rest
+            (option_map (statement_of P5.bits) next))) }
         ensures counted { IfOk result (λ next. IfSome next (λ _. IsCounted self.old.number self.new.number)) }
         ensures why { IfErr result (λ fault. ForSome (MayBeLeft R.remaining self.old) (λ lines.
-            ExplainsRead arguments.now lines fault)) }
+            ExplainsRead L.LEVELS places lines fault)) }
         ensures fault { IfErr result (IsReadFault self.new.number) }
     {
         let mut line = [0; LONGEST];
@@ -89,7 +91,7 @@ impl<R: Read> Lines<'_, R> {
             if is_blank(text) {
                 continue;
             }
-            return match Statement::parse(text, arguments) {
+            return match Statement::parse(text, places) {
                 Some(statement) => Ok(Some(statement)),
                 None => Err(self.fault()),
             };

@@ -1,9 +1,8 @@
 //! Calls on pages, as lines write them.
-ghost use Rattle.std.specs.Prelude.{◌≡◌, ◌↔◌, Some, IsSome, IfSome};
-ghost use Rattle.x86_64_addr.specs.Position.{raw};
-ghost use Rattle.x86_64.specs.Calls.{size_asks};
-ghost use Rattle.pagetab_engine.specs.Starts.{IsPageStart, IsFrameStart};
-ghost use Rattle.pagetab_engine.specs.PageCalls.{IsPageCall, bytes_of, call_written, written_by, page_call_name, page_call_numbers};
+ghost use Rattle.std.specs.Prelude.{◌≡◌, ◌↔◌, [], ◌∷◌, Some, IsSome, IfSome};
+ghost use Rattle.x86_64.specs.Calls.{asks, size_asks};
+ghost use Rattle.pagetab_engine.specs.Starts.{IsPageStart, IsFrameStart, position_at};
+ghost use Rattle.pagetab_engine.specs.PageCalls.{IsPageCall, bytes_of, call_by, page_call_by};
 
 use crate::fields::{Name, Size};
 use bitflags::Flags;
@@ -19,8 +18,8 @@ pub fn parse_call<L: LevelCount, P5: LevelFiveFlags<L>>(
     numbers: &[u64],
 ) -> Option<CallIn<L, P5>>
     ensures accepted { IsSome result ↔ IsPageCall L.LEVELS (bytes_of size) name numbers.now }
-    ensures written { IfSome result (λ call.
-        call_written L.LEVELS P5.bits call ≡ written_by name (Some size) numbers.now) }
+    ensures writes { IfSome result (λ call.
+        call_by L.LEVELS size name numbers.now ≡ Some (asks P5.bits call)) }
 {
     Some(match size {
         Size::Size4KiB => CallIn::Of4KiB(parse_size_call(name, numbers)?),
@@ -35,10 +34,11 @@ fn parse_size_call<S: PageSize, L: LevelCount, P5: LevelFiveFlags<L>>(
     numbers: &[u64],
 ) -> Option<SizeCallIn<S, L, P5>>
     ensures accepted { IsSome result ↔ IsPageCall L.LEVELS S.SIZE name numbers.now }
-    ensures written { IfSome result (λ call. (page_call_name (size_asks P5.bits call) ≡ name)
-        × (page_call_numbers L.LEVELS (size_asks P5.bits call) ≡ numbers.now)) }
+    ensures writes { IfSome result (λ call.
+        page_call_by L.LEVELS name numbers.now ≡ Some (size_asks P5.bits call)) }
 {
     match (name, numbers) {
+        (_, [start, flags]) => parse_flags_call(name, *start, *flags),
         (Name::Map, [page, frame, flags]) => Some(SizeCallIn::MapTo {
             page: page_at(*page)?,
             frame: frame_at(*frame)?,
@@ -52,47 +52,61 @@ fn parse_size_call<S: PageSize, L: LevelCount, P5: LevelFiveFlags<L>>(
                 parent_flags: PageTableFlags::from_bits_retain(*parent_flags),
             })
         }
-        (Name::Identity, [frame, flags]) => Some(SizeCallIn::IdentityMap {
-            frame: frame_at(*frame)?,
-            flags: PageTableFlags::from_bits_retain(*flags),
-        }),
         (Name::Unmap, [page]) => Some(SizeCallIn::Unmap {
             page: page_at(*page)?,
-        }),
-        (Name::Update, [page, flags]) => Some(SizeCallIn::UpdateFlags {
-            page: page_at(*page)?,
-            flags: PageTableFlags::from_bits_retain(*flags),
-        }),
-        (Name::P5, [page, flags]) => Some(SizeCallIn::SetFlagsP5 {
-            flags: P5::from_page_table_flags(PageTableFlags::from_bits_retain(*flags))?,
-            page: page_at(*page)?,
-        }),
-        (Name::P4, [page, flags]) => Some(SizeCallIn::SetFlagsP4 {
-            page: page_at(*page)?,
-            flags: PageTableFlags::from_bits_retain(*flags),
-        }),
-        (Name::P3, [page, flags]) => Some(SizeCallIn::SetFlagsP3 {
-            page: page_at(*page)?,
-            flags: PageTableFlags::from_bits_retain(*flags),
-        }),
-        (Name::P2, [page, flags]) => Some(SizeCallIn::SetFlagsP2 {
-            page: page_at(*page)?,
-            flags: PageTableFlags::from_bits_retain(*flags),
         }),
         (Name::TranslatePage, [page]) => Some(SizeCallIn::TranslatePage {
             page: page_at(*page)?,
         }),
-        (Name::Word | Name::Free | Name::Translate | Name::Addr | Name::Walk, _)
-        | (Name::Show | Name::Pool | Name::CleanUp | Name::CleanUpRange, _) => None,
         _ => None,
     }
+}
+
+/// The part of [`parse_size_call`] for a start address, of a page or of a frame, and flags.
+fn parse_flags_call<S: PageSize, L: LevelCount, P5: LevelFiveFlags<L>>(
+    name: Name,
+    start: u64,
+    flags: u64,
+) -> Option<SizeCallIn<S, L, P5>>
+    ensures accepted { IsSome result ↔ IsPageCall L.LEVELS S.SIZE name (start ∷ flags ∷ []) }
+    ensures writes { IfSome result (λ call.
+        page_call_by L.LEVELS name (start ∷ flags ∷ []) ≡ Some (size_asks P5.bits call)) }
+{
+    let flags = PageTableFlags::from_bits_retain(flags);
+    Some(match name {
+        Name::Identity => SizeCallIn::IdentityMap {
+            frame: frame_at(start)?,
+            flags,
+        },
+        Name::Update => SizeCallIn::UpdateFlags {
+            page: page_at(start)?,
+            flags,
+        },
+        Name::P5 => SizeCallIn::SetFlagsP5 {
+            flags: P5::from_page_table_flags(flags)?,
+            page: page_at(start)?,
+        },
+        Name::P4 => SizeCallIn::SetFlagsP4 {
+            page: page_at(start)?,
+            flags,
+        },
+        Name::P3 => SizeCallIn::SetFlagsP3 {
+            page: page_at(start)?,
+            flags,
+        },
+        Name::P2 => SizeCallIn::SetFlagsP2 {
+            page: page_at(start)?,
+            flags,
+        },
+        _ => return None,
+    })
 }
 
 /// Returns the page that starts at an address, or `None` if the address isn't canonical or isn't a multiple of the
 /// size.
 pub fn page_at<S: PageSize, L: LevelCount>(start: u64) -> Option<PageIn<S, L>>
     ensures fits { IsSome result ↔ IsPageStart L.LEVELS S.SIZE start }
-    ensures start { IfSome result (λ page. raw L.LEVELS page ≡ start) }
+    ensures start { IfSome result (λ page. page ≡ position_at L.LEVELS start) }
 {
     let address = VirtAddrIn::checked_new(start)?;
     PageIn::from_start_address(address).ok()

@@ -2,16 +2,17 @@
 ghost use Rattle.std.specs.Prelude.{◌≡◌, Some};
 ghost use Rattle.std.specs.Fmt.{WritesOnOk};
 ghost use Rattle.x86_64_mappings.specs.Numbers.{hexadecimal};
+ghost use Rattle.x86_64_tables.specs.Walks.{walked_of};
+ghost use Rattle.pagetab_engine.specs.Reply.{reply_of};
 ghost use Rattle.pagetab_engine.specs.Texts as texts;
 
-use crate::request::Answer;
 use bitflags::Flags;
 use std::fmt::{Display, Formatter, Result as FmtResult, Write};
 use x86_64::structures::paging::mapper::{
     FlagUpdateError, MapToError, MappedFrame, TranslateError, TranslateResult, UnmapError,
 };
-use x86_64::structures::paging::{PageSize, PhysFrame, Size1GiB, Size2MiB, Size4KiB};
-use x86_64::{MapperReply, PageReply, PhysAddr, Walked};
+use x86_64::structures::paging::{PageSize, PhysFrame, Size4KiB};
+use x86_64::{LevelCount, MapperReply, PageReply, PhysAddr, ReplyIn, Walked};
 use x86_64_mappings::text::write_hexadecimal;
 
 /// The reply to a call on a page that is not mapped.
@@ -22,9 +23,9 @@ const PARENT_ENTRY_HUGE_PAGE: &str = "parent entry huge page";
 
 /// The reply to a command.
 #[derive(Drop)]
-pub enum Reply {
+pub enum Reply<L: LevelCount> {
     /// The mapper's answer to a call.
-    Answered(Answer),
+    Answered(ReplyIn<L>),
     /// Where the page walk arrives, or `None` if the address isn't mapped.
     Arrival(Option<Walked>),
     /// A word.
@@ -33,13 +34,12 @@ pub enum Reply {
     Pool(Vec<PhysFrame<Size4KiB>>),
 }
 
-impl Display for Reply {
-    ghost output = { λ reply. Some (texts.reply_text reply) };
+impl<L: LevelCount> Display for Reply<L> {
+    ghost output = { λ reply. Some (texts.reply_text (reply_of reply)) };
 
     fn fmt<W: Write>(&self, f: &mut Formatter<W>) -> FmtResult {
         match self {
-            Reply::Answered(Answer::Four(reply)) => write_answer(f, reply),
-            Reply::Answered(Answer::Five(reply)) => write_answer(f, reply),
+            Reply::Answered(reply) => write_answer(f, reply),
             Reply::Arrival(None) => f.write_str("none"),
             Reply::Arrival(Some(walked)) => write_walked(f, *walked),
             Reply::Word(word) => write_hexadecimal(f, *word),
@@ -50,7 +50,7 @@ impl Display for Reply {
 
 /// Writes where a page walk arrives.
 fn write_walked<W: Write>(f: &mut Formatter<W>, walked: Walked) -> FmtResult
-    ensures { WritesOnOk W.write_str_gives f.old result (texts.walked_text (Some walked)) f.new }
+    ensures { WritesOnOk W.write_str_gives f.old result (texts.walked_text (Some (walked_of walked))) f.new }
 {
     let address = walked.address.as_u64();
     let write = u8::from(walked.write);
@@ -70,15 +70,8 @@ fn write_pool<W: Write>(f: &mut Formatter<W>, frames: &[PhysFrame<Size4KiB>]) ->
     Ok(())
 }
 
-/// The reply to a call, for any type of pages.
-type AnyReply<P, Q, R> = MapperReply<
-    PageReply<P, Size4KiB>,
-    PageReply<Q, Size2MiB>,
-    PageReply<R, Size1GiB>,
->;
-
 /// Writes the reply to a call.
-fn write_answer<P, Q, R, W: Write>(f: &mut Formatter<W>, answer: &AnyReply<P, Q, R>) -> FmtResult
+fn write_answer<L: LevelCount, W: Write>(f: &mut Formatter<W>, answer: &ReplyIn<L>) -> FmtResult
     ensures { WritesOnOk W.write_str_gives f.old result (texts.call_text answer.now) f.new }
 {
     match answer {

@@ -1,6 +1,6 @@
 //! Words in memory.
-ghost use Rattle.std.specs.Prelude.{◌≡◌, ◌<◌, ◌*◌, ◌/◌, ◌↔◌, IsSome, IfSome};
-ghost use Rattle.pagetab_engine.specs.Slot.{word_in, stored};
+ghost use Rattle.std.specs.Prelude.{◌≡◌, ◌<◌, ◌/◌, ◌↔◌, IsSome, IfSome};
+ghost use Rattle.pagetab_engine.specs.Slot.{slot_at, word_in, stored};
 ghost use Rattle.pagetab_engine.specs.Starts.{IsTableStart};
 
 use x86_64::structures::paging::page_table::PageTableIndex;
@@ -81,8 +81,7 @@ pub fn frame_at(start: u64, places: u64) -> Option<PhysFrame<Size4KiB>>
 /// Returns `None` if and only if [`frame_at`] does, or `index` isn't below 512.
 pub fn slot_at(start: u64, index: u64, places: u64) -> Option<Slot>
     ensures fits { IsSome result ↔ (IsTableStart places start × (index < 512)) }
-    ensures start { IfSome result (λ slot. slot.place * 4096 ≡ start) }
-    ensures index { IfSome result (λ slot. slot.index ≡ index) }
+    ensures slot { IfSome result (λ slot. slot ≡ slot_at start index) }
 {
     Slot::new(frame_at(start, places)?, index)
 }

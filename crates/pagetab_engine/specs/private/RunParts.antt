@@ -1,39 +1,38 @@
 -- The parts of a run, for the contracts of the engine's functions.
 use Rattle.std.specs.Prelude.{◌≡◌, ℕ, ⊤, List, [], ◌∷◌, ◌++◌, flat_map, Option, Some, None, Result, Ok, Err}
 use Rattle.std.specs.Io.KnownBytes.{Appends}
+use Rattle.pagetab_engine.specs.Commands.{Command}
 use Rattle.pagetab_engine.specs.Lines.{Numbered, numbered_from, lines_of}
+use Rattle.pagetab_engine.specs.Reply.{Reply}
 use Rattle.pagetab_engine.specs.Texts.{reply_line}
-use Rattle.pagetab_engine.specs.declared.arguments.Arguments.{Arguments}
 use Rattle.pagetab_engine.specs.declared.ending.Ending.{Ending}
 use Rattle.pagetab_engine.specs.declared.ending.Ending.TheVariants.{Done, Stopped}
 use Rattle.pagetab_engine.specs.declared.ending.Fault.{Fault}
 use Rattle.pagetab_engine.specs.declared.ending.Fault.TheVariants.{BadLine, OutOfMemory, Input, Output}
 use Rattle.pagetab_engine.specs.declared.hierarchy.Hierarchy.{Hierarchy}
-use Rattle.pagetab_engine.specs.declared.reply.Reply.{Reply}
-use Rattle.pagetab_engine.specs.declared.statement.Command.{Command}
 use Rattle.pagetab_engine.specs.Program.{SaysCommand, Answers, Serves, Reads, AppendsFront, IsWritten}
 
 -- the input is read into this hierarchy, and the replies are written
-abbrev pub RunsFrom : (arguments : Arguments) → Hierarchy → (input : List ℕ) → (before after : Option (List ℕ)) → Ending → Type 0
-RunsFrom arguments hierarchy input before after ending =
-    (replies : List Reply) × Reads arguments (numbered_from 1 (lines_of input)) hierarchy ending replies × IsWritten before after ending replies
+abbrev pub RunsFrom : (levels places : ℕ) → Hierarchy → (input : List ℕ) → (before after : Option (List ℕ)) → Ending → Type 0
+RunsFrom levels places hierarchy input before after ending =
+    (replies : List Reply) × Reads levels places (numbered_from 1 (lines_of input)) hierarchy ending replies × IsWritten before after ending replies
 
 abbrev pub ending_of : Result (Unit {0}) Fault → Ending
 ending_of (Ok done) = Done
 ending_of (Err fault) = Stopped fault
 
 -- any continuation of a run from the later lines and hierarchy is one from the earlier ones
-abbrev pub Follows : (arguments : Arguments) (lines : List Numbered) (before : Hierarchy) (left : List Numbered) (after : Hierarchy) → Type 0
-Follows arguments lines before left after = (ending : Ending) (replies : List Reply) → Reads arguments left after ending replies → Reads arguments lines before ending replies
+abbrev pub Follows : (levels places : ℕ) (lines : List Numbered) (before : Hierarchy) (left : List Numbered) (after : Hierarchy) → Type 0
+Follows levels places lines before left after = (ending : Ending) (replies : List Reply) → Reads levels places left after ending replies → Reads levels places lines before ending replies
 
 -- the lines left after an image: the line of the first command and those after it, or none
-abbrev pub IsLeft : (arguments : Arguments) → (first : Option Command) → (behind left : List Numbered) → Type 0
-IsLeft arguments None behind left = left ≡ []
-IsLeft arguments (Some command) behind left = (line : Numbered) × SaysCommand arguments line command × (left ≡ line ∷ behind)
+abbrev pub IsLeft : (levels places : ℕ) → (first : Option Command) → (behind left : List Numbered) → Type 0
+IsLeft levels places None behind left = left ≡ []
+IsLeft levels places (Some command) behind left = (line : Numbered) × SaysCommand levels places line command × (left ≡ line ∷ behind)
 
 -- the lines begin with an image, which was loaded
-abbrev pub LoadsImage : (arguments : Arguments) → (lines : List Numbered) → (before : Hierarchy) → (first : Option Command) → (behind : List Numbered) → (after : Hierarchy) → Type 0
-LoadsImage arguments lines before first behind after = (left : List Numbered) × IsLeft arguments first behind left × Follows arguments lines before left after
+abbrev pub LoadsImage : (levels places : ℕ) → (lines : List Numbered) → (before : Hierarchy) → (first : Option Command) → (behind : List Numbered) → (after : Hierarchy) → Type 0
+LoadsImage levels places lines before first behind after = (left : List Numbered) × IsLeft levels places first behind left × Follows levels places lines before left after
 
 -- a line was bad, or a read failed
 abbrev pub IsUnread : Fault → Type 0
@@ -42,8 +41,8 @@ IsUnread Input = ⊤
 IsUnread fault = ⊥
 
 -- the image ends at a bad line, or at a read that failed
-abbrev pub StopsInImage : (arguments : Arguments) (lines : List Numbered) → Hierarchy → Fault → Type 0
-StopsInImage arguments lines before fault = IsUnread fault × Reads arguments lines before (Stopped fault) []
+abbrev pub StopsInImage : (levels places : ℕ) (lines : List Numbered) → Hierarchy → Fault → Type 0
+StopsInImage levels places lines before fault = IsUnread fault × Reads levels places lines before (Stopped fault) []
 
 -- a command was executed, and the reply written
 abbrev pub Replies : Command → (before after : Hierarchy) → (old new : Option (List ℕ)) → Type 0
@@ -61,12 +60,12 @@ StopsAt command before after old new Output = IsUnwritten command before after o
 StopsAt command before after old new fault = ⊥
 
 -- if a line is the first command, that command and the lines after it were served
-abbrev pub Served : (arguments : Arguments) → (first : Command) → (behind : List Numbered) → Hierarchy → (old new : Option (List ℕ)) → Ending → Type 0
-Served arguments first behind before old new ending = (line : Numbered) → SaysCommand arguments line first
-    → (replies : List Reply) × Serves arguments (line ∷ behind) before ending replies × IsWritten old new ending replies
+abbrev pub Served : (levels places : ℕ) → (first : Command) → (behind : List Numbered) → Hierarchy → (old new : Option (List ℕ)) → Ending → Type 0
+Served levels places first behind before old new ending = (line : Numbered) → SaysCommand levels places line first
+    → (replies : List Reply) × Serves levels places (line ∷ behind) before ending replies × IsWritten old new ending replies
 
 -- if a line is the first command, that command and the lines up to those left were served
-abbrev pub ServedUntil : (arguments : Arguments) → (first : Command) → (behind : List Numbered) → (before : Hierarchy) → (old new : Option (List ℕ)) → (left : List Numbered) → (after : Hierarchy) → Type 0
-ServedUntil arguments first behind before old new left after = (line : Numbered) → SaysCommand arguments line first
+abbrev pub ServedUntil : (levels places : ℕ) → (first : Command) → (behind : List Numbered) → (before : Hierarchy) → (old new : Option (List ℕ)) → (left : List Numbered) → (after : Hierarchy) → Type 0
+ServedUntil levels places first behind before old new left after = (line : Numbered) → SaysCommand levels places line first
     → (replies : List Reply) × Appends old new (flat_map reply_line replies)
-    × ((ending : Ending) (more : List Reply) → Serves arguments left after ending more → Serves arguments (line ∷ behind) before ending (replies ++ more))
+    × ((ending : Ending) (more : List Reply) → Serves levels places left after ending more → Serves levels places (line ∷ behind) before ending (replies ++ more))

@@ -1,4 +1,6 @@
-use Rattle.std.proofs.Common.{◌^◌, ◌-◌}
+use Rattle.std.proofs.Common.{◌≡◌, ◌^◌, ◌-◌}
+use Rattle.pagetab_engine.specs.Arguments.{count, levels_of}
+use Rattle.pagetab_engine.specs.Commands.{command_of}
 use Rattle.pagetab_engine.specs.Hierarchy.{IsHierarchy}
 use Rattle.pagetab_engine.specs.Lines.{MayBeLeft, TracesBack}
 use Rattle.pagetab_engine.specs.private.RunParts.{ServedUntil}
@@ -10,8 +12,9 @@ invariant-loop-statement g l =
     let contents = g.W.Write.contents in
     record {
       fits : IsHierarchy l.hierarchy;
+      levels : count (levels_of l.hierarchy.mode) ≡ g.L.LevelCount.LEVELS;
       served : TracesBack (may l.fn.lines) (may l.lines)
-          (λ behind left. ServedUntil l.arguments l.fn.first behind l.fn.hierarchy (contents l.fn.writer) (contents l.writer) left l.hierarchy);
+          (λ behind left. ServedUntil g.L.LevelCount.LEVELS l.places (command_of g.P5.LevelFiveFlags.bits l.fn.first) behind l.fn.hierarchy (contents l.fn.writer) (contents l.writer) left l.hierarchy);
     }
 
 abbrev pub decreases-loop-statement : goal.decreases-loop-statement

@@ -1,4 +1,4 @@
-use Rattle.std.proofs.Common.{◌^◌, ◌-◌}
+use Rattle.std.proofs.Common.{◌≡◌, ◌^◌, ◌-◌}
 use Rattle.pagetab_engine.specs.Hierarchy.{HasCopy, IsReached}
 use Rattle.pagetab_engine.specs.Lines.{MayBeLeft, TracesBack}
 use Rattle.pagetab_engine.specs.private.RunParts.{Follows}
@@ -10,7 +10,8 @@ invariant-loop-statement g l =
     record {
       copy : HasCopy l.hierarchy;
       reached : IsReached l.hierarchy.mode l.hierarchy.frames.memory;
-      follows : TracesBack (may l.fn.lines) (may l.lines) (λ all left. Follows l.arguments all l.fn.hierarchy left l.hierarchy);
+      mode : l.hierarchy.mode ≡ l.fn.hierarchy.mode;
+      follows : TracesBack (may l.fn.lines) (may l.lines) (λ all left. Follows g.L.LevelCount.LEVELS l.places all l.fn.hierarchy left l.hierarchy);
     }
 
 abbrev pub decreases-loop-statement : goal.decreases-loop-statement

@@ -39,4 +39,4 @@ returns g c =
     let is_empty : IsEmpty arguments empty = search rules in
     let reached : IsReached empty.mode empty.frames.memory = search rules in
     goes_on words (g.R.Read.remaining c.args.reader.now) (g.W.Write.contents c.args.writer.now) arguments says empty is_empty reached
-    (ending_of c.serve_lines.result) _ c.serve_lines.ensures
+    (ending_of c.serve_levels.result) _ c.serve_levels.ensures

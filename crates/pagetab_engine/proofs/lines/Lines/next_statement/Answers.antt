@@ -1,4 +1,5 @@
 use Rattle.std.proofs.Common.{rules, ◌≡◌, ◌≤◌, ◌∙◌, suc, true, false, length, take, arith, Ok, Err, length-take}
+use Rattle.pagetab_engine.specs.Commands.{statement_of}
 use Rattle.pagetab_engine.specs.Lines.{bytes_left, is_blank}
 use Rattle.pagetab_engine.specs.declared.ending.Fault.TheVariants.{Input}
 use Rattle.pagetab_engine.specs.declared.lines.Line.TheVariants.{End, Text, TooLong}
@@ -30,7 +31,7 @@ pub returns-in-TooLong-clause-why : goal.returns-in-TooLong-clause-why
 returns-in-TooLong-clause-why g c =
     let read : c.next_line.result ≡ Ok TooLong = search rules in
     let counted : c.next_line.new.self.number ≡ suc c.loop-number.self.number = omega (arith, c.in-Some.ensures) in
-    rw c.fault.ensures (begins_behind _ _ _ c.loop-number.invariant.blank (long_taken c.args.arguments.now c.loop-number.self.number _ _ _ counted (rw read at c.next_line.ensures.line)))
+    rw c.fault.ensures (begins_behind _ _ _ c.loop-number.invariant.blank (long_taken g.L.LevelCount.LEVELS c.args.places c.loop-number.self.number _ _ _ counted (rw read at c.next_line.ensures.line)))
 
 pub returns-in-Some-parse-clause-next : goal.returns-in-Some-parse-clause-next
 returns-in-Some-parse-clause-next g c =
@@ -40,8 +41,8 @@ returns-in-Some-parse-clause-next g c =
     let fits : length (take c.in-Text.length c.next_line.new.line) ≤ 256 = omega (arith, length-take c.in-Text.length c.next_line.new.line) in
     let some : is_blank (take c.in-Text.length c.next_line.new.line) ≡ false = blank_line _ _ fits c.is_blank.ensures ∙ c.if-is_blank.false in
     let says = c.in-Some-parse.ensures in
-    behind_blank _ _ _ _ c.loop-number.invariant.blank (statement_taken c.args.arguments.now c.loop-number.self.number _ _ _ _ c.in-Some-parse.statement counted some
-    (rw read at c.next_line.ensures.line) (fits, says.says, says.accepted))
+    behind_blank _ _ _ _ c.loop-number.invariant.blank (statement_taken g.L.LevelCount.LEVELS c.args.places c.loop-number.self.number _ _ _ _ (statement_of g.P5.LevelFiveFlags.bits c.in-Some-parse.statement) counted some
+    (rw read at c.next_line.ensures.line) (fits, says.says))
 
 pub returns-in-None-clause-why : goal.returns-in-None-clause-why
 returns-in-None-clause-why g c =
@@ -50,7 +51,7 @@ returns-in-None-clause-why g c =
     let short = rw read at c.next_line.ensures.fits in
     let fits : length (take c.in-Text.length c.next_line.new.line) ≤ 256 = omega (arith, length-take c.in-Text.length c.next_line.new.line) in
     let some : is_blank (take c.in-Text.length c.next_line.new.line) ≡ false = blank_line _ _ fits c.is_blank.ensures ∙ c.if-is_blank.false in
-    rw c.fault-in-None.ensures (begins_behind _ _ _ c.loop-number.invariant.blank (bad_taken c.args.arguments.now c.loop-number.self.number _ _ _ _ counted some
+    rw c.fault-in-None.ensures (begins_behind _ _ _ c.loop-number.invariant.blank (bad_taken g.L.LevelCount.LEVELS c.args.places c.loop-number.self.number _ _ _ _ counted some
     (rw read at c.next_line.ensures.line) (λ _. c.in-None.ensures.none)))
 
 pub returns-in_err-map_err-clause-why : goal.returns-in_err-map_err-clause-why

@@ -1,0 +1,37 @@
+-- Commands and statements as numbers, for any number of levels.
+use Rattle.std.specs.Prelude.{ℕ}
+use Rattle.x86_64.specs.Asked.{MapperCall}
+use Rattle.x86_64.specs.Calls.{asks}
+use Rattle.pagetab_engine.specs.declared.slot.Slot.{Slot}
+use Rattle.pagetab_engine.specs.declared.statement.Command as rust
+use Rattle.pagetab_engine.specs.declared.statement.Command.TheVariants as command
+use Rattle.pagetab_engine.specs.declared.statement.ImageLine.{ImageLine}
+use Rattle.pagetab_engine.specs.declared.statement.Statement as lines
+use Rattle.pagetab_engine.specs.declared.statement.Statement.TheVariants as statement
+
+-- a call on the hierarchy, or a question about it
+pub data Command : Type 0 where
+  Call : MapperCall → Command
+  -- where the page walk of a position (the number of an address counted without the gap) arrives
+  Walk : (position : ℕ) → Command
+  -- the word in a slot
+  Show : Slot → Command
+  -- the free frames
+  Pool : Command
+
+-- a line of an image, or a command
+pub data Statement : Type 0 where
+  Image : ImageLine → Statement
+  Asks : Command → Statement
+
+-- ---- those of the program; bits are those of the flags of level five
+
+abbrev pub command_of : {L P5 : Type 0} → (bits : P5 → ℕ) → rust.Command L P5 → Command
+command_of bits (command.Call call) = Call (asks bits call)
+command_of bits (command.Walk addr) = Walk addr
+command_of bits (command.Show slot) = Show slot
+command_of bits command.Pool = Pool
+
+abbrev pub statement_of : {L P5 : Type 0} → (bits : P5 → ℕ) → lines.Statement L P5 → Statement
+statement_of bits (statement.Image line) = Image line
+statement_of bits (statement.Command asked) = Asks (command_of bits asked)
