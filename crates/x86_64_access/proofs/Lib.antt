@@ -1,1 +1,2 @@
 mod Walked
+mod Agreement

@@ -1,11 +1,12 @@
 -- Accesses: what a processor does with a read, a write or an instruction fetch at an address, over any words.
 -- Intel SDM vol. 3A, "Access Rights", "Page-Fault Exceptions"; AMD APM vol. 2, "Page-Protection Checks", "Page-Fault Exception".
 -- Left out are protection keys, shadow stacks, and the accesses that a processor makes as a supervisor by itself.
-use Rattle.std.specs.Prelude.{zero, suc, ℕ, ◌+◌, ◌*◌, ◌^◌, ◌%◌, ◌==◌, ◌&&◌, ◌||◌, nat_le, Bool, true, false, not, cond, List, [], ◌∷◌, map, Option, Some, None, option_map, unwrap_or, bit_and}
+use Rattle.std.specs.Prelude.{zero, suc, ℕ, ◌+◌, ◌*◌, ◌^◌, ◌%◌, ◌==◌, ◌&&◌, ◌||◌, nat_le, Bool, true, false, not, cond, List, [], ◌∷◌, map, Option, Some, None, option_map, unwrap_or, bit_and, bit_or, get_or, slice_set}
+use Rattle.std.specs.FinMap.{get, insert}
 use Rattle.std.specs.List.{last_or}
 use Rattle.x86_64_model.specs.Position.{span, index}
 use Rattle.x86_64_model.specs.Entry.{present, huge, no_execute, address}
-use Rattle.x86_64_model.specs.Memory.{Words}
+use Rattle.x86_64_model.specs.Memory.{Memory, Places, Words}
 use Rattle.x86_64_model.specs.Mappings.{Rights, maps_page, rights_of}
 use Rattle.x86_64_model.specs.PageWalk.{read, page_start}
 
@@ -42,9 +43,11 @@ unfoldable pub reserved : Controls → (level word : ℕ) → Bool
 reserved c level e = nat_le (2 ^ c.physical_bits) (address e) || (huge e && (nat_le 4 level || not (bit_and e (low_bits level) == 0)))
     || (no_execute e && not c.no_execute)
 
--- A word that the processor reads, and the level of its table.
+-- A word that the processor reads: the level of its table, the frame with the table, and its index there.
 pub record Step : Type 0 where
   pub level : ℕ
+  pub frame : ℕ
+  pub index : ℕ
   pub word : ℕ
 
 -- Whether the processor reads on in the table that a word names: it is present, has no reserved bit, and maps no page.
@@ -56,7 +59,7 @@ reads_on c level e = present e && not (reserved c level e) && not (maps_page lev
 unfoldable pub steps_from : Controls → Words → (p level frame : ℕ) → List Step
 steps_from c T p zero frame = []
 steps_from c T p (suc n) frame = unwrap_or (option_map
-    (λ e. record { level = suc n; word = e } ∷ cond (reads_on c (suc n) e) (steps_from c T p n (address e)) [])
+    (λ e. record { level = suc n; frame = frame; index = index (suc n) p; word = e } ∷ cond (reads_on c (suc n) e) (steps_from c T p n (address e)) [])
     (read T frame (index (suc n) p))) []
 
 -- ---- what comes of it
@@ -120,3 +123,24 @@ outcome c a p root steps = ends_by c a p (rights_of (map (λ s. s.word) steps)) 
 -- What a processor does with an access at position p, by L levels of tables below a root.
 unfoldable pub access : (L : ℕ) → Controls → Words → (root p : ℕ) → Access → Outcome
 access L c T root p a = outcome c a p root (steps_from c T p L root)
+
+-- ---- what it leaves
+
+-- The bits that the processor sets in a word over which an access arrives: ACCESSED, and DIRTY if the word maps the page of a write.
+abbrev pub bits_to_set : Kind → (level word : ℕ) → ℕ
+bits_to_set kind level e = cond (is_write kind && maps_page level e) 0x60 0x20
+
+-- The memory after bits of one word are set.
+abbrev pub set_bits : Places → (frame index bits : ℕ) → Memory → Memory
+set_bits places frame i bits m = let k = places.place frame in
+    unwrap_or (option_map (λ table. insert m k (slice_set table i (bit_or (get_or table i 0) bits))) (get m k)) m
+
+-- The memory after an access of this kind that arrives over these words.
+unfoldable pub marked : Places → Kind → List Step → Memory → Memory
+marked places kind [] m = m
+marked places kind (s ∷ steps) m = set_bits places s.frame s.index (bits_to_set kind s.level s.word) (marked places kind steps m)
+
+-- The memory after an access: only one that arrives changes it.
+abbrev pub memory_after : Places → Kind → List Step → Outcome → Memory → Memory
+memory_after places kind steps (Arrives to) m = marked places kind steps m
+memory_after places kind steps outcome m = m

@@ -4,10 +4,11 @@
 
 mod code;
 mod controls;
+pub mod laws;
 mod memory_unit;
 mod request;
 
 pub use code::PageFaultCode;
 pub use controls::Controls;
-pub use memory_unit::access;
+pub use memory_unit::{access, access_and_mark};
 pub use request::{Access, AccessKind, Fault};

@@ -1,13 +1,14 @@
 //! Accesses, and the faults that they end in.
-ghost use Rattle.std.specs.Prelude.{◌≡◌, ◌≤◌, ◌+◌, ◌%◌};
+ghost use Rattle.std.specs.Prelude.{◌≡◌, ◌<◌, ◌≤◌, ◌+◌, ◌%◌, true};
 ghost use Rattle.x86_64_access.specs.Access as model;
+ghost use Rattle.x86_64_model.specs.Mappings.{maps_page};
 ghost use Rattle.x86_64_model.specs.Memory.{words_of};
 ghost use Rattle.x86_64_model.specs.PageWalk.{page_start};
 ghost use Rattle.x86_64_model.specs.Position.{span};
-ghost use Rattle.x86_64_access.specs.Accesses.{access_of, controls_of, outcome_of};
+ghost use Rattle.x86_64_access.specs.Accesses.{access_of, controls_of, kind_of, outcome_of};
 
 use crate::controls::Controls;
-use crate::request::{Access, Fault};
+use crate::request::{Access, AccessKind, Fault};
 use x86_64_addr::addr::{PhysAddr, VirtAddrIn};
 use x86_64_addr::level_count::LevelCount;
 use x86_64_page::frame::PhysFrame;
@@ -16,6 +17,12 @@ use x86_64_tables::page_table::{PageTableEntry, PageTableFlags};
 use x86_64_tables::phys_memory::{
     PageTableFrameMapping, Rights, TableMemory, has_flag, index_of, table_in,
 };
+
+/// The bit `ACCESSED` of an entry.
+const ACCESSED: u64 = 0x20;
+
+/// The bit `DIRTY` of an entry.
+const DIRTY: u64 = 0x40;
 
 /// Returns the physical address at which an access arrives, by the page tables from the root on.
 ///
@@ -50,6 +57,41 @@ pub fn access<T: TableMemory, P: PageTableFrameMapping, L: LevelCount>(
     request.walk(memory, mapping, root, L::LEVELS, addr.position())
 }
 
+/// Does what [`access`] does, and then sets `ACCESSED` in each entry that was read, and `DIRTY` in the entry of the page for a write, as
+/// the processor does.
+///
+/// Intel SDM vol. 3A, "Accessed and Dirty Flags"; AMD APM vol. 2, "Page-Translation-Table Entry Fields".
+///
+/// Requires at most 52 bits of physical addresses.
+///
+/// # Errors
+///
+/// Those of [`access`]. Then nothing changes.
+pub fn access_and_mark<T: TableMemory, P: PageTableFrameMapping, L: LevelCount>(
+    memory: &mut T,
+    mapping: &P,
+    root: PhysFrame<Size4KiB>,
+    addr: VirtAddrIn<L>,
+    access: Access,
+    controls: &Controls,
+) -> Result<PhysAddr, Fault>
+    requires { controls.now.physical_bits ≤ 52 }
+    ensures outcome { outcome_of result ≡ model.access L.LEVELS (controls_of controls.now)
+        (words_of (T.tables memory.old) (P.places mapping.now)) root addr (access_of access) }
+    ensures marks { let words = words_of (T.tables memory.old) (P.places mapping.now) in
+        T.tables memory.new ≡ model.memory_after (P.places mapping.now) (kind_of access.kind)
+        (model.steps_from (controls_of controls.now) words addr L.LEVELS root) (outcome_of result) (T.tables memory.old) }
+    ensures lent { T.lent memory.new ≡ T.lent memory.old }
+{
+    let request = Request {
+        access,
+        controls: *controls,
+    };
+    let address = request.walk(memory, mapping, root, L::LEVELS, addr.position())?;
+    request.mark_from(memory, mapping, root, L::LEVELS, addr.position());
+    Ok(address)
+}
+
 /// An access that is asked of a processor.
 #[derive(Clone, Copy)]
 struct Request {
@@ -59,9 +101,10 @@ struct Request {
 
 impl Request {
     ghost use Rattle.std.specs.Prelude.{◌&&◌, true, false, not, cond, OnOk, IfErr};
-    ghost use Rattle.x86_64_access.specs.Access.{Arrives, Faults, allowed, code, reserved};
+    ghost use Rattle.x86_64_access.specs.Access.{Arrives, Faults, allowed, code, marked, reserved, steps_from};
     ghost use Rattle.x86_64_model.specs.Entry.{present};
     ghost use Rattle.x86_64_access.specs.Accesses.{fault_of, rights_of};
+    ghost use Rattle.x86_64_access.specs.private.Walking.{ArrivesFrom};
 
     /// Reads from the root down through `levels` levels, at a position: the number of an address counted without the gap.
     fn walk<T: TableMemory, P: PageTableFrameMapping>(
@@ -87,12 +130,56 @@ impl Request {
             let entry = &table[index_of(position, level)];
             self.check(level, entry)?;
             rights = rights.below(entry);
-            if level == 1 || has_flag(entry, PageTableFlags::HUGE_PAGE) {
+            if maps_page(level, entry) {
                 return self.end_at(level, entry, position, rights);
             }
             frame = PhysFrame::from_start_address_unchecked(entry.addr());
         }
         Err(Fault::NoMemory { frame })
+    }
+
+    /// Marks the entries that are read at a position from the table in a frame on, which is of a level.
+    ///
+    /// Requires that the access arrives.
+    fn mark_from<T: TableMemory, P: PageTableFrameMapping>(
+        self,
+        memory: &mut T,
+        mapping: &P,
+        frame: PhysFrame<Size4KiB>,
+        level: u64,
+        position: u64,
+    )
+        requires low { 1 ≤ level }
+        requires high { level ≤ 5 }
+        requires arrives { ArrivesFrom (controls_of self.controls)
+            (words_of (T.tables memory.old) (P.places mapping.now)) position (access_of self.access) level frame }
+        ensures marks { T.tables memory.new ≡ marked (P.places mapping.now) (kind_of self.access.kind)
+            (steps_from (controls_of self.controls) (words_of (T.tables memory.old) (P.places mapping.now))
+            position level frame) (T.tables memory.old) }
+        ensures lent { T.lent memory.new ≡ T.lent memory.old }
+    {
+        let Some(table) = table_in(memory, mapping, frame) else {
+            return;
+        };
+        let index = index_of(position, level);
+        let entry = &table[index];
+        let bits = self.bits_to_set(level, entry);
+        if !maps_page(level, entry) {
+            let below = PhysFrame::from_start_address_unchecked(entry.addr());
+            self.mark_from(memory, mapping, below, level - 1, position);
+        }
+        set_bits(memory, mapping, frame, index, bits);
+    }
+
+    /// Returns the bits that the processor sets in an entry of a level: `ACCESSED`, and `DIRTY` in that of a page for a write.
+    fn bits_to_set(self, level: u64, entry: &PageTableEntry) -> u64
+        ensures { result ≡ model.bits_to_set (kind_of self.access.kind) level entry.now }
+    {
+        if self.access.kind == AccessKind::Write && maps_page(level, entry) {
+            ACCESSED | DIRTY
+        } else {
+            ACCESSED
+        }
     }
 
     /// Faults if an entry isn't present, or has a reserved bit.
@@ -144,6 +231,39 @@ impl Request {
     {
         let code = self.controls.code(self.access, present, reserved);
         Fault::PageFault { code, level }
+    }
+}
+
+/// Returns true if an entry of a level maps a page: at level one each does, at levels two and three those with `HUGE_PAGE`.
+fn maps_page(level: u64, entry: &PageTableEntry) -> bool
+    ensures { result ≡ maps_page level entry.now }
+{
+    match level {
+        1 => true,
+        2 | 3 => has_flag(entry, PageTableFlags::HUGE_PAGE),
+        _ => false,
+    }
+}
+
+/// Sets bits of the entry at an index of the table in a frame, if the memory has the table.
+///
+/// Requires that the mapping covers the frame, and that the index is below 512.
+fn set_bits<T: TableMemory, P: PageTableFrameMapping>(
+    memory: &mut T,
+    mapping: &P,
+    frame: PhysFrame<Size4KiB>,
+    index: usize,
+    bits: u64,
+)
+    requires covered { (P.places mapping.now).covers frame ≡ true }
+    requires below { index < 512 }
+    ensures set { T.tables memory.new
+        ≡ model.set_bits (P.places mapping.now) frame index bits (T.tables memory.old) }
+    ensures lent { T.lent memory.new ≡ T.lent memory.old }
+{
+    if let Some(table) = memory.table_mut(mapping.frame_to_pointer(frame)) {
+        let entry = &mut table[index];
+        entry.set_word(entry.word() | bits);
     }
 }
 

@@ -1,6 +1,7 @@
 use Rattle.std.proofs.Common.{rules, ap, ◌⊎◌, ◌≡◌, ◌≤◌, ◌-◌, ◌+◌, ◌%◌, ◌∙◌, ◌&&◌, true, false, not, cond, None, Some, inl, inr, sym, arith}
 use Rattle.x86_64_model.proofs.Lemmas.Entries.Words.{address_aligned}
-use Rattle.x86_64_model.specs.Entry.{huge, present}
+use Rattle.x86_64_model.specs.Entry.{present}
+use Rattle.x86_64_model.specs.Mappings.{maps_page}
 use Rattle.x86_64_model.specs.Memory.{words_of}
 use Rattle.x86_64_model.specs.Position.{index, span}
 use Rattle.x86_64_model.specs.PageWalk.{read, page_start}
@@ -8,9 +9,8 @@ use Rattle.x86_64_access.specs.Access.{Arrives, Faults, allowed, code, reserved}
 use Rattle.x86_64_access.specs.Accesses.{access_of, controls_of, outcome_of, rights_of}
 use Rattle.x86_64_access.specs.private.Walking.{access_on}
 use Rattle.x86_64_model.specs.Caches.{granted}
-use Rattle.x86_64_access.proofs.Walked.{on_root, on_zero, on_none, on_fault, on_page, on_table, ends_low, maps, names_table}
+use Rattle.x86_64_access.proofs.Walked.{on_root, on_zero, on_none, on_fault, on_page, on_table, page_low}
 use Rattle.x86_64_access.proofs.memory_unit.Request.walk.Goals as goal
-use Rattle.x86_64_access.proofs.memory_unit.Request.walk.Goals.{then-level-eq1-via-then-level-eq1, then-level-eq1-via-else-level-eq1+then-has_flag}
 
 pub loop-above-init : goal.loop-above-init
 loop-above-init g c =
@@ -43,30 +43,24 @@ end_at-requires-clause-high g c =
     let level = c.args.levels - c.loop-above.above in
     let e = c.index-entry.result.now in
     let is : Some e ≡ read words c.loop-above.frame (index level c.args.position) = search rules in
-    let ended : (level ≡ 1) ⊎ (huge e ≡ true) = elim c.then-level-eq1.branch [
-      | then-level-eq1-via-then-level-eq1 w ↦ inl (search rules)
-      | then-level-eq1-via-else-level-eq1+then-has_flag w ↦ inr (search rules)
-    ] in
+    let page : maps_page level e ≡ true = search rules in
     let sound : reserved (controls_of c.args.self.controls) level e ≡ false = search rules in
-    ends_low (controls_of c.args.self.controls) level e sound ended
+    page_low level e page
 
-pub returns-then-level-eq1 : goal.returns-then-level-eq1
-returns-then-level-eq1 g c =
+pub returns-then-maps_page : goal.returns-then-maps_page
+returns-then-maps_page g c =
     let words = words_of (g.T.TableMemory.tables c.args.memory.now) (g.P.PageTableFrameMapping.places c.args.mapping.now) in
     let level = c.args.levels - c.loop-above.above in
     let e = c.index-entry.result.now in
     let is : Some e ≡ read words c.loop-above.frame (index level c.args.position) = search rules in
-    let ended : (level ≡ 1) ⊎ (huge e ≡ true) = elim c.then-level-eq1.branch [
-      | then-level-eq1-via-then-level-eq1 w ↦ inl (search rules)
-      | then-level-eq1-via-else-level-eq1+then-has_flag w ↦ inr (search rules)
-    ] in
+    let page : maps_page level e ≡ true = search rules in
     let sound : reserved (controls_of c.args.self.controls) level e ≡ false = search rules in
     let here : present e ≡ true = search rules in
     let low : 1 ≤ level = omega (arith, c.loop-above-test.true) in
     let same : rights_of c.below-rights.result ≡ granted (rights_of c.loop-above.rights) e = search rules in
     c.end_at.ensures ∙ ap (λ r. cond (not (allowed (controls_of c.args.self.controls) (access_of c.args.self.access) r))
     (Faults (code (controls_of c.args.self.controls) (access_of c.args.self.access) true false) level) (Arrives (page_start level e + c.args.position % span level))) same
-    ∙ on_page (controls_of c.args.self.controls) words c.args.position (access_of c.args.self.access) level c.loop-above.frame (rights_of c.loop-above.rights) e low is here sound (maps (controls_of c.args.self.controls) level e low sound ended)
+    ∙ on_page (controls_of c.args.self.controls) words c.args.position (access_of c.args.self.access) level c.loop-above.frame (rights_of c.loop-above.rights) e low is here sound page
     ∙ c.loop-above.invariant
 
 pub from_start_address_unchecked-frame-requires : goal.from_start_address_unchecked-frame-requires
@@ -80,11 +74,11 @@ loop-above-preserved g c =
     let is : Some e ≡ read words c.loop-above.frame (index level c.args.position) = search rules in
     let sound : reserved (controls_of c.args.self.controls) level e ≡ false = search rules in
     let here : present e ≡ true = search rules in
-    let small : huge e ≡ false = search rules in
+    let table : maps_page level e ≡ false = search rules in
     let next : c.args.levels - (c.loop-above.above + 1) ≡ level - 1 = omega arith in
     let low : 1 ≤ level = omega (arith, c.loop-above-test.true) in
     rw (next, c.below-rights.ensures.write, c.below-rights.ensures.user, c.below-rights.ensures.execute, c.from_start_address_unchecked-frame.ensures, c.addr.ensures)
-    (on_table (controls_of c.args.self.controls) words c.args.position (access_of c.args.self.access) level c.loop-above.frame (rights_of c.loop-above.rights) e low is here sound (names_table level e (search rules) small) ∙ c.loop-above.invariant)
+    (on_table (controls_of c.args.self.controls) words c.args.position (access_of c.args.self.access) level c.loop-above.frame (rights_of c.loop-above.rights) e low is here sound table ∙ c.loop-above.invariant)
 
 pub returns : goal.returns
 returns g c =
