@@ -1,0 +1,242 @@
+-- One word of the walk of an access, for code that has the level as a number.
+use Rattle.std.proofs.Common.{zero, suc, ⊎_elim, inl, inr, ◌⊎◌, nat_eq, ◌≡◌, ◌<◌, ◌≤◌, ◌+◌, ◌-◌, ◌%◌, ◌^◌, ℕ, ◌&&◌, Bool, true≢false, true, false, not, ◌||◌, ◌==◌, nat_le, bit_and, cond, List, [], ◌∷◌, map, Some, None, Option, option_map, unwrap_or, refl, sym, ap, ◌∙◌, arith}
+use Rattle.std.specs.List.{last_or}
+use Rattle.x86_64_model.specs.Entry.{present, writable, user, huge, no_execute, address}
+use Rattle.x86_64_model.specs.Mappings.{Rights, rights_of, maps_page}
+use Rattle.x86_64_model.specs.Memory.{Memory, Places, Words}
+use Rattle.x86_64_model.specs.PageWalk.{read, page_start}
+use Rattle.x86_64_model.specs.Position.{index, span}
+use Rattle.x86_64_model.proofs.Lemmas.Entries.Words.{address_within}
+use Rattle.x86_64_access.specs.Access.{Access, Kind, Controls, set_bits, bits_to_set, marked, Outcome, NoMemory, Step, steps_from, ends_at, ends_by, reads_on, reserved, low_bits, allowed, code, Arrives, Faults, access}
+use Rattle.x86_64_access.specs.private.Walking.{access_on, both, ArrivesFrom}
+use Rattle.x86_64_model.specs.Caches.{granted}
+use Rattle.std.proofs.Math.Bool.{and-true, and-false, and_assoc}
+use Rattle.std.proofs.lemmas.Bool.{eqb-true, eqb-false}
+use Rattle.std.specs.List.{list_all}
+
+-- the steps by the word that is read
+steps_read : Controls → Words → (p level frame : ℕ) → Option ℕ → List Step
+steps_read c T p level frame word = unwrap_or (option_map
+    (λ e. record { level = level; frame = frame; index = index level p; word = e } ∷ cond (reads_on c level e) (steps_from c T p (level - 1) (address e)) []) word) []
+
+steps_are : (c : Controls) (T : Words) (p level frame : ℕ) → 1 ≤ level → steps_from c T p level frame ≡ steps_read c T p level frame (read T frame (index level p))
+unfolding steps_from steps_read
+steps_are c T p zero frame l = absurd (omega arith)
+steps_are c T p (suc n) frame l = let less : n ≡ suc n - 1 = omega arith in
+    ap (λ k. unwrap_or (option_map (λ e. record { level = suc n; frame = frame; index = index (suc n) p; word = e } ∷ cond (reads_on c (suc n) e) (steps_from c T p k (address e)) [])
+    (read T frame (index (suc n) p))) []) less
+
+-- the outcome of steps
+abbrev comes_of : Controls → Access → (p : ℕ) → Rights → (frame : ℕ) → List Step → Outcome
+comes_of c a p r frame steps = ends_by c a p (both r (rights_of (map (λ s. s.word) steps))) frame (last_or None steps)
+
+on_is : (c : Controls) (T : Words) (p : ℕ) (a : Access) (level frame : ℕ) (r : Rights) → access_on c T p a level frame r ≡ comes_of c a p r frame (steps_from c T p level frame)
+unfolding access_on
+on_is c T p a level frame r = refl
+
+pub on_root : (c : Controls) (T : Words) (p : ℕ) (a : Access) (level root : ℕ)
+    → access level c T root p a ≡ access_on c T p a level root (record { write = true; user = true; execute = true })
+unfolding access access_on
+on_root c T p a level root = refl
+
+pub on_zero : (c : Controls) (T : Words) (p : ℕ) (a : Access) (frame : ℕ) (r : Rights) → NoMemory frame ≡ access_on c T p a 0 frame r
+unfolding access_on steps_from
+on_zero c T p a frame r = refl
+
+pub on_none : (c : Controls) (T : Words) (p : ℕ) (a : Access) (level frame : ℕ) (r : Rights) → 1 ≤ level → None ≡ read T frame (index level p)
+    → NoMemory frame ≡ access_on c T p a level frame r
+unfolding steps_read
+on_none c T p a level frame r l is = sym (on_is c T p a level frame r
+    ∙ ap (comes_of c a p r frame) (steps_are c T p level frame l ∙ ap (steps_read c T p level frame) (sym is)))
+
+pub and_left : (b d : Bool) → (b && not d) ≡ true → b ≡ true
+and_left true d h = refl
+and_left false d h = h
+
+pub and_right : (b d : Bool) → (b && not d) ≡ true → d ≡ false
+and_right true false h = refl
+and_right true true h = absurd (true≢false (sym h))
+and_right false d h = absurd (true≢false (sym h))
+
+abbrev pub is_arrival : Outcome → Bool
+is_arrival (Arrives to) = true
+is_arrival outcome = false
+
+-- ---- rights
+
+abbrev pub words_in : List Step → List ℕ
+words_in steps = map (λ s. s.word) steps
+
+record_of : (w u x : Bool) → Rights
+record_of w u x = record { write = w; user = u; execute = x }
+
+-- the rights of one more word
+pub both_more : (r : Rights) (e : ℕ) (words : List ℕ) → both r (rights_of (e ∷ words)) ≡ both (granted r e) (rights_of words)
+both_more r e words = rw (and_assoc r.write (writable e) (list_all writable words), and_assoc r.user (user e) (list_all user words),
+    and_assoc r.execute (not (no_execute e)) (list_all (λ f. not (no_execute f)) words)) refl
+
+pub both_none : (r : Rights) → both r (rights_of []) ≡ r
+both_none r = rw (and-true r.write, and-true r.user, and-true r.execute) refl
+
+-- the last step decides, whatever frame the walk began with
+at_last : (c : Controls) (a : Access) (p : ℕ) (r : Rights) (frame other : ℕ) (s : Step) (steps : List Step)
+    → ends_by c a p r frame (last_or (Some s) steps) ≡ ends_by c a p r other (last_or (Some s) steps)
+at_last c a p r frame other s [] = refl
+at_last c a p r frame other s (t ∷ steps) = at_last c a p r frame other t steps
+
+-- ---- by the word that is read
+
+module _ (c : Controls) (T : Words) (p : ℕ) (a : Access) (level frame : ℕ) (r : Rights) (e : ℕ) (l : 1 ≤ level) (is : Some e ≡ read T frame (index level p)) where
+  abbrev step : Step
+  step = record { level = level; frame = frame; index = index level p; word = e }
+
+  abbrev below : List Step
+  below = steps_from c T p (level - 1) (address e)
+
+  to_step : access_on c T p a level frame r ≡ comes_of c a p r frame (step ∷ cond (reads_on c level e) below [])
+  unfolding steps_read
+  to_step = on_is c T p a level frame r ∙ ap (comes_of c a p r frame) (steps_are c T p level frame l ∙ ap (steps_read c T p level frame) (sym is))
+
+  -- the walk ends at the word
+  pub on_end : reads_on c level e ≡ false → ends_at c a p (granted r e) step ≡ access_on c T p a level frame r
+  on_end h = sym (to_step ∙ ap (λ b. comes_of c a p r frame (step ∷ cond b below [])) h
+      ∙ ap (λ s. ends_at c a p s step) (both_more r e [] ∙ both_none (granted r e)))
+
+  -- where the steps from the table below lead, if there are any
+  after : (steps : List Step) → ends_at c a p (both r (rights_of (e ∷ []))) step ≡ NoMemory (address e)
+      → comes_of c a p r frame (step ∷ steps) ≡ comes_of c a p (granted r e) (address e) steps
+  after [] gone = gone
+  after (s ∷ steps) gone = ap (λ k. ends_by c a p k frame (last_or (Some s) steps)) (both_more r e (s.word ∷ words_in steps))
+      ∙ at_last c a p (both (granted r e) (rights_of (s.word ∷ words_in steps))) frame (address e) s steps
+
+  -- the walk goes on in the table that the word names
+  pub on_table : present e ≡ true → reserved c level e ≡ false → maps_page level e ≡ false
+      → access_on c T p a (level - 1) (address e) (granted r e) ≡ access_on c T p a level frame r
+  on_table here sound table = on_is c T p a (level - 1) (address e) (granted r e)
+      ∙ sym (to_step ∙ ap (λ b. comes_of c a p r frame (step ∷ cond b below [])) goes_on ∙ after below gone)
+    where
+      goes_on : reads_on c level e ≡ true
+      goes_on = rw (here, sound, table) refl
+
+      gone : ends_at c a p (both r (rights_of (e ∷ []))) step ≡ NoMemory (address e)
+      gone = rw (here, sound, table) refl
+
+  -- the word is absent or has a reserved bit
+  pub on_fault : (present e && not (reserved c level e)) ≡ false → Faults (code c a (present e) (present e)) level ≡ access_on c T p a level frame r
+  on_fault bad = faults (present e) (reserved c level e) bad ∙ on_end (rw bad refl)
+    where
+      faults : (here odd : Bool) → (here && not odd) ≡ false → Faults (code c a here here) level
+          ≡ cond (not here) (Faults (code c a false false) level) (cond odd (Faults (code c a true true) level)
+          (cond (not (maps_page level e)) (NoMemory (address e)) (cond (not (allowed c a (granted r e))) (Faults (code c a true false) level)
+          (Arrives (page_start level e + p % span level)))))
+      faults false odd h = refl
+      faults true true h = refl
+      faults true false h = absurd (true≢false h)
+
+  -- the word maps a page
+  pub on_page : present e ≡ true → reserved c level e ≡ false → maps_page level e ≡ true
+      → cond (not (allowed c a (granted r e))) (Faults (code c a true false) level) (Arrives (page_start level e + p % span level)) ≡ access_on c T p a level frame r
+  on_page here sound page = arrives ∙ on_end (rw (here, sound, page) refl)
+    where
+      arrives : cond (not (allowed c a (granted r e))) (Faults (code c a true false) level) (Arrives (page_start level e + p % span level)) ≡ ends_at c a p (granted r e) step
+      arrives = rw (here, sound, page) refl
+
+  -- the steps end at a page
+  pub steps_page : maps_page level e ≡ true → steps_from c T p level frame ≡ step ∷ []
+  unfolding steps_read
+  steps_page page =
+      let ends : reads_on c level e ≡ false = rw page (and-false (present e && not (reserved c level e))) in
+      steps_are c T p level frame l ∙ ap (steps_read c T p level frame) (sym is) ∙ ap (λ b. step ∷ cond b below []) ends
+
+-- otherwise they go on in the table that the word names
+module _ (c : Controls) (T : Words) (p : ℕ) (a : Access) (level frame : ℕ) (e : ℕ) (l : 1 ≤ level) (is : Some e ≡ read T frame (index level p)) where
+  abbrev first : Step
+  first = record { level = level; frame = frame; index = index level p; word = e }
+
+  sound_arrives : ArrivesFrom c T p a level frame → (b : Bool) → (present e && not (reserved c level e)) ≡ b → b ≡ true
+  sound_arrives there true h = refl
+  sound_arrives (r, to, arrives) false h = absurd (true≢false (sym (ap is_arrival (on_fault c T p a level frame r e l is h ∙ arrives))))
+
+  -- the first step is at the word
+  pub steps_first : steps_from c T p level frame ≡ first ∷ cond (reads_on c level e) (steps_from c T p (level - 1) (address e)) []
+  unfolding steps_read
+  steps_first = steps_are c T p level frame l ∙ ap (steps_read c T p level frame) (sym is)
+
+  pub steps_on : (present e && not (reserved c level e)) ≡ true → maps_page level e ≡ false
+      → steps_from c T p level frame ≡ first ∷ steps_from c T p (level - 1) (address e)
+  steps_on sound table =
+      let on : reads_on c level e ≡ true = rw (sound, table) refl in
+      steps_first ∙ ap (λ b. first ∷ cond b (steps_from c T p (level - 1) (address e)) []) on
+
+  pub steps_table : ArrivesFrom c T p a level frame → maps_page level e ≡ false
+      → steps_from c T p level frame ≡ first ∷ steps_from c T p (level - 1) (address e)
+  steps_table there table = steps_on (sound_arrives there (present e && not (reserved c level e)) refl) table
+
+  pub arrives_below : ArrivesFrom c T p a level frame → maps_page level e ≡ false → ArrivesFrom c T p a (level - 1) (address e)
+  arrives_below (r, to, arrives) table =
+      let sound : (present e && not (reserved c level e)) ≡ true = sound_arrives (r, to, arrives) (present e && not (reserved c level e)) refl in
+      (granted r e, to, on_table c T p a level frame r e l is (and_left (present e) (reserved c level e) sound) (and_right (present e) (reserved c level e) sound) table ∙ arrives)
+
+  module _ (places : Places) (kind : Kind) (m n : Memory) where
+    -- the memory after a page's entry is marked
+    pub marks_page : maps_page level e ≡ true → n ≡ set_bits places frame (index level p) (bits_to_set kind level e) m
+        → n ≡ marked places kind (steps_from c T p level frame) m
+    unfolding marked
+    marks_page page set = set ∙ ap (λ steps. marked places kind steps m)
+        (sym (steps_page c T p a level frame (record { write = true; user = true; execute = true }) e l is page))
+
+    -- the memory after an entry is marked that names a table, after those below it
+    pub marks_table : (below : Memory) → ArrivesFrom c T p a level frame → maps_page level e ≡ false
+        → below ≡ marked places kind (steps_from c T p (level - 1) (address e)) m
+        → n ≡ set_bits places frame (index level p) (bits_to_set kind level e) below → n ≡ marked places kind (steps_from c T p level frame) m
+    unfolding marked
+    marks_table below there table under set = set ∙ ap (set_bits places frame (index level p) (bits_to_set kind level e)) under
+        ∙ ap (λ steps. marked places kind steps m) (sym (steps_table there table))
+
+pub none_arrives : (c : Controls) (T : Words) (p : ℕ) (a : Access) (level frame : ℕ) → 1 ≤ level → ArrivesFrom c T p a level frame
+    → None ≡ read T frame (index level p) → ⊥
+none_arrives c T p a level frame l (r, to, arrives) is = true≢false (sym (ap is_arrival (on_none c T p a level frame r l is ∙ arrives)))
+
+-- ---- which words map pages
+
+one_of : (a h b c : Bool) → (a || (h && (b || c))) ≡ true → (a ≡ true) ⊎ ((b ≡ true) ⊎ (c ≡ true))
+one_of true h b c t = inl refl
+one_of false h true c t = inr (inl refl)
+one_of false h false true t = inr (inr refl)
+one_of false true false false t = absurd (true≢false (sym t))
+one_of false false false false t = absurd (true≢false (sym t))
+
+pub or_left : (a b : Bool) → (a || b) ≡ false → a ≡ false
+or_left false b h = refl
+or_left true b h = absurd (true≢false h)
+
+pub or_right : (a b : Bool) → (a || b) ≡ false → b ≡ false
+or_right false b h = h
+or_right true b h = absurd (true≢false h)
+
+pub table_high : (level e : ℕ) → 1 ≤ level → maps_page level e ≡ false → 1 < level
+table_high level e low table = omega (arith, low, eqb-false level 1 (or_left (level == 1) (huge e && ((level == 2) || (level == 3))) table))
+
+ends_of : (a h b : Bool) → (a || (h && b)) ≡ true → (a ≡ true) ⊎ (h ≡ true)
+ends_of true h b t = inl refl
+ends_of false true b t = inr refl
+ends_of false false b t = absurd (true≢false (sym t))
+
+-- a page is mapped at level one, or by HUGE_PAGE
+pub page_ends : (level e : ℕ) → maps_page level e ≡ true → (level ≡ 1) ⊎ (huge e ≡ true)
+page_ends level e page = ⊎_elim (λ one. inl (eqb-true level 1 one)) (λ large. inr large)
+    (ends_of (level == 1) (huge e) ((level == 2) || (level == 3)) page)
+
+pub page_low : (level e : ℕ) → maps_page level e ≡ true → level ≤ 3
+page_low level e page = ⊎_elim
+    (λ one. omega (arith, eqb-true level 1 one))
+    (λ more. ⊎_elim (λ two. omega (arith, eqb-true level 2 two)) (λ three. omega (arith, eqb-true level 3 three)) more)
+    (one_of (level == 1) (huge e) (level == 2) (level == 3) page)
+
+-- an address in a page lies below 2^52
+pub arrives_within : (e p level : ℕ) → 1 ≤ level → level ≤ 3 → page_start level e + p % span level < 2 ^ 52
+arrives_within e p zero low high = absurd (omega arith)
+arrives_within e p (suc zero) low high = omega (arith, address_within e)
+arrives_within e p (suc (suc zero)) low high = omega (arith, address_within e)
+arrives_within e p (suc (suc (suc zero))) low high = omega (arith, address_within e)
+arrives_within e p (suc (suc (suc (suc n)))) low high = absurd (omega arith)

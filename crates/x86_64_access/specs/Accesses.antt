@@ -1,0 +1,40 @@
+-- Accesses, controls and faults of Rust as those of the definition.
+use Rattle.std.specs.Prelude.{ℕ, Result, Ok, Err}
+use Rattle.x86_64_access.specs.Access as model
+use Rattle.x86_64_model.specs.Mappings.{Rights as GrantedRights}
+use Rattle.x86_64_tables.specs.declared.phys_memory.walk.Rights.{Rights}
+use Rattle.x86_64_access.specs.declared.request.Access.{Access}
+use Rattle.x86_64_access.specs.declared.request.AccessKind.{AccessKind}
+use Rattle.x86_64_access.specs.declared.request.AccessKind.TheVariants.{Read, Write, Fetch}
+use Rattle.x86_64_access.specs.declared.request.Fault.{Fault}
+use Rattle.x86_64_access.specs.declared.request.Fault.TheVariants.{PageFault, NoMemory}
+use Rattle.x86_64_access.specs.declared.controls.Controls.{Controls}
+
+abbrev pub kind_of : AccessKind → model.Kind
+kind_of Read = model.Read
+kind_of Write = model.Write
+kind_of Fetch = model.Fetch
+
+abbrev pub access_of : Access → model.Access
+access_of a = record { kind = kind_of a.kind; user = a.user }
+
+abbrev pub controls_of : Controls → model.Controls
+controls_of c = record {
+  write_protect = c.write_protect;
+  no_execute = c.no_execute;
+  smep = c.smep;
+  smap = c.smap;
+  ac = c.ac;
+  physical_bits = c.physical_bits;
+}
+
+abbrev pub rights_of : Rights → GrantedRights
+rights_of r = record { write = r.write; user = r.user; execute = r.execute }
+
+abbrev pub fault_of : Fault → model.Outcome
+fault_of (PageFault code level) = model.Faults code.0 level
+fault_of (NoMemory frame) = model.NoMemory frame
+
+abbrev pub outcome_of : Result ℕ Fault → model.Outcome
+outcome_of (Ok address) = model.Arrives address
+outcome_of (Err fault) = fault_of fault

@@ -1,0 +1,101 @@
+//! What a processor is set to.
+ghost use Rattle.std.specs.Prelude.{◌≡◌, ◌≤◌};
+ghost use Rattle.x86_64_access.specs.Access as model;
+ghost use Rattle.x86_64_access.specs.Accesses.{access_of, controls_of, kind_of, rights_of};
+
+use crate::code::PageFaultCode;
+use crate::request::{Access, AccessKind};
+use bitflags::Flags;
+use x86_64_tables::page_table::{PageTableEntry, PageTableFlags};
+use x86_64_tables::phys_memory::{Rights, has_flag};
+
+/// What a processor is set to, as far as it decides accesses.
+#[derive(Clone, Copy, Debug, PartialEq, Eq)]
+pub struct Controls {
+    /// CR0.WP: a supervisor can't write to pages without `WRITABLE`.
+    pub write_protect: bool,
+    /// EFER.NXE: `NO_EXECUTE` forbids fetches. Otherwise that bit is reserved.
+    pub no_execute: bool,
+    /// CR4.SMEP: a supervisor can't fetch instructions from users' pages.
+    pub smep: bool,
+    /// CR4.SMAP: a supervisor can't read or write users' pages, unless `ac` is set.
+    pub smap: bool,
+    /// EFLAGS.AC.
+    pub ac: bool,
+    /// MAXPHYADDR: the number of bits of physical addresses, from 32 to 52. Higher address bits of entries are reserved.
+    pub physical_bits: u8,
+}
+
+impl Controls {
+    /// Returns true if an entry of a level has a bit that is reserved.
+    ///
+    /// Reserved are: address bits that the processor lacks; `HUGE_PAGE` above level three; bits 13 to 29 of a 1GiB page, and bits
+    /// 13 to 20 of a 2MiB page; and `NO_EXECUTE` while it is off.
+    ///
+    /// Requires at most 52 bits of physical addresses.
+    #[tactic(auto, unfolding(crate::specs::Access::reserved))]
+    pub fn is_reserved(&self, level: u64, entry: &PageTableEntry) -> bool
+        requires { self.now.physical_bits ≤ 52 }
+        ensures { result ≡ model.reserved (controls_of self.now) level entry.now }
+    {
+        let is_beyond = 1 << self.physical_bits <= entry.addr().as_u64();
+        let is_misplaced = has_flag(entry, PageTableFlags::HUGE_PAGE)
+            && (4 <= level || entry.word() & low_bits(level) != 0);
+        let is_off = has_flag(entry, PageTableFlags::NO_EXECUTE) && !self.no_execute;
+        is_beyond || is_misplaced || is_off
+    }
+
+    /// Returns true if the rights of a page suffice for an access.
+    pub fn allows(&self, access: Access, rights: Rights) -> bool
+        ensures { result ≡ model.allowed (controls_of self.now) (access_of access) (rights_of rights) }
+    {
+        let kind_allowed = match access.kind {
+            AccessKind::Read => true,
+            AccessKind::Write => rights.write || (!access.user && !self.write_protect),
+            AccessKind::Fetch => rights.execute || !self.no_execute,
+        };
+        let page_allowed = if access.user {
+            rights.user
+        } else {
+            !(rights.user && self.keeps_out(access.kind))
+        };
+        kind_allowed && page_allowed
+    }
+
+    /// Returns true if a supervisor is kept from users' pages for this kind of access.
+    fn keeps_out(&self, kind: AccessKind) -> bool
+        ensures { result ≡ model.kept_out (controls_of self.now) (kind_of kind) }
+    {
+        match kind {
+            AccessKind::Fetch => self.smep,
+            AccessKind::Read | AccessKind::Write => self.smap && !self.ac,
+        }
+    }
+
+    /// Returns the error code of a page fault: whether the entry that faults is present, and has a reserved bit.
+    pub fn code(&self, access: Access, present: bool, reserved: bool) -> PageFaultCode
+        ensures { result.0 ≡ model.code (controls_of self.now) (access_of access) present reserved }
+    {
+        let tells_fetches = self.no_execute || self.smep;
+        let write = access.kind == AccessKind::Write;
+        let fetch = access.kind == AccessKind::Fetch && tells_fetches;
+        PageFaultCode::from_bits_retain(
+            u64::from(present)
+                + 2 * u64::from(write)
+                + 4 * u64::from(access.user)
+                + 8 * u64::from(reserved)
+                + 16 * u64::from(fetch),
+        )
+    }
+}
+
+/// Returns the address bits of a large page's entry that must be 0.
+fn low_bits(level: u64) -> u64
+    ensures { result ≡ model.low_bits level }
+{
+    match level {
+        3 => 0x3fff_e000,
+        2 => 0x001f_e000,
+        _ => 0,
+    }
+}

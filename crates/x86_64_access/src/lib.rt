@@ -1,0 +1,14 @@
+//! A memory unit: what a processor does with a read, a write or an instruction fetch at a virtual address, by the words of page
+//! tables.
+#![tactic(auto)]
+
+mod code;
+mod controls;
+pub mod laws;
+mod memory_unit;
+mod request;
+
+pub use code::PageFaultCode;
+pub use controls::Controls;
+pub use memory_unit::{access, access_and_mark};
+pub use request::{Access, AccessKind, Fault};

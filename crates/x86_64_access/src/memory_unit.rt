@@ -1,0 +1,291 @@
+//! Accesses, and the faults that they end in.
+ghost use Rattle.std.specs.Prelude.{◌≡◌, ◌<◌, ◌≤◌, ◌+◌, ◌%◌, true};
+ghost use Rattle.x86_64_access.specs.Access as model;
+ghost use Rattle.x86_64_model.specs.Mappings.{maps_page};
+ghost use Rattle.x86_64_model.specs.Memory.{words_of};
+ghost use Rattle.x86_64_model.specs.PageWalk.{page_start};
+ghost use Rattle.x86_64_model.specs.Position.{span};
+ghost use Rattle.x86_64_access.specs.Accesses.{access_of, controls_of, kind_of, outcome_of};
+
+use crate::controls::Controls;
+use crate::request::{Access, AccessKind, Fault};
+use x86_64_addr::addr::{PhysAddr, VirtAddrIn};
+use x86_64_addr::level_count::LevelCount;
+use x86_64_page::frame::PhysFrame;
+use x86_64_page::page::{PageSize, Size1GiB, Size2MiB, Size4KiB};
+use x86_64_tables::page_table::{PageTableEntry, PageTableFlags};
+use x86_64_tables::phys_memory::{
+    PageTableFrameMapping, Rights, TableMemory, has_flag, index_of, table_in,
+};
+
+/// The bit `ACCESSED` of an entry.
+const ACCESSED: u64 = 0x20;
+
+/// The bit `DIRTY` of an entry.
+const DIRTY: u64 = 0x40;
+
+/// Returns the physical address at which an access arrives, by the page tables from the root on.
+///
+/// From the root down, each entry that is read is looked at in this order. Without `PRESENT` the access faults. With a reserved bit
+/// ([`Controls::is_reserved`]) it faults, too. At the page, it faults if the rights that all entries grant don't suffice
+/// ([`Controls::allows`]). The tables may contain any words.
+///
+/// Intel SDM vol. 3A, "Access Rights", "Page-Fault Exceptions"; AMD APM vol. 2, "Page-Protection Checks".
+///
+/// Requires at most 52 bits of physical addresses.
+///
+/// # Errors
+///
+/// - `PageFault` with the error code and the level, as above.
+/// - `NoMemory` if a table on the way isn't covered by the mapping or isn't in the memory.
+pub fn access<T: TableMemory, P: PageTableFrameMapping, L: LevelCount>(
+    memory: &T,
+    mapping: &P,
+    root: PhysFrame<Size4KiB>,
+    addr: VirtAddrIn<L>,
+    access: Access,
+    controls: &Controls,
+) -> Result<PhysAddr, Fault>
+    requires { controls.now.physical_bits ≤ 52 }
+    ensures { outcome_of result ≡ model.access L.LEVELS (controls_of controls.now)
+        (words_of (T.tables memory.now) (P.places mapping.now)) root addr (access_of access) }
+{
+    let request = Request {
+        access,
+        controls: *controls,
+    };
+    request.walk(memory, mapping, root, L::LEVELS, addr.position())
+}
+
+/// Does what [`access`] does, and then sets `ACCESSED` in each entry that was read, and `DIRTY` in the entry of the page for a write, as
+/// the processor does.
+///
+/// Intel SDM vol. 3A, "Accessed and Dirty Flags"; AMD APM vol. 2, "Page-Translation-Table Entry Fields".
+///
+/// Requires at most 52 bits of physical addresses.
+///
+/// # Errors
+///
+/// Those of [`access`]. Then nothing changes.
+pub fn access_and_mark<T: TableMemory, P: PageTableFrameMapping, L: LevelCount>(
+    memory: &mut T,
+    mapping: &P,
+    root: PhysFrame<Size4KiB>,
+    addr: VirtAddrIn<L>,
+    access: Access,
+    controls: &Controls,
+) -> Result<PhysAddr, Fault>
+    requires { controls.now.physical_bits ≤ 52 }
+    ensures outcome { outcome_of result ≡ model.access L.LEVELS (controls_of controls.now)
+        (words_of (T.tables memory.old) (P.places mapping.now)) root addr (access_of access) }
+    ensures marks { let words = words_of (T.tables memory.old) (P.places mapping.now) in
+        T.tables memory.new ≡ model.memory_after (P.places mapping.now) (kind_of access.kind)
+        (model.steps_from (controls_of controls.now) words addr L.LEVELS root) (outcome_of result) (T.tables memory.old) }
+    ensures lent { T.lent memory.new ≡ T.lent memory.old }
+{
+    let request = Request {
+        access,
+        controls: *controls,
+    };
+    let address = request.walk(memory, mapping, root, L::LEVELS, addr.position())?;
+    request.mark_from(memory, mapping, root, L::LEVELS, addr.position());
+    Ok(address)
+}
+
+/// An access that is asked of a processor.
+#[derive(Clone, Copy)]
+struct Request {
+    access: Access,
+    controls: Controls,
+}
+
+impl Request {
+    ghost use Rattle.std.specs.Prelude.{◌&&◌, true, false, not, cond, OnOk, IfErr};
+    ghost use Rattle.x86_64_access.specs.Access.{Arrives, Faults, allowed, code, marked, reserved, steps_from};
+    ghost use Rattle.x86_64_model.specs.Entry.{present};
+    ghost use Rattle.x86_64_access.specs.Accesses.{fault_of, rights_of};
+    ghost use Rattle.x86_64_access.specs.private.Walking.{ArrivesFrom};
+
+    /// Reads from the root down through `levels` levels, at a position: the number of an address counted without the gap.
+    fn walk<T: TableMemory, P: PageTableFrameMapping>(
+        self,
+        memory: &T,
+        mapping: &P,
+        root: PhysFrame<Size4KiB>,
+        levels: u64,
+        position: u64,
+    ) -> Result<PhysAddr, Fault>
+        requires bits { self.controls.physical_bits ≤ 52 }
+        requires levels { levels ≤ 5 }
+        ensures { outcome_of result ≡ model.access levels (controls_of self.controls)
+            (words_of (T.tables memory.now) (P.places mapping.now)) root position (access_of self.access) }
+    {
+        let mut frame = root;
+        let mut rights = Rights::ALL;
+        for above in 0..levels {
+            let level = levels - above;
+            let Some(table) = table_in(memory, mapping, frame) else {
+                return Err(Fault::NoMemory { frame });
+            };
+            let entry = &table[index_of(position, level)];
+            self.check(level, entry)?;
+            rights = rights.below(entry);
+            if maps_page(level, entry) {
+                return self.end_at(level, entry, position, rights);
+            }
+            frame = PhysFrame::from_start_address_unchecked(entry.addr());
+        }
+        Err(Fault::NoMemory { frame })
+    }
+
+    /// Marks the entries that are read at a position from the table in a frame on, which is of a level.
+    ///
+    /// Requires that the access arrives.
+    fn mark_from<T: TableMemory, P: PageTableFrameMapping>(
+        self,
+        memory: &mut T,
+        mapping: &P,
+        frame: PhysFrame<Size4KiB>,
+        level: u64,
+        position: u64,
+    )
+        requires low { 1 ≤ level }
+        requires high { level ≤ 5 }
+        requires arrives { ArrivesFrom (controls_of self.controls)
+            (words_of (T.tables memory.old) (P.places mapping.now)) position (access_of self.access) level frame }
+        ensures marks { T.tables memory.new ≡ marked (P.places mapping.now) (kind_of self.access.kind)
+            (steps_from (controls_of self.controls) (words_of (T.tables memory.old) (P.places mapping.now))
+            position level frame) (T.tables memory.old) }
+        ensures lent { T.lent memory.new ≡ T.lent memory.old }
+    {
+        let Some(table) = table_in(memory, mapping, frame) else {
+            return;
+        };
+        let index = index_of(position, level);
+        let entry = &table[index];
+        let bits = self.bits_to_set(level, entry);
+        if !maps_page(level, entry) {
+            let below = PhysFrame::from_start_address_unchecked(entry.addr());
+            self.mark_from(memory, mapping, below, level - 1, position);
+        }
+        set_bits(memory, mapping, frame, index, bits);
+    }
+
+    /// Returns the bits that the processor sets in an entry of a level: `ACCESSED`, and `DIRTY` in that of a page for a write.
+    fn bits_to_set(self, level: u64, entry: &PageTableEntry) -> u64
+        ensures { result ≡ model.bits_to_set (kind_of self.access.kind) level entry.now }
+    {
+        if self.access.kind == AccessKind::Write && maps_page(level, entry) {
+            ACCESSED | DIRTY
+        } else {
+            ACCESSED
+        }
+    }
+
+    /// Faults if an entry isn't present, or has a reserved bit.
+    fn check(self, level: u64, entry: &PageTableEntry) -> Result<(), Fault>
+        requires { self.controls.physical_bits ≤ 52 }
+        ensures sound { OnOk result ((present entry.now ≡ true)
+            × (reserved (controls_of self.controls) level entry.now ≡ false)) }
+        ensures faults { IfErr result (λ fault. (fault_of fault ≡ Faults (code (controls_of self.controls)
+            (access_of self.access) (present entry.now) (present entry.now)) level)
+            × ((present entry.now && not (reserved (controls_of self.controls) level entry.now)) ≡ false)) }
+    {
+        if !has_flag(entry, PageTableFlags::PRESENT) {
+            return Err(self.fault(level, false, false));
+        }
+        if self.controls.is_reserved(level, entry) {
+            return Err(self.fault(level, true, true));
+        }
+        Ok(())
+    }
+
+    /// Returns where the access arrives in the page that an entry maps, or faults if the rights don't suffice.
+    ///
+    /// Requires a level from one to three.
+    fn end_at(
+        self,
+        level: u64,
+        entry: &PageTableEntry,
+        position: u64,
+        rights: Rights,
+    ) -> Result<PhysAddr, Fault>
+        requires low { 1 ≤ level }
+        requires high { level ≤ 3 }
+        ensures { outcome_of result ≡
+            cond (not (allowed (controls_of self.controls) (access_of self.access) (rights_of rights)))
+            (Faults (code (controls_of self.controls) (access_of self.access) true false) level)
+            (Arrives (page_start level entry.now + position % span level)) }
+    {
+        if self.controls.allows(self.access, rights) {
+            Ok(address_in_page(level, entry, position))
+        } else {
+            Err(self.fault(level, true, false))
+        }
+    }
+
+    /// Returns the page fault at an entry of a level: whether the entry is present, and has a reserved bit.
+    fn fault(self, level: u64, present: bool, reserved: bool) -> Fault
+        ensures { fault_of result
+            ≡ Faults (code (controls_of self.controls) (access_of self.access) present reserved) level }
+    {
+        let code = self.controls.code(self.access, present, reserved);
+        Fault::PageFault { code, level }
+    }
+}
+
+/// Returns true if an entry of a level maps a page: at level one each does, at levels two and three those with `HUGE_PAGE`.
+fn maps_page(level: u64, entry: &PageTableEntry) -> bool
+    ensures { result ≡ maps_page level entry.now }
+{
+    match level {
+        1 => true,
+        2 | 3 => has_flag(entry, PageTableFlags::HUGE_PAGE),
+        _ => false,
+    }
+}
+
+/// Sets bits of the entry at an index of the table in a frame, if the memory has the table.
+///
+/// Requires that the mapping covers the frame, and that the index is below 512.
+fn set_bits<T: TableMemory, P: PageTableFrameMapping>(
+    memory: &mut T,
+    mapping: &P,
+    frame: PhysFrame<Size4KiB>,
+    index: usize,
+    bits: u64,
+)
+    requires covered { (P.places mapping.now).covers frame ≡ true }
+    requires below { index < 512 }
+    ensures set { T.tables memory.new
+        ≡ model.set_bits (P.places mapping.now) frame index bits (T.tables memory.old) }
+    ensures lent { T.lent memory.new ≡ T.lent memory.old }
+{
+    if let Some(table) = memory.table_mut(mapping.frame_to_pointer(frame)) {
+        let entry = &mut table[index];
+        entry.set_word(entry.word() | bits);
+    }
+}
+
+/// Returns the address of a position in the page that an entry of a level maps.
+///
+/// Requires a level from one to three.
+fn address_in_page(level: u64, entry: &PageTableEntry, position: u64) -> PhysAddr
+    requires low { 1 ≤ level }
+    requires high { level ≤ 3 }
+    ensures { result ≡ page_start level entry.now + position % span level }
+{
+    match level {
+        1 => address_in::<Size4KiB>(entry, position),
+        2 => address_in::<Size2MiB>(entry, position),
+        _ => address_in::<Size1GiB>(entry, position),
+    }
+}
+
+/// Returns the address of a position in the page of size `S` that an entry maps.
+fn address_in<S: PageSize>(entry: &PageTableEntry, position: u64) -> PhysAddr
+    ensures { result ≡ page_start S.LEVEL entry.now + position % span S.LEVEL }
+{
+    let start = entry.addr().as_u64() / S::SIZE * S::SIZE;
+    PhysAddr::new(start + position % S::SIZE)
+}
