@@ -20,7 +20,8 @@ fn run_in_turn<T: TableMemory>(
     replies: &mut Vec<Reply>,
 ) -> Result<(), AllocError>
     requires { AreTwo roots.0 roots.1 (T.tables memory.old) (serves_below pool.old.limit) pool.old.frames }
-    ensures again { AreTwo roots.0 roots.1 (T.tables memory.new) (serves_below pool.new.limit) pool.new.frames }
+    ensures again { AreTwo roots.0 roots.1 (T.tables memory.new)
+        (serves_below pool.new.limit) pool.new.frames }
     ensures lent { T.lent memory.new ≡ T.lent memory.old }
 {
     run_on(memory, IdentityMapping, roots.0, pool, calls.0, replies)?;

@@ -81,7 +81,8 @@ fn take_and_put_back<F: FrameStore>(store: &mut F) -> Option<PhysFrame<Size4KiB>
     requires { EachOnce (F.supply store.old) }
     ensures first { result ≡ slice_get (F.supply store.old) 0 }
     ensures serves { F.serves store.new ≡ F.serves store.old }
-    ensures back { IfSome result (λ frame. F.held store.new ≡ F.take_back (drop 1 (F.supply store.old)) frame) }
+    ensures back { IfSome result (λ frame.
+        F.held store.new ≡ F.take_back (drop 1 (F.supply store.old)) frame) }
 {
     let frame = store.allocate_frame()?;
     store.deallocate_frame(frame);
