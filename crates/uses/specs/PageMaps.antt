@@ -1,25 +1,22 @@
 -- Calls on 4KiB pages that are made if they are allowed.
 use Rattle.std.specs.Prelude.{◌≡◌, ℕ, Bool, true, List, ◌∷◌, [], Result, IfOk, IsTrue}
+use Rattle.x86_64_mappers.specs.PageAnswers.{allows_call}
 use Rattle.x86_64_mappers.specs.Ranges.{MapRange, MayMapRange, range_of}
 use Rattle.x86_64_model.specs.Entry.{present}
-use Rattle.x86_64_model.specs.Mapper.{Hierarchy, ArrivesIn, Steps, allows}
+use Rattle.x86_64_model.specs.Mapper.{Hierarchy, ArrivesIn, Steps}
 use Rattle.x86_64_model.specs.MapRule.{parent_part}
 use Rattle.x86_64_model.specs.PageCalls.{PageCall, MapTo, Unmap, AnswersMap, asked}
 use Rattle.x86_64_model.specs.Refusal.{Answer}
 use Rattle.x86_64.specs.Asked as list
 use Rattle.x86_64.specs.Asked.{MapperCall}
 
--- Whether a hierarchy allows a call on a page.
-abbrev pub allows_page : {Lent : Type 0} → Hierarchy Lent → PageCall → Bool
-allows_page h call = allows h (asked h 1 call)
-
 -- If the hierarchy allows the map, it gives this answer, is `after` then, and the rest of the supply is left.
 abbrev pub MapsIfAllowed : {Lent : Type 0} → (h : Hierarchy Lent) → (supply : List ℕ) → PageCall → Answer → (after : Hierarchy Lent) → (rest : List ℕ) → Type 0
-MapsIfAllowed h supply call answer after rest = allows_page h call ≡ true → AnswersMap h supply 1 call answer after rest
+MapsIfAllowed h supply call answer after rest = allows_call h 1 call ≡ true → AnswersMap h supply 1 call answer after rest
 
 -- The same of what the hierarchy maps and of the supply alone.
 abbrev pub StepsIfAllowed : {Lent : Type 0} → (h : Hierarchy Lent) → (supply : List ℕ) → PageCall → Answer → (after : Hierarchy Lent) → (rest : List ℕ) → Type 0
-StepsIfAllowed h supply call answer after rest = allows_page h call ≡ true → Steps h supply (asked h 1 call) answer after rest
+StepsIfAllowed h supply call answer after rest = allows_call h 1 call ≡ true → Steps h supply (asked h 1 call) answer after rest
 
 -- If the page was mapped (the result is `true`) with PRESENT, the page walk of each of its addresses arrives in the frame, with
 -- exactly the rights of the flags.

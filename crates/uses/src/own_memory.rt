@@ -1,7 +1,8 @@
 //! Maps a page in the caller's own tables.
 ghost use Rattle.std.specs.Prelude.{◌≡◌, ◌↔◌, false, IfOk, IsTrue};
 ghost use Rattle.uses.specs.Owned.{hierarchy};
-ghost use Rattle.uses.specs.PageMaps.{MappedArrives, StepsIfAllowed, allows_page};
+ghost use Rattle.uses.specs.PageMaps.{MappedArrives, StepsIfAllowed};
+ghost use Rattle.x86_64_mappers.specs.PageAnswers.{allows_call};
 ghost use Rattle.x86_64_model.specs.Mapper.{SupplyFits};
 ghost use Rattle.x86_64_model.specs.PageCalls.{MapTo};
 ghost use Rattle.x86_64_model.specs.Store.{Fits};
@@ -29,7 +30,7 @@ pub fn map_in<T: TableMemory>(
     requires { SupplyFits (hierarchy root (T.tables memory.old)) pool.old.frames }
     ensures fits { SupplyFits (hierarchy root (T.tables memory.new)) pool.new.frames }
     ensures allowed { IfOk result (λ mapped. mapped
-        ≡ allows_page (hierarchy root (T.tables memory.old)) (MapTo page frame (bits_of flags))) }
+        ≡ allows_call (hierarchy root (T.tables memory.old)) 1 (MapTo page frame (bits_of flags))) }
     ensures does { StepsIfAllowed (hierarchy root (T.tables memory.old)) pool.old.frames
         (MapTo page frame (bits_of flags)) (map_answer frame result)
         (hierarchy root (T.tables memory.new)) pool.new.frames }
@@ -74,7 +75,7 @@ pub fn map_in_slice(
     requires { SupplyFits (hierarchy root (numbered tables.old)) pool.old.frames }
     ensures fits { SupplyFits (hierarchy root (numbered tables.new)) pool.new.frames }
     ensures allowed { IfOk result (λ mapped. mapped
-        ≡ allows_page (hierarchy root (numbered tables.old)) (MapTo page frame (bits_of flags))) }
+        ≡ allows_call (hierarchy root (numbered tables.old)) 1 (MapTo page frame (bits_of flags))) }
     ensures does { StepsIfAllowed (hierarchy root (numbered tables.old)) pool.old.frames
         (MapTo page frame (bits_of flags)) (map_answer frame result)
         (hierarchy root (numbered tables.new)) pool.new.frames }

@@ -1,6 +1,7 @@
 //! Calls of the Rust crate, as they are written here.
 ghost use Rattle.std.specs.Prelude.{◌≡◌, ◌↔◌, ◌<◌, ◌++◌, [], ◌∷◌, true, false, None, IfErr, IfOk, IfSome, IsSome, IsTrue};
-ghost use Rattle.uses.specs.PageMaps.{MapsIfAllowed, allows_page};
+ghost use Rattle.uses.specs.PageMaps.{MapsIfAllowed};
+ghost use Rattle.x86_64_mappers.specs.PageAnswers.{allows_call};
 ghost use Rattle.x86_64_model.specs.Mapper.{CleansUp, MayCleanUp, SupplyFits, Valid, translation};
 ghost use Rattle.x86_64_model.specs.PageCalls.{Answers, MapTo, Unmap};
 ghost use Rattle.x86_64_model.specs.Refusal.{Done, Refused};
@@ -26,7 +27,7 @@ pub fn map<M: Mapper<Size4KiB>, A: FrameAllocator<Size4KiB>>(
 ) -> Result<bool, MapToError<Size4KiB>>
     requires { SupplyFits (M.hierarchy mapper.old) (A.supply frames.old) }
     ensures allowed { IfOk result (λ mapped. mapped
-        ≡ allows_page (M.hierarchy mapper.old) (MapTo page frame (bits_of flags))) }
+        ≡ allows_call (M.hierarchy mapper.old) 1 (MapTo page frame (bits_of flags))) }
     ensures does { MapsIfAllowed (M.hierarchy mapper.old) (A.supply frames.old)
         (MapTo page frame (bits_of flags)) (map_answer frame result)
         (M.hierarchy mapper.new) (A.supply frames.new) }
@@ -52,7 +53,7 @@ pub fn unmap<M: Mapper<Size4KiB>>(
 ) -> Result<Option<PhysFrame<Size4KiB>>, UnmapError>
     requires { Valid (M.hierarchy mapper.old) }
     ensures allowed { IfOk result (λ frame. IsSome frame
-        ↔ (allows_page (M.hierarchy mapper.old) (Unmap page) ≡ true)) }
+        ↔ (allows_call (M.hierarchy mapper.old) 1 (Unmap page) ≡ true)) }
     ensures unmapped { IfOk result (λ some. IfSome some (λ frame. Answers (M.hierarchy mapper.old) 1
         (Unmap page) (Done frame) (M.hierarchy mapper.new))) }
     ensures refused { IfErr result (λ why. Answers (M.hierarchy mapper.old) 1 (Unmap page)

@@ -11,7 +11,7 @@ use Rattle.x86_64_model.specs.Position.{index, span}
 use Rattle.x86_64_tables.proofs.WalkSteps.{on_absent, on_end, on_none as walk_none, on_table}
 use Rattle.x86_64_tables.specs.Walks.{ends}
 use Rattle.std.proofs.lemmas.Bool.{leb-false}
-use Rattle.x86_64_access.specs.Access.{Access, Arrives, Controls, Faults, Outcome, allowed, code, low_bits, Step, steps_from, access, reserved}
+use Rattle.x86_64_model.specs.Access.{Access, Arrives, Controls, Faults, Outcome, allowed, code, low_bits, Step, steps_from, access, reserved}
 use Rattle.x86_64_access.specs.private.Walking.{access_on, both}
 use Rattle.x86_64_access.specs.Laws.{ArriveWhereWalksDo, WalksAllowedArrive}
 use Rattle.x86_64_access.proofs.Walked.{and_left, and_right, is_arrival, on_fault, on_none, on_page, on_root, on_table as to_table, on_zero, or_left, or_right, page_low, both_more, both_none, words_in, steps_first, steps_on, steps_page, page_ends, table_high}

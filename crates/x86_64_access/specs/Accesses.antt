@@ -1,6 +1,6 @@
 -- Accesses, controls and faults of Rust as those of the definition.
 use Rattle.std.specs.Prelude.{ℕ, Result, Ok, Err}
-use Rattle.x86_64_access.specs.Access as model
+use Rattle.x86_64_model.specs.Access as model
 use Rattle.x86_64_model.specs.Mappings.{Rights as GrantedRights}
 use Rattle.x86_64_tables.specs.declared.phys_memory.walk.Rights.{Rights}
 use Rattle.x86_64_access.specs.declared.request.Access.{Access}

@@ -5,7 +5,7 @@ use Rattle.x86_64_model.specs.Lists.{In}
 use Rattle.x86_64_model.specs.Mappings.{rights_of}
 use Rattle.x86_64_model.specs.Memory.{Words}
 use Rattle.x86_64_model.specs.PageWalk.{Walked, page_walk}
-use Rattle.x86_64_access.specs.Access.{Access, Arrives, Controls, Step, access, allowed, reserved, steps_from}
+use Rattle.x86_64_model.specs.Access.{Access, Arrives, Controls, Step, access, allowed, reserved, steps_from}
 
 -- An access that arrives does so where the page walk does.
 abbrev pub ArriveWhereWalksDo : Type 0

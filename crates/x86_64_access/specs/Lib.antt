@@ -1,4 +1,4 @@
-pub mod Access
+pub use Rattle.x86_64_model.specs.Access
 pub mod Codes
 pub mod Accesses
 pub mod Laws

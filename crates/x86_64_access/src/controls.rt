@@ -1,6 +1,6 @@
 //! What a processor is set to.
 ghost use Rattle.std.specs.Prelude.{◌≡◌, ◌≤◌};
-ghost use Rattle.x86_64_access.specs.Access as model;
+ghost use Rattle.x86_64_model.specs.Access as model;
 ghost use Rattle.x86_64_access.specs.Accesses.{access_of, controls_of, kind_of, rights_of};
 
 use crate::code::PageFaultCode;
@@ -33,7 +33,7 @@ impl Controls {
     /// 13 to 20 of a 2MiB page; and `NO_EXECUTE` while it is off.
     ///
     /// Requires at most 52 bits of physical addresses.
-    #[tactic(auto, unfolding(crate::specs::Access::reserved))]
+    #[tactic(auto, unfolding(x86_64_model::specs::Access::reserved))]
     pub fn is_reserved(&self, level: u64, entry: &PageTableEntry) -> bool
         requires { self.now.physical_bits ≤ 52 }
         ensures { result ≡ model.reserved (controls_of self.now) level entry.now }

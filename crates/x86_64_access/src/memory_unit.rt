@@ -1,6 +1,6 @@
 //! Accesses, and the faults that they end in.
 ghost use Rattle.std.specs.Prelude.{◌≡◌, ◌<◌, ◌≤◌, ◌+◌, ◌%◌, true};
-ghost use Rattle.x86_64_access.specs.Access as model;
+ghost use Rattle.x86_64_model.specs.Access as model;
 ghost use Rattle.x86_64_model.specs.Mappings.{maps_page};
 ghost use Rattle.x86_64_model.specs.Memory.{words_of};
 ghost use Rattle.x86_64_model.specs.PageWalk.{page_start};
@@ -101,7 +101,7 @@ struct Request {
 
 impl Request {
     ghost use Rattle.std.specs.Prelude.{◌&&◌, true, false, not, cond, OnOk, IfErr};
-    ghost use Rattle.x86_64_access.specs.Access.{Arrives, Faults, allowed, code, marked, reserved, steps_from};
+    ghost use Rattle.x86_64_model.specs.Access.{Arrives, Faults, allowed, code, marked, reserved, steps_from};
     ghost use Rattle.x86_64_model.specs.Entry.{present};
     ghost use Rattle.x86_64_access.specs.Accesses.{fault_of, rights_of};
     ghost use Rattle.x86_64_access.specs.private.Walking.{ArrivesFrom};

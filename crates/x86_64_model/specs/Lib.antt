@@ -11,6 +11,7 @@ pub mod Hierarchy
 pub mod Window
 pub mod PageWalk
 pub mod Mappings
+pub mod Access
 pub mod Regions
 pub mod Translation
 pub mod WrittenOut

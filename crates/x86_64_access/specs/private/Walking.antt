@@ -1,7 +1,7 @@
 -- An access from a frame's table on, by the rights that the words above it grant.
 use Rattle.std.specs.Prelude.{◌≡◌, ℕ, ◌&&◌, map, None}
 use Rattle.std.specs.List.{last_or}
-use Rattle.x86_64_access.specs.Access.{Access, Controls, Outcome, Arrives, steps_from, ends_by}
+use Rattle.x86_64_model.specs.Access.{Access, Controls, Outcome, Arrives, steps_from, ends_by}
 use Rattle.x86_64_model.specs.Mappings.{Rights, rights_of}
 use Rattle.x86_64_model.specs.Memory.{Words}
 

@@ -1,5 +1,5 @@
 use Rattle.std.proofs.Common.{rules, ◌≡◌, ◌∙◌, true, sym}
-use Rattle.x86_64_access.specs.Access.{Arrives, access}
+use Rattle.x86_64_model.specs.Access.{Arrives, access}
 use Rattle.x86_64_access.specs.Accesses.{access_of, controls_of}
 use Rattle.x86_64_model.specs.Memory.{words_of}
 use Rattle.x86_64_access.proofs.Walked.{on_root}

@@ -4,7 +4,7 @@ use Rattle.x86_64_model.specs.Mappings.{maps_page}
 use Rattle.x86_64_model.specs.Memory.{words_of}
 use Rattle.x86_64_model.specs.Position.{index}
 use Rattle.x86_64_model.specs.PageWalk.{read}
-use Rattle.x86_64_access.specs.Access.{bits_to_set, marked, set_bits, steps_from}
+use Rattle.x86_64_model.specs.Access.{bits_to_set, marked, set_bits, steps_from}
 use Rattle.x86_64_model.specs.Entry.{address}
 use Rattle.x86_64_access.specs.Accesses.{access_of, controls_of, kind_of}
 use Rattle.x86_64_access.proofs.Walked.{arrives_below, marks_page, marks_table, none_arrives, table_high}

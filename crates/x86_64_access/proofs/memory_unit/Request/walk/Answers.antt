@@ -5,7 +5,7 @@ use Rattle.x86_64_model.specs.Mappings.{maps_page}
 use Rattle.x86_64_model.specs.Memory.{words_of}
 use Rattle.x86_64_model.specs.Position.{index, span}
 use Rattle.x86_64_model.specs.PageWalk.{read, page_start}
-use Rattle.x86_64_access.specs.Access.{Arrives, Faults, allowed, code, reserved}
+use Rattle.x86_64_model.specs.Access.{Arrives, Faults, allowed, code, reserved}
 use Rattle.x86_64_access.specs.Accesses.{access_of, controls_of, outcome_of, rights_of}
 use Rattle.x86_64_access.specs.private.Walking.{access_on}
 use Rattle.x86_64_model.specs.Caches.{granted}

@@ -1,6 +1,6 @@
 use Rattle.std.proofs.Common.{◌≡◌, ◌-◌}
 use Rattle.x86_64_model.specs.Memory.{words_of}
-use Rattle.x86_64_access.specs.Access.{access}
+use Rattle.x86_64_model.specs.Access.{access}
 use Rattle.x86_64_access.specs.Accesses.{access_of, controls_of, rights_of}
 use Rattle.x86_64_access.specs.private.Walking.{access_on}
 use Rattle.x86_64_access.proofs.memory_unit.Request.walk.Given as goal
