@@ -2,6 +2,7 @@
 use Rattle.std.proofs.Common.{◌≡◌, ◌∙◌, ℕ, List, Some, Result, sym, ap, subst}
 use Rattle.std.specs.Result.{IfOk}
 use Rattle.std.proofs.lemmas.Result.{IfOk-weaker}
+use Rattle.x86_64_model.specs.Mapper.{◌laid_in◌}
 use Rattle.x86_64_model.specs.Layout.{Layout}
 use Rattle.x86_64_model.specs.Machine.{State}
 use Rattle.x86_64_model.specs.Pool.{serves_below}
@@ -35,10 +36,10 @@ answered_alike levels offset before free call after rest reply first last answer
     }
 
 -- the free frames fit at the offset
-pub at_offset : (levels offset : ℕ) (m : Memory) (limit : ℕ) (free : List ℕ) → OffsetFits levels m offset → runs.FitsPool (direct_layout levels) m (serves_below limit) free → runs.FitsPool (layout_at levels offset) m (serves_below limit) free
+pub at_offset : (levels offset : ℕ) (m : Memory) (limit : ℕ) (free : List ℕ) → OffsetFits levels m offset → runs.PoolFits (direct_layout levels laid_in m) (serves_below limit) free → runs.PoolFits (layout_at levels offset laid_in m) (serves_below limit) free
 at_offset levels offset m limit free reached fits = (offset_fits levels m offset reached 0x1000 (serves_below limit) free).0 fits
 
-module _ (levels offset limit : ℕ) (m : Memory) (free rest : List ℕ) (reached : OffsetFits levels m offset) (fits : runs.FitsPool (direct_layout levels) m (serves_below limit) free) where
+module _ (levels offset limit : ℕ) (m : Memory) (free rest : List ℕ) (reached : OffsetFits levels m offset) (fits : runs.PoolFits (direct_layout levels laid_in m) (serves_below limit) free) where
   -- what is kept at the offset, by the mapper's layout and its memory before and after
   kept_at : (l : Layout) (before after n : Memory) → n ≡ after → l ≡ layout_at levels offset → before ≡ m → runs.KeepsPool l (serves_below limit) before free after rest → runs.KeepsPool (layout_at levels offset) (serves_below limit) m free n rest
   kept_at l before after n last is first = moved (λ (l : Layout) (m n : Memory). runs.KeepsPool l (serves_below limit) m free n rest) l (layout_at levels offset) before m after n is first last

@@ -1,7 +1,8 @@
 -- The hierarchy of a mode for a number of levels, and what the mapper of the mode does with it.
 use Rattle.std.proofs.Common.{◌≡◌, ℕ, List, sym, ap, ◌∙◌, subst}
 use Rattle.x86_64_model.specs.Alike.{Alike}
-use Rattle.x86_64_model.specs.Layout.{Layout, paths}
+use Rattle.x86_64_model.specs.Layout.{Layout}
+use Rattle.x86_64_model.specs.Mapper.{◌laid_in◌, paths}
 use Rattle.x86_64_model.specs.Pool.{serves_below}
 use Rattle.x86_64_model.specs.Memory.{Memory}
 use Rattle.x86_64.specs.Asked.{MapperCall}
@@ -55,15 +56,15 @@ module _ (before : Hierarchy) (levels : ℕ) (known : count (levels_of before.mo
 -- ---- two hierarchies
 
 -- path maps are alike in the words of a pair
-pub alike_as_pair : (levels index : ℕ) (l k : Layout) (m n one other : Memory) → Alike levels (paths l m) (paths k n) → l ≡ direct_layout levels → k ≡ recursive_layout levels other index → m ≡ one → n ≡ other
-    → Alike levels (paths (direct_layout levels) one) (paths (recursive_layout levels other index) other)
+pub alike_as_pair : (levels index : ℕ) (l k : Layout) (m n one other : Memory) → Alike levels (paths (l laid_in m)) (paths (k laid_in n)) → l ≡ direct_layout levels → k ≡ recursive_layout levels other index → m ≡ one → n ≡ other
+    → Alike levels (paths (direct_layout levels laid_in one)) (paths (recursive_layout levels other index laid_in other))
 alike_as_pair levels index l k m n one other alike lies also here there =
     let first = direct_layout levels in
     let second = recursive_layout levels other index in
-    subst (λ (m : Memory). Alike levels (paths first m) (paths second other)) here
-    (subst (λ (n : Memory). Alike levels (paths first m) (paths second n)) there
-    (subst (λ (l : Layout). Alike levels (paths l m) (paths second n)) lies
-    (subst (λ (k : Layout). Alike levels (paths l m) (paths k n)) also alike)))
+    subst (λ (m : Memory). Alike levels (paths (first laid_in m)) (paths (second laid_in other))) here
+    (subst (λ (n : Memory). Alike levels (paths (first laid_in m)) (paths (second laid_in n))) there
+    (subst (λ (l : Layout). Alike levels (paths (l laid_in m)) (paths (second laid_in n))) lies
+    (subst (λ (k : Layout). Alike levels (paths (l laid_in m)) (paths (k laid_in n))) also alike)))
 
 -- the recursive mapper's hierarchy of a pair, if the mode has this number of levels
 pub twin_in : (known levels index : ℕ) (memory : Memory) (free : List ℕ) (twin : Frames) → known ≡ levels → IsTwin levels index memory free twin → IsTwin known index memory free twin

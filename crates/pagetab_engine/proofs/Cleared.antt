@@ -6,11 +6,10 @@ use Rattle.x86_64_model.proofs.Lemmas.Hierarchies.Memories.{words_of-insert, ide
 use Rattle.x86_64_model.specs.Alike.{Alike}
 use Rattle.x86_64_model.specs.Entry.{address}
 use Rattle.x86_64_model.specs.Hierarchy.{IsValid, paths_of}
-use Rattle.x86_64_model.specs.Layout.{paths}
+use Rattle.x86_64_model.specs.Mapper.{◌laid_in◌, PoolFits, paths}
 use Rattle.x86_64_model.specs.Memory.{Memory, Words, identity_places, words_of, set_word}
 use Rattle.x86_64_model.specs.PathMap.{PathMap, entry, table_at}
 use Rattle.x86_64_model.specs.Pool.{IsTable}
-use Rattle.x86_64.specs.Runs.{FitsPool}
 use Rattle.pagetab_engine.specs.Arguments.{count}
 use Rattle.pagetab_engine.specs.Frames.{direct_layout, recursive_layout, without_self_entry}
 use Rattle.pagetab_engine.specs.Slot.{stored_in}
@@ -37,13 +36,13 @@ module _ (levels : Levels) (m : Memory) (r : ℕ) where
       by (Some table) is = words_of-insert m identity_places 0x1000 r 0 table identity_distinct refl is
       by None is = no_root is
 
-  pub cleared_paths : paths (direct_layout (count levels)) (without_self_entry r m) ≡ paths (recursive_layout (count levels) m r) m
+  pub cleared_paths : paths (direct_layout (count levels) laid_in without_self_entry r m) ≡ paths (recursive_layout (count levels) m r laid_in m)
   cleared_paths = ap (λ (T : Words). paths_of (count levels) T 0x1000) cleared_words
 
-  pub cleared_alike : Alike (count levels) (paths (direct_layout (count levels)) (without_self_entry r m)) (paths (recursive_layout (count levels) m r) m)
+  pub cleared_alike : Alike (count levels) (paths (direct_layout (count levels) laid_in without_self_entry r m)) (paths (recursive_layout (count levels) m r laid_in m))
   cleared_alike = λ q. inl (ap (λ (M : PathMap). entry M q) cleared_paths)
 
-  pub cleared_fits : (serves : ℕ → Bool) (free : List ℕ) → FitsPool (recursive_layout (count levels) m r) m serves free → FitsPool (direct_layout (count levels)) (without_self_entry r m) serves free
+  pub cleared_fits : (serves : ℕ → Bool) (free : List ℕ) → PoolFits (recursive_layout (count levels) m r laid_in m) serves free → PoolFits (direct_layout (count levels) laid_in without_self_entry r m) serves free
   cleared_fits serves free fits = record {
     valid = record { valid = subst (λ (T : Words). IsValid (count levels) T 0x1000 (paths_of (count levels) T 0x1000)) (sym cleared_words) fits.valid.valid; self = tt };
     each_once = fits.each_once;

@@ -3,11 +3,10 @@ use Rattle.std.proofs.Common.{◌≡◌, ◌↔◌, ◌∙◌, IsTrue, Bool, ℕ
 use Rattle.std.specs.Cmp.{nat_cmp_total}
 use Rattle.std.specs.FinMap.{get, same_map, nat_cmp-IsAntisymmetric}
 use Rattle.x86_64_model.specs.Alike.{Alike}
-use Rattle.x86_64_model.specs.Layout.{paths}
+use Rattle.x86_64_model.specs.Mapper.{◌laid_in◌, PoolFits, paths}
 use Rattle.x86_64_model.specs.Pool.{serves_below}
 use Rattle.x86_64_model.specs.Memory.{Memory}
 use Rattle.x86_64_tables.specs.PageTable.{zero_words}
-use Rattle.x86_64.specs.Runs.{FitsPool}
 use Rattle.pagetab_engine.specs.Arguments.{count}
 use Rattle.pagetab_engine.specs.Frames.{direct_layout, recursive_layout, without_self_entry}
 use Rattle.pagetab_engine.specs.Hierarchy.{IsCopy, HasCopy, FitsIn, FitsImage, IsReached, IsHierarchy, first_memory}
@@ -41,13 +40,13 @@ fits_at_end (Offset offset) frames twin copied = (λ fits. record { fits = fits.
 fits_at_end (Recursive levels index) frames twin copied = (λ fits. record { fits = fits.0; reached = tt; twin = tt }, λ is. (is.fits, tt))
 fits_at_end (Pair levels index) frames twin copied = (
   λ fits. record {
-    fits = subst₂ (λ (free : List ℕ) limit. FitsPool (direct_layout (count levels)) (without_self_entry index frames.memory) (serves_below limit) free) copied.1 copied.2
-        (subst (λ (m : Memory). FitsPool (direct_layout (count levels)) (without_self_entry index m) (serves_below twin.pool.limit) twin.pool.frames) copied.0
+    fits = subst₂ (λ (free : List ℕ) limit. PoolFits (direct_layout (count levels) laid_in without_self_entry index frames.memory) (serves_below limit) free) copied.1 copied.2
+        (subst (λ (m : Memory). PoolFits (direct_layout (count levels) laid_in without_self_entry index m) (serves_below twin.pool.limit) twin.pool.frames) copied.0
         (cleared_fits levels twin.memory index (serves_below twin.pool.limit) twin.pool.frames fits.0));
     reached = tt;
     twin = record {
       fits = fits.0;
-      alike = subst (λ (m : Memory). Alike (count levels) (paths (direct_layout (count levels)) (without_self_entry index m)) (paths (recursive_layout (count levels) twin.memory index) twin.memory)) copied.0 (cleared_alike levels twin.memory index);
+      alike = subst (λ (m : Memory). Alike (count levels) (paths (direct_layout (count levels) laid_in without_self_entry index m)) (paths (recursive_layout (count levels) twin.memory index laid_in twin.memory))) copied.0 (cleared_alike levels twin.memory index);
       same_free = sym copied.1;
     };
   },

@@ -1,7 +1,7 @@
 -- What no command changes, and so no list of commands.
 use Rattle.std.proofs.Common.{◌≡◌, ◌↔◌, ℕ, List, [], refl, sym, ap, ◌∙◌, subst, subst₂}
 use Rattle.x86_64_model.specs.Layout.{Layout}
-use Rattle.x86_64_model.specs.Layout.{Owns, KeepsOthers}
+use Rattle.x86_64_model.specs.Mapper.{◌laid_in◌, KeepsOutside, Owns}
 use Rattle.x86_64_model.specs.Pool.{serves_below}
 use Rattle.x86_64_model.specs.Memory.{Memory, Places, identity_places}
 use Rattle.x86_64.specs.Runs as runs
@@ -45,12 +45,12 @@ kept_by before after same serves mode is still reached twin kept =
       layout = last ∙ sym first;
       serves = serves;
       fits = record {
-        fits = subst₂ (λ l serves. runs.FitsPool l n serves rest) (sym last) (sym serves) kept.fits;
+        fits = subst₂ (λ l serves. runs.PoolFits (l laid_in n) serves rest) (sym last) (sym serves) kept.fits;
         reached = subst (λ mode. IsReached mode n) (sym (same ∙ is)) reached;
         twin = subst (λ mode. HasTwin mode after.frames after.twin) (sym (same ∙ is)) twin;
       };
-      conserved = λ frame. subst₂ (λ (l k : Layout). Owns l m free frame ↔ Owns k n rest frame) (sym first) (sym last) (kept.conserved frame);
-      others = subst₂ (λ (l : Layout) (places : Places). KeepsOthers places (Owns l m free) m n) (sym first) (by_number mode m) kept.others;
+      conserved = λ frame. subst₂ (λ (l k : Layout). Owns (l laid_in m) free frame ↔ Owns (k laid_in n) rest frame) (sym first) (sym last) (kept.conserved frame);
+      others = subst₂ (λ (l : Layout) (places : Places). KeepsOutside places (Owns (l laid_in m) free) m n) (sym first) (by_number mode m) kept.others;
     }
 
 -- what is kept in the hierarchy is what a mapper keeps
@@ -58,9 +58,9 @@ pub kept_as : (before after : Hierarchy) → KeepsHierarchy before after → run
 kept_as before after kept =
     let m = before.frames.memory in let n = after.frames.memory in
     let free = before.frames.pool.frames in let rest = after.frames.pool.frames in record {
-      fits = subst₂ (λ l serves. runs.FitsPool l n serves rest) kept.layout kept.serves kept.fits.fits;
-      conserved = λ frame. subst (λ (l : Layout). Owns (layout_of before) m free frame ↔ Owns l n rest frame) kept.layout (kept.conserved frame);
-      others = subst (λ (places : Places). KeepsOthers places (Owns (layout_of before) m free) m n) (sym (by_number before.mode m)) kept.others;
+      fits = subst₂ (λ l serves. runs.PoolFits (l laid_in n) serves rest) kept.layout kept.serves kept.fits.fits;
+      conserved = λ frame. subst (λ (l : Layout). Owns (layout_of before laid_in m) free frame ↔ Owns (l laid_in n) rest frame) kept.layout (kept.conserved frame);
+      others = subst (λ (places : Places). KeepsOutside places (Owns (layout_of before laid_in m) free) m n) (sym (by_number before.mode m)) kept.others;
     }
 
 -- ---- the words of free frames

@@ -1,6 +1,7 @@
 -- A command has the same reply and effect on hierarchies that commands can't tell apart.
 use Rattle.std.proofs.Common.{◌≡◌, ◌*◌, ◌<◌, ◌%◌, ◌^◌, ℕ, cond, List, [], Option, Some, option_map, refl, sym, ap, ◌∙◌, subst, arith}
-use Rattle.x86_64_model.specs.Layout.{Layout, paths}
+use Rattle.x86_64_model.specs.Layout.{Layout}
+use Rattle.x86_64_model.specs.Mapper.{◌laid_in◌, paths}
 use Rattle.x86_64_model.specs.Machine.{State}
 use Rattle.x86_64_model.specs.Pool.{serves_below}
 use Rattle.x86_64_model.specs.Memory.{IsMapping, Memory, Places, Words, identity_places, words_of, word}
@@ -89,9 +90,9 @@ module _ (h k : Hierarchy) (same : IsSame h k) where
     other_left =
         subst (λ (at : Layout × List ℕ × List ℕ × List ℕ). IsLeft at.0 k.frames.memory at.1 at.2 b.frames.memory at.3) (sym (λ i. (same.layout i, (same.state i).pool, same_back asked i, (after_state i).pool))) (left_by k b other also)
 
-    same_paths : paths (layout_of h) a.frames.memory ≡ paths (layout_of h) b.frames.memory
+    same_paths : paths (layout_of h laid_in a.frames.memory) ≡ paths (layout_of h laid_in b.frames.memory)
     same_paths =
-        ap (λ l. paths l a.frames.memory) (sym answers.keeps.layout) ∙ ap (λ (s : State). s.paths) after_state ∙ ap (λ l. paths l b.frames.memory) (also.keeps.layout ∙ sym same.layout)
+        ap (λ l. paths (l laid_in a.frames.memory)) (sym answers.keeps.layout) ∙ ap (λ (s : State). s.paths) after_state ∙ ap (λ l. paths (l laid_in b.frames.memory)) (also.keeps.layout ∙ sym same.layout)
 
     after_words : SameWords (words_of a.frames.memory identity_places) (words_of b.frames.memory identity_places)
     after_words =

@@ -2,6 +2,7 @@
 use Rattle.std.proofs.Common.{◌≡◌, ◌/◌, ◌<◌, ℕ, List, [], ◌++◌, ◌∷◌, sym, ap, ◌∙◌, subst}
 use Rattle.std.specs.Cmp.{nat_cmp_total}
 use Rattle.std.specs.FinMap.{same_map, nat_cmp-IsAntisymmetric}
+use Rattle.x86_64_model.specs.Mapper.{◌laid_in◌}
 use Rattle.x86_64_model.specs.Layout.{Layout}
 use Rattle.x86_64_model.specs.Lists.{In}
 use Rattle.x86_64_model.specs.Pool.{serves_below}
@@ -74,7 +75,7 @@ pub turned : (f g : Frames) → SameFrames f g → SameFrames g f
 turned f g same = record { memory = sym same.memory; free = sym same.free; limit = sym same.limit }
 
 fits_by : (by : Memory → Layout) (f g : Frames) → SameFrames f g → FitsBy (by f.memory) f → FitsBy (by g.memory) g
-fits_by by f g same = subst (λ (at : Memory × ℕ × List ℕ). runs.FitsPool (by at.0) at.0 (serves_below at.1) at.2) (λ i. (same.memory i, same.limit i, same.free i))
+fits_by by f g same = subst (λ (at : Memory × ℕ × List ℕ). runs.PoolFits (by at.0 laid_in at.0) (serves_below at.1) at.2) (λ i. (same.memory i, same.limit i, same.free i))
 
 fits_in : (mode : Mode) (f c g d : Frames) → SameFrames f g → IsCopy mode f c → IsCopy mode g d → FitsIn mode f c → FitsIn mode g d
 fits_in (Direct levels) f c g d same copy other fits = fits_by (λ m. direct_layout (count levels)) f g same fits

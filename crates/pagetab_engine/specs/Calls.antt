@@ -2,7 +2,7 @@
 use Rattle.std.specs.Prelude.{◌≡◌, ℕ, List, Some}
 use Rattle.x86_64_model.specs.Layout.{Layout}
 use Rattle.x86_64_model.specs.Machine.{Machine, State}
-use Rattle.x86_64_model.specs.Mapper.{Hierarchy}
+use Rattle.x86_64_model.specs.Mapper.{◌laid_in◌, Hierarchy}
 use Rattle.x86_64_model.specs.Memory.{Memory}
 use Rattle.x86_64_model.specs.Pool.{serves_below}
 use Rattle.x86_64_tables.specs.FramePool.{FreeFrames}
@@ -31,7 +31,7 @@ AnsweredBy h free asked after rest reply = IsAnswered h.layout h.memory free ask
 
 -- The hierarchy of the layout is valid in the memory, and the pool fits it.
 abbrev pub PoolFits : Layout → Memory → FreeFrames → Type 0
-PoolFits by memory pool = runs.FitsPool by memory (serves_below pool.limit) pool.frames
+PoolFits by memory pool = runs.PoolFits (by laid_in memory) (serves_below pool.limit) pool.frames
 
 -- The pool fits the valid hierarchy again, and serves the same frames. Free frames and tables together are the same set as before,
 -- and no word outside them and the root changed.

@@ -8,7 +8,7 @@ use Rattle.x86_64_tables.specs.declared.frame_alloc.pool.PoolRefusal.{PoolRefusa
 use Rattle.x86_64_tables.specs.declared.frame_alloc.pool.PoolRefusal.TheVariants.{Zero, OutOfRange, AlreadyFree}
 use Rattle.x86_64_mappers.specs.Layouts.{direct_at}
 use Rattle.x86_64_mappers.specs.Recursive.{recursive_now_at}
-use Rattle.x86_64.specs.Runs.{FitsPool}
+use Rattle.x86_64_model.specs.Mapper.{◌laid_in◌, PoolFits}
 use Rattle.pagetab_engine.specs.Slot.{stored}
 use Rattle.pagetab_engine.specs.declared.frames.Frames.{Frames}
 use Rattle.pagetab_engine.specs.declared.statement.ImageLine.{ImageLine}
@@ -24,7 +24,7 @@ recursive_layout levels memory index = recursive_now_at levels memory 0x1000 ind
 
 -- the hierarchy is valid, and the free frames fit it
 abbrev pub FitsBy : Layout → Frames → Type 0
-FitsBy layout frames = FitsPool layout frames.memory (serves_below frames.pool.limit) frames.pool.frames
+FitsBy layout frames = PoolFits (layout laid_in frames.memory) (serves_below frames.pool.limit) frames.pool.frames
 
 -- the memory after the root's word at a recursive index was set to 0
 abbrev pub without_self_entry : (index : ℕ) → Memory → Memory

@@ -1,9 +1,9 @@
 -- The hierarchy that the program reads, or two with one image in a pair, as a machine.
 use Rattle.std.specs.Prelude.{◌≡◌, ◌↔◌, ℕ, ⊤, Bool, cond, false, List, [], Some}
 use Rattle.x86_64_model.specs.Alike.{Alike}
-use Rattle.x86_64_model.specs.Layout.{Layout, paths}
+use Rattle.x86_64_model.specs.Layout.{Layout}
+use Rattle.x86_64_model.specs.Mapper.{◌laid_in◌, KeepsOutside, Owns, paths}
 use Rattle.x86_64_model.specs.Machine.{Machine, State}
-use Rattle.x86_64_model.specs.Layout.{Owns, KeepsOthers}
 use Rattle.x86_64_model.specs.Pool.{serves_below}
 use Rattle.x86_64_model.specs.Memory.{Memory, identity_places}
 use Rattle.x86_64_mappers.specs.Offsets.{OffsetFits}
@@ -116,7 +116,7 @@ ReachesAll hierarchy = IsReached hierarchy.mode hierarchy.frames.memory
 -- the direct mapper's.
 pub record IsTwin (levels index : ℕ) (memory : Memory) (free : List ℕ) (twin : Frames) : Type 0 where
   pub fits : FitsBy (recursive_layout levels twin.memory index) twin
-  pub alike : Alike levels (paths (direct_layout levels) memory) (paths (recursive_layout levels twin.memory index) twin.memory)
+  pub alike : Alike levels (paths (direct_layout levels laid_in memory)) (paths (recursive_layout levels twin.memory index laid_in twin.memory))
   pub same_free : free ≡ twin.pool.frames
 
 -- in a pair the two hierarchies are alike
@@ -132,7 +132,7 @@ pub record IsHierarchy (hierarchy : Hierarchy) : Type 0 where
 
 -- the root, a table, or a free frame
 abbrev pub IsOwn : Hierarchy → (frame : ℕ) → Type 0
-IsOwn hierarchy frame = Owns (layout_of hierarchy) hierarchy.frames.memory hierarchy.frames.pool.frames frame
+IsOwn hierarchy frame = Owns (layout_of hierarchy laid_in hierarchy.frames.memory) hierarchy.frames.pool.frames frame
 
 -- The mode, the layout and the frames that the pool serves stay, and the free frames fit the valid hierarchy again. Free frames
 -- and tables together are the same set as before, and no word outside them and the root changed.
@@ -142,4 +142,4 @@ pub record KeepsHierarchy (before after : Hierarchy) : Type 0 where
   pub serves : serves_below after.frames.pool.limit ≡ serves_below before.frames.pool.limit
   pub fits : IsHierarchy after
   pub conserved : (frame : ℕ) → IsOwn before frame ↔ IsOwn after frame
-  pub others : KeepsOthers identity_places (IsOwn before) before.frames.memory after.frames.memory
+  pub others : KeepsOutside identity_places (IsOwn before) before.frames.memory after.frames.memory

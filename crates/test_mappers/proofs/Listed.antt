@@ -5,7 +5,7 @@ use Rattle.std.specs.List.{All, cons_option, list_all, range_with_len}
 use Rattle.x86_64_model.specs.Entry.{has, present, no_execute, flags, address}
 use Rattle.x86_64_model.specs.Hierarchy.{paths_of}
 use Rattle.x86_64_model.specs.Laws.Mappings.{entries_along}
-use Rattle.x86_64_model.specs.Layout.{Valid}
+use Rattle.x86_64_model.specs.Mapper.{◌laid_in◌, Valid}
 use Rattle.x86_64_model.specs.Lists.{In}
 use Rattle.x86_64_model.specs.MapRule.{parent_part}
 use Rattle.x86_64_model.specs.Mappings.{Mapping, is_leaf, leaf_of, mapping_at, mapping_of, mappings_of}
@@ -142,7 +142,7 @@ module _ (T : Words) (root : ℕ) (M : PathMap) (valid : IsValidFor 4 None T roo
 
 -- ---- the pages of segments
 
-pub segments_listed : (root : ℕ) (memory : Memory) (segments : List Segment) → Valid (direct identity_places root) memory
+pub segments_listed : (root : ℕ) (memory : Memory) (segments : List Segment) → Valid (direct identity_places root laid_in memory)
     → All (IsLoaded small_pages (owned identity_places root memory (tt {0}))) segments → All (AreListed (mappings_of 4 (words_of memory identity_places) root)) segments
 segments_listed root memory segments valid loaded n d within k below =
     let s = get_or segments n d in

@@ -6,7 +6,7 @@ ghost use Rattle.x86_64_model.specs.Memory.{identity_places, words_of};
 ghost use Rattle.x86_64_model.specs.PageWalk.{read};
 ghost use Rattle.x86_64_model.specs.Pool.{serves_below};
 ghost use Rattle.x86_64_tables.specs.LentMemory.{numbered};
-ghost use Rattle.x86_64.specs.Runs.{FitsPool};
+ghost use Rattle.x86_64_model.specs.Mapper.{◌laid_in◌, PoolFits};
 
 use crate::beside::empty_tables;
 use crate::prelude::*;
@@ -21,9 +21,9 @@ fn run_in_tables(
     replies: &mut Vec<Reply>,
 ) -> Result<(), AllocError>
     requires { let layout = direct identity_places root in
-        FitsPool layout (numbered tables.old) (serves_below pool.old.limit) pool.old.frames }
+        PoolFits (layout laid_in numbered tables.old) (serves_below pool.old.limit) pool.old.frames }
     ensures { let layout = direct identity_places root in
-        FitsPool layout (numbered tables.new) (serves_below pool.old.limit) pool.new.frames }
+        PoolFits (layout laid_in numbered tables.new) (serves_below pool.old.limit) pool.new.frames }
 {
     let mut memory = LentMemory::new(tables);
     run_on(&mut memory, IdentityMapping, root, pool, calls, replies)
@@ -50,7 +50,7 @@ fn word_in(tables: &[PageTable], frame: Frame, index: PageTableIndex) -> Option<
 /// Returns whether a pool fits the hierarchy of a guest, which is tested in place.
 fn fits(rt: impl Test, tables: &mut [PageTable], root: Frame, pool: &FramePool) -> bool
     ensures { let layout = direct identity_places root in let serves = serves_below pool.now.limit in
-        IsTrue result → FitsPool layout (numbered tables.new) serves pool.now.frames }
+        IsTrue result → PoolFits (layout laid_in numbered tables.new) serves pool.now.frames }
 {
     let (alloc, memory) = (rt.alloc(), LentMemory::new(tables));
     unwrap(rt, pool_fits(alloc, &memory, &IdentityMapping, root, pool))

@@ -4,8 +4,7 @@ ghost use Rattle.std.specs.List.{All};
 ghost use Rattle.x86_64_loader.specs.Segments.{IsAllowed, IsLoaded, Suffices, small_pages};
 ghost use Rattle.test_mappers.specs.Listed.{AreListed};
 ghost use Rattle.x86_64_mappers.specs.Layouts.{direct, owned};
-ghost use Rattle.x86_64_model.specs.Layout.{IsReady};
-ghost use Rattle.x86_64_model.specs.Mapper.{SupplyFits};
+ghost use Rattle.x86_64_model.specs.Mapper.{◌laid_in◌, SupplyFits};
 ghost use Rattle.x86_64_model.specs.Mappings.{mappings_of};
 ghost use Rattle.x86_64_model.specs.Memory.{identity_places, words_of};
 
@@ -38,13 +37,13 @@ fn load_into<T: TableMemory>(
     pool: &mut FramePool,
     segments: &[Segment],
 ) -> bool
-    requires { IsReady (direct identity_places root) (T.tables memory.old) pool.old.frames }
+    requires { SupplyFits (direct identity_places root laid_in T.tables memory.old) pool.old.frames }
     ensures loaded { let h = owned identity_places root (T.tables memory.new) (tt {0}) in
         IsTrue result → All (IsLoaded small_pages h) segments.now }
     ensures succeeds { let h = owned identity_places root (T.tables memory.old) (tt {0}) in
         All (IsAllowed h) segments.now → Suffices small_pages h pool.old.frames segments.now
         → IsTrue result }
-    ensures fits { IsReady (direct identity_places root) (T.tables memory.new) pool.new.frames }
+    ensures fits { SupplyFits (direct identity_places root laid_in T.tables memory.new) pool.new.frames }
     ensures lent { T.lent memory.new ≡ T.lent memory.old }
 {
     let mut mapper = MappedPageTable::new(memory, root, IdentityMapping);
@@ -60,7 +59,7 @@ fn load_and_list<T: TableMemory>(
     pool: &mut FramePool,
     segments: &[Segment],
 ) -> Result<Option<Vec<Mapping>>, AllocError>
-    requires { IsReady (direct identity_places root) (T.tables memory.old) pool.old.frames }
+    requires { SupplyFits (direct identity_places root laid_in T.tables memory.old) pool.old.frames }
     ensures all { let words = words_of (T.tables memory.new) identity_places in
         IfOk result (λ listed. IfSome listed (λ mappings. mappings.items ≡ mappings_of 4 words root)) }
     ensures loaded { IfOk result (λ listed.
@@ -68,7 +67,7 @@ fn load_and_list<T: TableMemory>(
     ensures succeeds { let h = owned identity_places root (T.tables memory.old) (tt {0}) in
         All (IsAllowed h) segments.now → Suffices small_pages h pool.old.frames segments.now
         → IfOk result IsSome }
-    ensures fits { IsReady (direct identity_places root) (T.tables memory.new) pool.new.frames }
+    ensures fits { SupplyFits (direct identity_places root laid_in T.tables memory.new) pool.new.frames }
     ensures lent { T.lent memory.new ≡ T.lent memory.old }
 {
     if !load_into(memory, root, pool, segments) {

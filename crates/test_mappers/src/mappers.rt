@@ -2,7 +2,7 @@
 ghost use Rattle.std.specs.Prelude.{◌≡◌, ◌/◌};
 ghost use Rattle.std.specs.FinMap.{insert};
 ghost use Rattle.x86_64_tables.specs.PageTable.{zero_words};
-ghost use Rattle.x86_64_model.specs.Layout.{Valid};
+ghost use Rattle.x86_64_model.specs.Mapper.{◌laid_in◌, Valid};
 ghost use Rattle.x86_64_model.specs.Memory.{identity_places};
 ghost use Rattle.x86_64_mappers.specs.Layouts.{direct_at};
 ghost use Rattle.x86_64_mappers.specs.Recursive.{recursive_now_at};
@@ -64,7 +64,7 @@ fn translations_have_texts_and_their_frames_a_size(rt: HostRuntime) {
 
 /// Makes the entries of the root unused, and returns the first one's word. The owner knows the memory afterwards.
 fn clear_root(memory: &mut PhysMemory, root: Frame) -> u64
-    requires { Valid (direct_at 4 identity_places root) memory.old }
+    requires { Valid (direct_at 4 identity_places root laid_in memory.old) }
     ensures { memory.new ≡ insert memory.old (root / 4096) zero_words }
 {
     let mut mapper = MappedPageTable::new(memory, root, IdentityMapping);
@@ -75,7 +75,7 @@ fn clear_root(memory: &mut PhysMemory, root: Frame) -> u64
 
 /// This with five levels of tables.
 fn clear_root_57(memory: &mut PhysMemory, root: Frame) -> u64
-    requires { Valid (direct_at 5 identity_places root) memory.old }
+    requires { Valid (direct_at 5 identity_places root laid_in memory.old) }
     ensures { memory.new ≡ insert memory.old (root / 4096) zero_words }
 {
     let mut mapper = MappedPageTable57::new(memory, root, IdentityMapping);
@@ -86,7 +86,7 @@ fn clear_root_57(memory: &mut PhysMemory, root: Frame) -> u64
 
 /// Does this through the root's window.
 fn clear_window(memory: &mut PhysMemory, root: Frame, index: PageTableIndex) -> u64
-    requires { Valid (recursive_now_at 4 memory.old root index) memory.old }
+    requires { Valid (recursive_now_at 4 memory.old root index laid_in memory.old) }
     ensures { memory.new ≡ insert memory.old (root / 4096) zero_words }
 {
     let mut mapper = RecursivePageTable::new_unchecked(ActiveMemory::new(memory, root), index);
@@ -97,7 +97,7 @@ fn clear_window(memory: &mut PhysMemory, root: Frame, index: PageTableIndex) -> 
 
 /// This with five levels of tables.
 fn clear_window_57(memory: &mut PhysMemory, root: Frame, index: PageTableIndex) -> u64
-    requires { Valid (recursive_now_at 5 memory.old root index) memory.old }
+    requires { Valid (recursive_now_at 5 memory.old root index laid_in memory.old) }
     ensures { memory.new ≡ insert memory.old (root / 4096) zero_words }
 {
     let mut mapper = RecursivePageTable57::new_unchecked(ActiveMemory57::new(memory, root), index);

@@ -1,7 +1,7 @@
 //! Address spaces that share the upper half, with four and five levels of tables, and processes of a kernel.
 ghost use Rattle.std.specs.Prelude.{◌≡◌, true, None};
 ghost use Rattle.x86_64_mappers.specs.Layouts.{direct_at};
-ghost use Rattle.x86_64_model.specs.FitsPool.{FitsPool};
+ghost use Rattle.x86_64_model.specs.Mapper.{◌laid_in◌, PoolFits};
 ghost use Rattle.x86_64_model.specs.Memory.{identity_places};
 ghost use Rattle.x86_64_model.specs.Pool.{serves_below};
 
@@ -22,7 +22,7 @@ fn space(root: Frame) -> Space
 /// Aborts unless a hierarchy is an address space that the pool fits, together with the other one, if that differs.
 fn assert_fit<L: LevelCount>(rt: impl Test, world: &World, root: Frame, other: Frame)
     ensures { let layout = direct_at L.LEVELS identity_places root in
-        let pool = world.now.pool in FitsPool layout world.now.memory (serves_below pool.limit) pool.frames }
+        let pool = world.now.pool in PoolFits (layout laid_in world.now.memory) (serves_below pool.limit) pool.frames }
 {
     let (both, half) = ([space(root), space(other)], SharedIndices::UPPER_HALF);
     let spaces = if root == other { &both[..1] } else { &both[..] };

@@ -1,8 +1,7 @@
 //! A memory with free frames, its words, and shorthands.
 ghost use Rattle.std.specs.Prelude.{◌↔◌, IfOk, IsTrue};
 ghost use Rattle.x86_64_mappers.specs.Layouts.{direct_at};
-ghost use Rattle.x86_64_model.specs.FitsPool.{FitsPool};
-ghost use Rattle.x86_64_model.specs.Layout.{IsReady, Valid};
+ghost use Rattle.x86_64_model.specs.Mapper.{◌laid_in◌, PoolFits, SupplyFits, Valid};
 ghost use Rattle.x86_64_model.specs.Memory.{identity_places};
 ghost use Rattle.x86_64_model.specs.Pool.{serves_below};
 
@@ -105,7 +104,7 @@ fn fits<L: LevelCount>(
 ) -> Result<bool, AllocError>
     ensures { let layout = direct_at L.LEVELS identity_places root in
         let serves = serves_below pool.now.limit in
-        IfOk result (λ fits. IsTrue fits ↔ FitsPool layout memory.now serves pool.now.frames) }
+        IfOk result (λ fits. IsTrue fits ↔ PoolFits (layout laid_in memory.now) serves pool.now.frames) }
 {
     if L::LEVELS == 4 {
         pool_fits(alloc, memory, &IdentityMapping, root, pool)
@@ -134,10 +133,10 @@ impl World {
     #[tactic(auto, using(x86_64_model::proofs::Lemmas::Machines::Fitting::ready_of_fits))]
     pub fn assert_fits<L: LevelCount>(&self, rt: impl Test, root: Frame)
         ensures fits { let layout = direct_at L.LEVELS identity_places root in let pool = self.now.pool in
-            FitsPool layout self.now.memory (serves_below pool.limit) pool.frames }
+            PoolFits (layout laid_in self.now.memory) (serves_below pool.limit) pool.frames }
         ensures ready { let layout = direct_at L.LEVELS identity_places root in
-            IsReady layout self.now.memory self.now.pool.frames }
-        ensures valid { Valid (direct_at L.LEVELS identity_places root) self.now.memory }
+            SupplyFits (layout laid_in self.now.memory) self.now.pool.frames }
+        ensures valid { Valid (direct_at L.LEVELS identity_places root laid_in self.now.memory) }
     {
         assert!(rt; unwrap(rt, fits::<L>(rt.alloc(), &self.memory, root, &self.pool)));
     }

@@ -2,17 +2,16 @@
 -- index.
 use Rattle.std.specs.Prelude.{◌≡◌, ℕ}
 use Rattle.x86_64_model.specs.Alike.{Alike}
-use Rattle.x86_64_model.specs.Layout.{paths}
+use Rattle.x86_64_model.specs.Mapper.{◌laid_in◌, PoolFits, paths}
 use Rattle.x86_64_model.specs.Pool.{serves_below}
 use Rattle.x86_64_model.specs.Memory.{Memory, identity_places}
 use Rattle.x86_64_tables.specs.declared.frame_alloc.pool.FramePool.{FramePool}
 use Rattle.x86_64_mappers.specs.Layouts.{direct_at}
 use Rattle.x86_64_mappers.specs.Recursive.{recursive_now_at}
-use Rattle.x86_64.specs.Runs.{FitsPool}
 
 -- both are valid with this number of levels and their pools fit them, the path maps are alike, and the free frames equal
 pub record IsPair (levels root index : ℕ) (memory : Memory) (pool : FramePool) (walked : Memory) (walked_pool : FramePool) : Type 0 where
-  pub fits : FitsPool (direct_at levels identity_places root) memory (serves_below pool.limit) pool.frames
-  pub walked_fits : FitsPool (recursive_now_at levels walked root index) walked (serves_below walked_pool.limit) walked_pool.frames
-  pub alike : Alike levels (paths (direct_at levels identity_places root) memory) (paths (recursive_now_at levels walked root index) walked)
+  pub fits : PoolFits (direct_at levels identity_places root laid_in memory) (serves_below pool.limit) pool.frames
+  pub walked_fits : PoolFits (recursive_now_at levels walked root index laid_in walked) (serves_below walked_pool.limit) walked_pool.frames
+  pub alike : Alike levels (paths (direct_at levels identity_places root laid_in memory)) (paths (recursive_now_at levels walked root index laid_in walked))
   pub same_free : pool.frames ≡ walked_pool.frames

@@ -5,7 +5,7 @@ ghost use Rattle.x86_64_model.specs.Memory.{identity_places};
 ghost use Rattle.x86_64_mappers.specs.Layouts.{direct, direct_at};
 ghost use Rattle.x86_64_mappers.specs.Offsets.{offset_places, OffsetFits};
 ghost use Rattle.x86_64_mappers.specs.Recursive.{recursive_now_at};
-ghost use Rattle.x86_64.specs.Runs.{FitsPool};
+ghost use Rattle.x86_64_model.specs.Mapper.{◌laid_in◌, PoolFits};
 
 use crate::prelude::*;
 
@@ -67,7 +67,7 @@ fn pool_fits_in<L: LevelCount>(
 ) -> Result<bool, AllocError>
     ensures { let layout = direct_at L.LEVELS identity_places root in
         let serves = serves_below pool.now.limit in
-        IfOk result (λ fits. IsTrue fits ↔ FitsPool layout memory.now serves pool.now.frames) }
+        IfOk result (λ fits. IsTrue fits ↔ PoolFits (layout laid_in memory.now) serves pool.now.frames) }
 {
     if L::LEVELS == 4 {
         pool_fits(alloc, memory, &IdentityMapping, root, pool)
@@ -86,7 +86,7 @@ fn pool_fits_recursive_in<L: LevelCount>(
 ) -> Result<bool, AllocError>
     ensures { let layout = recursive_now_at L.LEVELS memory.now root index in
         let serves = serves_below pool.now.limit in
-        IfOk result (λ fits. IsTrue fits ↔ FitsPool layout memory.now serves pool.now.frames) }
+        IfOk result (λ fits. IsTrue fits ↔ PoolFits (layout laid_in memory.now) serves pool.now.frames) }
 {
     if L::LEVELS == 4 {
         pool_fits_recursive(alloc, memory, root, index, pool)
@@ -103,7 +103,7 @@ pub fn fits<L: LevelCount>(
     pool: &FramePool,
 ) -> bool
     ensures { let layout = direct_at L.LEVELS identity_places root in
-        IsTrue result → FitsPool layout memory.now (serves_below pool.now.limit) pool.now.frames }
+        IsTrue result → PoolFits (layout laid_in memory.now) (serves_below pool.now.limit) pool.now.frames }
 {
     unwrap(rt, pool_fits_in::<L>(rt.alloc(), memory, root, pool))
 }
@@ -117,7 +117,7 @@ pub fn fits_recursive<L: LevelCount>(
     pool: &FramePool,
 ) -> bool
     ensures { let layout = recursive_now_at L.LEVELS memory.now root index in
-        IsTrue result → FitsPool layout memory.now (serves_below pool.now.limit) pool.now.frames }
+        IsTrue result → PoolFits (layout laid_in memory.now) (serves_below pool.now.limit) pool.now.frames }
 {
     let ran = pool_fits_recursive_in::<L>(rt.alloc(), memory, root, index, pool);
     unwrap(rt, ran)
@@ -134,9 +134,9 @@ pub fn run_over<P: PageTableFrameMapping + Drop, L: LevelCount, P5: LevelFiveFla
     replies: &mut Vec<ReplyIn<L>>,
 ) -> Result<(), AllocError>
     requires { let layout = direct_at L.LEVELS (P.places mapping) root in
-        FitsPool layout memory.old (serves_below pool.old.limit) pool.old.frames }
+        PoolFits (layout laid_in memory.old) (serves_below pool.old.limit) pool.old.frames }
     ensures { let layout = direct_at L.LEVELS (P.places mapping) root in
-        FitsPool layout memory.new (serves_below pool.new.limit) pool.new.frames }
+        PoolFits (layout laid_in memory.new) (serves_below pool.new.limit) pool.new.frames }
 {
     let mut mapper = MappedPageTableIn::<P, L>::new(memory, root, mapping);
     run(&mut mapper, pool, calls, replies)
@@ -151,9 +151,9 @@ pub fn run_on<L: LevelCount, P5: LevelFiveFlags<L>>(
     replies: &mut Vec<ReplyIn<L>>,
 ) -> Result<(), AllocError>
     requires { let layout = direct_at L.LEVELS identity_places root in
-        FitsPool layout memory.old (serves_below pool.old.limit) pool.old.frames }
+        PoolFits (layout laid_in memory.old) (serves_below pool.old.limit) pool.old.frames }
     ensures { let layout = direct_at L.LEVELS identity_places root in
-        FitsPool layout memory.new (serves_below pool.new.limit) pool.new.frames }
+        PoolFits (layout laid_in memory.new) (serves_below pool.new.limit) pool.new.frames }
 {
     run_over(memory, root, IdentityMapping, pool, calls, replies)
 }
@@ -168,10 +168,10 @@ pub fn run_at_offset(
     replies: &mut Vec<Reply>,
 ) -> Result<(), AllocError>
     requires pool { let layout = direct identity_places root in
-        FitsPool layout memory.old (serves_below pool.old.limit) pool.old.frames }
+        PoolFits (layout laid_in memory.old) (serves_below pool.old.limit) pool.old.frames }
     requires offset { OffsetFits 4 memory.old phys_offset }
     ensures { let layout = direct (offset_places 4 phys_offset) root in
-        FitsPool layout memory.new (serves_below pool.new.limit) pool.new.frames }
+        PoolFits (layout laid_in memory.new) (serves_below pool.new.limit) pool.new.frames }
 {
     offset_has_the_tables_of_the_identity(memory, phys_offset);
     let mut mapper = OffsetPageTable::new(memory, root, phys_offset);
@@ -189,9 +189,9 @@ pub fn run_recursive_on<L: LevelCount, P5: LevelFiveFlags<L>>(
     replies: &mut Vec<ReplyIn<L>>,
 ) -> Result<(), AllocError>
     requires { let layout = recursive_now_at L.LEVELS memory.old root index in
-        FitsPool layout memory.old (serves_below pool.old.limit) pool.old.frames }
+        PoolFits (layout laid_in memory.old) (serves_below pool.old.limit) pool.old.frames }
     ensures { let layout = recursive_now_at L.LEVELS memory.new root index in
-        FitsPool layout memory.new (serves_below pool.new.limit) pool.new.frames }
+        PoolFits (layout laid_in memory.new) (serves_below pool.new.limit) pool.new.frames }
 {
     let active = Active::<L>::new(memory, root);
     let mut mapper = RecursivePageTableIn::<L>::new_unchecked(active, index);
@@ -208,9 +208,9 @@ pub fn run_flushed_on(
     recorder: &mut FlushRecorder,
 ) -> Result<(), AllocError>
     requires { let layout = direct identity_places root in
-        FitsPool layout memory.old (serves_below pool.old.limit) pool.old.frames }
+        PoolFits (layout laid_in memory.old) (serves_below pool.old.limit) pool.old.frames }
     ensures { let layout = direct identity_places root in
-        FitsPool layout memory.new (serves_below pool.new.limit) pool.new.frames }
+        PoolFits (layout laid_in memory.new) (serves_below pool.new.limit) pool.new.frames }
 {
     let mut mapper = MappedPageTable::new(memory, root, IdentityMapping);
     run_flushed(&mut mapper, pool, calls, replies, recorder)

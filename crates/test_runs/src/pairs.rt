@@ -3,7 +3,7 @@
 ghost use Rattle.std.specs.Prelude.{◌≡◌, false, IsTrue};
 ghost use Rattle.std.specs.List.{AllByRecursion};
 ghost use Rattle.x86_64_model.specs.Alike.{Alike};
-ghost use Rattle.x86_64_model.specs.Layout.{paths};
+ghost use Rattle.x86_64_model.specs.Mapper.{◌laid_in◌, paths};
 ghost use Rattle.x86_64_model.specs.Memory.{identity_places};
 ghost use Rattle.x86_64_mappers.specs.Layouts.{direct_at};
 ghost use Rattle.x86_64_mappers.specs.Recursive.{recursive_now_at};
@@ -21,8 +21,8 @@ fn are_alike<L: LevelCount>(
     root: PhysFrame<Size4KiB>,
     index: PageTableIndex,
 ) -> bool
-    ensures { let direct_paths = paths (direct_at L.LEVELS identity_places root) memory.now in
-        let walked_paths = paths (recursive_now_at L.LEVELS walked.now root index) walked.now in
+    ensures { let direct_paths = paths (direct_at L.LEVELS identity_places root laid_in memory.now) in
+        let walked_paths = paths (recursive_now_at L.LEVELS walked.now root index laid_in walked.now) in
         IsTrue result → Alike L.LEVELS direct_paths walked_paths }
 {
     let (mapping, index) = (&IdentityMapping, Some(index));

@@ -4,19 +4,18 @@ use Rattle.std.proofs.lemmas.Bool.{and_parts, leb-true, lt-leb}
 use Rattle.std.proofs.lemmas.List.{append-nil}
 use Rattle.std.specs.Prelude.{if◌then◌else◌}
 use Rattle.x86_64_model.specs.Call.{Call, Unmap, CleanUp}
-use Rattle.x86_64_model.specs.FitsPool.{FitsPool, KeepsPool}
 use Rattle.x86_64_model.specs.Laws.Spaces.{IsNewRoot, Led}
-use Rattle.x86_64_model.specs.Layout.{Layout, words, paths, Owns, KeepsOthers}
+use Rattle.x86_64_model.specs.Layout.{Layout}
 use Rattle.x86_64_model.specs.Lists.{In}
 use Rattle.x86_64_model.specs.Machine.{state_after}
-use Rattle.x86_64_model.specs.Mapper.{Hierarchy, machine_of, state_in}
+use Rattle.x86_64_model.specs.Mapper.{◌laid_in◌, Hierarchy, machine_of, state_in, KeepsOutside, Owns, PoolFits, paths, words}
 use Rattle.x86_64_model.specs.Memory.{Memory, words_of, identity_places}
 use Rattle.x86_64_model.specs.Path.{path_at, span_start, span_size}
 use Rattle.x86_64_model.specs.PathMap.{table_at}
 use Rattle.x86_64_model.specs.Pool.{serves_below}
 use Rattle.x86_64_model.specs.Position.{index, page_path}
 use Rattle.x86_64_model.specs.Spaces.{is_shared, AreSpaces, Avoids}
-use Rattle.x86_64_model.specs.Store.{Store}
+use Rattle.x86_64_model.specs.Store.{Store, KeepsPool}
 use Rattle.x86_64_model.proofs.Lemmas.Hierarchies.Exists.{law_paths_of}
 use Rattle.x86_64_model.proofs.Lemmas.Hierarchies.Memories.{covered, identity_is_mapping}
 use Rattle.x86_64_model.proofs.Lemmas.Runs.Runs.{state_append}
@@ -37,27 +36,24 @@ use Rattle.uses.specs.Processes.{is_kernels, if_own, unmaps, lower_clean_up, IsS
 
 -- ---- the records of a layout, memories and lists of frames
 
-abbrev pub in_memory : Layout → Memory → Hierarchy (Unit {0})
-in_memory layout m = record { layout = layout; memory = m; lent = tt }
-
 abbrev pub with_frames : (serves : ℕ → Bool) → (pool : List ℕ) → Store
 with_frames serves pool = record { frames = pool; serves = serves; take_back = put_first }
 
 abbrev pub Served : Layout → List Call → (serves : ℕ → Bool) → Memory → (pool : List ℕ) → Memory → (rest : List ℕ) → Type 0
-Served process calls serves m pool n rest = IsServed (in_memory process m) (with_frames serves pool) calls (in_memory process n) rest
+Served process calls serves m pool n rest = IsServed (process laid_in m) (with_frames serves pool) calls (process laid_in n) rest
 
 abbrev pub Started : (kernel process : Layout) → (serves : ℕ → Bool) → Memory → (pool : List ℕ) → Memory → (rest : List ℕ) → Type 0
-Started kernel process serves m pool n rest = IsStarted (in_memory kernel m) (with_frames serves pool) (in_memory process n) rest
+Started kernel process serves m pool n rest = IsStarted (kernel laid_in m) (with_frames serves pool) (process laid_in n) rest
 
 abbrev pub Ended : Layout → (serves : ℕ → Bool) → Memory → (pool : List ℕ) → Memory → (rest : List ℕ) → Type 0
-Ended process serves m pool n rest = IsEnded (in_memory process m) (with_frames serves pool) n rest
+Ended process serves m pool n rest = IsEnded (process laid_in m) (with_frames serves pool) n rest
 
 abbrev pub Leaves : Layout → (serves : ℕ → Bool) → List Call → Memory → (pool : List ℕ) → Memory → (rest : List ℕ) → Type 0
-Leaves one serves calls m pool n rest = LeavesSpaces (in_memory one m) (with_frames serves pool) calls n rest
+Leaves one serves calls m pool n rest = LeavesSpaces (one laid_in m) (with_frames serves pool) calls n rest
 
 -- ---- one call after another
 
-pub served_nothing : (process : Layout) (serves : ℕ → Bool) (m : Memory) (pool : List ℕ) → FitsPool process m serves pool → Served process [] serves m pool m pool
+pub served_nothing : (process : Layout) (serves : ℕ → Bool) (m : Memory) (pool : List ℕ) → PoolFits (process laid_in m) serves pool → Served process [] serves m pool m pool
 served_nothing process serves m pool fits = record { state = refl; keeps = keeps_nothing process serves m pool fits; others = λ spaces member are. (are, λ other i apart. refl) }
 
 pub served_then : (process : Layout) (serves : ℕ → Bool) (m n o : Memory) (pool rest last : List ℕ) (calls more : List Call) → Served process calls serves m pool n rest → Served process more serves n rest o last
@@ -80,7 +76,7 @@ pub record SoFar (process : Layout) (pages left : List ℕ) (serves : ℕ → Bo
   pub all : done ++ unmaps left ≡ unmaps pages
   pub served : Served process done serves m pool n rest
 
-pub none_so_far : (process : Layout) (pages : List ℕ) (serves : ℕ → Bool) (m : Memory) (pool : List ℕ) → FitsPool process m serves pool → SoFar process pages pages serves m pool m pool
+pub none_so_far : (process : Layout) (pages : List ℕ) (serves : ℕ → Bool) (m : Memory) (pool : List ℕ) → PoolFits (process laid_in m) serves pool → SoFar process pages pages serves m pool m pool
 none_so_far process pages serves m pool fits = record { done = []; all = refl; served = served_nothing process serves m pool fits }
 
 pub one_more : (process : Layout) (pages left rest_of : List ℕ) (page : ℕ) (serves : ℕ → Bool) (m n o : Memory) (pool rest last : List ℕ) → left ≡ page ∷ rest_of → SoFar process pages left serves m pool n rest
@@ -123,7 +119,7 @@ pub served_own : (root page : ℕ) (call : Call) (serves : ℕ → Bool) (m n : 
 served_own root page call serves m n pool rest low = subst (λ b. Served (direct identity_places root) (if b then [] else call ∷ []) serves m pool n rest) (sym low)
 
 -- a call on a page of the kernel's half isn't made
-pub served_kernels : (root page : ℕ) (call : Call) (serves : ℕ → Bool) (m : Memory) (pool : List ℕ) → is_kernels (index 4 page) ≡ true → FitsPool (direct identity_places root) m serves pool
+pub served_kernels : (root page : ℕ) (call : Call) (serves : ℕ → Bool) (m : Memory) (pool : List ℕ) → is_kernels (index 4 page) ≡ true → PoolFits (direct identity_places root laid_in m) serves pool
     → Served (direct identity_places root) (if_own page call) serves m pool m pool
 served_kernels root page call serves m pool high fits =
     subst (λ b. Served (direct identity_places root) (if b then [] else call ∷ []) serves m pool m pool) (sym high) (served_nothing (direct identity_places root) serves m pool fits)
@@ -153,19 +149,19 @@ served_cleaned root serves low high m n pool rest first last state keeps leaves 
 -- ---- one frame's words change
 
 -- an address space keeps its path map if no word changed but those of a free frame
-module _ (a : Layout) (at : a.places ≡ identity_places) (some : 0 < a.levels) (serves : ℕ → Bool) (f : ℕ) (pool : List ℕ) (m n : Memory) (fits : FitsPool a m serves pool) (free : In pool f)
-    (others : KeepsOthers identity_places (λ g. g ≡ f) m n) where
-  there : (g : ℕ) → IsSome (words a m g) → identity_places.covers g ≡ true
+module _ (a : Layout) (at : a.places ≡ identity_places) (some : 0 < a.levels) (serves : ℕ → Bool) (f : ℕ) (pool : List ℕ) (m n : Memory) (fits : PoolFits (a laid_in m) serves pool) (free : In pool f)
+    (others : KeepsOutside identity_places (λ g. g ≡ f) m n) where
+  there : (g : ℕ) → IsSome (words (a laid_in m) g) → identity_places.covers g ≡ true
   there g some = covered m identity_places g (subst (λ places. IsSome (words_of m places g)) at some)
 
-  same_words : (q : List ℕ) (g : ℕ) → table_at a.levels a.root (paths a m) q ≡ Some g → words a n g ≡ words a m g
+  same_words : (q : List ℕ) (g : ℕ) → table_at a.levels a.root (paths (a laid_in m)) q ≡ Some g → words (a laid_in n) g ≡ words (a laid_in m) g
   same_words q g leads = subst (λ places. words_of n places g ≡ words_of m places g) (sym at) (ap (λ o. cond (identity_places.covers g) o None)
       (others (identity_places.place g) (λ h e p.
       let same : f ≡ g = identity_is_mapping.distinct f g (there f (fits.in_memory f free))
-      (there g (inside_window a.window a.root (words a m) g (fits.valid.valid.holds.in_memory q g leads))) (ap identity_places.place (sym e) ∙ p) in
+      (there g (inside_window a.window a.root (words (a laid_in m)) g (fits.valid.valid.holds.in_memory q g leads))) (ap identity_places.place (sym e) ∙ p) in
       fits.no_table f free (q, leads ∙ ap Some (sym same)))))
 
-  pub same_paths : paths a n ≡ paths a m
+  pub same_paths : paths (a laid_in n) ≡ paths (a laid_in m)
   same_paths = sym (unchanged_paths a some m n fits.valid same_words)
 
 -- ---- the start
@@ -195,9 +191,9 @@ module _ (root : ℕ) (calls : List Call) (serves : ℕ → Bool) (m n o : Memor
   Gives = (spaces : List Layout) → (In spaces gone → ⊥) → AreSpaces is_kernels n serves rest (gone ∷ spaces) → AreSpaces is_kernels o serves last spaces
 
   abbrev LosesNone : Type 0
-  LosesNone = (spaces : List Layout) (other : Layout) → (In spaces gone → ⊥) → In spaces other → AreSpaces is_kernels n serves rest (gone ∷ spaces) → (f : ℕ) → Owns gone n rest f → Owns other o last f
+  LosesNone = (spaces : List Layout) (other : Layout) → (In spaces gone → ⊥) → In spaces other → AreSpaces is_kernels n serves rest (gone ∷ spaces) → (f : ℕ) → Owns (gone laid_in n) rest f → Owns (other laid_in o) last f
 
-  ended : Served gone calls serves m pool n rest → last ≡ root ∷ rest → KeepsOthers identity_places (λ f. f ≡ root) n o → Gives → LosesNone → Ended gone serves m pool o last
+  ended : Served gone calls serves m pool n rest → last ≡ root ∷ rest → KeepsOutside identity_places (λ f. f ≡ root) n o → Gives → LosesNone → Ended gone serves m pool o last
   ended served back others gives none_lost = record {
     others = λ spaces apart are.
         let now = served.others (gone ∷ spaces) (inl refl) are in
@@ -212,7 +208,7 @@ module _ (root : ℕ) (calls : List Call) (serves : ℕ → Bool) (m n o : Memor
   }
 
   pub ended_if : {X E : Type 0} (now : ℕ → Bool) (back : List ℕ → ℕ → List ℕ) (r : Result X E) → Served gone calls serves m pool n rest
-      → OnOk r (IsGivenUp is_kernels (in_memory gone n) (with_frames serves rest) o (record { frames = last; serves = now; take_back = back })) → OnOk r (Ended gone serves m pool o last)
+      → OnOk r (IsGivenUp is_kernels (gone laid_in n) (with_frames serves rest) o (record { frames = last; serves = now; take_back = back })) → OnOk r (Ended gone serves m pool o last)
   ended_if now back (Ok x) served is = ended served is.given_back is.others is.spaces is.none_lost
   ended_if now back (Err e) served is = tt
 
@@ -221,7 +217,7 @@ module _ (root : ℕ) (calls : List Call) (serves : ℕ → Bool) (m n o : Memor
   goes_on_if (Ok x) same is_used served = tt
   goes_on_if (Err e) same is_used served = (served_still gone serves m n o pool rest last calls same.0 same.1 served, subst (λ o. IsUsed gone o) (sym same.0) is_used)
 
-pub used_if : (root : ℕ) (n : Memory) {X : Type 0} (r : Result X GiveUpError) → IfErr r (λ why. IsReason is_kernels (in_memory (direct identity_places root) n) why) → root ≢ 0
+pub used_if : (root : ℕ) (n : Memory) {X : Type 0} (r : Result X GiveUpError) → IfErr r (λ why. IsReason is_kernels (direct identity_places root laid_in n) why) → root ≢ 0
     → OnErr r (IsUsed (direct identity_places root) n)
 used_if root n (Ok x) reason none = tt
 used_if root n (Err EntryUsed) reason none = reason

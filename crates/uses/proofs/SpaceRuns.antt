@@ -2,17 +2,16 @@
 use Rattle.std.proofs.Common.{◌≡◌, ◌⊎◌, inl, inr, ⊎_elim, ◌<◌, ℕ, Bool, true, false, List, [], ◌∷◌, Result, Ok, Err, OnOk, OnErr, Some, refl, sym, ap, ◌∙◌, subst, arith}
 use Rattle.x86_64_model.specs.Call.{Call, IsCall}
 use Rattle.x86_64_model.specs.Entry.{IsParentFlags, address}
-use Rattle.x86_64_model.specs.FitsPool.{FitsPool, KeepsPool}
 use Rattle.x86_64_model.specs.Laws.Spaces.{KeepsBelow, Led, CallsKeepBelow, CallsKeepRootEntries, SharedHalvesStay, SpacesStay}
 use Rattle.x86_64_model.specs.Laws.Steps.{AllCalls}
-use Rattle.x86_64_model.specs.Layout.{Layout, paths}
+use Rattle.x86_64_model.specs.Layout.{Layout}
 use Rattle.x86_64_model.specs.Lists.{In}
-use Rattle.x86_64_model.specs.Mapper.{Hierarchy}
+use Rattle.x86_64_model.specs.Mapper.{◌laid_in◌, Hierarchy, PoolFits, paths}
 use Rattle.x86_64_model.specs.Memory.{Memory, Places, IsMapping}
 use Rattle.x86_64_model.specs.PathMap.{entry}
 use Rattle.x86_64_model.specs.Pool.{TakesBack}
 use Rattle.x86_64_model.specs.Spaces.{is_shared, AreSpaces}
-use Rattle.x86_64_model.specs.Store.{Store}
+use Rattle.x86_64_model.specs.Store.{Store, KeepsPool}
 use Rattle.x86_64_mappers.specs.Layouts.{direct_at}
 use Rattle.x86_64.specs.Asked.{MapperCall, machine_call, calls_by}
 use Rattle.x86_64.specs.Replies.{Reply}
@@ -38,12 +37,12 @@ no_flags = record { no_address = refl; not_huge = refl }
 -- by the laws of address spaces
 module _ (stay : SpacesStay) (halves : SharedHalvesStay) (below : CallsKeepBelow) (root_stays : CallsKeepRootEntries)
     (levels : ℕ) (high : 3 < levels) (places : Places) (mapping : IsMapping places) (root : ℕ) (take_back : List ℕ → ℕ → List ℕ) (gives : TakesBack take_back)
-    (serves : ℕ → Bool) (m n : Memory) (pool rest : List ℕ) (fits : FitsPool (direct_at levels places root) m serves pool) where
+    (serves : ℕ → Bool) (m n : Memory) (pool rest : List ℕ) (fits : PoolFits (direct_at levels places root laid_in m) serves pool) where
   abbrev one : Layout
   one = direct_at levels places root
 
   abbrev space : Hierarchy (Unit {0})
-  space = record { layout = one; memory = m; lent = tt }
+  space = one laid_in m
 
   abbrev store : Store
   store = record { frames = pool; serves = serves; take_back = take_back }
@@ -60,12 +59,12 @@ module _ (stay : SpacesStay) (halves : SharedHalvesStay) (below : CallsKeepBelow
       keeps = keeps;
       users = λ shared spaces member are avoid. kept_below shared spaces member are (⊎_elim
           (λ led. below shared one no_flags take_back gives serves m n pool rest calls are_calls fits led avoid)
-          (λ same q s. ap (λ m. entry (paths one m) q) same)
+          (λ same q s. ap (λ m. entry (paths (one laid_in m)) q) same)
           done);
       apart = λ spaces member are. kept_below (λ i. false) spaces member are (λ q s. let z : true ≡ false = sym s ∙ none_shared q in cc);
       kernel = λ shared spaces member are entries spare. stay shared spaces one member mapping (omega (arith, high)) serves m n pool rest are keeps (⊎_elim
           (λ led. root_stays shared one high no_flags take_back gives serves m n pool rest calls are_calls fits led entries spare)
-          (λ same i s. ap (λ m. entry (paths one m) (i ∷ [])) same)
+          (λ same i s. ap (λ m. entry (paths (one laid_in m)) (i ∷ [])) same)
           done);
     }
 

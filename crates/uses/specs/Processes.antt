@@ -1,16 +1,15 @@
 -- Processes of a kernel: address spaces that share the upper half, which is the kernel's.
 use Rattle.std.specs.Prelude.{◌≡◌, ℕ, ◌&&◌, nat_le, nat_lt, Bool, if◌then◌else◌, List, [], ◌∷◌, ◌++◌}
 use Rattle.x86_64_model.specs.Call.{Call, MapTo, Unmap, CleanUp}
-use Rattle.x86_64_model.specs.FitsPool.{KeepsPool}
 use Rattle.x86_64_model.specs.Laws.Spaces.{Led}
-use Rattle.x86_64_model.specs.Layout.{Layout, paths, Owns}
+use Rattle.x86_64_model.specs.Layout.{Layout}
 use Rattle.x86_64_model.specs.Lists.{In}
-use Rattle.x86_64_model.specs.Mapper.{Hierarchy}
+use Rattle.x86_64_model.specs.Mapper.{◌laid_in◌, Hierarchy, Owns, paths}
 use Rattle.x86_64_model.specs.Memory.{Memory}
 use Rattle.x86_64_model.specs.Path.{path_at}
 use Rattle.x86_64_model.specs.Position.{index}
 use Rattle.x86_64_model.specs.Spaces.{AreSpaces}
-use Rattle.x86_64_model.specs.Store.{Store}
+use Rattle.x86_64_model.specs.Store.{Store, KeepsPool}
 use Rattle.x86_64_spaces.specs.SpaceLayouts.{HasSharedAlone}
 use Rattle.x86_64.specs.Pairs.{put_first}
 use Rattle.uses.specs.SpacesBeside.{OthersStay}
@@ -21,7 +20,7 @@ is_kernels i = nat_le 256 i && nat_lt i 512
 
 -- All keep their path maps.
 abbrev pub AllStay : (spaces : List Layout) → (m n : Memory) → Type 0
-AllStay spaces m n = (space : Layout) → In spaces space → paths space n ≡ paths space m
+AllStay spaces m n = (space : Layout) → In spaces space → paths (space laid_in n) ≡ paths (space laid_in m)
 
 -- A process was started: the memory of the kernel's hierarchy became that of the process's, too, and the rest of the store is left.
 pub record IsStarted {Lent : Type 0} (kernel : Hierarchy Lent) (store : Store) (process : Hierarchy Lent) (rest : List ℕ) : Type 0 where
@@ -84,4 +83,4 @@ pub record IsEnded {Lent : Type 0} (process : Hierarchy Lent) (store : Store) (n
   -- No frame is lost: what the process owned with the store, each other one owns with the rest.
   pub none_lost : (spaces : List Layout) (other : Layout) → In spaces other → (In spaces process.layout → ⊥)
       → AreSpaces is_kernels process.memory store.serves store.frames (process.layout ∷ spaces)
-      → (f : ℕ) → Owns process.layout process.memory store.frames f → Owns other n rest f
+      → (f : ℕ) → Owns process store.frames f → Owns (other laid_in n) rest f

@@ -3,18 +3,17 @@ use Rattle.std.specs.Prelude.{◌≡◌, ◌≢◌, ℕ, Bool, true, false, List
 use Rattle.std.specs.List.{AllByRecursion}
 use Rattle.x86_64_model.specs.Call.{Call}
 use Rattle.x86_64_model.specs.Entry.{used}
-use Rattle.x86_64_model.specs.FitsPool.{KeepsPool}
-use Rattle.x86_64_model.specs.Layout.{Layout, paths}
+use Rattle.x86_64_model.specs.Layout.{Layout}
 use Rattle.x86_64_model.specs.Lists.{In}
-use Rattle.x86_64_model.specs.Mapper.{Hierarchy}
+use Rattle.x86_64_model.specs.Mapper.{◌laid_in◌, Hierarchy, paths}
 use Rattle.x86_64_model.specs.Memory.{Memory}
 use Rattle.x86_64_model.specs.PathMap.{entry}
 use Rattle.x86_64_model.specs.Spaces.{AreSpaces, Avoids, SparesRoot}
-use Rattle.x86_64_model.specs.Store.{Store}
+use Rattle.x86_64_model.specs.Store.{Store, KeepsPool}
 
 -- The spaces with another root than this one keep their path maps.
 abbrev pub OthersStay : (spaces : List Layout) → Layout → (m n : Memory) → Type 0
-OthersStay spaces one m n = (other : Layout) → In spaces other → one.root ≢ other.root → paths other n ≡ paths other m
+OthersStay spaces one m n = (other : Layout) → In spaces other → one.root ≢ other.root → paths (other laid_in n) ≡ paths (other laid_in m)
 
 -- Calls were executed on one of any address spaces, with a store. Its memory is n then, and the rest of the store is left.
 pub record LeavesSpaces {Lent : Type 0} (one : Hierarchy Lent) (store : Store) (calls : List Call) (n : Memory) (rest : List ℕ) : Type 0 where
@@ -29,5 +28,5 @@ pub record LeavesSpaces {Lent : Type 0} (one : Hierarchy Lent) (store : Store) (
       → AreSpaces (λ i. false) n store.serves rest spaces × OthersStay spaces one.layout one.memory n
   -- If the root's entries at the shared indices are used, and no call changes one, all are address spaces again.
   pub kernel : (shared : ℕ → Bool) (spaces : List Layout) → In spaces one.layout → AreSpaces shared one.memory store.serves store.frames spaces
-      → ((i : ℕ) → shared i ≡ true → used (entry (paths one.layout one.memory) (i ∷ [])) ≡ true)
-      → AllByRecursion (SparesRoot one.layout.levels shared (λ i. entry (paths one.layout one.memory) (i ∷ []))) calls → AreSpaces shared n store.serves rest spaces
+      → ((i : ℕ) → shared i ≡ true → used (entry (paths one) (i ∷ [])) ≡ true)
+      → AllByRecursion (SparesRoot one.layout.levels shared (λ i. entry (paths one) (i ∷ []))) calls → AreSpaces shared n store.serves rest spaces

@@ -1,7 +1,8 @@
 -- The result of a mapper's call is the machine's step.
 use Rattle.std.proofs.Common.{◌≡◌, ℕ, List, Option, Some, option_map, refl, ap, sym, ◌∙◌, subst}
 use Rattle.x86_64_model.specs.Memory.{Memory}
-use Rattle.x86_64_model.specs.Layout.{Layout, read_entry}
+use Rattle.x86_64_model.specs.Layout.{Layout}
+use Rattle.x86_64_model.specs.Mapper.{◌laid_in◌, read_entry}
 use Rattle.x86_64_model.specs.Translation.{Translated, translate, address_of}
 use Rattle.x86_64_model.specs.Machine.{do_call}
 use Rattle.x86_64_tables.specs.Translations.{translation_of}
@@ -25,12 +26,12 @@ translation_back NotMapped t e = subst (λ t. Some NotMapped ≡ translate_resul
 translation_back (InvalidFrameAddress address) t e = cc
 
 module _ (l : Layout) (take_back : List ℕ → ℕ → List ℕ) (m : Memory) (pool : List ℕ) (c : MapperCall) (addr : ℕ) where
-  pub translate_served : c ≡ asked.Translate addr → (r : TranslateResult) → translation_of r ≡ Some (translate l.levels (read_entry l m) addr)
+  pub translate_served : c ≡ asked.Translate addr → (r : TranslateResult) → translation_of r ≡ Some (translate l.levels (read_entry (l laid_in m)) addr)
       → step_by (machine_of l take_back) (state_in l m pool) c ≡ record { state = state_in l m pool; reply = Some (reply.Translate r) }
   unfolding do_call
   translate_served is r e = ap (step_by (machine_of l take_back) (state_in l m pool)) is ∙ ap (λ o. record { state = state_in l m pool; reply = option_map reply.Translate o }) (sym (translation_back r _ e))
 
-  pub address_served : c ≡ asked.TranslateAddr addr → (a : Option ℕ) → a ≡ address_of (translate l.levels (read_entry l m) addr)
+  pub address_served : c ≡ asked.TranslateAddr addr → (a : Option ℕ) → a ≡ address_of (translate l.levels (read_entry (l laid_in m)) addr)
       → step_by (machine_of l take_back) (state_in l m pool) c ≡ record { state = state_in l m pool; reply = Some (reply.Address a) }
   unfolding do_call
   address_served is a e = ap (step_by (machine_of l take_back) (state_in l m pool)) is ∙ ap (λ a. record { state = state_in l m pool; reply = Some (reply.Address a) }) (sym e)

@@ -2,11 +2,9 @@
 use Rattle.std.proofs.Common.{◌≡◌, ℕ, Bool, List, inr, sym, ap, ◌∙◌, subst}
 use Rattle.x86_64_model.specs.Call as machine
 use Rattle.x86_64_model.specs.Entry.{IsParentFlags}
-use Rattle.x86_64_model.specs.Layout.{words as words_in}
 use Rattle.x86_64_model.specs.Machine.{AfterCall, do_call, step}
-use Rattle.x86_64_model.specs.Layout.{IsReady}
 use Rattle.x86_64_model.specs.Memory.{IsMapping, word}
-use Rattle.x86_64_model.specs.Mapper.{Hierarchy, PoolFits, MayCleanUp, CleansUp, back}
+use Rattle.x86_64_model.specs.Mapper.{◌laid_in◌, Hierarchy, PoolFits, MayCleanUp, CleansUp, back, SupplyFits, words}
 use Rattle.x86_64_model.specs.Pool.{TakesBack, given_back}
 use Rattle.x86_64_model.proofs.Lemmas.Machines.Fitting.{ready_of_fits, may_clean_up}
 use Rattle.x86_64.specs.FreeFrames.{KeepsFree}
@@ -32,10 +30,10 @@ module _ {Lent : Type 0} (h : Hierarchy Lent) (serves : ℕ → Bool) (pool held
     pub kept_cleaned : IsParentFlags h.layout.added_flags → TakesBack take_back → (serves_after : ℕ → Bool) → serves_after ≡ serves
         → Kept h (record { frames = pool; serves = serves; take_back = take_back }) after (record { frames = rest; serves = serves_after; take_back = take_back })
     kept_cleaned adds gives serves_after same_served =
-        let ready : IsReady h.layout after.memory held_now = subst (λ l. IsReady l after.memory held_now) cleans.layout (cleans.fits take_back gives pool (ready_of_fits h.layout h.memory serves pool fits)) in
+        let ready : SupplyFits (h.layout laid_in after.memory) held_now = subst (λ l. SupplyFits (l laid_in after.memory) held_now) cleans.layout (cleans.fits take_back gives pool (ready_of_fits h.layout h.memory serves pool fits)) in
         record {
           keeps = keeps_step h.layout adds take_back gives serves h.memory pool fits (machine.CleanUp low high) tt after.memory rest (sym (ap (λ (x : AfterCall). x.state) one))
-              (subst (IsReady h.layout after.memory) (ap (λ fs. given_back take_back fs (back h low high)) same ∙ sym all_back ∙ sym last) ready) (λ k none. cleans.others k (λ f table. none f (inr table)));
+              (subst (SupplyFits (h.layout laid_in after.memory)) (ap (λ fs. given_back take_back fs (back h low high)) same ∙ sym all_back ∙ sym last) ready) (λ k none. cleans.others k (λ f table. none f (inr table)));
           serves = same_served;
           layout = cleans.layout;
           lent = cleans.lent;
@@ -46,4 +44,4 @@ module _ {Lent : Type 0} (h : Hierarchy Lent) (serves : ℕ → Bool) (pool held
 
     pub free_cleaned : IsMapping h.layout.places → TakesBack take_back → KeepsFree h.layout h.memory pool (back h low high) after.memory rest
     free_cleaned mapping gives = clean_up_keeps_free h.layout mapping serves h.memory pool fits take_back gives after.memory (back h low high) rest (last ∙ all_back ∙ ap (λ fs. given_back take_back fs (back h low high)) (sym same))
-        (λ f came i. subst (λ l. word (words_in l after.memory) f i ≡ 0) cleans.layout (cleans.empty f came i)) cleans.others
+        (λ f came i. subst (λ l. word (words (l laid_in after.memory)) f i ≡ 0) cleans.layout (cleans.empty f came i)) cleans.others

@@ -6,8 +6,8 @@ use Rattle.std.specs.FinMap.{empty, insert}
 use Rattle.std.specs.Ordering.{nat_cmp}
 use Rattle.x86_64_model.specs.Entry.{address, is_frame}
 use Rattle.x86_64_model.specs.Hierarchy.{IsValid}
-use Rattle.x86_64_model.specs.FitsPool.{FitsPool}
-use Rattle.x86_64_model.specs.Layout.{Layout, words, paths, Valid, Owns}
+use Rattle.x86_64_model.specs.Mapper.{◌laid_in◌, Owns, PoolFits, Valid, paths, words}
+use Rattle.x86_64_model.specs.Layout.{Layout}
 use Rattle.x86_64_model.specs.Lists.{In}
 use Rattle.x86_64_model.specs.Memory.{Memory, Places, word, word_in, words_of, identity_places}
 use Rattle.x86_64_model.specs.PathMap.{table_at}
@@ -26,10 +26,10 @@ module _ (levels : ℕ) (at_least_four : 0 < levels) (places : Places) (root : �
   empty_is_valid : IsValid levels (words_of m places) root empty
   empty_is_valid = empty_valid levels (words_of m places) root there zeros
 
-  nothing_mapped : paths (direct_at levels places root) m ≡ empty
+  nothing_mapped : paths (direct_at levels places root laid_in m) ≡ empty
   nothing_mapped = sym (held_is_paths_of levels (words_of m places) root at_least_four empty empty_is_valid.holds)
 
-  pub root_is_valid : Valid (direct_at levels places root) m
+  pub root_is_valid : Valid (direct_at levels places root laid_in m)
   root_is_valid = subst (IsValidFor levels None (words_of m places) root) (sym nothing_mapped) (record { valid = empty_is_valid; self = tt })
 
   by_path : (f : ℕ) → IsTable levels root empty f → root ≡ f
@@ -37,7 +37,7 @@ module _ (levels : ℕ) (at_least_four : 0 < levels) (places : Places) (root : �
   by_path f (i ∷ q, e) = absurd (none-some f (sym (leads_nowhere levels root i q) ∙ e))
 
   -- the root is the only table
-  pub only_root : (f : ℕ) → IsTable levels root (paths (direct_at levels places root) m) f → root ≡ f
+  pub only_root : (f : ℕ) → IsTable levels root (paths (direct_at levels places root laid_in m)) f → root ≡ f
   only_root f table = by_path f (subst (λ M. IsTable levels root M f) nothing_mapped table)
 
 pub empty_roots_share_nothing : EmptyRootsShareNothing
@@ -46,7 +46,7 @@ empty_roots_share_nothing first m pool root some there zeros free = record {
   levels = refl;
   valid = root_is_valid first.levels some first.places root m there zeros;
   root_entries = λ i s. cc;
-  apart = λ q f s leads own. free (subst (Owns first m pool) (sym (only_root first.levels some first.places root m there zeros f (q, leads))) own);
+  apart = λ q f s leads own. free (subst (Owns (first laid_in m) pool) (sym (only_root first.levels some first.places root m there zeros f (q, leads))) own);
 }
 
 -- ---- beside address spaces that share nothing
@@ -59,15 +59,15 @@ alike shared spaces serves m pool are a b i j = ⊎_elim
     (cases_eq b.root a.root)
 
 module _ (spaces : List Layout) (first : Layout) (member : In spaces first) (some : 0 < first.levels) (serves : ℕ → Bool) (m : Memory) (pool : List ℕ)
-    (are : AreSpaces (λ i. false) m serves pool spaces) (root : ℕ) (there : HasRoot first.places root m) (zeros : (i : ℕ) → word (words first m) root i ≡ 0)
-    (free : (a : Layout) → In spaces a → Owns a m pool root → ⊥) where
+    (are : AreSpaces (λ i. false) m serves pool spaces) (root : ℕ) (there : HasRoot first.places root m) (zeros : (i : ℕ) → word (words (first laid_in m)) root i ≡ 0)
+    (free : (a : Layout) → In spaces a → Owns (a laid_in m) pool root → ⊥) where
   abbrev new : Layout
   new = direct_at first.levels first.places root
 
-  is_root : (f : ℕ) → IsTable first.levels root (paths new m) f → root ≡ f
+  is_root : (f : ℕ) → IsTable first.levels root (paths (new laid_in m)) f → root ≡ f
   is_root = only_root first.levels some first.places root m there zeros
 
-  new_fits : FitsPool new m serves pool
+  new_fits : PoolFits (new laid_in m) serves pool
   new_fits = let was = are.fits first member in record {
     valid = root_is_valid first.levels some first.places root m there zeros;
     each_once = was.each_once;
@@ -86,7 +86,7 @@ module _ (spaces : List Layout) (first : Layout) (member : In spaces first) (som
     levels = sym (alike (λ i. false) spaces serves m pool are first a member i).1;
     valid = new_fits.valid;
     root_entries = λ k s. cc;
-    apart = λ q f s leads own. free a i (subst (Owns a m pool) (sym (is_root f (q, leads))) own);
+    apart = λ q f s leads own. free a i (subst (Owns (a laid_in m) pool) (sym (is_root f (q, leads))) own);
   }
 
   shares_new : (a : Layout) → In spaces a → Shares (λ i. false) new m pool a
@@ -105,7 +105,7 @@ module _ (spaces : List Layout) (first : Layout) (member : In spaces first) (som
 
   one_more : AreSpaces (λ i. false) m serves pool (new ∷ spaces)
   one_more = record {
-    fits = λ a i. ⊎_elim (λ e. subst (λ (l : Layout). FitsPool l m serves pool) e new_fits) (λ i. are.fits a i) i;
+    fits = λ a i. ⊎_elim (λ e. subst (λ (l : Layout). PoolFits (l laid_in m) serves pool) e new_fits) (λ i. are.fits a i) i;
     own_roots = λ a b i j e. ⊎_elim
         (λ x. ⊎_elim (λ y. sym x ∙ y) (λ j. absurd (apart_from b j (ap (λ (l : Layout). l.root) x ∙ e))) j)
         (λ i. ⊎_elim (λ y. absurd (apart_from a i (ap (λ (l : Layout). l.root) y ∙ sym e))) (λ j. are.own_roots a b i j e) j)
@@ -156,10 +156,10 @@ module _ (levels : ℕ) (at_least_four : 0 < levels) (root : ℕ) (is : words_of
   there : HasRoot identity_places root two_roots
   there = subst IsSome (sym is) refl
 
-  table_is : (f : ℕ) → IsTable levels root (paths (direct_at levels identity_places root) two_roots) f → root ≡ f
+  table_is : (f : ℕ) → IsTable levels root (paths (direct_at levels identity_places root laid_in two_roots)) f → root ≡ f
   table_is = only_root levels at_least_four identity_places root two_roots there (all_zero root is)
 
-  fits : root ≢ 0x3000 → FitsPool (direct_at levels identity_places root) two_roots (λ f. true) (0x3000 ∷ [])
+  fits : root ≢ 0x3000 → PoolFits (direct_at levels identity_places root laid_in two_roots) (λ f. true) (0x3000 ∷ [])
   unfolding address
   fits apart = record {
     valid = root_is_valid levels at_least_four identity_places root two_roots there (all_zero root is);
@@ -179,7 +179,7 @@ two_empty_roots levels some =
       two_roots,
       empty_roots_are_spaces (second ∷ []) second (inl refl) some (λ f. true) two_roots (0x3000 ∷ []) (one_is_a_space (λ i. false) second (λ f. true) two_roots (0x3000 ∷ []) second_fits)
           0x1000 (there levels some 0x1000 first_table) (all_zero 0x1000 first_table)
-          (λ a. ⊎_elim (λ e. subst (λ (l : Layout). Owns l two_roots (0x3000 ∷ []) 0x1000 → ⊥) e (⊎_elim
+          (λ a. ⊎_elim (λ e. subst (λ (l : Layout). Owns (l laid_in two_roots) (0x3000 ∷ []) 0x1000 → ⊥) e (⊎_elim
           (⊎_elim (eqb-false 0x3000 0x1000 refl) (λ n. n))
           (λ t. eqb-false 0x2000 0x1000 refl (table_is levels some 0x2000 second_table 0x1000 t)))) (λ n. absurd n)),
     )

@@ -3,9 +3,9 @@ use Rattle.std.proofs.Common.{◌≡◌, ⊎_elim, ℕ, ◌==◌, Bool, true, fa
 use Rattle.std.proofs.lemmas.Bool.{eqb-false}
 use Rattle.std.specs.FinMap.{get}
 use Rattle.x86_64_model.specs.Hierarchy.{entry_in}
-use Rattle.x86_64_model.specs.Layout.{Layout, words, paths}
+use Rattle.x86_64_model.specs.Layout.{Layout}
+use Rattle.x86_64_model.specs.Mapper.{◌laid_in◌, Owns, paths, words}
 use Rattle.x86_64_model.specs.Lists.{In}
-use Rattle.x86_64_model.specs.Layout.{Owns}
 use Rattle.x86_64_model.specs.Memory.{Memory, Words, IsMapping, word, set_word}
 use Rattle.x86_64_model.specs.PathMap.{PathMap, entry, table_at}
 use Rattle.x86_64_model.specs.Pool.{IsOwn, IsTable}
@@ -48,37 +48,37 @@ table_words L (Some w) T U root M valid other f i table = by (f == root) (i == w
         read T ∙ sym valid.self.is_word ∙ other.self.is_word ∙ sym (read U)
 
 module _ (l : Layout) (mapping : IsMapping l.places) (m n : Memory) (pool back rest : List ℕ) (left : IsLeft l m pool back n rest) where
-  own_is_covered : (f : ℕ) → Owns l n rest f → l.places.covers f ≡ true
-  own_is_covered f own = covered n l.places f (own_there l.levels l.window (words l n) l.root left.serves (state_in l n rest) left.keeps.fits f own)
+  own_is_covered : (f : ℕ) → Owns (l laid_in n) rest f → l.places.covers f ≡ true
+  own_is_covered f own = covered n l.places f (own_there l.levels l.window (words (l laid_in n)) l.root left.serves (state_in l n rest) left.keeps.fits f own)
 
   -- a frame that is neither free nor a table keeps its words
-  other_words : (f : ℕ) → l.places.covers f ≡ true → (Owns l n rest f → ⊥) → words l n f ≡ words l m f
+  other_words : (f : ℕ) → l.places.covers f ≡ true → (Owns (l laid_in n) rest f → ⊥) → words (l laid_in n) f ≡ words (l laid_in m) f
   other_words f cover none = ap (λ o. cond (l.places.covers f) o None) (left.keeps.others (l.places.place f) (λ g own e.
       let after = (left.keeps.conserved g).0 own in
-      none (subst (Owns l n rest) (mapping.distinct g f (own_is_covered g after) cover e) after)))
+      none (subst (Owns (l laid_in n) rest) (mapping.distinct g f (own_is_covered g after) cover e) after)))
 
 pub every_word_is_decided : EveryWordIsDecided
 every_word_is_decided l mapping m k n o pool back rest same left other meant f i = by (l.places.covers f) refl
   where
-    here : (before after : Memory) → words l after f ≡ words l before f → word (words l after) f i ≡ word (words l before) f i
-    here before after is = same_word (words l before) (words l after) f i is
+    here : (before after : Memory) → words (l laid_in after) f ≡ words (l laid_in before) f → word (words (l laid_in after)) f i ≡ word (words (l laid_in before)) f i
+    here before after is = same_word (words (l laid_in before)) (words (l laid_in after)) f i is
 
-    kept : words l n f ≡ words l m f → words l o f ≡ words l k f → word (words l n) f i ≡ word (words l o) f i
+    kept : words (l laid_in n) f ≡ words (l laid_in m) f → words (l laid_in o) f ≡ words (l laid_in k) f → word (words (l laid_in n)) f i ≡ word (words (l laid_in o)) f i
     kept first second = here m n first ∙ same f i ∙ sym (here k o second)
 
-    free : In rest f → word (words l n) f i ≡ word (words l o) f i
+    free : In rest f → word (words (l laid_in n)) f i ≡ word (words (l laid_in o)) f i
     free is = ⊎_elim (λ came. left.free.came_back f is came i ∙ sym (other.free.came_back f is came i))
         (λ none. kept (left.free.same_words f is none) (other.free.same_words f is none)) (in_or_not back f)
 
-    table : IsTable l.levels l.root (paths l n) f → word (words l n) f i ≡ word (words l o) f i
-    table is = table_words l.levels l.window (words l n) (words l o) l.root (paths l n) left.keeps.fits.valid
-        (subst (λ (M : PathMap). IsValidFor l.levels l.window (words l o) l.root M) (sym meant) other.keeps.fits.valid) f i is
+    table : IsTable l.levels l.root (paths (l laid_in n)) f → word (words (l laid_in n)) f i ≡ word (words (l laid_in o)) f i
+    table is = table_words l.levels l.window (words (l laid_in n)) (words (l laid_in o)) l.root (paths (l laid_in n)) left.keeps.fits.valid
+        (subst (λ (M : PathMap). IsValidFor l.levels l.window (words (l laid_in o)) l.root M) (sym meant) other.keeps.fits.valid) f i is
 
-    by : (b : Bool) → l.places.covers f ≡ b → word (words l n) f i ≡ word (words l o) f i
+    by : (b : Bool) → l.places.covers f ≡ b → word (words (l laid_in n)) f i ≡ word (words (l laid_in o)) f i
     by false uncovered =
-        let none : (p : Memory) → words l p f ≡ None = λ p. ap (λ b. cond b (get p (l.places.place f)) None) uncovered in
-        same_word (words l o) (words l n) f i (none n ∙ sym (none o))
-    by true cover = stable (word (words l n) f i) (word (words l o) f i) (λ differ.
-        let no_own : Owns l n rest f → ⊥ = λ own. differ (⊎_elim free table own) in
+        let none : (p : Memory) → words (l laid_in p) f ≡ None = λ p. ap (λ b. cond b (get p (l.places.place f)) None) uncovered in
+        same_word (words (l laid_in o)) (words (l laid_in n)) f i (none n ∙ sym (none o))
+    by true cover = stable (word (words (l laid_in n)) f i) (word (words (l laid_in o)) f i) (λ differ.
+        let no_own : Owns (l laid_in n) rest f → ⊥ = λ own. differ (⊎_elim free table own) in
         differ (kept (other_words l mapping m n pool back rest left f cover no_own)
         (other_words l mapping k o pool back rest other f cover (λ own. no_own (subst (λ (M : PathMap). IsOwn l.levels l.root M rest f) (sym meant) own)))))

@@ -4,7 +4,8 @@ use Rattle.std.proofs.lemmas.List.{map-append, take-map, drop-map}
 use Rattle.x86_64_model.specs.Call as machine
 use Rattle.x86_64_model.specs.Entry.{IsParentFlags}
 use Rattle.x86_64_model.specs.Flush as flush
-use Rattle.x86_64_model.specs.Layout.{Layout, words}
+use Rattle.x86_64_model.specs.Layout.{Layout}
+use Rattle.x86_64_model.specs.Mapper.{◌laid_in◌, PoolFits, words}
 use Rattle.x86_64_model.specs.Machine.{Machine, State, step, state_after}
 use Rattle.x86_64_model.specs.Memory.{Memory}
 use Rattle.x86_64_model.specs.Path.{path_at}
@@ -23,7 +24,7 @@ use Rattle.x86_64_tables.specs.declared.mapper.TranslateResult.{TranslateResult}
 use Rattle.x86_64.specs.Flushes.{size_items, items_of, items_told, level_of_size, item_of, NoneCovers, FlushesSuffice}
 use Rattle.x86_64.specs.private.Served.{items_where}
 use Rattle.x86_64.specs.Replies.{SizeReply, Reply, map_error, unmap_error, update_error, translate_error, sized, size_answer, translate_result, reply_of}
-use Rattle.x86_64.specs.Runs.{machine_of, state_in, FitsPool, step_by, replies_to}
+use Rattle.x86_64.specs.Runs.{machine_of, state_in, step_by, replies_to}
 use Rattle.x86_64.proofs.AskedCalls.{are_calls}
 
 -- ---- of one call
@@ -152,20 +153,20 @@ module _ {C : Type 0} (asks : C → MapperCall) where
   -- ---- stale walks
 
   module _ (l : Layout) (known : IsLevelCount l.levels) (is_call : (call : C) → machine.IsCall l.levels (machine_call l.levels (asks call))) where
-    pub flushed : IsParentFlags l.added_flags → (take_back : List ℕ → ℕ → List ℕ) → TakesBack take_back → (serves : ℕ → Bool) (m : Memory) (pool : List ℕ) → FitsPool l m serves pool
-        → (calls : List C) (n : Memory) (rest : List ℕ) → IsValidFor l.levels l.window (words l n) l.root (state_in l n rest).paths
+    pub flushed : IsParentFlags l.added_flags → (take_back : List ℕ → ℕ → List ℕ) → TakesBack take_back → (serves : ℕ → Bool) (m : Memory) (pool : List ℕ) → PoolFits (l laid_in m) serves pool
+        → (calls : List C) (n : Memory) (rest : List ℕ) → IsValidFor l.levels l.window (words (l laid_in n)) l.root (state_in l n rest).paths
         → state_in l n rest ≡ state_after (machine_of l take_back) (state_in l m pool) (calls_by asks l.levels calls)
-        → (told : List Reply) → map Some told ≡ replies_to asks (machine_of l take_back) (state_in l m pool) calls → FlushesSuffice asks l take_back (state_in l m pool) calls told (words l n)
+        → (told : List Reply) → map Some told ≡ replies_to asks (machine_of l take_back) (state_in l m pool) calls → FlushesSuffice asks l take_back (state_in l m pool) calls told (words (l laid_in n))
     flushed adds take_back gives serves m pool fits calls n rest valid is told tells k V p first out none =
         let runs = machine_of l take_back in
         let start = state_in l m pool in
         let then = state_after runs start (calls_by asks l.levels (take k calls)) in
         let early : take k (calls_by asks l.levels calls) ≡ calls_by asks l.levels (take k calls) = take-map (λ c. machine_call l.levels (asks c)) k calls in
         let late : drop k (calls_by asks l.levels calls) ≡ calls_by asks l.levels (drop k calls) = drop-map (λ c. machine_call l.levels (asks c)) k calls in
-        flushes_suffice l.levels l.window (words l m) V (words l n) l.root serves l.added_flags adds take_back gives start (calls_by asks l.levels calls)
+        flushes_suffice l.levels l.window (words (l laid_in m)) V (words (l laid_in n)) l.root serves l.added_flags adds take_back gives start (calls_by asks l.levels calls)
         (are_calls l.levels asks is_call calls) fits k
         (subst (λ (cs : List machine.Call). IsValidFor l.levels l.window V l.root (state_after runs start cs).paths) (sym early) first)
-        (subst (λ (s : State). IsValidFor l.levels l.window (words l n) l.root s.paths) is valid) p out
+        (subst (λ (s : State). IsValidFor l.levels l.window (words (l laid_in n)) l.root s.paths) is valid) p out
         (subst (λ (cs : List machine.Call). NoItemCovers l.levels (flush.all_items runs (state_after runs start cs) (drop k (calls_by asks l.levels calls))) p) (sym early)
         (subst (λ (cs : List machine.Call). NoItemCovers l.levels (flush.all_items runs then cs) p) (sym late)
         (subst (λ items. NoItemCovers l.levels items p) (all_items_are runs known then (drop k calls) (drop k told) (late_told runs start k calls told tells)) (covers_none l.levels (items_told l.levels (drop k told)) p none))))

@@ -1,9 +1,9 @@
 -- The words of free frames after calls.
 use Rattle.std.proofs.Common.{◌≡◌, ◌⊎◌, inl, inr, ⊎_elim, ℕ, ◌==◌, Bool, true, false, cond, List, [], ◌∷◌, ◌++◌, None, refl, sym, ap, ◌∙◌, subst, append-nil, append_assoc, eqb-true}
 use Rattle.std.proofs.lemmas.Bool.{eqb-false}
-use Rattle.x86_64_model.specs.Layout.{Layout, words, paths}
+use Rattle.x86_64_model.specs.Layout.{Layout}
+use Rattle.x86_64_model.specs.Mapper.{◌laid_in◌, KeepsOthers, Owns, PoolFits, paths, words}
 use Rattle.x86_64_model.specs.Lists.{In}
-use Rattle.x86_64_model.specs.Layout.{Owns, KeepsOthers}
 use Rattle.x86_64_model.specs.Memory.{Memory, IsMapping, word}
 use Rattle.x86_64_model.specs.Pool.{IsTable, TakesBack, given_back}
 use Rattle.x86_64_model.proofs.Lemmas.CleanUps.Trees.{given_frames}
@@ -13,25 +13,25 @@ use Rattle.x86_64_model.proofs.Lemmas.Lists.Members.{in_left, in_right, in_appen
 use Rattle.x86_64_model.proofs.Lemmas.Machines.Fitting.{own_there}
 use Rattle.x86_64.specs.Asked.{PageCall, MapTo, MapToWithTableFlags, IdentityMap, Unmap, UpdateFlags, SetFlags, TranslatePage, page_call}
 use Rattle.x86_64.specs.FreeFrames.{KeepsFree, back_by}
-use Rattle.x86_64.specs.Runs.{FitsPool, machine_of, state_in}
+use Rattle.x86_64.specs.Runs.{machine_of, state_in}
 
 -- ---- one call
 
-module _ (l : Layout) (mapping : IsMapping l.places) (serves : ℕ → Bool) (m : Memory) (pool : List ℕ) (fits : FitsPool l m serves pool) where
+module _ (l : Layout) (mapping : IsMapping l.places) (serves : ℕ → Bool) (m : Memory) (pool : List ℕ) (fits : PoolFits (l laid_in m) serves pool) where
   abbrev Table : (f : ℕ) → Type 0
-  Table f = IsTable l.levels l.root (paths l m) f
+  Table f = IsTable l.levels l.root (paths (l laid_in m)) f
 
-  own_is_covered : (f : ℕ) → Owns l m pool f → l.places.covers f ≡ true
-  own_is_covered f own = covered m l.places f (own_there l.levels l.window (words l m) l.root serves (state_in l m pool) fits f own)
+  own_is_covered : (f : ℕ) → Owns (l laid_in m) pool f → l.places.covers f ≡ true
+  own_is_covered f own = covered m l.places f (own_there l.levels l.window (words (l laid_in m)) l.root serves (state_in l m pool) fits f own)
 
   -- a frame that is free before and after keeps its words, if only tables and taken frames changed
-  stays : (n : Memory) (rest : List ℕ) → KeepsOthers l.places (λ g. Table g ⊎ (In pool g × (In rest g → ⊥))) m n → (f : ℕ) → In rest f → In pool f → words l n f ≡ words l m f
+  stays : (n : Memory) (rest : List ℕ) → KeepsOthers (λ g. Table g ⊎ (In pool g × (In rest g → ⊥))) (l laid_in m) (l laid_in n) → (f : ℕ) → In rest f → In pool f → words (l laid_in n) f ≡ words (l laid_in m) f
   stays n rest others f left was = ap (λ o. cond (l.places.covers f) o None) (others (l.places.place f) (λ g changed e.
       let same : g ≡ f = mapping.distinct g f (own_is_covered g (⊎_elim (λ t. inr t) (λ taken. inl taken.0) changed)) (own_is_covered f (inl was)) e in
       ⊎_elim (λ t. fits.no_table f was (subst Table same t)) (λ taken. taken.1 (subst (In rest) (sym same) left)) changed))
 
   -- a map, which takes frames from the front of the pool
-  pub map_keeps_free : (n : Memory) (taken rest : List ℕ) → pool ≡ taken ++ rest → KeepsOthers l.places (λ f. Owns l m pool f × (In rest f → ⊥)) m n → KeepsFree l m pool [] n rest
+  pub map_keeps_free : (n : Memory) (taken rest : List ℕ) → pool ≡ taken ++ rest → KeepsOthers (λ f. Owns (l laid_in m) pool f × (In rest f → ⊥)) (l laid_in m) (l laid_in n) → KeepsFree l m pool [] n rest
   map_keeps_free n taken rest first others = record {
     came_back = λ f left back. absurd back;
     was_free = λ f left none. was f left;
@@ -42,12 +42,12 @@ module _ (l : Layout) (mapping : IsMapping l.places) (serves : ℕ → Bool) (m 
       was f left = subst (λ fs. In fs f) (sym first) (in_right taken rest f left)
 
   -- a call that takes no frame
-  pub change_keeps_free : (n : Memory) → KeepsOthers l.places Table m n → KeepsFree l m pool [] n pool
+  pub change_keeps_free : (n : Memory) → KeepsOthers Table (l laid_in m) (l laid_in n) → KeepsFree l m pool [] n pool
   change_keeps_free n others = map_keeps_free n [] pool refl (λ k no. others k (λ g t. no g (inr t, λ i. fits.no_table g i t)))
 
   -- a clean up
-  pub clean_up_keeps_free : (take_back : List ℕ → ℕ → List ℕ) → TakesBack take_back → (n : Memory) (back rest : List ℕ) → rest ≡ given_back take_back pool back → ((f : ℕ) → In back f → (i : ℕ) → word (words l n) f i ≡ 0)
-      → KeepsOthers l.places Table m n → KeepsFree l m pool back n rest
+  pub clean_up_keeps_free : (take_back : List ℕ → ℕ → List ℕ) → TakesBack take_back → (n : Memory) (back rest : List ℕ) → rest ≡ given_back take_back pool back → ((f : ℕ) → In back f → (i : ℕ) → word (words (l laid_in n)) f i ≡ 0)
+      → KeepsOthers Table (l laid_in m) (l laid_in n) → KeepsFree l m pool back n rest
   clean_up_keeps_free take_back gives n back rest is empty others = record {
     came_back = λ f left came. empty f came;
     was_free = was;
@@ -88,7 +88,7 @@ module _ (l : Layout) (m n o : Memory) (pool rest last back more : List ℕ) (on
   pub free_then : KeepsFree l m pool (back ++ more) o last
   free_then = record {
     came_back = λ f left came i. ⊎_elim (λ again. next.came_back f left again i)
-        (λ never. same_word (words l n) (words l o) f i (next.same_words f left never) ∙ one.came_back f (next.was_free f left never) (⊎_elim (λ first. first) (λ again. absurd (never again)) (in_append back more f came)) i)
+        (λ never. same_word (words (l laid_in n)) (words (l laid_in o)) f i (next.same_words f left never) ∙ one.came_back f (next.was_free f left never) (⊎_elim (λ first. first) (λ again. absurd (never again)) (in_append back more f came)) i)
         (in_or_not more f);
     was_free = λ f left none. let never = apart f none in one.was_free f (next.was_free f left never.1) never.0;
     same_words = λ f left none. let never = apart f none in next.same_words f left never.1 ∙ one.same_words f (next.was_free f left never.1) never.0;

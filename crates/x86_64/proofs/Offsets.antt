@@ -2,8 +2,8 @@
 use Rattle.std.specs.Prelude.{◌≡◌, ◌↔◌, ℕ, Bool, List, None}
 use Rattle.std.proofs.Common.{sym, ap, ◌∙◌, subst}
 use Rattle.x86_64_model.specs.Hierarchy.{paths_of}
-use Rattle.x86_64_model.specs.Layout.{paths}
-use Rattle.x86_64_model.specs.Layout.{Owns}
+use Rattle.x86_64_model.specs.Mapper.{◌laid_in◌, Owns, paths}
+use Rattle.x86_64_model.specs.Store.{KeepsPool}
 use Rattle.x86_64_model.specs.Memory.{Memory, Words, identity_places, word}
 use Rattle.x86_64_model.specs.PathMap.{PathMap}
 use Rattle.x86_64_model.specs.Pool.{IsOwn}
@@ -12,16 +12,16 @@ use Rattle.x86_64_mappers.specs.Layouts.{direct_at}
 use Rattle.x86_64_mappers.proofs.Memory.OffsetTables.{offset_words, offset_fits}
 use Rattle.x86_64_mappers.specs.Offsets.{OffsetFits, offset_places}
 use Rattle.x86_64.specs.FreeFrames.{KeepsFree}
-use Rattle.x86_64.specs.Runs.{KeepsPool, state_in}
+use Rattle.x86_64.specs.Runs.{state_in}
 
-same_paths : (levels offset root : ℕ) (m : Memory) → OffsetFits levels m offset → paths (direct_at levels (offset_places levels offset) root) m ≡ paths (direct_at levels identity_places root) m
+same_paths : (levels offset root : ℕ) (m : Memory) → OffsetFits levels m offset → paths (direct_at levels (offset_places levels offset) root laid_in m) ≡ paths (direct_at levels identity_places root laid_in m)
 same_paths levels offset root m reached = ap (λ tables. paths_of levels (outside_window None root tables) root) (offset_words levels m offset reached)
 
 -- the words mean one state with both mappings
 pub same_state : (levels offset root : ℕ) (m : Memory) (pool : List ℕ) → OffsetFits levels m offset → state_in (direct_at levels (offset_places levels offset) root) m pool ≡ state_in (direct_at levels identity_places root) m pool
 same_state levels offset root m pool reached = ap (λ (M : PathMap). record { paths = M; pool = pool }) (same_paths levels offset root m reached)
 
-same_own : (levels offset root : ℕ) (m : Memory) (pool : List ℕ) → OffsetFits levels m offset → (f : ℕ) → Owns (direct_at levels (offset_places levels offset) root) m pool f ↔ Owns (direct_at levels identity_places root) m pool f
+same_own : (levels offset root : ℕ) (m : Memory) (pool : List ℕ) → OffsetFits levels m offset → (f : ℕ) → Owns (direct_at levels (offset_places levels offset) root laid_in m) pool f ↔ Owns (direct_at levels identity_places root laid_in m) pool f
 same_own levels offset root m pool reached f =
     let same = same_paths levels offset root m reached in
     (subst (λ (M : PathMap). IsOwn levels root M pool f) same, subst (λ (M : PathMap). IsOwn levels root M pool f) (sym same))

@@ -5,7 +5,8 @@ use Rattle.std.specs.Result.{IfOk}
 use Rattle.x86_64_model.specs.Entry.{IsParentFlags}
 use Rattle.x86_64_model.specs.MapRule.{map_call, parent_part}
 use Rattle.x86_64_model.specs.Memory.{Memory, IsMapping}
-use Rattle.x86_64_model.specs.Layout.{Layout, words, paths}
+use Rattle.x86_64_model.specs.Layout.{Layout}
+use Rattle.x86_64_model.specs.Store.{KeepsPool}
 use Rattle.x86_64_model.specs.Path.{IsPage, path_at}
 use Rattle.x86_64_model.specs.Refusal.{Answer}
 use Rattle.x86_64_model.specs.Pool.{TakesBack}
@@ -13,8 +14,7 @@ use Rattle.x86_64_model.specs.Allowed.{allowed, refuses}
 use Rattle.x86_64_model.specs.Call as machine
 use Rattle.x86_64_model.specs.Call.{IsCall}
 use Rattle.x86_64_model.specs.Machine.{AfterCall, only_reply, do_call, step}
-use Rattle.x86_64_model.specs.Layout.{IsReady, Owns, KeepsOthers}
-use Rattle.x86_64_model.specs.Mapper.{Hierarchy, Steps, Does, DoesMap, page_translation}
+use Rattle.x86_64_model.specs.Mapper.{◌laid_in◌, Hierarchy, Steps, Does, DoesMap, page_translation, KeepsOthers, Owns, PoolFits, SupplyFits, paths, words}
 use Rattle.x86_64_model.proofs.Lemmas.Machines.Effects.{page_at_level}
 use Rattle.x86_64_tables.specs.MapperAnswers.{map_answer, map_refusal, unmap_answer, unmap_refusal, flags_refusal, flags_answer, update_refusal, translate_answer, translate_refusal}
 use Rattle.x86_64_tables.specs.declared.mapper.MapToError.{MapToError}
@@ -29,7 +29,7 @@ use Rattle.x86_64.specs.Asked.{PageCall, MapTo, MapToWithTableFlags, IdentityMap
 use Rattle.x86_64.specs.declared.calls.PageReply.TheVariants as reply
 use Rattle.x86_64.specs.Replies.{SizeReply, map_error, unmap_error, update_error, translate_error, result_of, size_reply, size_answer, is_refused, size_changes_nothing}
 use Rattle.x86_64.specs.FreeFrames.{KeepsFree}
-use Rattle.x86_64.specs.Runs.{machine_of, state_in, FitsPool, KeepsPool}
+use Rattle.x86_64.specs.Runs.{machine_of, state_in}
 use Rattle.x86_64.specs.private.Served.{SetsFlags, size_step}
 use Rattle.x86_64_model.proofs.Lemmas.Machines.Fitting.{ready_of_fits, sound_of_fits}
 use Rattle.x86_64_model.proofs.Lemmas.Maps.Takes.{map_takes}
@@ -103,7 +103,7 @@ pub record Start (l : Layout) (take_back : List ℕ → ℕ → List ℕ) (serve
   pub adds : IsParentFlags l.added_flags
   pub gives : TakesBack take_back
   pub mapping : IsMapping l.places
-  pub fits : FitsPool l m serves pool
+  pub fits : PoolFits (l laid_in m) serves pool
   pub low : 1 ≤ level
   pub high : level ≤ 3
 
@@ -119,7 +119,7 @@ is_page {l = l} {level = level} start page = page_at_level l.levels level page s
 
 -- the call is served if it is allowed
 abbrev pub IsServed : (S : Type 0) (l : Layout) (take_back : List ℕ → ℕ → List ℕ) (serves : ℕ → Bool) (m : Memory) (pool : List ℕ) (level : ℕ) (call : PageCall) (n : Memory) (rest : List ℕ) (answer : SizeReply S) → Type 0
-IsServed S l take_back serves m pool level call n rest answer = allowed l.levels l.window (paths l m) (page_call l.levels level call) ≡ true → Serves S l take_back serves m pool level call n rest answer
+IsServed S l take_back serves m pool level call n rest answer = allowed l.levels l.window (paths (l laid_in m)) (page_call l.levels level call) ≡ true → Serves S l take_back serves m pool level call n rest answer
 
 -- the result of a call, in the layout that no call changes
 stepped : {Lent : Type 0} (h : Hierarchy Lent) (take_back : List ℕ → ℕ → List ℕ) (pool : List ℕ) (on : machine.Call) (answer : Answer) (after : Hierarchy Lent) (rest : List ℕ) → after.layout ≡ h.layout
@@ -134,11 +134,11 @@ module _ {Lent : Type 0} (h : Hierarchy Lent) {take_back : List ℕ → ℕ → 
   abbrev Takes : (call : PageCall) → Type 0
   Takes call = (rest : List ℕ) → (do_call (machine_of h.layout take_back) (state_in h.layout h.memory pool) (page_call h.layout.levels level call)).state.pool ≡ rest → (taken : List ℕ) × (pool ≡ taken ++ rest)
 
-  taken_off : (q : List ℕ) → IsPage h.layout.levels q → (frame flags more : ℕ) (rest : List ℕ) → (map_call h.layout.levels (paths h.layout h.memory) pool more h.layout.added_flags q frame flags).supply ≡ rest
+  taken_off : (q : List ℕ) → IsPage h.layout.levels q → (frame flags more : ℕ) (rest : List ℕ) → (map_call h.layout.levels (paths h) pool more h.layout.added_flags q frame flags).supply ≡ rest
       → (taken : List ℕ) × (pool ≡ taken ++ rest)
   taken_off q page frame flags more rest same =
-      let sound = sound_of_fits h.layout.levels h.layout.window (words h.layout h.memory) h.layout.root serves (state_in h.layout h.memory pool) start.fits in
-      let takes = map_takes h.layout.levels h.layout.root (paths h.layout h.memory) pool more h.layout.added_flags q frame flags sound.hierarchy.tree page.at_most in
+      let sound = sound_of_fits h.layout.levels h.layout.window (words h) h.layout.root serves (state_in h.layout h.memory pool) start.fits in
+      let takes = map_takes h.layout.levels h.layout.root (paths h) pool more h.layout.added_flags q frame flags sound.hierarchy.tree page.at_most in
       (takes.taken, takes.first ∙ ap (λ fs. takes.taken ++ fs) same)
 
 module _ {Lent S : Type 0} (h : Hierarchy Lent) {take_back : List ℕ → ℕ → List ℕ} {serves : ℕ → Bool} {pool : List ℕ} {level : ℕ} (start : Start h.layout take_back serves h.memory pool level) where
@@ -147,7 +147,7 @@ module _ {Lent S : Type 0} (h : Hierarchy Lent) {take_back : List ℕ → ℕ �
 
   answered : (call : PageCall) → IsCall h.layout.levels (page_call h.layout.levels level call) → (n : Memory) (rest : List ℕ) (answer : Answer)
       → do_call (machine_of h.layout take_back) (state_in h.layout h.memory pool) (page_call h.layout.levels level call) ≡ record { state = state_in h.layout n rest; reply = machine.Answered answer }
-      → IsReady h.layout n rest → KeepsOthers h.layout.places (Owns h.layout h.memory pool) h.memory n → KeepsFree h.layout h.memory pool [] n rest
+      → SupplyFits (h.layout laid_in n) rest → KeepsOthers (Owns h pool) (h.layout laid_in h.memory) (h.layout laid_in n) → KeepsFree h.layout h.memory pool [] n rest
       → (told : SizeReply S) → size_reply call answer ≡ Some told → (size_changes_nothing told ≡ true → n ≡ h.memory) → Is call n rest told
   answered call is n rest answer does ready others free told tells still may =
       let before = state_in h.layout h.memory pool in
@@ -170,7 +170,7 @@ module _ {Lent S : Type 0} (h : Hierarchy Lent) {take_back : List ℕ → ℕ �
       let steps = stepped h take_back pool (page_call h.layout.levels level call) (map_answer frame r) after rest does.layout does.outcome in
       let off = takes rest (ap (λ (x : AfterCall). x.state.pool) steps) in
       answered call is after.memory rest (map_answer frame r) steps
-      (subst (λ l. IsReady l after.memory rest) does.layout does.fits) (λ k none. does.others k (λ f uses. none f uses.0))
+      (subst (λ l. SupplyFits (l laid_in after.memory) rest) does.layout does.fits) (λ k none. does.others k (λ f uses. none f uses.0))
       (map_keeps_free h.layout start.mapping serves h.memory pool start.fits after.memory off.0 rest off.1 does.others)
       (reply.Map told) (replies _ ∙ ap (option_map reply.Map) (map_result S page frame r same ∙ ap Some (sym tells))) (λ unchanged. cc)
 
@@ -201,7 +201,7 @@ module _ {Lent S : Type 0} (h : Hierarchy Lent) {take_back : List ℕ → ℕ �
       → (told : SizeReply S) → size_reply call answer ≡ Some told → (size_changes_nothing told ≡ true → refuses answer ≡ true) → Is call after.memory pool told
   change_served call is answer after does told tells still =
       answered call is after.memory pool answer (stepped h take_back pool (page_call h.layout.levels level call) answer after pool does.layout (does.outcome pool))
-      (subst (λ l. IsReady l after.memory pool) does.layout (does.fits pool (ready_of_fits h.layout h.memory serves pool start.fits))) (λ k none. does.others k (λ f table. none f (inr table)))
+      (subst (λ l. SupplyFits (l laid_in after.memory) pool) does.layout (does.fits pool (ready_of_fits h.layout h.memory serves pool start.fits))) (λ k none. does.others k (λ f table. none f (inr table)))
       (change_keeps_free h.layout start.mapping serves h.memory pool start.fits after.memory does.others) told tells (λ unchanged. does.refused (still unchanged))
 
   pub unmap_served : (page : ℕ) (r : Result (ℕ × ℕ) UnmapError) (after : Hierarchy Lent) → Does h (page_call h.layout.levels level (Unmap page)) (unmap_answer r) after → IfOk r (λ unmapped. unmapped.1 ≡ page)

@@ -3,12 +3,12 @@
 use Rattle.std.specs.Prelude.{◌≡◌, ◌≢◌, ℕ, Bool, true, false, cond, List, Option, Some, None, IsSome}
 use Rattle.std.specs.FinMap.{get}
 use Rattle.std.proofs.Common.{refl, sym, ap, ◌∙◌, subst}
-use Rattle.x86_64_model.specs.Layout.{Layout, words}
-use Rattle.x86_64_model.specs.Layout.{Owns}
+use Rattle.x86_64_model.specs.Layout.{Layout}
+use Rattle.x86_64_model.specs.Mapper.{◌laid_in◌, Owns, PoolFits, words}
 use Rattle.x86_64_model.specs.Memory.{Memory}
 use Rattle.x86_64_model.proofs.Lemmas.Machines.Fitting.{own_there}
 use Rattle.x86_64.specs.PlacesStay.{PlacesStay, OffsetsFitStill}
-use Rattle.x86_64.specs.Runs.{FitsPool, state_in}
+use Rattle.x86_64.specs.Runs.{state_in}
 
 -- a frame with a table has its place in the memory
 there_if : (c : Bool) (table : Option (List ℕ)) → IsSome (cond c table None) → IsSome table
@@ -16,9 +16,9 @@ there_if true table there = there
 there_if false table there = cc there
 
 -- the place of a frame of the hierarchy or of its pool is in the memory
-own_place : (l : Layout) (serves : ℕ → Bool) (m : Memory) (pool : List ℕ) → FitsPool l m serves pool → (f : ℕ) → Owns l m pool f → IsSome (get m (l.places.place f))
+own_place : (l : Layout) (serves : ℕ → Bool) (m : Memory) (pool : List ℕ) → PoolFits (l laid_in m) serves pool → (f : ℕ) → Owns (l laid_in m) pool f → IsSome (get m (l.places.place f))
 own_place l serves m pool fits f own =
-    there_if (l.places.covers f) (get m (l.places.place f)) (own_there l.levels l.window (words l m) l.root serves (state_in l m pool) fits f own)
+    there_if (l.places.covers f) (get m (l.places.place f)) (own_there l.levels l.window (words (l laid_in m)) l.root serves (state_in l m pool) fits f own)
 
 -- a place is in the memory if it would be unchanged in case it weren't
 there_by : {X : Type 0} (t u : Option X) → IsSome u → (t ≡ None → t ≡ u) → IsSome t

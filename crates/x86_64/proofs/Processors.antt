@@ -4,13 +4,12 @@ use Rattle.x86_64_model.specs.Caches.{Cached}
 use Rattle.x86_64_model.specs.Call.{Call, IsCall, parent_flags_of}
 use Rattle.x86_64_model.specs.Flushing as kernel
 use Rattle.x86_64_model.specs.Flushing.{Due, TablesDue, System, Event, Makes, Writes, Flushes, Changes, MayHappen, MayMake, AllMayHappen, after_event, after_events, flush_after, fresh}
-use Rattle.x86_64_model.specs.FitsPool.{FitsPool}
-use Rattle.x86_64_model.specs.Layout.{Layout, words}
+use Rattle.x86_64_model.specs.Layout.{Layout}
 use Rattle.x86_64_model.specs.Laws.Caches.{CachesInTurn, Happens}
 use Rattle.x86_64_model.specs.Laws.Steps.{FitsState}
 use Rattle.x86_64_model.specs.Lists.{In}
 use Rattle.x86_64_model.specs.Machine.{Machine, State, step}
-use Rattle.x86_64_model.specs.Mapper.{machine_of, state_in}
+use Rattle.x86_64_model.specs.Mapper.{◌laid_in◌, machine_of, state_in, PoolFits, words}
 use Rattle.x86_64_model.specs.Memory.{Memory, Words}
 use Rattle.x86_64_model.proofs.Lemmas.Caches.Runs.{flushes_are_enough}
 use Rattle.x86_64_model.proofs.Lemmas.Caches.Whole.{calls_may_happen}
@@ -69,7 +68,7 @@ module _ (l : Layout) (take_back : List ℕ → ℕ → List ℕ) (serves : ℕ 
   -- ---- changes of the caches
 
   caches_in_turn : (m : Memory) (pool : List ℕ) (due : List Due) (before : List Cached) (between : List (List Cached)) (after : List Cached)
-      → As (system_in l m pool before due) → CachesInTurn l.levels l.root (words l m) before between after → As (system_in l m pool after due)
+      → As (system_in l m pool before due) → CachesInTurn l.levels l.root (words (l laid_in m)) before between after → As (system_in l m pool after due)
   caches_in_turn m pool due before [] after a same = subst (λ cached. As (system_in l m pool cached due)) same a
   caches_in_turn m pool due before (next ∷ more) after a turns =
       caches_in_turn m pool due next more after (one_more machine l.root serves (system_in l m pool before due) a (Changes next) turns.0) turns.1
@@ -77,8 +76,8 @@ module _ (l : Layout) (take_back : List ℕ → ℕ → List ℕ) (serves : ℕ 
   -- ---- a call
 
   called : (m n : Memory) (pool rest : List ℕ) (cached : List Cached) (due : List Due) (call : Call) (loses : Bool) → As (system_in l m pool cached due) → IsCall l.levels call
-      → (In due TablesDue → parent_flags_of call ≡ None) → (loses ≡ false → NoneLoses machine (state_in l m pool) call) → FitsPool l m serves pool
-      → (step machine (state_in l m pool) call).state ≡ state_in l n rest → KeepsFree l m pool (back_by machine (state_in l m pool) call) n rest → FitsPool l n serves rest
+      → (In due TablesDue → parent_flags_of call ≡ None) → (loses ≡ false → NoneLoses machine (state_in l m pool) call) → PoolFits (l laid_in m) serves pool
+      → (step machine (state_in l m pool) call).state ≡ state_in l n rest → KeepsFree l m pool (back_by machine (state_in l m pool) call) n rest → PoolFits (l laid_in n) serves rest
       → As (system_in l n rest cached (cond loses (flush_after l.levels l.window call (step machine (state_in l m pool) call).reply) [] ++ due))
   called m n pool rest cached due call loses a is waits kept_all fits steps free kept =
       let now = system_in l m pool cached due in
@@ -86,9 +85,9 @@ module _ (l : Layout) (take_back : List ℕ → ℕ → List ℕ) (serves : ℕ 
       let made = one_more machine l.root serves now a (Makes call loses) makes in
       let after = step machine (state_in l m pool) call in
       let next = run_calls_are_events l take_back serves m n pool rest call steps free kept in
-      let written = one_more machine l.root serves (after_event machine now (Makes call loses)) made (Writes after.state.paths (words l n))
-      (calls_may_happen machine a.happens.machine l.root serves now fits call loses makes (words l n) next) in
-      subst (λ (s : State). As (record { state = s; paths = s.paths; words = words l n; cache = cached; due = cond loses (flush_after l.levels l.window call after.reply) [] ++ due })) steps written
+      let written = one_more machine l.root serves (after_event machine now (Makes call loses)) made (Writes after.state.paths (words (l laid_in n)))
+      (calls_may_happen machine a.happens.machine l.root serves now fits call loses makes (words (l laid_in n)) next) in
+      subst (λ (s : State). As (record { state = s; paths = s.paths; words = words (l laid_in n); cache = cached; due = cond loses (flush_after l.levels l.window call after.reply) [] ++ due })) steps written
 
   -- ---- a flush
 
@@ -104,7 +103,7 @@ module _ (l : Layout) (take_back : List ℕ → ℕ → List ℕ) (serves : ℕ 
 pub arises_first : ArisesFirst
 arises_first l take_back serves m pool is levels fits = record {
   start = state_in l m pool;
-  tables = words l m;
+  tables = words (l laid_in m);
   fits = fits;
   events = [];
   happens = record { machine = is; levels = levels; happen = tt; ends = refl };

@@ -1,9 +1,10 @@
 -- The result of a list of calls determines every word of the memory.
 use Rattle.std.specs.Prelude.{◌≡◌, ℕ, Bool, List}
-use Rattle.x86_64_model.specs.Layout.{Layout, words, paths}
+use Rattle.x86_64_model.specs.Layout.{Layout}
+use Rattle.x86_64_model.specs.Mapper.{◌laid_in◌, paths, words}
+use Rattle.x86_64_model.specs.Store.{KeepsPool}
 use Rattle.x86_64_model.specs.Memory.{Memory, Words, IsMapping, word}
 use Rattle.x86_64.specs.FreeFrames.{KeepsFree}
-use Rattle.x86_64.specs.Runs.{KeepsPool}
 
 -- the tables in all frames have equal words
 abbrev pub SameWords : Words → Words → Type 0
@@ -18,5 +19,5 @@ pub record IsLeft (layout : Layout) (m : Memory) (pool back : List ℕ) (n : Mem
 -- If two memories had equal words and the same frames were returned, equal path maps at the end mean that all words are equal.
 abbrev pub EveryWordIsDecided : Type 0
 EveryWordIsDecided = (layout : Layout) → IsMapping layout.places → (m k n o : Memory) (pool back rest : List ℕ)
-    → SameWords (words layout m) (words layout k) → IsLeft layout m pool back n rest → IsLeft layout k pool back o rest → paths layout n ≡ paths layout o
-    → SameWords (words layout n) (words layout o)
+    → SameWords (words (layout laid_in m)) (words (layout laid_in k)) → IsLeft layout m pool back n rest → IsLeft layout k pool back o rest → paths (layout laid_in n) ≡ paths (layout laid_in o)
+    → SameWords (words (layout laid_in n)) (words (layout laid_in o))

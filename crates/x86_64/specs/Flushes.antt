@@ -4,8 +4,8 @@ use Rattle.std.specs.List.{AllByRecursion}
 use Rattle.std.specs.Vec.{vec_capacity}
 use Rattle.x86_64_model.specs.Arrivals.{KeepsArrival}
 use Rattle.x86_64_model.specs.Flush as flush
-use Rattle.x86_64_model.specs.Layout.{Layout, words}
-use Rattle.x86_64_model.specs.Mapper.{Hierarchy}
+use Rattle.x86_64_model.specs.Layout.{Layout}
+use Rattle.x86_64_model.specs.Mapper.{◌laid_in◌, Hierarchy, words}
 use Rattle.x86_64_model.specs.Machine.{State, state_after}
 use Rattle.x86_64_model.specs.Memory.{Words}
 use Rattle.x86_64_model.specs.PageWalk.{page_walk}
@@ -84,7 +84,7 @@ FlushesSuffice asks l take_back start calls replies U =
 -- The records after calls: the items before, one for each token of an accepted call, and these suffice.
 pub record Flushed {C Lent : Type 0} (asks : C → MapperCall) (h : Hierarchy Lent) (store : Store) (calls : List C) (replies_before replies_now : List Reply) (before now : List FlushItem) (after : Hierarchy Lent) : Type 0 where
   pub items : now ≡ before ++ items_told h.layout.levels (appended replies_before replies_now)
-  pub suffice : FlushesSuffice asks h.layout store.take_back (state_with h store) calls (appended replies_before replies_now) (words h.layout after.memory)
+  pub suffice : FlushesSuffice asks h.layout store.take_back (state_with h store) calls (appended replies_before replies_now) (words (h.layout laid_in after.memory))
 
 -- Memory for one more reply and one more item for each of these calls was refused.
 pub record RoomRefused {C A : Type 0} (calls : List C) (replies replies_now : Vec Reply A) (recorder recorder_now : Recorded) : Type 0 where

@@ -2,7 +2,8 @@
 use Rattle.std.specs.Prelude.{◌≡◌, ℕ, List, [], ◌∷◌, ◌++◌}
 use Rattle.x86_64_model.specs.Call.{Call, CleanUp}
 use Rattle.x86_64_model.specs.CleanUp.{clean_up}
-use Rattle.x86_64_model.specs.Layout.{Layout, words}
+use Rattle.x86_64_model.specs.Layout.{Layout}
+use Rattle.x86_64_model.specs.Mapper.{◌laid_in◌, words}
 use Rattle.x86_64_model.specs.Lists.{In}
 use Rattle.x86_64_model.specs.Machine.{Machine, State, step}
 use Rattle.x86_64_model.specs.Memory.{Memory, word}
@@ -20,6 +21,6 @@ all_back machine state (call ∷ calls) = back_by machine state call ++ all_back
 -- Calls led from the memory m and a pool to the memory n and the rest of the pool, and returned the frames in back. A frame that
 -- is free afterwards was returned and has only zero words, or was free before and kept its words.
 pub record KeepsFree (layout : Layout) (m : Memory) (pool back : List ℕ) (n : Memory) (rest : List ℕ) : Type 0 where
-  pub came_back : (f : ℕ) → In rest f → In back f → (i : ℕ) → word (words layout n) f i ≡ 0
+  pub came_back : (f : ℕ) → In rest f → In back f → (i : ℕ) → word (words (layout laid_in n)) f i ≡ 0
   pub was_free : (f : ℕ) → In rest f → (In back f → ⊥) → In pool f
-  pub same_words : (f : ℕ) → In rest f → (In back f → ⊥) → words layout n f ≡ words layout m f
+  pub same_words : (f : ℕ) → In rest f → (In back f → ⊥) → words (layout laid_in n) f ≡ words (layout laid_in m) f

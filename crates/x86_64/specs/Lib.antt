@@ -18,7 +18,7 @@ pub mod SeveralProcessors
 pub mod private
 pub use Rattle.x86_64_model.specs.Machine
 pub use Rattle.x86_64_model.specs.Layout
-pub use Rattle.x86_64_model.specs.FitsPool
+pub use Rattle.x86_64_model.specs.Mapper
 pub use Rattle.x86_64_model.specs.Store
 pub use Rattle.x86_64_model.specs.Spaces
 pub use Rattle.x86_64_model.specs.Alike

@@ -4,14 +4,15 @@ use Rattle.std.specs.FinMap.{get}
 use Rattle.x86_64_model.specs.Layout.{Layout}
 use Rattle.x86_64_model.specs.Memory.{Memory}
 use Rattle.x86_64_mappers.specs.Offsets.{OffsetFits}
-use Rattle.x86_64.specs.Runs.{FitsPool, KeepsPool}
+use Rattle.x86_64_model.specs.Mapper.{◌laid_in◌, PoolFits}
+use Rattle.x86_64_model.specs.Store.{KeepsPool}
 
 -- If a pool fits a hierarchy, what calls on it keep is enough for the memory to have the same places as before.
 abbrev pub PlacesStay : Type 0
-PlacesStay = (layout : Layout) (serves : ℕ → Bool) (m n : Memory) (pool rest : List ℕ) → FitsPool layout m serves pool → KeepsPool layout serves m pool n rest
+PlacesStay = (layout : Layout) (serves : ℕ → Bool) (m n : Memory) (pool rest : List ℕ) → PoolFits (layout laid_in m) serves pool → KeepsPool layout serves m pool n rest
     → (place : ℕ) → IsSome (get n place) ↔ IsSome (get m place)
 
 -- So an offset that fits the memory still fits it.
 abbrev pub OffsetsFitStill : Type 0
-OffsetsFitStill = (layout : Layout) (serves : ℕ → Bool) (m n : Memory) (pool rest : List ℕ) → FitsPool layout m serves pool → KeepsPool layout serves m pool n rest
+OffsetsFitStill = (layout : Layout) (serves : ℕ → Bool) (m n : Memory) (pool rest : List ℕ) → PoolFits (layout laid_in m) serves pool → KeepsPool layout serves m pool n rest
     → (levels offset : ℕ) → OffsetFits levels m offset → OffsetFits levels n offset

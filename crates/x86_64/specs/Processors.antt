@@ -5,13 +5,12 @@ use Rattle.x86_64_model.specs.Call.{Call, IsCall, parent_flags_of}
 use Rattle.x86_64_model.specs.Flushing as kernel
 use Rattle.x86_64_model.specs.Entry.{used}
 use Rattle.x86_64_model.specs.Flushing.{Due, TablesDue, Event, System, LosesNothing, flush_after, survives}
-use Rattle.x86_64_model.specs.FitsPool.{FitsPool}
-use Rattle.x86_64_model.specs.Layout.{Layout, words, paths}
+use Rattle.x86_64_model.specs.Layout.{Layout}
 use Rattle.x86_64_model.specs.Laws.Caches.{CachesInTurn, Happens, WalksThere}
 use Rattle.x86_64_model.specs.Laws.Steps.{FitsState}
 use Rattle.x86_64_model.specs.Lists.{In}
 use Rattle.x86_64_model.specs.Machine.{Machine, IsMachine, State, step}
-use Rattle.x86_64_model.specs.Mapper.{machine_of, state_in}
+use Rattle.x86_64_model.specs.Mapper.{◌laid_in◌, machine_of, state_in, PoolFits, paths, words}
 use Rattle.x86_64_model.specs.Memory.{Memory, Words}
 use Rattle.x86_64_model.specs.PathMap.{entry}
 use Rattle.x86_64_model.specs.Window.{Window}
@@ -25,7 +24,7 @@ use Rattle.x86_64.specs.declared.flushing.Flush.{Flush}
 
 -- the system between two calls
 abbrev pub system_in : Layout → Memory → (pool : List ℕ) → List Cached → List Due → System
-system_in l m pool cached due = record { state = state_in l m pool; paths = paths l m; words = words l m; cache = cached; due = due }
+system_in l m pool cached due = record { state = state_in l m pool; paths = paths (l laid_in m); words = words (l laid_in m); cache = cached; due = due }
 
 -- The memory, the pool, the items and what is due arise from empty caches by events that may happen: calls, flushes, changes of
 -- the caches.
@@ -38,7 +37,7 @@ pub record Arises (l : Layout) (take_back : List ℕ → ℕ → List ℕ) (serv
 
 -- each access to a page goes with the page walk in the present words, with no right more
 abbrev pub AccessesGo : Layout → Memory → List Cached → Type 0
-AccessesGo l m cached = (p : ℕ) (w : Way) → MayAccess l.levels l.root (words l m) cached p w → WalksThere (walk l.levels (words l m) l.root p) w
+AccessesGo l m cached = (p : ℕ) (w : Way) → MayAccess l.levels l.root (words (l laid_in m)) cached p w → WalksThere (walk l.levels (words (l laid_in m)) l.root p) w
 
 -- the processor drops and makes items, one time after another, while the words are these
 abbrev pub CachesOften : (L root : ℕ) → Words → (before after : List Cached) → Type 0
@@ -58,20 +57,20 @@ NoneLoses m s call = (q : List ℕ) → used (entry s.paths q) ≡ true → Lose
 -- A hierarchy with a pool that fits it arises with empty caches.
 abbrev pub ArisesFirst : Type 0
 ArisesFirst = (l : Layout) (take_back : List ℕ → ℕ → List ℕ) (serves : ℕ → Bool) (m : Memory) (pool : List ℕ) → IsMachine (machine_of l take_back) → 0 < l.levels
-    → FitsPool l m serves pool → Arises l take_back serves m pool [] []
+    → PoolFits (l laid_in m) serves pool → Arises l take_back serves m pool [] []
 
 -- the processor may cache at any moment between two calls
 abbrev pub ArisesByCaching : Type 0
 ArisesByCaching = (l : Layout) (take_back : List ℕ → ℕ → List ℕ) (serves : ℕ → Bool) (m : Memory) (pool : List ℕ) (due : List Due) (before after : List Cached)
-    → Arises l take_back serves m pool before due → CachesOften l.levels l.root (words l m) before after → Arises l take_back serves m pool after due
+    → Arises l take_back serves m pool before due → CachesOften l.levels l.root (words (l laid_in m)) before after → Arises l take_back serves m pool after due
 
 -- A call as `run_call` ensures it makes due what the model says, or nothing if no used entry loses anything. No map may begin
 -- while tables are due.
 abbrev pub ArisesByCalls : Type 0
 ArisesByCalls = (l : Layout) (take_back : List ℕ → ℕ → List ℕ) (serves : ℕ → Bool) (m n : Memory) (pool rest : List ℕ) (cached : List Cached) (due : List Due) (call : Call) (loses : Bool)
     → let machine = machine_of l take_back in
-    Arises l take_back serves m pool cached due → IsCall l.levels call → (In due TablesDue → parent_flags_of call ≡ None) → (loses ≡ false → NoneLoses machine (state_in l m pool) call) → FitsPool l m serves pool
-    → (step machine (state_in l m pool) call).state ≡ state_in l n rest → KeepsFree l m pool (back_by machine (state_in l m pool) call) n rest → FitsPool l n serves rest
+    Arises l take_back serves m pool cached due → IsCall l.levels call → (In due TablesDue → parent_flags_of call ≡ None) → (loses ≡ false → NoneLoses machine (state_in l m pool) call) → PoolFits (l laid_in m) serves pool
+    → (step machine (state_in l m pool) call).state ≡ state_in l n rest → KeepsFree l m pool (back_by machine (state_in l m pool) call) n rest → PoolFits (l laid_in n) serves rest
     → Arises l take_back serves n rest cached (cond loses (flush_after l.levels l.window call (step machine (state_in l m pool) call).reply) [] ++ due)
 
 -- a flush leaves what it doesn't settle
@@ -84,12 +83,12 @@ ArisesByFlushes = (l : Layout) (take_back : List ℕ → ℕ → List ℕ) (serv
 abbrev pub ArisesByFlushedCalls : Type 0
 ArisesByFlushedCalls = (l : Layout) (take_back : List ℕ → ℕ → List ℕ) (serves : ℕ → Bool) (m n : Memory) (pool rest : List ℕ) (call : MapperCall) (reply : Reply) (loses : Bool)
     → let machine = machine_of l take_back in
-    IsCall l.levels (machine_call l.levels call) → FitsPool l m serves pool → step_by machine (state_in l m pool) call ≡ record { state = state_in l n rest; reply = Some reply }
-    → KeepsFree l m pool (back_by machine (state_in l m pool) (machine_call l.levels call)) n rest → FitsPool l n serves rest
+    IsCall l.levels (machine_call l.levels call) → PoolFits (l laid_in m) serves pool → step_by machine (state_in l m pool) call ≡ record { state = state_in l n rest; reply = Some reply }
+    → KeepsFree l m pool (back_by machine (state_in l m pool) (machine_call l.levels call)) n rest → PoolFits (l laid_in n) serves rest
     → (loses ≡ false → NoneLoses machine (state_in l m pool) (machine_call l.levels call))
     → (flush : Flush) → TellsFlush l.levels call reply (option_map (λ (w : Window). w.index) l.window) loses flush
-    → (before first second after : List Cached) → Arises l take_back serves m pool before [] → CachesOften l.levels l.root (words l m) before first
-    → CachesOften l.levels l.root (words l n) first second → LeftBy l.levels (executed flush (unwrap_or (page_start l.levels call) 0)) second after
+    → (before first second after : List Cached) → Arises l take_back serves m pool before [] → CachesOften l.levels l.root (words (l laid_in m)) before first
+    → CachesOften l.levels l.root (words (l laid_in n)) first second → LeftBy l.levels (executed flush (unwrap_or (page_start l.levels call) 0)) second after
     → Arises l take_back serves n rest after []
 
 -- If nothing is due, each access goes with the page walk.

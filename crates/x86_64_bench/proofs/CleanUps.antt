@@ -1,15 +1,12 @@
 -- A hierarchy that a pool fits may be cleaned up by a mapper with its layout and memory.
 use Rattle.std.proofs.Common.{◌≡◌, ℕ, Bool, List, sym, subst₂}
 use Rattle.x86_64_model.proofs.Lemmas.Machines.Fitting.{may_clean_up}
-use Rattle.x86_64_model.specs.Layout.{Layout, words, paths}
+use Rattle.x86_64_model.specs.Layout.{Layout}
 use Rattle.x86_64_model.specs.Memory.{Memory}
-use Rattle.x86_64_model.specs.Mapper.{Hierarchy, MayCleanUp}
+use Rattle.x86_64_model.specs.Mapper.{◌laid_in◌, Hierarchy, MayCleanUp, PoolFits}
 use Rattle.x86_64_model.specs.Pool.{Fits}
 
-abbrev FitsIn : Layout → Memory → (serves : ℕ → Bool) → (pool : List ℕ) → Type 0
-FitsIn l m serves pool = Fits l.levels l.window (words l m) l.root (paths l m) serves pool
-
 pub fitting_cleans_up : {Lent : Type 0} (h : Hierarchy Lent) (l : Layout) (m : Memory) → h.layout ≡ l → h.memory ≡ m
-    → (serves : ℕ → Bool) (pool : List ℕ) → FitsIn l m serves pool → MayCleanUp h serves pool
+    → (serves : ℕ → Bool) (pool : List ℕ) → PoolFits (l laid_in m) serves pool → MayCleanUp h serves pool
 fitting_cleans_up h l m layout memory serves pool fits =
-    may_clean_up h serves pool (subst₂ (λ l m. FitsIn l m serves pool) (sym layout) (sym memory) fits)
+    may_clean_up h serves pool (subst₂ (λ l m. PoolFits (l laid_in m) serves pool) (sym layout) (sym memory) fits)

@@ -3,9 +3,8 @@
 ghost use Rattle.std.specs.Prelude.{◌≡◌, ◌↔◌, IfOk, IsTrue};
 ghost use Rattle.x86_64_model.specs.Pool.{serves_below};
 ghost use Rattle.x86_64_model.specs.Memory.{identity_places};
-ghost use Rattle.x86_64_model.specs.Mapper.{Valid, SupplyFits, MayCleanUp};
+ghost use Rattle.x86_64_model.specs.Mapper.{◌laid_in◌, Valid, SupplyFits, MayCleanUp, PoolFits};
 ghost use Rattle.x86_64_mappers.specs.Layouts.{direct_at};
-ghost use Rattle.x86_64.specs.Runs.{FitsPool};
 
 use crate::listing::list_all;
 use crate::page_calls::{finds_page, map_page, unmap_page};
@@ -287,7 +286,7 @@ pub fn pool_fits_in<L: LevelCount, T: TableMemory>(
 ) -> Result<bool, AllocError>
     ensures { let layout = direct_at L.LEVELS identity_places root in
         let serves = serves_below pool.now.limit in
-        IfOk result (λ fits. IsTrue fits ↔ FitsPool layout (T.tables memory.now) serves pool.now.frames) }
+        IfOk result (λ fits. IsTrue fits ↔ PoolFits (layout laid_in T.tables memory.now) serves pool.now.frames) }
 {
     if L::LEVELS == 4 {
         pool_fits(alloc, memory, &IdentityMapping, root, pool)

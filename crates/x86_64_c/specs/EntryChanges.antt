@@ -6,7 +6,7 @@ use Rattle.x86_64_model.specs.Call.{Call}
 use Rattle.x86_64_model.specs.Mapper.{Hierarchy, Does, PoolFits, allows}
 use Rattle.x86_64_model.specs.Refusal.{Refusal, InvalidFrameAddress, Answer, Done, Refused}
 use Rattle.x86_64_tables.specs.PageTableFlags.{bits_of}
-use Rattle.x86_64.specs.Runs.{KeepsPool}
+use Rattle.x86_64_model.specs.Store.{KeepsPool}
 use Rattle.x86_64_c.specs.Given.{unless, bad_hierarchy, bad_page}
 use Rattle.x86_64_c.specs.Status as status
 use Rattle.x86_64_c.specs.Status.{answer_status}

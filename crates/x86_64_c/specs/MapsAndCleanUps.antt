@@ -2,14 +2,14 @@
 use Rattle.std.specs.Prelude.{◌≡◌, ◌≤◌, ℕ, ◌+◌, true, ◌==◌, ◌&&◌, nat_le, cond, List, length, Option, Some, None}
 use Rattle.std.specs.Option.{option_or}
 use Rattle.x86_64_model.specs.Mapper.{Hierarchy}
-use Rattle.x86_64_model.specs.Store.{Store, Fits, put_first}
+use Rattle.x86_64_model.specs.Store.{Store, Fits, put_first, KeepsPool}
 use Rattle.x86_64_tables.specs.LentPool.{is_in, stacked}
 use Rattle.x86_64_tables.specs.PageTableFlags.{bits_of}
 use Rattle.x86_64.specs.Asked as asked
 use Rattle.x86_64.specs.Asked.{MapperCall}
 use Rattle.x86_64.specs.Calls.{asks, no_bits}
 use Rattle.x86_64.specs.Replies.{Reply, changes_nothing}
-use Rattle.x86_64.specs.Runs.{KeepsPool, LeavesFree, Stepped}
+use Rattle.x86_64.specs.Runs.{LeavesFree, Stepped}
 use Rattle.x86_64_c.specs.Given.{unless, bad_hierarchy, bad_page, bad_frame, hierarchy_in, starts_page, position_of}
 use Rattle.x86_64_c.specs.Status as status
 use Rattle.x86_64_c.specs.Status.{reply_status}

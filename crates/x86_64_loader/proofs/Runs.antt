@@ -8,14 +8,14 @@ use Rattle.x86_64_model.specs.Call.{MapTo}
 use Rattle.x86_64_model.specs.Entry.{present}
 use Rattle.x86_64_model.specs.Layout.{Layout}
 use Rattle.x86_64_model.specs.MapRule.{parent_part}
-use Rattle.x86_64_model.specs.Mapper.{Hierarchy, MayMap, Stands, paths, path_of}
+use Rattle.x86_64_model.specs.Mapper.{◌laid_in◌, Hierarchy, MayMap, Stands, paths, path_of, PoolFits}
 use Rattle.x86_64_model.specs.PageMappings.{PageMapping}
 use Rattle.x86_64_model.specs.PageWalk.{Walked}
 use Rattle.x86_64_model.specs.Path.{path_at}
 use Rattle.x86_64_model.proofs.Lemmas.Lists.All.{all_mapped}
 use Rattle.x86_64_model.proofs.Lemmas.Machines.PageMappings.{allowed_again}
 use Rattle.x86_64.specs.FreeFrames.{KeepsFree}
-use Rattle.x86_64.specs.Runs.{FitsPool, KeepsPool}
+use Rattle.x86_64_model.specs.Store.{KeepsPool}
 use Rattle.x86_64.proofs.FreeFrames as frees
 use Rattle.x86_64.proofs.Keeping.{keeps_then}
 use Rattle.x86_64_loader.specs.Maps.{Kept}
@@ -43,7 +43,7 @@ kept_then {supply = supply} h now after between rest one two = record {
   keeps = λ serves fits. let first = one.keeps serves fits in
       keeps_then h.layout serves h.memory now.memory after.memory supply between rest first
       (subst (λ (l : Layout). KeepsPool l serves now.memory between after.memory rest) one.layout
-      (two.keeps serves (subst (λ (l : Layout). FitsPool l now.memory serves between) (sym one.layout) first.fits)));
+      (two.keeps serves (subst (λ (l : Layout). PoolFits (l laid_in now.memory) serves between) (sym one.layout) first.fits)));
   free = frees.free_then h.layout h.memory now.memory after.memory supply between rest [] [] one.free
       (subst (λ (l : Layout). KeepsFree l now.memory between [] after.memory rest) one.layout two.free);
   walks = λ p w is.

@@ -8,7 +8,7 @@ use Rattle.x86_64_model.specs.Mapper.{Hierarchy, PoolFits, SupplyFits, machine_o
 use Rattle.x86_64_model.specs.PageMappings.{PageMapping, accepted, map_calls}
 use Rattle.x86_64_model.specs.Refusal.{Refusal, Refused}
 use Rattle.x86_64.specs.FreeFrames.{KeepsFree}
-use Rattle.x86_64.specs.Runs.{KeepsPool}
+use Rattle.x86_64_model.specs.Store.{KeepsPool}
 
 -- The pages were mapped by `map_to` in order. Answers and state are the machine's, however its pool takes frames back. The
 -- machine is the abstract mapper of the model.

@@ -2,15 +2,15 @@
 use Rattle.std.specs.Prelude.{ℕ, List, [], unwrap_or, slice_set}
 use Rattle.std.specs.Borrow.{Lends, MutBor, Fml, RattleType}
 use Rattle.std.specs.FinMap.{insert}
-use Rattle.x86_64_model.specs.Layout.{Layout, words}
+use Rattle.x86_64_model.specs.Layout.{Layout}
 use Rattle.x86_64_model.specs.Memory.{Memory}
-use Rattle.x86_64_model.specs.Mapper.{Hierarchy}
+use Rattle.x86_64_model.specs.Mapper.{◌laid_in◌, Hierarchy, words}
 use Rattle.x86_64_tables.specs.PageTable.{zero_words}
 use Rattle.x86_64_tables.specs.contracts.page_table.entry.PageTableEntry.{the_row as entry_row}
 
 -- the table in a frame
 abbrev pub table_in : Layout → Memory → (frame : ℕ) → List ℕ
-table_in l m f = unwrap_or (words l m f) []
+table_in l m f = unwrap_or (words (l laid_in m) f) []
 
 -- the table in a frame, with another word at an index
 abbrev pub table_with : {Lent : Type 0} → Hierarchy Lent → (frame index word : ℕ) → List ℕ

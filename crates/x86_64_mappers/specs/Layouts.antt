@@ -1,9 +1,8 @@
 -- The layouts of mappers.
 use Rattle.std.specs.Prelude.{◌↔◌, ℕ, Bool, List, Option, None, IsSome}
-use Rattle.x86_64_model.specs.FitsPool.{FitsPool}
-use Rattle.x86_64_model.specs.Layout.{Layout, Valid, words}
+use Rattle.x86_64_model.specs.Layout.{Layout}
 use Rattle.x86_64_model.specs.Memory.{Memory, Places, words_of}
-use Rattle.x86_64_model.specs.Mapper.{Hierarchy}
+use Rattle.x86_64_model.specs.Mapper.{◌laid_in◌, Hierarchy, PoolFits, Valid, words}
 
 -- a layout without a recursive index: a new table entry gets the parent flags alone
 abbrev pub direct_at : (levels : ℕ) → Places → (root : ℕ) → Layout
@@ -23,7 +22,7 @@ owned places root memory lent = owned_at 4 places root memory lent
 
 -- the table in the root's frame
 abbrev pub root_table : {Lent : Type 0} → Hierarchy Lent → Option (List ℕ)
-root_table h = words h.layout h.memory h.layout.root
+root_table h = words h h.layout.root
 
 -- the root's frame is covered and in the memory
 abbrev pub HasRoot : Places → (root : ℕ) → Memory → Type 0
@@ -31,8 +30,8 @@ HasRoot places root memory = IsSome (words_of memory places root)
 
 -- with L levels and in a memory, the same roots have valid hierarchies whether frames lie in these places or in those
 abbrev pub AreValidAlike : (L : ℕ) → Memory → (these those : Places) → Type 0
-AreValidAlike L m these those = (root : ℕ) → Valid (direct_at L these root) m ↔ Valid (direct_at L those root) m
+AreValidAlike L m these those = (root : ℕ) → Valid (direct_at L these root laid_in m) ↔ Valid (direct_at L those root laid_in m)
 
 -- the same pools fit them
 abbrev pub FitAlike : (L : ℕ) → Memory → (these those : Places) → Type 0
-FitAlike L m these those = (root : ℕ) (serves : ℕ → Bool) (pool : List ℕ) → FitsPool (direct_at L these root) m serves pool ↔ FitsPool (direct_at L those root) m serves pool
+FitAlike L m these those = (root : ℕ) (serves : ℕ → Bool) (pool : List ℕ) → PoolFits (direct_at L these root laid_in m) serves pool ↔ PoolFits (direct_at L those root laid_in m) serves pool

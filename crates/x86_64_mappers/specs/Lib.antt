@@ -13,4 +13,5 @@ pub mod RefusedMappers
 pub mod Windows
 pub mod private
 pub use Rattle.x86_64_model.specs.Layout
+pub use Rattle.x86_64_model.specs.Mapper
 pub use Rattle.x86_64_model.specs.Memory

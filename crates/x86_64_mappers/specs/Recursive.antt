@@ -1,9 +1,9 @@
 -- The layout of a recursive mapper, and what it holds.
 use Rattle.std.specs.Prelude.{ℕ, List, Some, bit_or, unwrap_or}
 use Rattle.std.specs.Borrow.{Lends, MutBor, Fml, RattleType}
-use Rattle.x86_64_model.specs.Layout.{Layout, Valid}
+use Rattle.x86_64_model.specs.Layout.{Layout}
 use Rattle.x86_64_model.specs.Memory.{Memory, Words, identity_places, words_of}
-use Rattle.x86_64_model.specs.Mapper.{Hierarchy}
+use Rattle.x86_64_model.specs.Mapper.{◌laid_in◌, Hierarchy, Valid}
 use Rattle.x86_64_model.specs.Window.{Window}
 use Rattle.x86_64_tables.specs.ActiveMemory.{memory_of, cr3_of, walked_frame}
 use Rattle.x86_64_tables.specs.SelfEntries.{window_at}
@@ -33,7 +33,7 @@ by_number memory = words_of memory identity_places
 
 -- the hierarchy with this root is valid with this recursive index
 abbrev pub ValidThrough : (levels : ℕ) → Memory → (root index : ℕ) → Type 0
-ValidThrough levels memory root r = Valid (recursive_now_at levels memory root r) memory
+ValidThrough levels memory root r = Valid (recursive_now_at levels memory root r laid_in memory)
 
 -- the layout of a mapper of an active memory with this recursive index
 abbrev pub layout_through : {N : Type 0} → (levels : ℕ) → Active N Memory → (index : ℕ) → Layout

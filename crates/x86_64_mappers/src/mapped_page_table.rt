@@ -1,7 +1,6 @@
 //! The mapper that finds page tables by a frame mapping.
 ghost use Rattle.std.specs.Prelude.{◌≡◌, ◌↔◌, Some, IfOk, IsTrue};
-ghost use Rattle.x86_64_model.specs.Layout.{Valid as ValidIn};
-ghost use Rattle.x86_64_model.specs.Mapper.{Valid};
+ghost use Rattle.x86_64_model.specs.Mapper.{◌laid_in◌, Valid};
 ghost use Rattle.x86_64_mappers.specs.Layouts.{direct_at, root_table, HasRoot};
 
 use crate::access::TableAccess;
@@ -94,7 +93,7 @@ impl<'a, P: PageTableFrameMapping, L: LevelCount, T: TableMemory> Direct<'a, P, 
     /// Requires that the hierarchy is valid, which
     /// [`is_valid_hierarchy`](x86_64_tables::phys_memory::is_valid_hierarchy) tests with the same mapping.
     pub(crate) fn over(memory: &'a mut T, root: PhysFrame<Size4KiB>, mapping: P) -> Self
-        requires { ValidIn (direct_at L.LEVELS (P.places mapping) root) (T.tables memory.old) }
+        requires { Valid (direct_at L.LEVELS (P.places mapping) root laid_in T.tables memory.old) }
         ensures lent { (⟦<Self as Tables>⟧.hierarchy result).lent
             ≡ ((memory.entry.ghost_name, T.lent memory.old), mapping) }
         ensures memory { (⟦<Self as Tables>⟧.hierarchy result).memory ≡ T.tables memory.old }
@@ -129,7 +128,7 @@ impl<'a, P: PageTableFrameMapping, L: LevelCount, T: TableMemory> Direct<
     /// Requires that the hierarchy is valid, which
     /// [`is_valid_hierarchy`](x86_64_tables::phys_memory::is_valid_hierarchy) tests with the same mapping.
     pub fn new(memory: &'a mut T, root: PhysFrame<Size4KiB>, mapping: P) -> Self
-        requires { ValidIn (direct_at L.LEVELS (P.places mapping) root) (T.tables memory.old) }
+        requires { Valid (direct_at L.LEVELS (P.places mapping) root laid_in T.tables memory.old) }
         ensures lent { (⟦<Self as Tables>⟧.hierarchy result).lent
             ≡ ((memory.entry.ghost_name, T.lent memory.old), mapping) }
         ensures memory { (⟦<Self as Tables>⟧.hierarchy result).memory ≡ T.tables memory.old }

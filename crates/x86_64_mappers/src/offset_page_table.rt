@@ -1,7 +1,6 @@
 //! The mapper for a memory that is mapped as a whole into the virtual address space, at an offset.
 ghost use Rattle.std.specs.Prelude.{◌≡◌, ◌↔◌, IsTrue};
-ghost use Rattle.x86_64_model.specs.Layout.{Valid as ValidIn};
-ghost use Rattle.x86_64_model.specs.Mapper.{Valid};
+ghost use Rattle.x86_64_model.specs.Mapper.{◌laid_in◌, Valid};
 ghost use Rattle.x86_64_model.specs.Memory.{identity_places};
 ghost use Rattle.x86_64_mappers.specs.Layouts.{direct_at};
 ghost use Rattle.x86_64_mappers.specs.Offsets.{offset_places, OffsetFits};
@@ -39,7 +38,7 @@ impl<'a, L: LevelCount, T: TableMemory> Direct<'a, PhysOffset<L>, L, T> {
     /// [`IdentityMapping`](x86_64_tables::phys_memory::IdentityMapping), and the second by
     /// [`offset_fits`](Self::offset_fits).
     pub fn new(memory: &'a mut T, root: PhysFrame<Size4KiB>, phys_offset: VirtAddrIn<L>) -> Self
-        requires valid { ValidIn (direct_at L.LEVELS identity_places root) (T.tables memory.old) }
+        requires valid { Valid (direct_at L.LEVELS identity_places root laid_in T.tables memory.old) }
         requires fits { OffsetFits L.LEVELS (T.tables memory.old) phys_offset }
         ensures lent { (⟦<Self as Tables>⟧.hierarchy result).lent
             ≡ ((memory.entry.ghost_name, T.lent memory.old), phys_offset) }

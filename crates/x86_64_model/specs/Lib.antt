@@ -31,7 +31,6 @@ pub mod Alike
 pub mod Layout
 pub mod Mapper
 pub mod Conserved
-pub mod FitsPool
 pub mod Store
 pub mod PageCalls
 pub mod Spaces

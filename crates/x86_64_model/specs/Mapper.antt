@@ -1,23 +1,25 @@
 -- The conditions and effects of a mapper's calls, over one record: the hierarchy that the mapper owns for a while.
-use Rattle.std.specs.Prelude.{◌≡◌, ◌<◌, ◌+◌, ℕ, Bool, true, List, ◌∷◌, Some, Option}
+use Rattle.std.specs.Prelude.{◌≢◌, ◌≡◌, ◌<◌, ◌+◌, ℕ, Bool, true, List, ◌∷◌, Some, Option}
 use Rattle.x86_64_model.specs.Allowed.{allowed, map_allowed, refuses}
 use Rattle.x86_64_model.specs.Arrivals.{Arrives}
 use Rattle.x86_64_model.specs.Call.{Call, UpdateFlags, SetFlags, CleanUp, Answered, Cleaned, parent_flags_of}
 use Rattle.x86_64_model.specs.CleanUp.{clean_up}
 use Rattle.x86_64_model.specs.Entry.{writable, user, address}
-use Rattle.x86_64_model.specs.Layout.{Layout, words as words_in, paths as paths_in, read_entry as read_entry_in, walk as walk_in, Valid as ValidIn}
 use Rattle.x86_64_model.specs.Lists.{In}
 use Rattle.x86_64_model.specs.Machine.{Machine, State, do_call}
-use Rattle.x86_64_model.specs.Layout.{KeepsOthers as KeepOthers}
-use Rattle.x86_64_model.specs.Memory.{Memory, Words, word}
+use Rattle.x86_64_model.specs.Memory.{Memory, Words, word, Places, words_of}
 use Rattle.x86_64_model.specs.PageRules.{translate_page}
-use Rattle.x86_64_model.specs.PageWalk.{Walked}
+use Rattle.x86_64_model.specs.PageWalk.{Walked, page_walk}
 use Rattle.x86_64_model.specs.Path.{front_at, path_at}
 use Rattle.x86_64_model.specs.PathMap.{PathMap, table_at}
 use Rattle.x86_64_model.specs.Pool.{IsOwn, IsTable, Fits, TakesBack, given_back}
 use Rattle.x86_64_model.specs.Refusal.{Answer}
 use Rattle.x86_64_model.specs.Standing.{StandsAt}
 use Rattle.x86_64_model.specs.Translation.{Translated, translate}
+use Rattle.x86_64_model.specs.Hierarchy.{paths_of}
+use Rattle.x86_64_model.specs.Layout.{Layout}
+use Rattle.std.specs.FinMap.{get}
+use Rattle.x86_64_model.specs.Window.{outside_window, entry_at, IsValidFor}
 
 -- The fixed layout, the current memory, and what was lent: the memory, and what finds frames in it.
 pub record Hierarchy (Lent : Type 0) : Type 0 where
@@ -25,23 +27,28 @@ pub record Hierarchy (Lent : Type 0) : Type 0 where
   pub memory : Memory
   pub lent : Lent
 
+-- The hierarchy of a layout in a memory, where nothing is lent.
+infix 50 ◌laid_in◌
+abbrev pub ◌laid_in◌ : Layout → Memory → Hierarchy (Unit {0})
+layout laid_in memory = record { layout = layout; memory = memory; lent = tt }
+
 -- ---- what it means now
 
 -- The table in each frame.
 abbrev pub words : {Lent : Type 0} → Hierarchy Lent → Words
-words h = words_in h.layout h.memory
+words h = words_of h.memory h.layout.places
 
--- The path map that its words hold.
+-- The path map that its words hold, with the root's word at the recursive index left out.
 abbrev pub paths : {Lent : Type 0} → Hierarchy Lent → PathMap
-paths h = paths_in h.layout h.memory
+paths h = paths_of h.layout.levels (outside_window h.layout.window h.layout.root (words h)) h.layout.root
 
 -- The entry read at a path, through the recursive index if there is one.
 abbrev pub read_entry : {Lent : Type 0} → Hierarchy Lent → List ℕ → ℕ
-read_entry h q = read_entry_in h.layout h.memory q
+read_entry h q = entry_at h.layout.window (paths h) q
 
 -- The result of the processor's page walk at a position (the number of an address counted without the gap of the address space).
 abbrev pub walk : {Lent : Type 0} → Hierarchy Lent → (position : ℕ) → Option Walked
-walk h p = walk_in h.layout h.memory p
+walk h p = page_walk h.layout.levels (words h) h.layout.root p
 
 -- The answer of `translate` at a position.
 abbrev pub translation : {Lent : Type 0} → Hierarchy Lent → (position : ℕ) → Translated
@@ -55,9 +62,9 @@ path_of h level p = path_at h.layout.levels level p
 abbrev pub page_translation : {Lent : Type 0} → Hierarchy Lent → (page : List ℕ) → Answer
 page_translation h q = translate_page h.layout.levels (read_entry h) q
 
--- The hierarchy is valid.
+-- The hierarchy is valid, including the self-entry if there is a recursive index.
 abbrev pub Valid : {Lent : Type 0} → Hierarchy Lent → Type 0
-Valid h = ValidIn h.layout h.memory
+Valid h = IsValidFor h.layout.levels h.layout.window (words h) h.layout.root (paths h)
 
 -- The hierarchy is valid, and a pool fits it.
 abbrev pub PoolFits : {Lent : Type 0} → Hierarchy Lent → (serves : ℕ → Bool) → (pool : List ℕ) → Type 0
@@ -71,9 +78,13 @@ SupplyFits h supply = PoolFits h (λ f. true) supply
 abbrev pub Owns : {Lent : Type 0} → Hierarchy Lent → (supply : List ℕ) → (frame : ℕ) → Type 0
 Owns h supply f = IsOwn h.layout.levels h.layout.root (paths h) supply f
 
+-- Every place where none of these frames lies keeps its words.
+abbrev pub KeepsOutside : Places → (frames : ℕ → Type 0) → Memory → Memory → Type 0
+KeepsOutside places frames m n = (k : ℕ) → ((f : ℕ) → frames f → places.place f ≢ k) → get n k ≡ get m k
+
 -- Only words in these frames changed.
 abbrev pub KeepsOthers : {Lent : Type 0} → (frames : ℕ → Type 0) → (h after : Hierarchy Lent) → Type 0
-KeepsOthers frames h after = KeepOthers h.layout.places frames h.memory after.memory
+KeepsOthers frames h after = KeepsOutside h.layout.places frames h.memory after.memory
 
 -- ---- what a call asks for
 
@@ -103,7 +114,7 @@ machine_of layout take_back = record { levels = layout.levels; window = layout.w
 
 -- The machine's state: the path map that the memory's words hold in the layout, and the free frames.
 abbrev pub state_in : Layout → Memory → (pool : List ℕ) → State
-state_in layout memory pool = record { paths = paths_in layout memory; pool = pool }
+state_in layout memory pool = record { paths = paths (layout laid_in memory); pool = pool }
 
 abbrev pub state_of : {Lent : Type 0} → Hierarchy Lent → (pool : List ℕ) → State
 state_of h pool = state_in h.layout h.memory pool

@@ -3,8 +3,8 @@
 use Rattle.std.specs.Prelude.{◌≡◌, ◌≢◌, ◌<◌, ℕ, Bool, true, false, List, [], ◌∷◌, Some, bit_or}
 use Rattle.x86_64_model.specs.Call.{Call, MapTo, MapToWithTableFlags, IdentityMap, Unmap, UpdateFlags, SetFlags, TranslatePage, Translate, TranslateAddress, CleanUp}
 use Rattle.x86_64_model.specs.CleanUp.{meets}
-use Rattle.x86_64_model.specs.FitsPool.{FitsPool}
-use Rattle.x86_64_model.specs.Layout.{Layout, paths, Valid, Owns}
+use Rattle.x86_64_model.specs.Mapper.{◌laid_in◌, Owns, PoolFits, Valid, paths}
+use Rattle.x86_64_model.specs.Layout.{Layout}
 use Rattle.x86_64_model.specs.Lists.{In}
 use Rattle.x86_64_model.specs.MapRule.{parent_part}
 use Rattle.x86_64_model.specs.Memory.{Memory}
@@ -21,13 +21,13 @@ is_shared shared (i ∷ q) = shared i
 pub record Shares (shared : ℕ → Bool) (first : Layout) (m : Memory) (pool : List ℕ) (second : Layout) : Type 0 where
   pub places : second.places ≡ first.places
   pub levels : second.levels ≡ first.levels
-  pub valid : Valid second m
-  pub root_entries : (i : ℕ) → shared i ≡ true → entry (paths second m) (i ∷ []) ≡ entry (paths first m) (i ∷ [])
-  pub apart : (q : List ℕ) (f : ℕ) → is_shared shared q ≡ false → table_at second.levels second.root (paths second m) q ≡ Some f → Owns first m pool f → ⊥
+  pub valid : Valid (second laid_in m)
+  pub root_entries : (i : ℕ) → shared i ≡ true → entry (paths (second laid_in m)) (i ∷ []) ≡ entry (paths (first laid_in m)) (i ∷ [])
+  pub apart : (q : List ℕ) (f : ℕ) → is_shared shared q ≡ false → table_at second.levels second.root (paths (second laid_in m)) q ≡ Some f → Owns (first laid_in m) pool f → ⊥
 
 -- Address spaces with one pool: it fits each, no two have one root, and any two share these indices.
 pub record AreSpaces (shared : ℕ → Bool) (m : Memory) (serves : ℕ → Bool) (pool : List ℕ) (spaces : List Layout) : Type 0 where
-  pub fits : (a : Layout) → In spaces a → FitsPool a m serves pool
+  pub fits : (a : Layout) → In spaces a → PoolFits (a laid_in m) serves pool
   pub own_roots : (a b : Layout) → In spaces a → In spaces b → a.root ≡ b.root → a ≡ b
   pub share : (a b : Layout) → In spaces a → In spaces b → a.root ≢ b.root → Shares shared a m pool b
 

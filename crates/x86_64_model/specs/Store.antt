@@ -1,7 +1,8 @@
 -- A store of frames: it hands frames out for new tables, and takes the frames of tables back that are gone.
-use Rattle.std.specs.Prelude.{◌≡◌, ℕ, Bool, List, ◌∷◌}
-use Rattle.x86_64_model.specs.FitsPool.{FitsPool, KeepsPool}
-use Rattle.x86_64_model.specs.Mapper.{Hierarchy}
+use Rattle.std.specs.Prelude.{◌↔◌, ◌≡◌, ℕ, Bool, List, ◌∷◌}
+use Rattle.x86_64_model.specs.Mapper.{◌laid_in◌, Hierarchy, PoolFits, Owns, KeepsOthers}
+use Rattle.x86_64_model.specs.Layout.{Layout}
+use Rattle.x86_64_model.specs.Memory.{Memory}
 
 -- What a store is: its free frames, in the order in which it hands them out, the frames that it serves (may hand out and take
 -- back), and the free frames after it takes one back.
@@ -25,7 +26,15 @@ put_first frames frame = frame ∷ frames
 -- The hierarchy is valid, and the frames of the store fit it: they are distinct, in the memory, and neither 0 nor in use as a table,
 -- and the store serves them and the frame of each table but the root.
 abbrev pub Fits : {Lent : Type 0} → Hierarchy Lent → Store → Type 0
-Fits h store = FitsPool h.layout h.memory store.serves store.frames
+Fits h store = PoolFits h store.serves store.frames
+
+-- Calls led from the memory m and a pool to the memory n and the rest of the pool. The rest fits the hierarchy again, free frames
+-- and table frames together are the same set as before, and no word changed outside the root, the tables and the frames that were
+-- free before.
+pub record KeepsPool (layout : Layout) (serves : ℕ → Bool) (m : Memory) (pool : List ℕ) (n : Memory) (rest : List ℕ) : Type 0 where
+  pub fits : PoolFits (layout laid_in n) serves rest
+  pub conserved : (frame : ℕ) → Owns (layout laid_in m) pool frame ↔ Owns (layout laid_in n) rest frame
+  pub others : KeepsOthers (Owns (layout laid_in m) pool) (layout laid_in m) (layout laid_in n)
 
 -- What calls keep: the rest of the store fits the hierarchy again, and serves the same frames. Free frames and frames of tables
 -- together are the same set as before. No word changed outside the root, the tables and the frames that were free before. The

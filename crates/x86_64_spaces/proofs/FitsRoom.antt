@@ -4,7 +4,8 @@ use Rattle.std.proofs.lemmas.List.{length-append}
 use Rattle.std.proofs.lemmas.List.Elements.{All-from_get_or}
 use Rattle.std.specs.List.{All}
 use Rattle.x86_64_model.specs.Entry.{is_frame}
-use Rattle.x86_64_model.specs.Layout.{Layout, words, paths}
+use Rattle.x86_64_model.specs.Layout.{Layout}
+use Rattle.x86_64_model.specs.Mapper.{◌laid_in◌, paths, words}
 use Rattle.x86_64_model.specs.Lists.{In, EachOnce}
 use Rattle.x86_64_model.specs.Memory.{Memory, Places, Words, IsMapping, words_of}
 use Rattle.x86_64_model.specs.PathMap.{table_at}
@@ -26,7 +27,7 @@ use Rattle.x86_64_tables.proofs.Stacks.{in_list, is_in_list}
 -- spaces stay with a rearranged pool, and with other frames that are served, if these are all that must be
 other_pool : (shared : ℕ → Bool) (m : Memory) (serves serves' : ℕ → Bool) (pool pool' : List ℕ) (layouts : List Layout) → EachOnce pool' → ((f : ℕ) → In pool' f → In pool f)
     → ((a : Layout) → In layouts a → (f : ℕ) → In pool f → serves' f ≡ true)
-    → ((a : Layout) → In layouts a → (i : ℕ) (q : List ℕ) (f : ℕ) → table_at a.levels a.root (paths a m) (i ∷ q) ≡ Some f → serves' f ≡ true)
+    → ((a : Layout) → In layouts a → (i : ℕ) (q : List ℕ) (f : ℕ) → table_at a.levels a.root (paths (a laid_in m)) (i ∷ q) ≡ Some f → serves' f ≡ true)
     → AreSpaces shared m serves pool layouts → AreSpaces shared m serves' pool' layouts
 other_pool shared m serves serves' pool pool' layouts once same serves_pool serves_tables are = record {
   fits = λ a i. let was = are.fits a i in record {
@@ -77,9 +78,9 @@ module _ (shared : ℕ → Bool) (n : ℕ) (places : Places) (mapping : IsMappin
   has_room : Sound × (length all + length pool ≤ capacity) → HasRoom
   has_room x =
       let are = means.0 x.0 in
-      let listed : (a : Layout) → In layouts a → (q : List ℕ) (f : ℕ) → table_at a.levels a.root (paths a m) q ≡ Some f → In all f = λ a i.
+      let listed : (a : Layout) → In layouts a → (q : List ℕ) (f : ℕ) → table_at a.levels a.root (paths (a laid_in m)) q ≡ Some f → In all f = λ a i.
       let s = from_map layout spaces a i in
-      subst (λ (a : Layout). (q : List ℕ) (f : ℕ) → table_at a.levels a.root (paths a m) q ≡ Some f → In all f) s.2
+      subst (λ (a : Layout). (q : List ℕ) (f : ℕ) → table_at a.levels a.root (paths (a laid_in m)) q ≡ Some f → In all f) s.2
       (table_listed shared n places mapping m first spaces member (2 ^ 40) pool x.0 s.0 s.1) in (
         are.0,
         record {
@@ -104,8 +105,8 @@ module _ (shared : ℕ → Bool) (n : ℕ) (places : Places) (mapping : IsMappin
         (λ a i k q f leads.
         let fits = room.1.spaces.fits a i in
         let s = from_map layout spaces a i in
-        let frames : (f : ℕ) → IsSome (words a m f) → is_frame f ≡ true = subst (λ (a : Layout). (f : ℕ) → IsSome (words a m f) → is_frame f ≡ true) s.2 (mappings_show_frames m places mapping) in
-        served f (frames f (inside_window a.window a.root (words a m) f (fits.valid.valid.holds.in_memory (k ∷ q) f leads)))
+        let frames : (f : ℕ) → IsSome (words (a laid_in m) f) → is_frame f ≡ true = subst (λ (a : Layout). (f : ℕ) → IsSome (words (a laid_in m) f) → is_frame f ≡ true) s.2 (mappings_show_frames m places mapping) in
+        served f (frames f (inside_window a.window a.root (words (a laid_in m)) f (fits.valid.valid.holds.in_memory (k ∷ q) f leads)))
         (λ zero. fits.valid.valid.not_zero k q (leads ∙ ap Some zero)))
         room.1.spaces
 
@@ -117,7 +118,7 @@ module _ (shared : ℕ → Bool) (n : ℕ) (places : Places) (mapping : IsMappin
         let led = led_to shared n places mapping m first spaces member (2 ^ 40) pool room.0 are_spaces f h in
         in_list room.1.own f (by led.0 led.1 led.2.0 led.2.1)
       where
-        by : (s : Space) → In spaces s → (q : List ℕ) → table_at (suc (suc n)) s.root (paths (layout s) m) q ≡ Some f → is_in room.1.own f ≡ true
+        by : (s : Space) → In spaces s → (q : List ℕ) → table_at (suc (suc n)) s.root (paths (layout s laid_in m)) q ≡ Some f → is_in room.1.own f ≡ true
         by s i [] e = let is : s.root ≡ f = cc in subst (λ f. is_in room.1.own f ≡ true) is (room.1.roots (layout s) (in_map layout spaces s i))
         by s i (k ∷ q) e = (room.1.spaces.fits (layout s) (in_map layout spaces s i)).serves_tables k q f e
 

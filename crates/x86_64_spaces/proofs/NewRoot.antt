@@ -6,9 +6,9 @@ use Rattle.std.proofs.lemmas.Bool.{cases_lt, cases_eq}
 use Rattle.std.proofs.lemmas.List.{get_or-set_same, get_or-set_other}
 use Rattle.std.specs.FinMap.{get}
 use Rattle.x86_64_model.specs.Entry.{has, present, huge, address}
-use Rattle.x86_64_model.specs.FitsPool.{FitsPool}
+use Rattle.x86_64_model.specs.Mapper.{◌laid_in◌, PoolFits, paths}
 use Rattle.x86_64_model.specs.Laws.Spaces.{IsNewRoot}
-use Rattle.x86_64_model.specs.Layout.{Layout, paths}
+use Rattle.x86_64_model.specs.Layout.{Layout}
 use Rattle.x86_64_model.specs.Memory.{Memory, Places, IsMapping, Words, word, word_in, words_of, set_word}
 use Rattle.x86_64_model.specs.PathMap.{entry}
 use Rattle.x86_64_model.specs.Window.{SelfEntry, outside_window}
@@ -34,14 +34,14 @@ taken [] f h = cc
 taken (g ∷ pool) f h = let e : g ≡ f = cc in ap (λ f. f ∷ pool) e
 
 -- a root has the entries that the words seen by its space are
-pub root_entries : (L : ℕ) (places : Places) (m : Memory) (s : Space) (serves : ℕ → Bool) (pool : List ℕ) → FitsPool (layout_of L places m s) m serves pool
-    → (i : ℕ) → entry (paths (layout_of L places m s) m) (i ∷ []) ≡ word (seen_by (words_of m places) s) s.root i
+pub root_entries : (L : ℕ) (places : Places) (m : Memory) (s : Space) (serves : ℕ → Bool) (pool : List ℕ) → PoolFits (layout_of L places m s laid_in m) serves pool
+    → (i : ℕ) → entry (paths (layout_of L places m s laid_in m)) (i ∷ []) ≡ word (seen_by (words_of m places) s) s.root i
 root_entries L places m s serves pool fits i = fits.valid.valid.holds.entries [] i ∙ ap (λ (U : Words). word U s.root i) (seen_outside (words_of m places) s)
 
 module _ (shared : ℕ → Bool) (L : ℕ) (places : Places) (mapping : IsMapping places) (m n' n : Memory) (first : Space) (serves : ℕ → Bool) (root : ℕ) (rest : List ℕ)
-    (fits : FitsPool (layout_of L places m first) m serves (root ∷ rest)) (recursive : Option ℕ)
+    (fits : PoolFits (layout_of L places m first laid_in m) serves (root ∷ rest)) (recursive : Option ℕ)
     (place : ℕ) (at : place ≡ places.place root) (small : (r : ℕ) → recursive ≡ Some r → r < 512)
-    (unused : (r : ℕ) → recursive ≡ Some r → shared r ≡ true → entry (paths (layout_of L places m first) m) (r ∷ []) ≡ 0)
+    (unused : (r : ℕ) → recursive ≡ Some r → shared r ≡ true → entry (paths (layout_of L places m first laid_in m)) (r ∷ []) ≡ 0)
     (copy : HasShared shared (word (seen_by (words_of m places) first) first.root) m place 512 n')
     (written : Stores n' place (with_self_entry recursive root copy.table) n) where
   abbrev one : Layout
@@ -63,34 +63,34 @@ module _ (shared : ℕ → Bool) (L : ℕ) (places : Places) (mapping : IsMappin
   root_table = ap (λ b. cond b (get n (places.place root)) None) is_there ∙ ap (get n) (sym at) ∙ written.here
 
   -- the words of the copy, at indices of a table
-  copied_word : (i : ℕ) → i < 512 → (b : Bool) → shared i ≡ b → get_or copy.table i 0 ≡ cond b (entry (paths one m) (i ∷ [])) 0
+  copied_word : (i : ℕ) → i < 512 → (b : Bool) → shared i ≡ b → get_or copy.table i 0 ≡ cond b (entry (paths (one laid_in m)) (i ∷ [])) 0
   copied_word i i_small b is = copy.copied i i_small ∙ ap₂ (λ a b. cond (a && b) (word (seen_by (words_of m places) first) first.root i) 0) is (lt-ltb i 512 i_small) ∙ by b
     where
-      by : (b : Bool) → cond (b && true) (word (seen_by (words_of m places) first) first.root i) 0 ≡ cond b (entry (paths one m) (i ∷ [])) 0
+      by : (b : Bool) → cond (b && true) (word (seen_by (words_of m places) first) first.root i) 0 ≡ cond b (entry (paths (one laid_in m)) (i ∷ [])) 0
       by true = sym (root_entries L places m first serves (root ∷ rest) fits i)
       by false = refl
 
   -- the root's words but the self-entry
   outside : (r : Option ℕ) → recursive ≡ r → U root ≡ Some (with_self_entry r root copy.table) → (i : ℕ) → i < 512 → (b : Bool) → shared i ≡ b
-      → word (outside_window (window_in U root r) root U) root i ≡ cond b (entry (paths one m) (i ∷ [])) 0
+      → word (outside_window (window_in U root r) root U) root i ≡ cond b (entry (paths (one laid_in m)) (i ∷ [])) 0
   outside None is table i i_small b on = word_of U root i copy.table table i_small ∙ copied_word i i_small b on
   outside (Some r) is table i i_small b on = ⊎_elim
-      (λ e. ap (word (set_word U root r 0) root) e ∙ word_unset U root r ∙ sym (free b (sym (ap shared e) ∙ on)) ∙ ap (λ i. cond b (entry (paths one m) (i ∷ [])) 0) (sym e))
+      (λ e. ap (word (set_word U root r 0) root) e ∙ word_unset U root r ∙ sym (free b (sym (ap shared e) ∙ on)) ∙ ap (λ i. cond b (entry (paths (one laid_in m)) (i ∷ [])) 0) (sym e))
       (λ apart. word-set_index U root r 0 root i apart ∙ word_of U root i (set copy.table r (bit_or root 3)) table i_small
       ∙ get_or-set_other copy.table r i (bit_or root 3) 0 apart ∙ copied_word i i_small b on)
       (cases_eq i r)
     where
-      free : (b : Bool) → shared r ≡ b → cond b (entry (paths one m) (r ∷ [])) 0 ≡ 0
+      free : (b : Bool) → shared r ≡ b → cond b (entry (paths (one laid_in m)) (r ∷ [])) 0 ≡ 0
       free true on = unused r is on
       free false off = refl
 
-  words_are : (i : ℕ) (b : Bool) → shared i ≡ b → word (outside_window layout.window root U) root i ≡ cond b (entry (paths one m) (i ∷ [])) 0
+  words_are : (i : ℕ) (b : Bool) → shared i ≡ b → word (outside_window layout.window root U) root i ≡ cond b (entry (paths (one laid_in m)) (i ∷ [])) 0
   words_are i b is = ⊎_elim
       (λ i_small. outside recursive refl root_table i i_small b is)
       (λ large. word_past (outside_window layout.window root U) root i large ∙ sym (past b large))
       (cases_lt i 512)
     where
-      past : (b : Bool) → 512 ≤ i → cond b (entry (paths one m) (i ∷ [])) 0 ≡ 0
+      past : (b : Bool) → 512 ≤ i → cond b (entry (paths (one laid_in m)) (i ∷ [])) 0 ≡ 0
       past true large = root_entries L places m first serves (root ∷ rest) fits i ∙ word_past (seen_by (words_of m places) first) first.root i large
       past false large = refl
 

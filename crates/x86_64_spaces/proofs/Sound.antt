@@ -4,8 +4,8 @@ use Rattle.std.specs.List.{flat_map}
 use Rattle.std.proofs.lemmas.Bool.{cases_Bool, cases_eq}
 use Rattle.std.proofs.lemmas.Option.{same_Some}
 use Rattle.x86_64_model.specs.Entry.{address, names_table}
-use Rattle.x86_64_model.specs.FitsPool.{FitsPool}
-use Rattle.x86_64_model.specs.Layout.{Layout, paths}
+use Rattle.x86_64_model.specs.Mapper.{◌laid_in◌, PoolFits, paths}
+use Rattle.x86_64_model.specs.Layout.{Layout}
 use Rattle.x86_64_model.specs.Lists.{In, EachOnce}
 use Rattle.x86_64_model.specs.Memory.{Memory, Places, Words, IsMapping, word, word_in, words_of}
 use Rattle.x86_64_model.specs.Path.{indices}
@@ -96,11 +96,11 @@ module _ (shared : ℕ → Bool) (n : ℕ) (places : Places) (mapping : IsMappin
   all = space_tables shared n T first spaces
 
   -- the tables of a space's path map
-  table_frame : (s : Space) (q : List ℕ) → table_at (suc (suc n)) s.root (paths (layout s) m) q ≡ frame_at (suc n) (V s) s.root q
+  table_frame : (s : Space) (q : List ℕ) → table_at (suc (suc n)) s.root (paths (layout s laid_in m)) q ≡ frame_at (suc n) (V s) s.root q
   table_frame s q = ap (λ (U : Words). table_at (suc (suc n)) s.root (paths_of (suc (suc n)) U s.root) q) (seen_outside T s) ∙ table_at_frame (suc n) (V s) s.root q
 
   -- the entries of its root
-  root_entry : (s : Space) → FitsPool (layout s) m serves pool → (k : ℕ) → entry (paths (layout s) m) (k ∷ []) ≡ word (V s) s.root k
+  root_entry : (s : Space) → PoolFits (layout s laid_in m) serves pool → (k : ℕ) → entry (paths (layout s laid_in m)) (k ∷ []) ≡ word (V s) s.root k
   root_entry s fits k = fits.valid.valid.holds.entries [] k ∙ ap (λ (U : Words). word U s.root k) (seen_outside T s)
 
   -- where the tables of a list stand
@@ -205,7 +205,7 @@ module _ (shared : ℕ → Bool) (n : ℕ) (places : Places) (mapping : IsMappin
             (in_append (tables_from (suc n) (V s) s.root) pool f h);
       }
 
-      root_fits : FitsPool (layout s) m serves pool
+      root_fits : PoolFits (layout s laid_in m) serves pool
       root_fits = sound_fits (suc n) (window_in T s.root s.recursive) T s.root serves pool (λ f. mappings_show_frames m places mapping f) refl
           (sound.alike s i).self (subst (λ (U : Words). SoundTables (suc n) U s.root serves pool) (sym (seen_outside T s)) sound_root)
 
@@ -229,7 +229,7 @@ module _ (shared : ℕ → Bool) (n : ℕ) (places : Places) (mapping : IsMappin
 
     spaces_are : AreSpaces shared m serves pool layouts
     spaces_are = record {
-      fits = λ a h. let x = from_map layout spaces a h in subst (λ (l : Layout). FitsPool l m serves pool) x.2 (root_fits x.0 x.1);
+      fits = λ a h. let x = from_map layout spaces a h in subst (λ (l : Layout). PoolFits (l laid_in m) serves pool) x.2 (root_fits x.0 x.1);
       own_roots = λ a b h k e. let x = from_map layout spaces a h in let y = from_map layout spaces b k in
           let same : x.0.root ≡ y.0.root = ap (λ (l : Layout). l.root) x.2 ∙ e ∙ sym (ap (λ (l : Layout). l.root) y.2) in
           sym x.2 ∙ ap layout (same_space x.0 y.0 x.0.root x.1 y.1 (inl refl) (inl (sym same))) ∙ y.2;
@@ -239,7 +239,7 @@ module _ (shared : ℕ → Bool) (n : ℕ) (places : Places) (mapping : IsMappin
     }
 
     -- the table that a path of one of the hierarchies leads to is in the list
-    pub table_listed : (s : Space) → In spaces s → (q : List ℕ) (f : ℕ) → table_at (suc (suc n)) s.root (paths (layout s) m) q ≡ Some f → In all f
+    pub table_listed : (s : Space) → In spaces s → (q : List ℕ) (f : ℕ) → table_at (suc (suc n)) s.root (paths (layout s laid_in m)) q ≡ Some f → In all f
     table_listed s i q f leads = listed s i f (in_tables (suc n) (V s) s.root q f (sym (table_frame s q) ∙ leads))
 
     are_spaces : EachOnce (roots_of spaces) × AreSpaces shared m serves pool layouts
@@ -248,7 +248,7 @@ module _ (shared : ℕ → Bool) (n : ℕ) (places : Places) (mapping : IsMappin
   -- ---- address spaces
 
   module _ (once : EachOnce (roots_of spaces)) (are : AreSpaces shared m serves pool layouts) where
-    fits_root : (s : Space) → In spaces s → FitsPool (layout s) m serves pool
+    fits_root : (s : Space) → In spaces s → PoolFits (layout s laid_in m) serves pool
     fits_root s i = are.fits (layout s) (in_map layout spaces s i)
 
     share_root : (s t : Space) → In spaces s → In spaces t → s.root ≢ t.root → Shares shared (layout s) m pool (layout t)
@@ -267,7 +267,7 @@ module _ (shared : ℕ → Bool) (n : ℕ) (places : Places) (mapping : IsMappin
         (λ differ. sym (root_entry s (fits_root s i) k) ∙ (share_root first s member i (λ e. differ (sym e))).root_entries k on ∙ root_entry first (fits_root first member) k)
         (cases_eq s.root first.root)
 
-    leads : (s : Space) (q : List ℕ) (f : ℕ) → frame_at (suc n) (V s) s.root q ≡ Some f → table_at (suc (suc n)) s.root (paths (layout s) m) q ≡ Some f
+    leads : (s : Space) (q : List ℕ) (f : ℕ) → frame_at (suc n) (V s) s.root q ≡ Some f → table_at (suc (suc n)) s.root (paths (layout s laid_in m)) q ≡ Some f
     leads s q f e = table_frame s q ∙ e
 
     once_of : (s : Space) → In spaces s → EachOnce (tables_from (suc n) (V s) s.root)
@@ -304,7 +304,7 @@ module _ (shared : ℕ → Bool) (n : ℕ) (places : Places) (mapping : IsMappin
         (in_append S (flat_map O spaces) f h)
 
     -- a path of one of the hierarchies leads to each table in the list
-    pub led_to : (f : ℕ) → In all f → (s : Space) × In spaces s × ((q : List ℕ) × (table_at (suc (suc n)) s.root (paths (layout s) m) q ≡ Some f))
+    pub led_to : (f : ℕ) → In all f → (s : Space) × In spaces s × ((q : List ℕ) × (table_at (suc (suc n)) s.root (paths (layout s laid_in m)) q ≡ Some f))
     led_to f h = let s = of_root f h in let p = from_tables (suc n) (V s.0) s.0.root f s.2 in (s.0, s.1, (p.0, leads s.0 p.0 f p.1))
 
     free_apart : (f : ℕ) → In all f → In pool f → ⊥

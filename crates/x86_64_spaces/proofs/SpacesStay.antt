@@ -1,6 +1,7 @@
 -- The layouts of address spaces stay, since their roots keep their self-entries.
 use Rattle.std.proofs.Common.{◌≡◌, inl, inr, ℕ, List, [], ◌∷◌, map, Some, None, Option, refl, ap, ap₂}
-use Rattle.x86_64_model.specs.Layout.{Layout, Valid}
+use Rattle.x86_64_model.specs.Layout.{Layout}
+use Rattle.x86_64_model.specs.Mapper.{◌laid_in◌, Valid}
 use Rattle.x86_64_model.specs.Lists.{In}
 use Rattle.x86_64_model.specs.Memory.{Memory, Places, words_of}
 use Rattle.x86_64_model.specs.Window.{Window, SelfEntry}
@@ -15,7 +16,7 @@ same_window : (m n : Memory) (places : Places) (root : ℕ) (recursive : Option 
 same_window m n places root None self = refl
 same_window m n places root (Some r) self = ap (λ e. Some (record { index = r; self_entry = e })) self.is_word
 
-same_layout : (levels : ℕ) (places : Places) (m n : Memory) (s : Space) → Valid (layout_of levels places m s) n → layout_of levels places m s ≡ layout_of levels places n s
+same_layout : (levels : ℕ) (places : Places) (m n : Memory) (s : Space) → Valid (layout_of levels places m s laid_in n) → layout_of levels places m s ≡ layout_of levels places n s
 same_layout levels places m n s valid =
     ap (λ (window : Option Window). record { levels = levels; places = places; root = s.root; window = window; added_flags = flags_added s.recursive })
     (same_window m n places s.root s.recursive valid.self)

@@ -1,9 +1,9 @@
 -- What it means to make an address space and to give one up.
 use Rattle.std.specs.Prelude.{◌≡◌, ◌≢◌, ℕ, Bool, true, List, [], ◌∷◌, drop, slice_get, Option, Some, bit_or}
 use Rattle.x86_64_model.specs.Laws.Spaces.{IsNewRoot}
-use Rattle.x86_64_model.specs.Layout.{Layout, Owns, KeepsOthers}
+use Rattle.x86_64_model.specs.Layout.{Layout}
 use Rattle.x86_64_model.specs.Lists.{In}
-use Rattle.x86_64_model.specs.Mapper.{Hierarchy, paths}
+use Rattle.x86_64_model.specs.Mapper.{◌laid_in◌, Hierarchy, paths, KeepsOthers, Owns}
 use Rattle.x86_64_model.specs.Memory.{Memory, word, words_of}
 use Rattle.x86_64_model.specs.PathMap.{entry}
 use Rattle.x86_64_model.specs.Spaces.{AreSpaces}
@@ -60,11 +60,11 @@ pub record IsGivenUp {Lent : Type 0} (shared : ℕ → Bool) (gone : Hierarchy L
   -- The store took the root's frame back, which holds zeros now. No other word changed.
   pub given_back : rest.frames ≡ store.take_back store.frames gone.layout.root
   pub cleared : words_of n gone.layout.places gone.layout.root ≡ Some zero_words
-  pub others : KeepsOthers gone.layout.places (λ f. f ≡ gone.layout.root) gone.memory n
+  pub others : KeepsOthers (λ f. f ≡ gone.layout.root) (gone.layout laid_in gone.memory) (gone.layout laid_in n)
   -- Other address spaces that share these indices with it are address spaces without it.
   pub spaces : (spaces : List Layout) → (In spaces gone.layout → ⊥) → AreSpaces shared gone.memory store.serves store.frames (gone.layout ∷ spaces)
       → AreSpaces shared n store.serves rest.frames spaces
   -- No frame is lost: what it had with the store, each of these has with what the store is now.
   pub none_lost : (spaces : List Layout) (other : Layout) → (In spaces gone.layout → ⊥) → In spaces other
       → AreSpaces shared gone.memory store.serves store.frames (gone.layout ∷ spaces)
-      → (f : ℕ) → Owns gone.layout gone.memory store.frames f → Owns other n rest.frames f
+      → (f : ℕ) → Owns gone store.frames f → Owns (other laid_in n) rest.frames f

@@ -1,7 +1,7 @@
 -- Address spaces in a memory, by their roots and recursive indices.
 use Rattle.std.specs.Prelude.{◌≡◌, ℕ, ◌&&◌, nat_le, nat_lt, Bool, false, List, [], ◌∷◌, Option, Some, None, map}
-use Rattle.x86_64_model.specs.Layout.{Layout, paths}
-use Rattle.x86_64_model.specs.Mapper.{Hierarchy}
+use Rattle.x86_64_model.specs.Layout.{Layout}
+use Rattle.x86_64_model.specs.Mapper.{◌laid_in◌, Hierarchy, paths}
 use Rattle.x86_64_model.specs.Memory.{Memory, Places, words_of}
 use Rattle.x86_64_model.specs.PathMap.{entry}
 use Rattle.x86_64_spaces.specs.declared.space.SharedIndices.{SharedIndices}
@@ -29,7 +29,7 @@ layout_of levels places memory space = record {
 
 -- The hierarchy of an address space whose tables are in a memory.
 abbrev pub space_in : (levels : ℕ) → Places → Memory → Space → Hierarchy (Unit {0})
-space_in levels places memory space = record { layout = layout_of levels places memory space; memory = memory; lent = tt }
+space_in levels places memory space = layout_of levels places memory space laid_in memory
 
 -- The layouts of address spaces whose tables are in a memory.
 abbrev pub layouts_of : (levels : ℕ) → Places → Memory → List Space → List Layout
@@ -45,4 +45,4 @@ spaces_at roots = map (λ root. record { root = root; recursive = None }) roots
 
 -- The root has used entries at shared indices alone, not counting its self-entry.
 abbrev pub HasSharedAlone : (shared : ℕ → Bool) → Layout → Memory → Type 0
-HasSharedAlone shared layout m = (i : ℕ) → shared i ≡ false → entry (paths layout m) (i ∷ []) ≡ 0
+HasSharedAlone shared layout m = (i : ℕ) → shared i ≡ false → entry (paths (layout laid_in m)) (i ∷ []) ≡ 0

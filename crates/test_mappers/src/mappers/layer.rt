@@ -1,12 +1,10 @@
 //! A layer around a mapper, which has all of a mapper's calls. The owner of the memory below learns what they did.
 ghost use Rattle.std.specs.Prelude.{◌≡◌};
 ghost use Rattle.x86_64_model.specs.Call.{Unmap};
-ghost use Rattle.x86_64_model.specs.Layout.{Valid as ValidIn};
 ghost use Rattle.x86_64_model.specs.Memory.{identity_places};
-ghost use Rattle.x86_64_model.specs.Mapper.{May, Does, path_of};
+ghost use Rattle.x86_64_model.specs.Mapper.{◌laid_in◌, May, Does, path_of, PoolFits, Valid};
 ghost use Rattle.x86_64_model.specs.Pool.{serves_below};
 ghost use Rattle.x86_64_mappers.specs.Layouts.{direct, owned};
-ghost use Rattle.x86_64.specs.Runs.{FitsPool};
 ghost use Rattle.x86_64_tables.specs.MapperAnswers.{frame_answer};
 
 use crate::prelude::*;
@@ -129,7 +127,7 @@ fn unmap_counted<S: PageSize>(
     root: Frame,
     page: Page<S>,
 ) -> (Result<PhysFrame<S>, UnmapError>, u64)
-    requires { ValidIn (direct identity_places root) memory.old }
+    requires { Valid (direct identity_places root laid_in memory.old) }
     ensures { let h = owned identity_places root memory.old (tt {0}) in
         Does h (Unmap (path_of h S.LEVEL page)) (frame_answer result.0) (record h { memory = memory.new }) }
 {
@@ -157,7 +155,7 @@ fn run_counted(
     replies: &mut Vec<Reply>,
 ) -> u64
     requires { let layout = direct identity_places root in
-        FitsPool layout memory.old (serves_below pool.old.limit) pool.old.frames }
+        PoolFits (layout laid_in memory.old) (serves_below pool.old.limit) pool.old.frames }
 {
     let mut mapper = MappedPageTable::new(memory, root, IdentityMapping);
     let mut layer = Counting::new(&mut mapper);

@@ -3,7 +3,7 @@ ghost use Rattle.x86_64_model.specs.Pool.{serves_below};
 ghost use Rattle.x86_64_model.specs.Memory.{identity_places};
 ghost use Rattle.x86_64_mappers.specs.Layouts.{direct_at};
 ghost use Rattle.x86_64_mappers.specs.Offsets.{OffsetFits};
-ghost use Rattle.x86_64.specs.Runs.{FitsPool};
+ghost use Rattle.x86_64_model.specs.Mapper.{◌laid_in◌, PoolFits};
 
 use crate::prelude::*;
 use x86_64_mappers::calls::translate_addr;
@@ -57,10 +57,10 @@ fn run_at_offset<L: LevelCount, P5: LevelFiveFlags<L>>(
     replies: &mut Vec<ReplyIn<L>>,
 ) -> Result<(), AllocError>
     requires pool { let layout = direct_at L.LEVELS identity_places root in
-        FitsPool layout memory.old (serves_below pool.old.limit) pool.old.frames }
+        PoolFits (layout laid_in memory.old) (serves_below pool.old.limit) pool.old.frames }
     requires offset { OffsetFits L.LEVELS memory.old phys_offset }
     ensures pool { let layout = direct_at L.LEVELS identity_places root in
-        FitsPool layout memory.new (serves_below pool.new.limit) pool.new.frames }
+        PoolFits (layout laid_in memory.new) (serves_below pool.new.limit) pool.new.frames }
     ensures offset { OffsetFits L.LEVELS memory.new phys_offset }
 {
     offset_has_the_tables_of_the_identity(memory, phys_offset);

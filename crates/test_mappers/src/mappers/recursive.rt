@@ -1,6 +1,6 @@
 //! The mapper that reaches tables through the root's entry for itself: for which tables it isn't created.
 ghost use Rattle.std.specs.Prelude.{◌≡◌, ◌↔◌, None, Some, IfOk, IfErr, IsTrue};
-ghost use Rattle.x86_64_model.specs.Layout.{Valid};
+ghost use Rattle.x86_64_model.specs.Mapper.{◌laid_in◌, Valid};
 ghost use Rattle.x86_64_model.specs.Position.{index};
 ghost use Rattle.x86_64_mappers.specs.InvalidPageTables.{refuses_at};
 ghost use Rattle.x86_64_mappers.specs.Recursive.{recursive_now_at};
@@ -20,7 +20,7 @@ fn make<L: LevelCount>(
     virt: VirtAddrIn<L>,
 ) -> Result<(), InvalidPageTable>
     requires { refuses_at L.LEVELS memory.old cr3 table virt ≡ None →
-        Valid (recursive_now_at L.LEVELS memory.old cr3 (index L.LEVELS virt)) memory.old }
+        Valid (recursive_now_at L.LEVELS memory.old cr3 (index L.LEVELS virt) laid_in memory.old) }
     ensures words { memory.new ≡ memory.old }
     ensures made { IfOk result (λ _. refuses_at L.LEVELS memory.old cr3 table virt ≡ None) }
     ensures refused { IfErr result (λ why. refuses_at L.LEVELS memory.old cr3 table virt ≡ Some why) }
@@ -39,7 +39,7 @@ pub fn is_valid<L: LevelCount>(
     index: PageTableIndex,
 ) -> Result<bool, AllocError>
     ensures { let layout = recursive_now_at L.LEVELS memory.now root index in
-        IfOk result (λ valid. IsTrue valid ↔ Valid layout memory.now) }
+        IfOk result (λ valid. IsTrue valid ↔ Valid (layout laid_in memory.now)) }
 {
     if L::LEVELS == 4 {
         is_valid_recursive(alloc, memory, root, index)

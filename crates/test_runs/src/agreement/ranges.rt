@@ -1,9 +1,8 @@
 //! Ranges of pages, which the library maps, changes and unmaps as a whole, and the plain program page by page. A range is
 //! told by the call on its first page and the number of its pages.
 ghost use Rattle.std.specs.Prelude.{◌≡◌, ◌+◌, ◌*◌, ◌%◌, ◌^◌, ◌≤◌};
-ghost use Rattle.x86_64.specs.Runs.{FitsPool};
 ghost use Rattle.x86_64_mappers.specs.Layouts.{direct_at};
-ghost use Rattle.x86_64_model.specs.Mapper.{SupplyFits, Valid};
+ghost use Rattle.x86_64_model.specs.Mapper.{◌laid_in◌, SupplyFits, Valid, PoolFits};
 ghost use Rattle.x86_64_model.specs.Memory.{identity_places};
 ghost use Rattle.x86_64_model.specs.Pool.{serves_below};
 
@@ -181,7 +180,7 @@ fn serve_directly<L: LevelCount>(
     root: PhysFrame<Size4KiB>,
 ) -> Option<Outcome>
     requires { let layout = direct_at L.LEVELS identity_places root in
-        FitsPool layout memory.old (serves_below pool.old.limit) pool.old.frames }
+        PoolFits (layout laid_in memory.old) (serves_below pool.old.limit) pool.old.frames }
 {
     let mut mapper = MappedPageTableIn::<IdentityMapping, L>::new(memory, root, IdentityMapping);
     match first {

@@ -4,7 +4,8 @@ use Rattle.std.proofs.lemmas.Bool.{cases_lt}
 use Rattle.x86_64_model.proofs.Lemmas.CleanUps.Below.{cleaned_before, back_before}
 use Rattle.x86_64_model.specs.CleanUp.{in_range}
 use Rattle.x86_64_model.specs.Entry.{present, huge, address}
-use Rattle.x86_64_model.specs.Layout.{Layout, Valid, words, paths}
+use Rattle.x86_64_model.specs.Layout.{Layout}
+use Rattle.x86_64_model.specs.Mapper.{◌laid_in◌, Valid, paths, words}
 use Rattle.x86_64_model.specs.Memory.{Memory, Distinct, Words, word}
 use Rattle.x86_64_model.specs.Refusal.{Refusal, PageNotMapped, ParentEntryHugePage}
 use Rattle.x86_64_model.specs.Window.{begins_with}
@@ -51,33 +52,33 @@ refusal_of (Err why) none = (why, refl)
 -- ---- entries that name no table stay
 
 -- an entry that names no table isn't in range
-pub unnamed_out : (l : Layout) (m : Memory) → Valid l m → (low high : ℕ) (q : List ℕ) (f : ℕ) → IsVisited l m low high q f → (i : ℕ) → i < 512 → names_table (word (words l m) f i) ≡ false
-    → in_range l.levels (paths l m) low high (q ++ i ∷ []) ≡ false
+pub unnamed_out : (l : Layout) (m : Memory) → Valid (l laid_in m) → (low high : ℕ) (q : List ℕ) (f : ℕ) → IsVisited l m low high q f → (i : ℕ) → i < 512 → names_table (word (words (l laid_in m)) f i) ≡ false
+    → in_range l.levels (paths (l laid_in m)) low high (q ++ i ∷ []) ≡ false
 unnamed_out l m valid low high q f v i small none = by (begins_with l.window (q ++ i ∷ [])) refl
   where
-    by : (b : Bool) → begins_with l.window (q ++ i ∷ []) ≡ b → in_range l.levels (paths l m) low high (q ++ i ∷ []) ≡ false
+    by : (b : Bool) → begins_with l.window (q ++ i ∷ []) ≡ b → in_range l.levels (paths (l laid_in m)) low high (q ++ i ∷ []) ≡ false
     by true is = recursive_out l m valid low high q i v.outside is
-    by false out = let r = refusal_of (table_below (word (words l m) f i)) none in refused_out l m valid low high q f v i small out r.0 r.1
+    by false out = let r = refusal_of (table_below (word (words (l laid_in m)) f i)) none in refused_out l m valid low high q f v i small out r.0 r.1
 
 -- If the entries before an index were cleaned up, so are those before a later index with no entry in between that names a table.
-module _ (l : Layout) (take_back : List ℕ → ℕ → List ℕ) (m : Memory) (valid : Valid l m) (held : List ℕ) (low high : ℕ) (q : List ℕ) (f : ℕ) (v : IsVisited l m low high q f)
+module _ (l : Layout) (take_back : List ℕ → ℕ → List ℕ) (m : Memory) (valid : Valid (l laid_in m)) (held : List ℕ) (low high : ℕ) (q : List ℕ) (f : ℕ) (v : IsVisited l m low high q f)
     (apart : Distinct l.places) (n : Memory) (rest : List ℕ) where
   abbrev Before : ℕ → Type 0
-  Before i = IsCleaned l take_back m held (cleaned_before l.levels (paths l m) low high q i) (back_before l.levels (paths l m) low high q i) n rest
+  Before i = IsCleaned l take_back m held (cleaned_before l.levels (paths (l laid_in m)) low high q i) (back_before l.levels (paths (l laid_in m)) low high q i) n rest
 
-  pass_one : (i : ℕ) → i < 512 → names_table (word (words l n) f i) ≡ false → Before i → Before (i + 1)
+  pass_one : (i : ℕ) → i < 512 → names_table (word (words (l laid_in n)) f i) ≡ false → Before i → Before (i + 1)
   pass_one i small none here =
       let out = unnamed_out l n here.valid low high q f (still_before l m low high q f v i n here.meant) i small none in
       before_next l take_back m valid held low high q v.visits i apart n rest here n rest (entry_stays l take_back n here.valid rest low high (q ++ i ∷ []) out)
 
-  pass : (i k : ℕ) → i + k ≤ 512 → ((j : ℕ) → i ≤ j → j < i + k → names_table (word (words l n) f j) ≡ false) → Before i → Before (i + k)
+  pass : (i k : ℕ) → i + k ≤ 512 → ((j : ℕ) → i ≤ j → j < i + k → names_table (word (words (l laid_in n)) f j) ≡ false) → Before i → Before (i + k)
   pass i zero most none here = let e : i + zero ≡ i = omega arith in subst Before (sym e) here
   pass i (suc k) most none here =
       let e : i + suc k ≡ i + k + 1 = omega arith in
       subst Before (sym e) (pass_one (i + k) (omega (arith, most)) (none (i + k) (omega arith) (omega arith))
       (pass i k (omega (arith, most)) (λ j from to. none j from (omega (arith, to))) here))
 
-  pub passed_to : (i j : ℕ) → i ≤ j → j ≤ 512 → ((k : ℕ) → i ≤ k → k < j → names_table (word (words l n) f k) ≡ false) → Before i → Before j
+  pub passed_to : (i j : ℕ) → i ≤ j → j ≤ 512 → ((k : ℕ) → i ≤ k → k < j → names_table (word (words (l laid_in n)) f k) ≡ false) → Before i → Before j
   passed_to i j up most none here =
       let e : i + (j - i) ≡ j = omega (arith, up) in
       subst Before e (pass i (j - i) (omega (arith, up, most)) (λ k from to. none k from (omega (arith, to, up))) here)

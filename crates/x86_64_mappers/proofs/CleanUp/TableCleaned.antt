@@ -8,7 +8,8 @@ use Rattle.x86_64_model.proofs.Lemmas.CleanUps.Tables.{cleaned_first, back_first
 use Rattle.x86_64_model.proofs.Lemmas.CleanUps.Visits.{visits_meets}
 use Rattle.x86_64_model.proofs.Lemmas.Hierarchies.Trees.{IsTree, tree_of_holds}
 use Rattle.x86_64_model.specs.CleanUp.{in_range, meets}
-use Rattle.x86_64_model.specs.Layout.{Layout, Valid, paths}
+use Rattle.x86_64_model.specs.Layout.{Layout}
+use Rattle.x86_64_model.specs.Mapper.{◌laid_in◌, Valid, paths}
 use Rattle.x86_64_model.specs.Memory.{Memory, Distinct}
 use Rattle.x86_64_model.specs.Path.{AllBelow, span_start}
 use Rattle.x86_64_model.specs.PathMap.{PathMap}
@@ -55,12 +56,12 @@ module _ (L root : ℕ) (M : PathMap) (tree : IsTree L root M) (low high : ℕ) 
 
 -- ---- the entries before an index
 
-module _ (l : Layout) (take_back : List ℕ → ℕ → List ℕ) (m : Memory) (valid : Valid l m) (held : List ℕ) (low high : ℕ) (q : List ℕ) where
+module _ (l : Layout) (take_back : List ℕ → ℕ → List ℕ) (m : Memory) (valid : Valid (l laid_in m)) (held : List ℕ) (low high : ℕ) (q : List ℕ) where
   abbrev L : ℕ
   L = l.levels
 
   abbrev M : PathMap
-  M = paths l m
+  M = paths (l laid_in m)
 
   tree : IsTree L l.root M
   tree = tree_of_holds L (words_read l m) l.root M valid.valid.holds

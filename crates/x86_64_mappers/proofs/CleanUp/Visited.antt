@@ -16,7 +16,8 @@ use Rattle.x86_64_model.proofs.Lemmas.Walks.Agrees.{named}
 use Rattle.x86_64_model.proofs.Lemmas.Walks.Walked.{names, one_more}
 use Rattle.x86_64_model.specs.CleanUp.{in_range}
 use Rattle.x86_64_model.specs.Entry.{present, address}
-use Rattle.x86_64_model.specs.Layout.{Layout, Valid, paths}
+use Rattle.x86_64_model.specs.Layout.{Layout}
+use Rattle.x86_64_model.specs.Mapper.{◌laid_in◌, Valid, paths}
 use Rattle.x86_64_model.specs.Memory.{Memory}
 use Rattle.x86_64_model.specs.Path.{AllBelow, is_below, parents}
 use Rattle.x86_64_model.specs.PathMap.{PathMap, entry, table_at}
@@ -50,7 +51,7 @@ none_short q p short = false_from_ne_true _ (λ b.
 -- ---- the root, and the next table
 
 pub visited_root : (l : Layout) (m : Memory) (low high : ℕ) → IsVisited l m low high [] l.root
-visited_root l m low high = record { leads = refl; visits = visits_root l.levels (paths l m) low high; below = tt; outside = by l.window }
+visited_root l m low high = record { leads = refl; visits = visits_root l.levels (paths (l laid_in m)) low high; below = tt; outside = by l.window }
   where
     by : (window : Option Window) → begins_with window [] ≡ false
     by None = refl
@@ -58,9 +59,9 @@ visited_root l m low high = record { leads = refl; visits = visits_root l.levels
 
 module _ (l : Layout) (m : Memory) (low high : ℕ) (q : List ℕ) (f : ℕ) (v : IsVisited l m low high q f) where
   abbrev M : PathMap
-  M = paths l m
+  M = paths (l laid_in m)
 
-  pub visited_reached : Valid l m → IsReached l m q f
+  pub visited_reached : Valid (l laid_in m) → IsReached l m q f
   visited_reached valid = open_end l m valid 0 q v.outside (length q) (omega arith) (omega arith) f (record {
     leads = ap (table_at l.levels l.root M) (take_all (length q) q (omega arith)) ∙ v.leads;
     small = below_at q v.below;
@@ -84,7 +85,7 @@ module _ (l : Layout) (m : Memory) (low high : ℕ) (q : List ℕ) (f : ℕ) (v 
       led (k ∷ q) i h = let p = in_range_parts l.levels M low high (k ∷ q ++ i ∷ []) h in named l.levels (k ∷ q ++ i ∷ []) (entry M (k ∷ q ++ i ∷ [])) (names _ p.1 p.2) p.0
 
   -- a clean up of longer paths leaves the path as it is
-  visited_still : (n : Memory) (part : List ℕ → Bool) → ((p : List ℕ) → length p ≤ length q → part p ≡ false) → paths l n ≡ cleaned l.levels M low high part → IsVisited l n low high q f
+  visited_still : (n : Memory) (part : List ℕ → Bool) → ((p : List ℕ) → length p ≤ length q → part p ≡ false) → paths (l laid_in n) ≡ cleaned l.levels M low high part → IsVisited l n low high q f
   visited_still n part longer is = record {
     leads = ap (λ N. table_at l.levels l.root N q) is ∙ table_at_same l.levels l.root N M q (same q (omega arith)) ∙ v.leads;
     visits = λ i. ap (λ N. list_all (in_range l.levels N low high) (parents (q ++ i ∷ []))) is ∙ still i ∙ v.visits i;
@@ -104,12 +105,12 @@ module _ (l : Layout) (m : Memory) (low high : ℕ) (q : List ℕ) (f : ℕ) (v 
           (parents (q ++ i ∷ [])) (parents_short (q ++ i ∷ [])))
 
   -- This holds after the clean up of all tables below the table, of one such table, and of those at its first indices.
-  pub still_below : (n : Memory) → paths l n ≡ cleaned_below l.levels M low high q → IsVisited l n low high q f
+  pub still_below : (n : Memory) → paths (l laid_in n) ≡ cleaned_below l.levels M low high q → IsVisited l n low high q f
   still_below n = visited_still n (is_below q) (λ p short. none_short q p short)
 
-  pub still_at : (i : ℕ) (n : Memory) → paths l n ≡ cleaned_below l.levels M low high (q ++ i ∷ []) → IsVisited l n low high q f
+  pub still_at : (i : ℕ) (n : Memory) → paths (l laid_in n) ≡ cleaned_below l.levels M low high (q ++ i ∷ []) → IsVisited l n low high q f
   still_at i n = visited_still n (is_below (q ++ i ∷ [])) (λ p short. none_short (q ++ i ∷ []) p (omega (arith, short, one_more q i)))
 
-  pub still_before : (i : ℕ) (n : Memory) → paths l n ≡ cleaned_before l.levels M low high q i → IsVisited l n low high q f
+  pub still_before : (i : ℕ) (n : Memory) → paths (l laid_in n) ≡ cleaned_before l.levels M low high q i → IsVisited l n low high q f
   still_before i n = visited_still n (is_before q i) (λ p short. false_from_ne_true _ (λ b.
       let more = from_before q i p b in let long = ap length more.3 in absurd (omega (arith, short, long, length-append q (more.0 ∷ more.1)))))

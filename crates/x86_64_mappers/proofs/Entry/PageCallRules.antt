@@ -4,13 +4,14 @@ use Rattle.std.proofs.lemmas.Bool.{and_parts, not-true}
 use Rattle.x86_64_model.specs.Allowed.{allowed}
 use Rattle.x86_64_model.specs.Call.{Unmap, UpdateFlags}
 use Rattle.x86_64_model.specs.Entry.{present, used, huge, address}
-use Rattle.x86_64_model.specs.Layout.{Layout, paths, read_entry, words}
+use Rattle.x86_64_model.specs.Layout.{Layout}
+use Rattle.x86_64_model.specs.Mapper.{◌laid_in◌, page_translation, paths, read_entry, words}
 use Rattle.x86_64_model.proofs.Lemmas.Entries.Bits.{used_present}
 use Rattle.x86_64_model.proofs.Lemmas.Entries.Words.{address_aligned}
 use Rattle.x86_64_model.proofs.Lemmas.Hierarchies.Changes.{unused_no_table}
 use Rattle.x86_64_model.proofs.Lemmas.Machines.Changes.{IsChange, at_front, leaf_none}
 use Rattle.x86_64_model.proofs.Lemmas.Maps.Leaves.{none_at_leaf}
-use Rattle.x86_64_model.specs.private.MapperCalls.{after_unmap, after_update, page_translation}
+use Rattle.x86_64_model.specs.private.MapperCalls.{after_unmap, after_update}
 use Rattle.x86_64_model.specs.Memory.{Memory, word}
 use Rattle.x86_64_model.specs.PageRules.{unmap, update_flags, translate_page, refused_or}
 use Rattle.x86_64_model.specs.PathMap.{PathMap, entry, put, table_of}
@@ -39,13 +40,13 @@ update_outside L window M q given may = not-true _ (and_parts _ _ may).1
 
 module _ (l : Layout) (m : Memory) (level : ℕ) (q : List ℕ) (at_level : length q + level ≡ l.levels + 1) where
   abbrev M : PathMap
-  M = paths l m
+  M = paths (l laid_in m)
 
   abbrev e : ℕ
-  e = read_entry l m q
+  e = read_entry (l laid_in m) q
 
   abbrev stop : Option Refusal
-  stop = first_stop (read_entry l m) q
+  stop = first_stop (read_entry (l laid_in m)) q
 
   small : (length q == l.levels) ≡ (level == 1)
   small = small_page l.levels level q at_level
@@ -88,7 +89,7 @@ module _ (l : Layout) (m : Memory) (level : ℕ) (q : List ℕ) (at_level : leng
   aligned : (level == 1) ≡ true → (address e % span level == 0) ≡ true
   aligned one = let is = eqb-true level 1 one in eq-eqb (address e % span level) 0 (ap (λ k. address e % span k) is ∙ address_aligned e)
 
-  pub translate_rule : page_translation l m q ≡ answer_unless stop (answer_of (named_frame level e))
+  pub translate_rule : page_translation (l laid_in m) q ≡ answer_unless stop (answer_of (named_frame level e))
   unfolding translate_page
   translate_rule =
       ap₂ (λ s k. answer_unless stop (answer_unless (refused_if (not (used e)) PageNotMapped (cond s None
@@ -110,13 +111,13 @@ module _ (l : Layout) (m : Memory) (level : ℕ) (q : List ℕ) (at_level : leng
     parted = path_parted q n long
 
     -- a parent stops the translation
-    pub translate_stopped : (why : Refusal) → IsFound l m (take n q) (Err why) → page_translation l m q ≡ Refused why
-    translate_stopped why found = translate_rule ∙ ap (λ s. answer_unless s (answer_of (named_frame level e))) (ap (first_stop (read_entry l m)) (sym parted) ∙ found (get_or q n 0))
+    pub translate_stopped : (why : Refusal) → IsFound l m (take n q) (Err why) → page_translation (l laid_in m) q ≡ Refused why
+    translate_stopped why found = translate_rule ∙ ap (λ s. answer_unless s (answer_of (named_frame level e))) (ap (first_stop (read_entry (l laid_in m))) (sym parted) ∙ found (get_or q n 0))
 
     -- no parent stops it: the entry decides, which is the word in the table
-    pub translate_told : (g : ℕ) → IsFound l m (take n q) (Ok g) → (r : Result ℕ Refusal) → r ≡ named_frame level (word (words l m) g (get_or q n 0)) → page_translation l m q ≡ answer_of r
-    translate_told g found r is = translate_rule ∙ ap (λ s. answer_unless s (answer_of (named_frame level e))) (ap (first_stop (read_entry l m)) (sym parted) ∙ found.1 (get_or q n 0))
-        ∙ ap (λ e. answer_of (named_frame level e)) (ap (read_entry l m) (sym parted) ∙ found.0.entries (get_or q n 0)) ∙ ap answer_of (sym is)
+    pub translate_told : (g : ℕ) → IsFound l m (take n q) (Ok g) → (r : Result ℕ Refusal) → r ≡ named_frame level (word (words (l laid_in m)) g (get_or q n 0)) → page_translation (l laid_in m) q ≡ answer_of r
+    translate_told g found r is = translate_rule ∙ ap (λ s. answer_unless s (answer_of (named_frame level e))) (ap (first_stop (read_entry (l laid_in m))) (sym parted) ∙ found.1 (get_or q n 0))
+        ∙ ap (λ e. answer_of (named_frame level e)) (ap (read_entry (l laid_in m)) (sym parted) ∙ found.0.entries (get_or q n 0)) ∙ ap answer_of (sym is)
 
   -- ---- what is written
 

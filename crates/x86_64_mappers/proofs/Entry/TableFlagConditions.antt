@@ -4,7 +4,8 @@ use Rattle.std.proofs.lemmas.Bool.{le-ltb}
 use Rattle.x86_64_model.specs.Allowed.{allowed, refuses, both_or_none}
 use Rattle.x86_64_model.specs.Call.{SetFlags}
 use Rattle.x86_64_model.specs.Entry.{used, huge, address, no_address}
-use Rattle.x86_64_model.specs.Layout.{Layout, words, read_entry}
+use Rattle.x86_64_model.specs.Layout.{Layout}
+use Rattle.x86_64_model.specs.Mapper.{◌laid_in◌, read_entry, words}
 use Rattle.x86_64_model.specs.Memory.{Memory, word}
 use Rattle.x86_64_model.specs.PageRules.{AfterChange, refused_or, set_flags}
 use Rattle.x86_64_model.specs.Path.{level_of, front_at}
@@ -25,18 +26,18 @@ module _ (l : Layout) (m : Memory) (q : List ℕ) (n given : ℕ) (long : length
   parted : take n q ++ get_or q n 0 ∷ [] ≡ q
   parted = path_parted q n long
 
-  pub stopped_keeps : (why : Refusal) → IsFound l m (take n q) (Err why) → keeps_huge (read_entry l m) q given ≡ true
-  stopped_keeps why found = ap (λ o. is_some o || not (used (read_entry l m q)) || both_or_none (huge given) (huge (read_entry l m q)))
-      (ap (first_stop (read_entry l m)) (sym parted) ∙ found (get_or q n 0))
+  pub stopped_keeps : (why : Refusal) → IsFound l m (take n q) (Err why) → keeps_huge (read_entry (l laid_in m)) q given ≡ true
+  stopped_keeps why found = ap (λ o. is_some o || not (used (read_entry (l laid_in m) q)) || both_or_none (huge given) (huge (read_entry (l laid_in m) q)))
+      (ap (first_stop (read_entry (l laid_in m))) (sym parted) ∙ found (get_or q n 0))
 
-  pub never_stopped : (g : ℕ) → IsFound l m (take n q) (Ok g) → first_stop (read_entry l m) q ≡ None
-  never_stopped g found = ap (first_stop (read_entry l m)) (sym parted) ∙ found.1 (get_or q n 0)
+  pub never_stopped : (g : ℕ) → IsFound l m (take n q) (Ok g) → first_stop (read_entry (l laid_in m)) q ≡ None
+  never_stopped g found = ap (first_stop (read_entry (l laid_in m))) (sym parted) ∙ found.1 (get_or q n 0)
 
-  pub found_keeps : (g : ℕ) → IsFound l m (take n q) (Ok g) → keeps_huge (read_entry l m) q given
-      ≡ (not (used (word (words l m) g (get_or q n 0))) || both_or_none (huge given) (huge (word (words l m) g (get_or q n 0))))
+  pub found_keeps : (g : ℕ) → IsFound l m (take n q) (Ok g) → keeps_huge (read_entry (l laid_in m)) q given
+      ≡ (not (used (word (words (l laid_in m)) g (get_or q n 0))) || both_or_none (huge given) (huge (word (words (l laid_in m)) g (get_or q n 0))))
   found_keeps g found =
       let stop = never_stopped g found in
-      let same = ap (read_entry l m) (sym parted) ∙ found.0.entries (get_or q n 0) in
+      let same = ap (read_entry (l laid_in m)) (sym parted) ∙ found.0.entries (get_or q n 0) in
       λ i. is_some (stop i) || not (used (same i)) || both_or_none (huge given) (huge (same i))
 
 -- ---- the condition of the call

@@ -4,7 +4,8 @@ use Rattle.std.proofs.lemmas.Bool.{and_parts, not-true, le-leb, lt-leb}
 use Rattle.x86_64_model.specs.Allowed.{allowed, both_or_none}
 use Rattle.x86_64_model.specs.Call.{SetFlags}
 use Rattle.x86_64_model.specs.Entry.{used, huge, address, names_table, no_address}
-use Rattle.x86_64_model.specs.Layout.{Layout, words, paths, read_entry, Valid}
+use Rattle.x86_64_model.specs.Layout.{Layout}
+use Rattle.x86_64_model.specs.Mapper.{◌laid_in◌, Valid, paths, read_entry, words}
 use Rattle.x86_64_model.proofs.Lemmas.Machines.Changes.{IsChange, at_front, begins_take, set_huge, set_same_table}
 use Rattle.x86_64_model.proofs.Lemmas.Walks.Agrees.{named}
 use Rattle.x86_64_model.specs.private.MapperCalls.{after_set_flags}
@@ -31,12 +32,12 @@ kept E q given keeps stop u = equal (huge given) (huge (E q)) ((λ i. is_some (s
 
 -- ---- a page whose own entry is of a level, in a valid hierarchy
 
-module _ (l : Layout) (m : Memory) (valid : Valid l m) (level : ℕ) (page : List ℕ) (given own : ℕ) (at_level : length page + own ≡ l.levels + 1) where
+module _ (l : Layout) (m : Memory) (valid : Valid (l laid_in m)) (level : ℕ) (page : List ℕ) (given own : ℕ) (at_level : length page + own ≡ l.levels + 1) where
   abbrev M : PathMap
-  M = paths l m
+  M = paths (l laid_in m)
 
   abbrev E : List ℕ → ℕ
-  E = read_entry l m
+  E = read_entry (l laid_in m)
 
   -- the path of the entry
   abbrev q : List ℕ
@@ -113,5 +114,5 @@ module _ (l : Layout) (m : Memory) (valid : Valid l m) (level : ℕ) (page : Lis
 
           -- the entry decided
           pub flags_ended : Distinct l.places → (g : ℕ) → IsFound l m (take n q) (Ok g) → get_or q n 0 < 512
-              → (o : Memory) → let e = word (words l m) g (get_or q n 0) in IsSet l.places m g (get_or q n 0) (word_said e (flags_say given e)) o → Ends l m after (answer_said (flags_say given e)) o
+              → (o : Memory) → let e = word (words (l laid_in m)) g (get_or q n 0) in IsSet l.places m g (get_or q n 0) (word_said e (flags_say given e)) o → Ends l m after (answer_said (flags_say given e)) o
           flags_ended apart g found inside = ended l m valid q n size (flags_say given) after rule g found apart (omega (arith, low, high)) inside (flags_changes g found)

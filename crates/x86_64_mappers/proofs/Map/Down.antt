@@ -3,7 +3,8 @@ use Rattle.std.proofs.Common.{◌≡◌, false, ◌<◌, ◌+◌, ℕ, suc, List
 use Rattle.std.proofs.lemmas.List.{map-id, length-append, length-take}
 use Rattle.std.proofs.Math.Seq.{take-suc, drop-cons}
 use Rattle.x86_64_model.specs.Entry.{IsParentFlags}
-use Rattle.x86_64_model.specs.Layout.{Layout, paths}
+use Rattle.x86_64_model.specs.Layout.{Layout}
+use Rattle.x86_64_model.specs.Mapper.{◌laid_in◌, paths}
 use Rattle.x86_64_model.specs.MapRule.{map_rule}
 use Rattle.x86_64_model.specs.Memory.{Memory, Distinct}
 use Rattle.x86_64_model.specs.Path.{parents}
@@ -22,14 +23,14 @@ module _ (l : Layout) (m : Memory) (s : List ℕ) (more : ℕ) (path : List ℕ)
     at_next : (g : ℕ) → Reached l n rest more done i o fs g → IsAt l m s more path (done ++ i ∷ []) left o fs g
     at_next g r = record { owned = owned_then l m s n rest o fs here.owned r.owned; leads = r.leads; outcome = λ x e frame. here.outcome x e frame ∙ on left x e frame }
       where
-        on : (left : List ℕ) (x e frame : ℕ) → mapped_from (paths l n) rest more l.added_flags done ((i ∷ left) ++ x ∷ []) e frame ≡ mapped_from (paths l o) fs more l.added_flags (done ++ i ∷ []) (left ++ x ∷ []) e frame
+        on : (left : List ℕ) (x e frame : ℕ) → mapped_from (paths (l laid_in n)) rest more l.added_flags done ((i ∷ left) ++ x ∷ []) e frame ≡ mapped_from (paths (l laid_in o)) fs more l.added_flags (done ++ i ∷ []) (left ++ x ∷ []) e frame
         on [] x e frame = r.outcome x [] e frame
         on (j ∷ left) x e frame = r.outcome j (left ++ x ∷ []) e frame
 
     at_stop : (why : Refusal) → Stopped l n rest more done i o fs why → IsDown l m s more path (Err why) o fs
     at_stop why r = record { owned = owned_then l m s n rest o fs here.owned r.owned; outcome = λ x e frame. here.outcome x e frame ∙ on left x e frame }
       where
-        on : (left : List ℕ) (x e frame : ℕ) → mapped_from (paths l n) rest more l.added_flags done ((i ∷ left) ++ x ∷ []) e frame ≡ record { paths = paths l o; supply = fs; answer = Refused why }
+        on : (left : List ℕ) (x e frame : ℕ) → mapped_from (paths (l laid_in n)) rest more l.added_flags done ((i ∷ left) ++ x ∷ []) e frame ≡ record { paths = paths (l laid_in o); supply = fs; answer = Refused why }
         on [] x e frame = r.outcome x [] e frame
         on (j ∷ left) x e frame = r.outcome j (left ++ x ∷ []) e frame
 
@@ -67,8 +68,8 @@ module _ (l : Layout) (apart : Distinct l.places) (adds : IsParentFlags l.added_
 -- the whole map
 module _ (l : Layout) (apart : Distinct l.places) (m : Memory) (s : List ℕ) (more : ℕ) (path : List ℕ) (last e frame : ℕ) where
   -- all of a path's parents
-  whole : map_rule (paths l m) s more l.added_flags (parents (path ++ last ∷ [])) (path ++ last ∷ []) e frame ≡ mapped_from (paths l m) s more l.added_flags [] (path ++ last ∷ []) e frame
-  whole = sym (ap (λ ps. map_rule (paths l m) s more l.added_flags ps (path ++ last ∷ []) e frame) (map-id (parents (path ++ last ∷ []))))
+  whole : map_rule (paths (l laid_in m)) s more l.added_flags (parents (path ++ last ∷ [])) (path ++ last ∷ []) e frame ≡ mapped_from (paths (l laid_in m)) s more l.added_flags [] (path ++ last ∷ []) e frame
+  whole = sym (ap (λ ps. map_rule (paths (l laid_in m)) s more l.added_flags ps (path ++ last ∷ []) e frame) (map-id (parents (path ++ last ∷ []))))
 
   pub path_mapped : 0 < l.levels → begins_with l.window (path ++ last ∷ []) ≡ false → last < 512 → IsLeaf l.levels (path ++ last ∷ []) e
       → (n : Memory) (rest : List ℕ) (g : ℕ) → IsDown l m s more path (Ok g) n rest → (answer : Answer) (o : Memory) → IsLeafSet l.places n g last e frame answer o

@@ -7,7 +7,7 @@ use Rattle.std.specs.Cmp.{nat_cmp_total}
 use Rattle.std.specs.FinMap.{get, insert, same_map, nat_cmp-IsAntisymmetric}
 use Rattle.x86_64_model.specs.Arrivals.{leads}
 use Rattle.x86_64_model.specs.Entry.{IsParentFlags, has, used, present, huge, address, is_frame}
-use Rattle.x86_64_model.specs.Layout.{Layout, words}
+use Rattle.x86_64_model.specs.Layout.{Layout}
 use Rattle.x86_64_model.proofs.Lemmas.Entries.Bits.{address_or, only_flags}
 use Rattle.x86_64_model.proofs.Lemmas.Hierarchies.Held.{set_word_other, word-set_same}
 use Rattle.x86_64_model.proofs.Lemmas.Spaces.Tables.{same_self}
@@ -15,7 +15,7 @@ use Rattle.x86_64_model.proofs.Lemmas.Walks.Walked.{read_there}
 use Rattle.x86_64_model.specs.Memory.{Memory, Places, Distinct, Words, word}
 use Rattle.x86_64_model.specs.PageWalk.{read}
 use Rattle.x86_64_tables.specs.PageTable.{zero_words}
-use Rattle.x86_64_model.specs.Mapper.{Hierarchy}
+use Rattle.x86_64_model.specs.Mapper.{◌laid_in◌, Hierarchy, words}
 use Rattle.x86_64_mappers.specs.AccessLending.{with_zeros}
 use Rattle.x86_64_mappers.specs.Reached.{IsReached}
 use Rattle.x86_64_mappers.specs.private.Linked.{Beside, IsClearedFirst, MayLink, NotOnWay}
@@ -104,10 +104,10 @@ module _ (l : Layout) (apart : Distinct l.places) (m : Memory) (path : List ℕ)
   q = take k path
 
   abbrev T : Words
-  T = words l m
+  T = words (l laid_in m)
 
   abbrev U : Words
-  U = words l n
+  U = words (l laid_in n)
 
   same_at : (a b : List ℕ) → q ≡ a ++ b → (h : ℕ) → leads T l.root a ≡ Some h → U h ≡ T h
   same_at a b split h led = cleared_other l.places apart m g n cleared h (may.unmet a b split h led)
@@ -162,9 +162,9 @@ module _ {Lent : Type 0} (h after : Hierarchy Lent) (apart : Distinct h.layout.p
     | false ↦ λ e. subst (λ (h : Hierarchy Lent). MayLink h.layout h.memory path k f g x) (sym e) may
   ] is
 
-  pub zeros_after : was ≡ true → words after.layout after.memory g ≡ Some zero_words
+  pub zeros_after : was ≡ true → words after g ≡ Some zero_words
   zeros_after done = let e : after ≡ with_zeros h g = rw done at is in
-      ap (λ (h : Hierarchy Lent). words h.layout h.memory g) e ∙ cleared_here h.layout.places apart h.memory g (with_zeros h g).memory now_cleared
+      ap (λ (h : Hierarchy Lent). words h g) e ∙ cleared_here h.layout.places apart h.memory g (with_zeros h g).memory now_cleared
 
   -- the entry was set after that
   pub linked_after : was ≡ true → (i w : ℕ) (n : Memory) → IsSet after.layout.places after.memory f i w n → IsClearedFirst h.layout.places h.memory f i w g n
@@ -190,12 +190,12 @@ taken_linked l k same m o unmoved s rest f i x given g flags n unused first link
 pub may_still : (l k : Layout) → k ≡ l → (m o : Memory) → o ≡ m → (path : List ℕ) (i f g x given : ℕ) → x ≡ given → MayLink l m path i f g given → MayLink k o path i f g x
 may_still l k same m o unmoved path i f g x given flags may = rw (same, unmoved, flags) may
 
-module _ (l : Layout) (apart : Distinct l.places) (m : Memory) (path : List ℕ) (f i : ℕ) (small : i < 512) (reached : IsReached l m path f) (before : NotOnWay (words l m) l.root path f) (beside : Beside l.window l.root f i) where
+module _ (l : Layout) (apart : Distinct l.places) (m : Memory) (path : List ℕ) (f i : ℕ) (small : i < 512) (reached : IsReached l m path f) (before : NotOnWay (words (l laid_in m)) l.root path f) (beside : Beside l.window l.root f i) where
   -- the table is still reached after a write to a word of it that isn't the self-entry
   pub reached_set : (w : ℕ) (n : Memory) → IsSet l.places m f i w n → IsReached l n path f
   reached_set w n k = record {
-    way = leads_same (words l m) (words l n) l.root path f reached.way (λ a j b split h lead.
-        ap (λ T. read T h j) (set_is l.places apart m f i w n k) ∙ ap (option_map (λ words. get_or words j 0)) (set_word_other (words l m) f i w h (before a j b split h lead)));
+    way = leads_same (words (l laid_in m)) (words (l laid_in n)) l.root path f reached.way (λ a j b split h lead.
+        ap (λ T. read T h j) (set_is l.places apart m f i w n k) ∙ ap (option_map (λ words. get_or words j 0)) (set_word_other (words (l laid_in m)) f i w h (before a j b split h lead)));
     there = set_keeps l.places apart m f i w n k f reached.there;
     root_there = set_keeps l.places apart m f i w n k l.root reached.root_there;
     self = self_set l apart m f i w n k beside reached.self;
@@ -205,15 +205,15 @@ module _ (l : Layout) (apart : Distinct l.places) (m : Memory) (path : List ℕ)
   pub reached_linked : (w : ℕ) (n : Memory) → IsSet l.places m f i w n → present w ≡ true → huge w ≡ false → IsThere l.places m (address w) → IsReached l n (path ++ i ∷ []) (address w)
   reached_linked w n k here plain there =
       let r = reached_set w n k in
-      let is : word (words l n) f i ≡ w = ap (λ T. word T f i) (set_is l.places apart m f i w n k) ∙ word-set_same (words l m) f i w k.table k.is (subst (λ n. i < n) (sym k.long) small) small in record {
-        way = leads_last (words l n) l.root path f i w r.way (read_there (words l n) f i small r.there ∙ ap Some is) here plain;
+      let is : word (words (l laid_in n)) f i ≡ w = ap (λ T. word T f i) (set_is l.places apart m f i w n k) ∙ word-set_same (words (l laid_in m)) f i w k.table k.is (subst (λ n. i < n) (sym k.long) small) small in record {
+        way = leads_last (words (l laid_in n)) l.root path f i w r.way (read_there (words (l laid_in n)) f i small r.there ∙ ap Some is) here plain;
         there = set_keeps l.places apart m f i w n k (address w) there;
         root_there = r.root_there;
         self = r.self;
       }
 
 -- a table's new entry is present and names it, so that the table is reached through it at once
-pub linked_reached : (l : Layout) → Distinct l.places → (m : Memory) (path : List ℕ) (f i : ℕ) → i < 512 → IsReached l m path f → NotOnWay (words l m) l.root path f → Beside l.window l.root f i
+pub linked_reached : (l : Layout) → Distinct l.places → (m : Memory) (path : List ℕ) (f i : ℕ) → i < 512 → IsReached l m path f → NotOnWay (words (l laid_in m)) l.root path f → Beside l.window l.root f i
     → (g x : ℕ) → is_frame g ≡ true → IsParentFlags x → present x ≡ true → IsThere l.places m g → (n : Memory) → IsSet l.places m f i (bit_or g x) n → IsReached l n (path ++ i ∷ []) g
 unfolding has
 linked_reached l apart m path f i small reached before beside g x frame marks here there n k =

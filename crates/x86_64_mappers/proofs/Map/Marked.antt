@@ -3,7 +3,8 @@ use Rattle.std.proofs.Common.{⊎_elim, ◌≡◌, ◌<◌, ℕ, true, false, no
 use Rattle.std.proofs.lemmas.Nat.{or_comm}
 use Rattle.x86_64_model.specs.Entry.{IsParentFlags, used, present, huge, address}
 use Rattle.x86_64_model.specs.Hierarchy.{IsValid}
-use Rattle.x86_64_model.specs.Layout.{Layout, words, paths}
+use Rattle.x86_64_model.specs.Layout.{Layout}
+use Rattle.x86_64_model.specs.Mapper.{◌laid_in◌, SupplyFits, paths, words}
 use Rattle.x86_64_model.proofs.Lemmas.Hierarchies.Changes.{parents_descend, map_again}
 use Rattle.x86_64_model.proofs.Lemmas.Hierarchies.Held.{table_at_last}
 use Rattle.x86_64_model.proofs.Lemmas.Hierarchies.Marks.{marked_valid}
@@ -11,7 +12,6 @@ use Rattle.x86_64_model.proofs.Lemmas.Maps.Down.{Descends, step_used, step_huge}
 use Rattle.x86_64_model.proofs.Lemmas.Maps.Frames.{conserves_marked, table_of_marked}
 use Rattle.x86_64_model.proofs.Lemmas.Maps.Flags.{has_kept}
 use Rattle.x86_64_model.specs.MapRule.{map_rule}
-use Rattle.x86_64_model.specs.Layout.{IsReady}
 use Rattle.x86_64_model.specs.Memory.{Memory, Distinct, word, set_word}
 use Rattle.x86_64_model.specs.Path.{parents}
 use Rattle.x86_64_model.specs.PathMap.{PathMap, entry, put, table_of, table_at}
@@ -29,13 +29,13 @@ pub rest_same : (more added : ℕ) (pre : List ℕ) (i : ℕ) (N : PathMap) (s :
     → map_rule N s more added (map (λ x. pre ++ x) (map (λ x. i ∷ x) (parents (j ∷ r)))) (pre ++ i ∷ j ∷ r) e frame ≡ mapped_from N s more added (pre ++ i ∷ []) (j ∷ r) e frame
 rest_same more added pre i N s j r e frame = λ n. map_rule N s more added (sym (map_again pre i (parents (j ∷ r))) n) (sym (append_assoc pre (i ∷ []) (j ∷ r)) n) e frame
 
-pub descends : (l : Layout) (m : Memory) (s : List ℕ) → IsReady l m s → (pre : List ℕ) (i j : ℕ) (r : List ℕ) → Descends (paths l m) (map (λ x. pre ++ x) (parents (i ∷ j ∷ r))) (pre ++ i ∷ j ∷ r)
-descends l m s ready pre i j r = parents_descend l.levels (words_read l m) l.root (paths l m) ready.valid.valid.holds pre (i ∷ j ∷ r)
+pub descends : (l : Layout) (m : Memory) (s : List ℕ) → SupplyFits (l laid_in m) s → (pre : List ℕ) (i j : ℕ) (r : List ℕ) → Descends (paths (l laid_in m)) (map (λ x. pre ++ x) (parents (i ∷ j ∷ r))) (pre ++ i ∷ j ∷ r)
+descends l m s ready pre i j r = parents_descend l.levels (words_read l m) l.root (paths (l laid_in m)) ready.valid.valid.holds pre (i ∷ j ∷ r)
 
-module _ (l : Layout) (apart : Distinct l.places) (m : Memory) (pre : List ℕ) (i f : ℕ) (leads : table_at l.levels l.root (paths l m) pre ≡ Some f) (small : i < 512) (beside : Beside l.window l.root f i)
-    (more : ℕ) (marks : IsParentFlags more) (room : length (pre ++ i ∷ []) < l.levels) (s : List ℕ) (ready : IsReady l m s) where
+module _ (l : Layout) (apart : Distinct l.places) (m : Memory) (pre : List ℕ) (i f : ℕ) (leads : table_at l.levels l.root (paths (l laid_in m)) pre ≡ Some f) (small : i < 512) (beside : Beside l.window l.root f i)
+    (more : ℕ) (marks : IsParentFlags more) (room : length (pre ++ i ∷ []) < l.levels) (s : List ℕ) (ready : SupplyFits (l laid_in m) s) where
   abbrev M : PathMap
-  M = paths l m
+  M = paths (l laid_in m)
 
   abbrev p : List ℕ
   p = pre ++ i ∷ []
@@ -43,15 +43,15 @@ module _ (l : Layout) (apart : Distinct l.places) (m : Memory) (pre : List ℕ) 
   at_least_four : 0 < l.levels
   at_least_four = omega (arith, room)
 
-  is : entry M p ≡ word (words l m) f i
+  is : entry M p ≡ word (words (l laid_in m)) f i
   is = entry_is l apart at_least_four m pre i f leads small beside s ready
 
-  marked : (n : Memory) → IsMarked l.places m f i more n → (put M p (bit_or (entry M p) more) ≡ paths l n) × KeepsOwned l m s n s
+  marked : (n : Memory) → IsMarked l.places m f i more n → (put M p (bit_or (entry M p) more) ≡ paths (l laid_in n)) × KeepsOwned l m s n s
   marked n k =
       let T = words_read l m in
-      let t = read_table l.window l.root (words l m) f k.is_set.table k.is_set.is in
+      let t = read_table l.window l.root (words (l laid_in m)) f k.is_set.table k.is_set.is in
       let u : used (entry M p) ≡ true = ap used is ∙ k.is_used in
-      let w = read_word l.window l.root (words l m) f i beside in
+      let w = read_word l.window l.root (words (l laid_in m)) f i beside in
       owned_to l apart at_least_four m n s s (put M p (bit_or (entry M p) more)) ready
       (subst (λ U. IsValid l.levels U l.root (put M p (bit_or (entry M p) more))) (ap (λ x. set_word T f i (bit_or x more)) w ∙ sym (read_set l apart m f i _ n k.is_set beside))
       (marked_valid T f i more t.table t.is (omega (arith, k.is_set.long, t.long)) small marks (ap used w ∙ k.is_used) l.levels l.root M pre ready.valid.valid leads))
@@ -61,7 +61,7 @@ module _ (l : Layout) (apart : Distinct l.places) (m : Memory) (pre : List ℕ) 
       (λ a h. set_others l.places apart m f i _ n k.is_set a (own_place l apart at_least_four m pre i f leads small beside s ready s (λ f h. h) a h))
 
   -- a parent that isn't huge leads to the next table
-  pub reached_used : (g : ℕ) (n : Memory) → IsMarked l.places m f i more n → huge (word (words l m) f i) ≡ false → g ≡ address (word (words l m) f i) → Reached l m s more pre i n s g
+  pub reached_used : (g : ℕ) (n : Memory) → IsMarked l.places m f i more n → huge (word (words (l laid_in m)) f i) ≡ false → g ≡ address (word (words (l laid_in m)) f i) → Reached l m s more pre i n s g
   unfolding table_of
   reached_used g n k h names =
       let u : used (entry M p) ≡ true = ap used is ∙ k.is_used in
@@ -84,7 +84,7 @@ module _ (l : Layout) (apart : Distinct l.places) (m : Memory) (pre : List ℕ) 
       }
 
   -- a huge parent refuses
-  pub stopped_huge : (n : Memory) → IsMarked l.places m f i more n → huge (word (words l m) f i) ≡ true → Stopped l m s more pre i n s ParentEntryHugePage
+  pub stopped_huge : (n : Memory) → IsMarked l.places m f i more n → huge (word (words (l laid_in m)) f i) ≡ true → Stopped l m s more pre i n s ParentEntryHugePage
   stopped_huge n k h =
       let w = marked n k in record {
         owned = w.1;

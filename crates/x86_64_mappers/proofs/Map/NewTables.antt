@@ -4,7 +4,8 @@ use Rattle.std.specs.FinMap.{get}
 use Rattle.x86_64_model.specs.Conserved.{IsFrame, Conserves}
 use Rattle.x86_64_model.specs.Entry.{IsParentFlags, used, huge, address}
 use Rattle.x86_64_model.specs.Hierarchy.{IsValid}
-use Rattle.x86_64_model.specs.Layout.{Layout, words, paths}
+use Rattle.x86_64_model.specs.Layout.{Layout}
+use Rattle.x86_64_model.specs.Mapper.{◌laid_in◌, SupplyFits, paths, words}
 use Rattle.x86_64_model.proofs.Lemmas.Entries.Bits.{has_or, only_flags, unused_absent, unused_zero}
 use Rattle.x86_64_model.proofs.Lemmas.Hierarchies.Changes.{zero_not_huge}
 use Rattle.x86_64_model.proofs.Lemmas.Hierarchies.Held.{table_at_last}
@@ -14,7 +15,6 @@ use Rattle.x86_64_model.proofs.Lemmas.Maps.Frames.{conserves_taken, table_of_new
 use Rattle.x86_64_model.proofs.Lemmas.Maps.Flags.{has_kept}
 use Rattle.x86_64_model.proofs.Lemmas.Paths.Puts.{entry-put_same}
 use Rattle.x86_64_model.specs.Lists.{In}
-use Rattle.x86_64_model.specs.Layout.{IsReady}
 use Rattle.x86_64_model.specs.Memory.{Memory, Distinct, word, set_word}
 use Rattle.x86_64_model.specs.PathMap.{PathMap, entry, put, table_of, table_at}
 use Rattle.x86_64_model.specs.Refusal.{FrameAllocationFailed}
@@ -36,13 +36,13 @@ taken_last L root M f fs [] i e new old = conserves_taken L root M f fs i [] e n
 taken_last L root M f fs (k ∷ p) i e new old = conserves_taken L root M f fs k (p ++ i ∷ []) e new old
 
 -- the frames of a supply
-supply_frame : (l : Layout) (m : Memory) (s : List ℕ) → IsReady l m s → (f : ℕ) → In s f → IsFrame f
+supply_frame : (l : Layout) (m : Memory) (s : List ℕ) → SupplyFits (l laid_in m) s → (f : ℕ) → In s f → IsFrame f
 supply_frame l m s ready f h = record { aligned = eqb-true (address f) f (ready.are_frames f h); not_zero = λ z. ready.not_zero (subst (In s) z h) }
 
-module _ (l : Layout) (apart : Distinct l.places) (m : Memory) (pre : List ℕ) (i f : ℕ) (leads : table_at l.levels l.root (paths l m) pre ≡ Some f) (small : i < 512) (beside : Beside l.window l.root f i)
+module _ (l : Layout) (apart : Distinct l.places) (m : Memory) (pre : List ℕ) (i f : ℕ) (leads : table_at l.levels l.root (paths (l laid_in m)) pre ≡ Some f) (small : i < 512) (beside : Beside l.window l.root f i)
     (more : ℕ) (marks : IsParentFlags more) (adds : IsParentFlags l.added_flags) (room : length (pre ++ i ∷ []) < l.levels) where
   abbrev M : PathMap
-  M = paths l m
+  M = paths (l laid_in m)
 
   abbrev p : List ℕ
   p = pre ++ i ∷ []
@@ -51,14 +51,14 @@ module _ (l : Layout) (apart : Distinct l.places) (m : Memory) (pre : List ℕ) 
   at_least_four = omega (arith, room)
 
   -- no frame is left
-  pub stopped_empty : IsReady l m [] → used (word (words l m) f i) ≡ false → Stopped l m [] more pre i m [] FrameAllocationFailed
+  pub stopped_empty : SupplyFits (l laid_in m) [] → used (word (words (l laid_in m)) f i) ≡ false → Stopped l m [] more pre i m [] FrameAllocationFailed
   stopped_empty ready u = record {
     owned = owned_nothing l m [] ready;
     outcome = λ j r x frame. step_none more l.added_flags (pre ++ i ∷ j ∷ r) x frame M p _ (descends l m [] ready pre i j r) (ap used (entry_is l apart at_least_four m pre i f leads small beside [] ready) ∙ u);
   }
 
   -- the frame g was cleared, and then the entry came to name it
-  module _ (g : ℕ) (rest : List ℕ) (ready : IsReady l m (g ∷ rest)) (middle n : Memory) (u : used (word (words l m) f i) ≡ false)
+  module _ (g : ℕ) (rest : List ℕ) (ready : SupplyFits (l laid_in m) (g ∷ rest)) (middle n : Memory) (u : used (word (words (l laid_in m)) f i) ≡ false)
       (cleared : IsCleared l.places m g middle) (k : IsSet l.places middle f i (bit_or g (bit_or more l.added_flags)) n) where
     abbrev w : ℕ
     w = bit_or g (bit_or more l.added_flags)
@@ -86,16 +86,16 @@ module _ (l : Layout) (apart : Distinct l.places) (m : Memory) (pre : List ℕ) 
 
     valid : IsValid l.levels (set_word (words_read l middle) f i w) l.root (put M p w)
     valid =
-        let same : (h : ℕ) → h ≢ g → words_read l middle h ≡ words_read l m h = λ h n. read_same l.window l.root (words l m) (words l middle) h (cleared_other l.places apart m g middle cleared h n) in
-        let t = read_table l.window l.root (words l middle) f k.table k.is in
+        let same : (h : ℕ) → h ≢ g → words_read l middle h ≡ words_read l m h = λ h n. read_same l.window l.root (words (l laid_in m)) (words (l laid_in middle)) h (cleared_other l.places apart m g middle cleared h n) in
+        let t = read_table l.window l.root (words (l laid_in middle)) f k.table k.is in
         made_valid l.levels (words_read l m) (words_read l middle) l.root M pre i w f g t.table ready.valid.valid leads
         (sym (same f (λ x. fresh pre (leads ∙ ap Some x))) ∙ t.is) (omega (arith, k.long, t.long)) small old new
         (has_or g (bit_or more l.added_flags) 0x80 flags.not_huge ∙ frame_not_huge g frame.aligned) frame.not_zero fresh same
-        (read_some l.window l.root (words l middle) g (not_none _ zero_words (cleared_here l.places apart m g middle cleared)))
-        (λ j. read_word l.window l.root (words l middle) g j (λ v x h. absurd (not_root h)) ∙ cleared_words l.places apart m g middle cleared j)
+        (read_some l.window l.root (words (l laid_in middle)) g (not_none _ zero_words (cleared_here l.places apart m g middle cleared)))
+        (λ j. read_word l.window l.root (words (l laid_in middle)) g j (λ v x h. absurd (not_root h)) ∙ cleared_words l.places apart m g middle cleared j)
 
-    self : SelfEntry (words l middle) l.root l.window
-    self = self_kept l.window l.root (words l m) (words l middle) (λ v x. cleared_other_word l.places apart m g middle cleared l.root v.index not_root) ready.valid.self
+    self : SelfEntry (words (l laid_in middle)) l.root l.window
+    self = self_kept l.window l.root (words (l laid_in m)) (words (l laid_in middle)) (λ v x. cleared_other_word l.places apart m g middle cleared l.root v.index not_root) ready.valid.self
 
     pub reached_new : Reached l m (g ∷ rest) more pre i n rest g
     reached_new =

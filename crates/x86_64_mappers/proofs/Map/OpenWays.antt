@@ -8,7 +8,8 @@ use Rattle.x86_64_model.specs.Allowed.{none_absent, parents_present}
 use Rattle.x86_64_model.specs.Arrivals.{leads}
 use Rattle.x86_64_model.specs.Entry.{IsParentFlags, used, present, huge, names_table}
 use Rattle.x86_64_model.specs.Hierarchy.{entry_in}
-use Rattle.x86_64_model.specs.Layout.{Layout, Valid, words, paths}
+use Rattle.x86_64_model.specs.Layout.{Layout}
+use Rattle.x86_64_model.specs.Mapper.{◌laid_in◌, SupplyFits, Valid, paths, words}
 use Rattle.x86_64_model.proofs.Lemmas.Entries.Bits.{unused_absent}
 use Rattle.x86_64_model.proofs.Lemmas.Hierarchies.Held.{table_at_last}
 use Rattle.x86_64_model.proofs.Lemmas.Hierarchies.Trees.{Names, table_of_gives, plain_table}
@@ -18,7 +19,6 @@ use Rattle.x86_64_model.proofs.Lemmas.Paths.Puts.{append_longer, entry-put_same,
 use Rattle.x86_64_model.proofs.Lemmas.Walks.Agrees.{zero_names_none}
 use Rattle.x86_64_model.proofs.Lemmas.Walks.Walked.{read_there}
 use Rattle.x86_64_model.specs.Lists.{In}
-use Rattle.x86_64_model.specs.Layout.{IsReady}
 use Rattle.x86_64_model.specs.Memory.{Memory, Distinct, word}
 use Rattle.x86_64_model.specs.Path.{parents}
 use Rattle.x86_64_model.specs.PathMap.{PathMap, entry, table_of, table_at}
@@ -35,9 +35,9 @@ use Rattle.x86_64_mappers.proofs.Memory.Written.{entry_is}
 
 -- ---- the tables on the way
 
-module _ (l : Layout) (m : Memory) (valid : Valid l m) (more : ℕ) (path : List ℕ) where
+module _ (l : Layout) (m : Memory) (valid : Valid (l laid_in m)) (more : ℕ) (path : List ℕ) where
   abbrev M : PathMap
-  M = paths l m
+  M = paths (l laid_in m)
 
   -- the table above, which holds the last entry on the path
   record Above (k f : ℕ) : Type 0 where
@@ -86,25 +86,25 @@ module _ (l : Layout) (m : Memory) (valid : Valid l m) (more : ℕ) (path : List
 
   module _ (outside : begins_with l.window path ≡ false) where
     -- the words lead to the tables of the path map
-    words_lead : (k : ℕ) → k ≤ length path → (f : ℕ) → IsOpenWay l m more path k f → leads (words l m) l.root (take k path) ≡ Some f
+    words_lead : (k : ℕ) → k ≤ length path → (f : ℕ) → IsOpenWay l m more path k f → leads (words (l laid_in m)) l.root (take k path) ≡ Some f
     words_lead zero within f here = here.leads
     words_lead (suc k) within f here =
         let i = get_or path k 0 in
         let e = entry M (take (suc k) path) in
         let up = above k (omega (arith, within)) f here in
         let beside = beside_at l m valid path k (omega (arith, within)) outside up.frame up.way.leads in
-        let there : IsSome (words l m up.frame) = there_read l.window l.root (words l m) up.frame (valid.valid.holds.in_memory (take k path) up.frame up.way.leads) in
-        let is : word (words l m) up.frame i ≡ e = sym (up.is ∙ read_word l.window l.root (words l m) up.frame i beside) in
-        ap (leads (words l m) l.root) (take-suc path k 0 (omega (arith, within)))
-        ∙ leads_last (words l m) l.root (take k path) up.frame i e (words_lead k (omega (arith, within)) up.frame up.way)
-        (read_there (words l m) up.frame i (here.small k (omega arith)) there ∙ ap Some is) (here.are_present k (omega arith)) (plain_table e up.names.is_table)
+        let there : IsSome (words (l laid_in m) up.frame) = there_read l.window l.root (words (l laid_in m)) up.frame (valid.valid.holds.in_memory (take k path) up.frame up.way.leads) in
+        let is : word (words (l laid_in m)) up.frame i ≡ e = sym (up.is ∙ read_word l.window l.root (words (l laid_in m)) up.frame i beside) in
+        ap (leads (words (l laid_in m)) l.root) (take-suc path k 0 (omega (arith, within)))
+        ∙ leads_last (words (l laid_in m)) l.root (take k path) up.frame i e (words_lead k (omega (arith, within)) up.frame up.way)
+        (read_there (words (l laid_in m)) up.frame i (here.small k (omega arith)) there ∙ ap Some is) (here.are_present k (omega arith)) (plain_table e up.names.is_table)
         ∙ ap Some up.names.at
 
     pub open_reached : (k : ℕ) → k ≤ length path → (f : ℕ) → IsOpenWay l m more path k f → IsReached l m (take k path) f
     open_reached k within f here = record {
       way = words_lead k within f here;
-      there = there_read l.window l.root (words l m) f (valid.valid.holds.in_memory (take k path) f here.leads);
-      root_there = there_read l.window l.root (words l m) l.root (valid.valid.holds.in_memory [] l.root refl);
+      there = there_read l.window l.root (words (l laid_in m)) f (valid.valid.holds.in_memory (take k path) f here.leads);
+      root_there = there_read l.window l.root (words (l laid_in m)) l.root (valid.valid.holds.in_memory [] l.root refl);
       self = valid.self;
     }
 
@@ -117,23 +117,23 @@ module _ (l : Layout) (m : Memory) (valid : Valid l m) (more : ℕ) (path : List
         ∙ take-append_seam a (b ++ drop k path)
 
     -- no table is met twice on the way
-    not_on_way : (k : ℕ) → k ≤ length path → (f : ℕ) → IsOpenWay l m more path k f → NotOnWay (words l m) l.root (take k path) f
+    not_on_way : (k : ℕ) → k ≤ length path → (f : ℕ) → IsOpenWay l m more path k f → NotOnWay (words (l laid_in m)) l.root (take k path) f
     not_on_way k within f here a j b split h led same =
         let shorter : length a < k = (let n = ap length split in let p = length-append a (j ∷ b) in let t = length-take k path in omega (arith, n, p, t, within)) in
         let at_front = front k a (j ∷ b) split in
         let up = upper k within f here (length a) (omega (arith, shorter)) in
-        let one_frame : up.0 ≡ h = same_Some up.0 h (sym (words_lead (length a) (omega (arith, shorter, within)) up.0 up.1) ∙ ap (leads (words l m) l.root) at_front ∙ led) in
+        let one_frame : up.0 ≡ h = same_Some up.0 h (sym (words_lead (length a) (omega (arith, shorter, within)) up.0 up.1) ∙ ap (leads (words (l laid_in m)) l.root) at_front ∙ led) in
         let one : a ≡ take k path = valid.valid.own_frames a (take k path) f (ap (table_at l.levels l.root M) (sym at_front) ∙ up.1.leads ∙ ap Some (one_frame ∙ same)) here.leads in
         append_longer a j b (sym split ∙ sym one)
 
     -- the tables on the way are tables of the path map
-    met_on_way : (k : ℕ) → k ≤ length path → (f : ℕ) → IsOpenWay l m more path k f → (a b : List ℕ) → take k path ≡ a ++ b → (h : ℕ) → leads (words l m) l.root a ≡ Some h → table_at l.levels l.root M a ≡ Some h
+    met_on_way : (k : ℕ) → k ≤ length path → (f : ℕ) → IsOpenWay l m more path k f → (a b : List ℕ) → take k path ≡ a ++ b → (h : ℕ) → leads (words (l laid_in m)) l.root a ≡ Some h → table_at l.levels l.root M a ≡ Some h
     met_on_way k within f here a b split h led =
         let short : length a ≤ k = (let n = ap length split in let p = length-append a b in let t = length-take k path in omega (arith, n, p, t, within)) in
         let at_front = front k a b split in
         let up = upper k within f here (length a) short in
         ap (table_at l.levels l.root M) (sym at_front) ∙ up.1.leads
-        ∙ sym (words_lead (length a) (omega (arith, short, within)) up.0 up.1) ∙ ap (leads (words l m) l.root) at_front ∙ led
+        ∙ sym (words_lead (length a) (omega (arith, short, within)) up.0 up.1) ∙ ap (leads (words (l laid_in m)) l.root) at_front ∙ led
 
 -- ---- the parents to come
 
@@ -180,7 +180,7 @@ module _ (M : PathMap) where
 
 -- ---- one step
 
-module _ (l : Layout) (m : Memory) (valid : Valid l m) (more : ℕ) (path : List ℕ) (k : ℕ) (within : k < length path) (f : ℕ) (here : IsOpenWay l m more path k f) where
+module _ (l : Layout) (m : Memory) (valid : Valid (l laid_in m)) (more : ℕ) (path : List ℕ) (k : ℕ) (within : k < length path) (f : ℕ) (here : IsOpenWay l m more path k f) where
   abbrev p : List ℕ
   p = take k path ++ get_or path k 0 ∷ []
 
@@ -188,48 +188,48 @@ module _ (l : Layout) (m : Memory) (valid : Valid l m) (more : ℕ) (path : List
   at = take-suc path k 0 within
 
   -- the next parent will be present
-  next_present : (present more ≡ true) ⊎ (present (entry (paths l m) p) ≡ true)
-  next_present = ⊎_elim (λ x. inl x) (λ all. inr (ap (λ q. present (entry (paths l m) q)) (sym at) ∙ all k within (are_plain l m valid more path k (omega (arith, within)) f here))) here.to_come
+  next_present : (present more ≡ true) ⊎ (present (entry (paths (l laid_in m)) p) ≡ true)
+  next_present = ⊎_elim (λ x. inl x) (λ all. inr (ap (λ q. present (entry (paths (l laid_in m)) q)) (sym at) ∙ all k within (are_plain l m valid more path k (omega (arith, within)) f here))) here.to_come
 
-  module _ (n : Memory) (opens : Opens (paths l m) more p (paths l n)) where
-    is_present : present (entry (paths l n) (take (suc k) path)) ≡ true
-    is_present = ap (λ q. present (entry (paths l n) q)) at ∙ ap (λ N. present (entry N p)) (sym opens.is) ∙ ap present (entry-put_same (paths l m) p opens.word) ∙ opens.is_present next_present
+  module _ (n : Memory) (opens : Opens (paths (l laid_in m)) more p (paths (l laid_in n))) where
+    is_present : present (entry (paths (l laid_in n)) (take (suc k) path)) ≡ true
+    is_present = ap (λ q. present (entry (paths (l laid_in n)) q)) at ∙ ap (λ N. present (entry N p)) (sym opens.is) ∙ ap present (entry-put_same (paths (l laid_in m)) p opens.word) ∙ opens.is_present next_present
 
-    other : (j : ℕ) → j < length path → j ≢ k → entry (paths l n) (take (suc j) path) ≡ entry (paths l m) (take (suc j) path)
+    other : (j : ℕ) → j < length path → j ≢ k → entry (paths (l laid_in n)) (take (suc j) path) ≡ entry (paths (l laid_in m)) (take (suc j) path)
     other j b apart = ap (λ N. entry N (take (suc j) path)) (sym opens.is)
-        ∙ entry-put_other (paths l m) p opens.word (take (suc j) path) (λ e. apart (let t = ap length (e ∙ sym at) in omega (arith, t, length-take (suc j) path, length-take (suc k) path, b, within)))
+        ∙ entry-put_other (paths (l laid_in m)) p opens.word (take (suc j) path) (λ e. apart (let t = ap length (e ∙ sym at) in omega (arith, t, length-take (suc j) path, length-take (suc k) path, b, within)))
 
     -- an entry that had to be present still is
-    present_at : (j : ℕ) → j < length path → (j ≢ k → present (entry (paths l m) (take (suc j) path)) ≡ true) → present (entry (paths l n) (take (suc j) path)) ≡ true
+    present_at : (j : ℕ) → j < length path → (j ≢ k → present (entry (paths (l laid_in m)) (take (suc j) path)) ≡ true) → present (entry (paths (l laid_in n)) (take (suc j) path)) ≡ true
     present_at j b was = ⊎_elim
-        (λ e. ap (λ j. present (entry (paths l n) (take (suc j) path))) e ∙ is_present)
+        (λ e. ap (λ j. present (entry (paths (l laid_in n)) (take (suc j) path))) e ∙ is_present)
         (λ apart. ap present (other j b apart) ∙ was apart)
         (cases_eq j k)
 
-    was_plain : (h : ℕ) → h < length path → huge (entry (paths l n) (take (suc h) path)) ≡ false → huge (entry (paths l m) (take (suc h) path)) ≡ false
+    was_plain : (h : ℕ) → h < length path → huge (entry (paths (l laid_in n)) (take (suc h) path)) ≡ false → huge (entry (paths (l laid_in m)) (take (suc h) path)) ≡ false
     was_plain h b plain = ⊎_elim
-        (λ e. ap (λ h. huge (entry (paths l m) (take (suc h) path))) e ∙ ap (λ q. huge (entry (paths l m) q)) at ∙ opens.was_plain)
+        (λ e. ap (λ h. huge (entry (paths (l laid_in m)) (take (suc h) path))) e ∙ ap (λ q. huge (entry (paths (l laid_in m)) q)) at ∙ opens.was_plain)
         (λ apart. ap huge (sym (other h b apart)) ∙ plain)
         (cases_eq h k)
 
-    pub open_next : get_or path k 0 < 512 → (g : ℕ) → table_at l.levels l.root (paths l n) p ≡ Some g → IsOpenWay l n more path (k + 1) g
+    pub open_next : get_or path k 0 < 512 → (g : ℕ) → table_at l.levels l.root (paths (l laid_in n)) p ≡ Some g → IsOpenWay l n more path (k + 1) g
     open_next small g led = subst (λ j. IsOpenWay l n more path j g) (sym (add-one k)) (record {
-      leads = ap (table_at l.levels l.root (paths l n)) at ∙ led;
+      leads = ap (table_at l.levels l.root (paths (l laid_in n))) at ∙ led;
       small = λ j b. ⊎_elim (λ e. subst (λ j. get_or path j 0 < 512) (sym e) small) (λ apart. here.small j (omega (arith, b, apart))) (cases_eq j k);
       are_present = λ j b. present_at j (omega (arith, b, within)) (λ apart. here.are_present j (omega (arith, b, apart)));
       to_come = ⊎_elim (λ x. inl x) (λ all. inr (λ j b plain. present_at j b (λ apart. all j b (λ h less. was_plain h (omega (arith, less, b)) (plain h less))))) here.to_come;
     })
 
 -- a frame of the supply may be linked as the table that the next parent lacks
-pub may_link : (l : Layout) → Distinct l.places → IsParentFlags l.added_flags → (m : Memory) (s : List ℕ) → IsReady l m s → (path : List ℕ) → begins_with l.window path ≡ false → length path < l.levels
+pub may_link : (l : Layout) → Distinct l.places → IsParentFlags l.added_flags → (m : Memory) (s : List ℕ) → SupplyFits (l laid_in m) s → (path : List ℕ) → begins_with l.window path ≡ false → length path < l.levels
     → (more : ℕ) → IsParentFlags more → (k : ℕ) → k < length path → (f : ℕ) → IsOpenWay l m more path k f
-    → get_or path k 0 < 512 → used (word (words l m) f (get_or path k 0)) ≡ false → (g : ℕ) → In s g → MayLink l m path k f g (bit_or more l.added_flags)
+    → get_or path k 0 < 512 → used (word (words (l laid_in m)) f (get_or path k 0)) ≡ false → (g : ℕ) → In s g → MayLink l m path k f g (bit_or more l.added_flags)
 may_link l apart adds m s ready path outside short more marks k within f here small unused g free =
     let passed : k ≤ length path = omega (arith, within) in
     let beside = beside_at l m ready.valid path k within outside f here.leads in
     let is = entry_is l apart (omega (arith, short)) m (take k path) (get_or path k 0) f here.leads small beside s ready in
     let will : present more ≡ true = ⊎_elim (λ x. x)
-    (λ x. absurd (let no = unused_absent (word (words l m) f (get_or path k 0)) unused in let yes = sym (ap present is) ∙ x in let t : true ≡ false = sym yes ∙ no in cc))
+    (λ x. absurd (let no = unused_absent (word (words (l laid_in m)) f (get_or path k 0)) unused in let yes = sym (ap present is) ∙ x in let t : true ≡ false = sym yes ∙ no in cc))
     (next_present l m ready.valid more path k within f here) in record {
       reached = open_reached l m ready.valid more path outside k passed f here;
       not_on_way = not_on_way l m ready.valid more path outside k passed f here;

@@ -5,7 +5,7 @@ use Rattle.x86_64_model.specs.Layout.{Layout}
 use Rattle.x86_64_model.proofs.Lemmas.Maps.Leaves.{none_at_leaf}
 use Rattle.x86_64_model.proofs.Lemmas.Maps.Mapped.{walks_after}
 use Rattle.x86_64_model.specs.MapRule.{leaf_entry}
-use Rattle.x86_64_model.specs.Layout.{IsReady}
+use Rattle.x86_64_model.specs.Mapper.{◌laid_in◌, SupplyFits}
 use Rattle.x86_64_model.specs.private.MapperCalls.{IsMapped}
 use Rattle.x86_64_model.specs.Memory.{Memory, Distinct}
 use Rattle.x86_64_model.specs.Refusal.{Refusal, Answer, Refused}
@@ -21,7 +21,7 @@ pub page_leaf : (L : ℕ) (q : List ℕ) → L ≤ length q + 2 → (frame given
 page_leaf L q low frame given = record { no_table = none_at_leaf L q frame given; none_huge = λ above. absurd (omega arith) }
 
 module _ (l : Layout) (apart : Distinct l.places) (m : Memory) (s : List ℕ) (level : ℕ) (q : List ℕ) (last : ℕ) (size : length q ≡ last + 1) (at_level : length q + level ≡ l.levels + 1) (frame given more : ℕ)
-    (before : IsReady l m s) (marks : IsParentFlags more) where
+    (before : SupplyFits (l laid_in m) s) (marks : IsParentFlags more) where
   -- the path is mapped as the call says
   called : (answer : Answer) (n : Memory) (rest : List ℕ) → IsPathMapped l m s more q (leaf_entry l.levels q frame given) frame answer n rest → IsMapped l m s q frame given more answer n rest
   called answer n rest h = record {

@@ -3,7 +3,8 @@ use Rattle.std.proofs.Common.{◌≡◌, ◌≢◌, ⊎_elim, ℕ, Bool, true, f
 use Rattle.std.proofs.lemmas.Bool.{cases_eq}
 use Rattle.std.proofs.lemmas.List.{set-get_or}
 use Rattle.std.specs.FinMap.{get, insert}
-use Rattle.x86_64_model.specs.Layout.{Layout, words}
+use Rattle.x86_64_model.specs.Layout.{Layout}
+use Rattle.x86_64_model.specs.Mapper.{◌laid_in◌, words}
 use Rattle.x86_64_model.proofs.Lemmas.Hierarchies.Held.{is_some-set}
 use Rattle.x86_64_model.proofs.Lemmas.Hierarchies.Memories.{outside_set, words_of-insert, covered}
 use Rattle.x86_64_model.specs.Memory.{Memory, Places, Distinct, words_of, word, word_in, set_word}
@@ -76,7 +77,7 @@ module _ (places : Places) (apart : Distinct places) where
 
 module _ (l : Layout) (apart : Distinct l.places) (m : Memory) (f i w : ℕ) (n : Memory) (k : IsSet l.places m f i w n) (b : Beside l.window l.root f i) where
   pub read_set : words_read l n ≡ set_word (words_read l m) f i w
-  read_set = ap (outside_window l.window l.root) (set_is l.places apart m f i w n k) ∙ outside_set l.window l.root (words l m) f i w b
+  read_set = ap (outside_window l.window l.root) (set_is l.places apart m f i w n k) ∙ outside_set l.window l.root (words (l laid_in m)) f i w b
 
-  pub self_set : SelfEntry (words l m) l.root l.window → SelfEntry (words l n) l.root l.window
-  self_set h = subst (λ T. SelfEntry T l.root l.window) (sym (set_is l.places apart m f i w n k)) (self-set_word l.window l.root (words l m) f i w b h)
+  pub self_set : SelfEntry (words (l laid_in m)) l.root l.window → SelfEntry (words (l laid_in n)) l.root l.window
+  self_set h = subst (λ T. SelfEntry T l.root l.window) (sym (set_is l.places apart m f i w n k)) (self-set_word l.window l.root (words (l laid_in m)) f i w b h)

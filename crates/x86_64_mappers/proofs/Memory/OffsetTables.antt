@@ -6,7 +6,7 @@ use Rattle.std.proofs.Common.{arith, refl, sym, ap, ap₂, ◌∙◌, subst, inl
 use Rattle.std.proofs.lemmas.Bool.{and_parts}
 use Rattle.x86_64_model.specs.Entry.{is_frame}
 use Rattle.x86_64_model.specs.Hierarchy.{paths_of}
-use Rattle.x86_64_model.specs.Layout.{Valid, paths}
+use Rattle.x86_64_model.specs.Mapper.{◌laid_in◌, Valid, paths}
 use Rattle.x86_64_model.proofs.Lemmas.Entries.Words.{address_aligned}
 use Rattle.x86_64_model.specs.Memory.{Memory, Words, identity_places, words_of}
 use Rattle.x86_64_model.specs.Pool.{Fits}
@@ -74,11 +74,11 @@ alike L memory offset fits P = let same = offset_words L memory offset fits in (
 
 -- a hierarchy is valid at the offset if and only if it is by the identity mapping
 pub offset_valid : (L : ℕ) (memory : Memory) (offset : ℕ) → OffsetFits L memory offset
-    → (root : ℕ) → Valid (direct_at L identity_places root) memory ↔ Valid (direct_at L (offset_places L offset) root) memory
+    → (root : ℕ) → Valid (direct_at L identity_places root laid_in memory) ↔ Valid (direct_at L (offset_places L offset) root laid_in memory)
 offset_valid L memory offset fits root = alike L memory offset fits (λ words. IsValidFor L None words root (paths_of L (outside_window None root words) root))
 
 -- a pool fits it at the offset if and only if it does by the identity mapping
 pub offset_fits : (L : ℕ) (memory : Memory) (offset : ℕ) → OffsetFits L memory offset → (root : ℕ) (serves : ℕ → Bool) (pool : List ℕ)
-    → Fits L None (words_of memory identity_places) root (paths (direct_at L identity_places root) memory) serves pool
-    ↔ Fits L None (words_of memory (offset_places L offset)) root (paths (direct_at L (offset_places L offset) root) memory) serves pool
+    → Fits L None (words_of memory identity_places) root (paths (direct_at L identity_places root laid_in memory)) serves pool
+    ↔ Fits L None (words_of memory (offset_places L offset)) root (paths (direct_at L (offset_places L offset) root laid_in memory)) serves pool
 offset_fits L memory offset fits root serves pool = alike L memory offset fits (λ words. Fits L None words root (paths_of L (outside_window None root words) root) serves pool)

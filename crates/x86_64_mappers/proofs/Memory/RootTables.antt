@@ -1,7 +1,7 @@
 -- The root's table of a mapper, and a mapper whose root table was lent.
 use Rattle.std.proofs.Common.{◌≡◌, ℕ, [], refl, ap, subst}
 use Rattle.std.proofs.Props.{props}
-use Rattle.x86_64_model.specs.Layout.{Valid}
+use Rattle.x86_64_model.specs.Mapper.{◌laid_in◌, Valid}
 use Rattle.x86_64_model.specs.Memory.{Memory, Places}
 use Rattle.x86_64_mappers.specs.Layouts.{direct, HasRoot}
 
@@ -15,5 +15,5 @@ alike places root after make a b e =
     subst (λ b. (h : There a) (k : There b) → make a h ≡ make b k) e (λ h k. ap (make a) (prop h k))
 
 -- a valid hierarchy has its root's table
-pub valid_root : (places : Places) (root : ℕ) (memory : Memory) → Valid (direct places root) memory → HasRoot places root memory
+pub valid_root : (places : Places) (root : ℕ) (memory : Memory) → Valid (direct places root laid_in memory) → HasRoot places root memory
 valid_root places root memory valid = valid.valid.holds.in_memory [] root refl

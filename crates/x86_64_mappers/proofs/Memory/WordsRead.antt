@@ -2,14 +2,15 @@
 use Rattle.std.proofs.Common.{◌≡◌, ⊎_elim, ℕ, ◌==◌, Bool, true, false, cond, List, length, set, Option, Some, None, IsSome, option_map, refl, sym, ap, ◌∙◌}
 use Rattle.std.proofs.lemmas.Bool.{cases_eq}
 use Rattle.std.proofs.lemmas.List.{length-set}
-use Rattle.x86_64_model.specs.Layout.{Layout, words}
+use Rattle.x86_64_model.specs.Layout.{Layout}
+use Rattle.x86_64_model.specs.Mapper.{◌laid_in◌, words}
 use Rattle.x86_64_model.proofs.Lemmas.Hierarchies.Held.{word-set_frame, word-set_index, is_some-set}
 use Rattle.x86_64_model.specs.Memory.{Memory, Words, word, set_word}
 use Rattle.x86_64_model.specs.Window.{Window, outside_window, SelfEntry}
 use Rattle.x86_64_mappers.specs.private.Linked.{Beside}
 
 abbrev pub words_read : Layout → Memory → Words
-words_read l m = outside_window l.window l.root (words l m)
+words_read l m = outside_window l.window l.root (words (l laid_in m))
 
 pub read_word : (window : Option Window) (root : ℕ) (T : Words) (f i : ℕ) → Beside window root f i → word (outside_window window root T) f i ≡ word T f i
 read_word None root T f i b = refl

@@ -7,7 +7,8 @@ use Rattle.std.specs.FinMap.{insert}
 use Rattle.std.specs.List.{range_with_len}
 use Rattle.x86_64_model.specs.Allowed.{allowed}
 use Rattle.x86_64_model.specs.Call.{Call, Reply, Answered}
-use Rattle.x86_64_model.specs.Layout.{Layout, words, paths, read_entry, Valid}
+use Rattle.x86_64_model.specs.Layout.{Layout}
+use Rattle.x86_64_model.specs.Mapper.{◌laid_in◌, Valid, paths, read_entry, words}
 use Rattle.x86_64_model.specs.Memory.{Memory, Distinct, word, words_of}
 use Rattle.x86_64_model.specs.PageRules.{AfterChange, refused_or}
 use Rattle.x86_64_model.specs.Path.{path_at}
@@ -36,40 +37,40 @@ use Rattle.x86_64_mappers.proofs.Way.Pages.{path_parted}
 
 -- a call on the entry of a page of a level, by what the entry says
 pub record IsEntryCall (l : Layout) (level : ℕ) (says : ℕ → Result (ℕ × ℕ) Refusal) (call : List ℕ → Call) (after : Memory → List ℕ → AfterChange) : Type 0 where
-  pub rule : (m : Memory) (q : List ℕ) → length q + level ≡ l.levels + 1 → after m q ≡ refused_or (paths l m) (first_stop (read_entry l m) q) (after_entry (paths l m) q (says (read_entry l m q)))
+  pub rule : (m : Memory) (q : List ℕ) → length q + level ≡ l.levels + 1 → after m q ≡ refused_or (paths (l laid_in m)) (first_stop (read_entry (l laid_in m)) q) (after_entry (paths (l laid_in m)) q (says (read_entry (l laid_in m) q)))
   pub does : (m : Memory) (q : List ℕ) → HasRule l m (call q) (after m q)
-  pub change : (m : Memory) (q : List ℕ) → length q + level ≡ l.levels + 1 → begins_with l.window q ≡ false → 0 < length q → (w frame : ℕ) → says (read_entry l m q) ≡ Ok (w, frame) → IsChange l.levels l.window (paths l m) q w
-  pub outside : (m : Memory) (q : List ℕ) → allowed l.levels l.window (paths l m) (call q) ≡ true → begins_with l.window q ≡ false
-  pub still : (m n : Memory) (q : List ℕ) → allowed l.levels l.window (paths l m) (call q) ≡ true → allowed l.levels l.window (paths l n) (call q) ≡ true
+  pub change : (m : Memory) (q : List ℕ) → length q + level ≡ l.levels + 1 → begins_with l.window q ≡ false → 0 < length q → (w frame : ℕ) → says (read_entry (l laid_in m) q) ≡ Ok (w, frame) → IsChange l.levels l.window (paths (l laid_in m)) q w
+  pub outside : (m : Memory) (q : List ℕ) → allowed l.levels l.window (paths (l laid_in m)) (call q) ≡ true → begins_with l.window q ≡ false
+  pub still : (m n : Memory) (q : List ℕ) → allowed l.levels l.window (paths (l laid_in m)) (call q) ≡ true → allowed l.levels l.window (paths (l laid_in n)) (call q) ≡ true
 
 -- what a change of an entry leaves of the way down to it
 pub record StaysFound (l : Layout) (m : Memory) (parents : List ℕ) (g : ℕ) (n : Memory) : Type 0 where
   pub found : IsFound l n parents (Ok g)
-  pub tables : (q : List ℕ) → table_at l.levels l.root (paths l n) q ≡ table_at l.levels l.root (paths l m) q
+  pub tables : (q : List ℕ) → table_at l.levels l.root (paths (l laid_in n)) q ≡ table_at l.levels l.root (paths (l laid_in m)) q
 
-module _ (l : Layout) (apart : Distinct l.places) (some : 0 < l.levels) (m : Memory) (valid : Valid l m) (x g : ℕ) (small : x < 512) (n : Memory) where
+module _ (l : Layout) (apart : Distinct l.places) (some : 0 < l.levels) (m : Memory) (valid : Valid (l laid_in m)) (x g : ℕ) (small : x < 512) (n : Memory) where
   -- it was written
-  wrote : (parents : List ℕ) → 0 < length parents → IsFound l m parents (Ok g) → (w : ℕ) → IsChange l.levels l.window (paths l m) (parents ++ x ∷ []) w → IsSet l.places m g x w n → StaysFound l m parents g n
+  wrote : (parents : List ℕ) → 0 < length parents → IsFound l m parents (Ok g) → (w : ℕ) → IsChange l.levels l.window (paths (l laid_in m)) (parents ++ x ∷ []) w → IsSet l.places m g x w n → StaysFound l m parents g n
   wrote [] above found w change set = absurd (omega (arith, above))
   wrote (i ∷ p) above found w change set =
       let out = first_alone l.window i (p ++ x ∷ []) p change.outside in
-      let leads : table_at l.levels l.root (paths l m) (i ∷ p) ≡ Some g = ap (table_of l.levels (i ∷ p)) (sym (entry_outside l.window (paths l m) i p out)) ∙ found.0.table in
+      let leads : table_at l.levels l.root (paths (l laid_in m)) (i ∷ p) ≡ Some g = ap (table_of l.levels (i ∷ p)) (sym (entry_outside l.window (paths (l laid_in m)) i p out)) ∙ found.0.table in
       let done = entry_changed l apart some m valid (i ∷ p) x w change g leads n set in record {
         found = found_on l apart m i p x w g out small found n set done.meant;
         tables = λ q. ap (λ (N : PathMap). table_at l.levels l.root N q) (sym done.meant)
-            ∙ same_tables_last l.levels l.root (paths l m) (i ∷ p) x w (change.same_table ∙ sym (table_at_last l.levels l.root (paths l m) (i ∷ p) x)) q;
+            ∙ same_tables_last l.levels l.root (paths (l laid_in m)) (i ∷ p) x w (change.same_table ∙ sym (table_at_last l.levels l.root (paths (l laid_in m)) (i ∷ p) x)) q;
       }
 
   -- it was written if it says so
-  pub stays_found : (parents : List ℕ) → 0 < length parents → IsFound l m parents (Ok g) → (says : ℕ → Result (ℕ × ℕ) Refusal) (e : ℕ) → word (words l m) g x ≡ e
-      → ((w frame : ℕ) → says e ≡ Ok (w, frame) → IsChange l.levels l.window (paths l m) (parents ++ x ∷ []) w) → IsSet l.places m g x (word_said e (says e)) n → StaysFound l m parents g n
+  pub stays_found : (parents : List ℕ) → 0 < length parents → IsFound l m parents (Ok g) → (says : ℕ → Result (ℕ × ℕ) Refusal) (e : ℕ) → word (words (l laid_in m)) g x ≡ e
+      → ((w frame : ℕ) → says e ≡ Ok (w, frame) → IsChange l.levels l.window (paths (l laid_in m)) (parents ++ x ∷ []) w) → IsSet l.places m g x (word_said e (says e)) n → StaysFound l m parents g n
   stays_found parents above found says e at change set = by (says e) refl set
     where
       by : (r : Result (ℕ × ℕ) Refusal) → says e ≡ r → IsSet l.places m g x (word_said e r) n → StaysFound l m parents g n
       by (Ok done) is set = wrote parents above found done.0 (change done.0 done.1 is) set
       by (Err why) is set =
           let same = set_same l.places apart m g x n small (subst (λ w. IsSet l.places m g x w n) (sym at) set) in
-          record { found = subst (λ n. IsFound l n parents (Ok g)) (sym same) found; tables = λ q. ap (λ n. table_at l.levels l.root (paths l n) q) same }
+          record { found = subst (λ n. IsFound l n parents (Ok g)) (sym same) found; tables = λ q. ap (λ n. table_at l.levels l.root (paths (l laid_in n)) q) same }
 
 -- ---- a run
 
@@ -78,7 +79,7 @@ abbrev pub calls_of : (L level page : ℕ) (call : List ℕ → Call) (count : �
 calls_of L level page call count = map (λ k. call (path_at L level (page + k * span level))) (range_with_len 0 count)
 
 module _ (l : Layout) (apart : Distinct l.places) (level : ℕ) (low : 1 ≤ level) (high : level ≤ 3) (levels : 3 < l.levels) (says : ℕ → Result (ℕ × ℕ) Refusal) (call : List ℕ → Call) (after : Memory → List ℕ → AfterChange)
-    (rules : IsEntryCall l level says call after) (m : Memory) (page total : ℕ) (may : (k : ℕ) → k < total → allowed l.levels l.window (paths l m) (call (path_at l.levels level (page + k * span level))) ≡ true)
+    (rules : IsEntryCall l level says call after) (m : Memory) (page total : ℕ) (may : (k : ℕ) → k < total → allowed l.levels l.window (paths (l laid_in m)) (call (path_at l.levels level (page + k * span level))) ≡ true)
     (done : ℕ) (now : Memory) (answers : List Reply) (run : IsChangeRun l m (calls_of l.levels level page call done) answers now) where
   abbrev L : ℕ
   L = l.levels
@@ -119,8 +120,8 @@ module _ (l : Layout) (apart : Distinct l.places) (level : ℕ) (low : 1 ≤ lev
     at_page : (P : List ℕ → Type 0) → P (path (done + k)) → P p
     at_page P h = subst P (later_path k small) h
 
-    allowed_now : allowed L l.window (paths l from) (call p) ≡ true
-    allowed_now = at_page (λ q. allowed L l.window (paths l from) (call q) ≡ true) (rules.still m from (path (done + k)) (may (done + k) inside))
+    allowed_now : allowed L l.window (paths (l laid_in from)) (call p) ≡ true
+    allowed_now = at_page (λ q. allowed L l.window (paths (l laid_in from)) (call q) ≡ true) (rules.still m from (path (done + k)) (may (done + k) inside))
 
     at_level : length p + level ≡ L + 1
     at_level = at_page (λ q. length q + level ≡ L + 1) (long k)
@@ -137,18 +138,18 @@ module _ (l : Layout) (apart : Distinct l.places) (level : ℕ) (low : 1 ≤ lev
     outside : begins_with l.window p ≡ false
     outside = rules.outside from p allowed_now
 
-    run_on : (answer : Answer) (o : Memory) → Ends l from (after from p) answer o → ((q : List ℕ) → table_at L l.root (paths l o) q ≡ table_at L l.root (paths l from) q)
+    run_on : (answer : Answer) (o : Memory) → Ends l from (after from p) answer o → ((q : List ℕ) → table_at L l.root (paths (l laid_in o)) q ≡ table_at L l.root (paths (l laid_in from)) q)
         → IsChangeRun l m (calls_of L level page call (done + k + 1)) (told ++ Answered answer ∷ []) o
     run_on answer o ends same =
         subst (λ calls. IsChangeRun l m calls (told ++ Answered answer ∷ []) o) (ap (λ q. calls_of L level page call (done + k) ++ call q ∷ []) (sym (later_path k small)) ∙ sym (calls_more (done + k)))
         (change_more l m (calls_of L level page call (done + k)) told from so_far (call p) allowed_now (after from p) (rules.does from p) answer o ends same)
 
     -- its entry decides
-    module _ (g e : ℕ) (found : IsFound l from parents (Ok g)) (is : word (words l from) g (i + k) ≡ e) (o : Memory) (set : IsSet l.places from g (i + k) (word_said e (says e)) o) where
-      read : read_entry l from p ≡ e
+    module _ (g e : ℕ) (found : IsFound l from parents (Ok g)) (is : word (words (l laid_in from)) g (i + k) ≡ e) (o : Memory) (set : IsSet l.places from g (i + k) (word_said e (says e)) o) where
+      read : read_entry (l laid_in from) p ≡ e
       read = found.0.entries (i + k) ∙ is
 
-      changes : (w frame : ℕ) → says (read_entry l from p) ≡ Ok (w, frame) → IsChange L l.window (paths l from) p w
+      changes : (w frame : ℕ) → says (read_entry (l laid_in from) p) ≡ Ok (w, frame) → IsChange L l.window (paths (l laid_in from)) p w
       changes = rules.change from p at_level outside (omega (arith, size))
 
       stay : StaysFound l from parents g o
@@ -157,8 +158,8 @@ module _ (l : Layout) (apart : Distinct l.places) (level : ℕ) (low : 1 ≤ lev
       ends : Ends l from (after from p) (answer_said (says e)) o
       ends =
           let last = ends_parted.1 in
-          let there : word (words l from) g (get_or p (length parents) 0) ≡ e = ap (word (words l from) g) last ∙ is in
-          let set' : IsSet l.places from g (get_or p (length parents) 0) (word_said (word (words l from) g (get_or p (length parents) 0)) (says (word (words l from) g (get_or p (length parents) 0)))) o =
+          let there : word (words (l laid_in from)) g (get_or p (length parents) 0) ≡ e = ap (word (words (l laid_in from)) g) last ∙ is in
+          let set' : IsSet l.places from g (get_or p (length parents) 0) (word_said (word (words (l laid_in from)) g (get_or p (length parents) 0)) (says (word (words (l laid_in from)) g (get_or p (length parents) 0)))) o =
           subst₂ (λ j e. IsSet l.places from g j (word_said e (says e)) o) (sym last) (sym there) set in
           subst (λ e. Ends l from (after from p) (answer_said (says e)) o) there
           (ended l from so_far.valid p (length parents) size says (after from p) (rules.rule from p at_level) g (subst (λ q. IsFound l from q (Ok g)) (sym ends_parted.0) found)
@@ -242,7 +243,7 @@ module _ (l : Layout) (apart : Distinct l.places) (level : ℕ) (low : 1 ≤ lev
 
 -- this for either kind of part
 module _ (l : Layout) (apart : Distinct l.places) (level : ℕ) (low : 1 ≤ level) (high : level ≤ 3) (levels : 3 < l.levels) (says : ℕ → Result (ℕ × ℕ) Refusal) (call : List ℕ → Call) (after : Memory → List ℕ → AfterChange)
-    (rules : IsEntryCall l level says call after) (m : Memory) (page total : ℕ) (may : (k : ℕ) → k < total → allowed l.levels l.window (paths l m) (call (path_at l.levels level (page + k * span level))) ≡ true)
+    (rules : IsEntryCall l level says call after) (m : Memory) (page total : ℕ) (may : (k : ℕ) → k < total → allowed l.levels l.window (paths (l laid_in m)) (call (path_at l.levels level (page + k * span level))) ≡ true)
     (done : ℕ) (now : Memory) (answers : List Reply) (run : IsChangeRun l m (calls_of l.levels level page call done) answers now)
     (count : ℕ) (within : done + count ≤ total) (more : List Reply) (o : Memory) where
   pub pages_changed : IsPartChanged l now level (page + done * span level) says count more o → IsChangeRun l m (calls_of l.levels level page call (done + count)) (answers ++ more) o

@@ -2,9 +2,9 @@
 use Rattle.std.proofs.Common.{◌≡◌, ℕ, true, cond, List, [], ◌∷◌, ◌++◌, refl, sym, ap, ap₂, ◌∙◌, subst}
 use Rattle.x86_64_model.specs.Allowed.{allowed}
 use Rattle.x86_64_model.specs.Call.{Call, Reply, Answered, NotAllowed}
-use Rattle.x86_64_model.specs.Layout.{Layout, paths, Valid}
+use Rattle.x86_64_model.specs.Layout.{Layout}
 use Rattle.x86_64_model.specs.Machine.{AfterCall, State, do_call, after_change, step, only_reply}
-use Rattle.x86_64_model.specs.Mapper.{Hierarchy, machine_of, state_in}
+use Rattle.x86_64_model.specs.Mapper.{◌laid_in◌, Hierarchy, machine_of, state_in, Valid, paths}
 use Rattle.x86_64_model.specs.Memory.{Memory}
 use Rattle.x86_64_model.specs.PageRules.{AfterChange}
 use Rattle.x86_64_model.specs.PathMap.{table_at}
@@ -16,7 +16,7 @@ use Rattle.x86_64_mappers.proofs.Entry.EntryEnds.{with_memory}
 use Rattle.x86_64_mappers.proofs.Entry.EntryRules.{Ends}
 
 -- before the first call
-pub no_changes : (l : Layout) (m : Memory) → Valid l m → IsChangeRun l m [] [] m
+pub no_changes : (l : Layout) (m : Memory) → Valid (l laid_in m) → IsChangeRun l m [] [] m
 no_changes l m valid = record {
   replies = λ pool take_back. refl;
   state = λ pool take_back. refl;
@@ -32,8 +32,8 @@ HasRule l m call after = (pool : List ℕ) (take_back : List ℕ → ℕ → Lis
 
 -- one call more
 module _ (l : Layout) (m : Memory) (calls : List Call) (answers : List Reply) (n : Memory) (run : IsChangeRun l m calls answers n)
-    (call : Call) (may : allowed l.levels l.window (paths l n) call ≡ true) (after : AfterChange) (rule : HasRule l n call after) (answer : Answer) (o : Memory) (ends : Ends l n after answer o)
-    (same : (q : List ℕ) → table_at l.levels l.root (paths l o) q ≡ table_at l.levels l.root (paths l n) q) where
+    (call : Call) (may : allowed l.levels l.window (paths (l laid_in n)) call ≡ true) (after : AfterChange) (rule : HasRule l n call after) (answer : Answer) (o : Memory) (ends : Ends l n after answer o)
+    (same : (q : List ℕ) → table_at l.levels l.root (paths (l laid_in o)) q ≡ table_at l.levels l.root (paths (l laid_in n)) q) where
   one : (pool : List ℕ) (take_back : List ℕ → ℕ → List ℕ) → step (machine_of l take_back) (state_in l n pool) call ≡ record { state = state_in l o pool; reply = Answered answer }
   one pool take_back = ap (λ b. cond b (do_call (machine_of l take_back) (state_in l n pool) call) (only_reply (state_in l n pool) NotAllowed)) may
       ∙ rule pool take_back ∙ ap₂ (λ M a. after_change pool (record { paths = M; answer = a })) ends.changed.meant ends.answers

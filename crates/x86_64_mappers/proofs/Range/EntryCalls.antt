@@ -1,7 +1,8 @@
 -- Unmaps, and changes of a page's flags, as calls on the entry of a page.
 use Rattle.std.proofs.Common.{◌≤◌, ℕ, refl}
 use Rattle.x86_64_model.specs.Call.{Unmap, UpdateFlags}
-use Rattle.x86_64_model.specs.Layout.{Layout, paths}
+use Rattle.x86_64_model.specs.Layout.{Layout}
+use Rattle.x86_64_model.specs.Mapper.{◌laid_in◌, paths}
 use Rattle.x86_64_model.specs.Machine.{do_call}
 use Rattle.x86_64_model.specs.private.MapperCalls.{after_unmap, after_update}
 use Rattle.x86_64_mappers.specs.private.PageCalls.{unmap_says, update_says}
@@ -15,7 +16,7 @@ module _ (l : Layout) (level : ℕ) (high : level ≤ 3) where
     rule = λ m q at_level. unmap_rule l m level q at_level;
     does = λ m q pool take_back. refl;
     change = λ m q at_level out some w frame said. unmap_changes l m level q at_level out high some w frame said;
-    outside = λ m q may. unmap_outside l.levels l.window (paths l m) q may;
+    outside = λ m q may. unmap_outside l.levels l.window (paths (l laid_in m)) q may;
     still = λ m n q may. may;
   }
 
@@ -25,6 +26,6 @@ module _ (l : Layout) (level : ℕ) (high : level ≤ 3) where
     rule = λ m q at_level. update_rule l m level q at_level given;
     does = λ m q pool take_back. refl;
     change = λ m q at_level out some w frame said. update_changes l m level q at_level out high some given w frame said;
-    outside = λ m q may. update_outside l.levels l.window (paths l m) q given may;
+    outside = λ m q may. update_outside l.levels l.window (paths (l laid_in m)) q given may;
     still = λ m n q may. may;
   }

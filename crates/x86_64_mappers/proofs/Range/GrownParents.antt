@@ -2,7 +2,8 @@
 use Rattle.std.proofs.Common.{◌≡◌, ◌||◌, ℕ, Bool, true, false, not, cond, List, [], ◌∷◌, find, Option, Some, refl, sym, ap₂, ◌∙◌, subst}
 use Rattle.x86_64_model.specs.Allowed.{none_absent, parents_present}
 use Rattle.x86_64_model.specs.Entry.{IsParentFlags, present, huge}
-use Rattle.x86_64_model.specs.Layout.{Layout, paths, IsReady}
+use Rattle.x86_64_model.specs.Layout.{Layout}
+use Rattle.x86_64_model.specs.Mapper.{◌laid_in◌, SupplyFits, paths}
 use Rattle.x86_64_model.specs.MapRule.{AfterMap}
 use Rattle.x86_64_model.specs.Memory.{Memory}
 use Rattle.x86_64_model.specs.Path.{parents}
@@ -49,9 +50,9 @@ module _ (more : ℕ) (marks : IsParentFlags more) (M N : PathMap) (grows : Grow
       by true h = refl
       by false h = none_absent_still (parents q) h
 
-pub parents_mapped : (l : Layout) (m : Memory) (s : List ℕ) → IsReady l m s → (more : ℕ) → IsParentFlags more → (q : List ℕ) (e frame : ℕ) (answer : Answer) (n : Memory) (rest : List ℕ)
-    → IsPathMapped l m s more q e frame answer n rest → (p : List ℕ) → parents_present (paths l m) more p ≡ true → parents_present (paths l n) more p ≡ true
+pub parents_mapped : (l : Layout) (m : Memory) (s : List ℕ) → SupplyFits (l laid_in m) s → (more : ℕ) → IsParentFlags more → (q : List ℕ) (e frame : ℕ) (answer : Answer) (n : Memory) (rest : List ℕ)
+    → IsPathMapped l m s more q e frame answer n rest → (p : List ℕ) → parents_present (paths (l laid_in m)) more p ≡ true → parents_present (paths (l laid_in n)) more p ≡ true
 parents_mapped l m s ready more marks q e frame answer n rest mapped p before =
-    let descends = page_descends l.levels l.root (paths l m) (tree_of_holds l.levels (words_read l m) l.root (paths l m) ready.valid.valid.holds) q in
-    let grows : Grows more (paths l m) (paths l n) = subst (λ (a : AfterMap). Grows more (paths l m) a.paths) mapped.outcome (map_grows more l.added_flags q e frame (paths l m) s (parents q) descends) in
-    parents_grown more marks (paths l m) (paths l n) grows p before
+    let descends = page_descends l.levels l.root (paths (l laid_in m)) (tree_of_holds l.levels (words_read l m) l.root (paths (l laid_in m)) ready.valid.valid.holds) q in
+    let grows : Grows more (paths (l laid_in m)) (paths (l laid_in n)) = subst (λ (a : AfterMap). Grows more (paths (l laid_in m)) a.paths) mapped.outcome (map_grows more l.added_flags q e frame (paths (l laid_in m)) s (parents q) descends) in
+    parents_grown more marks (paths (l laid_in m)) (paths (l laid_in n)) grows p before

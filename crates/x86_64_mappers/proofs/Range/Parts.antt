@@ -4,7 +4,8 @@ use Rattle.std.proofs.Math.Nat.{add-mul}
 use Rattle.x86_64_model.specs.Allowed.{map_allowed}
 use Rattle.x86_64_model.specs.Call.{Reply, Answered}
 use Rattle.x86_64_model.specs.Entry.{IsParentFlags}
-use Rattle.x86_64_model.specs.Layout.{Layout, paths}
+use Rattle.x86_64_model.specs.Layout.{Layout}
+use Rattle.x86_64_model.specs.Mapper.{◌laid_in◌, paths}
 use Rattle.x86_64_model.specs.MapRule.{leaf_entry}
 use Rattle.x86_64_model.specs.Memory.{Memory, Distinct}
 use Rattle.x86_64_model.specs.Path.{path_at}
@@ -36,7 +37,7 @@ pub record IsSetUp (l : Layout) (m : Memory) (r : MapRange) (total : ℕ) : Type
   pub low : 1 ≤ r.level
   pub high : r.level ≤ 3
   pub levels : 3 < l.levels
-  pub allowed : (k : ℕ) → k < total → map_allowed l.levels l.window (paths l m) (path_at l.levels r.level (page_at r k)) r.flags r.parent_flags ≡ true
+  pub allowed : (k : ℕ) → k < total → map_allowed l.levels l.window (paths (l laid_in m)) (path_at l.levels r.level (page_at r k)) r.flags r.parent_flags ≡ true
 
 module _ (l : Layout) (m : Memory) (s : List ℕ) (r : MapRange) (total : ℕ) (given : IsSetUp l m r total) (done : ℕ) (now : Memory) (left : List ℕ) (run : IsRun l m s r done (accepted r done) now left) where
   abbrev L : ℕ
@@ -88,11 +89,11 @@ module _ (l : Layout) (m : Memory) (s : List ℕ) (r : MapRange) (total : ℕ) (
     abbrev frame : ℕ
     frame = frame_at r (done + k)
 
-    may : map_allowed L l.window (paths l from) p r.flags more ≡ true
-    may = allowed_still L l.window (paths l m) (paths l from) p r.flags more (so_far.parents p) (given.allowed (done + k) inside)
+    may : map_allowed L l.window (paths (l laid_in from)) p r.flags more ≡ true
+    may = allowed_still L l.window (paths (l laid_in m)) (paths (l laid_in from)) p r.flags more (so_far.parents p) (given.allowed (done + k) inside)
 
     outside : begins_with l.window (parents ++ (i + k) ∷ []) ≡ false
-    outside = ap (begins_with l.window) (sym (later_path k small)) ∙ (map_may L l.window (paths l from) p r.flags more may).outside
+    outside = ap (begins_with l.window) (sym (later_path k small)) ∙ (map_may L l.window (paths (l laid_in from)) p r.flags more may).outside
 
     -- the word of the page's entry is the one that the map asks for
     word_is : page_word level (a + k * span level) r.flags ≡ leaf_entry L p frame r.flags

@@ -6,10 +6,10 @@ use Rattle.x86_64_model.specs.Allowed.{map_allowed, parents_present}
 use Rattle.x86_64_model.specs.Arrivals.{Arrives, Better}
 use Rattle.x86_64_model.specs.Call.{Reply, Answered, NotAllowed}
 use Rattle.x86_64_model.specs.Entry.{IsParentFlags}
-use Rattle.x86_64_model.specs.Layout.{Layout, paths, walk, IsReady}
+use Rattle.x86_64_model.specs.Layout.{Layout}
 use Rattle.x86_64_model.specs.Machine.{AfterCall, State, do_call, after_map, step, only_reply, replies_of, state_after}
 use Rattle.x86_64_model.specs.MapRule.{leaf_entry}
-use Rattle.x86_64_model.specs.Mapper.{Hierarchy, machine_of, state_in}
+use Rattle.x86_64_model.specs.Mapper.{◌laid_in◌, Hierarchy, machine_of, state_in, SupplyFits, paths, walk}
 use Rattle.x86_64_model.specs.Memory.{Memory}
 use Rattle.x86_64_model.specs.PageWalk.{Walked}
 use Rattle.x86_64_model.specs.Path.{path_at}
@@ -20,7 +20,7 @@ use Rattle.x86_64_model.proofs.Lemmas.Machines.Owners.{does_map}
 use Rattle.x86_64_model.proofs.Lemmas.Maps.Mapped.{walks_after}
 use Rattle.x86_64_model.proofs.Lemmas.Runs.Runs.{replies_append, state_append}
 use Rattle.x86_64_mappers.specs.Ranges.{MapRange, DoesMaps, IsNextMap, MapsEach, page_at, frame_at, map_at, maps, accepted}
-use Rattle.x86_64_mappers.specs.private.RangeSteps.{IsRun, in_memory}
+use Rattle.x86_64_mappers.specs.private.RangeSteps.{IsRun}
 use Rattle.x86_64_mappers.proofs.Entry.EntryEnds.{with_memory}
 use Rattle.x86_64_mappers.proofs.Map.OwnedWays.{owned_nothing, owned_then}
 use Rattle.x86_64_mappers.proofs.Map.StepOutcomes.{IsPathMapped}
@@ -74,12 +74,12 @@ maps_more : (L : ℕ) (r : MapRange) (k : ℕ) → maps L r (k + 1) ≡ maps L r
 maps_more L r k = map-range_with_len_more (λ k. map_at L r k) 0 k k (let e : 0 + k ≡ k = omega arith in e)
 
 -- before the first map
-pub no_maps : (l : Layout) (m : Memory) (s : List ℕ) → IsReady l m s → (r : MapRange) → IsRun l m s r 0 (accepted r 0) m s
+pub no_maps : (l : Layout) (m : Memory) (s : List ℕ) → SupplyFits (l laid_in m) s → (r : MapRange) → IsRun l m s r 0 (accepted r 0) m s
 no_maps l m s ready r = record {
   replies = λ take_back. refl;
   state = λ take_back. refl;
   owned = owned_nothing l m s ready;
-  walks = λ p. arrives_itself r.parent_flags (walk l m p);
+  walks = λ p. arrives_itself r.parent_flags (walk (l laid_in m) p);
   each = (refl, refl, refl);
   parents = λ q h. h;
 }
@@ -89,21 +89,21 @@ module _ (l : Layout) (m : Memory) (s : List ℕ) (r : MapRange) (k : ℕ) (mark
   q = path_at l.levels r.level (page_at r k)
 
   -- one map more
-  module _ (allowed : map_allowed l.levels l.window (paths l n) q r.flags r.parent_flags ≡ true) (answer : Answer) (o : Memory) (fs : List ℕ)
+  module _ (allowed : map_allowed l.levels l.window (paths (l laid_in n)) q r.flags r.parent_flags ≡ true) (answer : Answer) (o : Memory) (fs : List ℕ)
       (mapped : IsPathMapped l n rest r.parent_flags q (leaf_entry l.levels q (frame_at r k) r.flags) (frame_at r k) answer o fs) where
     one : (take_back : List ℕ → ℕ → List ℕ) → step (machine_of l take_back) (state_in l n rest) (map_at l.levels r k) ≡ record { state = state_in l o fs; reply = Answered answer }
     unfolding do_call
     one take_back = ap (λ b. cond b (do_call (machine_of l take_back) (state_in l n rest) (map_at l.levels r k)) (only_reply (state_in l n rest) NotAllowed)) allowed
         ∙ ap after_map mapped.outcome
 
-    walks_on : (p : ℕ) → Arrives r.parent_flags (walk l n p) (walk l o p)
+    walks_on : (p : ℕ) → Arrives r.parent_flags (walk (l laid_in n) p) (walk (l laid_in o) p)
     walks_on = walks_after l n rest q (frame_at r k) r.flags r.parent_flags answer o fs marks run.owned.ready mapped.outcome mapped.owned.ready
 
-    next : IsNextMap (in_memory l n) rest (map_at l.levels r k) replies (replies ++ Answered answer ∷ []) (in_memory l o) fs
+    next : IsNextMap (l laid_in n) rest (map_at l.levels r k) replies (replies ++ Answered answer ∷ []) (l laid_in o) fs
     next = record {
       answer = answer;
       may = record { fits = run.owned.ready; allowed = allowed };
-      does = does_map (in_memory l n) rest q (frame_at r k) r.flags r.parent_flags answer o fs (record { outcome = mapped.outcome; ready = mapped.owned.ready; others = mapped.owned.others; walks = walks_on });
+      does = does_map (l laid_in n) rest q (frame_at r k) r.flags r.parent_flags answer o fs (record { outcome = mapped.outcome; ready = mapped.owned.ready; others = mapped.owned.others; walks = walks_on });
       last = refl;
     }
 
@@ -124,8 +124,8 @@ module _ (l : Layout) (m : Memory) (s : List ℕ) (r : MapRange) (k : ℕ) (mark
           ∙ ap (λ (t : State). (step machine t (map_at l.levels r k)).state) (run.state take_back)
           ∙ ap (λ (x : AfterCall). x.state) (one take_back);
       owned = owned_then l m s n rest o fs run.owned mapped.owned;
-      walks = λ p. arrives_then r.parent_flags (walk l m p) (walk l n p) (walk l o p) (run.walks p) (walks_on p);
-      each = subst (λ j. MapsEach (in_memory l m) s r j (replies ++ Answered answer ∷ []) (in_memory l o) fs) (sym (add-one k)) (in_memory l n, rest, replies, run.each, next);
+      walks = λ p. arrives_then r.parent_flags (walk (l laid_in m) p) (walk (l laid_in n) p) (walk (l laid_in o) p) (run.walks p) (walks_on p);
+      each = subst (λ j. MapsEach (l laid_in m) s r j (replies ++ Answered answer ∷ []) (l laid_in o) fs) (sym (add-one k)) ((l laid_in n), rest, replies, run.each, next);
       parents = λ p h. parents_mapped l n rest run.owned.ready r.parent_flags marks q (leaf_entry l.levels q (frame_at r k) r.flags) (frame_at r k) answer o fs mapped p (run.parents p h);
     }
 
@@ -161,7 +161,7 @@ ends_run h supply r k replies after rest layout lent run = subst (λ h'. DoesMap
   fits = run.owned.ready;
   others = run.owned.others;
   walks = run.walks;
-  each = each_with h.lent (in_memory h.layout h.memory) supply r k replies (in_memory h.layout after.memory) rest run.each;
+  each = each_with h.lent (h.layout laid_in h.memory) supply r k replies (h.layout laid_in after.memory) rest run.each;
   layout = refl;
   lent = refl;
 })

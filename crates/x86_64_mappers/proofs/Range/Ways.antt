@@ -5,7 +5,8 @@ use Rattle.std.specs.Int.{bit_at}
 use Rattle.std.proofs.lemmas.Bool.{and_parts, not-true}
 use Rattle.std.specs.List.{AllByRecursion}
 use Rattle.x86_64_model.specs.Entry.{IsParentFlags, has, used}
-use Rattle.x86_64_model.specs.Layout.{Layout, words, paths, IsReady}
+use Rattle.x86_64_model.specs.Layout.{Layout}
+use Rattle.x86_64_model.specs.Mapper.{◌laid_in◌, SupplyFits, paths, words}
 use Rattle.x86_64_model.specs.MapRule.{AfterMap, map_rule}
 use Rattle.x86_64_model.specs.Memory.{Memory, Distinct, word}
 use Rattle.x86_64_model.specs.Path.{parents}
@@ -54,9 +55,9 @@ flags_there : (more e : ℕ) → IsParent more e → bit_or e more ≡ e
 unfolding has
 flags_there more e parent = or_part e more (eqb-true (bit_and e more) more (parent.has_flags more (has_itself more)))
 
-module _ (l : Layout) (m : Memory) (s : List ℕ) (ready : IsReady l m s) (more : ℕ) where
+module _ (l : Layout) (m : Memory) (s : List ℕ) (ready : SupplyFits (l laid_in m) s) (more : ℕ) where
   abbrev M : PathMap
-  M = paths l m
+  M = paths (l laid_in m)
 
   abbrev AreParents : List (List ℕ) → Type 0
   AreParents ps = AllByRecursion (λ p. IsParent more (entry M p)) ps
@@ -91,20 +92,20 @@ module _ (l : Layout) (m : Memory) (s : List ℕ) (ready : IsReady l m s) (more 
   }
 
 -- an accepted map leaves parents that have the parent flags
-pub parents_marked : (l : Layout) → IsParentFlags l.added_flags → (m : Memory) (s : List ℕ) → IsReady l m s → (more : ℕ) → IsParentFlags more → (q : List ℕ) (e frame : ℕ) (n : Memory) (rest : List ℕ)
-    → IsPathMapped l m s more q e frame (Done frame) n rest → AllByRecursion (λ p. IsParent more (entry (paths l n) p)) (parents q)
+pub parents_marked : (l : Layout) → IsParentFlags l.added_flags → (m : Memory) (s : List ℕ) → SupplyFits (l laid_in m) s → (more : ℕ) → IsParentFlags more → (q : List ℕ) (e frame : ℕ) (n : Memory) (rest : List ℕ)
+    → IsPathMapped l m s more q e frame (Done frame) n rest → AllByRecursion (λ p. IsParent more (entry (paths (l laid_in n)) p)) (parents q)
 parents_marked l adds m s ready more marks q e frame n rest mapped =
-    let made = map_makes more l.added_flags q e frame marks adds (paths l m) s (parents q)
-    (page_descends l.levels l.root (paths l m) (tree_of_holds l.levels (words_read l m) l.root (paths l m) ready.valid.valid.holds) q)
+    let made = map_makes more l.added_flags q e frame marks adds (paths (l laid_in m)) s (parents q)
+    (page_descends l.levels l.root (paths (l laid_in m)) (tree_of_holds l.levels (words_read l m) l.root (paths (l laid_in m)) ready.valid.valid.holds) q)
     (supply_frames l m s ready) (ap (λ (a : AfterMap). a.answer) mapped.outcome) in
     subst (λ (a : AfterMap). AllByRecursion (λ p. IsParent more (entry a.paths p)) (parents q)) mapped.outcome made.1
 
 -- the entry of a page leaves the table that its parents lead to
-pub still_leads : (l : Layout) (apart : Distinct l.places) (at_least_four : 0 < l.levels) (m : Memory) (path : List ℕ) (x f : ℕ) → table_at l.levels l.root (paths l m) path ≡ Some f → x < 512 → Beside l.window l.root f x
-    → (s : List ℕ) → IsReady l m s → (w : ℕ) → IsLeaf l.levels (path ++ x ∷ []) w → used (word (words l m) f x) ≡ false → (n : Memory) → IsSet l.places m f x w n
-    → table_at l.levels l.root (paths l n) path ≡ Some f
+pub still_leads : (l : Layout) (apart : Distinct l.places) (at_least_four : 0 < l.levels) (m : Memory) (path : List ℕ) (x f : ℕ) → table_at l.levels l.root (paths (l laid_in m)) path ≡ Some f → x < 512 → Beside l.window l.root f x
+    → (s : List ℕ) → SupplyFits (l laid_in m) s → (w : ℕ) → IsLeaf l.levels (path ++ x ∷ []) w → used (word (words (l laid_in m)) f x) ≡ false → (n : Memory) → IsSet l.places m f x w n
+    → table_at l.levels l.root (paths (l laid_in n)) path ≡ Some f
 still_leads l apart at_least_four m path x f leads small beside s ready w leaf unused n set =
     let none = unused_leads l apart at_least_four m path x f leads small beside s ready unused in
     let wrote = written l apart at_least_four m path x f leads small beside s ready w n set none leaf.no_table leaf.none_huge in
     ap (λ N. table_at l.levels l.root N path) (sym wrote.0)
-    ∙ same_tables_last l.levels l.root (paths l m) path x w (leaf.no_table ∙ sym none) path ∙ leads
+    ∙ same_tables_last l.levels l.root (paths (l laid_in m)) path x w (leaf.no_table ∙ sym none) path ∙ leads

@@ -3,7 +3,8 @@ use Rattle.std.proofs.Common.{zero, suc, ◌≡◌, ◌<◌, ◌≤◌, ◌+◌,
 use Rattle.std.proofs.Math.Seq.{take-suc}
 use Rattle.std.proofs.lemmas.Bool.{le-leb, leb-false, leb-true}
 use Rattle.x86_64_model.specs.Entry.{used, present, huge, address, flags, names_table}
-use Rattle.x86_64_model.specs.Layout.{Layout, Valid, words, paths, read_entry}
+use Rattle.x86_64_model.specs.Layout.{Layout}
+use Rattle.x86_64_model.specs.Mapper.{◌laid_in◌, Valid, paths, read_entry, words}
 use Rattle.x86_64_model.proofs.Lemmas.Entries.Words.{address_aligned}
 use Rattle.x86_64_model.proofs.Lemmas.Walks.Agrees.{reads}
 use Rattle.x86_64_model.proofs.Lemmas.Walks.Walked.{Reads, one_more, names}
@@ -169,12 +170,12 @@ module _ {L : ℕ} {T : Words} {root : ℕ} {E : List ℕ → ℕ} {p level fram
 
 -- the first k indices are done
 pub record IsSoughtAt (l : Layout) (m : Memory) (indices : List ℕ) (p k frame : ℕ) : Type 0 where
-  pub way : IsWalked l.levels (words l m) l.root (read_entry l m) p (l.levels - k) frame
+  pub way : IsWalked l.levels (words (l laid_in m)) l.root (read_entry (l laid_in m)) p (l.levels - k) frame
   pub reached : IsReached l m (take k indices) frame
 
-pub sought_first : (l : Layout) (m : Memory) (indices : List ℕ) (p : ℕ) → Valid l m → IsSoughtAt l m indices p 0 l.root
-sought_first l m indices p valid = let reads = reads l.levels (words l m) l.root (paths l m) l.window valid in record {
-  way = subst (λ n. IsWalked l.levels (words l m) l.root (read_entry l m) p n l.root) (let e : l.levels ≡ l.levels - 0 = omega arith in e) (starts l.levels (words l m) l.root (read_entry l m) p reads);
+pub sought_first : (l : Layout) (m : Memory) (indices : List ℕ) (p : ℕ) → Valid (l laid_in m) → IsSoughtAt l m indices p 0 l.root
+sought_first l m indices p valid = let reads = reads l.levels (words (l laid_in m)) l.root (paths (l laid_in m)) l.window valid in record {
+  way = subst (λ n. IsWalked l.levels (words (l laid_in m)) l.root (read_entry (l laid_in m)) p n l.root) (let e : l.levels ≡ l.levels - 0 = omega arith in e) (starts l.levels (words (l laid_in m)) l.root (read_entry (l laid_in m)) p reads);
   reached = (here_first l m indices valid).reached;
 }
 
@@ -190,12 +191,12 @@ module _ (l : Layout) (m : Memory) (indices : List ℕ) (p : ℕ) (long : length
   inside = subst (λ n. k < n) (sym long) within
 
   pub sought_next : (frame : ℕ) → IsSoughtAt l m indices p k frame → k + 1 < l.levels → (i : ℕ) → i ≡ index (l.levels - k) p → i < 512
-      → (e : ℕ) → e ≡ word (words l m) frame i → (table : ℕ) → Ok table ≡ frame_of e → IsSoughtAt l m indices p (k + 1) table
+      → (e : ℕ) → e ≡ word (words (l laid_in m)) frame i → (table : ℕ) → Ok table ≡ frame_of e → IsSoughtAt l m indices p (k + 1) table
   sought_next frame here more i read small e value table names =
       let level : l.levels - (k + 1) ≡ l.levels - k - 1 = omega (arith, more) in
       let item : i ≡ get_or indices k 0 = read ∙ sym (ap (λ q. get_or q k 0) is ∙ index_at l.levels p k within) in
-      let way = found_table here.way e (omega (arith, more)) (value ∙ ap (word (words l m) frame) read) table names in record {
-        way = subst (λ n. IsWalked l.levels (words l m) l.root (read_entry l m) p n table) (sym level) way;
+      let way = found_table here.way e (omega (arith, more)) (value ∙ ap (word (words (l laid_in m)) frame) read) table names in record {
+        way = subst (λ n. IsWalked l.levels (words (l laid_in m)) l.root (read_entry (l laid_in m)) p n table) (sym level) way;
         reached = subst (λ t. IsReached l m t table) (sym (ap (λ j. take j indices) (add-one k) ∙ take-suc indices k 0 inside ∙ ap (λ j. take k indices ++ j ∷ []) (sym item)))
             (reached_next l m (take k indices) frame i table here.reached small (below e table (next_table e table names) ∙ ap table_below value) way.there);
       }

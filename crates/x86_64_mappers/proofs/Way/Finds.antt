@@ -4,7 +4,8 @@ use Rattle.std.proofs.lemmas.List.{length-append, length-take, map-id, take_all,
 use Rattle.std.proofs.Math.Seq.{take-suc, drop-cons}
 use Rattle.std.specs.Prelude.{Result}
 use Rattle.x86_64_model.specs.Entry.{present, huge, address, names_table}
-use Rattle.x86_64_model.specs.Layout.{Layout, words, paths, read_entry, Valid}
+use Rattle.x86_64_model.specs.Layout.{Layout}
+use Rattle.x86_64_model.specs.Mapper.{◌laid_in◌, Valid, paths, read_entry, words}
 use Rattle.x86_64_model.specs.Memory.{Memory, word}
 use Rattle.x86_64_model.specs.Path.{parents}
 use Rattle.x86_64_model.specs.PathMap.{table_of}
@@ -27,7 +28,7 @@ stop_from E pre r = option_map (λ p. cond (present (E p)) ParentEntryHugePage P
 -- the walk so far: done are the indices up to the table in a frame, and left those to come
 pub record IsOnWay (l : Layout) (m : Memory) (path done left : List ℕ) (frame : ℕ) : Type 0 where
   pub leads : LeadsTo l m done frame
-  pub stop : (last : ℕ) → stop_from (read_entry l m) [] (path ++ last ∷ []) ≡ stop_from (read_entry l m) done (left ++ last ∷ [])
+  pub stop : (last : ℕ) → stop_from (read_entry (l laid_in m)) [] (path ++ last ∷ []) ≡ stop_from (read_entry (l laid_in m)) done (left ++ last ∷ [])
 
 -- ---- the first stop, at the next parent
 
@@ -82,23 +83,23 @@ table_last : (L root : ℕ) (E : List ℕ → ℕ) (p : List ℕ) (i : ℕ) → 
 table_last L root E [] i = refl
 table_last L root E (j ∷ p) i = refl
 
-pub way_start : (l : Layout) (m : Memory) (path : List ℕ) → Valid l m → IsOnWay l m path [] path l.root
-way_start l m path valid = let r = reads l.levels (words l m) l.root (paths l m) l.window valid in record {
+pub way_start : (l : Layout) (m : Memory) (path : List ℕ) → Valid (l laid_in m) → IsOnWay l m path [] path l.root
+way_start l m path valid = let r = reads l.levels (words (l laid_in m)) l.root (paths (l laid_in m)) l.window valid in record {
   leads = record { table = refl; there = r.root_there; entries = r.first };
   stop = λ last. refl;
 }
 
 pub way_end : (l : Layout) (m : Memory) (path : List ℕ) (frame : ℕ) → IsOnWay l m path path [] frame → IsFound l m path (Ok frame)
-way_end l m path frame way = (way.leads, λ last. sym (stop_from_root (read_entry l m) (path ++ last ∷ [])) ∙ way.stop last)
+way_end l m path frame way = (way.leads, λ last. sym (stop_from_root (read_entry (l laid_in m)) (path ++ last ∷ [])) ∙ way.stop last)
 
-module _ (l : Layout) (m : Memory) (valid : Valid l m) (path done left : List ℕ) (i f : ℕ) (room : length (done ++ i ∷ []) < l.levels) (here : IsOnWay l m path done (i ∷ left) f) where
+module _ (l : Layout) (m : Memory) (valid : Valid (l laid_in m)) (path done left : List ℕ) (i f : ℕ) (room : length (done ++ i ∷ []) < l.levels) (here : IsOnWay l m path done (i ∷ left) f) where
   abbrev E : List ℕ → ℕ
-  E = read_entry l m
+  E = read_entry (l laid_in m)
 
-  same : word (words l m) f i ≡ E (done ++ i ∷ [])
+  same : word (words (l laid_in m)) f i ≡ E (done ++ i ∷ [])
   same = sym (here.leads.entries i)
 
-  way_next : (g : ℕ) → Ok g ≡ table_below (word (words l m) f i) → IsOnWay l m path (done ++ i ∷ []) left g
+  way_next : (g : ℕ) → Ok g ≡ table_below (word (words (l laid_in m)) f i) → IsOnWay l m path (done ++ i ∷ []) left g
   unfolding table_of
   way_next g is = record { leads = leads; stop = λ last. here.stop last ∙ next_stop E done i left last ∙ ap (λ r. stop_or r (stop_from E (done ++ i ∷ []) (left ++ last ∷ []))) (sym below) }
     where
@@ -112,30 +113,30 @@ module _ (l : Layout) (m : Memory) (valid : Valid l m) (path done left : List �
       named = names (E (done ++ i ∷ [])) n.is_present n.not_huge
 
       leads : LeadsTo l m (done ++ i ∷ []) g
-      leads = let r = reads l.levels (words l m) l.root (paths l m) l.window valid in record {
+      leads = let r = reads l.levels (words (l laid_in m)) l.root (paths (l laid_in m)) l.window valid in record {
         table = table_last l.levels l.root E done i ∙ ap₂ (λ b c. cond (b && c) (Some (address (E (done ++ i ∷ [])))) None) named (lt-ltb (length (done ++ i ∷ [])) l.levels room) ∙ ap Some (sym n.address);
-        there = subst (λ g. IsSome (words l m g)) (sym n.address) (r.there (done ++ i ∷ []) named room);
-        entries = λ j. r.next (done ++ i ∷ []) j named room ∙ ap (λ g. word (words l m) g j) (sym n.address);
+        there = subst (λ g. IsSome (words (l laid_in m) g)) (sym n.address) (r.there (done ++ i ∷ []) named room);
+        entries = λ j. r.next (done ++ i ∷ []) j named room ∙ ap (λ g. word (words (l laid_in m)) g j) (sym n.address);
       }
 
-  way_stop : (why : Refusal) → Err why ≡ table_below (word (words l m) f i) → IsFound l m path (Err why)
+  way_stop : (why : Refusal) → Err why ≡ table_below (word (words (l laid_in m)) f i) → IsFound l m path (Err why)
   way_stop why is last = sym (stop_from_root E (path ++ last ∷ [])) ∙ here.stop last ∙ next_stop E done i left last
       ∙ ap (λ r. stop_or r (stop_from E (done ++ i ∷ []) (left ++ last ∷ []))) (sym (is ∙ ap table_below same))
 
 -- ---- a turn of the loop over the parents
 
-module _ (l : Layout) (m : Memory) (valid : Valid l m) (path : List ℕ) (levels : length path < l.levels) (k : ℕ) (within : k < length path) (f : ℕ) (here : IsOnWay l m path (take k path) (drop k path) f) where
+module _ (l : Layout) (m : Memory) (valid : Valid (l laid_in m)) (path : List ℕ) (levels : length path < l.levels) (k : ℕ) (within : k < length path) (f : ℕ) (here : IsOnWay l m path (take k path) (drop k path) f) where
   room : length (take k path ++ get_or path k 0 ∷ []) < l.levels
   room = simp length-append (omega (arith, length-take k path))
 
   parted : IsOnWay l m path (take k path) (get_or path k 0 ∷ drop (suc k) path) f
   parted = subst (λ d. IsOnWay l m path (take k path) d f) (drop-cons path k 0 within) here
 
-  pub find_next : (g : ℕ) → Ok g ≡ table_below (word (words l m) f (get_or path k 0)) → IsOnWay l m path (take (k + 1) path) (drop (k + 1) path) g
+  pub find_next : (g : ℕ) → Ok g ≡ table_below (word (words (l laid_in m)) f (get_or path k 0)) → IsOnWay l m path (take (k + 1) path) (drop (k + 1) path) g
   find_next g is = subst (λ j. IsOnWay l m path (take j path) (drop j path) g) (sym (add-one k))
       (subst (λ t. IsOnWay l m path t (drop (suc k) path) g) (sym (take-suc path k 0 within)) (way_next l m valid path (take k path) (drop (suc k) path) (get_or path k 0) f room parted g is))
 
-  pub find_stop : (why : Refusal) → Err why ≡ table_below (word (words l m) f (get_or path k 0)) → IsFound l m path (Err why)
+  pub find_stop : (why : Refusal) → Err why ≡ table_below (word (words (l laid_in m)) f (get_or path k 0)) → IsFound l m path (Err why)
   find_stop why is = way_stop l m valid path (take k path) (drop (suc k) path) (get_or path k 0) f room parted why is
 
 pub find_end : (l : Layout) (m : Memory) (path : List ℕ) (k g : ℕ) → length path ≤ k → IsOnWay l m path (take k path) (drop k path) g → IsFound l m path (Ok g)
@@ -147,10 +148,10 @@ find_end l m path k g past here = way_end l m path g (subst₂ (λ t d. IsOnWay 
 abbrev pub IsOnEachWay : (l : Layout) (m : Memory) (done : List ℕ) (frame : ℕ) → Type 0
 IsOnEachWay l m done frame = (left : List ℕ) → IsOnWay l m (done ++ left) done left frame
 
-pub each_way_start : (l : Layout) (m : Memory) → Valid l m → IsOnEachWay l m [] l.root
+pub each_way_start : (l : Layout) (m : Memory) → Valid (l laid_in m) → IsOnEachWay l m [] l.root
 each_way_start l m valid left = way_start l m left valid
 
-module _ (l : Layout) (m : Memory) (valid : Valid l m) (path : List ℕ) (levels : length path < l.levels) (k : ℕ) (within : k < length path) (f : ℕ) (here : IsOnEachWay l m (take k path) f) where
+module _ (l : Layout) (m : Memory) (valid : Valid (l laid_in m)) (path : List ℕ) (levels : length path < l.levels) (k : ℕ) (within : k < length path) (f : ℕ) (here : IsOnEachWay l m (take k path) f) where
   abbrev i : ℕ
   i = get_or path k 0
 
@@ -160,10 +161,10 @@ module _ (l : Layout) (m : Memory) (valid : Valid l m) (path : List ℕ) (levels
   next_front : take (k + 1) path ≡ take k path ++ i ∷ []
   next_front = ap (λ j. take j path) (add-one k) ∙ take-suc path k 0 within
 
-  pub each_way_next : (g : ℕ) → Ok g ≡ table_below (word (words l m) f i) → IsOnEachWay l m (take (k + 1) path) g
+  pub each_way_next : (g : ℕ) → Ok g ≡ table_below (word (words (l laid_in m)) f i) → IsOnEachWay l m (take (k + 1) path) g
   each_way_next g is = subst (λ t. IsOnEachWay l m t g) (sym next_front) (λ left. subst (λ p. IsOnWay l m p (take k path ++ i ∷ []) left g) (sym (append_assoc (take k path) (i ∷ []) left))
       (way_next l m valid (take k path ++ i ∷ left) (take k path) left i f short (here (i ∷ left)) g is))
 
-  pub each_way_stop : (why : Refusal) → Err why ≡ table_below (word (words l m) f i) → StopsBelow l m (take (k + 1) path) why
+  pub each_way_stop : (why : Refusal) → Err why ≡ table_below (word (words (l laid_in m)) f i) → StopsBelow l m (take (k + 1) path) why
   each_way_stop why is = subst (λ t. StopsBelow l m t why) (sym next_front) (λ left. subst (λ p. IsFound l m p (Err why)) (sym (append_assoc (take k path) (i ∷ []) left))
       (way_stop l m valid (take k path ++ i ∷ left) (take k path) left i f short (here (i ∷ left)) why is))

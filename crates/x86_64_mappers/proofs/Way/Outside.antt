@@ -7,7 +7,8 @@ use Rattle.x86_64_model.proofs.Lemmas.Pairs.AlikeEntries.{LikeAt, like_same}
 use Rattle.x86_64_model.proofs.Lemmas.Pairs.AlikeRules.{same_stop}
 use Rattle.x86_64_model.proofs.Lemmas.Maps.Arrives.{parents_outside}
 use Rattle.x86_64_model.specs.Memory.{Memory}
-use Rattle.x86_64_model.specs.Layout.{Layout, paths, Valid}
+use Rattle.x86_64_model.specs.Layout.{Layout}
+use Rattle.x86_64_model.specs.Mapper.{◌laid_in◌, Valid, paths}
 use Rattle.x86_64_model.specs.Path.{parents}
 use Rattle.x86_64_model.specs.PathMap.{PathMap, entry, table_at}
 use Rattle.x86_64_model.specs.Refusal.{first_stop}
@@ -15,11 +16,11 @@ use Rattle.x86_64_model.specs.Window.{Window, entry_at, begins_with}
 use Rattle.x86_64_mappers.specs.private.Linked.{Beside}
 
 -- an entry on a path outside the index isn't the self-entry
-pub beside_on : (l : Layout) (m : Memory) → Valid l m → (done : List ℕ) (i : ℕ) (left : List ℕ) → begins_with l.window (done ++ i ∷ left) ≡ false → (f : ℕ) → table_at l.levels l.root (paths l m) done ≡ Some f → Beside l.window l.root f i
+pub beside_on : (l : Layout) (m : Memory) → Valid (l laid_in m) → (done : List ℕ) (i : ℕ) (left : List ℕ) → begins_with l.window (done ++ i ∷ left) ≡ false → (f : ℕ) → table_at l.levels l.root (paths (l laid_in m)) done ≡ Some f → Beside l.window l.root f i
 beside_on l m valid [] i left o f leads v e h k = let a : (i == v.index) ≡ false = ap (λ w. begins_with w (i ∷ left)) (sym e) ∙ o in let b : (i == v.index) ≡ true = eq-eqb i v.index k in cc
 beside_on l m valid (j ∷ done) i left o f leads v e h k = let a : j ∷ done ≡ [] = valid.valid.own_frames (j ∷ done) [] l.root (leads ∙ ap Some h) refl in cc
 
-pub beside_at : (l : Layout) (m : Memory) → Valid l m → (path : List ℕ) (k : ℕ) → k < length path → begins_with l.window path ≡ false → (f : ℕ) → table_at l.levels l.root (paths l m) (take k path) ≡ Some f → Beside l.window l.root f (get_or path k 0)
+pub beside_at : (l : Layout) (m : Memory) → Valid (l laid_in m) → (path : List ℕ) (k : ℕ) → k < length path → begins_with l.window path ≡ false → (f : ℕ) → table_at l.levels l.root (paths (l laid_in m)) (take k path) ≡ Some f → Beside l.window l.root f (get_or path k 0)
 beside_at l m valid path k within o f leads = beside_on l m valid (take k path) (get_or path k 0) (drop (suc k) path)
     (ap (λ d. begins_with l.window (take k path ++ d)) (sym (drop-cons path k 0 within)) ∙ ap (begins_with l.window) (take-append-drop k path) ∙ o) f leads
 

@@ -2,7 +2,8 @@
 use Rattle.std.proofs.Common.{◌≡◌, ℕ, ◌&&◌, ◌||◌, Bool, true, false, not, cond, List, [], ◌∷◌, ◌++◌, find, Option, Some, None, option_map, Result, Ok, Err, refl, sym, ap, ◌∙◌}
 use Rattle.x86_64_model.specs.Allowed.{none_absent}
 use Rattle.x86_64_model.specs.Entry.{present, huge}
-use Rattle.x86_64_model.specs.Layout.{Layout, paths, read_entry}
+use Rattle.x86_64_model.specs.Layout.{Layout}
+use Rattle.x86_64_model.specs.Mapper.{◌laid_in◌, paths, read_entry}
 use Rattle.x86_64_model.specs.Memory.{Memory}
 use Rattle.x86_64_model.specs.Path.{parents}
 use Rattle.x86_64_model.specs.PathMap.{PathMap, entry}
@@ -37,9 +38,9 @@ are_present_is M q =
 
 -- this for a page outside the window
 pub found_present : (l : Layout) (m : Memory) (path : List ℕ) (r : Result ℕ Refusal) → IsFound l m path r → (last : ℕ) → begins_with l.window (path ++ last ∷ []) ≡ false
-    → meets_none_absent r ≡ are_present (paths l m) (path ++ last ∷ [])
-found_present l m path r found last outside = by r found ∙ ap of_stop (first_stop_outside l.window (paths l m) (path ++ last ∷ []) outside) ∙ sym (are_present_is (paths l m) (path ++ last ∷ []))
+    → meets_none_absent r ≡ are_present (paths (l laid_in m)) (path ++ last ∷ [])
+found_present l m path r found last outside = by r found ∙ ap of_stop (first_stop_outside l.window (paths (l laid_in m)) (path ++ last ∷ []) outside) ∙ sym (are_present_is (paths (l laid_in m)) (path ++ last ∷ []))
   where
-    by : (r : Result ℕ Refusal) → IsFound l m path r → meets_none_absent r ≡ of_stop (first_stop (read_entry l m) (path ++ last ∷ []))
+    by : (r : Result ℕ Refusal) → IsFound l m path r → meets_none_absent r ≡ of_stop (first_stop (read_entry (l laid_in m)) (path ++ last ∷ []))
     by (Ok frame) found = sym (ap of_stop (found.1 last))
     by (Err why) found = sym (ap of_stop (found last))

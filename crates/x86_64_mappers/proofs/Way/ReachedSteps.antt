@@ -4,7 +4,8 @@ use Rattle.std.proofs.lemmas.Option.{same_Some}
 use Rattle.std.proofs.Math.Seq.{take-suc}
 use Rattle.x86_64_model.specs.Arrivals.{leads}
 use Rattle.x86_64_model.specs.Entry.{present, huge, address}
-use Rattle.x86_64_model.specs.Layout.{Layout, Valid, words, paths}
+use Rattle.x86_64_model.specs.Layout.{Layout}
+use Rattle.x86_64_model.specs.Mapper.{◌laid_in◌, Valid, paths, words}
 use Rattle.x86_64_model.proofs.Lemmas.Walks.Agrees.{reads}
 use Rattle.x86_64_model.proofs.Lemmas.Walks.Walked.{read_there}
 use Rattle.x86_64_model.specs.Memory.{Memory, Words, word}
@@ -35,9 +36,9 @@ leads_last T f (k ∷ q) g i e way is here plain = by (λ x w. leads_last T (add
     by more None w = cc
     by more (Some x) w = on more x (present x && not (huge x)) w
 
-pub reached_next : (l : Layout) (m : Memory) (path : List ℕ) (f i g : ℕ) → IsReached l m path f → i < 512 → Ok g ≡ table_below (word (words l m) f i) → IsSome (words l m g) → IsReached l m (path ++ i ∷ []) g
-reached_next l m path f i g r small is there = let n = names_below (word (words l m) f i) g is in record {
-  way = leads_last (words l m) l.root path f i (word (words l m) f i) r.way (read_there (words l m) f i small r.there) n.is_present n.not_huge ∙ ap Some (sym n.address);
+pub reached_next : (l : Layout) (m : Memory) (path : List ℕ) (f i g : ℕ) → IsReached l m path f → i < 512 → Ok g ≡ table_below (word (words (l laid_in m)) f i) → IsSome (words (l laid_in m) g) → IsReached l m (path ++ i ∷ []) g
+reached_next l m path f i g r small is there = let n = names_below (word (words (l laid_in m)) f i) g is in record {
+  way = leads_last (words (l laid_in m)) l.root path f i (word (words (l laid_in m)) f i) r.way (read_there (words (l laid_in m)) f i small r.there) n.is_present n.not_huge ∙ ap Some (sym n.address);
   there = there;
   root_there = r.root_there;
   self = r.self;
@@ -50,14 +51,14 @@ pub record IsHere (l : Layout) (m : Memory) (path : List ℕ) (k frame : ℕ) : 
   pub way : IsOnWay l m path (take k path) (drop k path) frame
   pub reached : IsReached l m (take k path) frame
 
-pub here_first : (l : Layout) (m : Memory) (path : List ℕ) → Valid l m → IsHere l m path 0 l.root
-here_first l m path valid = let there = (reads l.levels (words l m) l.root (paths l m) l.window valid).root_there in record {
+pub here_first : (l : Layout) (m : Memory) (path : List ℕ) → Valid (l laid_in m) → IsHere l m path 0 l.root
+here_first l m path valid = let there = (reads l.levels (words (l laid_in m)) l.root (paths (l laid_in m)) l.window valid).root_there in record {
   way = way_start l m path valid;
   reached = record { way = refl; there = there; root_there = there; self = valid.self };
 }
 
-pub here_next : (l : Layout) (m : Memory) → Valid l m → (path : List ℕ) → length path < l.levels → (k : ℕ) → k < length path → (f : ℕ) → IsHere l m path k f
-    → get_or path k 0 < 512 → (g : ℕ) → Ok g ≡ table_below (word (words l m) f (get_or path k 0)) → IsHere l m path (k + 1) g
+pub here_next : (l : Layout) (m : Memory) → Valid (l laid_in m) → (path : List ℕ) → length path < l.levels → (k : ℕ) → k < length path → (f : ℕ) → IsHere l m path k f
+    → get_or path k 0 < 512 → (g : ℕ) → Ok g ≡ table_below (word (words (l laid_in m)) f (get_or path k 0)) → IsHere l m path (k + 1) g
 here_next l m valid path levels k within f here small g is =
     let way = find_next l m valid path levels k within f here.way g is in record {
       way = way;

@@ -3,10 +3,9 @@ use Rattle.std.specs.Prelude.{◌≡◌, ◌≢◌, ◌⊎◌, ◌≤◌, ◌+�
 use Rattle.x86_64_model.proofs.Lemmas.CleanUps.Below.{cleaned_below, back_below, Visits}
 use Rattle.x86_64_model.specs.CleanUp.{in_range, meets}
 use Rattle.x86_64_model.specs.Entry.{address}
-use Rattle.x86_64_model.specs.Layout.{Layout, words, paths, Valid}
+use Rattle.x86_64_model.specs.Layout.{Layout}
 use Rattle.x86_64_model.specs.Lists.{In}
-use Rattle.x86_64_model.specs.Layout.{KeepsOthers}
-use Rattle.x86_64_model.specs.Mapper.{Hierarchy}
+use Rattle.x86_64_model.specs.Mapper.{◌laid_in◌, Hierarchy, KeepsOthers, Valid, paths, words}
 use Rattle.x86_64_model.specs.Memory.{Memory, word}
 use Rattle.x86_64_model.specs.Path.{AllBelow, span_start}
 use Rattle.x86_64_model.specs.PathMap.{PathMap, entry, put, table_at}
@@ -34,8 +33,8 @@ pub record IsPageRange (L : ℕ) (first last : List ℕ) : Type 0 where
 -- The path isn't in the recursive window and leads to the table in the frame. Each entry on it is a present table entry whose
 -- span meets the positions from low to high.
 pub record IsVisited (l : Layout) (m : Memory) (low high : ℕ) (path : List ℕ) (frame : ℕ) : Type 0 where
-  pub leads : table_at l.levels l.root (paths l m) path ≡ Some frame
-  pub visits : Visits l.levels (paths l m) low high path
+  pub leads : table_at l.levels l.root (paths (l laid_in m)) path ≡ Some frame
+  pub visits : Visits l.levels (paths (l laid_in m)) low high path
   pub below : AllBelow path
   pub outside : begins_with l.window path ≡ false
 
@@ -45,15 +44,15 @@ pub record IsVisited (l : Layout) (m : Memory) (low high : ℕ) (path : List ℕ
 -- whose tables were tables before. The frames in back were returned: they were tables, are none now, and hold only zero words.
 -- Words outside the root and the tables did not change.
 pub record IsCleaned (l : Layout) (take_back : List ℕ → ℕ → List ℕ) (m : Memory) (held : List ℕ) (N : PathMap) (back : List ℕ) (n : Memory) (rest : List ℕ) : Type 0 where
-  pub meant : paths l n ≡ N
-  pub valid : Valid l n
+  pub meant : paths (l laid_in n) ≡ N
+  pub valid : Valid (l laid_in n)
   pub given : rest ≡ given_back take_back held back
-  pub left : (q : List ℕ) (f : ℕ) → table_at l.levels l.root (paths l n) q ≡ Some f → table_at l.levels l.root (paths l m) q ≡ Some f
-  pub were : (f : ℕ) → In back f → IsTable l.levels l.root (paths l m) f
-  pub gone : (f : ℕ) → In back f → IsTable l.levels l.root (paths l n) f → ⊥
-  pub empty : (f : ℕ) → In back f → (i : ℕ) → word (words l n) f i ≡ 0
-  pub there : (f : ℕ) → IsSome (words l m f) → IsSome (words l n f)
-  pub others : KeepsOthers l.places (IsTable l.levels l.root (paths l m)) m n
+  pub left : (q : List ℕ) (f : ℕ) → table_at l.levels l.root (paths (l laid_in n)) q ≡ Some f → table_at l.levels l.root (paths (l laid_in m)) q ≡ Some f
+  pub were : (f : ℕ) → In back f → IsTable l.levels l.root (paths (l laid_in m)) f
+  pub gone : (f : ℕ) → In back f → IsTable l.levels l.root (paths (l laid_in n)) f → ⊥
+  pub empty : (f : ℕ) → In back f → (i : ℕ) → word (words (l laid_in n)) f i ≡ 0
+  pub there : (f : ℕ) → IsSome (words (l laid_in m) f) → IsSome (words (l laid_in n) f)
+  pub others : KeepsOthers (IsTable l.levels l.root (paths (l laid_in m))) (l laid_in m) (l laid_in n)
 
 -- The path map N and the returned frames after the clean up of the entry at the path r. An entry outside the range stays. For an
 -- entry in range, the tables below are cleaned up first. Then the entry stays if its table still has a used entry, and otherwise
@@ -68,7 +67,7 @@ IsEntryCleaned L M low high r N back =
 pub record IsCleanedAt (l : Layout) (take_back : List ℕ → ℕ → List ℕ) (m : Memory) (held : List ℕ) (low high : ℕ) (r : List ℕ) (n : Memory) (rest : List ℕ) : Type 0 where
   pub N : PathMap
   pub back : List ℕ
-  pub rule : IsEntryCleaned l.levels (paths l m) low high r N back
+  pub rule : IsEntryCleaned l.levels (paths (l laid_in m)) low high r N back
   pub cleaned : IsCleaned l take_back m held N back n rest
 
 -- ---- a clean up of the pages from a first to a last one, given by their paths
@@ -84,8 +83,8 @@ MeetsPages h first last path = meets h.layout.levels (span_start h.layout.levels
 -- the tables below the table that the path leads to were cleaned up; the store holds the frames `rest` then
 abbrev pub CleansBelow : {Lent : Type 0} → Hierarchy Lent → Store → (first last path : List ℕ) → (after : Hierarchy Lent) → (rest : List ℕ) → Type 0
 CleansBelow h store first last path after rest =
-    IsCleaned h.layout store.take_back h.memory store.frames (cleaned_below h.layout.levels (paths h.layout h.memory) (span_start h.layout.levels first) (span_end h.layout.levels last) path)
-    (back_below h.layout.levels (paths h.layout h.memory) (span_start h.layout.levels first) (span_end h.layout.levels last) path) after.memory rest
+    IsCleaned h.layout store.take_back h.memory store.frames (cleaned_below h.layout.levels (paths h) (span_start h.layout.levels first) (span_end h.layout.levels last) path)
+    (back_below h.layout.levels (paths h) (span_start h.layout.levels first) (span_end h.layout.levels last) path) after.memory rest
 
 -- the entry at the path was cleaned up
 abbrev pub CleansEntry : {Lent : Type 0} → Hierarchy Lent → Store → (first last path : List ℕ) → (after : Hierarchy Lent) → (rest : List ℕ) → Type 0

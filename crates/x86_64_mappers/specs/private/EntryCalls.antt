@@ -1,6 +1,7 @@
 -- A call on one entry: its new word and the answer, decided by its old word, and the memory afterwards.
 use Rattle.std.specs.Prelude.{◌≡◌, ◌<◌, ◌-◌, ℕ, List, length, take, get_or, Result, Ok, Err}
-use Rattle.x86_64_model.specs.Layout.{Layout, words}
+use Rattle.x86_64_model.specs.Layout.{Layout}
+use Rattle.x86_64_model.specs.Mapper.{◌laid_in◌, words}
 use Rattle.x86_64_model.specs.Memory.{Memory}
 use Rattle.x86_64_model.specs.Refusal.{Refusal, Answer, Done, Refused}
 use Rattle.x86_64_model.specs.Memory as memory
@@ -23,7 +24,7 @@ pub record IsCalledAt {X : Type 0} (l : Layout) (m : Memory) (path : List ℕ) (
   pub word : ℕ
   pub found : IsFound l m (take (length path - 1) path) (Ok frame)
   pub inside : get_or path (length path - 1) 0 < 512
-  pub called : calls (memory.word (words l m) frame (get_or path (length path - 1) 0)) answer word
+  pub called : calls (memory.word (words (l laid_in m)) frame (get_or path (length path - 1) 0)) answer word
   pub set : IsSet l.places m frame (get_or path (length path - 1) 0) word n
 
 -- the entry was changed, or a parent refused the call and nothing changed

@@ -2,7 +2,8 @@
 use Rattle.std.specs.Prelude.{◌≡◌, ◌≢◌, ℕ, true, List, ◌∷◌, ◌++◌, take, get_or, Option, Some}
 use Rattle.x86_64_model.specs.Arrivals.{leads}
 use Rattle.x86_64_model.specs.Entry.{IsParentFlags, present}
-use Rattle.x86_64_model.specs.Layout.{Layout, words}
+use Rattle.x86_64_model.specs.Layout.{Layout}
+use Rattle.x86_64_model.specs.Mapper.{◌laid_in◌, words}
 use Rattle.x86_64_model.specs.Memory.{Memory, Places, Words}
 use Rattle.x86_64_model.specs.Window.{Window}
 use Rattle.x86_64_mappers.specs.Reached.{IsReached}
@@ -23,10 +24,10 @@ Unmet T root path f = (a b : List ℕ) → path ≡ a ++ b → (h : ℕ) → lea
 -- the entry at index k of a path, in the table f, may be made to name the frame g
 pub record MayLink (l : Layout) (m : Memory) (path : List ℕ) (k f g flags : ℕ) : Type 0 where
   pub reached : IsReached l m (take k path) f
-  pub not_on_way : NotOnWay (words l m) l.root (take k path) f
+  pub not_on_way : NotOnWay (words (l laid_in m)) l.root (take k path) f
   pub beside : Beside l.window l.root f (get_or path k 0)
   pub there : IsThere l.places m g
-  pub unmet : Unmet (words l m) l.root (take k path) g
+  pub unmet : Unmet (words (l laid_in m)) l.root (take k path) g
   pub marks : IsParentFlags flags
   pub is_present : present flags ≡ true
 

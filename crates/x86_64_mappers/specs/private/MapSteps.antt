@@ -1,9 +1,9 @@
 -- How a map goes down its path: the memory and the supply (the free frames in the order they are handed out) so far, and what is
 -- left to do.
 use Rattle.std.specs.Prelude.{◌≡◌, ℕ, List, [], ◌∷◌, ◌++◌, map, Some, Result, Ok, Err}
-use Rattle.x86_64_model.specs.Layout.{Layout, paths}
+use Rattle.x86_64_model.specs.Layout.{Layout}
+use Rattle.x86_64_model.specs.Mapper.{◌laid_in◌, KeepsOthers, Owns, SupplyFits, paths}
 use Rattle.x86_64_model.specs.Lists.{In}
-use Rattle.x86_64_model.specs.Layout.{IsReady, Owns, KeepsOthers}
 use Rattle.x86_64_model.specs.private.MapperCalls.{Uses}
 use Rattle.x86_64_model.specs.Memory.{Memory}
 use Rattle.x86_64_model.specs.MapRule.{AfterMap, map_rule}
@@ -13,10 +13,10 @@ use Rattle.x86_64_model.specs.Refusal.{Refusal, Refused}
 
 -- no new frame is owned, and other frames keep their words
 pub record KeepsOwned (l : Layout) (m : Memory) (s : List ℕ) (n : Memory) (rest : List ℕ) : Type 0 where
-  pub ready : IsReady l n rest
-  pub own : (f : ℕ) → Owns l n rest f → Owns l m s f
+  pub ready : SupplyFits (l laid_in n) rest
+  pub own : (f : ℕ) → Owns (l laid_in n) rest f → Owns (l laid_in m) s f
   pub within : (f : ℕ) → In rest f → In s f
-  pub others : KeepsOthers l.places (Uses l m s rest) m n
+  pub others : KeepsOthers (Uses l m s rest) (l laid_in m) (l laid_in n)
 
 -- the rest of a map, from the table at the path pre, if r is what is left of the page's path
 abbrev pub mapped_from : PathMap → (supply : List ℕ) → (more added : ℕ) → (pre r : List ℕ) → (e frame : ℕ) → AfterMap
@@ -25,15 +25,15 @@ mapped_from M s more added pre r e frame = map_rule M s more added (map (λ x. p
 -- on the way down the parents: the indices `done` led to the table g, and `left` are to come
 pub record IsAt (l : Layout) (m : Memory) (s : List ℕ) (more : ℕ) (path done left : List ℕ) (n : Memory) (rest : List ℕ) (g : ℕ) : Type 0 where
   pub owned : KeepsOwned l m s n rest
-  pub leads : table_at l.levels l.root (paths l n) done ≡ Some g
+  pub leads : table_at l.levels l.root (paths (l laid_in n)) done ≡ Some g
   pub outcome : (last e frame : ℕ)
-      → mapped_from (paths l m) s more l.added_flags [] (path ++ last ∷ []) e frame ≡ mapped_from (paths l n) rest more l.added_flags done (left ++ last ∷ []) e frame
+      → mapped_from (paths (l laid_in m)) s more l.added_flags [] (path ++ last ∷ []) e frame ≡ mapped_from (paths (l laid_in n)) rest more l.added_flags done (left ++ last ∷ []) e frame
 
 -- the way down was refused, whatever the last index is
 pub record IsRefused (l : Layout) (m : Memory) (s : List ℕ) (more : ℕ) (path : List ℕ) (n : Memory) (rest : List ℕ) (why : Refusal) : Type 0 where
   pub owned : KeepsOwned l m s n rest
   pub outcome : (last e frame : ℕ)
-      → mapped_from (paths l m) s more l.added_flags [] (path ++ last ∷ []) e frame ≡ record { paths = paths l n; supply = rest; answer = Refused why }
+      → mapped_from (paths (l laid_in m)) s more l.added_flags [] (path ++ last ∷ []) e frame ≡ record { paths = paths (l laid_in n); supply = rest; answer = Refused why }
 
 -- the tables along a path exist now, or the way down was refused
 abbrev pub IsDown : Layout → Memory → (supply : List ℕ) → (more : ℕ) → (path : List ℕ) → Result ℕ Refusal → Memory → (rest : List ℕ) → Type 0

@@ -1,7 +1,8 @@
 -- The way down the parents of a page during a map: the entries so far are present, and those to come are or will be.
 use Rattle.std.specs.Prelude.{suc, ◌≡◌, ◌⊎◌, ◌<◌, ℕ, true, false, List, length, take, get_or, Some}
 use Rattle.x86_64_model.specs.Entry.{present, huge}
-use Rattle.x86_64_model.specs.Layout.{Layout, paths}
+use Rattle.x86_64_model.specs.Layout.{Layout}
+use Rattle.x86_64_model.specs.Mapper.{◌laid_in◌, paths}
 use Rattle.x86_64_model.specs.Memory.{Memory}
 use Rattle.x86_64_model.specs.PathMap.{PathMap, entry, table_at}
 
@@ -12,7 +13,7 @@ WillBePresent M more path = (present more ≡ true)
 
 -- the first k parents lead to the table in a frame
 pub record IsOpenWay (l : Layout) (m : Memory) (parent_flags : ℕ) (path : List ℕ) (k frame : ℕ) : Type 0 where
-  pub leads : table_at l.levels l.root (paths l m) (take k path) ≡ Some frame
+  pub leads : table_at l.levels l.root (paths (l laid_in m)) (take k path) ≡ Some frame
   pub small : (j : ℕ) → j < k → get_or path j 0 < 512
-  pub are_present : (j : ℕ) → j < k → present (entry (paths l m) (take (suc j) path)) ≡ true
-  pub to_come : WillBePresent (paths l m) parent_flags path
+  pub are_present : (j : ℕ) → j < k → present (entry (paths (l laid_in m)) (take (suc j) path)) ≡ true
+  pub to_come : WillBePresent (paths (l laid_in m)) parent_flags path

@@ -3,9 +3,9 @@ use Rattle.std.specs.Prelude.{zero, suc, ◌≡◌, ◌⊎◌, ◌<◌, ◌≤�
 use Rattle.std.specs.FinMap.{insert}
 use Rattle.std.specs.List.{range_with_len}
 use Rattle.x86_64_model.specs.Call.{Call, Reply, Answered}
-use Rattle.x86_64_model.specs.Layout.{Layout, paths, Valid, IsReady, KeepsOthers}
+use Rattle.x86_64_model.specs.Layout.{Layout}
 use Rattle.x86_64_model.specs.Machine.{replies_of, state_after}
-use Rattle.x86_64_model.specs.Mapper.{Hierarchy, machine_of, state_in}
+use Rattle.x86_64_model.specs.Mapper.{◌laid_in◌, Hierarchy, machine_of, state_in, KeepsOthers, SupplyFits, Valid, paths}
 use Rattle.x86_64_model.specs.Memory.{Memory, words_of}
 use Rattle.x86_64_model.specs.Path.{path_at}
 use Rattle.x86_64_model.specs.PathMap.{table_at}
@@ -73,7 +73,7 @@ ChangesPart h level page says count answers after = IsPartChanged h.layout h.mem
 pub record IsChangeRun (l : Layout) (m : Memory) (calls : List Call) (answers : List Reply) (n : Memory) : Type 0 where
   pub replies : (pool : List ℕ) (take_back : List ℕ → ℕ → List ℕ) → replies_of (machine_of l take_back) (state_in l m pool) calls ≡ answers
   pub state : (pool : List ℕ) (take_back : List ℕ → ℕ → List ℕ) → state_after (machine_of l take_back) (state_in l m pool) calls ≡ state_in l n pool
-  pub valid : Valid l n
-  pub ready : (supply : List ℕ) → IsReady l m supply → IsReady l n supply
-  pub tables : (q : List ℕ) → table_at l.levels l.root (paths l n) q ≡ table_at l.levels l.root (paths l m) q
-  pub others : KeepsOthers l.places (IsTable l.levels l.root (paths l m)) m n
+  pub valid : Valid (l laid_in n)
+  pub ready : (supply : List ℕ) → SupplyFits (l laid_in m) supply → SupplyFits (l laid_in n) supply
+  pub tables : (q : List ℕ) → table_at l.levels l.root (paths (l laid_in n)) q ≡ table_at l.levels l.root (paths (l laid_in m)) q
+  pub others : KeepsOthers (IsTable l.levels l.root (paths (l laid_in m))) (l laid_in m) (l laid_in n)

@@ -5,9 +5,9 @@ use Rattle.x86_64_model.specs.Allowed.{parents_present}
 use Rattle.x86_64_model.specs.Arrivals.{Arrives}
 use Rattle.x86_64_model.specs.Call.{Reply}
 use Rattle.x86_64_model.specs.Entry.{used}
-use Rattle.x86_64_model.specs.Layout.{Layout, paths, walk}
+use Rattle.x86_64_model.specs.Layout.{Layout}
 use Rattle.x86_64_model.specs.Machine.{replies_of, state_after}
-use Rattle.x86_64_model.specs.Mapper.{Hierarchy, machine_of, state_in}
+use Rattle.x86_64_model.specs.Mapper.{◌laid_in◌, Hierarchy, machine_of, state_in, paths, walk}
 use Rattle.x86_64_model.specs.Memory.{Memory, Places, words_of}
 use Rattle.x86_64_model.specs.Position.{span}
 use Rattle.x86_64_model.specs.Refusal.{Refusal}
@@ -52,15 +52,11 @@ IsPart l m s more parents level i a given count (Err why) after rest = IsDown l 
 abbrev pub MapsPart : {Lent : Type 0} → Hierarchy Lent → (supply : List ℕ) → (parent_flags : ℕ) → (parents : List ℕ) → (level i frame flags count : ℕ) → Result ℕ Refusal → (after : Hierarchy Lent) → (rest : List ℕ) → Type 0
 MapsPart h s more parents level i a given count result after rest = IsPart h.layout h.memory s more parents level i a given count result after.memory rest
 
--- a hierarchy in a memory, of which it is left open what was lent
-abbrev pub in_memory : Layout → Memory → Hierarchy (Unit {0})
-in_memory l m = record { layout = l; memory = m; lent = tt }
-
 -- what the maps of the first pages of a run, one after another, leave in a memory
 pub record IsRun (l : Layout) (m : Memory) (s : List ℕ) (r : MapRange) (count : ℕ) (answers : List Reply) (n : Memory) (rest : List ℕ) : Type 0 where
   pub replies : (take_back : List ℕ → ℕ → List ℕ) → replies_of (machine_of l take_back) (state_in l m s) (maps l.levels r count) ≡ answers
   pub state : (take_back : List ℕ → ℕ → List ℕ) → state_after (machine_of l take_back) (state_in l m s) (maps l.levels r count) ≡ state_in l n rest
   pub owned : KeepsOwned l m s n rest
-  pub walks : (p : ℕ) → Arrives r.parent_flags (walk l m p) (walk l n p)
-  pub each : MapsEach (in_memory l m) s r count answers (in_memory l n) rest
-  pub parents : (q : List ℕ) → parents_present (paths l m) r.parent_flags q ≡ true → parents_present (paths l n) r.parent_flags q ≡ true
+  pub walks : (p : ℕ) → Arrives r.parent_flags (walk (l laid_in m) p) (walk (l laid_in n) p)
+  pub each : MapsEach (l laid_in m) s r count answers (l laid_in n) rest
+  pub parents : (q : List ℕ) → parents_present (paths (l laid_in m)) r.parent_flags q ≡ true → parents_present (paths (l laid_in n)) r.parent_flags q ≡ true

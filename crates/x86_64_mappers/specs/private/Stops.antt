@@ -2,7 +2,8 @@
 -- stops it.
 use Rattle.std.specs.Prelude.{◌≡◌, ℕ, Bool, not, cond, List, [], ◌∷◌, ◌++◌, Option, Some, None, IsSome, Result, Ok, Err, is_ok}
 use Rattle.x86_64_model.specs.Entry.{present, huge, address}
-use Rattle.x86_64_model.specs.Layout.{Layout, words, read_entry}
+use Rattle.x86_64_model.specs.Layout.{Layout}
+use Rattle.x86_64_model.specs.Mapper.{◌laid_in◌, read_entry, words}
 use Rattle.x86_64_model.specs.Memory.{Memory, word}
 use Rattle.x86_64_model.specs.PathMap.{table_of}
 use Rattle.x86_64_model.specs.Refusal.{Refusal, ParentEntryHugePage, PageNotMapped, first_stop}
@@ -22,18 +23,18 @@ table_read L root E (i ∷ q) = table_of L (i ∷ q) (E (i ∷ q))
 
 -- a path leads to the table in a frame, in whose words its entries are read
 pub record LeadsTo (l : Layout) (m : Memory) (path : List ℕ) (frame : ℕ) : Type 0 where
-  pub table : table_read l.levels l.root (read_entry l m) path ≡ Some frame
-  pub there : IsSome (words l m frame)
-  pub entries : (i : ℕ) → read_entry l m (path ++ i ∷ []) ≡ word (words l m) frame i
+  pub table : table_read l.levels l.root (read_entry (l laid_in m)) path ≡ Some frame
+  pub there : IsSome (words (l laid_in m) frame)
+  pub entries : (i : ℕ) → read_entry (l laid_in m) (path ++ i ∷ []) ≡ word (words (l laid_in m)) frame i
 
 -- no parent stops a page with these parents
 abbrev pub NeverStops : Layout → Memory → (path : List ℕ) → Type 0
-NeverStops l m path = (last : ℕ) → first_stop (read_entry l m) (path ++ last ∷ []) ≡ None
+NeverStops l m path = (last : ℕ) → first_stop (read_entry (l laid_in m)) (path ++ last ∷ []) ≡ None
 
 -- the table that the parents' path leads to through present table entries, or the refusal by the first parent that is none
 abbrev pub IsFound : Layout → Memory → (path : List ℕ) → Result ℕ Refusal → Type 0
 IsFound l m path (Ok frame) = LeadsTo l m path frame × NeverStops l m path
-IsFound l m path (Err why) = (last : ℕ) → first_stop (read_entry l m) (path ++ last ∷ []) ≡ Some why
+IsFound l m path (Err why) = (last : ℕ) → first_stop (read_entry (l laid_in m)) (path ++ last ∷ []) ≡ Some why
 
 -- the same parent refuses each page below a path
 abbrev pub StopsBelow : Layout → Memory → (path : List ℕ) → Refusal → Type 0

@@ -4,12 +4,12 @@ use Rattle.std.specs.List.{AllByRecursion}
 use Rattle.x86_64_model.specs.Call.{Call}
 use Rattle.x86_64_model.specs.CleanUp.{clean_up}
 use Rattle.x86_64_model.specs.Entry.{IsParentFlags, used, present, huge}
-use Rattle.x86_64_model.specs.FitsPool.{FitsPool, KeepsPool}
+use Rattle.x86_64_model.specs.Store.{KeepsPool}
 use Rattle.x86_64_model.specs.Laws.Steps.{AllCalls}
-use Rattle.x86_64_model.specs.Layout.{Layout, words, paths, walk, Valid, Owns, KeepsOthers}
+use Rattle.x86_64_model.specs.Layout.{Layout}
 use Rattle.x86_64_model.specs.Lists.{In}
 use Rattle.x86_64_model.specs.Machine.{state_after}
-use Rattle.x86_64_model.specs.Mapper.{machine_of, state_in}
+use Rattle.x86_64_model.specs.Mapper.{◌laid_in◌, machine_of, state_in, KeepsOthers, Owns, PoolFits, Valid, paths, walk, words}
 use Rattle.x86_64_model.specs.Memory.{Memory, IsMapping, word}
 use Rattle.x86_64_model.specs.Path.{is_below}
 use Rattle.x86_64_model.specs.PathMap.{PathMap, entry}
@@ -21,20 +21,20 @@ use Rattle.x86_64_model.specs.Window.{SelfEntry, outside_window, begins_with}
 -- After the memory m became n, the second hierarchy is valid. Below the shared indices it is as the first one is now, elsewhere as
 -- it was, and if the pool fitted it, the rest does. Both share again, so that the calls that follow may be on either.
 pub record StaysSharing (shared : ℕ → Bool) (first second : Layout) (serves : ℕ → Bool) (m : Memory) (pool : List ℕ) (n : Memory) (rest : List ℕ) : Type 0 where
-  pub valid : Valid second n
-  pub below_shared : (q : List ℕ) → is_shared shared q ≡ true → entry (paths second n) q ≡ entry (paths first n) q
-  pub elsewhere : (q : List ℕ) → is_shared shared q ≡ false → entry (paths second n) q ≡ entry (paths second m) q
-  pub fits : FitsPool second m serves pool → FitsPool second n serves rest
+  pub valid : Valid (second laid_in n)
+  pub below_shared : (q : List ℕ) → is_shared shared q ≡ true → entry (paths (second laid_in n)) q ≡ entry (paths (first laid_in n)) q
+  pub elsewhere : (q : List ℕ) → is_shared shared q ≡ false → entry (paths (second laid_in n)) q ≡ entry (paths (second laid_in m)) q
+  pub fits : PoolFits (second laid_in m) serves pool → PoolFits (second laid_in n) serves rest
   pub shares : Shares shared first n rest second
   pub first_shares : Shares shared second n rest first
 
 -- The root's entries at the shared indices are the same in both memories.
 abbrev pub KeepsRootEntries : (shared : ℕ → Bool) → Layout → (m n : Memory) → Type 0
-KeepsRootEntries shared layout m n = (i : ℕ) → shared i ≡ true → entry (paths layout n) (i ∷ []) ≡ entry (paths layout m) (i ∷ [])
+KeepsRootEntries shared layout m n = (i : ℕ) → shared i ≡ true → entry (paths (layout laid_in n)) (i ∷ []) ≡ entry (paths (layout laid_in m)) (i ∷ [])
 
 -- All entries below the shared indices are the same in both memories.
 abbrev pub KeepsBelow : (shared : ℕ → Bool) → Layout → (m n : Memory) → Type 0
-KeepsBelow shared layout m n = (q : List ℕ) → is_shared shared q ≡ true → entry (paths layout n) q ≡ entry (paths layout m) q
+KeepsBelow shared layout m n = (q : List ℕ) → is_shared shared q ≡ true → entry (paths (layout laid_in n)) q ≡ entry (paths (layout laid_in m)) q
 
 -- ---- two hierarchies
 
@@ -42,23 +42,23 @@ KeepsBelow shared layout m n = (q : List ℕ) → is_shared shared q ≡ true �
 abbrev pub SharedEntriesAreTheSame : Type 0
 SharedEntriesAreTheSame = (shared : ℕ → Bool) (first second : Layout) → IsMapping first.places → 0 < first.levels
     → (serves : ℕ → Bool) (m : Memory) (pool : List ℕ)
-    → FitsPool first m serves pool → Shares shared first m pool second → (q : List ℕ) → is_shared shared q ≡ true
-    → entry (paths second m) q ≡ entry (paths first m) q
+    → PoolFits (first laid_in m) serves pool → Shares shared first m pool second → (q : List ℕ) → is_shared shared q ≡ true
+    → entry (paths (second laid_in m)) q ≡ entry (paths (first laid_in m)) q
 
 -- What calls on the first keep is enough for the second to stay and to see what they did below the shared indices, if they left
 -- the root's entries there.
 abbrev pub SharedTablesStay : Type 0
 SharedTablesStay = (shared : ℕ → Bool) (first second : Layout) → IsMapping first.places → 0 < first.levels
     → (serves : ℕ → Bool) (m n : Memory) (pool rest : List ℕ)
-    → FitsPool first m serves pool → KeepsPool first serves m pool n rest → KeepsRootEntries shared first m n
+    → PoolFits (first laid_in m) serves pool → KeepsPool first serves m pool n rest → KeepsRootEntries shared first m n
     → Shares shared first m pool second → StaysSharing shared first second serves m pool n rest
 
 -- If they changed nothing below the shared indices, the second keeps its path map.
 abbrev pub SharedHalvesStay : Type 0
 SharedHalvesStay = (shared : ℕ → Bool) (first second : Layout) → IsMapping first.places → 0 < first.levels
     → (serves : ℕ → Bool) (m n : Memory) (pool rest : List ℕ)
-    → FitsPool first m serves pool → KeepsPool first serves m pool n rest → KeepsBelow shared first m n
-    → Shares shared first m pool second → StaysSharing shared first second serves m pool n rest × (paths second n ≡ paths second m)
+    → PoolFits (first laid_in m) serves pool → KeepsPool first serves m pool n rest → KeepsBelow shared first m n
+    → Shares shared first m pool second → StaysSharing shared first second serves m pool n rest × (paths (second laid_in n) ≡ paths (second laid_in m))
 
 -- ---- what the processor sees
 
@@ -67,18 +67,18 @@ SharedHalvesStay = (shared : ℕ → Bool) (first second : Layout) → IsMapping
 abbrev pub SharedWalksAreTheSame : Type 0
 SharedWalksAreTheSame = (shared : ℕ → Bool) (first second : Layout) → IsMapping first.places → 0 < first.levels
     → (serves : ℕ → Bool) (m : Memory) (pool : List ℕ)
-    → FitsPool first m serves pool → Shares shared first m pool second
+    → PoolFits (first laid_in m) serves pool → Shares shared first m pool second
     → (p : ℕ) → is_shared shared (page_path first.levels p) ≡ true → begins_with first.window (page_path first.levels p) ≡ false
     → begins_with second.window (page_path second.levels p) ≡ false
-    → walk second m p ≡ walk first m p
+    → walk (second laid_in m) p ≡ walk (first laid_in m) p
 
 -- Elsewhere the walks of the second one stay after calls on the first that left the root's entries at the shared indices.
 abbrev pub WalksStay : Type 0
 WalksStay = (shared : ℕ → Bool) (first second : Layout) → IsMapping first.places → 0 < first.levels
     → (serves : ℕ → Bool) (m n : Memory) (pool rest : List ℕ)
-    → FitsPool first m serves pool → KeepsPool first serves m pool n rest → KeepsRootEntries shared first m n → Shares shared first m pool second
+    → PoolFits (first laid_in m) serves pool → KeepsPool first serves m pool n rest → KeepsRootEntries shared first m n → Shares shared first m pool second
     → (p : ℕ) → is_shared shared (page_path second.levels p) ≡ false → begins_with second.window (page_path second.levels p) ≡ false
-    → walk second n p ≡ walk second m p
+    → walk (second laid_in n) p ≡ walk (second laid_in m) p
 
 -- ---- which calls do so
 
@@ -90,7 +90,7 @@ Led layout take_back m pool calls n rest = state_in layout n rest ≡ state_afte
 abbrev pub CallsKeepBelow : Type 0
 CallsKeepBelow = (shared : ℕ → Bool) (layout : Layout) → IsParentFlags layout.added_flags → (take_back : List ℕ → ℕ → List ℕ) → TakesBack take_back
     → (serves : ℕ → Bool) (m n : Memory) (pool rest : List ℕ) (calls : List Call) → AllCalls layout.levels calls
-    → FitsPool layout m serves pool → Led layout take_back m pool calls n rest
+    → PoolFits (layout laid_in m) serves pool → Led layout take_back m pool calls n rest
     → AllByRecursion (Avoids layout.levels shared) calls → KeepsBelow shared layout m n
 
 -- Calls that spare the root's entries at the shared indices leave these, if they are used.
@@ -98,9 +98,9 @@ abbrev pub CallsKeepRootEntries : Type 0
 CallsKeepRootEntries = (shared : ℕ → Bool) (layout : Layout) → 3 < layout.levels → IsParentFlags layout.added_flags
     → (take_back : List ℕ → ℕ → List ℕ) → TakesBack take_back
     → (serves : ℕ → Bool) (m n : Memory) (pool rest : List ℕ) (calls : List Call) → AllCalls layout.levels calls
-    → FitsPool layout m serves pool → Led layout take_back m pool calls n rest
-    → ((i : ℕ) → shared i ≡ true → used (entry (paths layout m) (i ∷ [])) ≡ true)
-    → AllByRecursion (SparesRoot layout.levels shared (λ i. entry (paths layout m) (i ∷ []))) calls → KeepsRootEntries shared layout m n
+    → PoolFits (layout laid_in m) serves pool → Led layout take_back m pool calls n rest
+    → ((i : ℕ) → shared i ≡ true → used (entry (paths (layout laid_in m)) (i ∷ [])) ≡ true)
+    → AllByRecursion (SparesRoot layout.levels shared (λ i. entry (paths (layout laid_in m)) (i ∷ []))) calls → KeepsRootEntries shared layout m n
 
 -- A clean up keeps the root's entry at an index if something below it is used and isn't a present table entry, for example a page.
 abbrev pub PinnedEntriesStay : Type 0
@@ -111,7 +111,7 @@ PinnedEntriesStay = (L : ℕ) (M : PathMap) (low high i : ℕ) (q : List ℕ) �
 
 -- One hierarchy that the pool fits is an address space.
 abbrev pub OneIsASpace : Type 0
-OneIsASpace = (shared : ℕ → Bool) (one : Layout) (serves : ℕ → Bool) (m : Memory) (pool : List ℕ) → FitsPool one m serves pool
+OneIsASpace = (shared : ℕ → Bool) (one : Layout) (serves : ℕ → Bool) (m : Memory) (pool : List ℕ) → PoolFits (one laid_in m) serves pool
     → AreSpaces shared m serves pool (one ∷ [])
 
 -- What calls on one of many address spaces keep is enough for all to stay, if they left the root's entries at the shared indices.
@@ -129,11 +129,11 @@ SpacesStay = (shared : ℕ → Bool) (spaces : List Layout) (one : Layout) → I
 pub record IsNewRoot (shared : ℕ → Bool) (first : Layout) (m n : Memory) (new : Layout) : Type 0 where
   pub places : new.places ≡ first.places
   pub levels : new.levels ≡ first.levels
-  pub there : IsSome (words new n new.root)
-  pub copied : (i : ℕ) → shared i ≡ true → word (outside_window new.window new.root (words new n)) new.root i ≡ entry (paths first m) (i ∷ [])
-  pub empty : (i : ℕ) → shared i ≡ false → word (outside_window new.window new.root (words new n)) new.root i ≡ 0
-  pub self : SelfEntry (words new n) new.root new.window
-  pub others : KeepsOthers first.places (λ f. f ≡ new.root) m n
+  pub there : IsSome (words (new laid_in n) new.root)
+  pub copied : (i : ℕ) → shared i ≡ true → word (outside_window new.window new.root (words (new laid_in n))) new.root i ≡ entry (paths (first laid_in m)) (i ∷ [])
+  pub empty : (i : ℕ) → shared i ≡ false → word (outside_window new.window new.root (words (new laid_in n))) new.root i ≡ 0
+  pub self : SelfEntry (words (new laid_in n)) new.root new.window
+  pub others : KeepsOthers (λ f. f ≡ new.root) (first laid_in m) (first laid_in n)
 
 -- A frame of the pool becomes the root of one more address space.
 abbrev pub NewSpaces : Type 0
@@ -153,7 +153,7 @@ abbrev pub NoFrameIsLost : Type 0
 NoFrameIsLost = (shared : ℕ → Bool) (gone other : Layout) (spaces : List Layout) → (In spaces gone → ⊥) → In spaces other
     → IsMapping gone.places → 0 < gone.levels → (take_back : List ℕ → ℕ → List ℕ) → TakesBack take_back
     → (serves : ℕ → Bool) (m : Memory) (pool : List ℕ) → AreSpaces shared m serves pool (gone ∷ spaces)
-    → ((i : ℕ) → shared i ≡ false → entry (paths gone m) (i ∷ []) ≡ 0) → (f : ℕ) → Owns gone m pool f → Owns other m (take_back pool gone.root) f
+    → ((i : ℕ) → shared i ≡ false → entry (paths (gone laid_in m)) (i ∷ []) ≡ 0) → (f : ℕ) → Owns (gone laid_in m) pool f → Owns (other laid_in m) (take_back pool gone.root) f
 
 -- ---- more shared indices
 
@@ -161,17 +161,17 @@ NoFrameIsLost = (shared : ℕ → Bool) (gone other : Layout) (spaces : List Lay
 abbrev pub FewerAreShared : Type 0
 FewerAreShared = (shared fewer : ℕ → Bool) (serves : ℕ → Bool) (m : Memory) (pool : List ℕ) (spaces : List Layout)
     → ((i : ℕ) → fewer i ≡ true → shared i ≡ true)
-    → ((a : Layout) → In spaces a → (i : ℕ) → shared i ≡ true → fewer i ≡ false → entry (paths a m) (i ∷ []) ≡ 0)
+    → ((a : Layout) → In spaces a → (i : ℕ) → shared i ≡ true → fewer i ≡ false → entry (paths (a laid_in m)) (i ∷ []) ≡ 0)
     → AreSpaces shared m serves pool spaces → AreSpaces fewer m serves pool spaces
 
 -- From the memory m to n all roots but the first one's got its entries at more indices, beside their self-entries. No other word
 -- changed.
 pub record AreSynced (more : ℕ → Bool) (first : Layout) (spaces : List Layout) (m n : Memory) : Type 0 where
-  pub there : (b : Layout) → In spaces b → first.root ≢ b.root → IsSome (words b n b.root)
-  pub synced : (b : Layout) → In spaces b → first.root ≢ b.root → (i : ℕ) → more i ≡ true → word (outside_window b.window b.root (words b n)) b.root i ≡ entry (paths first m) (i ∷ [])
-  pub kept : (b : Layout) → In spaces b → first.root ≢ b.root → (i : ℕ) → more i ≡ false → word (outside_window b.window b.root (words b n)) b.root i ≡ entry (paths b m) (i ∷ [])
-  pub self : (b : Layout) → In spaces b → first.root ≢ b.root → SelfEntry (words b n) b.root b.window
-  pub others : KeepsOthers first.places (λ f. (b : Layout) × (In spaces b) × (first.root ≢ b.root) × (f ≡ b.root)) m n
+  pub there : (b : Layout) → In spaces b → first.root ≢ b.root → IsSome (words (b laid_in n) b.root)
+  pub synced : (b : Layout) → In spaces b → first.root ≢ b.root → (i : ℕ) → more i ≡ true → word (outside_window b.window b.root (words (b laid_in n))) b.root i ≡ entry (paths (first laid_in m)) (i ∷ [])
+  pub kept : (b : Layout) → In spaces b → first.root ≢ b.root → (i : ℕ) → more i ≡ false → word (outside_window b.window b.root (words (b laid_in n))) b.root i ≡ entry (paths (b laid_in m)) (i ∷ [])
+  pub self : (b : Layout) → In spaces b → first.root ≢ b.root → SelfEntry (words (b laid_in n)) b.root b.window
+  pub others : KeepsOthers (λ f. (b : Layout) × (In spaces b) × (first.root ≢ b.root) × (f ≡ b.root)) (first laid_in m) (first laid_in n)
 
 -- Then the address spaces share these indices too.
 abbrev pub SyncedSpaces : Type 0

@@ -6,7 +6,7 @@ use Rattle.x86_64_mappers.specs.Layouts.{direct_at}
 use Rattle.x86_64_mappers.specs.Offsets.{offset_places}
 use Rattle.x86_64.proofs.Moved.{moved}
 use Rattle.x86_64.specs.Calls.{asks}
-use Rattle.x86_64.specs.Runs.{FitsPool}
+use Rattle.x86_64_model.specs.Mapper.{◌laid_in◌, PoolFits}
 use Rattle.pagetab_engine.proofs.AtOffset.{layout_at, at_offset, reached_after, kept_after, answered_after}
 use Rattle.pagetab_engine.proofs.calls.answer_at_offset.Goals as goal
 
@@ -14,7 +14,7 @@ pub answer_by-requires : goal.answer_by-requires
 answer_by-requires g c =
     let offset = c.args.phys_offset in let limit = c.args.pool.now.limit in let free = c.args.pool.now.frames in let m = c.args.memory.now in
     let is = c.new-mapper.ensures.layout ∙ ap (λ (root : ℕ). direct_at g.L.LevelCount.LEVELS (offset_places g.L.LevelCount.LEVELS offset) root) c.root.ensures in
-    moved (λ (l : Layout) (m n : Memory). FitsPool l m (serves_below limit) free) (layout_at g.L.LevelCount.LEVELS offset) _ m _ m m (sym is) (sym c.new-mapper.ensures.memory) refl
+    moved (λ (l : Layout) (m n : Memory). PoolFits (l laid_in m) (serves_below limit) free) (layout_at g.L.LevelCount.LEVELS offset) _ m _ m m (sym is) (sym c.new-mapper.ensures.memory) refl
     (at_offset g.L.LevelCount.LEVELS offset m limit free c.requires.offset c.requires.pool)
 
 pub returns-clause-offset : goal.returns-clause-offset

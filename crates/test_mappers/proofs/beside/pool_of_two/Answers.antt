@@ -5,13 +5,13 @@ use Rattle.std.specs.FinMap.{get}
 use Rattle.x86_64_mappers.specs.Layouts.{direct}
 use Rattle.x86_64_model.specs.Entry.{is_frame}
 use Rattle.x86_64_model.specs.Laws.Spaces.{OneIsASpace}
-use Rattle.x86_64_model.specs.Layout.{Layout, Owns}
+use Rattle.x86_64_model.specs.Layout.{Layout}
+use Rattle.x86_64_model.specs.Mapper.{◌laid_in◌, Owns, PoolFits}
 use Rattle.x86_64_model.specs.Hierarchy.{paths_of}
 use Rattle.x86_64_model.specs.Pool.{serves_below}
 use Rattle.x86_64_model.specs.Memory.{Memory, word, word_in, words_of, identity_places}
 use Rattle.x86_64_model.specs.Pool.{Fits}
 use Rattle.x86_64_tables.specs.PageTable.{zero_words, get_or-zero_words}
-use Rattle.x86_64.specs.Runs.{FitsPool}
 use Rattle.x86_64.specs.EmptyRoots.{EmptyRootsAreSpaces}
 use Rattle.x86_64.proofs.EmptyRoots.{only_root}
 use Rattle.test_mappers.specs.Beside.{AreTwo}
@@ -41,15 +41,15 @@ module _ (m : Memory) (n : ℕ) (fresh : AllZero m n) where
   unfolding word
   all_zero root i = if_below (word_in (words_of m identity_places root) i) i (nat_lt i 512) refl (in_table root i)
 
-  module _ (serves : ℕ → Bool) (pool : List ℕ) (first second : ℕ) (apart : first ≢ second) (first_fits : FitsPool (direct identity_places first) m serves pool)
-      (second_fits : FitsPool (direct identity_places second) m serves pool) where
+  module _ (serves : ℕ → Bool) (pool : List ℕ) (first second : ℕ) (apart : first ≢ second) (first_fits : PoolFits (direct identity_places first laid_in m) serves pool)
+      (second_fits : PoolFits (direct identity_places second laid_in m) serves pool) where
     abbrev other : Layout
     other = direct identity_places second
 
     are_two : OneIsASpace → EmptyRootsAreSpaces → AreTwo first second m serves pool
     are_two one_is empty_is = empty_is (other ∷ []) other (inl refl) (lit< tt) serves m pool (one_is (λ i. false) other serves m pool second_fits)
         first (first_fits.valid.valid.holds.in_memory [] first refl) (all_zero first) (λ a. ⊎_elim
-        (λ e. subst (λ (l : Layout). Owns l m pool first → ⊥) e (⊎_elim
+        (λ e. subst (λ (l : Layout). Owns (l laid_in m) pool first → ⊥) e (⊎_elim
         (λ i. first_fits.no_table first i ([], refl))
         (λ t. apart (sym (only_root 4 (lit< tt) identity_places second m (second_fits.valid.valid.holds.in_memory [] second refl) (all_zero second) first t)))))
         (λ n. absurd n))

@@ -1,6 +1,6 @@
 use Rattle.std.proofs.Common.{◌≡◌, true, [], option_map, unwrap_or, sym, subst}
 use Rattle.x86_64_model.specs.Call.{IsCall}
-use Rattle.x86_64_model.specs.FitsPool.{FitsPool}
+use Rattle.x86_64_model.specs.Mapper.{◌laid_in◌, PoolFits}
 use Rattle.x86_64_model.specs.Window.{Window}
 use Rattle.x86_64.specs.Asked.{machine_call}
 use Rattle.x86_64.specs.Calls.{asks, page_start}
@@ -42,7 +42,7 @@ returns-clause-again g c =
     (subst (λ L. LeftBy L (executed flush (unwrap_or (page_start L call) 0)) second after) (sym levels) (rw c.page_start.ensures at c.execute.ensures)) in
     let next = g.M.Tables.hierarchy c.run_call-reply.new.mapper in
     let later = g.F.FrameKeeper.serves c.run_call-reply.new.frames in
-    let fits : FitsPool next.layout n later rest = rw (ran.keeps.layout, ran.keeps.serves) ran.keeps.keeps.fits in
+    let fits : PoolFits (next.layout laid_in n) later rest = rw (ran.keeps.layout, ran.keeps.serves) ran.keeps.keeps.fits in
     let arises_then : Arises next.layout take_back later n rest after [] = rw (ran.keeps.layout, ran.keeps.serves) arises in
     record { fits = fits; arises = arises_then }
 

@@ -3,7 +3,7 @@ use Rattle.std.proofs.lemmas.List.{drop_all}
 use Rattle.std.proofs.lemmas.Result.{on_err_weaker}
 use Rattle.x86_64_mappers.specs.Layouts.{direct}
 use Rattle.x86_64_model.specs.Call.{Call}
-use Rattle.x86_64_model.specs.FitsPool.{FitsPool}
+use Rattle.x86_64_model.specs.Mapper.{◌laid_in◌, PoolFits}
 use Rattle.x86_64_model.specs.Memory.{Memory, identity_places}
 use Rattle.x86_64_model.specs.Pool.{serves_below}
 use Rattle.uses.specs.Processes.{ending}
@@ -30,7 +30,7 @@ loop-page-preserved g c = record {
 
 pub give_up_space-requires : goal.give_up_space-requires
 give_up_space-requires g c = record {
-  fits = subst (λ (serves : ℕ → Bool). FitsPool (direct identity_places c.args.process) (g.T.TableMemory.tables c.free_tables.new.memory) serves c.free_tables.new.pool.frames)
+  fits = subst (λ (serves : ℕ → Bool). PoolFits (direct identity_places c.args.process laid_in g.T.TableMemory.tables c.free_tables.new.memory) serves c.free_tables.new.pool.frames)
       (sym c.free_tables.ensures.limit) c.free_tables.ensures.served.keeps.fits;
   served = ap (λ (s : ℕ → Bool). s c.args.process) (c.free_tables.ensures.limit ∙ c.loop-page.invariant.limit) ∙ c.requires.served;
 }

@@ -1,7 +1,7 @@
 use Rattle.std.proofs.Common.{◌≡◌, [], refl, sym, ap, ◌∙◌, slice_index, slice_set}
 use Rattle.std.specs.FinMap.{insert}
 use Rattle.std.specs.Option.{unwrap_or, is_some}
-use Rattle.x86_64_model.specs.Layout.{words}
+use Rattle.x86_64_model.specs.Mapper.{◌laid_in◌, words}
 use Rattle.x86_64_mappers.specs.AccessLending.{table_in}
 use Rattle.x86_64_mappers.proofs.Memory.Words.{entry_is_word}
 use Rattle.x86_64_mappers.proofs.access.entry_mut.Goals as goal
@@ -17,7 +17,7 @@ returns g c =
       (refl, λ w. λ i. g.M.TableAccess.with_table s c.args.frame (slice_set (is i) (index i) w)),
       record {
         lends = tt;
-        value = c.index_mut.ensures.value ∙ ap (slice_index table) index ∙ entry_is_word (words l m) c.args.frame c.args.index table c.table_mut.ensures.value (rw index at c.from.ensures.1);
+        value = c.index_mut.ensures.value ∙ ap (slice_index table) index ∙ entry_is_word (words (l laid_in m)) c.args.frame c.args.index table c.table_mut.ensures.value (rw index at c.from.ensures.1);
         set = λ w. record {
           table = table;
           is = c.table_mut.ensures.value;

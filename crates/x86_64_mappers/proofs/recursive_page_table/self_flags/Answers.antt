@@ -1,7 +1,7 @@
 use Rattle.std.proofs.Common.{◌≡◌, ℕ, [], sym, ap, ap₂, ◌∙◌, slice_index, bit_or}
 use Rattle.std.specs.Option.{option_copied}
 use Rattle.x86_64_model.specs.Entry.{address}
-use Rattle.x86_64_model.specs.Layout.{Valid}
+use Rattle.x86_64_model.specs.Mapper.{◌laid_in◌, Valid}
 use Rattle.x86_64_model.specs.Memory.{Memory, identity_places, words_of}
 use Rattle.x86_64_model.proofs.Lemmas.Entries.Bits.{whole}
 use Rattle.x86_64_tables.specs.ActiveMemory.{walked_table}
@@ -15,7 +15,7 @@ use Rattle.x86_64_mappers.proofs.Memory.Words.{entry_is_word}
 use Rattle.x86_64_mappers.proofs.recursive_page_table.self_flags.Goals as goal
 
 -- the table at the root's window is the root's
-shown : (levels : ℕ) (m : Memory) (root r : ℕ) → Valid (recursive_now_at levels m root r) m → (p : ℕ) → ShowsTable levels r [] p → walked_table levels (words_of m identity_places) root p ≡ words_of m identity_places root
+shown : (levels : ℕ) (m : Memory) (root r : ℕ) → Valid (recursive_now_at levels m root r laid_in m) → (p : ℕ) → ShowsTable levels r [] p → walked_table levels (words_of m identity_places) root p ≡ words_of m identity_places root
 shown levels m root r valid = window_table levels m root (window_at (words_of m identity_places) root r) [] root (here_first (recursive_now_at levels m root r) m [] valid).reached
 
 pub unwrap-table-requires : goal.unwrap-table-requires

@@ -2,10 +2,9 @@
 use Rattle.std.proofs.Common.{◌≡◌, ◌⊎◌, inl, inr, ⊎_elim, ℕ, Bool, true, List, [], ◌∷◌, Some, None, Option, IsSome, refl, sym, ap, ◌∙◌, subst, eq-eqb, eqb-true}
 use Rattle.std.proofs.lemmas.Option.{same_Some}
 use Rattle.x86_64_model.specs.Entry.{IsParentFlags, address}
-use Rattle.x86_64_model.specs.Layout.{Layout, words, paths}
-use Rattle.x86_64_model.specs.Layout.{IsReady}
+use Rattle.x86_64_model.specs.Layout.{Layout}
 use Rattle.x86_64_model.specs.Memory.{Memory, Words}
-use Rattle.x86_64_model.specs.Mapper.{Hierarchy, PoolFits, MayCleanUp}
+use Rattle.x86_64_model.specs.Mapper.{◌laid_in◌, Hierarchy, PoolFits, MayCleanUp, SupplyFits}
 use Rattle.x86_64_model.specs.PathMap.{table_at}
 use Rattle.x86_64_model.specs.Window.{Window, outside_window, IsValidFor}
 use Rattle.x86_64_model.specs.Hierarchy.{IsValid}
@@ -23,7 +22,7 @@ use Rattle.x86_64_model.proofs.Lemmas.Machines.States.{Aside, IsSound, step_soun
 -- ---- and words
 
 -- whatever a pool serves, its frames are as the calls of a mapper want them
-pub ready_of_fits : (l : Layout) (m : Memory) (serves : ℕ → Bool) (pool : List ℕ) → Fits l.levels l.window (words l m) l.root (paths l m) serves pool → IsReady l m pool
+pub ready_of_fits : (l : Layout) (m : Memory) (serves : ℕ → Bool) (pool : List ℕ) → PoolFits (l laid_in m) serves pool → SupplyFits (l laid_in m) pool
 ready_of_fits l m serves pool fits = record {
   valid = fits.valid;
   each_once = fits.each_once;

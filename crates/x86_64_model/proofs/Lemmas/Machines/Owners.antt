@@ -5,14 +5,12 @@ use Rattle.x86_64_model.specs.Allowed.{refuses}
 use Rattle.x86_64_model.specs.Arrivals.{Arrives}
 use Rattle.x86_64_model.specs.Call.{Call, Reply, MapTo, MapToWithTableFlags, IdentityMap, Unmap, UpdateFlags, SetFlags, NotAllowed, Answered, Position, Address, Cleaned}
 use Rattle.x86_64_model.specs.Entry.{IsParentFlags, present, used, address}
-use Rattle.x86_64_model.specs.Layout.{paths as paths_in, walk as walk_in}
 use Rattle.x86_64_model.proofs.Lemmas.Maps.Mapped.{arrives_in_page}
 use Rattle.x86_64_model.specs.Machine.{AfterCall, do_call, after_map, after_change}
 use Rattle.x86_64_model.specs.MapRule.{map_call, parent_part, leaf_entry}
-use Rattle.x86_64_model.specs.Layout.{IsReady}
 use Rattle.x86_64_model.specs.private.MapperCalls.{IsMapped, IsChanged, after_unmap, after_update, after_set_flags}
 use Rattle.x86_64_model.specs.Memory.{Memory}
-use Rattle.x86_64_model.specs.Mapper.{Hierarchy, MayMap, Does, DoesMap, ArrivesIn, machine_of, state_of, named, paths, read_entry}
+use Rattle.x86_64_model.specs.Mapper.{◌laid_in◌, Hierarchy, MayMap, Does, DoesMap, ArrivesIn, machine_of, state_of, named, paths, read_entry, SupplyFits, walk}
 use Rattle.x86_64_model.specs.PageRules.{AfterChange, refused_or, update_refusal, update_flags, set_flags}
 use Rattle.x86_64_model.specs.Path.{level_of, front_at, path_at}
 use Rattle.x86_64_model.specs.PathMap.{PathMap, put}
@@ -44,7 +42,7 @@ module _ {Lent : Type 0} (h : Hierarchy Lent) (supply : List ℕ) where
     outcome = λ take_back. ap after_map mapped.outcome;
     fits = mapped.ready;
     others = mapped.others;
-    walks = λ m is p. subst (λ m. Arrives m (walk_in h.layout h.memory p) (walk_in h.layout n p)) (same_Some more m is) (mapped.walks p);
+    walks = λ m is p. subst (λ m. Arrives m (walk h p) (walk (h.layout laid_in n) p)) (same_Some more m is) (mapped.walks p);
     layout = refl;
     lent = refl;
   }
@@ -60,11 +58,11 @@ module _ {Lent : Type 0} (h : Hierarchy Lent) (supply : List ℕ) where
       → IsMapped h.layout h.memory supply q frame given more answer after.memory rest
   unfolding do_call
   is_mapped q frame given more answer after rest does = record {
-    outcome = subst (λ l. map_call h.layout.levels (paths_in h.layout h.memory) supply more h.layout.added_flags q frame given ≡ record { paths = paths_in l after.memory; supply = rest; answer = answer }) does.layout
+    outcome = subst (λ l. map_call h.layout.levels (paths h) supply more h.layout.added_flags q frame given ≡ record { paths = paths (l laid_in after.memory); supply = rest; answer = answer }) does.layout
         (ap (λ (x : AfterCall). record { paths = x.state.paths; supply = x.state.pool; answer = answer_in answer x.reply }) (does.outcome (λ held f. held)));
-    ready = subst (λ l. IsReady l after.memory rest) does.layout does.fits;
+    ready = subst (λ l. SupplyFits (l laid_in after.memory) rest) does.layout does.fits;
     others = does.others;
-    walks = λ p. subst (λ l. Arrives more (walk_in h.layout h.memory p) (walk_in l after.memory p)) does.layout (does.walks more refl p);
+    walks = λ p. subst (λ l. Arrives more (walk h p) (walk (l laid_in after.memory) p)) does.layout (does.walks more refl p);
   }
 
   -- where the processor arrives after a `map_to` with PRESENT
@@ -74,7 +72,7 @@ module _ {Lent : Type 0} (h : Hierarchy Lent) (supply : List ℕ) where
   map_arrives level start frame given low high levels multiple is_frame aligned adds after rest may does is_present =
       let mapped = is_mapped (path_at h.layout.levels level start) frame given (parent_part given) (Done frame) after rest does in
       let arrives = arrives_in_page h.layout level start frame given low high levels multiple is_frame aligned adds h.memory supply after.memory rest may.fits may.allowed mapped is_present in
-      λ offset within. ap (λ l. walk_in l after.memory (start + offset)) does.layout ∙ arrives offset within
+      λ offset within. ap (λ l. walk (l laid_in after.memory) (start + offset)) does.layout ∙ arrives offset within
 
 -- ---- changes of one entry
 

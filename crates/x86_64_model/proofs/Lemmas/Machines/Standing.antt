@@ -2,10 +2,10 @@
 use Rattle.std.proofs.Common.{◌≡◌, ◌≢◌, ◌⊎◌, inl, inr, ◌<◌, ◌≤◌, ◌+◌, ◌-◌, ◌%◌, ℕ, true, false, List, length, take, Some, sym, ap, ◌∙◌, subst, arith}
 use Rattle.x86_64_model.specs.Call.{MapTo, MapToWithTableFlags}
 use Rattle.x86_64_model.specs.Entry.{IsParentFlags, present, address, writable, user}
-use Rattle.x86_64_model.specs.Layout.{Layout, paths as paths_in}
+use Rattle.x86_64_model.specs.Layout.{Layout}
 use Rattle.x86_64_model.specs.Machine.{do_call}
 use Rattle.x86_64_model.specs.MapRule.{AfterMap, map_call, parent_part}
-use Rattle.x86_64_model.specs.Mapper.{Hierarchy, Valid, MayMap, DoesMap, ArrivesIn, Stands, paths, path_of}
+use Rattle.x86_64_model.specs.Mapper.{◌laid_in◌, Hierarchy, Valid, MayMap, DoesMap, ArrivesIn, Stands, paths, path_of}
 use Rattle.x86_64_model.specs.Path.{path_at}
 use Rattle.x86_64_model.specs.Position.{span, page_path}
 use Rattle.x86_64_model.specs.Refusal.{Answer, Done, Refused, ParentEntryHugePage}
@@ -36,7 +36,7 @@ module _ {Lent : Type 0} (h after : Hierarchy Lent) (supply rest : List ℕ) (le
   with_flags = record { outcome = does.outcome; fits = does.fits; others = does.others; walks = does.walks; layout = does.layout; lent = does.lent }
 
   outcome : map_call h.layout.levels (paths h) supply (parent_part given) h.layout.added_flags (path_of h level page) frame given
-      ≡ record { paths = paths_in h.layout after.memory; supply = rest; answer = answer }
+      ≡ record { paths = paths (h.layout laid_in after.memory); supply = rest; answer = answer }
   outcome = (is_mapped h supply (path_of h level page) frame given (parent_part given) answer after rest with_flags).outcome
 
   may_parts : MapMay h.layout.window (paths h) (path_of h level page) given (parent_part given)
@@ -46,7 +46,7 @@ module _ {Lent : Type 0} (h after : Hierarchy Lent) (supply rest : List ℕ) (le
   to_after : (l p f g : ℕ) → StandsAt h.layout.levels l (map_call h.layout.levels (paths h) supply (parent_part given) h.layout.added_flags (path_of h level page) frame given).paths (path_of h l p) f g
       → Stands after l p f g
   to_after l p f g stands =
-      subst (λ (layout : Layout). StandsAt layout.levels l (paths_in layout after.memory) (path_at layout.levels l p) f g) (sym does.layout)
+      subst (λ (layout : Layout). StandsAt layout.levels l (paths (layout laid_in after.memory)) (path_at layout.levels l p) f g) (sym does.layout)
       (subst (λ (a : AfterMap). StandsAt h.layout.levels l a.paths (path_of h l p) f g) outcome stands)
 
   -- an accepted map with PRESENT makes its page stand

@@ -8,10 +8,9 @@ use Rattle.x86_64_model.specs.CleanUp.{meets, in_range, is_removed, clean_up}
 use Rattle.x86_64_model.specs.Entry.{IsParentFlags, used, present, huge}
 use Rattle.x86_64_model.specs.Laws.Spaces.{CallsKeepBelow, CallsKeepRootEntries, PinnedEntriesStay}
 use Rattle.x86_64_model.specs.Laws.Steps.{AllCalls}
-use Rattle.x86_64_model.specs.Layout.{words, paths}
 use Rattle.x86_64_model.specs.Machine.{State, do_call, step, state_after}
 use Rattle.x86_64_model.specs.MapRule.{map_call, leaf_entry, parent_part}
-use Rattle.x86_64_model.specs.Mapper.{state_in}
+use Rattle.x86_64_model.specs.Mapper.{◌laid_in◌, state_in, paths, words}
 use Rattle.x86_64_model.specs.Path.{IsPage, parents, path_at}
 use Rattle.x86_64_model.specs.PathMap.{PathMap, entry, put}
 use Rattle.x86_64_model.specs.Pool.{TakesBack}
@@ -112,7 +111,7 @@ pub calls_keep_below : CallsKeepBelow
 calls_keep_below shared layout adds take_back gives serves m n pool rest calls are fits led off q on =
     ap (λ (s : State). entry s.paths q) led
     ∙ run_avoids shared layout.levels layout.window layout.root serves layout.added_flags adds take_back gives calls are off (state_in layout m pool)
-    (sound_of_fits layout.levels layout.window (words layout m) layout.root serves (state_in layout m pool) fits) q on
+    (sound_of_fits layout.levels layout.window (words (layout laid_in m)) layout.root serves (state_in layout m pool) fits) q on
 
 -- ---- calls that leave the root's entries
 
@@ -179,8 +178,8 @@ run_spares shared L four window root serves added adds take_back gives E i on is
 pub calls_keep_root_entries : CallsKeepRootEntries
 calls_keep_root_entries shared layout four adds take_back gives serves m n pool rest calls are fits led is_used spares i on =
     ap (λ (s : State). entry s.paths (i ∷ [])) led
-    ∙ run_spares shared layout.levels four layout.window layout.root serves layout.added_flags adds take_back gives (λ i. entry (paths layout m) (i ∷ [])) i on (is_used i on) calls are spares (state_in layout m pool)
-    (sound_of_fits layout.levels layout.window (words layout m) layout.root serves (state_in layout m pool) fits) refl
+    ∙ run_spares shared layout.levels four layout.window layout.root serves layout.added_flags adds take_back gives (λ i. entry (paths (layout laid_in m)) (i ∷ [])) i on (is_used i on) calls are spares (state_in layout m pool)
+    (sound_of_fits layout.levels layout.window (words (layout laid_in m)) layout.root serves (state_in layout m pool) fits) refl
 
 -- ---- what keeps an entry of the root in a clean up
 

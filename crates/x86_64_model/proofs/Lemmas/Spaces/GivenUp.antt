@@ -3,9 +3,9 @@ use Rattle.std.proofs.Common.{◌≡◌, ◌≢◌, inl, inr, ⊎_elim, ◌<◌,
 use Rattle.std.proofs.lemmas.Bool.{cases_Bool}
 use Rattle.std.proofs.lemmas.Option.{same_Some}
 use Rattle.x86_64_model.specs.Entry.{is_frame}
-use Rattle.x86_64_model.specs.FitsPool.{FitsPool}
+use Rattle.x86_64_model.specs.Mapper.{◌laid_in◌, Owns, PoolFits, paths, words}
 use Rattle.x86_64_model.specs.Laws.Spaces.{SpacesAreGivenUp, NoFrameIsLost}
-use Rattle.x86_64_model.specs.Layout.{Layout, words, paths, Owns}
+use Rattle.x86_64_model.specs.Layout.{Layout}
 use Rattle.x86_64_model.specs.Lists.{In}
 use Rattle.x86_64_model.specs.Memory.{Memory, Places, IsMapping, words_of}
 use Rattle.x86_64_model.specs.PathMap.{entry, table_of, table_at}
@@ -26,7 +26,7 @@ module _ (shared : ℕ → Bool) (gone : Layout) (spaces : List Layout) (once : 
   abbrev rest : List ℕ
   rest = take_back pool f
 
-  its : FitsPool gone m serves pool
+  its : PoolFits (gone laid_in m) serves pool
   its = are.fits gone (inl refl)
 
   root_apart : (a : Layout) → In spaces a → f ≢ a.root
@@ -35,22 +35,22 @@ module _ (shared : ℕ → Bool) (gone : Layout) (spaces : List Layout) (once : 
   beside_it : (a : Layout) → In spaces a → Shares shared a m pool gone
   beside_it a i = are.share a gone (inr i) (inl refl) (λ e. root_apart a i (sym e))
 
-  not_own : (a : Layout) → In spaces a → Owns a m pool f → ⊥
+  not_own : (a : Layout) → In spaces a → Owns (a laid_in m) pool f → ⊥
   not_own a i = (beside_it a i).apart [] f refl refl
 
   freed : (g : ℕ) → In rest g → (f ≡ g) ⊎ In pool g
   freed g = (gives.same_frames pool f g).0
 
-  its_root_there : IsSome (words gone m f)
-  its_root_there = inside_window gone.window f (words gone m) f (its.valid.valid.holds.in_memory [] f refl)
+  its_root_there : IsSome (words (gone laid_in m) f)
+  its_root_there = inside_window gone.window f (words (gone laid_in m)) f (its.valid.valid.holds.in_memory [] f refl)
 
   module _ (mapping : IsMapping gone.places) (served : serves f ≡ true) (nonzero : f ≢ 0) where
-    fits_more : (a : Layout) → In spaces a → FitsPool a m serves rest
+    fits_more : (a : Layout) → In spaces a → PoolFits (a laid_in m) serves rest
     fits_more a i = let was = are.fits a (inr i) in record {
       valid = was.valid;
       each_once = gives.each_once pool f (λ x. its.no_table f x ([], refl), was.each_once);
       in_memory = λ g x. ⊎_elim
-          (λ e. subst (λ g. IsSome (words a m g)) e (subst (λ (p : Places). IsSome (words_of m p f)) (beside_it a i).places its_root_there))
+          (λ e. subst (λ g. IsSome (words (a laid_in m) g)) e (subst (λ (p : Places). IsSome (words_of m p f)) (beside_it a i).places its_root_there))
           (λ x. was.in_memory g x) (freed g x);
       are_frames = λ g x. ⊎_elim (λ e. subst (λ g. is_frame g ≡ true) e (mapping.frames f (covered m gone.places f its_root_there))) (λ x. was.are_frames g x) (freed g x);
       not_zero = λ x. ⊎_elim nonzero was.not_zero (freed 0 x);
@@ -75,30 +75,30 @@ module _ (shared : ℕ → Bool) (gone : Layout) (spaces : List Layout) (once : 
 
   -- ---- what it owned
 
-  module _ (mapping : IsMapping gone.places) (some : 0 < gone.levels) (empty : (i : ℕ) → shared i ≡ false → entry (paths gone m) (i ∷ []) ≡ 0) (other : Layout) (member : In spaces other) where
+  module _ (mapping : IsMapping gone.places) (some : 0 < gone.levels) (empty : (i : ℕ) → shared i ≡ false → entry (paths (gone laid_in m)) (i ∷ []) ≡ 0) (other : Layout) (member : In spaces other) where
     back : (g : ℕ) → (f ≡ g) ⊎ In pool g → In rest g
     back g = (gives.same_frames pool f g).1
 
     share_it : Shares shared gone m pool other
     share_it = are.share gone other (inl refl) (inr member) (root_apart other member)
 
-    nothing_below : (i : ℕ) → shared i ≡ false → (q : List ℕ) → entry (paths gone m) (i ∷ q) ≡ 0
+    nothing_below : (i : ℕ) → shared i ≡ false → (q : List ℕ) → entry (paths (gone laid_in m)) (i ∷ q) ≡ 0
     nothing_below i s [] = empty i s
-    nothing_below i s (j ∷ q) = tree_below gone.levels f (paths gone m) (tree_of_holds gone.levels _ f (paths gone m) its.valid.valid.holds) (i ∷ []) j q
+    nothing_below i s (j ∷ q) = tree_below gone.levels f (paths (gone laid_in m)) (tree_of_holds gone.levels _ f (paths (gone laid_in m)) its.valid.valid.holds) (i ∷ []) j q
         (ap (table_of gone.levels (i ∷ [])) (empty i s) ∙ unused_no_table gone.levels (i ∷ []))
 
-    table_elsewhere : (q : List ℕ) (g : ℕ) → table_at gone.levels f (paths gone m) q ≡ Some g → Owns other m rest g
+    table_elsewhere : (q : List ℕ) (g : ℕ) → table_at gone.levels f (paths (gone laid_in m)) q ≡ Some g → Owns (other laid_in m) rest g
     table_elsewhere [] g leads = inl (back g (inl (same_Some f g leads)))
     table_elsewhere (i ∷ q) g leads = ⊎_elim
         (λ s. inr (
           i ∷ q,
-          shared_table shared other.levels gone.levels other.root f (paths other m) (paths gone m) (i ∷ q) share_it.levels s
+          shared_table shared other.levels gone.levels other.root f (paths (other laid_in m)) (paths (gone laid_in m)) (i ∷ q) share_it.levels s
               (shared_entries_are_the_same shared gone other mapping some serves m pool its share_it (i ∷ q) s) ∙ leads,
         ))
         (λ s. let z : None ≡ Some g = sym (ap (table_of gone.levels (i ∷ q)) (nothing_below i s q) ∙ unused_no_table gone.levels (i ∷ q)) ∙ leads in cc)
         (cases_Bool (shared i))
 
-    pub nothing_lost : (g : ℕ) → Owns gone m pool g → Owns other m rest g
+    pub nothing_lost : (g : ℕ) → Owns (gone laid_in m) pool g → Owns (other laid_in m) rest g
     nothing_lost g = ⊎_elim (λ x. inl (back g (inr x))) (λ t. table_elsewhere t.0 g t.1)
 
 pub spaces_are_given_up : SpacesAreGivenUp

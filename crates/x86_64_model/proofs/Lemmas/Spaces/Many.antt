@@ -1,9 +1,10 @@
 -- Many address spaces, beside calls on one of them.
 use Rattle.std.proofs.Common.{◌≡◌, ◌≢◌, inl, inr, ⊎_elim, ◌<◌, ℕ, Bool, true, false, List, [], ◌∷◌, Some, sym, ap, ap₂, ◌∙◌, subst}
 use Rattle.std.proofs.lemmas.Bool.{cases_Bool, cases_eq}
-use Rattle.x86_64_model.specs.FitsPool.{FitsPool, KeepsPool}
+use Rattle.x86_64_model.specs.Mapper.{◌laid_in◌, PoolFits, paths}
+use Rattle.x86_64_model.specs.Store.{KeepsPool}
 use Rattle.x86_64_model.specs.Laws.Spaces.{KeepsRootEntries, StaysSharing, OneIsASpace, SpacesStay}
-use Rattle.x86_64_model.specs.Layout.{Layout, paths}
+use Rattle.x86_64_model.specs.Layout.{Layout}
 use Rattle.x86_64_model.specs.Lists.{In}
 use Rattle.x86_64_model.specs.Memory.{Memory, IsMapping}
 use Rattle.x86_64_model.specs.PathMap.{PathMap, entry, table_of, table_at}
@@ -21,21 +22,21 @@ module _ (shared : ℕ → Bool) (spaces : List Layout) (one : Layout) (member :
   stay : (b : Layout) → In spaces b → one.root ≢ b.root → StaysSharing shared one b serves m pool n rest
   stay b i apart = shared_tables_stay shared one b mapping some serves m n pool rest (are.fits one member) keeps kept (are.share one b member i apart)
 
-  fits_again : (b : Layout) → In spaces b → FitsPool b n serves rest
+  fits_again : (b : Layout) → In spaces b → PoolFits (b laid_in n) serves rest
   fits_again b i = ⊎_elim
-      (λ e. subst (λ (l : Layout). FitsPool l n serves rest) (are.own_roots one b member i e) keeps.fits)
+      (λ e. subst (λ (l : Layout). PoolFits (l laid_in n) serves rest) (are.own_roots one b member i e) keeps.fits)
       (λ apart. (stay b i apart).fits (are.fits b i))
       (cases_eq one.root b.root)
 
   -- two others, which share beside the one
   module _ (a b : Layout) (was : Shares shared a m pool b) (x : StaysSharing shared one a serves m pool n rest) (y : StaysSharing shared one b serves m pool n rest) where
-    before : (q : List ℕ) (f : ℕ) → is_shared shared q ≡ false → table_at b.levels b.root (paths b n) q ≡ Some f → table_at b.levels b.root (paths b m) q ≡ Some f
-    before q f s leads = sym (table_at_same b.levels b.root (paths b n) (paths b m) q (y.elsewhere q s)) ∙ leads
+    before : (q : List ℕ) (f : ℕ) → is_shared shared q ≡ false → table_at b.levels b.root (paths (b laid_in n)) q ≡ Some f → table_at b.levels b.root (paths (b laid_in m)) q ≡ Some f
+    before q f s leads = sym (table_at_same b.levels b.root (paths (b laid_in n)) (paths (b laid_in m)) q (y.elsewhere q s)) ∙ leads
 
-    no_table_of : (q p : List ℕ) (f : ℕ) → is_shared shared q ≡ false → table_at b.levels b.root (paths b n) q ≡ Some f → table_at a.levels a.root (paths a n) p ≡ Some f → ⊥
+    no_table_of : (q p : List ℕ) (f : ℕ) → is_shared shared q ≡ false → table_at b.levels b.root (paths (b laid_in n)) q ≡ Some f → table_at a.levels a.root (paths (a laid_in n)) p ≡ Some f → ⊥
     no_table_of q p f s leads other = ⊎_elim
-        (λ t. y.shares.apart q f s leads (inr (p, sym (shared_table shared a.levels one.levels a.root one.root (paths a n) (paths one n) p x.shares.levels t (x.below_shared p t)) ∙ other)))
-        (λ u. was.apart q f s (before q f s leads) (inr (p, sym (table_at_same a.levels a.root (paths a n) (paths a m) p (x.elsewhere p u)) ∙ other)))
+        (λ t. y.shares.apart q f s leads (inr (p, sym (shared_table shared a.levels one.levels a.root one.root (paths (a laid_in n)) (paths (one laid_in n)) p x.shares.levels t (x.below_shared p t)) ∙ other)))
+        (λ u. was.apart q f s (before q f s leads) (inr (p, sym (table_at_same a.levels a.root (paths (a laid_in n)) (paths (a laid_in m)) p (x.elsewhere p u)) ∙ other)))
         (cases_Bool (is_shared shared p))
 
     both_stay : Shares shared a n rest b
@@ -64,7 +65,7 @@ spaces_stay shared spaces one member mapping some serves m n pool rest are keeps
 
 pub one_is_a_space : OneIsASpace
 one_is_a_space shared one serves m pool fits = record {
-  fits = λ a i. subst (λ (l : Layout). FitsPool l m serves pool) (only a i) fits;
+  fits = λ a i. subst (λ (l : Layout). PoolFits (l laid_in m) serves pool) (only a i) fits;
   own_roots = λ a b i j e. sym (only a i) ∙ only b j;
   share = λ a b i j apart. absurd (apart (ap (λ (l : Layout). l.root) (sym (only a i) ∙ only b j)));
 }

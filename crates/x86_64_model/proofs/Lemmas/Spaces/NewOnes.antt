@@ -2,10 +2,10 @@
 use Rattle.std.proofs.Common.{◌≡◌, ◌≢◌, ◌⊎◌, inl, inr, ⊎_elim, ◌<◌, ℕ, Bool, true, false, cond, List, [], ◌∷◌, ◌++◌, Some, None, Option, IsSome, refl, sym, ap, ◌∙◌, subst}
 use Rattle.std.proofs.lemmas.Bool.{cases_Bool, cases_eq}
 use Rattle.x86_64_model.specs.Entry.{huge}
-use Rattle.x86_64_model.specs.FitsPool.{FitsPool}
+use Rattle.x86_64_model.specs.Mapper.{◌laid_in◌, Owns, PoolFits, Valid, paths, words}
 use Rattle.x86_64_model.specs.Hierarchy.{entry_in, IsValid, paths_of}
 use Rattle.x86_64_model.specs.Laws.Spaces.{IsNewRoot, NewSpaces}
-use Rattle.x86_64_model.specs.Layout.{Layout, words, paths, Valid, Owns}
+use Rattle.x86_64_model.specs.Layout.{Layout}
 use Rattle.x86_64_model.specs.Lists.{In}
 use Rattle.x86_64_model.specs.Memory.{Memory, Places, Words, IsMapping, word, words_of}
 use Rattle.x86_64_model.specs.PathMap.{PathMap, entry, table_of, table_at}
@@ -22,15 +22,15 @@ use Rattle.x86_64_model.proofs.Lemmas.Tables.Exact.{inside_window, still_there}
 
 -- ---- a hierarchy none of whose tables changed
 
-module _ (l : Layout) (some : 0 < l.levels) (m n : Memory) (valid : Valid l m) (same : (q : List ℕ) (f : ℕ) → table_at l.levels l.root (paths l m) q ≡ Some f → words l n f ≡ words l m f) where
-  still : IsValidFor l.levels l.window (words l n) l.root (paths l m)
-  still = valid_for_elsewhere l.levels l.window (words l m) (words l n) l.root (paths l m) same valid
+module _ (l : Layout) (some : 0 < l.levels) (m n : Memory) (valid : Valid (l laid_in m)) (same : (q : List ℕ) (f : ℕ) → table_at l.levels l.root (paths (l laid_in m)) q ≡ Some f → words (l laid_in n) f ≡ words (l laid_in m) f) where
+  still : IsValidFor l.levels l.window (words (l laid_in n)) l.root (paths (l laid_in m))
+  still = valid_for_elsewhere l.levels l.window (words (l laid_in m)) (words (l laid_in n)) l.root (paths (l laid_in m)) same valid
 
-  pub unchanged_paths : paths l m ≡ paths l n
-  unchanged_paths = held_is_paths_of l.levels (outside_window l.window l.root (words l n)) l.root some (paths l m) still.valid.holds
+  pub unchanged_paths : paths (l laid_in m) ≡ paths (l laid_in n)
+  unchanged_paths = held_is_paths_of l.levels (outside_window l.window l.root (words (l laid_in n))) l.root some (paths (l laid_in m)) still.valid.holds
 
-  pub unchanged_valid : Valid l n
-  unchanged_valid = subst (IsValidFor l.levels l.window (words l n) l.root) unchanged_paths still
+  pub unchanged_valid : Valid (l laid_in n)
+  unchanged_valid = subst (IsValidFor l.levels l.window (words (l laid_in n)) l.root) unchanged_paths still
 
 -- ---- the address spaces that were there
 
@@ -46,38 +46,38 @@ module _ (shared : ℕ → Bool) (spaces : List Layout) (first new : Layout) (me
       (λ apart. let s = are.share first a member i (λ e. apart (sym e)) in (s.places, s.levels))
       (cases_eq a.root first.root)
 
-  not_table : (a : Layout) → In spaces a → (q : List ℕ) (g : ℕ) → table_at a.levels a.root (paths a m) q ≡ Some g → g ≢ f
+  not_table : (a : Layout) → In spaces a → (q : List ℕ) (g : ℕ) → table_at a.levels a.root (paths (a laid_in m)) q ≡ Some g → g ≢ f
   not_table a i q g leads e = (are.fits a i).no_table f (inl refl) (q, leads ∙ ap Some e)
 
-  first_there : IsSome (words first m f)
+  first_there : IsSome (words (first laid_in m) f)
   first_there = (are.fits first member).in_memory f (inl refl)
 
   -- another frame that was there has its words
-  same_first : (g : ℕ) → IsSome (words first m g) → g ≢ f → words first n g ≡ words first m g
+  same_first : (g : ℕ) → IsSome (words (first laid_in m) g) → g ≢ f → words (first laid_in n) g ≡ words (first laid_in m) g
   same_first g there apart = ap (λ o. cond (first.places.covers g) o None) (is.others (first.places.place g) (λ h e p.
       apart (sym (mapping.distinct f g (covered m first.places f first_there) (covered m first.places g there) (ap first.places.place (sym e) ∙ p)))))
 
-  same_words : (a : Layout) → In spaces a → (g : ℕ) → IsSome (words a m g) → g ≢ f → words a n g ≡ words a m g
+  same_words : (a : Layout) → In spaces a → (g : ℕ) → IsSome (words (a laid_in m) g) → g ≢ f → words (a laid_in n) g ≡ words (a laid_in m) g
   same_words a i g there apart =
       let at : a.places ≡ first.places = (alike a i).0 in
       subst (λ (p : Places). words_of n p g ≡ words_of m p g) (sym at) (same_first g (subst (λ (p : Places). IsSome (words_of m p g)) at there) apart)
 
-  same_tables : (a : Layout) → In spaces a → (q : List ℕ) (g : ℕ) → table_at a.levels a.root (paths a m) q ≡ Some g → words a n g ≡ words a m g
-  same_tables a i q g leads = same_words a i g (inside_window a.window a.root (words a m) g ((are.fits a i).valid.valid.holds.in_memory q g leads)) (not_table a i q g leads)
+  same_tables : (a : Layout) → In spaces a → (q : List ℕ) (g : ℕ) → table_at a.levels a.root (paths (a laid_in m)) q ≡ Some g → words (a laid_in n) g ≡ words (a laid_in m) g
+  same_tables a i q g leads = same_words a i g (inside_window a.window a.root (words (a laid_in m)) g ((are.fits a i).valid.valid.holds.in_memory q g leads)) (not_table a i q g leads)
 
   levels_of : (a : Layout) → In spaces a → 0 < a.levels
   levels_of a i = subst (λ n. 0 < n) (sym (alike a i).1) some
 
-  old_paths : (a : Layout) → In spaces a → paths a m ≡ paths a n
+  old_paths : (a : Layout) → In spaces a → paths (a laid_in m) ≡ paths (a laid_in n)
   old_paths a i = unchanged_paths a (levels_of a i) m n (are.fits a i).valid (same_tables a i)
 
-  old_valid : (a : Layout) → In spaces a → Valid a n
+  old_valid : (a : Layout) → In spaces a → Valid (a laid_in n)
   old_valid a i = unchanged_valid a (levels_of a i) m n (are.fits a i).valid (same_tables a i)
 
-  table_before : (a : Layout) → In spaces a → (q : List ℕ) (g : ℕ) → table_at a.levels a.root (paths a n) q ≡ Some g → table_at a.levels a.root (paths a m) q ≡ Some g
+  table_before : (a : Layout) → In spaces a → (q : List ℕ) (g : ℕ) → table_at a.levels a.root (paths (a laid_in n)) q ≡ Some g → table_at a.levels a.root (paths (a laid_in m)) q ≡ Some g
   table_before a i q g = subst (λ (M : PathMap). table_at a.levels a.root M q ≡ Some g) (sym (old_paths a i))
 
-  not_table_now : (a : Layout) → In spaces a → (q : List ℕ) (g : ℕ) → table_at a.levels a.root (paths a n) q ≡ Some g → g ≢ f
+  not_table_now : (a : Layout) → In spaces a → (q : List ℕ) (g : ℕ) → table_at a.levels a.root (paths (a laid_in n)) q ≡ Some g → g ≢ f
   not_table_now a i q g leads = not_table a i q g (table_before a i q g leads)
 
   not_first_free : In rest f → ⊥
@@ -86,10 +86,10 @@ module _ (shared : ℕ → Bool) (spaces : List Layout) (first new : Layout) (me
   free_apart : (g : ℕ) → In rest g → g ≢ f
   free_apart g i e = not_first_free (subst (In rest) e i)
 
-  owned_before : (a : Layout) → In spaces a → (g : ℕ) → Owns a n rest g → Owns a m (f ∷ rest) g
+  owned_before : (a : Layout) → In spaces a → (g : ℕ) → Owns (a laid_in n) rest g → Owns (a laid_in m) (f ∷ rest) g
   owned_before a i g = ⊎_elim (λ x. inl (inr x)) (λ t. inr (t.0, table_before a i t.0 g t.1))
 
-  old_fits : (a : Layout) → In spaces a → FitsPool a n serves rest
+  old_fits : (a : Layout) → In spaces a → PoolFits (a laid_in n) serves rest
   old_fits a i = let was = are.fits a i in record {
     valid = old_valid a i;
     each_once = was.each_once.1;
@@ -111,9 +111,9 @@ module _ (shared : ℕ → Bool) (spaces : List Layout) (first new : Layout) (me
   }
 
   -- below the shared indices all are alike
-  old_alike : (a : Layout) → In spaces a → (q : List ℕ) → is_shared shared q ≡ true → entry (paths a n) q ≡ entry (paths first n) q
+  old_alike : (a : Layout) → In spaces a → (q : List ℕ) → is_shared shared q ≡ true → entry (paths (a laid_in n)) q ≡ entry (paths (first laid_in n)) q
   old_alike a i q s = ⊎_elim
-      (λ e. ap (λ (l : Layout). entry (paths l n) q) (are.own_roots a first i member e))
+      (λ e. ap (λ (l : Layout). entry (paths (l laid_in n)) q) (are.own_roots a first i member e))
       (λ apart. shared_entries_are_the_same shared first a mapping some serves n rest (old_fits first member) (old_share first a member i (λ e. apart (sym e))) q s)
       (cases_eq a.root first.root)
 
@@ -126,7 +126,7 @@ module _ (shared : ℕ → Bool) (spaces : List Layout) (first new : Layout) (me
   w = new.window
 
   abbrev U : Words
-  U = words first n
+  U = words (first laid_in n)
 
   abbrev first_words : Words
   first_words = outside_window first.window first.root U
@@ -135,7 +135,7 @@ module _ (shared : ℕ → Bool) (spaces : List Layout) (first new : Layout) (me
   new_words = outside_window w f U
 
   abbrev N : PathMap
-  N = paths first n
+  N = paths (first laid_in n)
 
   abbrev N' : PathMap
   N' = paths_of L new_words f
@@ -145,7 +145,7 @@ module _ (shared : ℕ → Bool) (spaces : List Layout) (first new : Layout) (me
   at_places P h = subst P is.places h
 
   copied : (i : ℕ) → shared i ≡ true → word new_words f i ≡ entry N (i ∷ [])
-  copied i s = at_places (λ p. word (outside_window w f (words_of n p)) f i ≡ entry (paths first m) (i ∷ [])) (is.copied i s) ∙ ap (λ (M : PathMap). entry M (i ∷ [])) (old_paths first member)
+  copied i s = at_places (λ p. word (outside_window w f (words_of n p)) f i ≡ entry (paths (first laid_in m)) (i ∷ [])) (is.copied i s) ∙ ap (λ (M : PathMap). entry M (i ∷ [])) (old_paths first member)
 
   empty : (i : ℕ) → shared i ≡ false → word new_words f i ≡ 0
   empty i s = at_places (λ p. word (outside_window w f (words_of n p)) f i ≡ 0) (is.empty i s)
@@ -156,7 +156,7 @@ module _ (shared : ℕ → Bool) (spaces : List Layout) (first new : Layout) (me
   self : SelfEntry U f w
   self = at_places (λ p. SelfEntry (words_of n p) f w) is.self
 
-  now : FitsPool first n serves rest
+  now : PoolFits (first laid_in n) serves rest
   now = old_fits first member
 
   shared_same : (k : ℕ) (r : List ℕ) (g : ℕ) → table_at L first.root N (k ∷ r) ≡ Some g → new_words g ≡ first_words g
@@ -226,10 +226,10 @@ module _ (shared : ℕ → Bool) (spaces : List Layout) (first new : Layout) (me
   is_like = let at_levels = sym is.levels in let at_places = sym is.places in
       λ i. record { levels = at_levels i; places = at_places i; root = new.root; window = new.window; added_flags = new.added_flags }
 
-  like_valid : Valid like n
+  like_valid : Valid (like laid_in n)
   like_valid = record { valid = valid_words; self = self }
 
-  like_fits : FitsPool like n serves rest
+  like_fits : PoolFits (like laid_in n) serves rest
   like_fits = record {
     valid = like_valid;
     each_once = now.each_once;
@@ -264,7 +264,7 @@ module _ (shared : ℕ → Bool) (spaces : List Layout) (first new : Layout) (me
         (λ t. ⊎_elim
         (λ x. not_table_now a i q g leads x.1)
         (λ x.
-        let its : table_at a.levels a.root (paths a n) t.0 ≡ Some g = shared_table shared a.levels L a.root first.root (paths a n) N t.0 (alike a i).1 x.0 (old_alike a i t.0 x.0) ∙ x.1 in
+        let its : table_at a.levels a.root (paths (a laid_in n)) t.0 ≡ Some g = shared_table shared a.levels L a.root first.root (paths (a laid_in n)) N t.0 (alike a i).1 x.0 (old_alike a i t.0 x.0) ∙ x.1 in
         let same : t.0 ≡ q = (old_valid a i).valid.own_frames t.0 q g its leads in
         let z : true ≡ false = sym x.0 ∙ ap (is_shared shared) same ∙ s in cc)
         (comes_from t.0 g t.1))
@@ -276,7 +276,7 @@ module _ (shared : ℕ → Bool) (spaces : List Layout) (first new : Layout) (me
 
   new_spaces_are : AreSpaces shared n serves rest (new ∷ spaces)
   new_spaces_are = record {
-    fits = λ a i. ⊎_elim (λ e. subst (λ (l : Layout). FitsPool l n serves rest) (is_like ∙ e) like_fits) (λ i. old_fits a i) i;
+    fits = λ a i. ⊎_elim (λ e. subst (λ (l : Layout). PoolFits (l laid_in n) serves rest) (is_like ∙ e) like_fits) (λ i. old_fits a i) i;
     own_roots = λ a b i j e. ⊎_elim
         (λ x. ⊎_elim (λ y. sym x ∙ y) (λ j. absurd (root_apart b j (ap (λ (l : Layout). l.root) x ∙ e))) j)
         (λ i. ⊎_elim (λ y. absurd (root_apart a i (ap (λ (l : Layout). l.root) y ∙ sym e))) (λ j. are.own_roots a b i j e) j)

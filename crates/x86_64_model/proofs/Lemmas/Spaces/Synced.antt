@@ -2,10 +2,10 @@
 use Rattle.std.proofs.Common.{◌≡◌, ◌≢◌, ◌⊎◌, inl, inr, ⊎_elim, ◌<◌, ℕ, ◌||◌, Bool, true, false, List, [], ◌∷◌, ◌++◌, cond, Some, None, Option, IsSome, refl, sym, ap, ◌∙◌, subst}
 use Rattle.std.proofs.lemmas.Bool.{cases_Bool, cases_eq}
 use Rattle.x86_64_model.specs.Entry.{huge}
-use Rattle.x86_64_model.specs.FitsPool.{FitsPool}
+use Rattle.x86_64_model.specs.Mapper.{◌laid_in◌, PoolFits, Valid, paths, words}
 use Rattle.x86_64_model.specs.Hierarchy.{entry_in, IsValid, paths_of}
 use Rattle.x86_64_model.specs.Laws.Spaces.{AreSynced, SyncedSpaces, FewerAreShared}
-use Rattle.x86_64_model.specs.Layout.{Layout, words, paths, Valid}
+use Rattle.x86_64_model.specs.Layout.{Layout}
 use Rattle.x86_64_model.specs.Lists.{In}
 use Rattle.x86_64_model.specs.Memory.{Memory, Places, Words, IsMapping, word, words_of}
 use Rattle.x86_64_model.specs.PathMap.{PathMap, entry, table_of, table_at}
@@ -38,23 +38,23 @@ not_shared shared more (i ∷ q) h = (neither (shared i) (more i) h).0
 -- ---- the first hierarchy and one that gets its entries
 
 module _ (shared more : ℕ → Bool) (first : Layout) (w : Option Window) (other added : ℕ) (some : 0 < first.levels) (serves : ℕ → Bool) (m n : Memory) (pool : List ℕ)
-    (fits : FitsPool first m serves pool) (is : Shares shared first m pool (beside first w other added))
-    (same : (q : List ℕ) (f : ℕ) → table_at first.levels first.root (paths first m) q ≡ Some f → words first n f ≡ words first m f)
-    (own_same : (k : ℕ) (r : List ℕ) (f : ℕ) → table_at first.levels other (paths (beside first w other added) m) (k ∷ r) ≡ Some f → words first n f ≡ words first m f)
-    (root_there : IsSome (words first n other)) (self : SelfEntry (words first n) other w)
-    (synced : (i : ℕ) → more i ≡ true → word (outside_window w other (words first n)) other i ≡ entry (paths first m) (i ∷ []))
-    (kept : (i : ℕ) → more i ≡ false → word (outside_window w other (words first n)) other i ≡ entry (paths (beside first w other added) m) (i ∷ [])) where
+    (fits : PoolFits (first laid_in m) serves pool) (is : Shares shared first m pool (beside first w other added))
+    (same : (q : List ℕ) (f : ℕ) → table_at first.levels first.root (paths (first laid_in m)) q ≡ Some f → words (first laid_in n) f ≡ words (first laid_in m) f)
+    (own_same : (k : ℕ) (r : List ℕ) (f : ℕ) → table_at first.levels other (paths (beside first w other added laid_in m)) (k ∷ r) ≡ Some f → words (first laid_in n) f ≡ words (first laid_in m) f)
+    (root_there : IsSome (words (first laid_in n) other)) (self : SelfEntry (words (first laid_in n)) other w)
+    (synced : (i : ℕ) → more i ≡ true → word (outside_window w other (words (first laid_in n))) other i ≡ entry (paths (first laid_in m)) (i ∷ []))
+    (kept : (i : ℕ) → more i ≡ false → word (outside_window w other (words (first laid_in n))) other i ≡ entry (paths (beside first w other added laid_in m)) (i ∷ [])) where
   abbrev L : ℕ
   L = first.levels
 
   abbrev T : Words
-  T = words first m
+  T = words (first laid_in m)
 
   abbrev U : Words
-  U = words first n
+  U = words (first laid_in n)
 
   abbrev M : PathMap
-  M = paths first m
+  M = paths (first laid_in m)
 
   abbrev first_words : Words
   first_words = outside_window first.window first.root T
@@ -148,14 +148,14 @@ module _ (shared more : ℕ → Bool) (first : Layout) (w : Option Window) (othe
         (cases_Bool (is_shared all_shared q));
   }
 
-  pub valid_after : Valid (beside first w other added) n
+  pub valid_after : Valid (beside first w other added laid_in n)
   valid_after = record { valid = valid_words; self = self }
 
 -- what becomes of each space
 record Grown (shared more : ℕ → Bool) (first l : Layout) (m n : Memory) : Type 0 where
-  valid : Valid l n
-  below : (q : List ℕ) → is_shared (either shared more) q ≡ true → entry (paths l n) q ≡ entry (paths first m) q
-  elsewhere : (q : List ℕ) → is_shared (either shared more) q ≡ false → entry (paths l n) q ≡ entry (paths l m) q
+  valid : Valid (l laid_in n)
+  below : (q : List ℕ) → is_shared (either shared more) q ≡ true → entry (paths (l laid_in n)) q ≡ entry (paths (first laid_in m)) q
+  elsewhere : (q : List ℕ) → is_shared (either shared more) q ≡ false → entry (paths (l laid_in n)) q ≡ entry (paths (l laid_in m)) q
 
 -- ---- all of them
 
@@ -171,18 +171,18 @@ module _ (shared more : ℕ → Bool) (spaces : List Layout) (first : Layout) (m
       (λ apart. let s = are.share first a member i (λ e. apart (sym e)) in (s.places, s.levels))
       (cases_eq a.root first.root)
 
-  root_there : (a : Layout) → In spaces a → IsSome (words first m a.root)
+  root_there : (a : Layout) → In spaces a → IsSome (words (first laid_in m) a.root)
   root_there a i = subst (λ (p : Places). IsSome (words_of m p a.root)) (alike a i).0
-      (inside_window a.window a.root (words a m) a.root ((are.fits a i).valid.valid.holds.in_memory [] a.root refl))
+      (inside_window a.window a.root (words (a laid_in m)) a.root ((are.fits a i).valid.valid.holds.in_memory [] a.root refl))
 
-  same_first : (g : ℕ) → IsSome (words first m g) → (Changed g → ⊥) → words first n g ≡ words first m g
+  same_first : (g : ℕ) → IsSome (words (first laid_in m) g) → (Changed g → ⊥) → words (first laid_in n) g ≡ words (first laid_in m) g
   same_first g there none = ap (λ o. cond (first.places.covers g) o None) (is.others (first.places.place g) (λ h changed p.
-      let h_there = subst (λ f. IsSome (words first m f)) (sym changed.3) (root_there changed.0 changed.1) in
+      let h_there = subst (λ f. IsSome (words (first laid_in m) f)) (sym changed.3) (root_there changed.0 changed.1) in
       let e = mapping.distinct h g (covered m first.places h h_there) (covered m first.places g there) p in
       none (changed.0, changed.1, changed.2, sym e ∙ changed.3)))
 
   -- a table that isn't its root is no root
-  not_changed : (a : Layout) → In spaces a → (k : ℕ) (r : List ℕ) (g : ℕ) → table_at a.levels a.root (paths a m) (k ∷ r) ≡ Some g → Changed g → ⊥
+  not_changed : (a : Layout) → In spaces a → (k : ℕ) (r : List ℕ) (g : ℕ) → table_at a.levels a.root (paths (a laid_in m)) (k ∷ r) ≡ Some g → Changed g → ⊥
   not_changed a i k r g leads changed = ⊎_elim
       (λ e. let x : k ∷ r ≡ [] = (are.fits a i).valid.valid.own_frames (k ∷ r) [] g leads (ap Some (e ∙ sym changed.3)) in cc)
       (λ apart. (are.share a changed.0 i changed.1 apart).apart [] changed.0.root refl refl (inr (k ∷ r, leads ∙ ap Some changed.3)))
@@ -191,15 +191,15 @@ module _ (shared more : ℕ → Bool) (spaces : List Layout) (first : Layout) (m
   not_first_root : Changed first.root → ⊥
   not_first_root changed = changed.2 changed.3
 
-  there_for : (a : Layout) → In spaces a → (q : List ℕ) (g : ℕ) → table_at a.levels a.root (paths a m) q ≡ Some g → IsSome (words first m g)
+  there_for : (a : Layout) → In spaces a → (q : List ℕ) (g : ℕ) → table_at a.levels a.root (paths (a laid_in m)) q ≡ Some g → IsSome (words (first laid_in m) g)
   there_for a i q g leads = subst (λ (p : Places). IsSome (words_of m p g)) (alike a i).0
-      (inside_window a.window a.root (words a m) g ((are.fits a i).valid.valid.holds.in_memory q g leads))
+      (inside_window a.window a.root (words (a laid_in m)) g ((are.fits a i).valid.valid.holds.in_memory q g leads))
 
-  first_same : (q : List ℕ) (g : ℕ) → table_at first.levels first.root (paths first m) q ≡ Some g → words first n g ≡ words first m g
+  first_same : (q : List ℕ) (g : ℕ) → table_at first.levels first.root (paths (first laid_in m)) q ≡ Some g → words (first laid_in n) g ≡ words (first laid_in m) g
   first_same [] g leads = let e : first.root ≡ g = cc in same_first g (there_for first member [] g leads) (λ c. not_first_root (c.0, c.1, c.2, e ∙ c.3))
   first_same (k ∷ r) g leads = same_first g (there_for first member (k ∷ r) g leads) (not_changed first member k r g leads)
 
-  first_paths : paths first m ≡ paths first n
+  first_paths : paths (first laid_in m) ≡ paths (first laid_in n)
   first_paths = unchanged_paths first some m n (are.fits first member).valid first_same
 
   first_grown : Grown shared more first first m n
@@ -223,24 +223,24 @@ module _ (shared more : ℕ → Bool) (spaces : List Layout) (first : Layout) (m
     at_like : (P : Layout → Type 0) → P b → P like
     at_like P h = subst P (sym is_like) h
 
-    own_same : (k : ℕ) (r : List ℕ) (f : ℕ) → table_at first.levels b.root (paths like m) (k ∷ r) ≡ Some f → words first n f ≡ words first m f
-    own_same k r f leads = let its = subst (λ (l : Layout). table_at l.levels l.root (paths l m) (k ∷ r) ≡ Some f) is_like leads in
+    own_same : (k : ℕ) (r : List ℕ) (f : ℕ) → table_at first.levels b.root (paths (like laid_in m)) (k ∷ r) ≡ Some f → words (first laid_in n) f ≡ words (first laid_in m) f
+    own_same k r f leads = let its = subst (λ (l : Layout). table_at l.levels l.root (paths (l laid_in m)) (k ∷ r) ≡ Some f) is_like leads in
         same_first f (there_for b i (k ∷ r) f its) (not_changed b i k r f its)
 
     like_share : Shares shared first m pool like
     like_share = at_like (λ l. Shares shared first m pool l) share
 
-    there_like : IsSome (words like n like.root)
-    there_like = at_like (λ l. IsSome (words l n l.root)) (is.there b i apart)
+    there_like : IsSome (words (like laid_in n) like.root)
+    there_like = at_like (λ l. IsSome (words (l laid_in n) l.root)) (is.there b i apart)
 
-    self_like : SelfEntry (words like n) like.root like.window
-    self_like = at_like (λ l. SelfEntry (words l n) l.root l.window) (is.self b i apart)
+    self_like : SelfEntry (words (like laid_in n)) like.root like.window
+    self_like = at_like (λ l. SelfEntry (words (l laid_in n)) l.root l.window) (is.self b i apart)
 
-    synced_like : (k : ℕ) → more k ≡ true → word (outside_window like.window like.root (words like n)) like.root k ≡ entry (paths first m) (k ∷ [])
-    synced_like = at_like (λ l. (k : ℕ) → more k ≡ true → word (outside_window l.window l.root (words l n)) l.root k ≡ entry (paths first m) (k ∷ [])) (is.synced b i apart)
+    synced_like : (k : ℕ) → more k ≡ true → word (outside_window like.window like.root (words (like laid_in n))) like.root k ≡ entry (paths (first laid_in m)) (k ∷ [])
+    synced_like = at_like (λ l. (k : ℕ) → more k ≡ true → word (outside_window l.window l.root (words (l laid_in n))) l.root k ≡ entry (paths (first laid_in m)) (k ∷ [])) (is.synced b i apart)
 
-    kept_like : (k : ℕ) → more k ≡ false → word (outside_window like.window like.root (words like n)) like.root k ≡ entry (paths like m) (k ∷ [])
-    kept_like = at_like (λ l. (k : ℕ) → more k ≡ false → word (outside_window l.window l.root (words l n)) l.root k ≡ entry (paths l m) (k ∷ [])) (is.kept b i apart)
+    kept_like : (k : ℕ) → more k ≡ false → word (outside_window like.window like.root (words (like laid_in n))) like.root k ≡ entry (paths (like laid_in m)) (k ∷ [])
+    kept_like = at_like (λ l. (k : ℕ) → more k ≡ false → word (outside_window l.window l.root (words (l laid_in n))) l.root k ≡ entry (paths (l laid_in m)) (k ∷ [])) (is.kept b i apart)
 
     like_grown : Grown shared more first like m n
     like_grown = record {
@@ -259,20 +259,20 @@ module _ (shared more : ℕ → Bool) (spaces : List Layout) (first : Layout) (m
       (cases_eq first.root a.root)
 
   -- its tables are those of the first one and its own
-  table_of_both : (a : Layout) → In spaces a → (q : List ℕ) (g : ℕ) → table_at a.levels a.root (paths a n) q ≡ Some g
-      → ((is_shared (either shared more) q ≡ true) × (table_at first.levels first.root (paths first m) q ≡ Some g)) ⊎ ((is_shared (either shared more) q ≡ false) × (table_at a.levels a.root (paths a m) q ≡ Some g))
+  table_of_both : (a : Layout) → In spaces a → (q : List ℕ) (g : ℕ) → table_at a.levels a.root (paths (a laid_in n)) q ≡ Some g
+      → ((is_shared (either shared more) q ≡ true) × (table_at first.levels first.root (paths (first laid_in m)) q ≡ Some g)) ⊎ ((is_shared (either shared more) q ≡ false) × (table_at a.levels a.root (paths (a laid_in m)) q ≡ Some g))
   table_of_both a i q g leads = let x = grown a i in ⊎_elim
-      (λ s. inl (s, sym (shared_table (either shared more) a.levels first.levels a.root first.root (paths a n) (paths first m) q (alike a i).1 s (x.below q s)) ∙ leads))
-      (λ s. inr (s, sym (table_at_same a.levels a.root (paths a n) (paths a m) q (x.elsewhere q s)) ∙ leads))
+      (λ s. inl (s, sym (shared_table (either shared more) a.levels first.levels a.root first.root (paths (a laid_in n)) (paths (first laid_in m)) q (alike a i).1 s (x.below q s)) ∙ leads))
+      (λ s. inr (s, sym (table_at_same a.levels a.root (paths (a laid_in n)) (paths (a laid_in m)) q (x.elsewhere q s)) ∙ leads))
       (cases_Bool (is_shared (either shared more) q))
 
-  free_same : (a : Layout) → In spaces a → (g : ℕ) → In pool g → IsSome (words a n g)
+  free_same : (a : Layout) → In spaces a → (g : ℕ) → In pool g → IsSome (words (a laid_in n) g)
   free_same a i g free =
       let there = (are.fits first member).in_memory g free in
       let same = same_first g there (λ c. (are.fits c.0 c.1).no_table g free ([], ap Some (sym c.3))) in
       subst (λ (p : Places). IsSome (words_of n p g)) (sym (alike a i).0) (subst IsSome (sym same) there)
 
-  fits_again : (a : Layout) → In spaces a → FitsPool a n serves pool
+  fits_again : (a : Layout) → In spaces a → PoolFits (a laid_in n) serves pool
   fits_again a i = let was = are.fits a i in record {
     valid = (grown a i).valid;
     each_once = was.each_once;
@@ -285,10 +285,10 @@ module _ (shared more : ℕ → Bool) (spaces : List Layout) (first : Layout) (m
   }
 
   -- a table of b outside the shared indices is none of the first one below them
-  not_of_first : (b : Layout) → In spaces b → (p q : List ℕ) (g : ℕ) → is_shared (either shared more) p ≡ true → table_at first.levels first.root (paths first m) p ≡ Some g
-      → is_shared (either shared more) q ≡ false → table_at b.levels b.root (paths b m) q ≡ Some g → ⊥
+  not_of_first : (b : Layout) → In spaces b → (p q : List ℕ) (g : ℕ) → is_shared (either shared more) p ≡ true → table_at first.levels first.root (paths (first laid_in m)) p ≡ Some g
+      → is_shared (either shared more) q ≡ false → table_at b.levels b.root (paths (b laid_in m)) q ≡ Some g → ⊥
   not_of_first b j p q g s one t leads = ⊎_elim
-      (λ e. let its = subst (λ (l : Layout). table_at l.levels l.root (paths l m) q ≡ Some g) (sym (are.own_roots first b member j e)) leads in
+      (λ e. let its = subst (λ (l : Layout). table_at l.levels l.root (paths (l laid_in m)) q ≡ Some g) (sym (are.own_roots first b member j e)) leads in
       let same : p ≡ q = (are.fits first member).valid.valid.own_frames p q g one its in
       let z : true ≡ false = sym s ∙ ap (is_shared (either shared more)) same ∙ t in cc)
       (λ apart. (are.share first b member j apart).apart q g (not_shared shared more q t) leads (inr (p, one)))
@@ -319,10 +319,10 @@ synced_spaces shared more spaces first member mapping some serves m n pool are i
 
 -- ---- fewer indices
 
-no_table_below : (l : Layout) (m : Memory) → Valid l m → (i : ℕ) → entry (paths l m) (i ∷ []) ≡ 0 → (q : List ℕ) → table_at l.levels l.root (paths l m) (i ∷ q) ≡ None
+no_table_below : (l : Layout) (m : Memory) → Valid (l laid_in m) → (i : ℕ) → entry (paths (l laid_in m)) (i ∷ []) ≡ 0 → (q : List ℕ) → table_at l.levels l.root (paths (l laid_in m)) (i ∷ q) ≡ None
 no_table_below l m valid i unused [] = ap (table_of l.levels (i ∷ [])) unused ∙ unused_no_table l.levels (i ∷ [])
 no_table_below l m valid i unused (j ∷ q) =
-    ap (table_of l.levels (i ∷ j ∷ q)) (tree_below l.levels l.root (paths l m) (tree_of_holds l.levels _ l.root (paths l m) valid.valid.holds) (i ∷ []) j q
+    ap (table_of l.levels (i ∷ j ∷ q)) (tree_below l.levels l.root (paths (l laid_in m)) (tree_of_holds l.levels _ l.root (paths (l laid_in m)) valid.valid.holds) (i ∷ []) j q
     (ap (table_of l.levels (i ∷ [])) unused ∙ unused_no_table l.levels (i ∷ [])))
     ∙ unused_no_table l.levels (i ∷ j ∷ q)
 
@@ -339,8 +339,8 @@ fewer_are_shared shared fewer serves m pool spaces part unused are = record {
   };
 }
   where
-    by : {Own : ℕ → Type 0} (b : Layout) → In spaces b → ((q : List ℕ) (f : ℕ) → is_shared shared q ≡ false → table_at b.levels b.root (paths b m) q ≡ Some f → Own f → ⊥) → Valid b m
-        → (q : List ℕ) (f : ℕ) → is_shared fewer q ≡ false → table_at b.levels b.root (paths b m) q ≡ Some f → Own f → ⊥
+    by : {Own : ℕ → Type 0} (b : Layout) → In spaces b → ((q : List ℕ) (f : ℕ) → is_shared shared q ≡ false → table_at b.levels b.root (paths (b laid_in m)) q ≡ Some f → Own f → ⊥) → Valid (b laid_in m)
+        → (q : List ℕ) (f : ℕ) → is_shared fewer q ≡ false → table_at b.levels b.root (paths (b laid_in m)) q ≡ Some f → Own f → ⊥
     by b j apart valid [] f off leads own = apart [] f refl leads own
     by b j apart valid (i ∷ q) f off leads own = ⊎_elim
         (λ s. let z : None ≡ Some f = sym (no_table_below b m valid i (unused b j i s off) q) ∙ leads in cc)

@@ -3,8 +3,9 @@ use Rattle.std.proofs.Common.{◌≡◌, ◌≢◌, ◌⊎◌, inl, inr, ⊎_eli
 use Rattle.std.proofs.lemmas.Bool.{cases_Bool}
 use Rattle.x86_64_model.specs.Entry.{huge}
 use Rattle.x86_64_model.specs.Hierarchy.{entry_in, IsValid, paths_of}
-use Rattle.x86_64_model.specs.FitsPool.{FitsPool, KeepsPool}
-use Rattle.x86_64_model.specs.Layout.{Layout, words, paths}
+use Rattle.x86_64_model.specs.Mapper.{◌laid_in◌, PoolFits, paths, words}
+use Rattle.x86_64_model.specs.Store.{KeepsPool}
+use Rattle.x86_64_model.specs.Layout.{Layout}
 use Rattle.x86_64_model.specs.Laws.Spaces.{KeepsRootEntries, StaysSharing, SharedEntriesAreTheSame, SharedTablesStay, SharedHalvesStay}
 use Rattle.x86_64_model.specs.Memory.{Memory, Words, IsMapping}
 use Rattle.x86_64_model.specs.PathMap.{PathMap, entry, table_of, table_at}
@@ -50,7 +51,7 @@ abbrev pub beside : Layout → Option Window → (root added : ℕ) → Layout
 beside first window root added = record { levels = first.levels; places = first.places; root = root; window = window; added_flags = added }
 
 module _ (shared : ℕ → Bool) (first : Layout) (w : Option Window) (other added : ℕ) (mapping : IsMapping first.places) (some : 0 < first.levels) (serves : ℕ → Bool) (m n : Memory) (pool rest : List ℕ)
-    (fits : FitsPool first m serves pool) (keeps : KeepsPool first serves m pool n rest) (kept : KeepsRootEntries shared first m n)
+    (fits : PoolFits (first laid_in m) serves pool) (keeps : KeepsPool first serves m pool n rest) (kept : KeepsRootEntries shared first m n)
     (is : Shares shared first m pool (beside first w other added)) where
   abbrev pub L : ℕ
   L = first.levels
@@ -62,10 +63,10 @@ module _ (shared : ℕ → Bool) (first : Layout) (w : Option Window) (other add
   root = first.root
 
   abbrev pub T : Words
-  T = words first m
+  T = words (first laid_in m)
 
   abbrev pub U : Words
-  U = words first n
+  U = words (first laid_in n)
 
   -- the words as both hierarchies read them, and their path maps
   abbrev pub first_words : Words
@@ -240,7 +241,7 @@ module _ (shared : ℕ → Bool) (first : Layout) (w : Option Window) (other add
 
 -- ---- with any layouts
 
-module _ (shared : ℕ → Bool) (first second : Layout) (some : 0 < first.levels) (serves : ℕ → Bool) (m : Memory) (pool : List ℕ) (fits : FitsPool first m serves pool) (is : Shares shared first m pool second) where
+module _ (shared : ℕ → Bool) (first second : Layout) (some : 0 < first.levels) (serves : ℕ → Bool) (m : Memory) (pool : List ℕ) (fits : PoolFits (first laid_in m) serves pool) (is : Shares shared first m pool second) where
   abbrev like : Layout
   like = beside first second.window second.root second.added_flags
 
@@ -261,7 +262,7 @@ shared_tables_stay shared first second mapping some serves m n pool rest fits ke
 
 -- ---- nothing happened
 
-nothing_kept : (l : Layout) (serves : ℕ → Bool) (m : Memory) (pool : List ℕ) → FitsPool l m serves pool → KeepsPool l serves m pool m pool
+nothing_kept : (l : Layout) (serves : ℕ → Bool) (m : Memory) (pool : List ℕ) → PoolFits (l laid_in m) serves pool → KeepsPool l serves m pool m pool
 nothing_kept l serves m pool fits = record { fits = fits; conserved = λ f. (λ own. own, λ own. own); others = λ k o. refl }
 
 pub shared_entries_are_the_same : SharedEntriesAreTheSame
@@ -274,7 +275,7 @@ pub shared_halves_stay : SharedHalvesStay
 shared_halves_stay shared first second mapping some serves m n pool rest fits keeps below is =
     let stay = stays shared first second some serves m pool fits is mapping n rest keeps (λ i s. below (i ∷ []) s) in (
       stay,
-      same_paths (paths second n) (paths second m) stay.valid.valid.holds.used_alone is.valid.valid.holds.used_alone (λ q. ⊎_elim
+      same_paths (paths (second laid_in n)) (paths (second laid_in m)) stay.valid.valid.holds.used_alone is.valid.valid.holds.used_alone (λ q. ⊎_elim
           (λ s. stay.below_shared q s ∙ below q s ∙ sym (shared_entries_are_the_same shared first second mapping some serves m pool fits is q s))
           (λ s. stay.elsewhere q s)
           (cases_Bool (is_shared shared q))),

@@ -1,7 +1,8 @@
 -- Walks of hierarchies that share tables.
 use Rattle.std.proofs.Common.{◌≡◌, ℕ, Bool, true, false, List, [], ◌∷◌, ◌++◌, refl, sym, ap, ◌∙◌}
 use Rattle.x86_64_model.specs.Laws.Spaces.{SharedWalksAreTheSame, WalksStay}
-use Rattle.x86_64_model.specs.Layout.{Layout, words, paths, Valid, walk}
+use Rattle.x86_64_model.specs.Layout.{Layout}
+use Rattle.x86_64_model.specs.Mapper.{◌laid_in◌, Valid, paths, walk, words}
 use Rattle.x86_64_model.specs.Memory.{Memory}
 use Rattle.x86_64_model.specs.PathMap.{entry}
 use Rattle.x86_64_model.specs.Position.{page_path}
@@ -18,19 +19,19 @@ front_shared shared [] j t path e = ap (is_shared shared) (sym e)
 front_shared shared (i ∷ c) j t path e = ap (is_shared shared) (sym e)
 
 -- outside the window a walk is that of the path map
-walk_of_paths : (l : Layout) (m : Memory) (p : ℕ) → Valid l m → begins_with l.window (page_path l.levels p) ≡ false → walk l m p ≡ walked (entry (paths l m)) p l.levels [] true true
+walk_of_paths : (l : Layout) (m : Memory) (p : ℕ) → Valid (l laid_in m) → begins_with l.window (page_path l.levels p) ≡ false → walk (l laid_in m) p ≡ walked (entry (paths (l laid_in m))) p l.levels [] true true
 walk_of_paths l m p valid out =
-    page_walk_is l.levels (words l m) l.root (entry_at l.window (paths l m)) (reads l.levels (words l m) l.root (paths l m) l.window valid) p
-    ∙ walked_outside l.levels l.window (paths l m) p out
+    page_walk_is l.levels (words (l laid_in m)) l.root (entry_at l.window (paths (l laid_in m))) (reads l.levels (words (l laid_in m)) l.root (paths (l laid_in m)) l.window valid) p
+    ∙ walked_outside l.levels l.window (paths (l laid_in m)) p out
 
 module _ (a b : Layout) (m n : Memory) (p : ℕ) (shared : ℕ → Bool) (kind : Bool) where
   -- where the entries at such paths are the same, so are the walks
-  pub same_walks : b.levels ≡ a.levels → Valid a m → Valid b n → begins_with a.window (page_path a.levels p) ≡ false → begins_with b.window (page_path b.levels p) ≡ false
-      → is_shared shared (page_path a.levels p) ≡ kind → ((q : List ℕ) → is_shared shared q ≡ kind → entry (paths b n) q ≡ entry (paths a m) q) → walk b n p ≡ walk a m p
+  pub same_walks : b.levels ≡ a.levels → Valid (a laid_in m) → Valid (b laid_in n) → begins_with a.window (page_path a.levels p) ≡ false → begins_with b.window (page_path b.levels p) ≡ false
+      → is_shared shared (page_path a.levels p) ≡ kind → ((q : List ℕ) → is_shared shared q ≡ kind → entry (paths (b laid_in n)) q ≡ entry (paths (a laid_in m)) q) → walk (b laid_in n) p ≡ walk (a laid_in m) p
   same_walks levels va vb out_a out_b is same =
       walk_of_paths b n p vb out_b
-      ∙ ap (λ L. walked (entry (paths b n)) p L [] true true) levels
-      ∙ walked_same a.levels p (entry (paths b n)) (entry (paths a m)) (λ c j t e. same (c ++ j ∷ []) (front_shared shared c j t (page_path a.levels p) e ∙ is)) a.levels [] true true refl
+      ∙ ap (λ L. walked (entry (paths (b laid_in n))) p L [] true true) levels
+      ∙ walked_same a.levels p (entry (paths (b laid_in n))) (entry (paths (a laid_in m))) (λ c j t e. same (c ++ j ∷ []) (front_shared shared c j t (page_path a.levels p) e ∙ is)) a.levels [] true true refl
       ∙ sym (walk_of_paths a m p va out_a)
 
 pub shared_walks_are_the_same : SharedWalksAreTheSame

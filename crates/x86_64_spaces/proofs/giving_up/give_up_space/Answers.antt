@@ -1,7 +1,7 @@
 use Rattle.std.proofs.Common.{◌≡◌, ◌≢◌, inl, ap, sym, ◌∙◌, subst, refl, List, ℕ, Some, IsSome, arith}
 use Rattle.std.proofs.Common.{cond, None, [], true, false}
 use Rattle.std.specs.FinMap.{get}
-use Rattle.x86_64_model.specs.Layout.{Owns, KeepsOthers}
+use Rattle.x86_64_model.specs.Mapper.{◌laid_in◌, KeepsOutside, Owns}
 use Rattle.x86_64_model.specs.Memory.{words_of}
 use Rattle.x86_64_model.specs.Spaces.{AreSpaces}
 use Rattle.x86_64_model.proofs.Lemmas.Hierarchies.Memories.{covered}
@@ -66,7 +66,7 @@ returns-clause-given_up g c =
     let stored = stores m n place c.zero.new.self (g.met.T.TableMemory.puts c.args.memory.now place c.zero.new.self there) in
     let cleared : words_of n places space.root ≡ Some zero_words =
     ap (λ b. cond b (get n (places.place space.root)) None) (covered m places space.root words) ∙ ap (get n) (sym c.frame_to_pointer.ensures) ∙ stored.here ∙ ap Some c.zero.ensures in
-    let others : KeepsOthers places (λ f. f ≡ space.root) m n =
+    let others : KeepsOutside places (λ f. f ≡ space.root) m n =
     λ k apart. stored.others k (λ e. apart space.root refl (sym (e ∙ c.frame_to_pointer.ensures))) in
     let rest : g.F.FrameAllocator.supply c.deallocate_frame.new.self ≡ back =
     g.met.F.FrameStore.one_list c.deallocate_frame.new.self ∙ c.deallocate_frame.ensures.held
@@ -87,6 +87,6 @@ returns-clause-given_up g c =
       none_lost = λ spaces other once member are f own.
           let after = c.spaces_are_given_up.ensures.given_up shared gone spaces once mapping g.F.FrameDeallocator.take_back gives serves c.requires.served nonzero m pool are in
           let kept = c.spaces_are_given_up.ensures.none_lost shared gone other spaces once member mapping (omega (arith, some)) g.F.FrameDeallocator.take_back gives serves m pool are alone f own in
-          subst (λ (pool : List ℕ). Owns other n pool f) (sym rest)
+          subst (λ (pool : List ℕ). Owns (other laid_in n) pool f) (sym rest)
           (owned_now shared gone spaces once mapping (omega (arith, some)) back serves m n pool are after free others now_there other member f kept);
     }

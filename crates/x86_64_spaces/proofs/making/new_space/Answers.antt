@@ -1,6 +1,6 @@
 use Rattle.std.proofs.Common.{inl, ap, sym, ◌∙◌, subst, refl, List, ℕ, Some, [], ◌∷◌, arith}
 use Rattle.std.specs.Prelude.{drop}
-use Rattle.x86_64_model.specs.FitsPool.{FitsPool}
+use Rattle.x86_64_model.specs.Mapper.{◌laid_in◌, PoolFits}
 use Rattle.x86_64_model.specs.Laws.Spaces.{IsNewRoot}
 use Rattle.x86_64_model.specs.Spaces.{AreSpaces}
 use Rattle.x86_64_model.proofs.Lemmas.Hierarchies.Memories.{covered}
@@ -18,7 +18,7 @@ fill_root-requires-clause-apart g c e =
     let rest = drop 1 (g.F.FrameAllocator.supply store) in
     let all = taken (g.F.FrameAllocator.supply store) root (sym c.in_ok-root.ensures.first) in
     let one = layout_of g.L.LevelCount.LEVELS places m template in
-    let fits = subst (λ (pool : List ℕ). FitsPool one m serves pool) all c.requires.fits in
+    let fits = subst (λ (pool : List ℕ). PoolFits (one laid_in m) serves pool) all c.requires.fits in
     let there = inside_window one.window template.root _ template.root (fits.valid.valid.holds.in_memory [] template.root refl) in
     let same = mapping.distinct template.root root (covered m places template.root there) (covered m places root (fits.in_memory root (inl refl)))
     (e ∙ c.frame_to_pointer-place.ensures) in
@@ -33,7 +33,7 @@ returns-clause-made g c =
     let rest = drop 1 (g.F.FrameAllocator.supply store) in
     let all = taken (g.F.FrameAllocator.supply store) root (sym c.in_ok-root.ensures.first) in
     let one = layout_of g.L.LevelCount.LEVELS places m template in
-    let fits = subst (λ (pool : List ℕ). FitsPool one m serves pool) all c.requires.fits in
+    let fits = subst (λ (pool : List ℕ). PoolFits (one laid_in m) serves pool) all c.requires.fits in
     let n = g.T.TableMemory.tables c.name_itself.new.memory in
     let new = layout_of g.L.LevelCount.LEVELS places n (record { root = root; recursive = c.args.recursive }) in
     let some = g.L.LevelCount.at_least_four in

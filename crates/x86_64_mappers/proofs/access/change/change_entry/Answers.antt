@@ -1,6 +1,6 @@
 use Rattle.std.proofs.Common.{◌<◌, slice_set, rules, ap, ◌∙◌, subst}
 use Rattle.std.specs.Fn.{FnOnceReturnsAtMut}
-use Rattle.x86_64_model.specs.Layout.{words}
+use Rattle.x86_64_model.specs.Mapper.{◌laid_in◌, words}
 use Rattle.x86_64_model.specs.Memory.{word}
 use Rattle.x86_64_mappers.specs.AccessLending.{table_in}
 use Rattle.x86_64_mappers.specs.private.Writes.{IsSet}
@@ -22,6 +22,6 @@ returns-clause-changed g c =
       word = after;
       found = c.in_ok-table.ensures.found;
       inside = subst (λ i. i < 512) is c.entry_mut.ensures.index;
-      called = subst (λ e. FnOnceReturnsAtMut g.F.FnOnce c.args.change e c.change.result after) (c.entry_mut.ensures.value ∙ ap (word (words l m) table) is) (search rules);
+      called = subst (λ e. FnOnceReturnsAtMut g.F.FnOnce c.args.change e c.change.result after) (c.entry_mut.ensures.value ∙ ap (word (words (l laid_in m)) table) is) (search rules);
       set = subst (λ i. IsSet l.places m table i after n) is (c.entry_mut.ensures.set after);
     }

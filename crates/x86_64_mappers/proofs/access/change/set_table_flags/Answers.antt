@@ -1,6 +1,6 @@
 use Rattle.std.proofs.Common.{◌≡◌, ◌≤◌, ◌<◌, ◌-◌, ◌+◌, ℕ, List, Some, Ok, Err, rules, length, take, get_or, refl, sym, ap, ◌∙◌, subst, arith}
 use Rattle.std.proofs.lemmas.Result.{err_from_is_err_and}
-use Rattle.x86_64_model.specs.Layout.{words}
+use Rattle.x86_64_model.specs.Mapper.{◌laid_in◌, words}
 use Rattle.x86_64_model.specs.private.MapperCalls.{after_set_flags}
 use Rattle.x86_64_model.specs.Memory.{word}
 use Rattle.x86_64_model.specs.Path.{front_at}
@@ -81,7 +81,7 @@ asked g c =
     let front = c.path_to_level.result.now in
     let same : front ≡ front_at l.levels level q = c.path_to_level.ensures ∙ ap (λ n. take (n - level) q) c.requires.levels in
     let last : List ℕ → ℕ = λ p. get_or p (length p - 1) 0 in
-    let e : List ℕ → ℕ = λ p. word (words l m) changed.frame (last p) in
+    let e : List ℕ → ℕ = λ p. word (words (l laid_in m)) changed.frame (last p) in
     let called = changed.called in
     let wrote : changed.word ≡ word_said (e front) (flags_say given (e front)) = search rules in
     let answered : flags_refusal c.in_ok-change_entry.field-0 ≡ refusal_of (answer_said (flags_say given (e front))) = search rules in

@@ -1,6 +1,6 @@
 use Rattle.std.proofs.Common.{◌≡◌, ◌-◌, ℕ, rules, length, get_or, refl, sym, subst}
 use Rattle.std.proofs.lemmas.Result.{err_from_is_err_and}
-use Rattle.x86_64_model.specs.Layout.{words, paths}
+use Rattle.x86_64_model.specs.Mapper.{◌laid_in◌, paths, words}
 use Rattle.x86_64_model.specs.private.MapperCalls.{after_update}
 use Rattle.x86_64_model.specs.Memory.{word}
 use Rattle.x86_64_model.specs.Refusal.{Refused, refusal_of}
@@ -41,7 +41,7 @@ returns-in_err-change_entry g c =
 entry : (g : Over) → goal.In_ok-change_entry g → ℕ
 entry g c =
     let l = (g.M.Tables.hierarchy c.args.mapper.now).layout in
-    word (words l (g.M.Tables.hierarchy c.args.mapper.now).memory) c.in_ok-change_entry.ensures.changed.frame (get_or c.args.path.now (length c.args.path.now - 1) 0)
+    word (words (l laid_in (g.M.Tables.hierarchy c.args.mapper.now).memory)) c.in_ok-change_entry.ensures.changed.frame (get_or c.args.path.now (length c.args.path.now - 1) 0)
 
 answer : (g : Over) (c : goal.In_ok-change_entry g) → flags_refusal c.in_ok-change_entry.field-0 ≡ refusal_of (answer_said (update_says g.S.PageSize.LEVEL c.args.flags.0 (entry g c)))
 unfolding entry
@@ -58,14 +58,14 @@ ends g c =
     let level = g.S.PageSize.LEVEL in
     let given = c.args.flags.0 in
     let changed = c.in_ok-change_entry.ensures.changed in
-    let e = word (words l m) changed.frame (get_or q (length q - 1) 0) in
+    let e = word (words (l laid_in m)) changed.frame (get_or q (length q - 1) 0) in
     let called = changed.called in
     let wrote : changed.word ≡ word_said e (update_says level given e) = search rules in
     let n = (g.M.Tables.hierarchy c.change_entry.new.mapper).memory in
     let some = some_index_of l.levels q level c.requires.levels (page_below_root l.levels level (g.met.M.Tables.at_least_four s) g.S.PageSize.high) in
     ended l m c.requires.may.valid q (length q - 1) (has_last_index q some) (update_says level given) _ (update_rule l m level q c.requires.levels given) changed.frame changed.found
     (g.met.M.Tables.is_mapping s).distinct (positive_levels l.levels (g.met.M.Tables.at_least_four s)) changed.inside
-    (update_changes l m level q c.requires.levels (update_outside l.levels l.window (paths l m) q given c.requires.may.allowed) g.S.PageSize.high some given) n
+    (update_changes l m level q c.requires.levels (update_outside l.levels l.window (paths (l laid_in m)) q given c.requires.may.allowed) g.S.PageSize.high some given) n
     (subst (λ w. IsSet l.places m changed.frame (get_or q (length q - 1) 0) w n) wrote changed.set)
 
 pub returns : goal.returns

@@ -3,8 +3,8 @@ use Rattle.std.proofs.lemmas.Bool.{cases_lt}
 use Rattle.x86_64_model.proofs.Lemmas.Machines.Giving.{giving_from}
 use Rattle.x86_64_model.proofs.Lemmas.Walks.Walked.{one_more}
 use Rattle.x86_64_model.specs.CleanUp.{in_range, meets}
-use Rattle.x86_64_model.specs.Layout.{Layout, words}
-use Rattle.x86_64_model.specs.Mapper.{MayCleanUp, paths}
+use Rattle.x86_64_model.specs.Layout.{Layout}
+use Rattle.x86_64_model.specs.Mapper.{◌laid_in◌, MayCleanUp, paths, words}
 use Rattle.x86_64_model.specs.Memory.{word}
 use Rattle.x86_64_model.specs.Path.{span_start}
 use Rattle.x86_64_mappers.proofs.CleanUp.EntriesInRange.{next_visited, refused_out, recursive_out}
@@ -180,11 +180,11 @@ clean_up_entry-returns-then-is_empty-clause-cleaned g t c =
     let b = below_cleaned h.layout g.D.FrameDeallocator.take_back h.memory held low high q f i below c.requires.visited next n rest _ c.child_indices-indices.ensures done.cleaned in
     let mapper = c.args.mapper.now in
     let o = (g.M.Tables.hierarchy (g.M.TableAccess.with_table c.clean_up_table.new.mapper f (slice_set (table_in after.layout n f) i c.set_unused.new.self))).memory in
-    let there = ap (λ l. words l n below) (sym done.layout) ∙ c.table.ensures in
+    let there = ap (λ l. words (l laid_in n) below) (sym done.layout) ∙ c.table.ensures in
     let set = subst₂ (λ (l : Layout) w. IsSet l.places n f i w o) done.layout c.set_unused.ensures (c.entry_mut.ensures.set c.set_unused.new.self) in
     entry_gone h.layout g.D.FrameDeallocator.take_back h.memory c.requires.may.valid held low high q f i below n rest b
     (g.met.M.Tables.is_mapping mapper).distinct (positive_levels h.layout.levels (g.met.M.Tables.at_least_four mapper)) c.next_table.ensures.index
-    (empty_words (words h.layout n) below c.table.result.now there c.is_empty.ensures.size (c.is_empty.ensures.empty.0 c.if-is_empty.true)) o set _ c.deallocate_frame.ensures.held
+    (empty_words (words (h.layout laid_in n)) below c.table.result.now there c.is_empty.ensures.size (c.is_empty.ensures.empty.0 c.if-is_empty.true)) o set _ c.deallocate_frame.ensures.held
 
 pub clean_up_entry-returns-else-is_empty-clause-cleaned : goal.clean_up_entry-returns-else-is_empty-clause-cleaned
 clean_up_entry-returns-else-is_empty-clause-cleaned g t c =
@@ -203,9 +203,9 @@ clean_up_entry-returns-else-is_empty-clause-cleaned g t c =
     let next = next_visited h.layout h.memory c.requires.may.valid low high q f c.requires.visited i c.next_table.ensures.index (sym c.is_recursive.ensures ∙ c.if-is_recursive.false)
     c.requires.short c.requires.meets below c.in-Ok.ensures.below in
     let b = below_cleaned h.layout g.D.FrameDeallocator.take_back h.memory held low high q f i below c.requires.visited next n rest _ c.child_indices-indices.ensures done.cleaned in
-    let there = ap (λ l. words l n below) (sym done.layout) ∙ c.table.ensures in
+    let there = ap (λ l. words (l laid_in n) below) (sym done.layout) ∙ c.table.ensures in
     entry_kept h.layout g.D.FrameDeallocator.take_back h.memory c.requires.may.valid held low high q f i below n rest b
-    (λ all. let t : false ≡ true = sym c.if-is_empty.false ∙ c.is_empty.ensures.empty.1 (words_empty (words h.layout n) below c.table.result.now there c.is_empty.ensures.size all) in cc)
+    (λ all. let t : false ≡ true = sym c.if-is_empty.false ∙ c.is_empty.ensures.empty.1 (words_empty (words (h.layout laid_in n)) below c.table.result.now there c.is_empty.ensures.size all) in cc)
 
 -- ---- a table
 
@@ -333,7 +333,7 @@ clean_up_table-loop-next-preserved g t c =
     let layout = done.ensures.layout ∙ inv.layout in
     record {
       cleaned = passed_to h.layout g.D.FrameDeallocator.take_back h.memory c.requires.may.valid held low high q c.args.table v apart o left (i + 1) next.result on most
-          (subst (λ l. (k : ℕ) → i + 1 ≤ k → k < next.result → names_table (word (words l o) c.args.table k) ≡ false) layout next.ensures.passed) here;
+          (subst (λ l. (k : ℕ) → i + 1 ≤ k → k < next.result → names_table (word (words (l laid_in o)) c.args.table k) ≡ false) layout next.ensures.passed) here;
       from = let was = inv.from c.loop-next-test.true in λ below. omega (arith, was, on);
       in_table = most;
       layout = layout;

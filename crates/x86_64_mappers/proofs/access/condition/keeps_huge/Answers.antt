@@ -2,7 +2,7 @@ use Rattle.std.proofs.Common.{◌≡◌, ◌-◌, ◌||◌, Bool, true, false, n
 use Rattle.std.proofs.Math.Bool.{beq}
 use Rattle.x86_64_model.specs.Allowed.{both_or_none}
 use Rattle.x86_64_model.specs.Entry.{has, used, huge}
-use Rattle.x86_64_model.specs.Layout.{words}
+use Rattle.x86_64_model.specs.Mapper.{◌laid_in◌, words}
 use Rattle.x86_64_model.specs.Memory.{word}
 use Rattle.x86_64_tables.specs.PageTableFlags.{bits_of}
 use Rattle.x86_64_mappers.specs.private.Results.{walk_refusal}
@@ -32,7 +32,7 @@ returns-else-is_unused g c =
     let given = bits_of c.args.flags in
     let e = c.entry-entry.result.now in
     let long = has_last_index q c.requires.some in
-    let is = c.entry-entry.ensures.value ∙ ap (word (words l m) c.in-Ok.table) (last_item q c.index-path-last.result long c.index-path-last.is) in
+    let is = c.entry-entry.ensures.value ∙ ap (word (words (l laid_in m)) c.in-Ok.table) (last_item q c.index-path-last.result long c.index-path-last.is) in
     let unused : not (used e) ≡ false = sym c.is_unused.ensures ∙ c.if-is_unused.false in
     let of_entry = sym (tested e c.flags.result.0 0x80 _ c.flags.ensures.value refl (c.contains.ensures tt)) in
     ap₂ beq of_entry (c.contains-else-is_unused.ensures tt) ∙ as_both (huge e) (huge given)

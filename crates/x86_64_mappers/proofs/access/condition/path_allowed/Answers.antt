@@ -2,7 +2,7 @@ use Rattle.std.proofs.Common.{◌≡◌, ◌-◌, ◌&&◌, ◌||◌, Bool, true
 use Rattle.std.proofs.lemmas.Bool.{and_parts, not-true}
 use Rattle.std.proofs.Math.Bool.{and-true}
 use Rattle.x86_64_model.specs.Entry.{has, present}
-use Rattle.x86_64_model.specs.Layout.{paths}
+use Rattle.x86_64_model.specs.Mapper.{◌laid_in◌, paths}
 use Rattle.x86_64_model.specs.Window.{begins_with}
 use Rattle.x86_64_tables.specs.PageTableFlags.{bits_of}
 use Rattle.x86_64_mappers.specs.private.MapConditions.{flags_allowed, are_present}
@@ -20,7 +20,7 @@ returns-then-contains g c =
     let l = (g.M.Tables.hierarchy c.args.mapper.now).layout in
     let q = c.args.path.now in
     let more = bits_of c.args.parent_flags in
-    let M = paths l (g.M.Tables.hierarchy c.args.mapper.now).memory in
+    let M = paths (l laid_in (g.M.Tables.hierarchy c.args.mapper.now).memory) in
     let allowed = ap (λ s. flags_allowed s (bits_of c.args.flags) more) (sym (small_page l.levels g.S.PageSize.LEVEL q c.requires.levels)) in
     let tested = both_pass c.flags_allowed.result c.is_in_window.result _ (begins_with l.window q) (c.flags_allowed.ensures ∙ allowed) c.is_in_window.ensures c.if-flags_allowed-is_in_window.true in
     let here : present more ≡ true = sym (c.contains.ensures tt) ∙ c.if-contains.true in
@@ -32,7 +32,7 @@ returns-else-contains g c =
     let l = (g.M.Tables.hierarchy c.args.mapper.now).layout in
     let q = c.args.path.now in
     let more = bits_of c.args.parent_flags in
-    let M = paths l (g.M.Tables.hierarchy c.args.mapper.now).memory in
+    let M = paths (l laid_in (g.M.Tables.hierarchy c.args.mapper.now).memory) in
     let allowed = ap (λ s. flags_allowed s (bits_of c.args.flags) more) (sym (small_page l.levels g.S.PageSize.LEVEL q c.requires.levels)) in
     let tested = both_pass c.flags_allowed.result c.is_in_window.result _ (begins_with l.window q) (c.flags_allowed.ensures ∙ allowed) c.is_in_window.ensures c.if-flags_allowed-is_in_window.true in
     let gone : present more ≡ false = sym (c.contains.ensures tt) ∙ c.if-contains.false in
@@ -53,7 +53,7 @@ returns-else-flags_allowed-is_in_window g c =
     let l = (g.M.Tables.hierarchy c.args.mapper.now).layout in
     let q = c.args.path.now in
     let more = bits_of c.args.parent_flags in
-    let M = paths l (g.M.Tables.hierarchy c.args.mapper.now).memory in
+    let M = paths (l laid_in (g.M.Tables.hierarchy c.args.mapper.now).memory) in
     let flags = c.flags_allowed.ensures ∙ ap (λ s. flags_allowed s (bits_of c.args.flags) more) (sym (small_page l.levels g.S.PageSize.LEVEL q c.requires.levels)) in
     let tests = c.if-flags_allowed-is_in_window.false in
     let both = (λ i. sym flags i && not (sym c.is_in_window.ensures i)) ∙ tests in

@@ -1,7 +1,7 @@
 use Rattle.std.proofs.Common.{◌≡◌, ◌-◌, ◌&&◌, ◌||◌, nat_le, take, Bool, true, false, not, refl, sym, ap, ◌∙◌}
 use Rattle.std.proofs.lemmas.Bool.{le-leb, lt-leb}
 use Rattle.x86_64_model.specs.Entry.{no_address}
-use Rattle.x86_64_model.specs.Layout.{paths, read_entry}
+use Rattle.x86_64_model.specs.Mapper.{◌laid_in◌, paths, read_entry}
 use Rattle.x86_64_model.specs.Path.{front_at}
 use Rattle.x86_64_model.specs.Window.{begins_with}
 use Rattle.x86_64_tables.specs.PageTableFlags.{bits_of}
@@ -27,8 +27,8 @@ returns-then-level-LEVEL g c =
     let own = g.S.PageSize.LEVEL in
     let pass = sym (first_tests c.has_address_bits.result c.is_in_window.result (no_address given) (begins_with l.window q) c.has_address_bits.ensures c.is_in_window.ensures) ∙ c.if-has_address_bits-is_in_window.true in
     let low = le-leb level c.LEVEL.result c.if-level-LEVEL.true in
-    low ∙ sym (low_flags_rule l.levels l.window (paths l m) level q given own c.requires.levels c.requires.high
-    ∙ λ i. pass i && ((ap (nat_le level) (sym c.LEVEL.ensures) ∙ low) i || keeps_huge (read_entry l m) (front_at l.levels level q) given))
+    low ∙ sym (low_flags_rule l.levels l.window (paths (l laid_in m)) level q given own c.requires.levels c.requires.high
+    ∙ λ i. pass i && ((ap (nat_le level) (sym c.LEVEL.ensures) ∙ low) i || keeps_huge (read_entry (l laid_in m)) (front_at l.levels level q) given))
 
 pub returns-else-level-LEVEL : goal.returns-else-level-LEVEL
 returns-else-level-LEVEL g c =
@@ -41,9 +41,9 @@ returns-else-level-LEVEL g c =
     let pass = sym (first_tests c.has_address_bits.result c.is_in_window.result (no_address given) (begins_with l.window q) c.has_address_bits.ensures c.is_in_window.ensures) ∙ c.if-has_address_bits-is_in_window.true in
     let high = ap (nat_le level) (sym c.LEVEL.ensures) ∙ lt-leb level c.LEVEL.result c.if-level-LEVEL.false in
     let front = c.path_to_level.ensures ∙ ap (λ n. take (n - level) q) c.requires.levels in
-    c.keeps_huge.ensures ∙ ap (λ p. keeps_huge (read_entry l m) p given) front
-    ∙ sym (low_flags_rule l.levels l.window (paths l m) level q given own c.requires.levels c.requires.high
-    ∙ λ i. pass i && (high i || keeps_huge (read_entry l m) (front_at l.levels level q) given))
+    c.keeps_huge.ensures ∙ ap (λ p. keeps_huge (read_entry (l laid_in m)) p given) front
+    ∙ sym (low_flags_rule l.levels l.window (paths (l laid_in m)) level q given own c.requires.levels c.requires.high
+    ∙ λ i. pass i && (high i || keeps_huge (read_entry (l laid_in m)) (front_at l.levels level q) given))
 
 pub returns-else-has_address_bits-is_in_window : goal.returns-else-has_address_bits-is_in_window
 returns-else-has_address_bits-is_in_window g c =
@@ -55,5 +55,5 @@ returns-else-has_address_bits-is_in_window g c =
     let own = g.S.PageSize.LEVEL in
     let first = first_tests c.has_address_bits.result c.is_in_window.result (no_address given) (begins_with l.window q) c.has_address_bits.ensures c.is_in_window.ensures in
     let tests = c.if-has_address_bits-is_in_window.false in
-    tests ∙ sym (low_flags_rule l.levels l.window (paths l m) level q given own c.requires.levels c.requires.high
-    ∙ ap (λ b. b && (nat_le level own || keeps_huge (read_entry l m) (front_at l.levels level q) given)) (sym first ∙ tests))
+    tests ∙ sym (low_flags_rule l.levels l.window (paths (l laid_in m)) level q given own c.requires.levels c.requires.high
+    ∙ ap (λ b. b && (nat_le level own || keeps_huge (read_entry (l laid_in m)) (front_at l.levels level q) given)) (sym first ∙ tests))

@@ -1,6 +1,6 @@
 use Rattle.std.proofs.Common.{◌<◌, [], ap, ◌∙◌, subst, sym}
 use Rattle.std.proofs.lemmas.List.{get_or_read}
-use Rattle.x86_64_model.specs.Layout.{words}
+use Rattle.x86_64_model.specs.Mapper.{◌laid_in◌, words}
 use Rattle.x86_64_model.specs.Memory.{word}
 use Rattle.x86_64_mappers.proofs.Way.Finds.{each_way_start, each_way_next, each_way_stop, find_end, IsOnEachWay}
 use Rattle.x86_64_mappers.proofs.Way.ReachedSteps.{IsHere, here_first, here_next}
@@ -23,14 +23,14 @@ returns-in-Err-clause-ends g c =
     let item = get_or_read c.args.parents.now c.loop-k.k c.index-parents-k.result c.loop-k-test.true c.index-parents-k.is 0 in
     each_way_stop l m c.requires.valid c.args.parents.now c.requires.short c.loop-k.k c.loop-k-test.true c.loop-k.table c.loop-k.invariant.each_way
     (walk_refusal c.in-Err.why)
-    (c.in-Err.ensures.below ∙ ap (λ i. table_below (word (words l m) c.loop-k.table i)) item)
+    (c.in-Err.ensures.below ∙ ap (λ i. table_below (word (words (l laid_in m)) c.loop-k.table i)) item)
 
 pub loop-k-preserved : goal.loop-k-preserved
 loop-k-preserved g c =
     let l = (g.M.Tables.hierarchy c.args.mapper.now).layout in
     let m = (g.M.Tables.hierarchy c.args.mapper.now).memory in
     let item = get_or_read c.args.parents.now c.loop-k.k c.index-parents-k.result c.loop-k-test.true c.index-parents-k.is 0 in
-    let below = c.in-Ok.ensures.below ∙ ap (λ i. table_below (word (words l m) c.loop-k.table i)) item in record {
+    let below = c.in-Ok.ensures.below ∙ ap (λ i. table_below (word (words (l laid_in m)) c.loop-k.table i)) item in record {
       here = here_next l m c.requires.valid c.args.parents.now c.requires.short c.loop-k.k c.loop-k-test.true c.loop-k.table c.loop-k.invariant.here
           (subst (λ i. i < 512) item c.next_table.ensures.index) c.in-Ok.next below;
       each_way = each_way_next l m c.requires.valid c.args.parents.now c.requires.short c.loop-k.k c.loop-k-test.true c.loop-k.table c.loop-k.invariant.each_way c.in-Ok.next below;

@@ -1,7 +1,8 @@
 use Rattle.std.proofs.Common.{◌≡◌, ◌<◌, inl, inr, bit_or, refl, sym, ap, ◌∙◌, subst, false, arith, get_or}
 use Rattle.std.proofs.lemmas.List.{get_or_read}
 use Rattle.x86_64_model.specs.Entry.{used}
-use Rattle.x86_64_model.specs.Layout.{Layout, words}
+use Rattle.x86_64_model.specs.Layout.{Layout}
+use Rattle.x86_64_model.specs.Mapper.{◌laid_in◌, words}
 use Rattle.x86_64_model.specs.Memory.{word}
 use Rattle.x86_64_mappers.proofs.Memory.EntryWrites.{unchanged, supply_first, supply_empty}
 use Rattle.x86_64_mappers.proofs.Map.Linking.{may_still, taken_linked}
@@ -24,7 +25,7 @@ returns-in_default-clause-made g c =
     let entry = c.entry_mut-entry in
     let u : used entry.result.now ≡ false = (let e = c.is_unused.ensures in let t = c.if-not-is_unused.false in grind arith) in
     let empty = supply_empty (g.A.FrameAllocator.supply c.args.frame_allocator.now) (sym c.in_default.ensures.first) in (
-      ap (λ i. used (word (words l m) c.args.table i)) (sym item) ∙ ap used (sym entry.ensures.value) ∙ u,
+      ap (λ i. used (word (words (l laid_in m)) c.args.table i)) (sym item) ∙ ap used (sym entry.ensures.value) ∙ u,
       empty,
       unchanged l.places m c.args.table i entry.result.now entry.ensures.value _ (g.met.M.Tables.is_mapping s).distinct entry.ensures.index (entry.ensures.set _),
       (rw empty at c.in_default.ensures.rest),
@@ -50,7 +51,7 @@ link_table-requires-clause-may g c =
     may_still l _ kept m _ unmoved q k c.args.table f c.union-flags.result.0 _ flags
     (may_link l apart (g.M.Tables.added_flags s).adds m (g.A.FrameAllocator.supply c.args.frame_allocator.now) c.requires.ready q c.requires.outside c.requires.short
     c.args.parent_flags.0 c.requires.flags k c.requires.within c.args.table c.requires.way (subst (λ i. i < 512) item entry.ensures.index)
-    (ap (λ i. used (word (words l m) c.args.table i)) (sym item) ∙ ap used (sym entry.ensures.value) ∙ u) f (rw first (inl refl)))
+    (ap (λ i. used (word (words (l laid_in m)) c.args.table i)) (sym item) ∙ ap used (sym entry.ensures.value) ∙ u) f (rw first (inl refl)))
 
 pub returns-clause-made : goal.returns-clause-made
 returns-clause-made g c =
@@ -67,5 +68,5 @@ returns-clause-made g c =
     let kept = g.met.M.TableAccess.keeps_layout s c.args.table _ in
     let flags = c.union-flags.ensures tt ∙ ap (bit_or c.args.parent_flags.0) (c.new_table_flags.ensures ∙ ap (λ (l : Layout). l.added_flags) kept) in
     inr (taken_linked l _ kept m _ unmoved _ _ c.args.table (get_or c.args.parents.now c.args.k 0) c.union-flags.result.0 _ f flags n
-    (ap (λ i. used (word (words l m) c.args.table i)) (sym item) ∙ ap used (sym entry.ensures.value) ∙ u)
+    (ap (λ i. used (word (words (l laid_in m)) c.args.table i)) (sym item) ∙ ap used (sym entry.ensures.value) ∙ u)
     (supply_first _ _ f c.in-Some.ensures.first c.in-Some.ensures.rest) c.link_table.ensures.linked)

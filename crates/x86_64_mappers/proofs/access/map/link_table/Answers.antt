@@ -1,7 +1,8 @@
 use Rattle.std.proofs.Common.{◌≡◌, true, false, bit_or, ap, ◌∙◌, subst, get_or, arith, IsSome}
 use Rattle.std.specs.FinMap.{insert}
 use Rattle.std.specs.Option.{is_some}
-use Rattle.x86_64_model.specs.Layout.{Layout, words}
+use Rattle.x86_64_model.specs.Layout.{Layout}
+use Rattle.x86_64_model.specs.Mapper.{◌laid_in◌, words}
 use Rattle.x86_64_mappers.proofs.Map.Linking.{same_layout, may_after, zeros_after, linked_after, cleared_after}
 use Rattle.x86_64_mappers.proofs.access.map.link_table.Goals as goal
 
@@ -34,7 +35,7 @@ returns-then-not-cleared-clause-linked g c =
     let there = ap is_some c.table_mut.ensures.value in
     cleared_after h after apart c.args.parents.now c.args.k c.args.table f c.args.flags.0 c.requires.may cleared.result cleared.ensures.cleared done
     (get_or c.args.parents.now c.args.k 0) (bit_or f c.args.flags.0) n _ c.name_table.ensures.named (record {
-      there = subst (λ (l : Layout). IsSome (words l n f)) kept there;
+      there = subst (λ (l : Layout). IsSome (words (l laid_in n) f)) kept there;
       after = g.met.M.TableAccess.puts t f c.zero.new.self there ∙ ap (λ (l : Layout). insert n (l.places.place f) c.zero.new.self) kept
           ∙ ap (insert n (h.layout.places.place f)) c.zero.ensures;
     })

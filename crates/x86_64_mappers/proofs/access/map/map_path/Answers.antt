@@ -1,7 +1,7 @@
 use Rattle.std.proofs.Common.{◌≡◌, ◌∙◌, ◌-◌, true, length, get_or, sym, subst}
 use Rattle.std.proofs.lemmas.Result.{err_from_is_err_and}
 use Rattle.x86_64_model.specs.Allowed.{parents_present}
-use Rattle.x86_64_model.specs.Layout.{paths}
+use Rattle.x86_64_model.specs.Mapper.{◌laid_in◌, paths}
 use Rattle.x86_64_model.proofs.Lemmas.Machines.Effects.{map_may}
 use Rattle.x86_64_mappers.proofs.Map.PageMaps.{page_stopped, page_mapped}
 use Rattle.x86_64_mappers.proofs.Way.Pages.{path_parted}
@@ -15,20 +15,20 @@ use Rattle.x86_64_mappers.proofs.access.map.map_path.Goals as goal
 pub create_tables-requires-clause-flags : goal.create_tables-requires-clause-flags
 create_tables-requires-clause-flags g c =
     let l = (g.M.Tables.hierarchy c.args.mapper.now).layout in
-    (map_may l.levels l.window (paths l (g.M.Tables.hierarchy c.args.mapper.now).memory) c.args.path.now c.args.flags.0 c.args.parent_flags.0 (map_is_allowed (g.M.Tables.hierarchy c.args.mapper.now) (g.A.FrameAllocator.supply c.args.frame_allocator.now) c.args.path.now c.args.frame c.args.flags.0 c.args.parent_flags.0 c.requires.may)).marks
+    (map_may l.levels l.window (paths (l laid_in (g.M.Tables.hierarchy c.args.mapper.now).memory)) c.args.path.now c.args.flags.0 c.args.parent_flags.0 (map_is_allowed (g.M.Tables.hierarchy c.args.mapper.now) (g.A.FrameAllocator.supply c.args.frame_allocator.now) c.args.path.now c.args.frame c.args.flags.0 c.args.parent_flags.0 c.requires.may)).marks
 
 pub create_tables-requires-clause-outside : goal.create_tables-requires-clause-outside
 create_tables-requires-clause-outside g c =
     let h = g.M.Tables.hierarchy c.args.mapper.now in
     let q = c.args.path.now in
     let may = map_is_allowed h (g.A.FrameAllocator.supply c.args.frame_allocator.now) q c.args.frame c.args.flags.0 c.args.parent_flags.0 c.requires.may in
-    outside_front h.layout.window (length q - 1) q (map_may h.layout.levels h.layout.window (paths h.layout h.memory) q c.args.flags.0 c.args.parent_flags.0 may).outside
+    outside_front h.layout.window (length q - 1) q (map_may h.layout.levels h.layout.window (paths h) q c.args.flags.0 c.args.parent_flags.0 may).outside
 
 pub create_tables-requires-clause-present : goal.create_tables-requires-clause-present
 create_tables-requires-clause-present g c =
     let s = c.args.mapper.now in
     let l = (g.M.Tables.hierarchy s).layout in
-    let M = paths l (g.M.Tables.hierarchy s).memory in
+    let M = paths (l laid_in (g.M.Tables.hierarchy s).memory) in
     let q = c.args.path.now in
     let more = c.args.parent_flags.0 in
     let size = has_last_index q (some_index_of l.levels q g.S.PageSize.LEVEL c.requires.levels (page_below_root l.levels g.S.PageSize.LEVEL (g.met.M.Tables.at_least_four s) g.S.PageSize.high)) in
@@ -43,7 +43,7 @@ returns-in_err-table-clause-does g c =
     let q = c.args.path.now in
     let more = c.args.parent_flags.0 in
     let size = has_last_index q (some_index_of l.levels q g.S.PageSize.LEVEL c.requires.levels (page_below_root l.levels g.S.PageSize.LEVEL (g.met.M.Tables.at_least_four s) g.S.PageSize.high)) in
-    let may = map_may l.levels l.window (paths l m) q c.args.flags.0 more (map_is_allowed (g.M.Tables.hierarchy c.args.mapper.now) (g.A.FrameAllocator.supply c.args.frame_allocator.now) c.args.path.now c.args.frame c.args.flags.0 c.args.parent_flags.0 c.requires.may) in
+    let may = map_may l.levels l.window (paths (l laid_in m)) q c.args.flags.0 more (map_is_allowed (g.M.Tables.hierarchy c.args.mapper.now) (g.A.FrameAllocator.supply c.args.frame_allocator.now) c.args.path.now c.args.frame c.args.flags.0 c.args.parent_flags.0 c.requires.may) in
     let e = err_from_is_err_and c.from_residual.result c.from_residual.ensures.1 in
     rw (e.1, e.2) (ends_map (g.M.Tables.hierarchy s) (g.A.FrameAllocator.supply c.args.frame_allocator.now) q c.args.frame c.args.flags.0 more (g.M.Tables.hierarchy c.create_tables.new.mapper) c.create_tables.ensures.layout c.create_tables.ensures.lent _ _
     (page_stopped l (g.met.M.Tables.is_mapping s).distinct m (g.A.FrameAllocator.supply c.args.frame_allocator.now) g.S.PageSize.LEVEL q (length q - 1) size c.requires.levels
@@ -58,7 +58,7 @@ returns-clause-does g c =
     let i = c.index-path-last.result in
     let more = c.args.parent_flags.0 in
     let size = has_last_index q (some_index_of l.levels q g.S.PageSize.LEVEL c.requires.levels (page_below_root l.levels g.S.PageSize.LEVEL (g.met.M.Tables.at_least_four s) g.S.PageSize.high)) in
-    let may = map_may l.levels l.window (paths l m) q c.args.flags.0 more (map_is_allowed (g.M.Tables.hierarchy c.args.mapper.now) (g.A.FrameAllocator.supply c.args.frame_allocator.now) c.args.path.now c.args.frame c.args.flags.0 c.args.parent_flags.0 c.requires.may) in
+    let may = map_may l.levels l.window (paths (l laid_in m)) q c.args.flags.0 more (map_is_allowed (g.M.Tables.hierarchy c.args.mapper.now) (g.A.FrameAllocator.supply c.args.frame_allocator.now) c.args.path.now c.args.frame c.args.flags.0 c.args.parent_flags.0 c.requires.may) in
     ends_map (g.M.Tables.hierarchy s) (g.A.FrameAllocator.supply c.args.frame_allocator.now) q c.args.frame c.args.flags.0 more (g.M.Tables.hierarchy c.set_leaf.new.mapper)
     (c.set_leaf.ensures.layout ∙ c.create_tables.ensures.layout) (c.set_leaf.ensures.lent ∙ c.create_tables.ensures.lent) _ _
     (page_mapped l (g.met.M.Tables.is_mapping s).distinct m (g.A.FrameAllocator.supply c.args.frame_allocator.now) g.S.PageSize.LEVEL q (length q - 1) size c.requires.levels

@@ -2,7 +2,8 @@ use Rattle.std.proofs.Common.{◌≡◌, ◌<◌, ◌+◌, ◌*◌, ◌++◌, []
 use Rattle.std.proofs.lemmas.List.Sums.{fold-append}
 use Rattle.x86_64_model.specs.Allowed.{allowed}
 use Rattle.x86_64_model.specs.Call.{Unmap}
-use Rattle.x86_64_model.specs.Layout.{Layout, paths}
+use Rattle.x86_64_model.specs.Layout.{Layout}
+use Rattle.x86_64_model.specs.Mapper.{◌laid_in◌, paths}
 use Rattle.x86_64_model.specs.Path.{path_at}
 use Rattle.x86_64_model.specs.Position.{span}
 use Rattle.x86_64_model.specs.private.MapperCalls.{after_unmap}
@@ -39,7 +40,7 @@ parts-preserved g c =
     let page = c.args.page in
     let done = c.parts.done in
     let inv = c.parts.invariant in
-    let may : (k : ℕ) → k < c.args.count → allowed l.levels l.window (paths l m) (Unmap (path_at l.levels level (page + k * span level))) ≡ true = λ k less. ap not (c.requires.pages.outside k less) in
+    let may : (k : ℕ) → k < c.args.count → allowed l.levels l.window (paths (l laid_in m)) (Unmap (path_at l.levels level (page + k * span level))) ≡ true = λ k less. ap not (c.requires.pages.outside k less) in
     let now = (g.M.Tables.hierarchy c.parts.mapper).memory in
     let after = g.M.Tables.hierarchy c.unmap_part-done.new.mapper in
     let count = c.unmap_part-done.result in

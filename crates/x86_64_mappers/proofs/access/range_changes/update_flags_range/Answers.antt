@@ -2,7 +2,8 @@ use Rattle.std.proofs.Common.{◌≡◌, ◌<◌, ◌≤◌, ◌+◌, ◌*◌, �
 use Rattle.std.proofs.lemmas.List.{length-append}
 use Rattle.x86_64_model.specs.Allowed.{allowed}
 use Rattle.x86_64_model.specs.Call.{UpdateFlags}
-use Rattle.x86_64_model.specs.Layout.{Layout, paths}
+use Rattle.x86_64_model.specs.Layout.{Layout}
+use Rattle.x86_64_model.specs.Mapper.{◌laid_in◌, paths}
 use Rattle.x86_64_model.specs.Path.{path_at}
 use Rattle.x86_64_model.specs.Position.{span}
 use Rattle.x86_64_model.specs.private.MapperCalls.{after_update}
@@ -41,7 +42,7 @@ parts-preserved g c =
     let given = c.args.flags.0 in
     let done = c.parts.done in
     let inv = c.parts.invariant in
-    let may : (k : ℕ) → k < c.args.count → allowed l.levels l.window (paths l m) (UpdateFlags (path_at l.levels level (page + k * span level)) given) ≡ true = λ k less.
+    let may : (k : ℕ) → k < c.args.count → allowed l.levels l.window (paths (l laid_in m)) (UpdateFlags (path_at l.levels level (page + k * span level)) given) ≡ true = λ k less.
     ap₂ (λ a b. a && not b) c.requires.flags (c.requires.pages.outside k less) in
     let now = (g.M.Tables.hierarchy c.parts.mapper).memory in
     let after = g.M.Tables.hierarchy c.update_part-part.new.mapper in

@@ -2,7 +2,8 @@ use Rattle.std.proofs.Common.{◌≡◌, ◌<◌, ◌≤◌, ◌+◌, ◌-◌, �
 use Rattle.x86_64_model.specs.Allowed.{parents_present}
 use Rattle.x86_64_model.specs.Call.{Answered}
 use Rattle.x86_64_model.specs.Entry.{IsParentFlags}
-use Rattle.x86_64_model.specs.Layout.{Layout, paths}
+use Rattle.x86_64_model.specs.Layout.{Layout}
+use Rattle.x86_64_model.specs.Mapper.{◌laid_in◌, paths}
 use Rattle.x86_64_model.specs.Path.{path_at}
 use Rattle.x86_64_model.specs.Position.{span}
 use Rattle.x86_64_model.specs.Refusal.{Refused, PageAlreadyMapped}
@@ -25,7 +26,7 @@ use Rattle.x86_64_mappers.proofs.access.ranges.map_range.Goals as goal
 pub map_part-requires-clause-marks : goal.map_part-requires-clause-marks
 map_part-requires-clause-marks g c =
     let h = g.M.Tables.hierarchy c.args.mapper.now in
-    (map_may h.layout.levels h.layout.window (paths h.layout h.memory) _ c.args.flags.0 c.args.parent_flags.0 (c.requires.may.allowed c.parts.done c.parts-test.true)).marks
+    (map_may h.layout.levels h.layout.window (paths h) _ c.args.flags.0 c.args.parent_flags.0 (c.requires.may.allowed c.parts.done c.parts-test.true)).marks
 
 pub map_part-requires-clause-outside : goal.map_part-requires-clause-outside
 map_part-requires-clause-outside g c =
@@ -37,7 +38,7 @@ map_part-requires-clause-outside g c =
     let p = path_at l.levels level (c.args.page + done * span level) in
     let is_path : c.indices-indices.result.now ≡ p =
     c.indices-indices.ensures ∙ c.path_of_page-path.ensures.path ∙ ap₂ (λ (l : Layout) p. path_at l.levels level p) inv.layout (c.page_after.ensures ∙ ap (λ z. c.args.page + done * z) g.S.PageSize.size) in
-    ap₂ (λ (l : Layout) q. begins_with l.window q) inv.layout is_path ∙ (map_may l.levels l.window (paths l h.memory) p c.args.flags.0 c.args.parent_flags.0 (c.requires.may.allowed done c.parts-test.true)).outside
+    ap₂ (λ (l : Layout) q. begins_with l.window q) inv.layout is_path ∙ (map_may l.levels l.window (paths (l laid_in h.memory)) p c.args.flags.0 c.args.parent_flags.0 (c.requires.may.allowed done c.parts-test.true)).outside
 
 pub map_part-requires-clause-present : goal.map_part-requires-clause-present
 map_part-requires-clause-present g c =
@@ -56,10 +57,10 @@ map_part-requires-clause-present g c =
     let p = path_at l.levels level (c.args.page + done * span level) in
     let is_path : q ≡ p =
     c.indices-indices.ensures ∙ c.path_of_page-path.ensures.path ∙ ap₂ (λ (l : Layout) p. path_at l.levels level p) inv.layout (c.page_after.ensures ∙ ap (λ z. c.args.page + done * z) g.S.PageSize.size) in
-    let allowed = inv.run.parents p (map_may l.levels l.window (paths l h.memory) p c.args.flags.0 more (c.requires.may.allowed done c.parts-test.true)).parents in
+    let allowed = inv.run.parents p (map_may l.levels l.window (paths (l laid_in h.memory)) p c.args.flags.0 more (c.requires.may.allowed done c.parts-test.true)).parents in
     let size : length p ≡ length p - 1 + 1 = (let long = length_taken (c.args.page + done * span level) (l.levels + 1 - level) l.levels (omega (arith, low)) in omega (arith, long, high, levels)) in
-    let there = will_be_present (paths l now.memory) more (take (length p - 1) p) (get_or p (length p - 1) 0) (subst (λ q. parents_present (paths l now.memory) more q ≡ true) (sym (path_parted p (length p - 1) size)) allowed) in
-    subst₂ (λ (l : Layout) q. WillBePresent (paths l now.memory) more (take (length q - 1) q)) (sym inv.layout) (sym is_path) there
+    let there = will_be_present (paths (l laid_in now.memory)) more (take (length p - 1) p) (get_or p (length p - 1) 0) (subst (λ q. parents_present (paths (l laid_in now.memory)) more q ≡ true) (sym (path_parted p (length p - 1) size)) allowed) in
+    subst₂ (λ (l : Layout) q. WillBePresent (paths (l laid_in now.memory)) more (take (length q - 1) q)) (sym inv.layout) (sym is_path) there
 
 pub map_part-requires-clause-frames : goal.map_part-requires-clause-frames
 map_part-requires-clause-frames g c = λ k less.
@@ -91,7 +92,7 @@ returns-then-mapped-part-clause-maps g c =
     let high = g.S.PageSize.high in
     let low = g.S.PageSize.low in
     let allowed = c.requires.may.allowed in
-    let marks : IsParentFlags r.parent_flags = (map_may l.levels l.window (paths l m) _ r.flags r.parent_flags (allowed done c.parts-test.true)).marks in
+    let marks : IsParentFlags r.parent_flags = (map_may l.levels l.window (paths (l laid_in m)) _ r.flags r.parent_flags (allowed done c.parts-test.true)).marks in
     let given : IsSetUp l m r total = record { apart = (g.met.M.Tables.is_mapping s).distinct; adds = (g.M.Tables.added_flags s).adds; marks = marks; low = low; high = high; levels = levels; allowed = allowed } in
     let now = (g.M.Tables.hierarchy c.parts.mapper).memory in
     let left = g.A.FrameAllocator.supply c.parts.frame_allocator in
@@ -135,7 +136,7 @@ parts-preserved g c =
     let high = g.S.PageSize.high in
     let low = g.S.PageSize.low in
     let allowed = c.requires.may.allowed in
-    let marks : IsParentFlags r.parent_flags = (map_may l.levels l.window (paths l m) _ r.flags r.parent_flags (allowed done c.parts-test.true)).marks in
+    let marks : IsParentFlags r.parent_flags = (map_may l.levels l.window (paths (l laid_in m)) _ r.flags r.parent_flags (allowed done c.parts-test.true)).marks in
     let given : IsSetUp l m r total = record { apart = (g.met.M.Tables.is_mapping s).distinct; adds = (g.M.Tables.added_flags s).adds; marks = marks; low = low; high = high; levels = levels; allowed = allowed } in
     let now = (g.M.Tables.hierarchy c.parts.mapper).memory in
     let left = g.A.FrameAllocator.supply c.parts.frame_allocator in
@@ -179,7 +180,7 @@ returns-in-Err-clause-maps g c =
     let high = g.S.PageSize.high in
     let low = g.S.PageSize.low in
     let allowed = c.requires.may.allowed in
-    let marks : IsParentFlags r.parent_flags = (map_may l.levels l.window (paths l m) _ r.flags r.parent_flags (allowed done c.parts-test.true)).marks in
+    let marks : IsParentFlags r.parent_flags = (map_may l.levels l.window (paths (l laid_in m)) _ r.flags r.parent_flags (allowed done c.parts-test.true)).marks in
     let given : IsSetUp l m r total = record { apart = (g.met.M.Tables.is_mapping s).distinct; adds = (g.M.Tables.added_flags s).adds; marks = marks; low = low; high = high; levels = levels; allowed = allowed } in
     let now = (g.M.Tables.hierarchy c.parts.mapper).memory in
     let left = g.A.FrameAllocator.supply c.parts.frame_allocator in

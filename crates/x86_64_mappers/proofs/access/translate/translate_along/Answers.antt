@@ -1,6 +1,6 @@
 use Rattle.std.proofs.Common.{◌-◌, ◌∙◌, ◌%◌, ap, sym, subst, Some, Err, length, arith}
 use Rattle.x86_64_model.specs.Entry.{flags}
-use Rattle.x86_64_model.specs.Layout.{words}
+use Rattle.x86_64_model.specs.Mapper.{◌laid_in◌, words}
 use Rattle.x86_64_model.specs.Memory.{word}
 use Rattle.x86_64_model.specs.PageWalk.{page_start}
 use Rattle.x86_64_model.specs.Position.{span, index}
@@ -32,7 +32,7 @@ returns-in-Err-FrameNotPresent g c =
     let m = (g.M.Tables.hierarchy c.args.mapper.now).memory in
     let read = c.table_index-index.ensures ∙ ap (λ n. index (n - c.loop-k.k) c.args.addr) c.requires.levels in
     ap Some (sym (found_absent c.loop-k.invariant.way c.entry-entry.result.now (omega (arith, c.loop-k-test.true, c.requires.levels))
-    (c.entry-entry.ensures.value ∙ ap (word (words l m) c.loop-k.table) read)
+    (c.entry-entry.ensures.value ∙ ap (word (words (l laid_in m)) c.loop-k.table) read)
     (sym (c.in-Err-FrameNotPresent.is ∙ ap Err c.in-Err-FrameNotPresent.field-0-is) ∙ c.frame.ensures)))
 
 pub leaf_translation-requires-clause-high : goal.leaf_translation-requires-clause-high
@@ -41,7 +41,7 @@ leaf_translation-requires-clause-high g c =
     let m = (g.M.Tables.hierarchy c.args.mapper.now).memory in
     let read = c.table_index-index.ensures ∙ ap (λ n. index (n - c.loop-k.k) c.args.addr) c.requires.levels in
     rw c.requires.levels (found_low c.loop-k.invariant.way c.entry-entry.result.now (omega (arith, c.loop-k-test.true, c.requires.levels))
-    (c.entry-entry.ensures.value ∙ ap (word (words l m) c.loop-k.table) read)
+    (c.entry-entry.ensures.value ∙ ap (word (words (l laid_in m)) c.loop-k.table) read)
     (sym (c.in-Err-HugeFrame.is ∙ ap Err c.in-Err-HugeFrame.field-0-is) ∙ c.frame.ensures))
 
 pub returns-in-Err-HugeFrame : goal.returns-in-Err-HugeFrame
@@ -54,7 +54,7 @@ returns-in-Err-HugeFrame g c =
     ∙ ap (λ p. Some (Mapped (span (length c.args.indices.now - c.loop-k.k)) (page_start (length c.args.indices.now - c.loop-k.k) e) (p % span (length c.args.indices.now - c.loop-k.k)) (flags e))) c.position.ensures.value
     ∙ ap Some (ap (λ n. Mapped (span (n - c.loop-k.k)) (page_start (n - c.loop-k.k) e) (c.args.addr % span (n - c.loop-k.k)) (flags e)) c.requires.levels
     ∙ sym (found_large c.loop-k.invariant.way e (omega (arith, c.loop-k-test.true, c.requires.levels))
-    (c.entry-entry.ensures.value ∙ ap (word (words l m) c.loop-k.table) read)
+    (c.entry-entry.ensures.value ∙ ap (word (words (l laid_in m)) c.loop-k.table) read)
     (sym (c.in-Err-HugeFrame.is ∙ ap Err c.in-Err-HugeFrame.field-0-is) ∙ c.frame.ensures)))
 
 pub returns-then-is_unused : goal.returns-then-is_unused
@@ -65,7 +65,7 @@ returns-then-is_unused g c =
     let some = positive_levels l.levels (g.met.M.Tables.at_least_four s) in
     let read = c.table_index.ensures in
     ap Some (sym (found_unused c.loop-k.invariant.way c.entry-entry-2.result.now (omega (arith, c.loop-k.auto.k-end, c.loop-k-test.false, c.requires.levels, some))
-    (c.entry-entry-2.ensures.value ∙ ap (word (words l m) c.loop-k.table) read) (let u = c.if-is_unused.ensures in grind (arith, u))))
+    (c.entry-entry-2.ensures.value ∙ ap (word (words (l laid_in m)) c.loop-k.table) read) (let u = c.if-is_unused.ensures in grind (arith, u))))
 
 pub returns-else-is_unused : goal.returns-else-is_unused
 returns-else-is_unused g c =
@@ -78,4 +78,4 @@ returns-else-is_unused g c =
     c.leaf_translation-else-is_unused.ensures
     ∙ ap (λ p. Some (Mapped (span 1) (page_start 1 e) (p % span 1) (flags e))) c.position-else-is_unused.ensures.value
     ∙ ap Some (sym (found_small c.loop-k.invariant.way c.entry-entry-2.result.now (omega (arith, c.loop-k.auto.k-end, c.loop-k-test.false, c.requires.levels, some))
-    (c.entry-entry-2.ensures.value ∙ ap (word (words l m) c.loop-k.table) read) (let u = c.if-is_unused.ensures in grind (arith, u))))
+    (c.entry-entry-2.ensures.value ∙ ap (word (words (l laid_in m)) c.loop-k.table) read) (let u = c.if-is_unused.ensures in grind (arith, u))))

@@ -1,6 +1,6 @@
 use Rattle.std.proofs.Common.{◌≡◌, ◌-◌, Result, Ok, Err, ℕ, length, refl, sym, ap, ◌∙◌}
 use Rattle.std.proofs.lemmas.Result.{err_from_is_err_and}
-use Rattle.x86_64_model.specs.Layout.{words}
+use Rattle.x86_64_model.specs.Mapper.{◌laid_in◌, words}
 use Rattle.x86_64_model.specs.Memory.{word}
 use Rattle.x86_64_tables.specs.MapperAnswers.{translate_answer}
 use Rattle.x86_64_tables.specs.declared.mapper.TranslateError.{TranslateError}
@@ -33,6 +33,6 @@ returns g c =
     let level = g.S.PageSize.LEVEL in
     let size = has_last_index q (some_index_of l.levels q level c.requires.levels (page_below_root l.levels level (g.met.M.Tables.at_least_four c.args.mapper.now) g.S.PageSize.high)) in
     let table = c.in_ok-table.table in
-    let read = c.entry.ensures.value ∙ ap (word (words l m) table) (last_item q c.index-path-last.result size c.index-path-last.is) in
+    let read = c.entry.ensures.value ∙ ap (word (words (l laid_in m)) table) (last_item q c.index-path-last.result size c.index-path-last.is) in
     same_answer c.named_frame.result
     ∙ sym (translate_told l m level q c.requires.levels (length q - 1) size table c.in_ok-table.ensures.found (translate_result c.named_frame.result) (c.named_frame.ensures ∙ ap (named_frame level) read))
