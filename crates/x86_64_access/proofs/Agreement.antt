@@ -12,7 +12,8 @@ use Rattle.x86_64_tables.proofs.WalkSteps.{on_absent, on_end, on_none as walk_no
 use Rattle.x86_64_tables.specs.Walks.{ends}
 use Rattle.std.proofs.lemmas.Bool.{leb-false}
 use Rattle.x86_64_model.specs.Access.{Access, Arrives, Controls, Faults, Outcome, allowed, code, low_bits, Step, steps_from, access, reserved}
-use Rattle.x86_64_access.specs.private.Walking.{access_on, both}
+use Rattle.x86_64_access.specs.private.Walking.{access_on}
+use Rattle.x86_64_tables.specs.Rights.{both}
 use Rattle.x86_64_access.specs.Laws.{ArriveWhereWalksDo, WalksAllowedArrive}
 use Rattle.x86_64_access.proofs.Walked.{and_left, and_right, is_arrival, on_fault, on_none, on_page, on_root, on_table as to_table, on_zero, or_left, or_right, page_low, both_more, both_none, words_in, steps_first, steps_on, steps_page, page_ends, table_high}
 
@@ -65,10 +66,13 @@ module _ (c : Controls) (T : Words) (p : ℕ) (a : Access) where
   at_page level frame r e to l is here sound page arrives = by_rights (allowed c a (granted r e)) refl
     where
       there : page_start level e + p % span level ≡ to → Reaches (walk_on T p level r.write r.user frame) to
-      there same = (r.write && writable e, r.user && user e,
-          sym (on_end T p level r.write r.user frame e is l here (page_ends level e page))
-          ∙ ends_in level p e (r.write && writable e) (r.user && user e) l (page_low level e page)
-          ∙ ap (λ x. Some (record { address = x; write = r.write && writable e; user = r.user && user e })) same)
+      there same = (
+        r.write && writable e,
+        r.user && user e,
+        sym (on_end T p level r.write r.user frame e is l here (page_ends level e page))
+            ∙ ends_in level p e (r.write && writable e) (r.user && user e) l (page_low level e page)
+            ∙ ap (λ x. Some (record { address = x; write = r.write && writable e; user = r.user && user e })) same,
+      )
 
       by_rights : (b : Bool) → allowed c a (granted r e) ≡ b → Reaches (walk_on T p level r.write r.user frame) to
       by_rights true enough = there (ap (λ o. arrival_of o 0)
@@ -162,13 +166,14 @@ module _ (c : Controls) (T : Words) (p : ℕ) (a : Access) where
           let more : 1 < suc n = table_high (suc n) e low table in
           let both_sound : (present e && not (reserved c (suc n) e)) ≡ true = rw (here, sound) refl in
           let steps = steps_on c T p a (suc n) frame e low is both_sound table
-              ∙ ap (λ k. record { level = suc n; frame = frame; index = index (suc n) p; word = e } ∷ steps_from c T p k (address e)) less in
+          ∙ ap (λ k. record { level = suc n; frame = frame; index = index (suc n) p; word = e } ∷ steps_from c T p k (address e)) less in
           sym (to_table c T p a (suc n) frame r e low is here sound table)
           ∙ ap (λ k. access_on c T p a k (address e) (granted r e)) less
           ∙ below (address e) (granted r e) (
-          ap (λ k. walk_on T p k (r.write && writable e) (r.user && user e) (address e)) (sym less) ∙ on_table T p (suc n) r.write r.user frame e is more here small ∙ walks,
-          (λ s member. all_sound s (subst (λ list. In list s) (sym steps) (inr member))),
-          sym (ap (allowed c a) (ap (λ list. both r (rights_of (words_in list))) steps ∙ both_more r e (words_in (steps_from c T p n (address e))))) ∙ enough)
+            ap (λ k. walk_on T p k (r.write && writable e) (r.user && user e) (address e)) (sym less) ∙ on_table T p (suc n) r.write r.user frame e is more here small ∙ walks,
+            (λ s member. all_sound s (subst (λ list. In list s) (sym steps) (inr member))),
+            sym (ap (allowed c a) (ap (λ list. both r (rights_of (words_in list))) steps ∙ both_more r e (words_in (steps_from c T p n (address e))))) ∙ enough,
+          )
 
       by_present : (e : ℕ) → Some e ≡ read T frame (index (suc n) p) → (b : Bool) → present e ≡ b
           → access_on c T p a (suc n) frame r ≡ Arrives w.address

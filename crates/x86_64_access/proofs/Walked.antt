@@ -8,7 +8,8 @@ use Rattle.x86_64_model.specs.PageWalk.{read, page_start}
 use Rattle.x86_64_model.specs.Position.{index, span}
 use Rattle.x86_64_model.proofs.Lemmas.Entries.Words.{address_within}
 use Rattle.x86_64_model.specs.Access.{Access, Kind, Controls, set_bits, bits_to_set, marked, Outcome, NoMemory, Step, steps_from, ends_at, ends_by, reads_on, reserved, low_bits, allowed, code, Arrives, Faults, access}
-use Rattle.x86_64_access.specs.private.Walking.{access_on, both, ArrivesFrom}
+use Rattle.x86_64_access.specs.private.Walking.{access_on, ArrivesFrom}
+use Rattle.x86_64_tables.specs.Rights.{both}
 use Rattle.x86_64_model.specs.Caches.{granted}
 use Rattle.std.proofs.Math.Bool.{and-true, and-false, and_assoc}
 use Rattle.std.proofs.lemmas.Bool.{eqb-true, eqb-false}
@@ -72,8 +73,11 @@ record_of w u x = record { write = w; user = u; execute = x }
 
 -- the rights of one more word
 pub both_more : (r : Rights) (e : ℕ) (words : List ℕ) → both r (rights_of (e ∷ words)) ≡ both (granted r e) (rights_of words)
-both_more r e words = rw (and_assoc r.write (writable e) (list_all writable words), and_assoc r.user (user e) (list_all user words),
-    and_assoc r.execute (not (no_execute e)) (list_all (λ f. not (no_execute f)) words)) refl
+both_more r e words = rw (
+  and_assoc r.write (writable e) (list_all writable words),
+  and_assoc r.user (user e) (list_all user words),
+  and_assoc r.execute (not (no_execute e)) (list_all (λ f. not (no_execute f)) words),
+) refl
 
 pub both_none : (r : Rights) → both r (rights_of []) ≡ r
 both_none r = rw (and-true r.write, and-true r.user, and-true r.execute) refl

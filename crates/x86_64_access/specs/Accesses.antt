@@ -1,8 +1,6 @@
 -- Accesses, controls and faults of Rust as those of the definition.
 use Rattle.std.specs.Prelude.{ℕ, Result, Ok, Err}
 use Rattle.x86_64_model.specs.Access as model
-use Rattle.x86_64_model.specs.Mappings.{Rights as GrantedRights}
-use Rattle.x86_64_tables.specs.declared.phys_memory.walk.Rights.{Rights}
 use Rattle.x86_64_access.specs.declared.request.Access.{Access}
 use Rattle.x86_64_access.specs.declared.request.AccessKind.{AccessKind}
 use Rattle.x86_64_access.specs.declared.request.AccessKind.TheVariants.{Read, Write, Fetch}
@@ -27,9 +25,6 @@ controls_of c = record {
   ac = c.ac;
   physical_bits = c.physical_bits;
 }
-
-abbrev pub rights_of : Rights → GrantedRights
-rights_of r = record { write = r.write; user = r.user; execute = r.execute }
 
 abbrev pub fault_of : Fault → model.Outcome
 fault_of (PageFault code level) = model.Faults code.0 level

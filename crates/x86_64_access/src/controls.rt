@@ -1,13 +1,13 @@
 //! What a processor is set to.
 ghost use Rattle.std.specs.Prelude.{◌≡◌, ◌≤◌};
 ghost use Rattle.x86_64_model.specs.Access as model;
-ghost use Rattle.x86_64_access.specs.Accesses.{access_of, controls_of, kind_of, rights_of};
+ghost use Rattle.x86_64_access.specs.Accesses.{access_of, controls_of, kind_of};
 
 use crate::code::PageFaultCode;
 use crate::request::{Access, AccessKind};
 use bitflags::Flags;
-use x86_64_tables::page_table::{PageTableEntry, PageTableFlags};
-use x86_64_tables::phys_memory::{Rights, has_flag};
+use x86_64_tables::page_table::{PageTableEntry, PageTableFlags, Rights};
+use x86_64_tables::phys_memory::has_flag;
 
 /// What a processor is set to, as far as it decides accesses.
 #[derive(Clone, Copy, Debug, PartialEq, Eq)]
@@ -47,7 +47,7 @@ impl Controls {
 
     /// Returns true if the rights of a page suffice for an access.
     pub fn allows(&self, access: Access, rights: Rights) -> bool
-        ensures { result ≡ model.allowed (controls_of self.now) (access_of access) (rights_of rights) }
+        ensures { result ≡ model.allowed (controls_of self.now) (access_of access) rights }
     {
         let kind_allowed = match access.kind {
             AccessKind::Read => true,

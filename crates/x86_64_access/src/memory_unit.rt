@@ -1,7 +1,6 @@
 //! Accesses, and the faults that they end in.
 ghost use Rattle.std.specs.Prelude.{◌≡◌, ◌<◌, ◌≤◌, ◌+◌, ◌%◌, true};
 ghost use Rattle.x86_64_model.specs.Access as model;
-ghost use Rattle.x86_64_model.specs.Mappings.{maps_page};
 ghost use Rattle.x86_64_model.specs.Memory.{words_of};
 ghost use Rattle.x86_64_model.specs.PageWalk.{page_start};
 ghost use Rattle.x86_64_model.specs.Position.{span};
@@ -13,9 +12,9 @@ use x86_64_addr::addr::{PhysAddr, VirtAddrIn};
 use x86_64_addr::level_count::LevelCount;
 use x86_64_page::frame::PhysFrame;
 use x86_64_page::page::{PageSize, Size1GiB, Size2MiB, Size4KiB};
-use x86_64_tables::page_table::{PageTableEntry, PageTableFlags};
+use x86_64_tables::page_table::{PageTableEntry, PageTableFlags, Rights};
 use x86_64_tables::phys_memory::{
-    PageTableFrameMapping, Rights, TableMemory, has_flag, index_of, table_in,
+    PageTableFrameMapping, TableMemory, has_flag, index_of, table_in,
 };
 
 /// The bit `ACCESSED` of an entry.
@@ -103,7 +102,7 @@ impl Request {
     ghost use Rattle.std.specs.Prelude.{◌&&◌, true, false, not, cond, OnOk, IfErr};
     ghost use Rattle.x86_64_model.specs.Access.{Arrives, Faults, allowed, code, marked, reserved, steps_from};
     ghost use Rattle.x86_64_model.specs.Entry.{present};
-    ghost use Rattle.x86_64_access.specs.Accesses.{fault_of, rights_of};
+    ghost use Rattle.x86_64_access.specs.Accesses.{fault_of};
     ghost use Rattle.x86_64_access.specs.private.Walking.{ArrivesFrom};
 
     /// Reads from the root down through `levels` levels, at a position: the number of an address counted without the gap.
@@ -130,7 +129,7 @@ impl Request {
             let entry = &table[index_of(position, level)];
             self.check(level, entry)?;
             rights = rights.below(entry);
-            if maps_page(level, entry) {
+            if entry.maps_page(level) {
                 return self.end_at(level, entry, position, rights);
             }
             frame = PhysFrame::from_start_address_unchecked(entry.addr());
@@ -164,7 +163,7 @@ impl Request {
         let index = index_of(position, level);
         let entry = &table[index];
         let bits = self.bits_to_set(level, entry);
-        if !maps_page(level, entry) {
+        if !entry.maps_page(level) {
             let below = PhysFrame::from_start_address_unchecked(entry.addr());
             self.mark_from(memory, mapping, below, level - 1, position);
         }
@@ -175,7 +174,7 @@ impl Request {
     fn bits_to_set(self, level: u64, entry: &PageTableEntry) -> u64
         ensures { result ≡ model.bits_to_set (kind_of self.access.kind) level entry.now }
     {
-        if self.access.kind == AccessKind::Write && maps_page(level, entry) {
+        if self.access.kind == AccessKind::Write && entry.maps_page(level) {
             ACCESSED | DIRTY
         } else {
             ACCESSED
@@ -213,7 +212,7 @@ impl Request {
         requires low { 1 ≤ level }
         requires high { level ≤ 3 }
         ensures { outcome_of result ≡
-            cond (not (allowed (controls_of self.controls) (access_of self.access) (rights_of rights)))
+            cond (not (allowed (controls_of self.controls) (access_of self.access) rights))
             (Faults (code (controls_of self.controls) (access_of self.access) true false) level)
             (Arrives (page_start level entry.now + position % span level)) }
     {
@@ -231,17 +230,6 @@ impl Request {
     {
         let code = self.controls.code(self.access, present, reserved);
         Fault::PageFault { code, level }
-    }
-}
-
-/// Returns true if an entry of a level maps a page: at level one each does, at levels two and three those with `HUGE_PAGE`.
-fn maps_page(level: u64, entry: &PageTableEntry) -> bool
-    ensures { result ≡ maps_page level entry.now }
-{
-    match level {
-        1 => true,
-        2 | 3 => has_flag(entry, PageTableFlags::HUGE_PAGE),
-        _ => false,
     }
 }
 

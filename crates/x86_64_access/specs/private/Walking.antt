@@ -1,13 +1,10 @@
 -- An access from a frame's table on, by the rights that the words above it grant.
-use Rattle.std.specs.Prelude.{◌≡◌, ℕ, ◌&&◌, map, None}
+use Rattle.std.specs.Prelude.{◌≡◌, ℕ, map, None}
 use Rattle.std.specs.List.{last_or}
 use Rattle.x86_64_model.specs.Access.{Access, Controls, Outcome, Arrives, steps_from, ends_by}
 use Rattle.x86_64_model.specs.Mappings.{Rights, rights_of}
 use Rattle.x86_64_model.specs.Memory.{Words}
-
--- The rights that both grant.
-abbrev pub both : Rights → Rights → Rights
-both r s = record { write = r.write && s.write; user = r.user && s.user; execute = r.execute && s.execute }
+use Rattle.x86_64_tables.specs.Rights.{both}
 
 -- The outcome at position p (the number of an address counted without the gap), from a frame's table of a level down.
 unfoldable pub access_on : Controls → Words → (p : ℕ) → Access → (level frame : ℕ) → Rights → Outcome

@@ -10,6 +10,8 @@ mark_from-requires-clause-arrives g c =
     let words = words_of (g.T.TableMemory.tables c.args.memory.now) (g.P.PageTableFrameMapping.places c.args.mapping.now) in
     let controls = controls_of c.args.controls.now in
     let asked = access_of c.args.access in
-    let arrives : access c.LEVELS-2.result controls words c.args.root c.position-2.result asked ≡ Arrives c.in_ok-address.address = search rules in
-    (record { write = true; user = true; execute = true }, c.in_ok-address.address,
-    sym (on_root controls words c.position-2.result asked c.LEVELS-2.result c.args.root) ∙ arrives)
+    let arrives : access c.LEVELS-2.result controls words c.args.root c.position-2.result asked ≡ Arrives c.in_ok-address.address = search rules in (
+      record { write = true; user = true; execute = true },
+      c.in_ok-address.address,
+      sym (on_root controls words c.position-2.result asked c.LEVELS-2.result c.args.root) ∙ arrives,
+    )

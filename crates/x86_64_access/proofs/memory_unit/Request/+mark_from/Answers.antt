@@ -53,13 +53,13 @@ returns-clause-marks g t c =
     let new = g.T.TableMemory.tables c.set_bits.new.memory in
     elim c.if-not-maps_page.branch [
       | then-not-maps_page w ↦
-        let table : maps_page level e ≡ false = search rules in
-        let set : new ≡ set_bits places c.args.frame (index level c.args.position) (bits_to_set kind level e) (g.T.TableMemory.tables w.mark_from.new.memory) = search rules in
-        let under : g.T.TableMemory.tables w.mark_from.new.memory ≡ marked places kind (steps_from controls words c.args.position (level - 1) (address e)) old = search rules in
-        marks_table controls words c.args.position asked level c.args.frame e c.requires.low is places kind old new
-        (g.T.TableMemory.tables w.mark_from.new.memory) c.requires.arrives table under set
+          let table : maps_page level e ≡ false = search rules in
+          let set : new ≡ set_bits places c.args.frame (index level c.args.position) (bits_to_set kind level e) (g.T.TableMemory.tables w.mark_from.new.memory) = search rules in
+          let under : g.T.TableMemory.tables w.mark_from.new.memory ≡ marked places kind (steps_from controls words c.args.position (level - 1) (address e)) old = search rules in
+          marks_table controls words c.args.position asked level c.args.frame e c.requires.low is places kind old new
+          (g.T.TableMemory.tables w.mark_from.new.memory) c.requires.arrives table under set
       | else-not-maps_page w ↦
-        let page : maps_page level e ≡ true = search rules in
-        let set : new ≡ set_bits places c.args.frame (index level c.args.position) (bits_to_set kind level e) old = search rules in
-        marks_page controls words c.args.position asked level c.args.frame e c.requires.low is places kind old new page set
+          let page : maps_page level e ≡ true = search rules in
+          let set : new ≡ set_bits places c.args.frame (index level c.args.position) (bits_to_set kind level e) old = search rules in
+          marks_page controls words c.args.position asked level c.args.frame e c.requires.low is places kind old new page set
     ]

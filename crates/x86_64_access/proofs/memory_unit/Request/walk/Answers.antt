@@ -6,7 +6,7 @@ use Rattle.x86_64_model.specs.Memory.{words_of}
 use Rattle.x86_64_model.specs.Position.{index, span}
 use Rattle.x86_64_model.specs.PageWalk.{read, page_start}
 use Rattle.x86_64_model.specs.Access.{Arrives, Faults, allowed, code, reserved}
-use Rattle.x86_64_access.specs.Accesses.{access_of, controls_of, outcome_of, rights_of}
+use Rattle.x86_64_access.specs.Accesses.{access_of, controls_of, outcome_of}
 use Rattle.x86_64_access.specs.private.Walking.{access_on}
 use Rattle.x86_64_model.specs.Caches.{granted}
 use Rattle.x86_64_access.proofs.Walked.{on_root, on_zero, on_none, on_fault, on_page, on_table, page_low}
@@ -24,7 +24,7 @@ returns-in_default g c =
     let level = c.args.levels - c.loop-above.above in
     let none : None ≡ read words c.loop-above.frame (index level c.args.position) = search rules in
     on_none (controls_of c.args.self.controls) words c.args.position (access_of c.args.self.access) level c.loop-above.frame
-    (rights_of c.loop-above.rights) (omega (arith, c.loop-above-test.true)) none ∙ c.loop-above.invariant
+    c.loop-above.rights (omega (arith, c.loop-above-test.true)) none ∙ c.loop-above.invariant
 
 pub returns-in_err-check : goal.returns-in_err-check
 returns-in_err-check g c =
@@ -35,7 +35,7 @@ returns-in_err-check g c =
     let low : 1 ≤ level = omega (arith, c.loop-above-test.true) in
     let said : outcome_of c.from_residual.result ≡ Faults (code (controls_of c.args.self.controls) (access_of c.args.self.access) (present e) (present e)) level = search rules in
     let bad : (present e && not (reserved (controls_of c.args.self.controls) level e)) ≡ false = search rules in
-    said ∙ on_fault (controls_of c.args.self.controls) words c.args.position (access_of c.args.self.access) level c.loop-above.frame (rights_of c.loop-above.rights) e low is bad ∙ c.loop-above.invariant
+    said ∙ on_fault (controls_of c.args.self.controls) words c.args.position (access_of c.args.self.access) level c.loop-above.frame c.loop-above.rights e low is bad ∙ c.loop-above.invariant
 
 pub end_at-requires-clause-high : goal.end_at-requires-clause-high
 end_at-requires-clause-high g c =
@@ -57,10 +57,10 @@ returns-then-maps_page g c =
     let sound : reserved (controls_of c.args.self.controls) level e ≡ false = search rules in
     let here : present e ≡ true = search rules in
     let low : 1 ≤ level = omega (arith, c.loop-above-test.true) in
-    let same : rights_of c.below-rights.result ≡ granted (rights_of c.loop-above.rights) e = search rules in
+    let same : c.below-rights.result ≡ granted c.loop-above.rights e = search rules in
     c.end_at.ensures ∙ ap (λ r. cond (not (allowed (controls_of c.args.self.controls) (access_of c.args.self.access) r))
     (Faults (code (controls_of c.args.self.controls) (access_of c.args.self.access) true false) level) (Arrives (page_start level e + c.args.position % span level))) same
-    ∙ on_page (controls_of c.args.self.controls) words c.args.position (access_of c.args.self.access) level c.loop-above.frame (rights_of c.loop-above.rights) e low is here sound page
+    ∙ on_page (controls_of c.args.self.controls) words c.args.position (access_of c.args.self.access) level c.loop-above.frame c.loop-above.rights e low is here sound page
     ∙ c.loop-above.invariant
 
 pub from_start_address_unchecked-frame-requires : goal.from_start_address_unchecked-frame-requires
@@ -77,13 +77,13 @@ loop-above-preserved g c =
     let table : maps_page level e ≡ false = search rules in
     let next : c.args.levels - (c.loop-above.above + 1) ≡ level - 1 = omega arith in
     let low : 1 ≤ level = omega (arith, c.loop-above-test.true) in
-    rw (next, c.below-rights.ensures.write, c.below-rights.ensures.user, c.below-rights.ensures.execute, c.from_start_address_unchecked-frame.ensures, c.addr.ensures)
-    (on_table (controls_of c.args.self.controls) words c.args.position (access_of c.args.self.access) level c.loop-above.frame (rights_of c.loop-above.rights) e low is here sound table ∙ c.loop-above.invariant)
+    rw (next, c.below-rights.ensures, c.from_start_address_unchecked-frame.ensures, c.addr.ensures)
+    (on_table (controls_of c.args.self.controls) words c.args.position (access_of c.args.self.access) level c.loop-above.frame c.loop-above.rights e low is here sound table ∙ c.loop-above.invariant)
 
 pub returns : goal.returns
 returns g c =
     let words = words_of (g.T.TableMemory.tables c.args.memory.now) (g.P.PageTableFrameMapping.places c.args.mapping.now) in
     let none : 0 ≡ c.args.levels - c.loop-above.above = omega arith in
-    let rights = rights_of c.loop-above.rights in
+    let rights = c.loop-above.rights in
     on_zero (controls_of c.args.self.controls) words c.args.position (access_of c.args.self.access) c.loop-above.frame rights
     ∙ ap (λ n. access_on (controls_of c.args.self.controls) words c.args.position (access_of c.args.self.access) n c.loop-above.frame rights) none ∙ c.loop-above.invariant
