@@ -40,9 +40,7 @@ pub use validity::{
     is_valid_recursive, is_valid_recursive_57, pool_fits, pool_fits_57, pool_fits_recursive,
     pool_fits_recursive_57,
 };
-pub use walk::{
-    Walked, has_flag, index_of, page_walk, page_walk as page_walk_57, table_in,
-};
+pub use walk::{Walked, has_flag, index_of, page_walk, page_walk as page_walk_57, table_in};
 use x86_64_page::frame::PhysFrame;
 use x86_64_page::page::{PageSize, Size4KiB};
 

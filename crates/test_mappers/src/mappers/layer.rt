@@ -32,8 +32,11 @@ impl<'a, M: Tables> Tables for Counting<'a, M> {
     ghost Lent = { GName × M.Lent };
 
     ghost hierarchy = { λ layer. let below = M.hierarchy layer.mapper.now in
-        record { layout = below.layout; memory = below.memory;
-            lent = (layer.mapper.ghost_name, below.lent) } };
+        record {
+          layout = below.layout;
+          memory = below.memory;
+          lent = (layer.mapper.ghost_name, below.lent);
+        } };
 
     ghost added_flags = { λ layer. M.added_flags layer.mapper.now };
 

@@ -44,7 +44,7 @@ returns-in-Err-clause-stopped g c =
     let done = c.count-count.result in
     let why = c.in-Err.error.why in
     let stops = subst (λ n. StopsAt h supply (r (parent_part c.args.flags.0)) c.args.count n (map_refusal why) _ _) (sym c.count-count.ensures)
-        (subst (λ more. StopsAt h supply (r more) c.args.count c.in-Err.error.mapped.count (map_refusal why) _ _) c.parent_flags-parent_flags.ensures c.in-Err.ensures.maps) in
+    (subst (λ more. StopsAt h supply (r more) c.args.count c.in-Err.error.mapped.count (map_refusal why) _ _) c.parent_flags-parent_flags.ensures c.in-Err.ensures.maps) in
     subst (λ z. IsStopped h supply level z c.args.page c.args.frame c.args.flags.0 c.args.count done (map_refusal why) _ _) (sym g.S.PageSize.size)
     (some_mapped h supply level c.args.page c.args.frame c.args.flags.0 g.S.PageSize.low g.S.PageSize.high (g.met.M.Tables.at_least_four s) (g.M.Tables.added_flags s).adds (g.met.M.Tables.is_mapping s) c.requires.is_present
     (ap (λ z. c.args.page % z) (sym g.S.PageSize.size) ∙ page_aligned) (ap (λ z. c.args.frame % z) (sym g.S.PageSize.size) ∙ frame_aligned) c.requires.fits c.args.count done why
