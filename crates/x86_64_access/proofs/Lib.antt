@@ -1,2 +1,4 @@
 mod Walked
 mod Agreement
+mod Marks
+mod MarkedHierarchies

@@ -157,7 +157,7 @@ module _ (c : Controls) (T : Words) (p : ℕ) (a : Access) (level frame : ℕ) (
   abbrev first : Step
   first = record { level = level; frame = frame; index = index level p; word = e }
 
-  sound_arrives : ArrivesFrom c T p a level frame → (b : Bool) → (present e && not (reserved c level e)) ≡ b → b ≡ true
+  pub sound_arrives : ArrivesFrom c T p a level frame → (b : Bool) → (present e && not (reserved c level e)) ≡ b → b ≡ true
   sound_arrives there true h = refl
   sound_arrives (r, to, arrives) false h = absurd (true≢false (sym (ap is_arrival (on_fault c T p a level frame r e l is h ∙ arrives))))
 
@@ -190,11 +190,11 @@ module _ (c : Controls) (T : Words) (p : ℕ) (a : Access) (level frame : ℕ) (
         (sym (steps_page c T p a level frame (record { write = true; user = true; execute = true }) e l is page))
 
     -- the memory after an entry is marked that names a table, after those below it
-    pub marks_table : (below : Memory) → ArrivesFrom c T p a level frame → maps_page level e ≡ false
-        → below ≡ marked places kind (steps_from c T p (level - 1) (address e)) m
-        → n ≡ set_bits places frame (index level p) (bits_to_set kind level e) below → n ≡ marked places kind (steps_from c T p level frame) m
+    pub marks_table : (lower : Memory) → ArrivesFrom c T p a level frame → maps_page level e ≡ false
+        → lower ≡ marked places kind (steps_from c T p (level - 1) (address e)) m
+        → n ≡ set_bits places frame (index level p) (bits_to_set kind level e) lower → n ≡ marked places kind (steps_from c T p level frame) m
     unfolding marked
-    marks_table below there table under set = set ∙ ap (set_bits places frame (index level p) (bits_to_set kind level e)) under
+    marks_table lower there table under set = set ∙ ap (set_bits places frame (index level p) (bits_to_set kind level e)) under
         ∙ ap (λ steps. marked places kind steps m) (sym (steps_table there table))
 
 pub none_arrives : (c : Controls) (T : Words) (p : ℕ) (a : Access) (level frame : ℕ) → 1 ≤ level → ArrivesFrom c T p a level frame

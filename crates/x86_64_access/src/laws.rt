@@ -1,4 +1,5 @@
 //! Laws of accesses: how they agree with page walks.
+ghost use Rattle.x86_64_access.specs.Marks.{AccessesLeaveMarks, AccessesStay, FitsStay, WalksStay};
 ghost use Rattle.x86_64_access.specs.Laws.{ArriveWhereWalksDo, WalksAllowedArrive};
 
 /// An access that arrives does so where the page walk does.
@@ -11,4 +12,27 @@ pub fn accesses_arrive_where_walks_do()
 #[tactic(auto, using(crate::proofs::Agreement::walks_allowed_arrive))]
 pub fn allowed_walks_arrive()
     ensures { WalksAllowedArrive }
+{}
+
+/// Marks change no page walk.
+#[tactic(auto, using(crate::proofs::Marks::walks_stay))]
+pub fn marks_keep_walks()
+    ensures { WalksStay }
+{}
+
+/// Marks change no access.
+#[tactic(auto, using(crate::proofs::Marks::accesses_stay))]
+pub fn marks_keep_accesses()
+    ensures { AccessesStay }
+{}
+
+/// An access leaves only marks: `ACCESSED` and `DIRTY` of present words.
+#[tactic(auto, using(crate::proofs::Marks::accesses_leave_marks))]
+pub fn accesses_leave_only_marks()
+    ensures { AccessesLeaveMarks }
+{}
+
+/// Marks keep a hierarchy valid, and each pool that fits it, and its entries only get marks.
+pub fn marks_keep_hierarchies()
+    ensures { FitsStay }
 {}
