@@ -69,7 +69,8 @@ fn numbers_of<'a>(alloc: Global, texts: &[&'a str]) -> Result<Vec<u64>, Stop<'a>
 /// Reads the number of levels, if it is given.
 fn levels_of<'a>(text: Option<&'a str>) -> Result<Option<Levels>, Stop<'a>>
     ensures ok { IfOk result (IsLevels (option_copied text.entry)) }
-    ensures err { IfErr result (λ _. (levels : Option Levels) → ¬ (IsLevels (option_copied text.entry) levels)) }
+    ensures err { IfErr result (λ _. (levels : Option Levels) →
+        ¬ (IsLevels (option_copied text.entry) levels)) }
 {
     let Some(text) = text else {
         return Ok(None);

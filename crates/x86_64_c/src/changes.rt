@@ -235,10 +235,10 @@ fn change_entry(
     page: &Page,
     change: EntryChange,
 ) -> Changed
-    requires { changes.bad_on_entry (changes.has_entry change) hierarchy.now (length tables.old) page.now ≡ None
-        → Valid (given.hierarchy_in hierarchy.now tables.old) }
-    ensures bad { (status : ℕ) → changes.bad_on_entry (changes.has_entry change) hierarchy.now (length tables.old)
-        page.now ≡ Some status
+    requires { changes.bad_on_entry (changes.has_entry change) hierarchy.now (length tables.old)
+        page.now ≡ None → Valid (given.hierarchy_in hierarchy.now tables.old) }
+    ensures bad { (status : ℕ) →
+        changes.bad_on_entry (changes.has_entry change) hierarchy.now (length tables.old) page.now ≡ Some status
         → (result ≡ record { status = status; frame = None }) × (tables.new ≡ tables.old) }
     ensures ends { changes.bad_on_entry (changes.has_entry change) hierarchy.now (length tables.old) page.now ≡ None
         → changes.MayEnd (given.hierarchy_in hierarchy.now tables.old) change

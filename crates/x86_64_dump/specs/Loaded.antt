@@ -3,6 +3,7 @@ use Rattle.std.specs.Prelude.{◌≡◌, ◌+◌, ◌*◌, ◌<◌, ◌^◌, ℕ
 use Rattle.std.specs.FinMap.{get, len}
 use Rattle.std.specs.List.{range_with_len}
 use Rattle.x86_64_model.specs.Memory.{Memory, Words, words_of, identity_places}
+use Rattle.x86_64_model.specs.PageWalk.{page_walk}
 use Rattle.x86_64_dump.specs.declared.error.DumpError.{DumpError}
 use Rattle.x86_64_dump.specs.declared.error.DumpError.TheVariants as errors
 use Rattle.x86_64_dump.specs.Tables.{tables_by_level, words_in_frames}
@@ -33,6 +34,14 @@ pub record HoldsTables (levels : List (List ℕ)) (W : Words) (memory : Memory) 
 -- The number of tables that a root leads to in W, with L levels of tables. A table at several levels counts once.
 abbrev pub IsTableCount : (L : ℕ) → Words → (root count : ℕ) → Type 0
 IsTableCount L W root count = (memory : Memory) × HoldsTables (tables_by_level L W root) W memory × (len memory ≡ count)
+
+-- As many tables were read as a root leads to in W.
+abbrev pub HasCount : (L : ℕ) → Words → (root : ℕ) → DumpTables → Type 0
+HasCount L W root tables = IsTableCount L W root (len tables.memory)
+
+-- Each page walk finds the same.
+abbrev pub SameWalks : (L : ℕ) → (V W : Words) → (root : ℕ) → Type 0
+SameWalks L V W root = (position : ℕ) → page_walk L V root position ≡ page_walk L W root position
 
 -- the numbers from 1 on, up to a last one
 abbrev pub up_to : (last : ℕ) → List ℕ

@@ -1,11 +1,16 @@
 -- Opened: the contents of an opened dump.
 use Rattle.std.specs.Prelude.{ℕ, Bool, is_some, List}
-use Rattle.x86_64_dump.specs.Dump.{Contents, frame_offset}
+use Rattle.x86_64_dump.specs.Dump.{Contents, frame_offset, words_of_dump}
+use Rattle.x86_64_model.specs.Memory.{Words}
 use Rattle.x86_64_dump.specs.declared.dump.Dump.{Dump}
 
 -- the bytes of its source, and its segments
 abbrev pub opened : {S : Type 0} → (S → List ℕ) → Dump S → Contents
 opened bytes dump = record { file = bytes dump.source; segments = dump.segments.items }
+
+-- the words of its frames
+abbrev pub words_opened : {S : Type 0} → (S → List ℕ) → Dump S → Words
+words_opened bytes dump = words_of_dump (opened bytes dump)
 
 -- whether a segment has the frame, in a file of the length that the source reports
 abbrev pub holds : {S : Type 0} → (size : S → ℕ) → Dump S → (frame : ℕ) → Bool

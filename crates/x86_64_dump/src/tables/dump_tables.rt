@@ -1,12 +1,10 @@
 //! The tables below a root.
 ghost use Rattle.std.specs.Prelude.{◌≡◌, ◌==◌, ℕ, IfOk, IfErr};
 ghost use Rattle.std.specs.FinMap as finite;
-ghost use Rattle.x86_64_dump.specs.Dump.{words_of_dump};
-ghost use Rattle.x86_64_dump.specs.Opened.{opened};
+ghost use Rattle.x86_64_dump.specs.Opened.{words_opened};
 ghost use Rattle.x86_64_model.specs.Mappings.{mappings_of};
-ghost use Rattle.x86_64_model.specs.PageWalk.{page_walk};
 ghost use Rattle.x86_64_dump.specs.Reached.{SameBelow};
-ghost use Rattle.x86_64_dump.specs.Loaded.{words_in, up_to, AreTables, IsTableCount, MayFail};
+ghost use Rattle.x86_64_dump.specs.Loaded.{words_in, up_to, AreTables, HasCount, MayFail, SameWalks};
 
 use crate::tables::levels::read_levels;
 use crate::tables::loading::read_memory;
@@ -70,19 +68,15 @@ pub fn read_tables<L: LevelCount, S: ByteSource, G: Progress>(
     root: PhysFrame<Size4KiB>,
     progress: &mut G,
 ) -> Result<DumpTables, DumpError>
-    ensures tables { S.IsKnown → IfOk result (
-        AreTables L.LEVELS (words_of_dump (opened S.bytes dump.now)) root) }
+    ensures tables { S.IsKnown → IfOk result (AreTables L.LEVELS (words_opened S.bytes dump.now) root) }
     ensures same { S.IsKnown → IfOk result (λ tables.
-        SameBelow L.LEVELS (words_in tables) (words_of_dump (opened S.bytes dump.now)) root) }
+        SameBelow L.LEVELS (words_in tables) (words_opened S.bytes dump.now) root) }
     ensures mappings { S.IsKnown → IfOk result (λ tables. mappings_of L.LEVELS (words_in tables) root
-        ≡ mappings_of L.LEVELS (words_of_dump (opened S.bytes dump.now)) root) }
-    ensures walks { S.IsKnown → IfOk result (λ tables. (position : ℕ) →
-        page_walk L.LEVELS (words_in tables) root position
-        ≡ page_walk L.LEVELS (words_of_dump (opened S.bytes dump.now)) root position) }
-    ensures count { S.IsKnown → IfOk result (λ tables. IsTableCount L.LEVELS
-        (words_of_dump (opened S.bytes dump.now)) root (finite.len tables.memory)) }
-    ensures told { IfOk result (λ tables.
-        G.Told progress.old progress.new (up_to (finite.len tables.memory))) }
+        ≡ mappings_of L.LEVELS (words_opened S.bytes dump.now) root) }
+    ensures walks { S.IsKnown → IfOk result (λ tables.
+        SameWalks L.LEVELS (words_in tables) (words_opened S.bytes dump.now) root) }
+    ensures count { S.IsKnown → IfOk result (HasCount L.LEVELS (words_opened S.bytes dump.now) root) }
+    ensures told { IfOk result (λ read. G.Told progress.old progress.new (up_to (finite.len read.memory))) }
     ensures errors { IfErr result (MayFail S.IsKnown) }
 {
     let frames = read_levels(alloc, dump, root, L::LEVELS)?;
