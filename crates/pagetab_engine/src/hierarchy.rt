@@ -167,10 +167,10 @@ impl Hierarchy {
         requires fits { IsHierarchy self.old }
         requires levels { count (levels_of self.old.mode) ≡ L.LEVELS }
         ensures reply { IfOk result (λ reply. (call_step self.old (asks P5.bits call)).reply ≡ Some reply) }
-        ensures state { OnOk result (hierarchy_state self.new ≡ (call_step self.old (asks P5.bits call)).state) }
+        ensures state { OnOk result (
+            hierarchy_state self.new ≡ (call_step self.old (asks P5.bits call)).state) }
         ensures free { OnOk result (KeepsFree self.old (call_back self.old (asks P5.bits call)) self.new) }
-        ensures both { IfOk result (λ reply.
-            BothAnswer self.old.mode (asks P5.bits call) reply self.old.twin self.new.twin) }
+        ensures both { IfOk result (λ r. BothAnswer self.old.mode (asks P5.bits call) r self.old.twin self.new.twin) }
         ensures refused { is_refused self.old.mode (asks P5.bits call) ≡ true → self.new ≡ self.old }
         ensures unchanged { OnErr result (self.new ≡ self.old) }
         ensures keeps { KeepsHierarchy self.old self.new }

@@ -286,7 +286,8 @@ pub fn pool_fits_in<L: LevelCount, T: TableMemory>(
 ) -> Result<bool, AllocError>
     ensures { let layout = direct_at L.LEVELS identity_places root in
         let serves = serves_below pool.now.limit in
-        IfOk result (λ fits. IsTrue fits ↔ PoolFits (layout laid_in T.tables memory.now) serves pool.now.frames) }
+        IfOk result (λ fits. IsTrue fits
+        ↔ PoolFits (layout laid_in T.tables memory.now) serves pool.now.frames) }
 {
     if L::LEVELS == 4 {
         pool_fits(alloc, memory, &IdentityMapping, root, pool)

@@ -237,11 +237,11 @@ fn change_entry(
 ) -> Changed
     requires { changes.bad_on_entry (changes.has_entry change) hierarchy.now (length tables.old)
         page.now ≡ None → Valid (given.hierarchy_in hierarchy.now tables.old) }
-    ensures bad { (status : ℕ) →
-        changes.bad_on_entry (changes.has_entry change) hierarchy.now (length tables.old) page.now ≡ Some status
+    ensures bad { (status : ℕ) → changes.bad_on_entry (changes.has_entry change) hierarchy.now
+        (length tables.old) page.now ≡ Some status
         → (result ≡ record { status = status; frame = None }) × (tables.new ≡ tables.old) }
-    ensures ends { changes.bad_on_entry (changes.has_entry change) hierarchy.now (length tables.old) page.now ≡ None
-        → changes.MayEnd (given.hierarchy_in hierarchy.now tables.old) change
+    ensures ends { changes.bad_on_entry (changes.has_entry change) hierarchy.now (length tables.old)
+        page.now ≡ None → changes.MayEnd (given.hierarchy_in hierarchy.now tables.old) change
         (given.path_of_page hierarchy.now.levels page.now)
         (given.hierarchy_in hierarchy.now tables.new) result }
 {

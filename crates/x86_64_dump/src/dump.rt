@@ -115,7 +115,8 @@ impl<S: ByteSource> Dump<S> {
     /// `Fault::NoteCut` if and only if the note lacks it, `DumpError::Read` if the source can't be read.
     pub fn cr3(&self, processor: &Note) -> Result<u64, DumpError>
         ensures { S.IsKnown →
-            GivesAtOnce (λ value. value) result (register_of (opened S.bytes self.now).file processor.now 416) }
+            GivesAtOnce (λ value. value) result
+            (register_of (opened S.bytes self.now).file processor.now 416) }
     {
         read_register(&self.source, processor, 416)
     }
@@ -127,7 +128,8 @@ impl<S: ByteSource> Dump<S> {
     /// `Fault::NoteCut` if and only if the note lacks it, `DumpError::Read` if the source can't be read.
     pub fn cr4(&self, processor: &Note) -> Result<u64, DumpError>
         ensures { S.IsKnown →
-            GivesAtOnce (λ value. value) result (register_of (opened S.bytes self.now).file processor.now 424) }
+            GivesAtOnce (λ value. value) result
+            (register_of (opened S.bytes self.now).file processor.now 424) }
     {
         read_register(&self.source, processor, 424)
     }

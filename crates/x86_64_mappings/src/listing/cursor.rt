@@ -149,7 +149,8 @@ fn step<'a, L: LevelCount, T: TableMemory, P: PageTableFrameMapping>(
 ) -> Cursor<'a>
     requires on { cursors.IsCursor L.LEVELS
         (words_of (T.tables memory.now) (P.places mapping.now)) root cursor.now }
-    requires not_there { cursors.is_there L.LEVELS cursor.now.next cursor.now.level cursor.now.rest.now ≡ false }
+    requires not_there { cursors.is_there L.LEVELS cursor.now.next cursor.now.level
+        cursor.now.rest.now ≡ false }
     ensures { cursors.IsStep L.LEVELS
         (words_of (T.tables memory.now) (P.places mapping.now)) root cursor.now result }
 {
