@@ -79,6 +79,10 @@ call_step hierarchy call = cond (is_refused hierarchy.mode call)
     (record { state = hierarchy_state hierarchy; reply = Some NotAllowed })
     (runs.step_by (machine_of hierarchy) (hierarchy_state hierarchy) call)
 
+-- the state after a call
+abbrev pub call_state : Hierarchy → MapperCall → State
+call_state hierarchy call = (call_step hierarchy call).state
+
 -- the frames that a call returns if a mapper executes it: those of the tables that a clean up removes
 abbrev pub call_back : Hierarchy → MapperCall → List ℕ
 call_back hierarchy call = cond (is_refused hierarchy.mode call) [] (asked_back (machine_of hierarchy) (hierarchy_state hierarchy) call)

@@ -6,7 +6,7 @@ ghost use Rattle.x86_64.specs.Calls.{asks, names};
 ghost use Rattle.pagetab_engine.specs.Arguments.{count, levels_of};
 ghost use Rattle.pagetab_engine.specs.Calls.{IsAnswered};
 ghost use Rattle.pagetab_engine.specs.Frames.{IsLoadable, IsRefusedFor, memory_after, free_after};
-ghost use Rattle.pagetab_engine.specs.Hierarchy.{hierarchy_state, call_back, call_step, first_memory, is_index_named, is_refused, layout_of};
+ghost use Rattle.pagetab_engine.specs.Hierarchy.{hierarchy_state, call_back, call_state, call_step, first_memory, is_index_named, is_refused, layout_of};
 ghost use Rattle.pagetab_engine.specs.Hierarchy.{BothAnswer, FitsImage, HasCopy, ReachesAll, IsHierarchy, KeepsHierarchy, KeepsFree, TwinTells};
 
 use crate::arguments::{Arguments, Levels, Mode};
@@ -167,10 +167,10 @@ impl Hierarchy {
         requires fits { IsHierarchy self.old }
         requires levels { count (levels_of self.old.mode) ≡ L.LEVELS }
         ensures reply { IfOk result (λ reply. (call_step self.old (asks P5.bits call)).reply ≡ Some reply) }
-        ensures state { OnOk result (
-            hierarchy_state self.new ≡ (call_step self.old (asks P5.bits call)).state) }
+        ensures state { OnOk result (hierarchy_state self.new ≡ call_state self.old (asks P5.bits call)) }
         ensures free { OnOk result (KeepsFree self.old (call_back self.old (asks P5.bits call)) self.new) }
-        ensures both { IfOk result (λ r. BothAnswer self.old.mode (asks P5.bits call) r self.old.twin self.new.twin) }
+        ensures both { IfOk result (λ reply.
+            BothAnswer self.old.mode (asks P5.bits call) reply self.old.twin self.new.twin) }
         ensures refused { is_refused self.old.mode (asks P5.bits call) ≡ true → self.new ≡ self.old }
         ensures unchanged { OnErr result (self.new ≡ self.old) }
         ensures keeps { KeepsHierarchy self.old self.new }
