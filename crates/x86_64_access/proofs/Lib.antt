@@ -2,3 +2,4 @@ mod Walked
 mod Agreement
 mod Marks
 mod MarkedHierarchies
+mod MarkedCaches

@@ -2,6 +2,7 @@
 use Rattle.std.specs.Prelude.{◌≡◌, ◌⊎◌, ◌↔◌, ◌<◌, ℕ, Bool, true, List, Option, Some, None, IsSome, bit_and, bit_or}
 use Rattle.x86_64_model.specs.Entry.{present}
 use Rattle.x86_64_model.specs.Access.{Access, Controls, access, memory_after, steps_from}
+use Rattle.x86_64_model.specs.Caches.{Cached, Caches}
 use Rattle.x86_64_model.specs.Memory.{IsMapping, Memory, Places, Words, word, words_of}
 use Rattle.x86_64_model.specs.Hierarchy.{paths_of}
 use Rattle.x86_64_model.specs.PageWalk.{page_walk}
@@ -49,3 +50,8 @@ FitsStay = (L : ℕ) → 0 < L → (window : Option Window) (before after : Word
     Fits L window before root (paths_of L (outside_window window root before) root) serves pool
     → Fits L now after root (paths_of L (outside_window now root after) root) serves pool
     × ((q : List ℕ) → GetsMarks (entry (paths_of L (outside_window window root before) root) q) (entry (paths_of L (outside_window now root after) root) q))
+
+-- Marks change nothing of what a processor may cache.
+abbrev pub CachesStay : Type 0
+CachesStay = (L root : ℕ) (before after : Words) → OnlyMarks before after → (these those : List Cached)
+    → Caches L root after these those ↔ Caches L root before these those

@@ -1,5 +1,5 @@
 //! Laws of accesses: how they agree with page walks.
-ghost use Rattle.x86_64_access.specs.Marks.{AccessesLeaveMarks, AccessesStay, FitsStay, WalksStay};
+ghost use Rattle.x86_64_access.specs.Marks.{AccessesLeaveMarks, AccessesStay, CachesStay, FitsStay, WalksStay};
 ghost use Rattle.x86_64_access.specs.Laws.{ArriveWhereWalksDo, WalksAllowedArrive};
 
 /// An access that arrives does so where the page walk does.
@@ -35,4 +35,9 @@ pub fn accesses_leave_only_marks()
 /// Marks keep a hierarchy valid, and each pool that fits it, and its entries only get marks.
 pub fn marks_keep_hierarchies()
     ensures { FitsStay }
+{}
+
+/// Marks change nothing of what a processor may cache, so a kernel flushes for one that marks as for one that doesn't.
+pub fn marks_keep_caches()
+    ensures { CachesStay }
 {}
