@@ -37,7 +37,7 @@ pub fn marks_keep_hierarchies()
     ensures { FitsStay }
 {}
 
-/// Marks change nothing of what a processor may cache, so a kernel flushes for one that marks as for one that doesn't.
+/// Marks change nothing of what a processor may cache.
 pub fn marks_keep_caches()
     ensures { CachesStay }
 {}
