@@ -1,6 +1,8 @@
 //! Tests of accesses: who may do what to a page, and which fault comes otherwise.
+ghost use Rattle.std.specs.Prelude.{◌≡◌};
+
 use crate::prelude::*;
-use x86_64_access::{Access, AccessKind, Controls, Fault, PageFaultCode, access, access_and_mark};
+use x86_64_access::{Access, AccessKind, Controls, Fault, access, access_and_mark};
 
 /// A processor with all its protections off, and with all of them on.
 const OFF: Controls = Controls {
@@ -233,8 +235,28 @@ fn memory_of_row(rt: impl Test, words: &[u64; 4]) -> PhysMemory {
 fn outcome_of(answer: Result<PhysAddr, Fault>) -> Outcome {
     match answer {
         Ok(address) => Outcome::At(address.as_u64()),
-        Err(Fault::PageFault { code, level }) => Outcome::Fault(code.bits(), level),
-        Err(Fault::NoMemory { frame }) => Outcome::NoTable(frame.start_address().as_u64()),
+        Err(fault) => outcome_of_fault(fault),
+    }
+}
+
+fn outcome_of_fault(fault: Fault) -> Outcome {
+    match fault {
+        Fault::PageFault { code, level } => Outcome::Fault(code.bits(), level),
+        Fault::NoMemory { frame } => Outcome::NoTable(frame.start_address().as_u64()),
+    }
+}
+
+/// Returns the controls, with 48 bits of physical addresses.
+fn with_48_bits(controls: &Controls) -> Controls
+    ensures { result.physical_bits ≡ 48 }
+{
+    Controls {
+        write_protect: controls.write_protect,
+        no_execute: controls.no_execute,
+        smep: controls.smep,
+        smap: controls.smap,
+        ac: controls.ac,
+        physical_bits: 48,
     }
 }
 
@@ -244,9 +266,10 @@ fn accesses_arrive_or_fault(rt: HostRuntime) {
         let mut memory = memory_of_row(rt, words);
         let root = frame_at(0x1000);
         let addr = VirtAddr::new_truncate(0x123);
-        let found = access(&memory, &IdentityMapping, root, addr, *asked, controls);
+        let controls = with_48_bits(controls);
+        let found = access(&memory, &IdentityMapping, root, addr, *asked, &controls);
         assert_equal_in(rt, n, outcome_of(found), *wanted);
-        let marked = access_and_mark(&mut memory, &IdentityMapping, root, addr, *asked, controls);
+        let marked = access_and_mark(&mut memory, &IdentityMapping, root, addr, *asked, &controls);
         assert_equal_in(rt, n, outcome_of(marked), *wanted);
     }
 }

@@ -1,12 +1,12 @@
 -- What is wrong with arguments, once the hierarchy is right.
-use Rattle.std.proofs.Common.{◌≡◌, ◌⊎◌, ℕ, Bool, nat_le, ◌≤◌, true, Option, None, List, length, rules, ap, ◌∙◌, le-leb}
+use Rattle.std.proofs.Common.{◌≡◌, ◌⊎◌, ⊎_elim, ℕ, nat_le, ◌≤◌, true, Option, None, List, length, rules, ap, ◌∙◌, le-leb, arith}
 use Rattle.std.specs.FinMap.{len}
 use Rattle.std.specs.Option.{option_or}
 use Rattle.x86_64_tables.specs.LentMemory.{numbered, tables_in_order}
 use Rattle.x86_64_tables.proofs.NumberedTables.{in_order-numbered, len-numbered}
-use Rattle.x86_64_c.specs.EntryChanges.{bad_on_entry}
+use Rattle.x86_64_c.specs.Calls.{bad_on_page, bad_on_table, is_table_level}
 use Rattle.x86_64_c.specs.Given.{bad_hierarchy, bad_address, bad_page, bad_read, unless}
-use Rattle.x86_64_c.specs.MapsAndCleanUps.{bad_pool}
+use Rattle.x86_64_c.specs.PoolCalls.{bad_pool}
 use Rattle.x86_64_c.specs.Status.{bad_levels, bad_array}
 use Rattle.x86_64_c.specs.declared.given.Hierarchy.{Hierarchy}
 use Rattle.x86_64_c.specs.declared.given.Page.{Page}
@@ -18,14 +18,21 @@ five h n good other = search rules
 pub four_or_five : (h : Hierarchy) (n : ℕ) → bad_hierarchy h n ≡ None → (h.levels ≡ 4) ⊎ (h.levels ≡ 5)
 four_or_five h n good = search rules
 
+pub else_five : (levels : ℕ) → (levels ≡ 4) ⊎ (levels ≡ 5) → (levels ≡ 4 → ⊥) → levels ≡ 5
+else_five levels which other = ⊎_elim (λ four. absurd (other four)) (λ five. five) which
+
 -- for a call that reads at an address, where the hierarchy has L levels
 pub reads_at : (h : Hierarchy) (n a L : ℕ) → bad_hierarchy h n ≡ None → h.levels ≡ L → bad_read h n a ≡ bad_address L a
 reads_at h n a L good levels = ap (λ o. option_or o (bad_address h.levels a)) good ∙ ap (λ l. bad_address l a) levels
 
--- for a change of an entry that there is
-pub entry_at : (has : ℕ → Bool) (h : Hierarchy) (n : ℕ) (page : Page) (L : ℕ) → bad_hierarchy h n ≡ None → has h.levels ≡ true → h.levels ≡ L → bad_on_entry has h n page ≡ bad_page L page
-entry_at has h n page L good there levels =
-    ap (λ o. option_or o (option_or (unless (has h.levels) bad_levels) (bad_page h.levels page))) good
+-- for a call on a page
+pub page_at : (h : Hierarchy) (n : ℕ) (page : Page) (L : ℕ) → bad_hierarchy h n ≡ None → h.levels ≡ L → bad_on_page h n page ≡ bad_page L page
+page_at h n page L good levels = ap (λ o. option_or o (bad_page h.levels page)) good ∙ ap (λ l. bad_page l page) levels
+
+-- for a call on a table's entry of a level that there is
+pub table_at : (h : Hierarchy) (n level : ℕ) (page : Page) (L : ℕ) → bad_hierarchy h n ≡ None → is_table_level h.levels level ≡ true → h.levels ≡ L → bad_on_table h n level page ≡ bad_page L page
+table_at h n level page L good there levels =
+    ap (λ o. option_or o (option_or (unless (is_table_level h.levels level) bad_levels) (bad_page h.levels page))) good
     ∙ ap (λ b. option_or (unless b bad_levels) (bad_page h.levels page)) there ∙ ap (λ l. bad_page l page) levels
 
 -- for a call with a pool
@@ -34,6 +41,9 @@ pool_is h n capacity free good within = ap (λ o. option_or o (unless (nat_le fr
 
 pub with_pool : (h : Hierarchy) (n capacity free L : ℕ) (other : ℕ → Option ℕ) → bad_hierarchy h n ≡ None → free ≤ capacity → h.levels ≡ L → option_or (bad_pool h n capacity free) (other h.levels) ≡ other L
 with_pool h n capacity free L other good within levels = ap (λ o. option_or o (other h.levels)) (pool_is h n capacity free good within) ∙ ap other levels
+
+pub there : (h : Hierarchy) (level : ℕ) → 2 ≤ level → level ≤ h.levels → is_table_level h.levels level ≡ true
+there h level low high = grind (arith, low, high)
 
 -- the tables of a memory over a slice, in order, are the slice
 pub handed_back : (ts : List (List ℕ)) → tables_in_order (numbered ts) ≡ ts

@@ -1,6 +1,5 @@
 -- A change of one entry, stated of the words in the caller's memory.
-use Rattle.std.proofs.Common.{◌≡◌, ◌≤◌, ◌<◌, inr, ℕ, Bool, true, nat_le, cond, List, ◌∷◌, refl, sym, ap, ◌∙◌, subst, arith}
-use Rattle.std.proofs.lemmas.Bool.{and_parts, leb-true}
+use Rattle.std.proofs.Common.{◌≡◌, ◌≤◌, ◌<◌, inr, ℕ, Bool, true, cond, List, ◌∷◌, refl, sym, ap, ◌∙◌, subst, arith}
 use Rattle.std.proofs.lemmas.List.Sorted.{IsPermutation-refl}
 use Rattle.x86_64_model.specs.Call.{Call, IsCall, Answered, NotAllowed}
 use Rattle.x86_64_model.specs.Entry.{IsParentFlags}
@@ -16,11 +15,7 @@ use Rattle.x86_64_model.proofs.Lemmas.Machines.Fitting.{ready_of_fits}
 use Rattle.x86_64_model.proofs.Lemmas.Machines.Giving.{giving_from}
 use Rattle.x86_64_mappers.specs.private.ImplLaws.{no_flags}
 use Rattle.x86_64.proofs.Keeping.{keeps_step}
-use Rattle.x86_64_c.specs.EntryChanges.{Changes, MayChange, MayEnd, call_of, has_entry}
-use Rattle.x86_64_c.specs.Status.{answer_status}
-use Rattle.x86_64_c.specs.declared.changes.Changed.{Changed}
-use Rattle.x86_64_c.specs.declared.changes.EntryChange.{EntryChange}
-use Rattle.x86_64_c.specs.declared.changes.EntryChange.TheVariants.{Unmap, UpdateFlags, SetTableFlags}
+use Rattle.x86_64_c.specs.Calls.{Changes, answer_status}
 use Rattle.x86_64_model.specs.Store.{put_first, KeepsPool}
 
 gives : TakesBack put_first
@@ -66,13 +61,3 @@ plain = no_flags.adds
 
 pub is_page : (L : ℕ) → 3 < L → (level : ℕ) → 1 ≤ level → level ≤ 3 → (page : ℕ) → IsPage L (path_at L level page)
 is_page L some level low high page = page_at_level L level page low high (omega (arith, some, high))
-
--- the call of a change names a page and a level that there are
-pub is_call : (change : EntryChange) (L : ℕ) (page : List ℕ) → IsPage L page → has_entry change L ≡ true → IsCall L (call_of change page)
-is_call Unmap L page is there = is
-is_call (UpdateFlags given) L page is there = is
-is_call (SetTableFlags level given) L page is there =
-    let both = and_parts (nat_le 2 level) (nat_le level L) there in (leb-true 2 level both.0, leb-true level L both.1, is)
-
-pub may_change : (h after : Hierarchy (Unit {0})) (change : EntryChange) (page : List ℕ) (changed : Changed) → MayEnd h change page after changed → MayChange h (call_of change page) after changed.status
-may_change h after change page changed ends = (ends.refused, λ may. let end = ends.answered may in (end.0, end.1))

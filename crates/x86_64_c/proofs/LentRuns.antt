@@ -9,7 +9,7 @@ use Rattle.x86_64_tables.specs.LentPool.{is_in, served_by}
 use Rattle.x86_64_tables.proofs.LentPools.{fits_own}
 use Rattle.x86_64.specs.Asked.{MapperCall}
 use Rattle.x86_64_c.specs.Given.{at}
-use Rattle.x86_64_c.specs.MapsAndCleanUps.{Runs}
+use Rattle.x86_64_c.specs.PoolCalls.{Runs}
 use Rattle.x86_64_c.specs.declared.given.Located.{Located}
 
 -- a pool that is a stack

@@ -1,6 +1,6 @@
 -- A located hierarchy is the one in the caller's tables.
-use Rattle.std.proofs.Common.{◌≡◌, ℕ, List, sym, ap, ◌∙◌, subst}
-use Rattle.x86_64_model.specs.Mapper.{Hierarchy}
+use Rattle.std.proofs.Common.{◌≡◌, ℕ, Bool, List, refl, sym, ap, ◌∙◌, subst}
+use Rattle.x86_64_model.specs.Mapper.{Hierarchy, Valid, PoolFits}
 use Rattle.x86_64_model.specs.Memory.{Memory}
 use Rattle.x86_64_mappers.specs.Layouts.{owned_at}
 use Rattle.x86_64_tables.specs.LentMemory.{numbered}
@@ -22,6 +22,10 @@ module _ (h : Given) (located : Located) (L : ℕ) (levels : h.levels ≡ L) (ro
       subst (λ a. P a h.levels (hierarchy_in h us)) (located_is m ts before)
       (subst (λ b. P (at L located m) h.levels b) (located_is n us after) (subst (λ l. P (at L located m) l (at L located n)) (sym levels) holds))
 
-  -- and what holds of the caller's tables holds of the located hierarchy
-  pub held : (P : Hierarchy (Unit {0}) → Type 0) (ts : List (List ℕ)) (m : Memory) → m ≡ numbered ts → P (hierarchy_in h ts) → P (at L located m)
-  held P ts m tables = subst P (sym (located_is m ts (sym tables)))
+  -- so a pool that fits the hierarchy in the caller's tables fits the located one
+  pub fits : (ts : List (List ℕ)) (serves : ℕ → Bool) (pool : List ℕ) → PoolFits (hierarchy_in h ts) serves pool → PoolFits (at L located (numbered ts)) serves pool
+  fits ts serves pool = subst (λ a. PoolFits a serves pool) (sym (located_is (numbered ts) ts refl))
+
+  -- and if the hierarchy in the caller's tables is valid, the located one is
+  pub valid : (ts : List (List ℕ)) (m : Memory) → m ≡ numbered ts → Valid (hierarchy_in h ts) → Valid (at L located m)
+  valid ts m tables = subst Valid (sym (located_is m ts (sym tables)))

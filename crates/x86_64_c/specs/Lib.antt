@@ -1,10 +1,9 @@
 pub mod Status
 pub mod Given
-pub mod Lookups
-pub mod Validity
+pub mod Reads
 pub mod Listing
-pub mod EntryChanges
-pub mod MapsAndCleanUps
+pub mod Calls
+pub mod PoolCalls
 pub use Rattle.x86_64_model.specs.Mapper
 pub use Rattle.x86_64_model.specs.Translation
 pub use Rattle.x86_64_model.specs.Mappings

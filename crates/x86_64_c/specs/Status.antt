@@ -1,10 +1,5 @@
 -- The statuses that calls return: what was done, or why not. Numbers from 16 on say what is wrong with an argument.
-use Rattle.std.specs.Prelude.{ℕ, Result, Ok, Err}
-use Rattle.x86_64_model.specs.Refusal.{Refusal, PageNotMapped, ParentEntryHugePage, InvalidFrameAddress, PageAlreadyMapped, FrameAllocationFailed, Answer, Done, Refused}
-use Rattle.x86_64_tables.specs.MapperAnswers.{map_refusal, unmap_refusal, update_refusal, translate_refusal}
-use Rattle.x86_64.specs.Replies.{Reply, SizeReply}
-use Rattle.x86_64.specs.declared.calls.MapperReply.TheVariants.{Of4KiB, Of2MiB, Of1GiB, Translate, Address, Cleaned, NotAllowed}
-use Rattle.x86_64.specs.declared.calls.PageReply.TheVariants.{Map, Unmap, Update, TableFlags, Frame}
+use Rattle.std.specs.Prelude.{ℕ}
 
 abbrev pub ok : ℕ
 ok = 0
@@ -57,41 +52,3 @@ bad_page = 20
 
 abbrev pub bad_frame : ℕ
 bad_frame = 21
-
--- ---- of refusals and replies
-
--- The status of a refusal.
-abbrev pub refusal_status : Refusal → ℕ
-refusal_status PageNotMapped = page_not_mapped
-refusal_status ParentEntryHugePage = parent_entry_huge_page
-refusal_status (InvalidFrameAddress address) = invalid_frame_address
-refusal_status (PageAlreadyMapped frame) = page_already_mapped
-refusal_status FrameAllocationFailed = frame_allocation_failed
-
--- The status of an answer.
-abbrev pub answer_status : Answer → ℕ
-answer_status (Done frame) = ok
-answer_status (Refused why) = refusal_status why
-
--- The status of a result that an error refuses so.
-abbrev pub result_status : {X E : Type 0} → (E → Refusal) → Result X E → ℕ
-result_status refusal (Ok x) = ok
-result_status refusal (Err why) = refusal_status (refusal why)
-
--- The status of a reply to a call on a page.
-abbrev pub page_status : {S : Type 0} → SizeReply S → ℕ
-page_status (Map mapped) = result_status map_refusal mapped
-page_status (Unmap unmapped) = result_status unmap_refusal unmapped
-page_status (Update updated) = result_status update_refusal updated
-page_status (TableFlags done) = result_status update_refusal done
-page_status (Frame frame) = result_status translate_refusal frame
-
--- The status of a reply.
-abbrev pub reply_status : Reply → ℕ
-reply_status (Of4KiB reply) = page_status reply
-reply_status (Of2MiB reply) = page_status reply
-reply_status (Of1GiB reply) = page_status reply
-reply_status (Translate result) = ok
-reply_status (Address address) = ok
-reply_status Cleaned = ok
-reply_status NotAllowed = not_allowed

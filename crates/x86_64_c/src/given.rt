@@ -21,7 +21,7 @@ pub struct Hierarchy {
 }
 
 /// A page.
-#[derive(Clone, Copy)]
+#[derive(Drop)]
 #[repr(C)]
 pub struct Page {
     /// The first address, canonical and a multiple of the size.
@@ -31,7 +31,7 @@ pub struct Page {
 }
 
 /// A page to be mapped, and how.
-#[derive(Clone, Copy)]
+#[derive(Drop)]
 #[repr(C)]
 pub struct MapRequest {
     /// The page.

@@ -7,8 +7,7 @@
 mod changes;
 mod given;
 mod listing;
-mod page_walk;
 mod runs;
 mod status;
-mod translate;
-mod validity;
+mod tests;
+mod walk;

@@ -1,7 +1,7 @@
 //! Calls that take frames from a pool or return frames to it: maps and clean ups.
 ghost use Rattle.std.specs.Prelude.{◌≡◌, ◌≤◌, ◌⊎◌, ℕ, List, true, false, length, Some, None, IfOk, IfErr, IfSome, IfNone};
 ghost use Rattle.x86_64_c.specs.Given as given;
-ghost use Rattle.x86_64_c.specs.MapsAndCleanUps as calls;
+ghost use Rattle.x86_64_c.specs.PoolCalls as calls;
 ghost use Rattle.x86_64_c.specs.Status as statuses;
 ghost use Rattle.x86_64_model.specs.Store.{Fits, store_of};
 ghost use Rattle.x86_64_tables.specs.LentMemory.{numbered};
@@ -39,74 +39,16 @@ pub extern "C" fn x64_map(
     ensures { calls.Executes own hierarchy.now (calls.loan tables.old pool.old free_count.old)
         (calls.to_map request.now) result (calls.loan tables.new pool.new free_count.new) }
 {
-    execute(hierarchy, tables, pool, free_count, Request::Map(*request))
-}
-
-/// Frees the empty tables of a range of 4KiB pages, as the mapper's `clean_up_addr_range` does, and puts their frames on the pool.
-///
-/// Requires that the hierarchy is valid, and that the pool fits it with room, which `x64_pool_fits` tests; both hold again
-/// afterwards. Returns `OK`, or what is wrong with an argument; then nothing changes. If the first page comes after the last, the range
-/// is empty.
-#[unsafe(no_mangle)]
-pub extern "C" fn x64_clean_up(
-    hierarchy: &Hierarchy,
-    tables: &mut [PageTable],
-    pool: &mut [u64],
-    free_count: &mut usize,
-    first_page: u64,
-    last_page: u64,
-) -> u32
-    ghost own: { List ℕ }
-    requires { calls.MayExecute own hierarchy.now (calls.loan tables.old pool.old free_count.old)
-        (calls.to_clean_up first_page last_page) }
-    ensures { calls.Executes own hierarchy.now (calls.loan tables.old pool.old free_count.old)
-        (calls.to_clean_up first_page last_page) result
-        (calls.loan tables.new pool.new free_count.new) }
-{
-    execute(
-        hierarchy,
-        tables,
-        pool,
-        free_count,
-        Request::CleanUp(first_page, last_page),
-    )
-}
-
-/// What callers ask of a hierarchy and a pool.
-#[derive(Clone, Copy)]
-pub enum Request {
-    /// A map of a page.
-    Map(MapRequest),
-    /// A clean up from a first 4KiB page to a last one.
-    CleanUp(u64, u64),
-}
-
-impl Request {
-    /// Returns the call with 4 or 5 levels of tables, or what is wrong with an argument.
-    fn call(self, levels: u64) -> Result<AnyCall, u32>
-        requires { levels ≡ 4 ⊎ levels ≡ 5 }
-        ensures levels { IfOk result (λ call. calls.any_levels call ≡ levels) }
-        ensures call { IfOk result (λ call. calls.any_asks call ≡ (calls.request_of self).call levels) }
-        ensures good { IfOk result (λ _. (calls.request_of self).wrong levels ≡ None) }
-        ensures bad { IfErr result (λ status. (calls.request_of self).wrong levels ≡ Some status) }
-    {
-        Ok(if levels == 4 {
-            AnyCall::FourLevels(self.call_in()?)
-        } else {
-            AnyCall::FiveLevels(self.call_in()?)
-        })
+    let located = match locate(hierarchy, tables.len()) {
+        Ok(located) => located,
+        Err(status) => return status,
+    };
+    if pool.len() < *free_count {
+        return status::BAD_ARRAY;
     }
-
-    /// Returns the call with `L` levels of tables, or what is wrong with an argument.
-    fn call_in<L: LevelCount, P5: LevelFiveFlags<L>>(self) -> Result<CallIn<L, P5>, u32>
-        ensures call { IfOk result (λ call. asks P5.bits call ≡ (calls.request_of self).call L.LEVELS) }
-        ensures good { IfOk result (λ _. (calls.request_of self).wrong L.LEVELS ≡ None) }
-        ensures bad { IfErr result (λ status. (calls.request_of self).wrong L.LEVELS ≡ Some status) }
-    {
-        match self {
-            Request::Map(request) => map_call(&request),
-            Request::CleanUp(first, last) => clean_up_call(first, last).ok_or(status::BAD_PAGE),
-        }
+    match map_call(hierarchy.levels, request) {
+        Ok(call) => run_lent(located, tables, pool, free_count, call),
+        Err(status) => status,
     }
 }
 
@@ -117,8 +59,29 @@ pub enum AnyCall {
     FiveLevels(Call57),
 }
 
+/// Returns the call of a request to map a page with 4 or 5 levels of tables, or what is wrong with it.
+fn map_call(levels: u64, request: &MapRequest) -> Result<AnyCall, u32>
+    requires { levels ≡ 4 ⊎ levels ≡ 5 }
+    ensures levels { IfOk result (λ call. calls.any_levels call ≡ levels) }
+    ensures call { IfOk result (λ call. calls.any_asks call ≡ calls.map_call levels request.now) }
+    ensures good { IfOk result (λ _. calls.bad_map levels request.now ≡ None) }
+    ensures bad { IfErr result (λ status. calls.bad_map levels request.now ≡ Some status) }
+{
+    if levels == 4 {
+        match map_call_in(request) {
+            Ok(call) => Ok(AnyCall::FourLevels(call)),
+            Err(status) => Err(status),
+        }
+    } else {
+        match map_call_in(request) {
+            Ok(call) => Ok(AnyCall::FiveLevels(call)),
+            Err(status) => Err(status),
+        }
+    }
+}
+
 /// Returns the call of a request to map a page with `L` levels of tables, or what is wrong with it.
-fn map_call<L: LevelCount, P5: LevelFiveFlags<L>>(
+fn map_call_in<L: LevelCount, P5: LevelFiveFlags<L>>(
     request: &MapRequest,
 ) -> Result<CallIn<L, P5>, u32>
     ensures call { IfOk result (λ call. asks P5.bits call ≡ calls.map_call L.LEVELS request.now) }
@@ -154,47 +117,6 @@ fn map_of<S: PageSize, L: LevelCount, P5: LevelFiveFlags<L>>(
         flags: PageTableFlags::from_bits_retain(request.flags),
         parent_flags: PageTableFlags::from_bits_retain(request.parent_flags),
     })
-}
-
-/// Returns the call that cleans up from a first 4KiB page to a last one with `L` levels of tables, if both are pages.
-fn clean_up_call<L: LevelCount, P5: LevelFiveFlags<L>>(
-    first: u64,
-    last: u64,
-) -> Option<CallIn<L, P5>>
-    ensures call { IfSome result (λ call. asks P5.bits call ≡ calls.clean_up_call L.LEVELS first last) }
-    ensures good { IfSome result (λ _. calls.bad_range L.LEVELS first last ≡ None) }
-    ensures bad { IfNone result (calls.bad_range L.LEVELS first last ≡ Some statuses.bad_page) }
-{
-    let first = page_at::<Size4KiB, L>(first)?;
-    let last = page_at::<Size4KiB, L>(last)?;
-    Some(CallIn::CleanUpRange(PageIn::range_inclusive(first, last)))
-}
-
-/// Executes a request, if no argument is wrong, and returns its status.
-fn execute(
-    hierarchy: &Hierarchy,
-    tables: &mut [PageTable],
-    pool: &mut [u64],
-    free_count: &mut usize,
-    request: Request,
-) -> u32
-    ghost own: { List ℕ }
-    requires { calls.MayExecute own hierarchy.now (calls.loan tables.old pool.old free_count.old)
-        (calls.request_of request) }
-    ensures { calls.Executes own hierarchy.now (calls.loan tables.old pool.old free_count.old)
-        (calls.request_of request) result (calls.loan tables.new pool.new free_count.new) }
-{
-    let located = match locate(hierarchy, tables.len()) {
-        Ok(located) => located,
-        Err(status) => return status,
-    };
-    if pool.len() < *free_count {
-        return status::BAD_ARRAY;
-    }
-    match request.call(hierarchy.levels) {
-        Ok(call) => run_lent(located, tables, pool, free_count, call),
-        Err(status) => status,
-    }
 }
 
 /// Executes a call in the caller's tables and pool, and returns its status.
@@ -242,4 +164,73 @@ fn run_in<L: LevelCount, P5: LevelFiveFlags<L>, T: TableMemory, F: FrameStore>(
     let mut mapper = MappedPageTableIn::<_, L, T>::new(memory, located.root, located.mapping);
     let reply = run_call(&mut mapper, frames, call);
     reply_status(reply)
+}
+
+/// Frees the empty tables of a range of 4KiB pages, as the mapper's `clean_up_addr_range` does, and puts their frames on the pool.
+///
+/// Requires that the hierarchy is valid, and that the pool fits it with room, which `x64_pool_fits` tests; both hold again
+/// afterwards. Returns `OK`, or what is wrong with an argument; then nothing changes. If the first page comes after the last, the range
+/// is empty.
+#[unsafe(no_mangle)]
+pub extern "C" fn x64_clean_up(
+    hierarchy: &Hierarchy,
+    tables: &mut [PageTable],
+    pool: &mut [u64],
+    free_count: &mut usize,
+    first_page: u64,
+    last_page: u64,
+) -> u32
+    ghost own: { List ℕ }
+    requires { calls.MayExecute own hierarchy.now (calls.loan tables.old pool.old free_count.old)
+        (calls.to_clean_up first_page last_page) }
+    ensures { calls.Executes own hierarchy.now (calls.loan tables.old pool.old free_count.old)
+        (calls.to_clean_up first_page last_page) result
+        (calls.loan tables.new pool.new free_count.new) }
+{
+    let located = match locate(hierarchy, tables.len()) {
+        Ok(located) => located,
+        Err(status) => return status,
+    };
+    if pool.len() < *free_count {
+        return status::BAD_ARRAY;
+    }
+    match clean_up_call(hierarchy.levels, first_page, last_page) {
+        Some(call) => run_lent(located, tables, pool, free_count, call),
+        None => status::BAD_PAGE,
+    }
+}
+
+/// Returns the call that cleans up from a first 4KiB page to a last one with 4 or 5 levels of tables, if both are pages.
+fn clean_up_call(levels: u64, first: u64, last: u64) -> Option<AnyCall>
+    requires { levels ≡ 4 ⊎ levels ≡ 5 }
+    ensures levels { IfSome result (λ call. calls.any_levels call ≡ levels) }
+    ensures call { IfSome result (λ call. calls.any_asks call ≡ calls.clean_up_call levels first last) }
+    ensures good { IfSome result (λ _. calls.bad_range levels first last ≡ None) }
+    ensures bad { IfNone result (calls.bad_range levels first last ≡ Some statuses.bad_page) }
+{
+    if levels == 4 {
+        match clean_up_call_in(first, last) {
+            Some(call) => Some(AnyCall::FourLevels(call)),
+            None => None,
+        }
+    } else {
+        match clean_up_call_in(first, last) {
+            Some(call) => Some(AnyCall::FiveLevels(call)),
+            None => None,
+        }
+    }
+}
+
+/// Returns the call that cleans up from a first 4KiB page to a last one with `L` levels of tables, if both are pages.
+fn clean_up_call_in<L: LevelCount, P5: LevelFiveFlags<L>>(
+    first: u64,
+    last: u64,
+) -> Option<CallIn<L, P5>>
+    ensures call { IfSome result (λ call. asks P5.bits call ≡ calls.clean_up_call L.LEVELS first last) }
+    ensures good { IfSome result (λ _. calls.bad_range L.LEVELS first last ≡ None) }
+    ensures bad { IfNone result (calls.bad_range L.LEVELS first last ≡ Some statuses.bad_page) }
+{
+    let first = page_at::<Size4KiB, L>(first)?;
+    let last = page_at::<Size4KiB, L>(last)?;
+    Some(CallIn::CleanUpRange(PageIn::range_inclusive(first, last)))
 }

@@ -1,6 +1,6 @@
 //! The statuses that calls return.
 ghost use Rattle.std.specs.Prelude.{◌≡◌};
-ghost use Rattle.x86_64_c.specs.Status as statuses;
+ghost use Rattle.x86_64_c.specs.Calls as calls;
 ghost use Rattle.x86_64_tables.specs.MapperAnswers.{map_refusal, unmap_refusal, update_refusal, translate_refusal};
 
 use x86_64::structures::paging::PageSize;
@@ -59,7 +59,7 @@ pub const BAD_FRAME: u32 = 21;
 
 /// Returns the status of a refused change of flags.
 pub fn flags_status(error: FlagUpdateError) -> u32
-    ensures { result ≡ statuses.refusal_status (update_refusal error) }
+    ensures { result ≡ calls.refusal_status (update_refusal error) }
 {
     match error {
         FlagUpdateError::PageNotMapped => PAGE_NOT_MAPPED,
@@ -69,7 +69,7 @@ pub fn flags_status(error: FlagUpdateError) -> u32
 
 /// Returns the status of a refused map.
 fn map_status<S: PageSize>(error: MapToError<S>) -> u32
-    ensures { result ≡ statuses.refusal_status (map_refusal error) }
+    ensures { result ≡ calls.refusal_status (map_refusal error) }
 {
     match error {
         MapToError::FrameAllocationFailed => FRAME_ALLOCATION_FAILED,
@@ -79,8 +79,8 @@ fn map_status<S: PageSize>(error: MapToError<S>) -> u32
 }
 
 /// Returns the status of a refused unmap.
-pub fn unmap_status(error: UnmapError) -> u32
-    ensures { result ≡ statuses.refusal_status (unmap_refusal error) }
+fn unmap_status(error: UnmapError) -> u32
+    ensures { result ≡ calls.refusal_status (unmap_refusal error) }
 {
     match error {
         UnmapError::ParentEntryHugePage => PARENT_ENTRY_HUGE_PAGE,
@@ -91,7 +91,7 @@ pub fn unmap_status(error: UnmapError) -> u32
 
 /// Returns the status of a refused translation of a page.
 fn translate_status(error: TranslateError) -> u32
-    ensures { result ≡ statuses.refusal_status (translate_refusal error) }
+    ensures { result ≡ calls.refusal_status (translate_refusal error) }
 {
     match error {
         TranslateError::PageNotMapped => PAGE_NOT_MAPPED,
@@ -102,7 +102,7 @@ fn translate_status(error: TranslateError) -> u32
 
 /// Returns the status of a reply to a call on a page.
 fn page_status<S: PageSize, L: LevelCount>(reply: SizeReplyIn<S, L>) -> u32
-    ensures { result ≡ statuses.page_status reply }
+    ensures { result ≡ calls.page_status reply }
 {
     match reply {
         PageReply::Map(Err(error)) => map_status(error),
@@ -115,7 +115,7 @@ fn page_status<S: PageSize, L: LevelCount>(reply: SizeReplyIn<S, L>) -> u32
 
 /// Returns the status of a reply.
 pub fn reply_status<L: LevelCount>(reply: ReplyIn<L>) -> u32
-    ensures { result ≡ statuses.reply_status reply }
+    ensures { result ≡ calls.reply_status reply }
 {
     match reply {
         MapperReply::Of4KiB(reply) => page_status(reply),

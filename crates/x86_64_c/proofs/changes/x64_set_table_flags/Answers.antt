@@ -1,6 +1,47 @@
-use Rattle.std.proofs.Common.{sym}
-use Rattle.x86_64_c.proofs.EntryChanges.{may_change}
+use Rattle.std.proofs.Common.{sym, ◌∙◌, rules}
+use Rattle.x86_64_model.specs.Call.{SetFlags}
+use Rattle.x86_64_tables.specs.PageTableFlags.{bits_of}
+use Rattle.x86_64_c.specs.Calls.{MayChange}
+use Rattle.x86_64_c.specs.Given.{path_of_page}
+use Rattle.x86_64_c.proofs.Arguments.{five, table_at, there, handed_back}
+use Rattle.x86_64_c.proofs.Located.{given, valid}
 use Rattle.x86_64_c.proofs.changes.x64_set_table_flags.Goals as goal
 
+pub returns-then-hierarchy-eq4-clause-bad : goal.returns-then-hierarchy-eq4-clause-bad
+returns-then-hierarchy-eq4-clause-bad c = λ status is.
+    let inner = c.set_in.ensures.bad status (sym (table_at c.args.hierarchy.now _ c.args.level c.args.page.now 4 c.in-Ok.ensures.good (there c.args.hierarchy.now c.args.level (search rules) (search rules)) c.if-hierarchy-eq4.true) ∙ is) in
+    let back = handed_back c.args.tables.now in
+    (inner.0, search rules)
+
+pub returns-then-hierarchy-eq4-clause-sets : goal.returns-then-hierarchy-eq4-clause-sets
+returns-then-hierarchy-eq4-clause-sets c = λ good.
+    let inner = c.set_in.ensures.sets (sym (table_at c.args.hierarchy.now _ c.args.level c.args.page.now 4 c.in-Ok.ensures.good (there c.args.hierarchy.now c.args.level (search rules) (search rules)) c.if-hierarchy-eq4.true) ∙ good) in
+    rw (sym (c.from_bits_retain-flags.ensures tt)) (given c.args.hierarchy.now c.in-Ok.located 4 c.if-hierarchy-eq4.true c.in-Ok.ensures.root c.in-Ok.ensures.places c.args.tables.now _ _ _ (sym c.new-memory.ensures.tables) (search rules)
+    (λ h L after. MayChange h (SetFlags c.args.level (path_of_page L c.args.page.now) (bits_of c.from_bits_retain-flags.result)) after c.set_in.result) inner)
+
+pub returns-clause-bad : goal.returns-clause-bad
+returns-clause-bad c = λ status is.
+    let levels = five c.args.hierarchy.now _ c.in-Ok.ensures.good c.if-hierarchy-eq4.false in
+    let inner = c.set_in-else-hierarchy-eq4.ensures.bad status (sym (table_at c.args.hierarchy.now _ c.args.level c.args.page.now 5 c.in-Ok.ensures.good (there c.args.hierarchy.now c.args.level (search rules) (search rules)) levels) ∙ is) in
+    let back = handed_back c.args.tables.now in
+    (inner.0, search rules)
+
 pub returns-clause-sets : goal.returns-clause-sets
-returns-clause-sets c = λ good. rw (sym (c.from_bits_retain-flags.ensures tt)) (may_change _ _ _ _ _ (c.change_entry.ensures.ends good))
+returns-clause-sets c = λ good.
+    let levels = five c.args.hierarchy.now _ c.in-Ok.ensures.good c.if-hierarchy-eq4.false in
+    let inner = c.set_in-else-hierarchy-eq4.ensures.sets (sym (table_at c.args.hierarchy.now _ c.args.level c.args.page.now 5 c.in-Ok.ensures.good (there c.args.hierarchy.now c.args.level (search rules) (search rules)) levels) ∙ good) in
+    rw (sym (c.from_bits_retain-flags.ensures tt)) (given c.args.hierarchy.now c.in-Ok.located 5 levels c.in-Ok.ensures.root c.in-Ok.ensures.places c.args.tables.now _ _ _ (sym c.new-memory.ensures.tables) (search rules)
+    (λ h L after. MayChange h (SetFlags c.args.level (path_of_page L c.args.page.now) (bits_of c.from_bits_retain-flags.result)) after c.set_in-else-hierarchy-eq4.result) inner)
+
+pub set_in-requires-clause-valid : goal.set_in-requires-clause-valid
+set_in-requires-clause-valid c = λ good.
+    let h = c.args.hierarchy.now in
+    let right = table_at h _ c.args.level c.args.page.now 4 c.in-Ok.ensures.good (there h c.args.level (search rules) (search rules)) c.if-hierarchy-eq4.true ∙ good in
+    valid h c.in-Ok.located 4 c.if-hierarchy-eq4.true c.in-Ok.ensures.root c.in-Ok.ensures.places c.args.tables.now _ c.new-memory.ensures.tables (c.requires right)
+
+pub set_in-requires-else-hierarchy-eq4-clause-valid : goal.set_in-requires-else-hierarchy-eq4-clause-valid
+set_in-requires-else-hierarchy-eq4-clause-valid c = λ good.
+    let h = c.args.hierarchy.now in
+    let levels = five h _ c.in-Ok.ensures.good c.if-hierarchy-eq4.false in
+    let right = table_at h _ c.args.level c.args.page.now 5 c.in-Ok.ensures.good (there h c.args.level (search rules) (search rules)) levels ∙ good in
+    valid h c.in-Ok.located 5 levels c.in-Ok.ensures.root c.in-Ok.ensures.places c.args.tables.now _ c.new-memory.ensures.tables (c.requires right)

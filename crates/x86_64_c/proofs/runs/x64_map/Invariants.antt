@@ -1,4 +1,4 @@
 use Rattle.x86_64_c.proofs.runs.x64_map.Given as goal
 
-abbrev pub ghost-execute : goal.ghost-execute
-ghost-execute g a = g.own
+abbrev pub ghost-run_lent : goal.ghost-run_lent
+ghost-run_lent g a = g.own

@@ -10,13 +10,11 @@ use Rattle.x86_64.specs.Asked.{MapperCall}
 use Rattle.x86_64.specs.Calls.{asks, no_bits}
 use Rattle.x86_64.specs.Replies.{Reply, changes_nothing}
 use Rattle.x86_64.specs.Runs.{LeavesFree, Stepped}
+use Rattle.x86_64_c.specs.Calls.{reply_status}
 use Rattle.x86_64_c.specs.Given.{unless, bad_hierarchy, bad_page, bad_frame, hierarchy_in, starts_page, position_of}
 use Rattle.x86_64_c.specs.Status as status
-use Rattle.x86_64_c.specs.Status.{reply_status}
 use Rattle.x86_64_c.specs.declared.given.Hierarchy.{Hierarchy as Given}
 use Rattle.x86_64_c.specs.declared.given.MapRequest.{MapRequest}
-use Rattle.x86_64_c.specs.declared.runs.Request.{Request as Asked}
-use Rattle.x86_64_c.specs.declared.runs.Request.TheVariants.{Map, CleanUp}
 use Rattle.x86_64_c.specs.declared.runs.AnyCall.{AnyCall}
 use Rattle.x86_64_c.specs.declared.runs.AnyCall.TheVariants.{FourLevels, FiveLevels}
 
@@ -51,10 +49,6 @@ to_map request = record { call = λ L. map_call L request; wrong = λ L. bad_map
 
 abbrev pub to_clean_up : (first last : ℕ) → Request
 to_clean_up first last = record { call = λ L. clean_up_call L first last; wrong = λ L. bad_range L first last }
-
-abbrev pub request_of : Asked → Request
-request_of (Map request) = to_map request
-request_of (CleanUp first last) = to_clean_up first last
 
 -- How many levels a call is for, and what it asks.
 abbrev pub any_levels : AnyCall → ℕ

@@ -1,7 +1,7 @@
-//! The translation of an address.
+//! Where addresses are mapped to.
 ghost use Rattle.std.specs.Prelude.{◌≡◌, ℕ, length, Some, None};
 ghost use Rattle.x86_64_c.specs.Given as given;
-ghost use Rattle.x86_64_c.specs.Lookups as lookups;
+ghost use Rattle.x86_64_c.specs.Reads as reads;
 ghost use Rattle.x86_64_model.specs.Mapper.{Valid};
 
 use crate::given::{Hierarchy, Located, locate};
@@ -9,7 +9,19 @@ use crate::status;
 use bitflags::Flags;
 use x86_64::structures::paging::PageTable;
 use x86_64::structures::paging::mapper::{MappedPageTableIn, TranslateResult, calls};
-use x86_64::{FiveLevels, FourLevels, LentMemory, LevelCount, TableMemory, VirtAddrIn};
+use x86_64::{FiveLevels, FourLevels, LentMemory, LevelCount, TableMemory, VirtAddrIn, page_walk};
+
+/// Where a page walk arrives, and what all entries on its way allow.
+#[derive(Drop)]
+#[repr(C)]
+pub struct Walked {
+    /// The physical address.
+    pub address: u64,
+    /// Whether all entries have `WRITABLE`.
+    pub write: bool,
+    /// Whether all entries have `USER_ACCESSIBLE`.
+    pub user: bool,
+}
 
 /// What an address is mapped to.
 #[derive(Drop)]
@@ -23,6 +35,65 @@ pub struct Translation {
     pub offset: u64,
     /// The flags of the page's entry.
     pub flags: u64,
+}
+
+/// Walks to an address as the processor does, whatever words the tables hold.
+///
+/// Returns `OK` with where the walk arrives, `NOT_MAPPED`, or what is wrong with an argument; then nothing is written.
+#[tactic(auto, using(crate::proofs::Arguments::handed_back))]
+#[unsafe(no_mangle)]
+pub extern "C" fn x64_page_walk(
+    hierarchy: &Hierarchy,
+    tables: &mut [PageTable],
+    address: u64,
+    walked: &mut Walked,
+) -> u32
+    ensures bad { (status : ℕ) → given.bad_read hierarchy.now (length tables.old) address ≡ Some status
+        → (result ≡ status) × (walked.new ≡ walked.old) }
+    ensures told { given.bad_read hierarchy.now (length tables.old) address ≡ None
+        → reads.TellsWalk (reads.walk_to (given.hierarchy_in hierarchy.now tables.old) address)
+        result walked.old walked.new }
+    ensures tables { tables.new ≡ tables.old }
+{
+    let located = match locate(hierarchy, tables.len()) {
+        Ok(located) => located,
+        Err(status) => return status,
+    };
+    let memory = LentMemory::new(tables);
+    if hierarchy.levels == 4 {
+        walk_in::<FourLevels, _>(&memory, located, address, walked)
+    } else {
+        walk_in::<FiveLevels, _>(&memory, located, address, walked)
+    }
+}
+
+/// Walks to an address with `L` levels of tables.
+fn walk_in<L: LevelCount, T: TableMemory>(
+    memory: &T,
+    located: Located,
+    address: u64,
+    walked: &mut Walked,
+) -> u32
+    ensures bad { (status : ℕ) → given.bad_address L.LEVELS address ≡ Some status
+        → (result ≡ status) × (walked.new ≡ walked.old) }
+    ensures told { given.bad_address L.LEVELS address ≡ None
+        → reads.TellsWalk (reads.walk_to (given.at L.LEVELS located (T.tables memory.now)) address)
+        result walked.old walked.new }
+{
+    let Some(address) = VirtAddrIn::<L>::checked_new(address) else {
+        return status::BAD_ADDRESS;
+    };
+    match page_walk(memory, &located.mapping, located.root, address) {
+        Some(arrival) => {
+            *walked = Walked {
+                address: arrival.address.as_u64(),
+                write: arrival.write,
+                user: arrival.user,
+            };
+            status::OK
+        }
+        None => status::NOT_MAPPED,
+    }
 }
 
 /// Returns what an address is mapped to, present or not at level one, as the mapper's `translate` does.
@@ -42,8 +113,8 @@ pub extern "C" fn x64_translate(
     ensures bad { (status : ℕ) → given.bad_read hierarchy.now (length tables.old) address ≡ Some status
         → (result ≡ status) × (translation.new ≡ translation.old) }
     ensures told { given.bad_read hierarchy.now (length tables.old) address ≡ None
-        → lookups.TellsTranslation
-        (lookups.translation_of (given.hierarchy_in hierarchy.now tables.old) address)
+        → reads.TellsTranslation
+        (reads.translation_of (given.hierarchy_in hierarchy.now tables.old) address)
         result translation.old translation.new }
     ensures tables { tables.new ≡ tables.old }
 {
@@ -71,8 +142,8 @@ fn translate_in<L: LevelCount, T: TableMemory>(
     ensures bad { (status : ℕ) → given.bad_address L.LEVELS address ≡ Some status
         → (result ≡ status) × (translation.new ≡ translation.old) }
     ensures told { given.bad_address L.LEVELS address ≡ None
-        → lookups.TellsTranslation
-        (lookups.translation_of (given.at L.LEVELS located (T.tables memory.old)) address)
+        → reads.TellsTranslation
+        (reads.translation_of (given.at L.LEVELS located (T.tables memory.old)) address)
         result translation.old translation.new }
     ensures memory { T.tables memory.new ≡ T.tables memory.old }
     ensures lent { T.lent memory.new ≡ T.lent memory.old }

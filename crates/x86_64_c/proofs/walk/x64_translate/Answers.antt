@@ -1,9 +1,8 @@
 use Rattle.std.proofs.Common.{sym, ◌∙◌}
-use Rattle.x86_64_model.specs.Mapper.{Valid}
-use Rattle.x86_64_c.specs.Lookups.{TellsTranslation, translation_of}
+use Rattle.x86_64_c.specs.Reads.{TellsTranslation, translation_of}
 use Rattle.x86_64_c.proofs.Arguments.{five, reads_at}
-use Rattle.x86_64_c.proofs.Located.{given, held}
-use Rattle.x86_64_c.proofs.translate.x64_translate.Goals as goal
+use Rattle.x86_64_c.proofs.Located.{given, valid}
+use Rattle.x86_64_c.proofs.walk.x64_translate.Goals as goal
 
 pub returns-clause-told : goal.returns-clause-told
 returns-clause-told c = λ good.
@@ -16,14 +15,14 @@ pub translate_in-requires : goal.translate_in-requires
 translate_in-requires c = λ good.
     let h = c.args.hierarchy.now in
     let right = reads_at h _ c.args.address 4 c.in-Ok.ensures.good c.if-hierarchy-eq4.true ∙ good in
-    held h c.in-Ok.located 4 c.if-hierarchy-eq4.true c.in-Ok.ensures.root c.in-Ok.ensures.places Valid c.args.tables.now _ c.new-memory.ensures.tables (c.requires right)
+    valid h c.in-Ok.located 4 c.if-hierarchy-eq4.true c.in-Ok.ensures.root c.in-Ok.ensures.places c.args.tables.now _ c.new-memory.ensures.tables (c.requires right)
 
 pub translate_in-requires-else-hierarchy-eq4 : goal.translate_in-requires-else-hierarchy-eq4
 translate_in-requires-else-hierarchy-eq4 c = λ good.
     let h = c.args.hierarchy.now in
     let levels = five h _ c.in-Ok.ensures.good c.if-hierarchy-eq4.false in
     let right = reads_at h _ c.args.address 5 c.in-Ok.ensures.good levels ∙ good in
-    held h c.in-Ok.located 5 levels c.in-Ok.ensures.root c.in-Ok.ensures.places Valid c.args.tables.now _ c.new-memory.ensures.tables (c.requires right)
+    valid h c.in-Ok.located 5 levels c.in-Ok.ensures.root c.in-Ok.ensures.places c.args.tables.now _ c.new-memory.ensures.tables (c.requires right)
 
 pub returns-then-hierarchy-eq4-clause-told : goal.returns-then-hierarchy-eq4-clause-told
 returns-then-hierarchy-eq4-clause-told c = λ good.

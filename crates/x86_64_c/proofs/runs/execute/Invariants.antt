@@ -1,4 +1,0 @@
-use Rattle.x86_64_c.proofs.runs.execute.Given as goal
-
-abbrev pub ghost-run_lent : goal.ghost-run_lent
-ghost-run_lent g a = g.own
