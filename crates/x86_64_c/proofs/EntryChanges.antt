@@ -5,7 +5,7 @@ use Rattle.x86_64_model.specs.Call.{Call, IsCall, Answered, NotAllowed}
 use Rattle.x86_64_model.specs.Entry.{IsParentFlags}
 use Rattle.x86_64_model.specs.Layout.{Layout}
 use Rattle.x86_64_model.specs.Machine.{AfterCall, only_reply, do_call, step}
-use Rattle.x86_64_model.specs.Mapper.{◌laid_in◌, Hierarchy, Does, PoolFits, allows, machine_of, state_in, SupplyFits}
+use Rattle.x86_64_model.specs.Mapper.{Hierarchy, Does, PoolFits, allows, machine_of, state_in, SupplyFits}
 use Rattle.x86_64_model.specs.Memory.{Memory}
 use Rattle.x86_64_model.specs.Path.{IsPage, path_at}
 use Rattle.x86_64_model.specs.Pool.{TakesBack}
@@ -17,6 +17,10 @@ use Rattle.x86_64_mappers.specs.private.ImplLaws.{no_flags}
 use Rattle.x86_64.proofs.Keeping.{keeps_step}
 use Rattle.x86_64_c.specs.Calls.{Changes, answer_status}
 use Rattle.x86_64_model.specs.Store.{put_first, KeepsPool}
+
+-- a layout's hierarchy in a memory
+abbrev pub of : Layout → Memory → Hierarchy (Unit {0})
+of l m = record { layout = l; memory = m; lent = tt }
 
 gives : TakesBack put_first
 gives = giving_from put_first (λ held f. IsPermutation-refl (f ∷ held))
@@ -31,10 +35,10 @@ keeps h after call answer adds is may does serves pool fits =
     let one : step machine before call ≡ record { state = state_in h.layout after.memory pool; reply = Answered answer } =
     ap (λ b. cond b (do_call machine before call) (only_reply before NotAllowed)) may ∙ did in
     keeps_step h.layout adds put_first gives serves h.memory pool fits call is after.memory pool (sym (ap (λ (x : AfterCall). x.state) one))
-    (subst (λ l. SupplyFits (l laid_in after.memory) pool) does.layout (does.fits pool (ready_of_fits h.layout h.memory serves pool fits))) (λ k none. does.others k (λ f table. none f (inr table)))
+    (subst (λ l. SupplyFits (of l after.memory) pool) does.layout (does.fits pool (ready_of_fits h.layout h.memory serves pool fits))) (λ k none. does.others k (λ f table. none f (inr table)))
 
 -- what a mapper did, of the words alone
-seen : {Lent : Type 0} (h after : Hierarchy Lent) (call : Call) (answer : Answer) → Does h call answer after → Does (h.layout laid_in h.memory) call answer (after.layout laid_in after.memory)
+seen : {Lent : Type 0} (h after : Hierarchy Lent) (call : Call) (answer : Answer) → Does h call answer after → Does (of h.layout h.memory) call answer (of after.layout after.memory)
 seen h after call answer does = record {
   outcome = does.outcome;
   valid = does.valid;
@@ -46,14 +50,14 @@ seen h after call answer does = record {
 }
 
 pub changes : {Lent : Type 0} (h after : Hierarchy Lent) (l : Layout) (m n : Memory) → h.layout ≡ l → h.memory ≡ m → after.memory ≡ n
-    → (call : Call) (answer : Answer) (status : ℕ) → IsParentFlags l.added_flags → IsCall l.levels call → allows (l laid_in m) call ≡ true
-    → Does h call answer after → status ≡ answer_status answer → Changes (l laid_in m) call answer (l laid_in n) status
+    → (call : Call) (answer : Answer) (status : ℕ) → IsParentFlags l.added_flags → IsCall l.levels call → allows (of l m) call ≡ true
+    → Does h call answer after → status ≡ answer_status answer → Changes (of l m) call answer (of l n) status
 changes h after l m n layout memory left call answer status adds is may does told =
-    let did = subst (λ l. Does (l laid_in m) call answer (l laid_in n)) layout
-    (subst (λ m. Does (h.layout laid_in m) call answer (h.layout laid_in n)) memory
-    (subst (λ n. Does (h.layout laid_in h.memory) call answer (h.layout laid_in n)) left
-    (subst (λ k. Does (h.layout laid_in h.memory) call answer (k laid_in after.memory)) does.layout (seen h after call answer does)))) in
-    record { does = did; status_is = told; keeps = keeps (l laid_in m) (l laid_in n) call answer adds is may did }
+    let did = subst (λ l. Does (of l m) call answer (of l n)) layout
+    (subst (λ m. Does (of h.layout m) call answer (of h.layout n)) memory
+    (subst (λ n. Does (of h.layout h.memory) call answer (of h.layout n)) left
+    (subst (λ k. Does (of h.layout h.memory) call answer (of k after.memory)) does.layout (seen h after call answer does)))) in
+    record { does = did; status_is = told; keeps = keeps (of l m) (of l n) call answer adds is may did }
 
 -- a mapper without recursive index adds no flags to the parent flags
 pub plain : IsParentFlags 0
