@@ -4,6 +4,7 @@
 pub mod after_level_4_table_mut;
 pub mod first;
 pub mod flush_after_calls;
+pub mod guest_store;
 pub mod list_mappings;
 pub mod load_segments;
 pub mod map_buffer;
