@@ -1,0 +1,240 @@
+//! Tables that are changed.
+
+use crate::access::{Access, Controls, Fault};
+use crate::addresses::{PhysAddr, VirtAddr};
+use crate::error::Error;
+use crate::flags::Flags;
+use crate::hierarchy::{Hierarchy, Levels, Translation, Walked, outcome_of};
+use crate::library::{self, Located, result_of};
+use crate::listing::{Mappings, Regions};
+use crate::page::{Page, PageSize, Table};
+
+/// Frames of physical memory that can hold tables: `tables[i]` is the frame with the number `first + i`.
+pub struct Memory<'a> {
+    /// The tables.
+    pub tables: &'a mut [Table],
+    /// The number of the first frame: its address divided by 4096.
+    pub first: u64,
+}
+
+/// A stack of free frames, by their addresses: `frames[..free]`. The last one is handed out first. Room for as many frames as there are
+/// tables is always enough.
+pub struct Pool<'a> {
+    /// The array.
+    pub frames: &'a mut [PhysAddr],
+    /// How many frames are free.
+    pub free: usize,
+}
+
+/// A valid hierarchy of page tables, and a pool that fits it. Both hold again after each call, whatever it returns.
+///
+/// The pool is this address space's alone: frames that several roots share need a test of all of them.
+pub struct AddressSpace<'a> {
+    memory: Memory<'a>,
+    pool: Pool<'a>,
+    located: Located,
+}
+
+impl<'a> AddressSpace<'a> {
+    /// Returns the address space of the tables below a root. There must be a mark for each table; what the marks hold doesn't matter.
+    ///
+    /// # Errors
+    ///
+    /// `NotValid` if the hierarchy isn't valid or the pool doesn't fit it, `BadRoot`, or `BadArray` if there are too few marks or if
+    /// `free` is more than the length of `frames`.
+    pub fn new(
+        memory: Memory<'a>,
+        pool: Pool<'a>,
+        root: PhysAddr,
+        levels: Levels,
+        marks: &mut [bool],
+    ) -> Result<AddressSpace<'a>, Error> {
+        let located = Located { first: memory.first, root, levels: levels as u64 };
+        let (tables, frames) = (&*memory.tables, &*pool.frames);
+        // SAFETY: each pointer and length come from a slice that is borrowed for the call, which only reads tables and frames.
+        result_of(unsafe {
+            library::x64_pool_fits(
+                &located,
+                tables.as_ptr(),
+                tables.len(),
+                frames.as_ptr(),
+                frames.len(),
+                pool.free,
+                marks.as_mut_ptr(),
+                marks.len(),
+            )
+        })?;
+        Ok(AddressSpace { memory, pool, located })
+    }
+
+    /// Returns the hierarchy, to be read.
+    pub fn hierarchy(&self) -> Hierarchy<'_> {
+        Hierarchy::of(self.memory.tables, self.located)
+    }
+
+    /// Returns the tables.
+    pub fn tables(&self) -> &[Table] {
+        self.memory.tables
+    }
+
+    /// Returns the free frames. The last one is handed out first.
+    pub fn free_frames(&self) -> &[PhysAddr] {
+        &self.pool.frames[..self.pool.free]
+    }
+
+    /// Maps a page to a frame. `parent_flags` are added to the entries above the page, mostly `PRESENT` and `WRITABLE`. Each missing table
+    /// takes a frame of the pool.
+    ///
+    /// # Errors
+    ///
+    /// `NotAllowed`, `FrameAllocationFailed`, `ParentEntryHugePage`, `PageAlreadyMapped`, `BadPage`, `BadFrame`. After the second to the
+    /// fourth, entries above the page may have got parent flags, and tables may have been made.
+    pub fn map_to(&mut self, page: Page, frame: PhysAddr, flags: Flags, parent_flags: Flags) -> Result<(), Error> {
+        let request = library::MapRequest { page, frame, flags, parent_flags };
+        let (tables, pool) = (&mut *self.memory.tables, &mut self.pool);
+        // SAFETY: the slices are borrowed for the call, and the pool fits: `new` tested it, and each call keeps it.
+        result_of(unsafe {
+            library::x64_map(
+                &self.located,
+                tables.as_mut_ptr(),
+                tables.len(),
+                pool.frames.as_mut_ptr(),
+                pool.frames.len(),
+                &mut pool.free,
+                &request,
+            )
+        })
+    }
+
+    /// Unmaps a page, and returns the address of the frame that it was mapped to. No table is freed.
+    ///
+    /// # Errors
+    ///
+    /// `PageNotMapped`, `ParentEntryHugePage`, `InvalidFrameAddress`, `BadPage`.
+    pub fn unmap(&mut self, page: Page) -> Result<PhysAddr, Error> {
+        let (tables, mut frame) = (&mut *self.memory.tables, PhysAddr::new(0));
+        // SAFETY: the slice is borrowed for the call, and the hierarchy is valid: `new` tested it, and each call keeps it.
+        match unsafe { library::x64_unmap(&self.located, tables.as_mut_ptr(), tables.len(), &page, &mut frame) } {
+            library::INVALID_FRAME_ADDRESS => Err(Error::InvalidFrameAddress(frame)),
+            status => result_of(status).map(|()| frame),
+        }
+    }
+
+    /// Sets the flags of a page's entry.
+    ///
+    /// # Errors
+    ///
+    /// `NotAllowed`, `PageNotMapped`, `ParentEntryHugePage`, `BadPage`.
+    pub fn update_flags(&mut self, page: Page, flags: Flags) -> Result<(), Error> {
+        let tables = &mut *self.memory.tables;
+        // SAFETY: as in `unmap`.
+        result_of(unsafe { library::x64_update_flags(&self.located, tables.as_mut_ptr(), tables.len(), &page, flags) })
+    }
+
+    /// Sets the flags of the entry on the way to a page at a level from two up. They apply to all pages below the entry.
+    ///
+    /// # Errors
+    ///
+    /// `NotAllowed`, `PageNotMapped`, `ParentEntryHugePage`, `BadLevels`, `BadPage`.
+    pub fn set_table_flags(&mut self, page: Page, level: u64, flags: Flags) -> Result<(), Error> {
+        let tables = &mut *self.memory.tables;
+        // SAFETY: as in `unmap`.
+        result_of(unsafe { library::x64_set_table_flags(&self.located, tables.as_mut_ptr(), tables.len(), &page, level, flags) })
+    }
+
+    /// Frees the empty tables on the way to pages of 4 KiB, from the page that starts at `first` to the one that starts at `last`, and then
+    /// those that became empty by this. Their frames go to the pool, with all words 0.
+    ///
+    /// # Errors
+    ///
+    /// `BadPage`.
+    pub fn clean_up(&mut self, first: VirtAddr, last: VirtAddr) -> Result<(), Error> {
+        let (tables, pool) = (&mut *self.memory.tables, &mut self.pool);
+        // SAFETY: as in `map_to`.
+        result_of(unsafe {
+            library::x64_clean_up(
+                &self.located,
+                tables.as_mut_ptr(),
+                tables.len(),
+                pool.frames.as_mut_ptr(),
+                pool.frames.len(),
+                &mut pool.free,
+                first,
+                last,
+            )
+        })
+    }
+
+    /// Returns what an address is mapped to, or `None` if it isn't mapped. An entry of level one counts even without `PRESENT`, if it is
+    /// used.
+    ///
+    /// # Errors
+    ///
+    /// `BadAddress`.
+    pub fn translate(&self, address: VirtAddr) -> Result<Option<Translation>, Error> {
+        let (tables, mut found) = (self.tables(), library::Translation::default());
+        // SAFETY: the slice is borrowed for the call, which only reads it, and the hierarchy is valid, as in `unmap`.
+        match unsafe { library::x64_translate(&self.located, tables.as_ptr(), tables.len(), address, &mut found) } {
+            library::NOT_MAPPED => Ok(None),
+            status => result_of(status).map(|()| {
+                let library::Translation { frame, size, offset, flags } = found;
+                Some(Translation { frame, size: PageSize::of(size), offset, flags })
+            }),
+        }
+    }
+
+    /// Returns the physical address that an address is mapped to, or `None` if it isn't mapped.
+    ///
+    /// # Errors
+    ///
+    /// `BadAddress`.
+    pub fn translate_addr(&self, address: VirtAddr) -> Result<Option<PhysAddr>, Error> {
+        Ok(self.translate(address)?.map(|found| PhysAddr::new(found.frame.as_u64() + found.offset)))
+    }
+
+    /// Returns where a page walk from an address arrives; see [`Hierarchy::page_walk`].
+    ///
+    /// # Errors
+    ///
+    /// `BadAddress`.
+    pub fn page_walk(&self, address: VirtAddr) -> Result<Option<Walked>, Error> {
+        self.hierarchy().page_walk(address)
+    }
+
+    /// Returns where an access arrives, or the fault that it ends in. An access that arrives sets `ACCESSED` in each entry on its way, and
+    /// a write `DIRTY` in the page's, as a processor does.
+    ///
+    /// # Errors
+    ///
+    /// `BadAddress`, `BadAccess`.
+    pub fn access_and_mark(
+        &mut self,
+        address: VirtAddr,
+        access: Access,
+        controls: &Controls,
+    ) -> Result<Result<PhysAddr, Fault>, Error> {
+        let (tables, mut outcome) = (&mut *self.memory.tables, library::Outcome::default());
+        // SAFETY: the slice is borrowed for the call. Marks keep the hierarchy valid and the pool fitting, which is proved.
+        let status = unsafe {
+            library::x64_access(
+                &self.located,
+                tables.as_mut_ptr(),
+                tables.len(),
+                &controls.passed(),
+                &access.at(address, true),
+                &mut outcome,
+            )
+        };
+        outcome_of(status, &outcome)
+    }
+
+    /// Returns all pages that a processor can reach, in ascending order of addresses.
+    pub fn mappings(&self) -> Mappings<'_> {
+        self.hierarchy().mappings()
+    }
+
+    /// Returns runs of pages that follow each other with the same rights.
+    pub fn regions(&self) -> Regions<'_> {
+        self.hierarchy().regions()
+    }
+}

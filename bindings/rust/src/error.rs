@@ -1,0 +1,67 @@
+//! Why a call is refused.
+
+use crate::addresses::PhysAddr;
+use core::fmt;
+
+/// Why a call is refused. Unless its description says otherwise, it has changed nothing then.
+#[derive(Clone, Copy, Debug, PartialEq, Eq)]
+#[non_exhaustive]
+pub enum Error {
+    /// The hierarchy isn't valid, or the pool doesn't fit it.
+    NotValid,
+    /// These flags may not be set there.
+    NotAllowed,
+    /// A table is missing, and the pool is empty.
+    FrameAllocationFailed,
+    /// An entry above the page maps a larger page.
+    ParentEntryHugePage,
+    /// The page's entry isn't 0.
+    PageAlreadyMapped,
+    /// The page, or the entry, isn't there.
+    PageNotMapped,
+    /// The entry's address, which is given, isn't a multiple of the page's size.
+    InvalidFrameAddress(PhysAddr),
+    /// There is no such level.
+    BadLevels,
+    /// The root isn't the address of a frame that has one of the tables.
+    BadRoot,
+    /// The pool has no room for its free frames, or there are too few marks.
+    BadArray,
+    /// The address isn't canonical.
+    BadAddress,
+    /// The page's start isn't canonical, or no multiple of its size.
+    BadPage,
+    /// The frame's start is no multiple of the page's size below 2^52.
+    BadFrame,
+    /// The number of bits of physical addresses isn't from 32 to 52.
+    BadAccess,
+    /// The library returned a status that this package doesn't know.
+    Unknown(u32),
+}
+
+impl fmt::Display for Error {
+    fn fmt(&self, f: &mut fmt::Formatter<'_>) -> fmt::Result {
+        let text = match self {
+            Error::NotValid => "the hierarchy isn't valid, or the pool doesn't fit it",
+            Error::NotAllowed => "these flags may not be set there",
+            Error::FrameAllocationFailed => "a table is missing, and the pool is empty",
+            Error::ParentEntryHugePage => "an entry above the page maps a larger page",
+            Error::PageAlreadyMapped => "the page's entry is used already",
+            Error::PageNotMapped => "the page isn't mapped",
+            Error::InvalidFrameAddress(address) => {
+                return write!(f, "the entry's address {address:#x} isn't a multiple of the page's size");
+            }
+            Error::BadLevels => "there is no such level",
+            Error::BadRoot => "the root isn't the frame of one of the tables",
+            Error::BadArray => "the pool has no room for its free frames, or there are too few marks",
+            Error::BadAddress => "the address isn't canonical",
+            Error::BadPage => "the page's start isn't canonical, or no multiple of its size",
+            Error::BadFrame => "the frame's start is no multiple of the page's size below 2^52",
+            Error::BadAccess => "there aren't 32 to 52 bits of physical addresses",
+            Error::Unknown(status) => return write!(f, "the library returned the unknown status {status}"),
+        };
+        f.write_str(text)
+    }
+}
+
+impl core::error::Error for Error {}

@@ -1,0 +1,161 @@
+//! The functions of the library, as `include/x86_64_paging.h` declares them. An array of `n` elements is a pointer and a length.
+
+use crate::addresses::{PhysAddr, VirtAddr};
+use crate::error::Error;
+use crate::flags::Flags;
+use crate::page::{Page, Table};
+
+#[derive(Clone, Copy)]
+#[repr(C)]
+pub struct Located {
+    pub first: u64,
+    pub root: PhysAddr,
+    pub levels: u64,
+}
+
+#[derive(Clone, Copy, Default)]
+#[repr(C)]
+pub struct Walked {
+    pub address: PhysAddr,
+    pub write: bool,
+    pub user: bool,
+}
+
+#[derive(Clone, Copy, Default)]
+#[repr(C)]
+pub struct Translation {
+    pub frame: PhysAddr,
+    pub size: u64,
+    pub offset: u64,
+    pub flags: Flags,
+}
+
+#[derive(Clone, Copy, Default)]
+#[repr(C)]
+pub struct Mapping {
+    pub start: VirtAddr,
+    pub size: u64,
+    pub frame: PhysAddr,
+    pub flags: Flags,
+    pub write: bool,
+    pub user: bool,
+    pub execute: bool,
+}
+
+#[repr(C)]
+pub struct MapRequest {
+    pub page: Page,
+    pub frame: PhysAddr,
+    pub flags: Flags,
+    pub parent_flags: Flags,
+}
+
+#[repr(C)]
+pub struct AccessRequest {
+    pub address: VirtAddr,
+    pub kind: u32,
+    pub user: bool,
+    pub mark: bool,
+}
+
+#[repr(C)]
+pub struct Controls {
+    pub write_protect: bool,
+    pub no_execute: bool,
+    pub smep: bool,
+    pub smap: bool,
+    pub ac: bool,
+    pub physical_bits: u8,
+}
+
+#[derive(Default)]
+#[repr(C)]
+pub struct Outcome {
+    pub address: PhysAddr,
+    pub code: u64,
+    pub level: u64,
+}
+
+unsafe extern "C" {
+    pub fn x64_page_walk(located: &Located, tables: *const Table, n: usize, address: VirtAddr, walked: &mut Walked) -> u32;
+    pub fn x64_translate(located: &Located, tables: *const Table, n: usize, address: VirtAddr, found: &mut Translation) -> u32;
+    pub fn x64_mappings(
+        located: &Located,
+        tables: *const Table,
+        n: usize,
+        from: VirtAddr,
+        mappings: *mut Mapping,
+        capacity: usize,
+        count: &mut usize,
+        next: &mut VirtAddr,
+    ) -> u32;
+    pub fn x64_access(
+        located: &Located,
+        tables: *mut Table,
+        n: usize,
+        controls: &Controls,
+        request: &AccessRequest,
+        outcome: &mut Outcome,
+    ) -> u32;
+    pub fn x64_is_valid(located: &Located, tables: *const Table, n: usize, marks: *mut bool, mark_count: usize) -> u32;
+    pub fn x64_pool_fits(
+        located: &Located,
+        tables: *const Table,
+        n: usize,
+        pool: *const PhysAddr,
+        capacity: usize,
+        free: usize,
+        marks: *mut bool,
+        mark_count: usize,
+    ) -> u32;
+    pub fn x64_map(
+        located: &Located,
+        tables: *mut Table,
+        n: usize,
+        pool: *mut PhysAddr,
+        capacity: usize,
+        free: &mut usize,
+        request: &MapRequest,
+    ) -> u32;
+    pub fn x64_unmap(located: &Located, tables: *mut Table, n: usize, page: &Page, frame: &mut PhysAddr) -> u32;
+    pub fn x64_update_flags(located: &Located, tables: *mut Table, n: usize, page: &Page, flags: Flags) -> u32;
+    pub fn x64_set_table_flags(located: &Located, tables: *mut Table, n: usize, page: &Page, level: u64, flags: Flags) -> u32;
+    pub fn x64_clean_up(
+        located: &Located,
+        tables: *mut Table,
+        n: usize,
+        pool: *mut PhysAddr,
+        capacity: usize,
+        free: &mut usize,
+        first_page: VirtAddr,
+        last_page: VirtAddr,
+    ) -> u32;
+}
+
+pub const NOT_MAPPED: u32 = 1;
+pub const MORE: u32 = 2;
+pub const NOT_VALID: u32 = 3;
+pub const INVALID_FRAME_ADDRESS: u32 = 9;
+pub const PAGE_FAULT: u32 = 10;
+pub const NO_TABLE: u32 = 11;
+
+/// Returns what a status says of a call.
+pub fn result_of(status: u32) -> Result<(), Error> {
+    Err(match status {
+        0 => return Ok(()),
+        NOT_VALID => Error::NotValid,
+        4 => Error::NotAllowed,
+        5 => Error::FrameAllocationFailed,
+        6 => Error::ParentEntryHugePage,
+        7 => Error::PageAlreadyMapped,
+        8 => Error::PageNotMapped,
+        16 => Error::BadLevels,
+        17 => Error::BadRoot,
+        18 => Error::BadArray,
+        19 => Error::BadAddress,
+        20 => Error::BadPage,
+        21 => Error::BadFrame,
+        22 => Error::BadAccess,
+        other => Error::Unknown(other),
+    })
+}
