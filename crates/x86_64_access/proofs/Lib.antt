@@ -3,3 +3,5 @@ mod Agreement
 mod Marks
 mod MarkedHierarchies
 mod MarkedCaches
+mod MarkingProcessors
+mod RightsTable

@@ -16,7 +16,7 @@ use Rattle.x86_64_access.proofs.Marks.{same_address, same_has}
 
 -- ---- entries
 
-same_used : (e g : ℕ) → GetsMarks e g → used g ≡ used e
+pub same_used : (e g : ℕ) → GetsMarks e g → used g ≡ used e
 same_used e g (inl same) = ap used same
 same_used e g (inr (here, bits, marks, is)) =
     used_present g (same_has e g 0x1 (inr (here, bits, marks, is)) refl ∙ here) ∙ sym (used_present e here)
@@ -24,7 +24,7 @@ same_used e g (inr (here, bits, marks, is)) =
 same_names : (e g : ℕ) → GetsMarks e g → names_table g ≡ names_table e
 same_names e g gets = ap₂ (λ u h. u && not h) (same_used e g gets) (same_has e g 0x80 gets refl)
 
-same_table_of : (L : ℕ) (q : List ℕ) (e g : ℕ) → GetsMarks e g → table_of L q g ≡ table_of L q e
+pub same_table_of : (L : ℕ) (q : List ℕ) (e g : ℕ) → GetsMarks e g → table_of L q g ≡ table_of L q e
 unfolding table_of
 same_table_of L q e g gets = ap₂ (λ b x. cond (b && nat_lt (length q) L) (Some x) None) (same_names e g gets) (same_address e g gets)
 
@@ -77,7 +77,7 @@ module _ (T U : Words) (only : OnlyMarks T U) where
 
 -- ---- the recursive index
 
-outside_marked : (window : Option Window) (root : ℕ) (T U : Words) → OnlyMarks T U
+pub outside_marked : (window : Option Window) (root : ℕ) (T U : Words) → OnlyMarks T U
     → OnlyMarks (outside_window window root T) (outside_window (window_in U root window) root U)
 outside_marked None root T U only = only
 outside_marked (Some w) root T U only = record {
@@ -97,7 +97,7 @@ outside_marked (Some w) root T U only = record {
     at g j (inl one) (inl two) = subst₂ (λ x y. GetsMarks (word (set_word T root w.index 0) x y) (word (set_word U root w.index 0) x y)) (sym one) (sym two)
         (inl (word_unset U root w.index ∙ sym (word_unset T root w.index)))
 
-self_still : (window : Option Window) (root : ℕ) (T U : Words) → OnlyMarks T U → SelfEntry T root window → SelfEntry U root (window_in U root window)
+pub self_still : (window : Option Window) (root : ℕ) (T U : Words) → OnlyMarks T U → SelfEntry T root window → SelfEntry U root (window_in U root window)
 self_still None root T U only self = tt
 self_still (Some w) root T U only self =
     let gets : GetsMarks (word T root w.index) (word U root w.index) = only.words root w.index in

@@ -3,6 +3,8 @@ pub mod Codes
 pub mod Accesses
 pub mod Laws
 pub mod Marks
+pub mod MarkingProcessors
+pub mod RightsTable
 pub mod private
 pub use Rattle.x86_64_model.specs.PageWalk
 pub use Rattle.x86_64_model.specs.Mappings

@@ -1,5 +1,7 @@
 //! Laws of accesses: how they agree with page walks.
+ghost use Rattle.x86_64_access.specs.MarkingProcessors.{FlushesAreEnoughWithMarks, MarksMayHappen};
 ghost use Rattle.x86_64_access.specs.Marks.{AccessesLeaveMarks, AccessesStay, CachesStay, FitsStay, WalksStay};
+ghost use Rattle.x86_64_access.specs.RightsTable.{CodesAreListed, RightsAreListed};
 ghost use Rattle.x86_64_access.specs.Laws.{ArriveWhereWalksDo, WalksAllowedArrive};
 
 /// An access that arrives does so where the page walk does.
@@ -40,4 +42,26 @@ pub fn marks_keep_hierarchies()
 /// Marks change nothing of what a processor may cache.
 pub fn marks_keep_caches()
     ensures { CachesStay }
+{}
+
+/// What has to be flushed after each call is enough for a processor that marks, too, at every moment, also during calls.
+pub fn flushes_are_enough_with_marks()
+    ensures { FlushesAreEnoughWithMarks }
+{}
+
+/// If all calls are done, any marks may happen, and then all calls are done.
+pub fn marks_may_happen()
+    ensures { MarksMayHappen }
+{}
+
+/// An access is allowed where the table of rights says so, which was made of the manual's sentences.
+#[tactic(auto, using(crate::proofs::RightsTable::rights_are_listed))]
+pub fn allowed_accesses_are_listed()
+    ensures { RightsAreListed }
+{}
+
+/// An error code is that of the table of codes, which was made of the manual's sentences.
+#[tactic(auto, using(crate::proofs::RightsTable::codes_are_listed))]
+pub fn error_codes_are_listed()
+    ensures { CodesAreListed }
 {}

@@ -1,0 +1,88 @@
+-- A processor that sets ACCESSED and DIRTY, and caches, while a kernel makes calls and flushes: what has to be flushed suffices.
+use Rattle.std.specs.Prelude.{◌≡◌, ◌⊎◌, ◌<◌, ℕ, Bool, false, List, [], ◌∷◌, Some, IsSome}
+use Rattle.x86_64_model.specs.Arrivals.{KeepsArrival}
+use Rattle.x86_64_model.specs.Caches.{Way, MayAccess, MayRead, walk, walked_in}
+use Rattle.x86_64_model.specs.Flushing.{Due, Event, HasZeros, IsDone, MayHappen, System, TablesDue, after_event, concerns, fresh}
+use Rattle.x86_64_model.specs.Hierarchy.{paths_of}
+use Rattle.x86_64_model.specs.Laws.Caches.{WalksThere}
+use Rattle.x86_64_model.specs.Laws.Steps.{FitsState}
+use Rattle.x86_64_model.specs.Lists.{In}
+use Rattle.x86_64_model.specs.Machine.{IsMachine, Machine, State}
+use Rattle.x86_64_model.specs.Memory.{Words}
+use Rattle.x86_64_model.specs.PageWalk.{page_walk}
+use Rattle.x86_64_model.specs.PathMap.{HasUsedAlone, PathMap, entry}
+use Rattle.x86_64_model.specs.Pool.{IsTable}
+use Rattle.x86_64_model.specs.Window.{outside_window}
+use Rattle.x86_64_access.specs.Marks.{GetsMarks, OnlyMarks, window_in}
+
+-- ---- a kernel and a processor
+
+-- Marks come at any moment, also during a call: present words, however many, get ACCESSED, DIRTY or both. The other events are calls,
+-- writes, flushes and changes of the caches.
+pub data MarkingEvent : Type 0 where
+  Marks : (called : PathMap) → (words : Words) → MarkingEvent
+  Other : Event → MarkingEvent
+
+-- The machine whose self-entry is the root's word at the recursive index, which gets marks, too.
+abbrev pub machine_in : Words → (root : ℕ) → Machine → Machine
+machine_in T root m = record { levels = m.levels; window = window_in T root m.window; added_flags = m.added_flags; take_back = m.take_back }
+
+-- The path map of words.
+abbrev pub held_by : Machine → (root : ℕ) → Words → PathMap
+held_by m root T = paths_of m.levels (outside_window m.window root T) root
+
+-- After marks memory holds the path map of its words, and the calls so far lead to another path map than before.
+abbrev pub after_marking : Machine → (root : ℕ) → System → MarkingEvent → System
+after_marking m root s (Marks called U) = record { state = record { paths = called; pool = s.state.pool }; paths = held_by m root U; words = U; cache = s.cache; due = s.due }
+after_marking m root s (Other e) = after_event (machine_in s.words root m) s e
+
+-- Which marks last after the call under way is left open: those of words that it doesn't change, or reads later. If it has read a word
+-- before the mark and writes it later, the mark is lost.
+pub record MayMark (s : System) (called : PathMap) (U : Words) : Type 0 where
+  pub words : OnlyMarks s.words U
+  pub paths : (q : List ℕ) → GetsMarks (entry s.state.paths q) (entry called q)
+  pub used_alone : HasUsedAlone called
+
+abbrev pub MarkingMayHappen : Machine → (root : ℕ) → System → MarkingEvent → Type 0
+MarkingMayHappen m root s (Marks called U) = MayMark s called U
+MarkingMayHappen m root s (Other e) = MayHappen (machine_in s.words root m) root s e
+
+-- A list of events, in order.
+abbrev pub AllMarkingMayHappen : Machine → (root : ℕ) → System → List MarkingEvent → Type 0
+AllMarkingMayHappen m root s [] = Unit {0}
+AllMarkingMayHappen m root s (e ∷ es) = MarkingMayHappen m root s e × AllMarkingMayHappen m root (after_marking m root s e) es
+
+abbrev pub after_all_marking : Machine → (root : ℕ) → System → List MarkingEvent → System
+after_all_marking m root s [] = s
+after_all_marking m root s (e ∷ es) = after_all_marking m root (after_marking m root s e) es
+
+-- The system that a list of events leads to, from empty caches on.
+pub record IsReached (m : Machine) (root : ℕ) (T : Words) (s : State) (events : List MarkingEvent) (now : System) : Type 0 where
+  pub machine : IsMachine m
+  pub levels : 0 < m.levels
+  pub happen : AllMarkingMayHappen m root (fresh s T) events
+  pub ends : after_all_marking m root (fresh s T) events ≡ now
+
+-- ---- laws
+
+-- What holds at a moment. Each access at a position (the number of an address counted without the gap) goes with the page walk in the
+-- present words, if nothing that is due concerns the position. So the page walk arrives at the same address, with no right less. And the
+-- processor reads only words of tables of the hierarchy, and until a clean up is flushed words 0 of frames that it freed.
+pub record IsCovered (m : Machine) (root : ℕ) (now : System) : Type 0 where
+  pub goes : (p : ℕ) → ((due : Due) → In now.due due → concerns m.levels m.window due p ≡ false)
+      → (w : Way) → MayAccess m.levels root now.words now.cache p w → WalksThere (walk m.levels now.words root p) w
+  pub arrives : (p : ℕ) → ((due : Due) → In now.due due → concerns m.levels m.window due p ≡ false)
+      → (w : Way) → MayAccess m.levels root now.words now.cache p w → KeepsArrival (Some (walked_in m.levels p w)) (page_walk m.levels now.words root p)
+  pub reads : (t : Way) → MayRead root now.cache t
+      → (IsTable m.levels root now.paths t.frame × IsSome (now.words t.frame)) ⊎ (In now.due TablesDue × In now.state.pool t.frame × HasZeros now.words t.frame)
+
+-- What has to be flushed after each call is enough for a processor that marks, at every moment, also during calls.
+abbrev pub FlushesAreEnoughWithMarks : Type 0
+FlushesAreEnoughWithMarks = (m : Machine) (root : ℕ) (T : Words) (serves : ℕ → Bool) (s : State) → FitsState m T root serves s
+    → (events : List MarkingEvent) (now : System) → IsReached m root T s events now → IsCovered m root now
+
+-- If all calls are done, any marks may happen, such as those of an access, and then all calls are done.
+abbrev pub MarksMayHappen : Type 0
+MarksMayHappen = (m : Machine) (root : ℕ) (T : Words) (serves : ℕ → Bool) (s : State) → FitsState m T root serves s
+    → (events : List MarkingEvent) (now : System) → IsReached m root T s events now → IsDone now → (U : Words) → OnlyMarks now.words U
+    → let marks = Marks (held_by m root U) U in MarkingMayHappen m root now marks × IsDone (after_marking m root now marks)
