@@ -4,6 +4,7 @@
 //! no state and takes no memory. The header is `include/x86_64_paging.h`.
 #![tactic(auto)]
 
+mod accesses;
 mod changes;
 mod given;
 mod listing;
