@@ -1,6 +1,7 @@
 pub mod Status
 pub mod Given
 pub mod Reads
+pub mod Validity
 pub mod Listing
 pub mod Accesses
 pub mod Calls
