@@ -312,8 +312,8 @@ uint32_t x64_pool_fits(const x64_hierarchy *hierarchy, const x64_table *tables, 
  * If request->mark is set and the access arrives, each entry that was read gets X64_ACCESSED, and
  * that of the page X64_DIRTY for a write. Otherwise no table changes.
  *
- * It is proved that the status, *outcome and the tables are those of this access in the model
- * (crates/x86_64_model/specs/Access.antt), whatever words the tables hold.
+ * It is proved that the status, *outcome and every word of the tables are those that the model of a
+ * processor's access defines (crates/x86_64_model/specs/Access.antt), whatever the tables held.
  *
  * Condition: pointers only. The tables may hold anything.
  *

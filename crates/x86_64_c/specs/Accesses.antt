@@ -1,9 +1,9 @@
 -- What an access is asked for, and what comes of it.
-use Rattle.std.specs.Prelude.{◌≡◌, ℕ, ◌==◌, ◌&&◌, nat_le, nat_lt, Bool, cond, Option}
+use Rattle.std.specs.Prelude.{◌≡◌, ℕ, ◌==◌, ◌&&◌, nat_le, nat_lt, Bool, cond, List, Option}
 use Rattle.std.specs.Option.{option_or}
 use Rattle.x86_64_model.specs.Access as model
 use Rattle.x86_64_model.specs.Access.{Access, Kind, Read, Write, Fetch, Arrives, Faults, NoMemory}
-use Rattle.x86_64_model.specs.Mapper.{Hierarchy, words}
+use Rattle.x86_64_model.specs.Mapper.{Hierarchy, PoolFits, words}
 use Rattle.x86_64_model.specs.Memory.{Memory}
 use Rattle.x86_64_c.specs.Given.{unless, bad_hierarchy, bad_address, position_of}
 use Rattle.x86_64_c.specs.Status as status
@@ -72,3 +72,7 @@ memory_after h c request = memory_at h c (position_of h.layout.levels request.ad
 -- The outcome of a request was written, and the status is that of the outcome.
 abbrev pub Tells : model.Outcome → (status : ℕ) → (after : Outcome) → Type 0
 Tells outcome s after = (s ≡ outcome_status outcome) × (after ≡ written outcome)
+
+-- Each pool that fitted the hierarchy still fits it. So if it was valid, it still is: the empty pool fits.
+abbrev pub StillFits : (before after : Hierarchy (Unit {0})) → Type 0
+StillFits before after = (serves : ℕ → Bool) (pool : List ℕ) → PoolFits before serves pool → PoolFits after serves pool

@@ -11,6 +11,7 @@ use crate::status;
 use bitflags::Flags;
 use x86_64::structures::paging::PageTable;
 use x86_64::{FiveLevels, FourLevels, LentMemory, LevelCount, PhysAddr, TableMemory, VirtAddrIn};
+use x86_64_access::laws::{accesses_leave_only_marks, marks_keep_hierarchies};
 use x86_64_access::{Access, AccessKind, Fault, access, access_and_mark};
 
 /// A read.
@@ -68,8 +69,9 @@ pub struct Outcome {
 
 /// Does what a processor does with an access, whatever words the tables hold.
 ///
-/// Writes what comes of it, and sets `ACCESSED` and `DIRTY` if this is asked for and the access arrives. Returns `OK`, `PAGE_FAULT`,
-/// `NO_TABLE` if the table in a frame on the way isn't in the array, or what is wrong with an argument; then nothing changes.
+/// Writes what comes of it, and sets `ACCESSED` and `DIRTY` if this is asked for and the access arrives. A valid hierarchy stays valid,
+/// and a pool that fits it still fits. Returns `OK`, `PAGE_FAULT`, `NO_TABLE` if the table in a frame on the way isn't in the array, or
+/// what is wrong with an argument; then nothing changes.
 #[unsafe(no_mangle)]
 pub extern "C" fn x64_access(
     hierarchy: &Hierarchy,
@@ -78,15 +80,16 @@ pub extern "C" fn x64_access(
     request: &AccessRequest,
     outcome: &mut Outcome,
 ) -> u32
-    ensures bad { (status : ℕ) →
-        accesses.bad_call hierarchy.now (length tables.old) controls.now request.now ≡ Some status →
-        (result ≡ status) × (tables.new ≡ tables.old) × (outcome.new ≡ outcome.old) }
+    ensures bad { (status : ℕ) → accesses.bad_call hierarchy.now (length tables.old) controls.now request.now
+        ≡ Some status → (result ≡ status) × (tables.new ≡ tables.old) × (outcome.new ≡ outcome.old) }
     ensures told { accesses.bad_call hierarchy.now (length tables.old) controls.now request.now ≡ None
         → accesses.Tells (accesses.outcome_of (given.hierarchy_in hierarchy.now tables.old) controls.now
         request.now) result outcome.new }
     ensures marks { accesses.bad_call hierarchy.now (length tables.old) controls.now request.now ≡ None
         → numbered tables.new ≡ accesses.memory_after (given.hierarchy_in hierarchy.now tables.old)
         controls.now request.now }
+    ensures keeps { accesses.StillFits (given.hierarchy_in hierarchy.now tables.old)
+        (given.hierarchy_in hierarchy.now tables.new) }
 {
     let located = match locate(hierarchy, tables.len()) {
         Ok(located) => located,
@@ -144,6 +147,8 @@ fn access_in<L: LevelCount, T: TableMemory>(
     ensures marks { given.bad_address L.LEVELS request.now.address ≡ None
         → T.tables memory.new ≡ accesses.memory_after (given.at L.LEVELS located (T.tables memory.old))
         controls.now request.now }
+    ensures keeps { accesses.StillFits (given.at L.LEVELS located (T.tables memory.old))
+        (given.at L.LEVELS located (T.tables memory.new)) }
     ensures lent { T.lent memory.new ≡ T.lent memory.old }
 {
     let Some(address) = VirtAddrIn::<L>::checked_new(request.address) else {
@@ -168,8 +173,12 @@ fn access_at<L: LevelCount, T: TableMemory>(
     ensures marks { T.tables memory.new ≡ accesses.memory_at
         (given.at L.LEVELS located (T.tables memory.old)) controls.now address (memory_unit.access_of asked)
         mark }
+    ensures keeps { accesses.StillFits (given.at L.LEVELS located (T.tables memory.old))
+        (given.at L.LEVELS located (T.tables memory.new)) }
     ensures lent { T.lent memory.new ≡ T.lent memory.old }
 {
+    accesses_leave_only_marks();
+    marks_keep_hierarchies();
     let controls = controls_of(controls);
     if mark {
         access_and_mark(
