@@ -3,8 +3,8 @@
  *
  * The library reads and changes page tables of four or five levels, as a processor in 64-bit mode
  * uses them. It maps, unmaps and translates pages of 4 KiB, 2 MiB and 1 GiB, lists what is mapped,
- * and frees empty tables. Each call is passed the tables as an array: a kernel's own, those of a
- * guest, or a copy of either.
+ * frees empty tables, and does what a processor does with an access. Each call is passed the tables
+ * as an array: a kernel's own, those of a guest, or a copy of either.
  *
  * The library keeps no state and allocates nothing. It calls memcpy and memset of the C library
  * and nothing else, and uses SSE registers. It is written in Rattle, which is Rust with contracts,
@@ -90,7 +90,8 @@ extern "C" {
  *
  * X64_BAD_LEVELS and the statuses after it say that an argument is wrong; nothing has changed.
  * Arguments are checked before anything else: first the levels and the root of the hierarchy, then
- * arrays, then a level, then addresses, pages and frames in the order in which they are passed.
+ * arrays, then a level or the kind of an access with the number of bits of physical addresses, then
+ * addresses, pages and frames in the order in which they are passed.
  */
 enum {
     X64_OK = 0,                      /* the call was done */
@@ -103,13 +104,16 @@ enum {
     X64_PAGE_ALREADY_MAPPED = 7,     /* the page's entry isn't 0 */
     X64_PAGE_NOT_MAPPED = 8,         /* the page, or the entry, isn't there */
     X64_INVALID_FRAME_ADDRESS = 9,   /* the entry's address isn't a multiple of the page's size */
+    X64_PAGE_FAULT = 10,             /* the access ends in a page fault */
+    X64_NO_TABLE = 11,               /* the access needs a table that isn't in the array */
 
     X64_BAD_LEVELS = 16,  /* the number of levels isn't 4 or 5, or there is no such level */
     X64_BAD_ROOT = 17,    /* the root isn't the address of a frame in the array of tables */
     X64_BAD_ARRAY = 18,   /* the pool has no room for its free frames, or marks are too few */
     X64_BAD_ADDRESS = 19, /* an address isn't canonical */
     X64_BAD_PAGE = 20,    /* the size isn't one of the three, or the start no canonical multiple */
-    X64_BAD_FRAME = 21    /* the frame isn't a multiple of the page's size below 2^52 */
+    X64_BAD_FRAME = 21,   /* the frame isn't a multiple of the page's size below 2^52 */
+    X64_BAD_ACCESS = 22   /* the kind isn't one of the three, or physical_bits isn't 32 to 52 */
 };
 
 /*
@@ -133,6 +137,11 @@ enum {
 #define X64_SIZE_4KIB UINT64_C(0x1000)
 #define X64_SIZE_2MIB UINT64_C(0x200000)
 #define X64_SIZE_1GIB UINT64_C(0x40000000)
+
+/* The kinds of accesses. */
+#define X64_READ 0
+#define X64_WRITE 1
+#define X64_FETCH 2 /* of an instruction */
 
 /* A page table: 512 entries, each a word of an address and flags. An entry is unused if it is 0. */
 typedef struct x64_table {
@@ -185,6 +194,31 @@ typedef struct x64_map_request {
     uint64_t flags;        /* for its entry; X64_HUGE_PAGE is added for 2 MiB and 1 GiB */
     uint64_t parent_flags; /* added to each entry above it: mostly X64_PRESENT | X64_WRITABLE */
 } x64_map_request;
+
+/* What a processor is set to, as far as it decides accesses. */
+typedef struct x64_controls {
+    bool write_protect;    /* CR0.WP: a supervisor can't write to pages without X64_WRITABLE */
+    bool no_execute;       /* EFER.NXE: X64_NO_EXECUTE forbids fetches. Else that bit is reserved */
+    bool smep;             /* CR4.SMEP: a supervisor can't fetch from user pages */
+    bool smap;             /* CR4.SMAP: a supervisor can't read or write user pages, but with ac */
+    bool ac;               /* EFLAGS.AC */
+    uint8_t physical_bits; /* MAXPHYADDR: 32 to 52. Higher address bits of entries are reserved */
+} x64_controls;
+
+/* An access. */
+typedef struct x64_access_request {
+    uint64_t address; /* the virtual address */
+    uint32_t kind;    /* X64_READ, X64_WRITE or X64_FETCH */
+    bool user;        /* made at privilege level 3. All others are a supervisor's */
+    bool mark;        /* set X64_ACCESSED and X64_DIRTY as the processor does */
+} x64_access_request;
+
+/* What comes of an access. A field that the status doesn't name here is 0. */
+typedef struct x64_outcome {
+    uint64_t address; /* X64_OK: the physical address; X64_NO_TABLE: that of the frame */
+    uint64_t code;    /* X64_PAGE_FAULT: the error code */
+    uint64_t level;   /* X64_PAGE_FAULT: the level of the last entry that was read */
+} x64_outcome;
 
 /*
  * CALLS THAT READ
@@ -264,6 +298,36 @@ uint32_t x64_pool_fits(const x64_hierarchy *hierarchy, const x64_table *tables, 
  * Each may also return X64_BAD_LEVELS or X64_BAD_ROOT. Words change only in the root, in the tables
  * below it and, if x64_map makes new tables, in frames that it takes from the pool.
  */
+
+/*
+ * Does what a processor does with a read, a write or a fetch at an address, and writes to *outcome
+ * what comes of it. From the root down, each entry that is read is looked at in this order: without
+ * X64_PRESENT the access faults; with a reserved bit it faults; and at the page it faults if the
+ * rights that all entries grant don't suffice. Reserved are bits 13 to 29 of a page of 1 GiB, bits
+ * 13 to 20 of one of 2 MiB, X64_HUGE_PAGE above level 3, and what the fields of x64_controls say.
+ * The error code has bit 0 if the entry has X64_PRESENT, bit 1 for a write, bit 2 for a user, bit 3
+ * for a reserved bit, and bit 4 for a fetch if no_execute or smep is on. Protection keys and shadow
+ * stacks are left out.
+ *
+ * If request->mark is set and the access arrives, each entry that was read gets X64_ACCESSED, and
+ * that of the page X64_DIRTY for a write. Otherwise no table changes.
+ *
+ * It is proved that the status, *outcome and every word of the tables are those that the model of a
+ * processor's access defines (crates/x86_64_model/specs/Access.antt), whatever the tables held.
+ *
+ * Condition: pointers only. The tables may hold anything.
+ *
+ * Returns X64_OK if the access arrives, or one of these. The first two write *outcome, too:
+ *   X64_PAGE_FAULT   if it faults
+ *   X64_NO_TABLE     if the table in a frame on the way isn't in the array; a processor would read
+ *                    on there
+ *   X64_BAD_ACCESS   if the kind isn't one of the three, or physical_bits isn't 32 to 52; this is
+ *                    checked before the address
+ *   X64_BAD_ADDRESS
+ */
+uint32_t x64_access(const x64_hierarchy *hierarchy, x64_table *tables, size_t table_count,
+                    const x64_controls *controls, const x64_access_request *request,
+                    x64_outcome *outcome);
 
 /*
  * Maps a page to a frame. From the root down, request->parent_flags are added to each entry above

@@ -57,6 +57,26 @@ static void walk(void) {
     }
 }
 
+static void access_pages(void) {
+    const x64_controls controls = {.write_protect = true, .no_execute = true, .smep = true, .smap = true, .physical_bits = 48};
+    for (uint64_t n = 0; n < PAGES; n++) {
+        x64_access_request request = {.address = n * X64_SIZE_4KIB + 8, .kind = X64_READ};
+        x64_outcome outcome;
+        check(x64_access(&hierarchy, tables, TABLES, &controls, &request, &outcome));
+        check(outcome.address == n * X64_SIZE_4KIB + 8 ? X64_OK : X64_NOT_MAPPED);
+    }
+}
+
+static void write_pages(void) {
+    const x64_controls controls = {.write_protect = true, .no_execute = true, .smep = true, .smap = true, .physical_bits = 48};
+    for (uint64_t n = 0; n < PAGES; n++) {
+        x64_access_request request = {.address = n * X64_SIZE_4KIB + 8, .kind = X64_WRITE, .mark = true};
+        x64_outcome outcome;
+        check(x64_access(&hierarchy, tables, TABLES, &controls, &request, &outcome));
+        check(outcome.address == n * X64_SIZE_4KIB + 8 ? X64_OK : X64_NOT_MAPPED);
+    }
+}
+
 static void list(void) {
     static x64_mapping mappings[PAGES];
     size_t count;
@@ -77,7 +97,8 @@ static void unmap(void) {
 static const struct {
     const char *name;
     void (*calls)(void);
-} operations[] = {{"map", map}, {"translate", translate}, {"walk", walk}, {"list", list}, {"unmap", unmap}};
+} operations[] = {{"map", map}, {"translate", translate}, {"walk", walk}, {"access", access_pages},
+    {"marking write", write_pages}, {"list", list}, {"unmap", unmap}};
 
 enum { OPERATIONS = sizeof operations / sizeof *operations };
 

@@ -12,7 +12,7 @@
 
 #include "x86_64_paging.h"
 
-enum { TABLES = 16, ROOM = 12, FREE = 3, LISTED = 8, MAPPED = 6, SETTINGS = 6, STATUSES = 22 };
+enum { TABLES = 16, ROOM = 12, FREE = 3, LISTED = 8, MAPPED = 6, SETTINGS = 7, STATUSES = 23 };
 
 /* Addresses that aren't canonical: the first with four levels, the second with five, too. */
 #define NOT_CANONICAL_4 UINT64_C(0x800000000000)
@@ -30,8 +30,11 @@ struct arguments {
     uint64_t mark_count, null_marks;
     uint64_t list_capacity, null_list;
     uint64_t address, start, size, frame, flags, parent_flags, level, first_page, last_page;
+    uint64_t kind, user, mark, write_protect, no_execute, smep, smap, ac, physical_bits;
     /* before the call the word at an index of a table gets these flags and the address of the table with a number */
     uint64_t word_table, word_index, word_flags, word_names;
+    /* whether all used words get USER_ACCESSIBLE before the call */
+    uint64_t user_pages;
     /* before the call the first free frame of the pool becomes the table with a number, plus an offset; or the frame 0 */
     uint64_t pool_table, pool_offset, pool_zero;
 };
@@ -72,6 +75,7 @@ struct world {
     size_t count;
     uint64_t next;
     uint64_t frame;
+    x64_outcome outcome;
 };
 
 static _Alignas(4096) struct world world, before;
@@ -117,6 +121,7 @@ enum function {
     MAPPINGS,
     IS_VALID,
     POOL_FITS,
+    ACCESS,
     MAP,
     UNMAP,
     UPDATE_FLAGS,
@@ -126,7 +131,7 @@ enum function {
 };
 
 static const char *const names[FUNCTIONS] = {
-    "x64_page_walk", "x64_translate", "x64_mappings",     "x64_is_valid",        "x64_pool_fits",
+    "x64_page_walk", "x64_translate", "x64_mappings",     "x64_is_valid",        "x64_pool_fits", "x64_access",
     "x64_map",       "x64_unmap",     "x64_update_flags", "x64_set_table_flags", "x64_clean_up",
 };
 
@@ -147,6 +152,12 @@ static struct arguments usual(uint64_t levels) {
         .parent_flags = 0x3,
         .level = 4,
         .last_page = LAST_PAGE,
+        .kind = X64_READ,
+        .write_protect = 1,
+        .no_execute = 1,
+        .smep = 1,
+        .smap = 1,
+        .physical_bits = 48,
     };
 }
 
@@ -160,6 +171,9 @@ static uint32_t call(enum function function, const struct arguments *a) {
     x64_mapping *list = a->null_list ? NULL : world.mappings;
     x64_page page = {.start = a->start, .size = a->size};
     x64_map_request request = {.page = page, .frame = a->frame, .flags = a->flags, .parent_flags = a->parent_flags};
+    x64_controls controls = {.write_protect = a->write_protect, .no_execute = a->no_execute, .smep = a->smep, .smap = a->smap,
+        .ac = a->ac, .physical_bits = (uint8_t)a->physical_bits};
+    x64_access_request access = {.address = a->address, .kind = (uint32_t)a->kind, .user = a->user, .mark = a->mark};
     size_t n = a->table_count;
     switch (function) {
     case PAGE_WALK:
@@ -172,6 +186,8 @@ static uint32_t call(enum function function, const struct arguments *a) {
         return x64_is_valid(h, tables, n, marks, a->mark_count);
     case POOL_FITS:
         return x64_pool_fits(h, tables, n, pool, a->capacity, a->free_count, marks, a->mark_count);
+    case ACCESS:
+        return x64_access(h, tables, n, &controls, &access, &world.outcome);
     case MAP:
         return x64_map(h, tables, n, pool, a->capacity, &world.free_count, &request);
     case UNMAP:
@@ -205,7 +221,7 @@ static const struct row every[] = {
     ROW("no tables", X64_BAD_ROOT, SET(table_count, 0)),
     ROW("no tables, and null", X64_BAD_ROOT, SET(table_count, 0), SET(null_tables, 1)),
     ROW("a bad root before all others", X64_BAD_ROOT, SET(root_offset, 8), SET(capacity, 0), SET(mark_count, 0),
-        SET(address, NOT_CANONICAL), SET(size, 0), SET(first_page, 1)),
+        SET(address, NOT_CANONICAL), SET(size, 0), SET(first_page, 1), SET(kind, 3)),
 };
 
 static const struct row page_walk[] = {
@@ -300,6 +316,66 @@ static const struct row pool_fits[] = {
     ROW("a free frame with high bits", X64_NOT_VALID, SET(pool_table, 10), SET(pool_offset, UINT64_C(1) << 52)),
     ROW("frame 0", X64_NOT_VALID, SET(pool_zero, 1)),
     ROW("more free frames than room", X64_BAD_ARRAY, SET(capacity, FREE - 1)),
+};
+
+/* The physical address or that of a frame, the error code, the level, and the table with the word that gets DIRTY. */
+static const struct row access_rows[] = {
+    WRITES("a read of 4 KiB", X64_OK, OUT(0x5abc, 0, 0, 0), SET(address, 0x1abc)),
+    WRITES("a write", X64_OK, OUT(0x5abc, 0, 0, 0), SET(address, 0x1abc), SET(kind, X64_WRITE)),
+    WRITES("a fetch", X64_OK, OUT(0x5abc, 0, 0, 0), SET(address, 0x1abc), SET(kind, X64_FETCH)),
+    WRITES("2 MiB with PAT", X64_OK, OUT(0x600123, 0, 0, 0), SET(address, 0x400123)),
+    {"a read leaves marks", X64_OK, {SET(address, 0x1abc), SET(mark, 1)}, 3, 1, 0, {0x5abc}},
+    {"a fetch leaves marks", X64_OK, {SET(address, 0x1abc), SET(mark, 1), SET(kind, X64_FETCH)}, 3, 1, 0, {0x5abc}},
+    {"a write leaves marks", X64_OK, {SET(address, 0x1abc), SET(mark, 1), SET(kind, X64_WRITE)}, 3, 1, 0, {0x5abc, 0, 0, 5}},
+    {"a write to 2 MiB", X64_OK, {SET(address, 0x234567), SET(mark, 1), SET(kind, X64_WRITE)}, 2, 1, 0, {0x434567, 0, 0, 4}},
+    {"a write to 1 GiB", X64_OK, {SET(address, 0x40123456), SET(mark, 1), SET(kind, X64_WRITE)}, 1, 1, 0, {0x80123456, 0, 0, 3}},
+    {"a page that is marked", X64_OK, {SET(address, 0x9000), SET(mark, 1), SET(kind, X64_WRITE), SET(word_table, 5),
+        SET(word_index, 9), SET(word_flags, 0x9063)}, 2, 1, 0, {0x9000}},
+    WRITES("no PRESENT", X64_PAGE_FAULT, OUT(0, 0, 1, 0), SET(address, 0x2000)),
+    WRITES("a fault leaves no marks", X64_PAGE_FAULT, OUT(0, 2, 1, 0), SET(address, 0x2000), SET(mark, 1), SET(kind, X64_WRITE)),
+    WRITES("no PRESENT above", X64_PAGE_FAULT, OUT(0, 6, 2, 0), SET(address, 0x800000), SET(kind, X64_WRITE), SET(user, 1)),
+    WRITES("no tables there", X64_PAGE_FAULT, OUT(0, 16, 4, 0), SET(address, MISSING), SET(kind, X64_FETCH)),
+    WRITES("a user reads a supervisor's page", X64_PAGE_FAULT, OUT(0, 5, 1, 0), SET(address, 0x1000), SET(user, 1)),
+    WRITES("a user reads", X64_OK, OUT(0x5000, 0, 0, 0), SET(address, 0x1000), SET(user, 1), SET(user_pages, 1)),
+    WRITES("a supervisor reads a user's page", X64_PAGE_FAULT, OUT(0, 1, 1, 0), SET(address, 0x1000), SET(user_pages, 1)),
+    WRITES("the same with AC", X64_OK, OUT(0x5000, 0, 0, 0), SET(address, 0x1000), SET(user_pages, 1), SET(ac, 1)),
+    WRITES("the same without SMAP", X64_OK, OUT(0x5000, 0, 0, 0), SET(address, 0x1000), SET(user_pages, 1), SET(smap, 0)),
+    WRITES("a supervisor fetches from a user's page", X64_PAGE_FAULT, OUT(0, 17, 1, 0), SET(address, 0x1000), SET(user_pages, 1),
+        SET(kind, X64_FETCH)),
+    WRITES("the same without SMEP", X64_OK, OUT(0x5000, 0, 0, 0), SET(address, 0x1000), SET(user_pages, 1), SET(kind, X64_FETCH),
+        SET(smep, 0)),
+    WRITES("a fetch that the code doesn't tell", X64_PAGE_FAULT, OUT(0, 5, 1, 0), SET(address, 0x1000), SET(user, 1),
+        SET(kind, X64_FETCH), SET(smep, 0), SET(no_execute, 0)),
+    WRITES("a write without WRITABLE above", X64_PAGE_FAULT, OUT(0, 3, 1, 0), SET(address, 0x1000), SET(kind, X64_WRITE),
+        SET(word_table, 4), SET(word_flags, 0x1), SET(word_names, 5)),
+    WRITES("the same without WP", X64_OK, OUT(0x5000, 0, 0, 0), SET(address, 0x1000), SET(kind, X64_WRITE), SET(word_table, 4),
+        SET(word_flags, 0x1), SET(word_names, 5), SET(write_protect, 0)),
+    WRITES("a fetch with NO_EXECUTE", X64_PAGE_FAULT, OUT(0, 17, 1, 0), SET(address, 0x9000), SET(kind, X64_FETCH),
+        SET(word_table, 5), SET(word_index, 9), SET(word_flags, UINT64_C(0x8000000000009003))),
+    WRITES("NO_EXECUTE is reserved", X64_PAGE_FAULT, OUT(0, 9, 1, 0), SET(address, 0x9000), SET(no_execute, 0),
+        SET(word_table, 5), SET(word_index, 9), SET(word_flags, UINT64_C(0x8000000000009003))),
+    WRITES("a reserved bit of 2 MiB", X64_PAGE_FAULT, OUT(0, 9, 2, 0), SET(address, 0x1200000), SET(word_table, 4),
+        SET(word_index, 9), SET(word_flags, 0x602083)),
+    WRITES("HUGE_PAGE at level four", X64_PAGE_FAULT, OUT(0, 9, 4, 0), SET(word_table, 1), SET(word_flags, 0x83), SET(only, 4)),
+    WRITES("HUGE_PAGE at level five", X64_PAGE_FAULT, OUT(0, 9, 5, 0), SET(word_table, 1), SET(word_flags, 0x83), SET(only, 5)),
+    WRITES("an address of 49 bits", X64_PAGE_FAULT, OUT(0, 9, 1, 0), SET(address, 0x9000), SET(word_table, 5), SET(word_index, 9),
+        SET(word_flags, UINT64_C(0x1000000000003))),
+    WRITES("the same with 49 bits", X64_OK, OUT(UINT64_C(0x1000000000000), 0, 0, 0), SET(address, 0x9000), SET(physical_bits, 49),
+        SET(word_table, 5), SET(word_index, 9), SET(word_flags, UINT64_C(0x1000000000003))),
+    WRITES("all 52 bits", X64_OK, OUT(UINT64_C(0xffffffffff123), 0, 0, 0), SET(address, 0x9123), SET(physical_bits, 52),
+        SET(word_table, 5), SET(word_index, 9), SET(word_flags, UINT64_C(0xffffffffff003))),
+    WRITES("32 bits are enough", X64_OK, OUT(0x5000, 0, 0, 0), SET(address, 0x1000), SET(physical_bits, 32)),
+    WRITES("a table beyond the array", X64_NO_TABLE, OUT(0x7fff000, 0, 0, 0), SET(address, 0x1200000), SET(word_table, 4),
+        SET(word_index, 9), SET(word_flags, 0x7fff003), SET(mark, 1)),
+    ROW("no such kind", X64_BAD_ACCESS, SET(kind, 3)),
+    ROW("the greatest kind", X64_BAD_ACCESS, SET(kind, UINT32_MAX)),
+    ROW("too few bits", X64_BAD_ACCESS, SET(physical_bits, 31)),
+    ROW("too many bits", X64_BAD_ACCESS, SET(physical_bits, 53)),
+    ROW("a bad kind before a bad address", X64_BAD_ACCESS, SET(kind, 3), SET(address, NOT_CANONICAL)),
+    ROW("bad bits before a bad address", X64_BAD_ACCESS, SET(physical_bits, 0), SET(address, NOT_CANONICAL)),
+    ROW("not canonical", X64_BAD_ADDRESS, SET(address, NOT_CANONICAL), SET(mark, 1)),
+    ROW("not canonical with four levels", X64_BAD_ADDRESS, SET(address, NOT_CANONICAL_4), SET(only, 4)),
+    WRITES("canonical with five levels", X64_PAGE_FAULT, OUT(0, 0, 4, 0), SET(address, NOT_CANONICAL_4), SET(only, 5)),
 };
 
 static const struct row map[] = {
@@ -448,6 +524,10 @@ static void fail(enum function function, const struct row *row, uint64_t levels,
 static void prepare(const struct arguments *a) {
     if (a->word_table != 0)
         world.tables[a->word_table].words[a->word_index] = (a->word_names != 0 ? table(a->word_names) : 0) | a->word_flags;
+    for (size_t n = 1; n < 6 && a->user_pages; n++)
+        for (size_t index = 0; index < 512; index++)
+            if (world.tables[n].words[index] != 0)
+                world.tables[n].words[index] |= X64_USER_ACCESSIBLE;
     if (a->pool_table != 0)
         world.pool[0] = table(a->pool_table) + a->pool_offset;
     if (a->pool_zero)
@@ -462,6 +542,23 @@ static size_t changed_words(void) {
         for (size_t index = 0; index < 512; index++)
             count += world.tables[n].words[index] != before.tables[n].words[index];
     return count;
+}
+
+/* the table with the word that got X64_DIRTY, 0 if there is none */
+static size_t dirty_table;
+
+/* Checks that an access set nothing but X64_ACCESSED, and X64_DIRTY in one word, and finds its table. */
+static void check_marks(const struct row *row, uint64_t levels) {
+    dirty_table = 0;
+    for (size_t n = 0; n < TABLES; n++)
+        for (size_t index = 0; index < 512; index++) {
+            uint64_t set = world.tables[n].words[index] ^ before.tables[n].words[index];
+            if ((set & ~(X64_ACCESSED | X64_DIRTY)) != 0 || (set & before.tables[n].words[index]) != 0 ||
+                ((set & X64_DIRTY) != 0 && dirty_table != 0))
+                fail(ACCESS, row, levels, "bits 0x%" PRIx64 " of a word changed", set, 0);
+            if ((set & X64_DIRTY) != 0)
+                dirty_table = n;
+        }
 }
 
 /* Reads what a call wrote through its out parameters, as a row has it, and puts back what was there before. */
@@ -484,6 +581,10 @@ static void read_out(enum function function, uint64_t out[4]) {
         memcpy(world.mappings, before.mappings, world.count * sizeof *world.mappings);
         world.count = before.count;
         break;
+    case ACCESS:
+        out[0] = world.outcome.address, out[1] = world.outcome.code, out[2] = world.outcome.level, out[3] = dirty_table;
+        world.outcome = before.outcome;
+        break;
     case UNMAP:
         out[0] = world.frame;
         world.frame = before.frame;
@@ -495,12 +596,13 @@ static void read_out(enum function function, uint64_t out[4]) {
 
 /* Whether a call with this status writes through out parameters. */
 static bool writes(uint32_t status) {
-    return status == X64_OK || status == X64_MORE || status == X64_INVALID_FRAME_ADDRESS;
+    return status == X64_OK || status == X64_MORE || status == X64_INVALID_FRAME_ADDRESS || status == X64_PAGE_FAULT ||
+           status == X64_NO_TABLE;
 }
 
 /* Makes the call of a row. */
 static uint32_t call_row(enum function function, const struct arguments *a) {
-    if (function > POOL_FITS)
+    if (function > ACCESS || (function == ACCESS && a->mark))
         return call(function, a);
     if (mprotect(world.tables, sizeof world.tables, PROT_READ) != 0)
         abort();
@@ -572,6 +674,8 @@ static void try_row(enum function function, const struct row *row, uint64_t leve
     size_t words = row->words + row->words_above * (levels - 3);
     if (changed_words() != words)
         fail(function, row, levels, "%" PRIu64 " words changed, and not %" PRIu64, changed_words(), words);
+    if (function == ACCESS)
+        check_marks(row, levels);
     if (words != 0)
         memcpy(world.tables, before.tables, sizeof world.tables);
     check_pool(function, row, levels);
@@ -628,6 +732,7 @@ int main(void) {
     TRY(IS_VALID, is_valid);
     TRY(POOL_FITS, is_valid);
     TRY(POOL_FITS, pool_fits);
+    TRY(ACCESS, access_rows);
     TRY(MAP, map);
     TRY(UNMAP, unmap);
     TRY(UPDATE_FLAGS, update_flags);
@@ -640,6 +745,7 @@ int main(void) {
         [MAPPINGS] = {X64_MORE, X64_BAD_ADDRESS},
         [IS_VALID] = {X64_NOT_VALID, X64_BAD_ARRAY},
         [POOL_FITS] = {X64_NOT_VALID, X64_BAD_ARRAY},
+        [ACCESS] = {X64_PAGE_FAULT, X64_NO_TABLE, X64_BAD_ACCESS, X64_BAD_ADDRESS},
         [MAP] = {X64_NOT_ALLOWED, X64_FRAME_ALLOCATION_FAILED, X64_PARENT_ENTRY_HUGE_PAGE, X64_PAGE_ALREADY_MAPPED,
                  X64_BAD_ARRAY, X64_BAD_PAGE, X64_BAD_FRAME},
         [UNMAP] = {X64_PARENT_ENTRY_HUGE_PAGE, X64_PAGE_NOT_MAPPED, X64_INVALID_FRAME_ADDRESS, X64_BAD_PAGE},

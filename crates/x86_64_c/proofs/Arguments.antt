@@ -4,10 +4,13 @@ use Rattle.std.specs.FinMap.{len}
 use Rattle.std.specs.Option.{option_or}
 use Rattle.x86_64_tables.specs.LentMemory.{numbered, tables_in_order}
 use Rattle.x86_64_tables.proofs.NumberedTables.{in_order-numbered, len-numbered}
+use Rattle.x86_64_c.specs.Accesses.{bad_access, bad_call}
 use Rattle.x86_64_c.specs.Calls.{bad_on_page, bad_on_table, is_table_level}
 use Rattle.x86_64_c.specs.Given.{bad_hierarchy, bad_address, bad_page, bad_read, unless}
 use Rattle.x86_64_c.specs.PoolCalls.{bad_pool}
 use Rattle.x86_64_c.specs.Status.{bad_levels, bad_array}
+use Rattle.x86_64_c.specs.declared.accesses.AccessRequest.{AccessRequest}
+use Rattle.x86_64_c.specs.declared.accesses.Controls.{Controls}
 use Rattle.x86_64_c.specs.declared.given.Hierarchy.{Hierarchy}
 use Rattle.x86_64_c.specs.declared.given.Page.{Page}
 
@@ -24,6 +27,12 @@ else_five levels which other = ⊎_elim (λ four. absurd (other four)) (λ five.
 -- for a call that reads at an address, where the hierarchy has L levels
 pub reads_at : (h : Hierarchy) (n a L : ℕ) → bad_hierarchy h n ≡ None → h.levels ≡ L → bad_read h n a ≡ bad_address L a
 reads_at h n a L good levels = ap (λ o. option_or o (bad_address h.levels a)) good ∙ ap (λ l. bad_address l a) levels
+
+-- for an access
+pub access_at : (h : Hierarchy) (n : ℕ) (c : Controls) (request : AccessRequest) (L : ℕ) → bad_hierarchy h n ≡ None → bad_access c request ≡ None → h.levels ≡ L → bad_call h n c request ≡ bad_address L request.address
+access_at h n c request L good right levels =
+    ap (λ o. option_or o (option_or (bad_access c request) (bad_address h.levels request.address))) good
+    ∙ ap (λ o. option_or o (bad_address h.levels request.address)) right ∙ ap (λ l. bad_address l request.address) levels
 
 -- for a call on a page
 pub page_at : (h : Hierarchy) (n : ℕ) (page : Page) (L : ℕ) → bad_hierarchy h n ≡ None → h.levels ≡ L → bad_on_page h n page ≡ bad_page L page

@@ -1,5 +1,6 @@
 pub mod Arguments
 pub mod EntryChanges
 pub mod Located
+pub mod Marked
 pub mod LentRuns
 pub mod Filling

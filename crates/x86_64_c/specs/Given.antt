@@ -65,10 +65,6 @@ abbrev pub bad_fit : Hierarchy → (count capacity free marks : ℕ) → Option 
 bad_fit h count capacity free marks =
     option_or (bad_hierarchy h count) (unless (nat_le free capacity && nat_le count marks) status.bad_array)
 
--- The status of a test.
-abbrev pub test_status : (passed : Bool) → ℕ
-test_status passed = cond passed status.ok status.not_valid
-
 -- The position of an address: its lowest 48 bits with four levels, its lowest 57 with five.
 abbrev pub position_of : (L address : ℕ) → ℕ
 position_of L a = a % position_count L

@@ -1,7 +1,9 @@
 pub mod Status
 pub mod Given
 pub mod Reads
+pub mod Validity
 pub mod Listing
+pub mod Accesses
 pub mod Calls
 pub mod PoolCalls
 pub use Rattle.x86_64_model.specs.Mapper

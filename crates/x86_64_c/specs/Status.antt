@@ -35,6 +35,13 @@ page_not_mapped = 8
 abbrev pub invalid_frame_address : ℕ
 invalid_frame_address = 9
 
+abbrev pub page_fault : ℕ
+page_fault = 10
+
+-- A table on the way isn't in the array.
+abbrev pub no_table : ℕ
+no_table = 11
+
 abbrev pub bad_levels : ℕ
 bad_levels = 16
 
@@ -52,3 +59,7 @@ bad_page = 20
 
 abbrev pub bad_frame : ℕ
 bad_frame = 21
+
+-- The kind of an access, or the number of bits of physical addresses.
+abbrev pub bad_access : ℕ
+bad_access = 22

@@ -4,10 +4,11 @@
 //! no state and takes no memory. The header is `include/x86_64_paging.h`.
 #![tactic(auto)]
 
+mod accesses;
 mod changes;
 mod given;
 mod listing;
+mod reads;
 mod runs;
 mod status;
-mod tests;
-mod walk;
+mod validity;

@@ -39,6 +39,12 @@ pub const PAGE_NOT_MAPPED: u32 = 8;
 /// The page's entry names an address that isn't a multiple of the page's size.
 pub const INVALID_FRAME_ADDRESS: u32 = 9;
 
+/// The access ends in a page fault.
+pub const PAGE_FAULT: u32 = 10;
+
+/// The access needs the table in a frame that has none in the array.
+pub const NO_TABLE: u32 = 11;
+
 /// There are neither four nor five levels, or no such level of tables.
 pub const BAD_LEVELS: u32 = 16;
 
@@ -56,6 +62,9 @@ pub const BAD_PAGE: u32 = 20;
 
 /// The frame's start isn't below 2^52 or no multiple of the size.
 pub const BAD_FRAME: u32 = 21;
+
+/// The kind of the access isn't one of the three, or the number of bits of physical addresses isn't from 32 to 52.
+pub const BAD_ACCESS: u32 = 22;
 
 /// Returns the status of a refused change of flags.
 pub fn flags_status(error: FlagUpdateError) -> u32

@@ -1,4 +1,4 @@
-//! Where addresses are mapped to.
+//! Calls that read at an address: the page walk, and the translation.
 ghost use Rattle.std.specs.Prelude.{◌≡◌, ℕ, length, Some, None};
 ghost use Rattle.x86_64_c.specs.Given as given;
 ghost use Rattle.x86_64_c.specs.Reads as reads;

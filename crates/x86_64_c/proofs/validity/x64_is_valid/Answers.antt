@@ -2,10 +2,10 @@ use Rattle.std.proofs.Common.{sym, ap, subst, ◌∙◌, length, arith}
 use Rattle.std.specs.FinMap.{len}
 use Rattle.std.proofs.lemmas.List.{length-take-le}
 use Rattle.x86_64_model.specs.Mapper.{Valid}
-use Rattle.x86_64_c.specs.Reads.{TellsWhether}
+use Rattle.x86_64_c.specs.Validity.{TellsWhether}
 use Rattle.x86_64_c.proofs.Arguments.{counted, five}
 use Rattle.x86_64_c.proofs.Located.{located_is}
-use Rattle.x86_64_c.proofs.tests.x64_is_valid.Goals as goal
+use Rattle.x86_64_c.proofs.validity.x64_is_valid.Goals as goal
 
 pub valid-requires : goal.valid-requires
 valid-requires c = length-take-le (length c.args.tables.now) c.args.marks.now (omega (arith, c.if-marks-count.false)) ∙ sym (ap len c.new-memory.ensures.tables ∙ counted c.args.tables.now)

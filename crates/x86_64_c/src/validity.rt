@@ -2,7 +2,7 @@
 ghost use Rattle.std.specs.Prelude.{◌≡◌, ◌↔◌, ℕ, length, reverse, IsTrue, Some, None};
 ghost use Rattle.std.specs.FinMap.{len};
 ghost use Rattle.x86_64_c.specs.Given as given;
-ghost use Rattle.x86_64_c.specs.Reads as reads;
+ghost use Rattle.x86_64_c.specs.Validity as validity;
 ghost use Rattle.x86_64_model.specs.Mapper.{Valid};
 
 use crate::given::{Hierarchy, Located, locate};
@@ -28,7 +28,7 @@ pub extern "C" fn x64_is_valid(
         given.bad_test hierarchy.now (length tables.old) (length marks.old) ≡ Some status →
         (result ≡ status) × (marks.new ≡ marks.old) }
     ensures valid { given.bad_test hierarchy.now (length tables.old) (length marks.old) ≡ None
-        → reads.TellsWhether (Valid (given.hierarchy_in hierarchy.now tables.old)) result }
+        → validity.TellsWhether (Valid (given.hierarchy_in hierarchy.now tables.old)) result }
     ensures tables { tables.new ≡ tables.old }
 {
     let count = tables.len();
@@ -49,7 +49,7 @@ pub extern "C" fn x64_is_valid(
 
 /// Returns the status of a test.
 fn status_of_test(passed: bool) -> u32
-    ensures { result ≡ given.test_status passed }
+    ensures { result ≡ validity.test_status passed }
 {
     if passed {
         status::OK
@@ -76,8 +76,8 @@ pub extern "C" fn x64_pool_fits(
         given.bad_fit hierarchy.now (length tables.old) (length pool.now) free_count (length marks.old)
         ≡ Some status → (result ≡ status) × (marks.new ≡ marks.old) }
     ensures fits { given.bad_fit hierarchy.now (length tables.old) (length pool.now) free_count
-        (length marks.old) ≡ None → reads.TellsWhether
-        (reads.FitsArray (given.hierarchy_in hierarchy.now tables.old) pool.now free_count) result }
+        (length marks.old) ≡ None → validity.TellsWhether
+        (validity.FitsArray (given.hierarchy_in hierarchy.now tables.old) pool.now free_count) result }
     ensures tables { tables.new ≡ tables.old }
 {
     let count = tables.len();
@@ -118,7 +118,7 @@ fn fits<L: LevelCount, T: TableMemory>(
     marks: &mut [bool],
 ) -> bool
     requires { length marks.old ≡ len (T.tables memory.now) }
-    ensures { IsTrue result ↔ reads.FitsRoomFor (given.at L.LEVELS located (T.tables memory.now))
+    ensures { IsTrue result ↔ validity.FitsRoomFor (given.at L.LEVELS located (T.tables memory.now))
         capacity (reverse free.now) }
 {
     pool_fits_by_marks::<L, _, _>(
@@ -134,7 +134,7 @@ fn fits<L: LevelCount, T: TableMemory>(
 /// Tests whether a hierarchy with `L` levels of tables is valid, and returns the status.
 fn valid<L: LevelCount, T: TableMemory>(memory: &T, located: Located, marks: &mut [bool]) -> u32
     requires { length marks.old ≡ len (T.tables memory.now) }
-    ensures { reads.TellsWhether (Valid (given.at L.LEVELS located (T.tables memory.now))) result }
+    ensures { validity.TellsWhether (Valid (given.at L.LEVELS located (T.tables memory.now))) result }
 {
     if is_valid_by_marks::<L, _, _>(memory, &located.mapping, located.root, marks) {
         status::OK

@@ -2,7 +2,7 @@ use Rattle.std.proofs.Common.{sym, ◌∙◌}
 use Rattle.x86_64_c.specs.Reads.{TellsTranslation, translation_of}
 use Rattle.x86_64_c.proofs.Arguments.{five, reads_at}
 use Rattle.x86_64_c.proofs.Located.{given, valid}
-use Rattle.x86_64_c.proofs.walk.x64_translate.Goals as goal
+use Rattle.x86_64_c.proofs.reads.x64_translate.Goals as goal
 
 pub returns-clause-told : goal.returns-clause-told
 returns-clause-told c = λ good.

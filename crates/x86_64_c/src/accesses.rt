@@ -1,0 +1,259 @@
+//! Accesses: what a processor does with a read, a write or an instruction fetch at an address.
+ghost use Rattle.std.specs.Prelude.{◌≡◌, ◌≤◌, ℕ, length, Some, None, IfSome, IfNone};
+ghost use Rattle.x86_64_access.specs.Accesses as memory_unit;
+ghost use Rattle.x86_64_c.specs.Accesses as accesses;
+ghost use Rattle.x86_64_c.specs.Given as given;
+ghost use Rattle.x86_64_c.specs.Status as statuses;
+ghost use Rattle.x86_64_tables.specs.LentMemory.{numbered};
+
+use crate::given::{Hierarchy, Located, locate};
+use crate::status;
+use bitflags::Flags;
+use x86_64::structures::paging::PageTable;
+use x86_64::{FiveLevels, FourLevels, LentMemory, LevelCount, PhysAddr, TableMemory, VirtAddrIn};
+use x86_64_access::laws::{accesses_leave_only_marks, marks_keep_hierarchies};
+use x86_64_access::{Access, AccessKind, Fault, access, access_and_mark};
+
+/// A read.
+pub const READ: u32 = 0;
+
+/// A write.
+pub const WRITE: u32 = 1;
+
+/// A fetch of an instruction.
+pub const FETCH: u32 = 2;
+
+/// What a processor is set to, as far as it decides accesses.
+#[derive(Drop)]
+#[repr(C)]
+pub struct Controls {
+    /// CR0.WP: a supervisor can't write to pages without `WRITABLE`.
+    pub write_protect: bool,
+    /// EFER.NXE: `NO_EXECUTE` forbids fetches. Otherwise that bit is reserved.
+    pub no_execute: bool,
+    /// CR4.SMEP: a supervisor can't fetch instructions from users' pages.
+    pub smep: bool,
+    /// CR4.SMAP: a supervisor can't read or write users' pages, unless `ac` is set.
+    pub smap: bool,
+    /// EFLAGS.AC.
+    pub ac: bool,
+    /// MAXPHYADDR: the number of bits of physical addresses, from 32 to 52.
+    pub physical_bits: u8,
+}
+
+/// An access.
+#[derive(Drop)]
+#[repr(C)]
+pub struct AccessRequest {
+    /// The virtual address.
+    pub address: u64,
+    /// `READ`, `WRITE` or `FETCH`.
+    pub kind: u32,
+    /// Whether it is made at privilege level 3. Otherwise it is a supervisor's.
+    pub user: bool,
+    /// Whether `ACCESSED` and `DIRTY` are set as the processor does, if the access arrives.
+    pub mark: bool,
+}
+
+/// What comes of an access. What a status doesn't name is 0.
+#[derive(Drop)]
+#[repr(C)]
+pub struct Outcome {
+    /// With `OK` the physical address, with `NO_TABLE` that of the frame that has no table.
+    pub address: u64,
+    /// With `PAGE_FAULT` the error code.
+    pub code: u64,
+    /// With `PAGE_FAULT` the level of the last entry that was read.
+    pub level: u64,
+}
+
+/// Does what a processor does with an access, whatever words the tables hold.
+///
+/// Writes what comes of it, and sets `ACCESSED` and `DIRTY` if this is asked for and the access arrives. A valid hierarchy stays valid,
+/// and a pool that fits it still fits. Returns `OK`, `PAGE_FAULT`, `NO_TABLE` if the table in a frame on the way isn't in the array, or
+/// what is wrong with an argument; then nothing changes.
+#[unsafe(no_mangle)]
+pub extern "C" fn x64_access(
+    hierarchy: &Hierarchy,
+    tables: &mut [PageTable],
+    controls: &Controls,
+    request: &AccessRequest,
+    outcome: &mut Outcome,
+) -> u32
+    ensures bad { (status : ℕ) → accesses.bad_call hierarchy.now (length tables.old) controls.now request.now
+        ≡ Some status → (result ≡ status) × (tables.new ≡ tables.old) × (outcome.new ≡ outcome.old) }
+    ensures told { accesses.bad_call hierarchy.now (length tables.old) controls.now request.now ≡ None
+        → accesses.Tells (accesses.outcome_of (given.hierarchy_in hierarchy.now tables.old) controls.now
+        request.now) result outcome.new }
+    ensures marks { accesses.bad_call hierarchy.now (length tables.old) controls.now request.now ≡ None
+        → numbered tables.new ≡ accesses.memory_after (given.hierarchy_in hierarchy.now tables.old)
+        controls.now request.now }
+    ensures keeps { accesses.StillFits (given.hierarchy_in hierarchy.now tables.old)
+        (given.hierarchy_in hierarchy.now tables.new) }
+{
+    let located = match locate(hierarchy, tables.len()) {
+        Ok(located) => located,
+        Err(status) => return status,
+    };
+    let Some(asked) = access_of(controls, request) else {
+        return status::BAD_ACCESS;
+    };
+    let mut memory = LentMemory::new(tables);
+    if hierarchy.levels == 4 {
+        access_in::<FourLevels, _>(&mut memory, located, controls, request, asked, outcome)
+    } else {
+        access_in::<FiveLevels, _>(&mut memory, located, controls, request, asked, outcome)
+    }
+}
+
+/// Returns the access of a request to a processor, if its kind and the number of physical bits are right.
+fn access_of(controls: &Controls, request: &AccessRequest) -> Option<Access>
+    ensures some { IfSome result (λ access. memory_unit.access_of access ≡ accesses.access_of request.now) }
+    ensures good { IfSome result (λ _. accesses.bad_access controls.now request.now ≡ None) }
+    ensures bad { IfNone result (accesses.bad_access controls.now request.now
+        ≡ Some statuses.bad_access) }
+{
+    if controls.physical_bits < 32 || 52 < controls.physical_bits {
+        return None;
+    }
+    let kind = match request.kind {
+        READ => AccessKind::Read,
+        WRITE => AccessKind::Write,
+        FETCH => AccessKind::Fetch,
+        _ => return None,
+    };
+    Some(Access {
+        kind,
+        user: request.user,
+    })
+}
+
+/// Does what a processor does with an access with `L` levels of tables.
+fn access_in<L: LevelCount, T: TableMemory>(
+    memory: &mut T,
+    located: Located,
+    controls: &Controls,
+    request: &AccessRequest,
+    asked: Access,
+    outcome: &mut Outcome,
+) -> u32
+    requires bits { controls.now.physical_bits ≤ 52 }
+    requires asked { memory_unit.access_of asked ≡ accesses.access_of request.now }
+    ensures bad { (status : ℕ) → given.bad_address L.LEVELS request.now.address ≡ Some status
+        → (result ≡ status) × (T.tables memory.new ≡ T.tables memory.old) × (outcome.new ≡ outcome.old) }
+    ensures told { given.bad_address L.LEVELS request.now.address ≡ None
+        → accesses.Tells (accesses.outcome_of (given.at L.LEVELS located (T.tables memory.old)) controls.now
+        request.now) result outcome.new }
+    ensures marks { given.bad_address L.LEVELS request.now.address ≡ None
+        → T.tables memory.new ≡ accesses.memory_after (given.at L.LEVELS located (T.tables memory.old))
+        controls.now request.now }
+    ensures keeps { accesses.StillFits (given.at L.LEVELS located (T.tables memory.old))
+        (given.at L.LEVELS located (T.tables memory.new)) }
+    ensures lent { T.lent memory.new ≡ T.lent memory.old }
+{
+    let Some(address) = VirtAddrIn::<L>::checked_new(request.address) else {
+        return status::BAD_ADDRESS;
+    };
+    let came = access_at(memory, located, controls, address, asked, request.mark);
+    tell(came, outcome)
+}
+
+/// Does what a processor does with an access at an address, and marks the entries if this is asked for.
+fn access_at<L: LevelCount, T: TableMemory>(
+    memory: &mut T,
+    located: Located,
+    controls: &Controls,
+    address: VirtAddrIn<L>,
+    asked: Access,
+    mark: bool,
+) -> Result<PhysAddr, Fault>
+    requires { controls.now.physical_bits ≤ 52 }
+    ensures outcome { memory_unit.outcome_of result ≡ accesses.outcome_at
+        (given.at L.LEVELS located (T.tables memory.old)) controls.now address (memory_unit.access_of asked) }
+    ensures marks { T.tables memory.new ≡ accesses.memory_at
+        (given.at L.LEVELS located (T.tables memory.old)) controls.now address (memory_unit.access_of asked)
+        mark }
+    ensures keeps { accesses.StillFits (given.at L.LEVELS located (T.tables memory.old))
+        (given.at L.LEVELS located (T.tables memory.new)) }
+    ensures lent { T.lent memory.new ≡ T.lent memory.old }
+{
+    accesses_leave_only_marks();
+    marks_keep_hierarchies();
+    let controls = controls_of(controls);
+    if mark {
+        access_and_mark(
+            memory,
+            &located.mapping,
+            located.root,
+            address,
+            asked,
+            &controls,
+        )
+    } else {
+        access(
+            memory,
+            &located.mapping,
+            located.root,
+            address,
+            asked,
+            &controls,
+        )
+    }
+}
+
+/// Returns the controls of a processor.
+fn controls_of(controls: &Controls) -> x86_64_access::Controls
+    ensures { memory_unit.controls_of result ≡ accesses.controls_of controls.now }
+{
+    x86_64_access::Controls {
+        write_protect: controls.write_protect,
+        no_execute: controls.no_execute,
+        smep: controls.smep,
+        smap: controls.smap,
+        ac: controls.ac,
+        physical_bits: controls.physical_bits,
+    }
+}
+
+/// Writes what came of an access, and returns the status.
+fn tell(came: Result<PhysAddr, Fault>, outcome: &mut Outcome) -> u32
+    ensures status { result ≡ accesses.outcome_status (memory_unit.outcome_of came) }
+    ensures outcome { outcome.new ≡ accesses.written (memory_unit.outcome_of came) }
+{
+    match came {
+        Ok(address) => {
+            *outcome = Outcome {
+                address: address.as_u64(),
+                code: 0,
+                level: 0,
+            };
+            status::OK
+        }
+        Err(fault) => tell_fault(fault, outcome),
+    }
+}
+
+/// Writes why an access didn't arrive, and returns the status.
+fn tell_fault(fault: Fault, outcome: &mut Outcome) -> u32
+    ensures status { result ≡ accesses.outcome_status (memory_unit.fault_of fault) }
+    ensures outcome { outcome.new ≡ accesses.written (memory_unit.fault_of fault) }
+{
+    match fault {
+        Fault::PageFault { code, level } => {
+            *outcome = Outcome {
+                address: 0,
+                code: code.bits(),
+                level,
+            };
+            status::PAGE_FAULT
+        }
+        Fault::NoMemory { frame } => {
+            *outcome = Outcome {
+                address: frame.start_address().as_u64(),
+                code: 0,
+                level: 0,
+            };
+            status::NO_TABLE
+        }
+    }
+}
