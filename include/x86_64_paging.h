@@ -7,8 +7,12 @@
  * as an array: a kernel's own, those of a guest, or a copy of either.
  *
  * The library keeps no state and allocates nothing. It calls memcpy and memset of the C library
- * and nothing else, and uses SSE registers. It is written in Rattle, which is Rust with contracts,
- * and each function is proved to meet its contract: what it returns and every word that it writes.
+ * and nothing else, and takes less than 2 KB of stack. It is written in Rattle, which is Rust with
+ * contracts, and each function is proved to meet its contract: what it returns, and what every word
+ * of the tables, of the pool's free frames and of the out parameters is afterwards.
+ *
+ * There are two builds. The one for programs uses SSE registers of an x86-64-v2 processor (SSE4.1).
+ * The one for kernels (tools/c_library --kernel) uses no SSE, x87 or MMX register and no red zone.
  *
  * HOW TABLES, FRAMES AND ADDRESSES GO TOGETHER
  *
@@ -41,7 +45,16 @@
  * 3. The pool fits the hierarchy, which x64_pool_fits tests: the hierarchy is valid, the free
  *    frames are distinct, each is in the array and is neither frame 0, nor the root, nor a table
  *    below it, and the pool's array has room for all frames that it may ever hold: those that are
- *    free, and those of the tables below the root.
+ *    free, and those of the tables below the root. Room for as many frames as there are tables in
+ *    the array is always enough.
+ *
+ * If several hierarchies share an array of tables and a pool, the pool must fit all of them
+ * together: no table of one is free, or a table of another, and the pool's array has room for the
+ * tables below all roots. x64_pool_fits looks at one hierarchy and can't see the others. So give
+ * the pool room for as many frames as there are tables, and make tables by these calls alone.
+ *
+ * Between two calls the caller may put a frame on top of the pool's stack, if it is in the array of
+ * tables, not 0, neither free nor in use as a table, and if there is room; or take the top ones.
  *
  * Conditions 2 and 3 hold again after every call, whatever its status. If only these calls change
  * the tables and the pool, it is enough to test them once. Each call checks its other arguments
@@ -52,17 +65,27 @@
  *
  * TABLES THAT A PROCESSOR USES
  *
- * The library executes no privileged instruction. The caller must flush the TLB: the page after
- * x64_unmap and x64_update_flags; everything after x64_set_table_flags and x64_clean_up, and after
- * x64_map if it may have changed the flags of an entry above the page.
+ * The library executes no privileged instruction. Each processor that uses the root must flush what
+ * it may have cached, before what a call let go is used again:
+ *
+ *   x64_unmap, x64_update_flags  the page (INVLPG of its first address), if the status is X64_OK
+ *   x64_set_table_flags          everything, global pages too, if the status is X64_OK
+ *   x64_clean_up                 tables (any INVLPG, or a load of CR3), before the next x64_map
+ *   x64_map                      nothing; but everything, global pages too, if the parent flags
+ *                                have X64_NO_EXECUTE, also if the call was refused, but not by
+ *                                X64_NOT_ALLOWED or an X64_BAD_ status
+ *
+ * A load of CR3 drops no page with X64_GLOBAL. PCIDs are left out: INVLPG and a load of CR3 concern
+ * the current one. It is proved of the model (FlushesAreEnough) that these flushes suffice for a
+ * processor that caches, and marks entries, at any moment.
  *
  * A call assumes that nothing else writes to the tables while it runs. A processor sets ACCESSED
  * and DIRTY in entries that it uses, and such a bit may be lost if it is set while a call writes
  * the same entry.
  *
- * If a processor may walk the tables while x64_map makes new ones, the free frames should hold
- * zeros, because an entry names a new table just before the table is cleared. Frames that
- * x64_clean_up puts back into the pool hold zeros.
+ * x64_map clears a new table before it writes the entry that names it, so a processor that walks
+ * the tables meanwhile finds no old words there. This order is that of the source, which a compiler
+ * may change. Frames that x64_clean_up puts back into the pool hold zeros.
  *
  * WHAT IS NOT PROVED
  *
@@ -227,8 +250,9 @@ typedef struct x64_outcome {
  */
 
 /*
- * Walks the tables for an address as the processor does, and writes to *walked where the walk
- * arrives. It reads raw words. A walk that leads out of the array of tables arrives nowhere.
+ * Walks the tables for an address, and writes to *walked where the walk arrives. It reads raw
+ * words, and looks at no reserved bits: x64_access does. A walk that leads out of the array of
+ * tables arrives nowhere.
  *
  * Condition: pointers only. The tables may hold anything.
  *
@@ -285,8 +309,8 @@ uint32_t x64_is_valid(const x64_hierarchy *hierarchy, const x64_table *tables, s
  *
  * Condition: pointers only. The tables and the pool may hold anything.
  *
- * Returns X64_OK if the pool fits; X64_NOT_VALID; X64_BAD_ARRAY if free_count > capacity or there
- * are too few marks.
+ * Returns X64_OK if the pool fits; X64_NOT_VALID, also if the pool's array is too short for the
+ * frames that may come back; X64_BAD_ARRAY if free_count > capacity or there are too few marks.
  */
 uint32_t x64_pool_fits(const x64_hierarchy *hierarchy, const x64_table *tables, size_t table_count,
                        const uint64_t *pool, size_t capacity, size_t free_count, bool *marks,
@@ -349,8 +373,9 @@ uint32_t x64_access(const x64_hierarchy *hierarchy, x64_table *tables, size_t ta
  *
  * With X64_FRAME_ALLOCATION_FAILED, X64_PARENT_ENTRY_HUGE_PAGE and X64_PAGE_ALREADY_MAPPED the
  * page's entry hasn't changed, but parent flags may have been added to entries above it, and new
- * tables may have been made. These are part of the hierarchy, and x64_clean_up frees them if they
- * are empty.
+ * tables may have been made. With X64_PARENT_ENTRY_HUGE_PAGE the entry of the larger page got the
+ * parent flags, too, so that page may have more rights than before. New tables are part of the
+ * hierarchy, and x64_clean_up frees them if they are empty.
  */
 uint32_t x64_map(const x64_hierarchy *hierarchy, x64_table *tables, size_t table_count,
                  uint64_t *pool, size_t capacity, size_t *free_count,
@@ -396,8 +421,9 @@ uint32_t x64_update_flags(const x64_hierarchy *hierarchy, x64_table *tables, siz
  * Condition: the hierarchy is valid (x64_is_valid).
  *
  * Returns X64_OK or one of these; then nothing has changed:
- *   X64_NOT_ALLOWED              if the flags have any of the bits 12 to 51; if they have
- *                                X64_HUGE_PAGE at level 4 or 5, or would change it at level 3 or 2
+ *   X64_NOT_ALLOWED              if the flags have any of the bits 12 to 51, or X64_HUGE_PAGE at
+ *                                level 4 or 5; or, if nothing below refuses the call, if they would
+ *                                change X64_HUGE_PAGE at level 3 or 2
  *   X64_PARENT_ENTRY_HUGE_PAGE   if the level isn't above that of the page's own entry (1 for
  *                                4 KiB, 2 for 2 MiB, 3 for 1 GiB), or if an entry above the one at
  *                                that level has X64_HUGE_PAGE
