@@ -1,4 +1,6 @@
-/* The bare program lies in memory from 1 MiB on. */
+/*
+ * The bare program lies in memory from 1 MiB on.
+ */
 ENTRY(start)
 SECTIONS
 {

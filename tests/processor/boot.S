@@ -1,4 +1,6 @@
-/* Starts the bare program in 64-bit mode, enters code that makes an access, and takes the exception or interrupt that ends it. */
+/*
+ * Starts the bare program in 64-bit mode, enters code that makes an access, and takes the exception or interrupt that ends it.
+ */
 #include "shared.h"
 
         .section .multiboot, "a"
