@@ -127,11 +127,12 @@ impl Request {
                 return Err(Fault::NoMemory { frame });
             };
             let entry = &table[index_of(position, level)];
+            if entry.maps_page(level) {
+                self.check(level, entry)?;
+                return self.end_at(level, entry, position, rights.below(entry));
+            }
             self.check(level, entry)?;
             rights = rights.below(entry);
-            if entry.maps_page(level) {
-                return self.end_at(level, entry, position, rights);
-            }
             frame = PhysFrame::from_start_address_unchecked(entry.addr());
         }
         Err(Fault::NoMemory { frame })

@@ -37,6 +37,17 @@ returns-in_err-check g c =
     let bad : (present e && not (reserved (controls_of c.args.self.controls) level e)) ≡ false = search rules in
     said ∙ on_fault (controls_of c.args.self.controls) words c.args.position (access_of c.args.self.access) level c.loop-above.frame c.loop-above.rights e low is bad ∙ c.loop-above.invariant
 
+pub returns-in_err-check-2 : goal.returns-in_err-check-2
+returns-in_err-check-2 g c =
+    let words = words_of (g.T.TableMemory.tables c.args.memory.now) (g.P.PageTableFrameMapping.places c.args.mapping.now) in
+    let level = c.args.levels - c.loop-above.above in
+    let e = c.index-entry.result.now in
+    let is : Some e ≡ read words c.loop-above.frame (index level c.args.position) = search rules in
+    let low : 1 ≤ level = omega (arith, c.loop-above-test.true) in
+    let said : outcome_of c.from_residual-in_err-check-2.result ≡ Faults (code (controls_of c.args.self.controls) (access_of c.args.self.access) (present e) (present e)) level = search rules in
+    let bad : (present e && not (reserved (controls_of c.args.self.controls) level e)) ≡ false = search rules in
+    said ∙ on_fault (controls_of c.args.self.controls) words c.args.position (access_of c.args.self.access) level c.loop-above.frame c.loop-above.rights e low is bad ∙ c.loop-above.invariant
+
 pub end_at-requires-clause-high : goal.end_at-requires-clause-high
 end_at-requires-clause-high g c =
     let words = words_of (g.T.TableMemory.tables c.args.memory.now) (g.P.PageTableFrameMapping.places c.args.mapping.now) in
@@ -57,7 +68,7 @@ returns-then-maps_page g c =
     let sound : reserved (controls_of c.args.self.controls) level e ≡ false = search rules in
     let here : present e ≡ true = search rules in
     let low : 1 ≤ level = omega (arith, c.loop-above-test.true) in
-    let same : c.below-rights.result ≡ granted c.loop-above.rights e = search rules in
+    let same : c.below.result ≡ granted c.loop-above.rights e = search rules in
     c.end_at.ensures ∙ ap (λ r. cond (not (allowed (controls_of c.args.self.controls) (access_of c.args.self.access) r))
     (Faults (code (controls_of c.args.self.controls) (access_of c.args.self.access) true false) level) (Arrives (page_start level e + c.args.position % span level))) same
     ∙ on_page (controls_of c.args.self.controls) words c.args.position (access_of c.args.self.access) level c.loop-above.frame c.loop-above.rights e low is here sound page
