@@ -95,26 +95,6 @@ impl Display for Fault {
                 f,
                 "the file has {length} bytes, and an ELF header 64: the file is cut off"
             ),
-            Fault::WrongClass { class } => write!(
-                f,
-                "EI_CLASS at byte 4 is {class}, not 2: the ELF file isn't one of 64 bits"
-            ),
-            Fault::WrongByteOrder { order } => write!(
-                f,
-                "EI_DATA at byte 5 is {order}, not 1: the ELF file isn't little endian"
-            ),
-            Fault::WrongType { file_type } => write!(
-                f,
-                "e_type at byte 16 is {file_type}, not 4: the ELF file is no core file"
-            ),
-            Fault::WrongMachine { machine } => write!(
-                f,
-                "e_machine at byte 18 is {machine}, not 62: the ELF file isn't one of x86-64"
-            ),
-            Fault::WrongEntrySize { size } => write!(
-                f,
-                "e_phentsize at byte 54 is {size}, not 56: the program headers can't be read"
-            ),
             Fault::SectionOutside { offset, length } => write!(
                 f,
                 "e_phnum at byte 56 is 65535, so section header 0 has the count of program headers, but it begins at byte {offset}, and the file has {length} bytes: the file is damaged or cut off"
@@ -135,6 +115,36 @@ impl Display for Fault {
                 f,
                 "QEMU's note at byte {offset} has {size} bytes, and the register ends at its byte {needed}, or the file ends before: give the register's value, or another processor"
             ),
+            _ => self.write_wrong_field(f),
+        }
+    }
+}
+
+impl Fault {
+    /// Writes which field of the ELF header has a value with which the file isn't read. Writes nothing for other faults.
+    fn write_wrong_field<W: Write>(&self, f: &mut Formatter<W>) -> FmtResult {
+        match self {
+            Fault::WrongClass { class } => write!(
+                f,
+                "EI_CLASS at byte 4 is {class}, not 2: the ELF file isn't one of 64 bits"
+            ),
+            Fault::WrongByteOrder { order } => write!(
+                f,
+                "EI_DATA at byte 5 is {order}, not 1: the ELF file isn't little endian"
+            ),
+            Fault::WrongType { file_type } => write!(
+                f,
+                "e_type at byte 16 is {file_type}, not 4: the ELF file is no core file"
+            ),
+            Fault::WrongMachine { machine } => write!(
+                f,
+                "e_machine at byte 18 is {machine}, not 62: the ELF file isn't one of x86-64"
+            ),
+            Fault::WrongEntrySize { size } => write!(
+                f,
+                "e_phentsize at byte 54 is {size}, not 56: the program headers can't be read"
+            ),
+            _ => Ok(()),
         }
     }
 }

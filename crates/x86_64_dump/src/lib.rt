@@ -18,4 +18,4 @@ pub use error::{DumpError, Fault};
 pub use note::Note;
 pub use segment::Segment;
 pub use source::{ByteSource, FileSource};
-pub use tables::{DumpTables, NoProgress, Progress, read_tables};
+pub use tables::{DumpTables, NoProgress, Progress, TablesByLevel, read_tables};

@@ -7,5 +7,5 @@ mod loading;
 mod progress;
 mod words;
 
-pub use dump_tables::{DumpTables, read_tables};
+pub use dump_tables::{DumpTables, TablesByLevel, read_tables};
 pub use progress::{NoProgress, Progress};

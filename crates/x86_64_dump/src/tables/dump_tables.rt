@@ -16,6 +16,9 @@ use x86_64_page::frame::PhysFrame;
 use x86_64_page::page::Size4KiB;
 use x86_64_tables::phys_memory::PhysMemory;
 
+/// The frames of tables by level, level one first.
+pub type TablesByLevel<'a> = &'a [Vec<PhysFrame<Size4KiB>>];
+
 /// The page tables that a root leads to, as far as a dump has them.
 #[derive(Drop)]
 pub struct DumpTables {
@@ -33,7 +36,7 @@ impl DumpTables {
 
     /// Returns the frames of the tables by level, level one first. Those of a level are in the order in which they are found. A
     /// frame may be at several levels.
-    pub fn frames(&self) -> &[Vec<PhysFrame<Size4KiB>>]
+    pub fn frames(&self) -> TablesByLevel<'_>
         ensures { result.now ≡ self.now.frames.items }
     {
         &self.frames

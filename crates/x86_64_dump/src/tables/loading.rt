@@ -10,6 +10,7 @@ ghost use Rattle.x86_64_dump.specs.Loaded.{HoldsTables, MayFail, frames_of, up_t
 ghost use Rattle.x86_64_dump.specs.Tables.{is_among, is_in, AreThere};
 ghost use Rattle.x86_64_dump.specs.private.FrameNumbers.{has_number, AreNumbers, HoldsFor};
 
+use crate::tables::dump_tables::TablesByLevel;
 use crate::tables::progress::Progress;
 use crate::tables::words::table_of;
 use crate::{ByteSource, Dump, DumpError};
@@ -24,7 +25,7 @@ use x86_64_tables::phys_memory::{FramePlace, PhysMemory, PlacesRefusal};
 pub fn read_memory<S: ByteSource, G: Progress>(
     alloc: Global,
     dump: &Dump<S>,
-    frames: &[Vec<PhysFrame<Size4KiB>>],
+    frames: TablesByLevel<'_>,
     progress: &mut G,
 ) -> Result<PhysMemory, DumpError>
     ensures tables { S.IsKnown → IfOk result
@@ -45,7 +46,7 @@ pub fn read_memory<S: ByteSource, G: Progress>(
 }
 
 /// Returns the numbers of the frames, in order and each once.
-fn numbers_of(alloc: Global, frames: &[Vec<PhysFrame<Size4KiB>>]) -> Result<Vec<u64>, AllocError>
+fn numbers_of(alloc: Global, frames: TablesByLevel<'_>) -> Result<Vec<u64>, AllocError>
     ensures numbers { IfOk result (λ numbers. (frame : ℕ) → is_frame frame ≡ true →
         has_number numbers.items frame ≡ is_in (frames_of frames.now) frame) }
     ensures below { IfOk result (λ numbers. AreNumbers numbers.items) }
