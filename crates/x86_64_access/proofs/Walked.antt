@@ -1,5 +1,5 @@
 -- One word of the walk of an access, for code that has the level as a number.
-use Rattle.std.proofs.Common.{zero, suc, ⊎_elim, inl, inr, ◌⊎◌, nat_eq, ◌≡◌, ◌<◌, ◌≤◌, ◌+◌, ◌-◌, ◌%◌, ◌^◌, ℕ, ◌&&◌, Bool, true≢false, true, false, not, ◌||◌, ◌==◌, nat_le, bit_and, cond, List, [], ◌∷◌, map, Some, None, Option, option_map, unwrap_or, refl, sym, ap, ◌∙◌, arith}
+use Rattle.std.proofs.Common.{le-leb, ltb-true, nat_lt, zero, suc, ⊎_elim, inl, inr, ◌⊎◌, nat_eq, ◌≡◌, ◌<◌, ◌≤◌, ◌+◌, ◌-◌, ◌%◌, ◌^◌, ℕ, ◌&&◌, Bool, true≢false, true, false, not, ◌||◌, ◌==◌, nat_le, bit_and, cond, List, [], ◌∷◌, map, Some, None, Option, option_map, unwrap_or, refl, sym, ap, ◌∙◌, arith}
 use Rattle.std.specs.List.{last_or}
 use Rattle.x86_64_model.specs.Entry.{present, writable, user, huge, no_execute, address}
 use Rattle.x86_64_model.specs.Mappings.{Rights, rights_of, maps_page}
@@ -8,11 +8,11 @@ use Rattle.x86_64_model.specs.PageWalk.{read, page_start}
 use Rattle.x86_64_model.specs.Position.{index, span}
 use Rattle.x86_64_model.proofs.Lemmas.Entries.Words.{address_within}
 use Rattle.x86_64_model.specs.Access.{Access, Kind, Controls, set_bits, bits_to_set, marked, Outcome, NoMemory, Step, steps_from, ends_at, ends_by, reads_on, reserved, low_bits, allowed, code, Arrives, Faults, access}
-use Rattle.x86_64_access.specs.private.Walking.{access_on, ArrivesFrom}
+use Rattle.x86_64_access.specs.private.Walking.{access_on, may_read_on, ArrivesFrom}
 use Rattle.x86_64_tables.specs.Rights.{both}
 use Rattle.x86_64_model.specs.Caches.{granted}
 use Rattle.std.proofs.Math.Bool.{and-true, and-false, and_assoc}
-use Rattle.std.proofs.lemmas.Bool.{eqb-true, eqb-false}
+use Rattle.std.proofs.lemmas.Bool.{eqb-true, eqb-false, lt-leb, ltb-false}
 use Rattle.std.specs.List.{list_all}
 
 -- the steps by the word that is read
@@ -220,6 +220,47 @@ or_right true b h = absurd (true≢false h)
 
 pub table_high : (level e : ℕ) → 1 ≤ level → maps_page level e ≡ false → 1 < level
 table_high level e low table = omega (arith, low, eqb-false level 1 (or_left (level == 1) (huge e && ((level == 2) || (level == 3))) table))
+
+-- ---- which words name tables that are read
+
+plain_sound : (p h lt le nx x bad : Bool) → (lt ≡ true → le ≡ false) → (p && (not h && (lt && (nx || not x)))) ≡ true
+    → (p ≡ true) × (((le || (h && bad)) || (x && not nx)) ≡ false)
+plain_sound false h lt le nx x bad f t = absurd (true≢false (sym t))
+plain_sound true true lt le nx x bad f t = absurd (true≢false (sym t))
+plain_sound true false false le nx x bad f t = absurd (true≢false (sym t))
+plain_sound true false true true nx x bad f t = absurd (true≢false (f refl))
+plain_sound true false true false true true bad f t = (refl, refl)
+plain_sound true false true false true false bad f t = (refl, refl)
+plain_sound true false true false false true bad f t = absurd (true≢false (sym t))
+plain_sound true false true false false false bad f t = (refl, refl)
+
+other_bad : (p h lt le nx x high low : Bool) → (lt ≡ false → le ≡ true) → (h ≡ true → high ≡ true) → (p && (not h && (lt && (nx || not x)))) ≡ false
+    → (p && not ((le || (h && (high || low))) || (x && not nx))) ≡ false
+other_bad false h lt le nx x high low f k t = refl
+other_bad true true lt true nx x high low f k t = refl
+other_bad true true lt false nx x true low f k t = refl
+other_bad true true lt false nx x false low f k t = absurd (true≢false (sym (k refl)))
+other_bad true false false true nx x high low f k t = refl
+other_bad true false false false nx x high low f k t = absurd (true≢false (sym (f refl)))
+other_bad true false true true nx x high low f k t = refl
+other_bad true false true false true x high low f k t = absurd (true≢false t)
+other_bad true false true false false true high low f k t = refl
+other_bad true false true false false false high low f k t = absurd (true≢false t)
+
+pub reads_sound : (c : Controls) (level e : ℕ) → may_read_on c e ≡ true → (present e ≡ true) × (reserved c level e ≡ false)
+unfolding may_read_on reserved
+reads_sound c level e = plain_sound (present e) (huge e) (nat_lt (address e) (2 ^ c.physical_bits)) (nat_le (2 ^ c.physical_bits) (address e)) c.no_execute (no_execute e)
+    (nat_le 4 level || not (bit_and e (low_bits level) == 0)) (λ t. lt-leb (2 ^ c.physical_bits) (address e) (ltb-true (address e) (2 ^ c.physical_bits) t))
+
+high_huge : (level e : ℕ) → 1 ≤ level → maps_page level e ≡ false → huge e ≡ true → nat_le 4 level ≡ true
+high_huge level e low table large =
+    let both : ((level == 2) || (level == 3)) ≡ false = sym (ap (λ h. h && ((level == 2) || (level == 3))) large) ∙ or_right (level == 1) (huge e && ((level == 2) || (level == 3))) table in
+    le-leb 4 level (omega (arith, table_high level e low table, eqb-false level 2 (or_left (level == 2) (level == 3) both), eqb-false level 3 (or_right (level == 2) (level == 3) both)))
+
+pub others_fault : (c : Controls) (level e : ℕ) → 1 ≤ level → maps_page level e ≡ false → may_read_on c e ≡ false → (present e && not (reserved c level e)) ≡ false
+unfolding may_read_on reserved
+others_fault c level e low table = other_bad (present e) (huge e) (nat_lt (address e) (2 ^ c.physical_bits)) (nat_le (2 ^ c.physical_bits) (address e)) c.no_execute (no_execute e)
+    (nat_le 4 level) (not (bit_and e (low_bits level) == 0)) (λ f. le-leb (2 ^ c.physical_bits) (address e) (ltb-false (address e) (2 ^ c.physical_bits) f)) (high_huge level e low table)
 
 ends_of : (a h b : Bool) → (a || (h && b)) ≡ true → (a ≡ true) ⊎ (h ≡ true)
 ends_of true h b t = inl refl

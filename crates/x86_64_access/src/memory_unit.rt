@@ -131,7 +131,10 @@ impl Request {
                 self.check(level, entry)?;
                 return self.end_at(level, entry, position, rights.below(entry));
             }
-            self.check(level, entry)?;
+            if !self.controls.may_read_on(entry) {
+                let present = has_flag(entry, PageTableFlags::PRESENT);
+                return Err(self.fault(level, present, present));
+            }
             rights = rights.below(entry);
             frame = PhysFrame::from_start_address_unchecked(entry.addr());
         }

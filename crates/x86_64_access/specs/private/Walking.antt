@@ -1,7 +1,8 @@
 -- An access from a frame's table on, by the rights that the words above it grant.
-use Rattle.std.specs.Prelude.{◌≡◌, ℕ, map, None}
+use Rattle.std.specs.Prelude.{◌≡◌, ◌^◌, ◌&&◌, ◌||◌, not, nat_lt, Bool, ℕ, map, None}
 use Rattle.std.specs.List.{last_or}
 use Rattle.x86_64_model.specs.Access.{Access, Controls, Outcome, Arrives, steps_from, ends_by}
+use Rattle.x86_64_model.specs.Entry.{present, huge, no_execute, address}
 use Rattle.x86_64_model.specs.Mappings.{Rights, rights_of}
 use Rattle.x86_64_model.specs.Memory.{Words}
 use Rattle.x86_64_tables.specs.Rights.{both}
@@ -10,6 +11,10 @@ use Rattle.x86_64_tables.specs.Rights.{both}
 unfoldable pub access_on : Controls → Words → (p : ℕ) → Access → (level frame : ℕ) → Rights → Outcome
 access_on c T p a level frame r = let steps = steps_from c T p level frame in
     ends_by c a p (both r (rights_of (map (λ s. s.word) steps))) frame (last_or None steps)
+
+-- Whether the processor reads on in the table that a word names, if the word maps no page: it is present and has no reserved bit.
+unfoldable pub may_read_on : Controls → (word : ℕ) → Bool
+may_read_on c e = present e && (not (huge e) && (nat_lt (address e) (2 ^ c.physical_bits) && (c.no_execute || not (no_execute e))))
 
 -- The access arrives, if it comes to a frame's table of a level with some rights.
 abbrev pub ArrivesFrom : Controls → Words → (p : ℕ) → Access → (level frame : ℕ) → Type 0

@@ -6,10 +6,10 @@ use Rattle.x86_64_model.specs.Memory.{words_of}
 use Rattle.x86_64_model.specs.Position.{index, span}
 use Rattle.x86_64_model.specs.PageWalk.{read, page_start}
 use Rattle.x86_64_model.specs.Access.{Arrives, Faults, allowed, code, reserved}
-use Rattle.x86_64_access.specs.Accesses.{access_of, controls_of, outcome_of}
-use Rattle.x86_64_access.specs.private.Walking.{access_on}
+use Rattle.x86_64_access.specs.Accesses.{access_of, controls_of, fault_of, outcome_of}
+use Rattle.x86_64_access.specs.private.Walking.{access_on, may_read_on}
 use Rattle.x86_64_model.specs.Caches.{granted}
-use Rattle.x86_64_access.proofs.Walked.{on_root, on_zero, on_none, on_fault, on_page, on_table, page_low}
+use Rattle.x86_64_access.proofs.Walked.{on_root, on_zero, on_none, on_fault, on_page, on_table, page_low, others_fault, reads_sound}
 use Rattle.x86_64_access.proofs.memory_unit.Request.walk.Goals as goal
 
 pub loop-above-init : goal.loop-above-init
@@ -37,16 +37,18 @@ returns-in_err-check g c =
     let bad : (present e && not (reserved (controls_of c.args.self.controls) level e)) ≡ false = search rules in
     said ∙ on_fault (controls_of c.args.self.controls) words c.args.position (access_of c.args.self.access) level c.loop-above.frame c.loop-above.rights e low is bad ∙ c.loop-above.invariant
 
-pub returns-in_err-check-2 : goal.returns-in_err-check-2
-returns-in_err-check-2 g c =
+pub returns-then-not-may_read_on : goal.returns-then-not-may_read_on
+returns-then-not-may_read_on g c =
     let words = words_of (g.T.TableMemory.tables c.args.memory.now) (g.P.PageTableFrameMapping.places c.args.mapping.now) in
     let level = c.args.levels - c.loop-above.above in
     let e = c.index-entry.result.now in
     let is : Some e ≡ read words c.loop-above.frame (index level c.args.position) = search rules in
     let low : 1 ≤ level = omega (arith, c.loop-above-test.true) in
-    let said : outcome_of c.from_residual-in_err-check-2.result ≡ Faults (code (controls_of c.args.self.controls) (access_of c.args.self.access) (present e) (present e)) level = search rules in
-    let bad : (present e && not (reserved (controls_of c.args.self.controls) level e)) ≡ false = search rules in
-    said ∙ on_fault (controls_of c.args.self.controls) words c.args.position (access_of c.args.self.access) level c.loop-above.frame c.loop-above.rights e low is bad ∙ c.loop-above.invariant
+    let table : maps_page level e ≡ false = search rules in
+    let not_read : may_read_on (controls_of c.args.self.controls) e ≡ false = search rules in
+    let said : fault_of c.fault.result ≡ Faults (code (controls_of c.args.self.controls) (access_of c.args.self.access) (present e) (present e)) level = search rules in
+    said ∙ on_fault (controls_of c.args.self.controls) words c.args.position (access_of c.args.self.access) level c.loop-above.frame c.loop-above.rights e low is
+    (others_fault (controls_of c.args.self.controls) level e low table not_read) ∙ c.loop-above.invariant
 
 pub end_at-requires-clause-high : goal.end_at-requires-clause-high
 end_at-requires-clause-high g c =
@@ -83,13 +85,13 @@ loop-above-preserved g c =
     let level = c.args.levels - c.loop-above.above in
     let e = c.index-entry.result.now in
     let is : Some e ≡ read words c.loop-above.frame (index level c.args.position) = search rules in
-    let sound : reserved (controls_of c.args.self.controls) level e ≡ false = search rules in
-    let here : present e ≡ true = search rules in
+    let on : may_read_on (controls_of c.args.self.controls) e ≡ true = search rules in
+    let parts = reads_sound (controls_of c.args.self.controls) level e on in
     let table : maps_page level e ≡ false = search rules in
     let next : c.args.levels - (c.loop-above.above + 1) ≡ level - 1 = omega arith in
     let low : 1 ≤ level = omega (arith, c.loop-above-test.true) in
     rw (next, c.below-rights.ensures, c.from_start_address_unchecked-frame.ensures, c.addr.ensures)
-    (on_table (controls_of c.args.self.controls) words c.args.position (access_of c.args.self.access) level c.loop-above.frame c.loop-above.rights e low is here sound table ∙ c.loop-above.invariant)
+    (on_table (controls_of c.args.self.controls) words c.args.position (access_of c.args.self.access) level c.loop-above.frame c.loop-above.rights e low is parts.0 parts.1 table ∙ c.loop-above.invariant)
 
 pub returns : goal.returns
 returns g c =
