@@ -1,2 +1,5 @@
+pub mod Commands
+pub mod Names
 mod NumberTexts
 mod Refusals
+pub mod Settings

@@ -1,2 +1,3 @@
+pub mod Asked
 pub mod Exit
 pub mod Requests

@@ -1,6 +1,5 @@
 -- The requests that the words of a command line describe.
 use Rattle.std.specs.Prelude.{◌≡◌, ◌⊎◌, ℕ, List, [], Option, None, Some, All, codes, map, option_map, unwrap_or}
-use Rattle.std.specs.Borrow.{Bor}
 use Rattle.clap.specs.Matches.{first_value, matched_of, raw_values}
 use Rattle.clap.specs.declared.parser.matches.Found.{Found}
 use Rattle.ptdump_engine.specs.declared.request.Command.{Command}
@@ -9,23 +8,28 @@ use Rattle.ptdump_engine.specs.declared.request.Levels.{Levels}
 use Rattle.ptdump_engine.specs.declared.request.Levels.TheVariants.{Four, Five}
 use Rattle.ptdump_engine.specs.declared.request.Request.{Request}
 use Rattle.ptdump_engine.specs.declared.failure.Failure.TheVariants.{OutOfMemory}
+use Rattle.ptdump.specs.Asked.{IsAccess}
 use Rattle.ptdump.specs.declared.stop.Stop.{Stop}
-use Rattle.ptdump.specs.declared.stop.Stop.TheVariants.{Failed, NoCommand}
+use Rattle.ptdump.specs.declared.stop.Stop.TheVariants.{Failed}
 use Rattle.x86_64_mappings.specs.Numbers.{IsNumber, number_of}
 
 -- each text is a number, and these are their numbers
 abbrev pub AreNumbers : (texts : List (List ℕ)) → (numbers : List ℕ) → Type 0
 AreNumbers texts numbers = All IsNumber texts × (numbers ≡ map number_of texts)
 
--- the command has this name, and these addresses if it takes addresses
-abbrev pub IsCommand : (name : List ℕ) → (addresses : List (List ℕ)) → Command → Type 0
-IsCommand name addresses Regions = name ≡ codes "regions"
-IsCommand name addresses Pages = name ≡ codes "pages"
-IsCommand name addresses (Walk numbers) = (name ≡ codes "walk") × AreNumbers addresses numbers.items
-IsCommand name addresses (Find numbers) = (name ≡ codes "find") × AreNumbers addresses numbers.items
-IsCommand name addresses Check = name ≡ codes "check"
-IsCommand name addresses Image = name ≡ codes "image"
-IsCommand name addresses Picture = name ≡ codes "picture"
+-- the texts of the arguments with a name
+abbrev pub values : Found → (name : List ℕ) → List (List ℕ)
+values found name = unwrap_or (option_map raw_values (matched_of found name)) []
+
+-- the command has this name, and what it takes from these arguments
+abbrev pub IsCommand : (name : List ℕ) → Found → Command → Type 0
+IsCommand name found Regions = name ≡ codes "regions"
+IsCommand name found Pages = name ≡ codes "pages"
+IsCommand name found (Walk numbers asked) = (name ≡ codes "walk") × AreNumbers (values found (codes "addresses")) numbers.items × IsAccess found asked
+IsCommand name found (Find numbers) = (name ≡ codes "find") × AreNumbers (values found (codes "addresses")) numbers.items
+IsCommand name found Check = name ≡ codes "check"
+IsCommand name found Image = name ≡ codes "image"
+IsCommand name found Picture = name ≡ codes "picture"
 
 -- an option is None if its text is missing, and is the number of its text otherwise
 abbrev pub IsOption : (text : Option (List ℕ)) → Option ℕ → Type 0
@@ -40,13 +44,9 @@ count Five = 5
 abbrev pub IsLevels : (text : Option (List ℕ)) → Option Levels → Type 0
 IsLevels text levels = IsOption text (option_map count levels)
 
--- the texts of the arguments with a name
-abbrev pub values : Found → (name : List ℕ) → List (List ℕ)
-values found name = unwrap_or (option_map raw_values (matched_of found name)) []
-
 -- the request is that of the command with this name and these arguments
 pub record IsRequest (name : List ℕ) (found : Found) (request : Request) : Type 0 where
-  pub command : IsCommand name (values found (codes "addresses")) request.command
+  pub command : IsCommand name found request.command
   pub cr3 : IsOption (first_value found (codes "cr3")) request.cr3
   pub levels : IsLevels (first_value found (codes "levels")) request.levels
   pub base : IsOption (first_value found (codes "base")) request.base
@@ -55,7 +55,3 @@ pub record IsRequest (name : List ℕ) (found : Found) (request : Request) : Typ
 -- memory allocation failed, or no value has this property
 abbrev pub IsUnread : {T : Type 0} → (Holds : T → Type 0) → Stop → Type 0
 IsUnread {T} Holds stop = (stop ≡ Failed OutOfMemory) ⊎ ((value : T) → ¬ (Holds value))
-
--- likewise, or no command has this name
-abbrev pub IsRefused : {T : Type 0} → (name : Bor (List ℕ)) → (Holds : T → Type 0) → Stop → Type 0
-IsRefused name Holds stop = (stop ≡ NoCommand name) ⊎ IsUnread Holds stop

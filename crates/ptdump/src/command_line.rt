@@ -31,6 +31,7 @@ fn subcommand<'a>(alloc: Global, help: &CommandHelp) -> Result<Command<'a>, Erro
     let command = match help.operands {
         Operands::None => command,
         Operands::Addresses(text) => command.arg(addresses(alloc, text))?,
+        Operands::Accesses(text) => with_access(alloc, command.arg(addresses(alloc, text))?)?,
     };
     Ok(
         command
@@ -55,6 +56,28 @@ fn subcommand<'a>(alloc: Global, help: &CommandHelp) -> Result<Command<'a>, Erro
                 "Processor whose note counts, from 0 on [default: 0]",
             ))?,
     )
+}
+
+/// Adds the options of an access to the command line of a command.
+fn with_access<'a>(alloc: Global, command: Command<'a>) -> Result<Command<'a>, Error> {
+    let access = option(alloc, "as", "Access of which to say what a processor does").value_name(
+        "ACCESS",
+    );
+    let controls = option(
+        alloc,
+        "controls",
+        "Settings that are on [default: wp,nxe,smep,smap]",
+    )
+    .value_name("LIST")
+    .value_delimiter(',')
+    .requires_arg("as")?;
+    let bits = option(
+        alloc,
+        "physical-bits",
+        "Bits of physical addresses, 32 to 52 [default: 52]",
+    )
+    .requires_arg("as")?;
+    Ok(command.arg(access)?.arg(controls)?.arg(bits)?)
 }
 
 /// Returns the argument for the dump.

@@ -7,6 +7,8 @@ pub enum Operands {
     None,
     /// Addresses, with their help text.
     Addresses(&'static str),
+    /// Addresses, with their help text, and the options of an access.
+    Accesses(&'static str),
 }
 
 /// The description of a command.
@@ -121,14 +123,30 @@ Example:
     CommandHelp {
         name: "walk",
         about: "Show how the processor finds an address, word by word",
-        operands: Operands::Addresses("The addresses to walk to"),
+        operands: Operands::Accesses("The addresses to walk to"),
         more: "\
 For each address a line for each word that is read on the way,
 level L 0xTABLE[INDEX] 0xWORD, and then the physical address with what may be
 done there (r read, w write, x execute, u by user code), or why there is none.
 
-Example:
+With --as a further line says what a processor does with such an access: it
+arrives at a physical address, or faults at a word, of which the level is shown
+with the error code and its bits, or needs a table that the dump lacks. ACCESS
+is user-read, user-write, user-fetch, supervisor-read, supervisor-write or
+supervisor-fetch. LIST names the settings of the processor that are on, with
+commas between, or is none: wp (CR0.WP), nxe (EFER.NXE), smep (CR4.SMEP), smap
+(CR4.SMAP), ac (EFLAGS.AC). The exit status is 1 if an access doesn't arrive.
 
+Examples:
+
+  $ ptdump walk machine.elf 0x401123 --as user-write
+  level 4 0x101000[0] 0x102027
+  level 3 0x102000[0] 0x103027
+  level 2 0x103000[2] 0x104027
+  level 1 0x104000[1] 0x201005
+  0x201123 r-xu
+  user-write faults at level 1, code 0x7, present, write, user
+  tables 13, mappings 18, mapped 1054776KiB
   $ ptdump walk machine.elf 0x405123 0x404000
   level 4 0x101000[0] 0x102027
   level 3 0x102000[0] 0x103027

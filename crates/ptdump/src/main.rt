@@ -7,8 +7,10 @@ ghost use Rattle.ptdump.specs.Exit.{exit_status_of};
 ghost use Rattle.ptdump_engine.specs.Failure.{status_of};
 ghost use Rattle.ptdump_engine.specs.declared.failure.Failure.TheVariants.{Output};
 
+mod asked;
 mod command_line;
 mod help;
+mod numbers;
 mod progress;
 mod request;
 mod stop;

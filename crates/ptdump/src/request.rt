@@ -1,17 +1,16 @@
 //! Requests from the words of a command line.
-ghost use Rattle.std.specs.Prelude.{ℕ, Option, IfOk, IfErr, map};
+ghost use Rattle.std.specs.Prelude.{Option, IfOk, IfErr, codes};
 ghost use Rattle.std.specs.Option.{option_copied};
-ghost use Rattle.std.specs.Result.{OkIff};
 ghost use Rattle.clap.specs.Matches.{found_of};
-ghost use Rattle.x86_64_mappings.specs.Numbers.{IsNumber, number_of};
-ghost use Rattle.ptdump.specs.Requests.{AreNumbers, IsCommand, IsLevels, IsOption, IsRequest, IsRefused, IsUnread};
+ghost use Rattle.ptdump.specs.Requests.{AreNumbers, IsCommand, IsLevels, IsRequest, IsUnread, values};
 ghost use Rattle.ptdump_engine.specs.declared.request.Levels.{Levels};
 
+use crate::asked::access_of;
+use crate::numbers::{number_of, numbers_of, option_of};
 use crate::stop::Stop;
 use clap::ArgMatches;
 use ptdump_engine::{Command, Levels, Request};
 use std::alloc::Global;
-use x86_64_mappings::text::parse_number;
 
 /// Returns the request for a command and its arguments.
 ///
@@ -24,11 +23,10 @@ pub fn request_of<'a>(
     arguments: &ArgMatches<'a>,
 ) -> Result<Request, Stop<'a>>
     ensures ok { IfOk result (IsRequest name.now (found_of arguments.now)) }
-    ensures err { IfErr result (IsRefused name.entry (IsRequest name.now (found_of arguments.now))) }
+    ensures err { IfErr result (IsUnread (IsRequest name.now (found_of arguments.now))) }
 {
-    let addresses = arguments.get_strs("addresses").unwrap_or(&[]);
     Ok(Request {
-        command: command_of(alloc, name, addresses)?,
+        command: command_of(alloc, name, arguments)?,
         cr3: option_of("--cr3", arguments.get_str("cr3"))?,
         levels: levels_of(arguments.get_str("levels"))?,
         base: option_of("--base", arguments.get_str("base"))?,
@@ -36,34 +34,61 @@ pub fn request_of<'a>(
     })
 }
 
-/// Returns the command with a name and addresses.
-fn command_of<'a>(alloc: Global, name: &'a str, addresses: &[&'a str]) -> Result<Command, Stop<'a>>
-    ensures ok { IfOk result (IsCommand name.now (map (λ text. text.now) addresses.now)) }
-    ensures err { IfErr result (IsRefused name.entry
-        (IsCommand name.now (map (λ text. text.now) addresses.now))) }
+/// Returns the command with a name and its arguments.
+#[tactic(auto, using(crate::proofs::Names::same_name, crate::proofs::Commands::no_name, crate::proofs::Commands::same_command, crate::proofs::Commands::same_refusal))]
+fn command_of<'a>(
+    alloc: Global,
+    name: &'a str,
+    arguments: &ArgMatches<'a>,
+) -> Result<Command, Stop<'a>>
+    ensures ok { IfOk result (IsCommand name.now (found_of arguments.now)) }
+    ensures err { IfErr result (IsUnread (IsCommand name.now (found_of arguments.now))) }
 {
-    match name.as_bytes() {
-        b"regions" => Ok(Command::Regions),
-        b"pages" => Ok(Command::Pages),
-        b"walk" => Ok(Command::Walk(numbers_of(alloc, addresses)?)),
-        b"find" => Ok(Command::Find(numbers_of(alloc, addresses)?)),
-        b"check" => Ok(Command::Check),
-        b"image" => Ok(Command::Image),
-        b"picture" => Ok(Command::Picture),
-        _ => Err(Stop::NoCommand(name)),
+    if name == "regions" {
+        Ok(Command::Regions)
+    } else if name == "pages" {
+        Ok(Command::Pages)
+    } else if name == "walk" {
+        walk_of(alloc, arguments)
+    } else if name == "find" {
+        search_of(alloc, arguments)
+    } else if name == "check" {
+        Ok(Command::Check)
+    } else if name == "image" {
+        Ok(Command::Image)
+    } else if name == "picture" {
+        Ok(Command::Picture)
+    } else {
+        Err(Stop::NoCommand(name))
     }
 }
 
-/// Reads addresses.
-fn numbers_of<'a>(alloc: Global, texts: &[&'a str]) -> Result<Vec<u64>, Stop<'a>>
-    ensures ok { IfOk result (λ numbers. AreNumbers (map (λ text. text.now) texts.now) numbers.items) }
-    ensures err { IfErr result (IsUnread (AreNumbers (map (λ text. text.now) texts.now))) }
+/// Returns the walk that the arguments describe.
+fn walk_of<'a>(alloc: Global, arguments: &ArgMatches<'a>) -> Result<Command, Stop<'a>>
+    ensures ok { IfOk result (IsCommand (codes "walk") (found_of arguments.now)) }
+    ensures err { IfErr result (IsUnread (IsCommand (codes "walk") (found_of arguments.now))) }
 {
-    let mut numbers = Vec::new(alloc);
-    for text in texts {
-        numbers.push(number_of("address", text)?)?;
-    }
-    Ok(numbers)
+    let addresses = addresses_of(alloc, arguments)?;
+    let access = access_of(arguments)?;
+    Ok(Command::Walk { addresses, access })
+}
+
+/// Returns the search that the arguments describe.
+fn search_of<'a>(alloc: Global, arguments: &ArgMatches<'a>) -> Result<Command, Stop<'a>>
+    ensures ok { IfOk result (IsCommand (codes "find") (found_of arguments.now)) }
+    ensures err { IfErr result (IsUnread (IsCommand (codes "find") (found_of arguments.now))) }
+{
+    Ok(Command::Find(addresses_of(alloc, arguments)?))
+}
+
+/// Reads the addresses of a command.
+fn addresses_of<'a>(alloc: Global, arguments: &ArgMatches<'a>) -> Result<Vec<u64>, Stop<'a>>
+    ensures ok { IfOk result (λ numbers.
+        AreNumbers (values (found_of arguments.now) (codes "addresses")) numbers.items) }
+    ensures err { IfErr result
+        (IsUnread (AreNumbers (values (found_of arguments.now) (codes "addresses")))) }
+{
+    numbers_of(alloc, arguments.get_strs("addresses").unwrap_or(&[]))
 }
 
 /// Reads the number of levels, if it is given.
@@ -80,22 +105,4 @@ fn levels_of<'a>(text: Option<&'a str>) -> Result<Option<Levels>, Stop<'a>>
         5 => Ok(Some(Levels::Five)),
         _ => Err(Stop::NoLevels(text)),
     }
-}
-
-/// Reads the number of an option, if it is given.
-fn option_of<'a>(option: &'static str, text: Option<&'a str>) -> Result<Option<u64>, Stop<'a>>
-    ensures ok { IfOk result (IsOption (option_copied text.entry)) }
-    ensures err { IfErr result (λ _. (number : Option ℕ) → ¬ (IsOption (option_copied text.entry) number)) }
-{
-    match text {
-        Some(text) => Ok(Some(number_of(option, text)?)),
-        None => Ok(None),
-    }
-}
-
-/// Reads the number that is the value of an argument.
-fn number_of<'a>(argument: &'static str, text: &'a str) -> Result<u64, Stop<'a>>
-    ensures { OkIff result (IsNumber text.now) (number_of text.now) }
-{
-    parse_number(text).ok_or(Stop::NoNumber { argument, text })
 }

@@ -29,6 +29,12 @@ pub enum Stop<'a> {
     },
     /// There are no page tables with this number of levels.
     NoLevels(&'a str),
+    /// There is no access with this name.
+    NoAccess(&'a str),
+    /// A processor has no setting with this name.
+    NoSetting(&'a str),
+    /// No processor has this number of bits of physical addresses.
+    NoPhysicalBits(&'a str),
     /// The file can't be opened.
     Unopened {
         /// The path of the file.
@@ -52,7 +58,10 @@ impl Stop<'_> {
             | Stop::NoText
             | Stop::NoCommand(_)
             | Stop::NoNumber { .. }
-            | Stop::NoLevels(_) => 2,
+            | Stop::NoLevels(_)
+            | Stop::NoAccess(_)
+            | Stop::NoSetting(_)
+            | Stop::NoPhysicalBits(_) => 2,
             Stop::Unopened { .. } => 3,
             Stop::Failed(failure) => failure.status(),
         }
@@ -87,6 +96,18 @@ impl Display for Stop<'_> {
             Stop::NoLevels(text) => write!(
                 f,
                 "--levels {text}: give 4 or 5, which page tables have"
+            ),
+            Stop::NoAccess(name) => write!(
+                f,
+                "--as {name}: give user or supervisor, and then -read, -write or -fetch, as in user-write"
+            ),
+            Stop::NoSetting(word) => write!(
+                f,
+                "'{word}' is no setting for --controls: list those of wp,nxe,smep,smap,ac that are on, or give none"
+            ),
+            Stop::NoPhysicalBits(text) => write!(
+                f,
+                "--physical-bits {text}: give a number from 32 to 52"
             ),
             Stop::Unopened { path, error } => write!(f, "{path} can't be opened: {error}"),
             Stop::Failed(failure) => write!(f, "{failure}"),

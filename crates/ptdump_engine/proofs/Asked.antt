@@ -10,7 +10,7 @@ use Rattle.x86_64_model.proofs.Lemmas.Mappings.Placed.{mappings_fit}
 use Rattle.x86_64_mappings.specs.Wanted.{asked_mappings, asked_of, is_wanted, leads_to}
 use Rattle.ptdump_engine.specs.Loaded.{IsLoaded, words_loaded}
 use Rattle.ptdump_engine.specs.Reports.{addresses_text, found_text}
-use Rattle.ptdump_engine.specs.Walks.{line, access_text}
+use Rattle.ptdump_engine.specs.Walks.{line, rights_at_text}
 use Rattle.ptdump_engine.specs.declared.loaded.Loaded.{Loaded}
 use Rattle.ptdump_engine.specs.private.Finding.{address_text, some_there}
 
@@ -46,7 +46,7 @@ same_lines L a (m ∷ ms) fit = by (leads_to a m) refl (same_lines L a ms fit.1)
         → flat_map (λ m. line (address_text L a m)) (filter (leads_to a) ms) ≡ flat_map (λ m. line (found_text L a m)) (filter (leads_to a) ms)
         → flat_map (λ m. line (address_text L a m)) (cond b (m ∷ filter (leads_to a) ms) (filter (leads_to a) ms))
         ≡ flat_map (λ m. line (found_text L a m)) (cond b (m ∷ filter (leads_to a) ms) (filter (leads_to a) ms))
-    by true leads rest = ap (λ p. line (access_text (raw L p) m.rights) ++ flat_map (λ m. line (address_text L a m)) (filter (leads_to a) ms))
+    by true leads rest = ap (λ p. line (rights_at_text (raw L p) m.rights) ++ flat_map (λ m. line (address_text L a m)) (filter (leads_to a) ms))
         (mod-eq_of_lt (inside a m (position_count L) leads fit.0))
         ∙ ap (λ lines. line (found_text L a m) ++ lines) rest
     by false leads rest = rest

@@ -1,3 +1,4 @@
+pub mod AccessLaws
 pub mod Asked
 pub mod Failing
 pub mod Listed

@@ -29,6 +29,7 @@ use Rattle.ptdump_engine.specs.declared.request.Command.TheVariants as commands
 use Rattle.ptdump_engine.specs.declared.request.Outcome.{Outcome}
 use Rattle.ptdump_engine.specs.declared.request.Request.{Request}
 use Rattle.ptdump_engine.specs.declared.start.Start.{Start}
+use Rattle.ptdump_engine.proofs.AccessLaws.{same_asked, same_there}
 use Rattle.ptdump_engine.proofs.Failing.{dump_fails, fails_then, forced_fails}
 use Rattle.ptdump_engine.proofs.WalkLaws.{same_walk}
 
@@ -73,7 +74,8 @@ pub same_report : (command : Command) (L : ℕ) (T W : Words) (root : ℕ) → m
 unfolding regions_text pages_text walks_text find_text addresses_text
 same_report commands.Regions L T W root same below = ap (λ ms. Some (flat_map (λ r. line (region_text L r)) (regions_in L ms))) same
 same_report commands.Pages L T W root same below = ap (λ ms. Some (flat_map (λ m. line (mapping_text L m)) ms)) same
-same_report (commands.Walk addresses) L T W root same below = λ i. Some (flat_map (λ a. walk_text (same_walk T W (a % position_count L) L root below i)) addresses.items)
+same_report (commands.Walk addresses asked) L T W root same below =
+    λ i. Some (flat_map (λ a. walk_text (same_walk T W (a % position_count L) L root below i) ++ same_asked asked L T W root (a % position_count L) below i) addresses.items)
 same_report (commands.Find addresses) L T W root same below =
     ap (λ ms. Some (flat_map (λ a. flat_map (λ m. line (found_text L a m)) (filter (leads_to a) ms)) addresses.items)) same
 same_report commands.Check L T W root same below = refl
@@ -81,14 +83,15 @@ same_report commands.Image L T W root same below = refl
 same_report commands.Picture L T W root same below = refl
 
 pub same_completeness : (command : Command) (L : ℕ) (T W : Words) (root : ℕ) → mappings_of L T root ≡ mappings_of L W root
-    → ((p : ℕ) → page_walk L T root p ≡ page_walk L W root p) → completeness_of command L T root ≡ completeness_of command L W root
-same_completeness commands.Regions L T W root same walks = refl
-same_completeness commands.Pages L T W root same walks = refl
-same_completeness (commands.Walk addresses) L T W root same walks = λ i. Some (list_all (λ a. is_some (walks (a % position_count L) i)) addresses.items)
-same_completeness (commands.Find addresses) L T W root same walks = ap (λ ms. Some (list_all (λ a. list_any (leads_to a) ms) addresses.items)) same
-same_completeness commands.Check L T W root same walks = refl
-same_completeness commands.Image L T W root same walks = refl
-same_completeness commands.Picture L T W root same walks = refl
+    → SameBelow L T W root → ((p : ℕ) → page_walk L T root p ≡ page_walk L W root p) → completeness_of command L T root ≡ completeness_of command L W root
+same_completeness commands.Regions L T W root same below walks = refl
+same_completeness commands.Pages L T W root same below walks = refl
+same_completeness (commands.Walk addresses asked) L T W root same below walks =
+    λ i. Some (list_all (λ a. same_there asked L T W root (a % position_count L) (walks (a % position_count L)) below i) addresses.items)
+same_completeness (commands.Find addresses) L T W root same below walks = ap (λ ms. Some (list_all (λ a. list_any (leads_to a) ms) addresses.items)) same
+same_completeness commands.Check L T W root same below walks = refl
+same_completeness commands.Image L T W root same below walks = refl
+same_completeness commands.Picture L T W root same below walks = refl
 
 -- ---- the run
 

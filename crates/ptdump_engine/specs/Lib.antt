@@ -1,3 +1,4 @@
+pub mod Accesses
 pub mod Failure
 pub mod Laws
 pub mod Loaded

@@ -35,7 +35,7 @@ is_canonical L a = nat_lt a (lower_half L) || (nat_le (2 ^ 64 - lower_half L) a 
 
 -- the first invalid address of a command, as a failure
 abbrev pub argument_failure : Levels → Command → Option Failure
-argument_failure levels (commands.Walk addresses) =
+argument_failure levels (commands.Walk addresses asked) =
     option_map (λ a. failures.NotCanonical a levels) (find (λ a. not (is_canonical (level_count levels) a)) addresses.items)
 argument_failure levels (commands.Find addresses) = option_map (λ a. failures.NotPhysical a) (find (λ a. nat_le (2 ^ 52) a) addresses.items)
 argument_failure levels command = None
@@ -47,7 +47,7 @@ IsTested command = ⊤
 
 -- a walk reports itself that the root isn't in the dump
 abbrev pub is_walk : Command → Bool
-is_walk (commands.Walk addresses) = true
+is_walk (commands.Walk addresses asked) = true
 is_walk command = false
 
 abbrev pub root_failure : Command → Words → (root : ℕ) → Option Failure
@@ -75,14 +75,14 @@ opened_for request file = and_then (of_dump (contents_of file request.base)) (λ
 abbrev pub report_of : Command → (L : ℕ) → Words → (root : ℕ) → Option (List ℕ)
 report_of commands.Regions L T root = Some (regions_text L T root)
 report_of commands.Pages L T root = Some (pages_text L T root)
-report_of (commands.Walk addresses) L T root = Some (walks_text L T root addresses.items)
+report_of (commands.Walk addresses asked) L T root = Some (walks_text L T root asked addresses.items)
 report_of (commands.Find addresses) L T root = Some (find_text L T root addresses.items)
 report_of command L T root = None
 
--- whether the request is fulfilled: each walk arrives, each physical address is found. None for a check, which isn't specified
--- here
+-- whether the request is fulfilled: each walk or its access arrives, each physical address is found. None for a check, which isn't
+-- specified here
 abbrev pub completeness_of : Command → (L : ℕ) → Words → (root : ℕ) → Option Bool
-completeness_of (commands.Walk addresses) L T root = Some (all_arrive L T root addresses.items)
+completeness_of (commands.Walk addresses asked) L T root = Some (all_arrive L T root asked addresses.items)
 completeness_of (commands.Find addresses) L T root = Some (all_found L T root addresses.items)
 completeness_of commands.Check L T root = None
 completeness_of command L T root = Some true

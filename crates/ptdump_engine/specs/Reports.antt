@@ -1,14 +1,15 @@
 -- Reports: the texts of the program for words, with L levels of tables below a root.
-use Rattle.std.specs.Prelude.{ℕ, ◌+◌, ◌-◌, ◌%◌, Bool, List, filter, is_some}
+use Rattle.std.specs.Prelude.{ℕ, ◌+◌, ◌-◌, ◌%◌, ◌++◌, Bool, List, Option, filter}
 use Rattle.std.specs.List.{flat_map, list_all, list_any}
 use Rattle.x86_64_model.specs.Mappings.{Mapping, mappings_of}
 use Rattle.x86_64_model.specs.Memory.{Words}
-use Rattle.x86_64_model.specs.PageWalk.{page_walk}
 use Rattle.x86_64_model.specs.Position.{position_count, raw}
 use Rattle.x86_64_model.specs.Regions.{regions_of}
 use Rattle.x86_64_mappings.specs.Texts.{mapping_text, region_text}
 use Rattle.x86_64_mappings.specs.Wanted.{leads_to}
-use Rattle.ptdump_engine.specs.Walks.{line, access_text, walk_of, walk_text}
+use Rattle.ptdump_engine.specs.Accesses.{asked_text, is_there}
+use Rattle.ptdump_engine.specs.Walks.{line, rights_at_text, walk_of, walk_text}
+use Rattle.ptdump_engine.specs.declared.request.ProcessorAccess.{ProcessorAccess}
 
 -- a line for each region
 unfoldable pub regions_text : (L : ℕ) → Words → (root : ℕ) → List ℕ
@@ -18,13 +19,17 @@ regions_text L T root = flat_map (λ r. line (region_text L r)) (regions_of L T 
 unfoldable pub pages_text : (L : ℕ) → Words → (root : ℕ) → List ℕ
 pages_text L T root = flat_map (λ m. line (mapping_text L m)) (mappings_of L T root)
 
+-- the walk to position p, and the line of the access that is asked for
+abbrev pub walk_and_access_text : (L : ℕ) → Words → (root : ℕ) → Option ProcessorAccess → (p : ℕ) → List ℕ
+walk_and_access_text L T root asked p = walk_text (walk_of L T root p) ++ asked_text asked L T root p
+
 -- the walks to virtual addresses
-unfoldable pub walks_text : (L : ℕ) → Words → (root : ℕ) → (addresses : List ℕ) → List ℕ
-walks_text L T root addresses = flat_map (λ a. walk_text (walk_of L T root (a % position_count L))) addresses
+unfoldable pub walks_text : (L : ℕ) → Words → (root : ℕ) → Option ProcessorAccess → (addresses : List ℕ) → List ℕ
+walks_text L T root asked addresses = flat_map (λ a. walk_and_access_text L T root asked (a % position_count L)) addresses
 
 -- the line for the virtual address in a mapping that leads to a physical address
 abbrev pub found_text : (L physical : ℕ) → Mapping → List ℕ
-found_text L a m = access_text (raw L (m.start + (a - m.frame))) m.rights
+found_text L a m = rights_at_text (raw L (m.start + (a - m.frame))) m.rights
 
 -- a line for each virtual address that leads to a physical address, in order
 unfoldable pub addresses_text : (L : ℕ) → Words → (root physical : ℕ) → List ℕ
@@ -36,9 +41,9 @@ find_text L T root physical = flat_map (addresses_text L T root) physical
 
 -- ---- whether the request is fulfilled
 
--- whether the page walks to virtual addresses all arrive
-abbrev pub all_arrive : (L : ℕ) → Words → (root : ℕ) → (addresses : List ℕ) → Bool
-all_arrive L T root addresses = list_all (λ a. is_some (page_walk L T root (a % position_count L))) addresses
+-- whether the accesses at virtual addresses all arrive, or if none is asked for, the page walks
+abbrev pub all_arrive : (L : ℕ) → Words → (root : ℕ) → Option ProcessorAccess → (addresses : List ℕ) → Bool
+all_arrive L T root asked addresses = list_all (λ a. is_there asked L T root (a % position_count L)) addresses
 
 -- whether a virtual address leads to each of these physical addresses
 abbrev pub all_found : (L : ℕ) → Words → (root : ℕ) → (physical : List ℕ) → Bool

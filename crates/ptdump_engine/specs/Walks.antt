@@ -77,12 +77,12 @@ abbrev pub missing_text : (frame : ℕ) → List ℕ
 missing_text frame = codes "table " ++ hexadecimal frame ++ codes " is not in the dump"
 
 -- the text "0xADDRESS RIGHTS"
-abbrev pub access_text : (address : ℕ) → Rights → List ℕ
-access_text address rights = hexadecimal address ++ codes " " ++ rights_text rights
+abbrev pub rights_at_text : (address : ℕ) → Rights → List ℕ
+rights_at_text address rights = hexadecimal address ++ codes " " ++ rights_text rights
 
 -- the address at which the walk arrives, or why it doesn't arrive
 abbrev pub end_text : Rights → End → List ℕ
-end_text rights (arrives_at to) = access_text to rights
+end_text rights (arrives_at to) = rights_at_text to rights
 end_text rights not_present = codes "not present"
 end_text rights (no_table frame) = missing_text frame
 end_text rights (huge_page level) = codes "HUGE_PAGE at level " ++ decimal level

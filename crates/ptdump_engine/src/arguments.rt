@@ -20,7 +20,7 @@ pub fn argument_failure(command: &Command, levels: Levels) -> Option<Failure>
     ensures { result ≡ program.argument_failure levels command.now }
 {
     match command {
-        Command::Walk(addresses) => {
+        Command::Walk { addresses, .. } => {
             let address = first_not_canonical(addresses, levels)?;
             Some(Failure::NotCanonical { address, levels })
         }
@@ -73,7 +73,7 @@ pub fn root_failure<S: ByteSource>(
     ensures { S.IsKnown →
         result ≡ program.root_failure command.now (words_of_dump (opened S.bytes dump.now)) root }
 {
-    if matches!(command, Command::Walk(_)) || dump.has_frame(root) {
+    if matches!(command, Command::Walk { .. }) || dump.has_frame(root) {
         return None;
     }
     let root = root.start_address().as_u64();

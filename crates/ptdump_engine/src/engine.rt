@@ -212,7 +212,7 @@ fn write_report<L: LevelCount, S: ByteSource, W: Write, E: Write>(
             write_pages(loaded, output)?;
             Ok(true)
         }
-        Command::Walk(addresses) => Ok(write_walks(loaded, addresses, output)?),
+        Command::Walk { addresses, access } => Ok(write_walks(loaded, addresses, *access, output)?),
         Command::Find(addresses) => Ok(write_found(alloc, loaded, addresses, output)?),
         Command::Check => Ok(write_findings(alloc, loaded, output)? == 0),
         Command::Image => {

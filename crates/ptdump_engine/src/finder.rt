@@ -1,16 +1,16 @@
 //! The search for a physical address.
 ghost use Rattle.std.specs.Prelude.{◌≡◌, ◌++◌, ℕ, List, [], false, OnOk};
-ghost use Rattle.ptdump_engine.specs.Walks.{line, access_text};
+ghost use Rattle.ptdump_engine.specs.Walks.{line, rights_at_text};
 
-use crate::access::Access;
 use crate::output::{Output, OutputError};
+use crate::rights_at::RightsAt;
 use std::io::Write;
 use x86_64_addr::addr::{PhysAddr, VirtAddrIn};
 use x86_64_addr::level_count::LevelCount;
 use x86_64_mappings::{MappingIn, Visitor};
 
-/// A destination for lines that describe the rights at addresses.
-pub trait AccessLines {
+/// A destination for lines with the addresses that are found, and the rights there.
+pub trait FoundLines {
     /// That a text was put in.
     ghost puts: { Self → Self → List ℕ → Type 0 };
 
@@ -20,12 +20,12 @@ pub trait AccessLines {
         puts before between front → puts between after back → puts before after (front ++ back) };
 
     /// Puts a line in.
-    fn write_access(&mut self, access: Access) -> Result<(), OutputError>
+    fn write_found(&mut self, found: RightsAt) -> Result<(), OutputError>
         ensures { OnOk result (puts self.old self.new
-            (line (access_text access.address access.rights))) };
+            (line (rights_at_text found.address found.rights))) };
 }
 
-impl<W: Write> AccessLines for Output<'_, W> {
+impl<W: Write> FoundLines for Output<'_, W> {
     ghost use Rattle.ptdump_engine.specs.Output.{Puts};
     ghost use Rattle.ptdump_engine.specs.private.Puts.{puts_nothing, puts_both};
 
@@ -36,15 +36,15 @@ impl<W: Write> AccessLines for Output<'_, W> {
     ghost parts = { λ before between after front back.
         puts_both W.contents before between after front back };
 
-    fn write_access(&mut self, access: Access) -> Result<(), OutputError> {
-        writeln!(self, "{access}")
+    fn write_found(&mut self, found: RightsAt) -> Result<(), OutputError> {
+        writeln!(self, "{found}")
     }
 }
 
 /// A visitor that writes a line for each virtual address that leads to a physical address, from the mappings that it visits.
 ///
 /// The lines are put into an [`Output`], which is a type parameter so that contracts can identify it once it is returned.
-pub struct Finder<'a, O: AccessLines> {
+pub struct Finder<'a, O: FoundLines> {
     /// The destination of the lines.
     output: &'a mut O,
     /// The physical address.
@@ -53,7 +53,7 @@ pub struct Finder<'a, O: AccessLines> {
     pub is_found: bool,
 }
 
-impl<O: AccessLines> Drop for Finder<'_, O> {
+impl<O: FoundLines> Drop for Finder<'_, O> {
     fn drop(self)
         ensures { self.exit.0.now ≡ self.entry.output.now }
     {
@@ -65,7 +65,7 @@ impl<O: AccessLines> Drop for Finder<'_, O> {
     }
 }
 
-impl<'a, O: AccessLines> Finder<'a, O> {
+impl<'a, O: FoundLines> Finder<'a, O> {
     /// Begins the search for a physical address.
     pub fn new(output: &'a mut O, physical: PhysAddr) -> Self
         ensures name { result.output.ghost_name ≡ output.entry.ghost_name }
@@ -81,7 +81,7 @@ impl<'a, O: AccessLines> Finder<'a, O> {
     }
 }
 
-impl<L: LevelCount, O: AccessLines> Visitor<MappingIn<L>> for Finder<'_, O> {
+impl<L: LevelCount, O: FoundLines> Visitor<MappingIn<L>> for Finder<'_, O> {
     type Error = OutputError;
 
     ghost use Rattle.ptdump_engine.specs.private.Finding.{IsSearched};
@@ -94,12 +94,12 @@ impl<L: LevelCount, O: AccessLines> Visitor<MappingIn<L>> for Finder<'_, O> {
         let start = mapping.frame.start_address().as_u64();
         let offset = self.physical.as_u64().saturating_sub(start);
         let address = VirtAddrIn::<L>::new_truncate(mapping.start.position() + offset);
-        let access = Access {
+        let found = RightsAt {
             address: address.as_u64(),
             rights: mapping.rights,
         };
         self.is_found = true;
-        self.output.write_access(access)
+        self.output.write_found(found)
     }
 
     ghost none = { λ finder. searched_nothing O.puts O.nothing L.LEVELS finder };

@@ -1,7 +1,7 @@
 //! The program `ptdump`: reads the page tables of a dump of physical memory, and reports what they map.
 #![tactic(auto)]
 
-mod access;
+mod access_line;
 mod arguments;
 mod check;
 mod drawing;
@@ -16,6 +16,7 @@ mod output;
 mod picture;
 mod report;
 mod request;
+mod rights_at;
 mod start;
 mod totals;
 mod walk;
@@ -25,5 +26,5 @@ pub use engine::run;
 pub use failure::Failure;
 pub use loaded::Loaded;
 pub use output::{Output, OutputError};
-pub use request::{Command, Levels, Outcome, Request};
+pub use request::{Command, Levels, Outcome, ProcessorAccess, Request};
 pub use x86_64_dump::{NoProgress, Progress};

@@ -3,15 +3,18 @@ ghost use Rattle.std.specs.Prelude.{◌≡◌, ◌^◌, nat_le, None, OnOk, IfOk
 ghost use Rattle.std.specs.List.{find, list_any};
 ghost use Rattle.x86_64_model.specs.Mappings.{mappings_of};
 ghost use Rattle.x86_64_mappings.specs.Wanted.{leads_to};
+ghost use Rattle.ptdump_engine.specs.Accesses.{is_there};
 ghost use Rattle.ptdump_engine.specs.Loaded.{IsLoaded, words_loaded};
 ghost use Rattle.ptdump_engine.specs.Output.{Puts};
 ghost use Rattle.ptdump_engine.specs.Reports as reports;
 ghost use Rattle.ptdump_engine.specs.private.Asked.{mappings_asked};
 ghost use Rattle.ptdump_engine.specs.private.Finding.{some_there, visited_text};
 
-use crate::finder::{AccessLines, Finder};
+use crate::access_line::write_access;
+use crate::finder::{Finder, FoundLines};
 use crate::loaded::Loaded;
 use crate::output::{Output, OutputError};
+use crate::request::ProcessorAccess;
 use crate::walk::write_walk;
 use std::alloc::Global;
 use std::io::Write;
@@ -62,7 +65,8 @@ pub fn write_pages<L: LevelCount, W: Write>(
     )
 }
 
-/// Writes the walks to addresses, and returns true if all arrive.
+/// Writes the walks to addresses, and what a processor does with an access there, if one is asked for. Returns true if each
+/// access arrives, or if none is asked for, each walk.
 ///
 /// # Errors
 ///
@@ -70,20 +74,41 @@ pub fn write_pages<L: LevelCount, W: Write>(
 pub fn write_walks<L: LevelCount, W: Write>(
     loaded: &Loaded<'_, L>,
     addresses: &[u64],
+    access: Option<ProcessorAccess>,
     output: &mut Output<'_, W>,
 ) -> Result<bool, OutputError>
     ensures text { OnOk result (Puts W.contents output.old output.new
-        (reports.walks_text L.LEVELS (words_loaded loaded.now) loaded.now.root addresses.now)) }
+        (reports.walks_text L.LEVELS (words_loaded loaded.now) loaded.now.root access addresses.now)) }
     ensures complete { IfOk result (λ all.
-        all ≡ reports.all_arrive L.LEVELS (words_loaded loaded.now) loaded.now.root addresses.now) }
+        all ≡ reports.all_arrive L.LEVELS (words_loaded loaded.now) loaded.now.root access addresses.now) }
 {
     let mut is_complete = true;
     for address in addresses {
         let address = VirtAddrIn::<L>::new_truncate(*address);
-        let arrives = write_walk(loaded, address, output)?;
+        let arrives = write_walk_and_access(loaded, address, access, output)?;
         is_complete &= arrives;
     }
     Ok(is_complete)
+}
+
+/// Writes the walk to an address, and what a processor does with an access there, if one is asked for. Returns true if the access
+/// arrives, or if none is asked for, the walk.
+fn write_walk_and_access<L: LevelCount, W: Write>(
+    loaded: &Loaded<'_, L>,
+    address: VirtAddrIn<L>,
+    access: Option<ProcessorAccess>,
+    output: &mut Output<'_, W>,
+) -> Result<bool, OutputError>
+    ensures text { OnOk result (Puts W.contents output.old output.new
+        (reports.walk_and_access_text L.LEVELS (words_loaded loaded.now) loaded.now.root access address)) }
+    ensures arrives { IfOk result (λ arrives.
+        arrives ≡ is_there access L.LEVELS (words_loaded loaded.now) loaded.now.root address) }
+{
+    let arrives = write_walk(loaded, address, output)?;
+    match access {
+        None => Ok(arrives),
+        Some(asked) => write_access(loaded, address, asked, output),
+    }
 }
 
 /// Writes the virtual addresses that lead to physical addresses, and returns true if there is one for each physical address.
@@ -132,7 +157,7 @@ fn write_addresses_to<L: LevelCount, W: Write>(
 
 /// Visits the mappings of the summaries that lead to a physical address, writes the virtual addresses, and returns true if
 /// there are any.
-fn write_addresses_by<L: LevelCount, O: AccessLines>(
+fn write_addresses_by<L: LevelCount, O: FoundLines>(
     summaries: &Summaries<'_, PhysMemory, IdentityMapping>,
     loaded: &Loaded<'_, L>,
     physical: PhysAddr,

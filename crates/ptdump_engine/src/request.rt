@@ -1,5 +1,7 @@
 //! The request to a run, and its outcome.
 
+use x86_64_access::{Access, Controls};
+
 /// The number of levels of page tables.
 #[derive(Clone, Copy, Debug, PartialEq, Eq)]
 pub enum Levels {
@@ -9,6 +11,15 @@ pub enum Levels {
     Five,
 }
 
+/// An access, and what the processor that makes it is set to.
+#[derive(Clone, Copy, Debug, PartialEq, Eq)]
+pub struct ProcessorAccess {
+    /// The access.
+    pub access: Access,
+    /// What the processor is set to. More than 52 bits of physical addresses count as 52.
+    pub controls: Controls,
+}
+
 /// The report to write.
 #[derive(Debug, Drop)]
 pub enum Command {
@@ -16,8 +27,13 @@ pub enum Command {
     Regions,
     /// The mappings.
     Pages,
-    /// The walks to these virtual addresses.
-    Walk(Vec<u64>),
+    /// The walks to virtual addresses.
+    Walk {
+        /// The addresses.
+        addresses: Vec<u64>,
+        /// The access of which the report also says what a processor does with it at each address, if there is one.
+        access: Option<ProcessorAccess>,
+    },
     /// The virtual addresses that lead to each of these physical addresses.
     Find(Vec<u64>),
     /// The findings in the tables.
@@ -47,7 +63,7 @@ pub struct Request {
 /// The outcome of a run that wrote its report.
 #[derive(Clone, Copy, Debug, PartialEq, Eq)]
 pub struct Outcome {
-    /// Whether the request is fulfilled: each address of a walk arrives, each physical address of a search is found, a check
+    /// Whether the request is fulfilled: each walk or its access arrives, each physical address of a search is found, a check
     /// finds nothing.
     pub is_complete: bool,
 }

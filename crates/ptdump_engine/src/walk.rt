@@ -10,9 +10,9 @@ ghost use Rattle.ptdump_engine.specs.Output.{Puts};
 ghost use Rattle.ptdump_engine.specs.Walks as walks;
 ghost use Rattle.ptdump_engine.specs.private.WalkLines.{lines_below, is_arrival};
 
-use crate::access::Access;
 use crate::loaded::Loaded;
 use crate::output::{Output, OutputError};
+use crate::rights_at::RightsAt;
 use crate::word_read::{MissingTable, WordRead};
 use std::io::Write;
 use x86_64_addr::addr::VirtAddrIn;
@@ -135,10 +135,10 @@ fn write_arrival<W: Write>(
     requires low { 1 ≤ level }
     requires page { page_mapped level entry.now ≡ true }
     ensures { OnOk result (Puts W.contents output.old output.new (walks.line (
-        walks.access_text (page_start level entry.now + position % span_of level) rights))) }
+        walks.rights_at_text (page_start level entry.now + position % span_of level) rights))) }
 {
     let size = span(level);
     let address = entry.addr().as_u64() / size * size + position % size;
-    let access = Access { address, rights };
-    writeln!(output, "{access}")
+    let arrival = RightsAt { address, rights };
+    writeln!(output, "{arrival}")
 }

@@ -3,12 +3,12 @@ use Rattle.std.specs.Prelude.{◌≡◌, ℕ, ◌+◌, ◌-◌, ◌%◌, ◌||�
 use Rattle.std.specs.List.{flat_map}
 use Rattle.x86_64_model.specs.Mappings.{Mapping}
 use Rattle.x86_64_model.specs.Position.{position_count, raw}
-use Rattle.ptdump_engine.specs.Walks.{line, access_text}
+use Rattle.ptdump_engine.specs.Walks.{line, rights_at_text}
 use Rattle.ptdump_engine.specs.declared.finder.Finder.{Finder}
 
 -- the line for the virtual address that leads to a physical address, whatever the mapping
 abbrev pub address_text : (L physical : ℕ) → Mapping → List ℕ
-address_text L a m = access_text (raw L ((m.start + (a - m.frame)) % position_count L)) m.rights
+address_text L a m = rights_at_text (raw L ((m.start + (a - m.frame)) % position_count L)) m.rights
 
 -- a line for each visited mapping
 abbrev pub visited_text : (L physical : ℕ) → List Mapping → List ℕ

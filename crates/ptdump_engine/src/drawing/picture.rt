@@ -8,6 +8,7 @@ use crate::drawing::tree::{Tables, Tree};
 use std::alloc::{AllocError, Global};
 use std::fmt::{Display, Formatter, Result as FmtResult, Write};
 use x86_64_addr::level_count::LevelCount;
+use x86_64_dump::TablesByLevel;
 use x86_64_mappings::RegionIn;
 use x86_64_page::frame::PhysFrame;
 use x86_64_page::page::Size4KiB;
@@ -62,7 +63,7 @@ pub struct Mapped<'a, L: LevelCount> {
     /// The number of frames that hold tables.
     pub table_count: u64,
     /// The frames of the tables by level, level one first. A frame may be at several levels.
-    pub tables: &'a [Vec<PhysFrame<Size4KiB>>],
+    pub tables: TablesByLevel<'a>,
     /// The links between the tables. They are used only if there are at most [`MOST_DRAWN_TABLES`](crate::drawing::MOST_DRAWN_TABLES)
     /// tables, and may be left out if there are more.
     pub links: &'a [TableLink],

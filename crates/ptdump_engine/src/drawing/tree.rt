@@ -10,6 +10,7 @@ use level::Level;
 use std::alloc::{AllocError, Global};
 use std::fmt::{Formatter, Result as FmtResult, Write};
 use table_box::TableBox;
+use x86_64_dump::TablesByLevel;
 use x86_64_page::frame::PhysFrame;
 use x86_64_page::page::Size4KiB;
 
@@ -20,7 +21,7 @@ pub const MOST_DRAWN_TABLES: usize = 40;
 #[derive(Clone, Copy)]
 pub(crate) struct Tables<'a> {
     /// Their frames by level, level one first.
-    pub frames: &'a [Vec<PhysFrame<Size4KiB>>],
+    pub frames: TablesByLevel<'a>,
     /// The links between them.
     pub links: &'a [TableLink],
 }

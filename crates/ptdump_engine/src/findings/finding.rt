@@ -4,6 +4,7 @@ ghost use Rattle.std.specs.Prelude.{Some};
 use crate::findings::entry::Slot;
 use std::alloc::{AllocError, Global};
 use std::fmt::{Display, Formatter, Result as FmtResult, Write};
+use x86_64_dump::TablesByLevel;
 use x86_64_page::frame::PhysFrame;
 use x86_64_page::page::Size4KiB;
 use x86_64_tables::page_table::FrameError;
@@ -85,7 +86,7 @@ struct HugePage {
 pub fn table_findings(
     alloc: Global,
     memory: &PhysMemory,
-    frames: &[Vec<PhysFrame<Size4KiB>>],
+    frames: TablesByLevel<'_>,
     root: PhysFrame<Size4KiB>,
 ) -> Result<Vec<Finding>, AllocError> {
     let mut findings = Vec::new(alloc);
@@ -105,7 +106,7 @@ pub fn table_findings(
 fn names_in_order(
     alloc: Global,
     memory: &PhysMemory,
-    frames: &[Vec<PhysFrame<Size4KiB>>],
+    frames: TablesByLevel<'_>,
 ) -> Result<Vec<Name>, AllocError> {
     let mut names = Vec::new(alloc);
     for table in &frames_above_level_one(alloc, frames)? {
@@ -118,7 +119,7 @@ fn names_in_order(
 /// Returns the frames of the tables above level one, each once.
 fn frames_above_level_one(
     alloc: Global,
-    frames: &[Vec<PhysFrame<Size4KiB>>],
+    frames: TablesByLevel<'_>,
 ) -> Result<Vec<PhysFrame<Size4KiB>>, AllocError> {
     let mut above = Vec::new(alloc);
     for of_level in frames.iter().skip(1) {
@@ -192,7 +193,7 @@ fn add_missing(
 fn huge_pages_in_order(
     alloc: Global,
     memory: &PhysMemory,
-    frames: &[Vec<PhysFrame<Size4KiB>>],
+    frames: TablesByLevel<'_>,
 ) -> Result<Vec<HugePage>, AllocError> {
     let mut pages = Vec::new(alloc);
     for (below, of_level) in frames.iter().enumerate().skip(LEVELS_OF_PAGES) {

@@ -34,7 +34,10 @@ impl Word {
         let command = match self {
             Word::Regions => Command::Regions,
             Word::Pages => Command::Pages,
-            Word::Walk => Command::Walk(Vec::from_slice(alloc, &[0, 0x2abc])?),
+            Word::Walk => Command::Walk {
+                addresses: Vec::from_slice(alloc, &[0, 0x2abc])?,
+                access: None,
+            },
             Word::Find => Command::Find(Vec::from_slice(alloc, &[0x8000_0123, 0x3abc])?),
             Word::Check => Command::Check,
             Word::Image => Command::Image,

@@ -5,7 +5,7 @@ use Rattle.ptdump_engine.proofs.report.write_addresses_by.Goals as goal
 
 pub returns-clause-text : goal.returns-clause-text
 returns-clause-text g c =
-    let puts = g.O.AccessLines.puts in
+    let puts = g.O.FoundLines.puts in
     let L = g.L.LevelCount.LEVELS in
     let a = c.args.physical in
     let finder = c.new-finder.result in

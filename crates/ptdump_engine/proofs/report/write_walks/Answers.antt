@@ -1,14 +1,11 @@
-use Rattle.std.proofs.Common.{◌≡◌, ◌∙◌, ◌%◌, ◌&&◌, get_or, is_some, ap, ap₂, sym, subst, take, refl}
-use Rattle.x86_64_model.specs.PageWalk.{page_walk}
+use Rattle.std.proofs.Common.{◌≡◌, ◌∙◌, ◌%◌, ◌&&◌, get_or, ap, ap₂, sym, subst, take, refl}
 use Rattle.x86_64_model.specs.Position.{position_count}
+use Rattle.ptdump_engine.specs.Accesses.{is_there}
 use Rattle.ptdump_engine.specs.Loaded.{words_loaded}
 use Rattle.ptdump_engine.specs.Output.{Puts}
-use Rattle.ptdump_engine.specs.Reports.{walks_text}
-use Rattle.ptdump_engine.specs.Walks.{walk_of, walk_text}
+use Rattle.ptdump_engine.specs.Reports.{walk_and_access_text, walks_text}
 use Rattle.ptdump_engine.specs.private.Puts.{puts_nothing}
-use Rattle.ptdump_engine.specs.private.WalkLines.{is_arrival}
 use Rattle.ptdump_engine.proofs.Listed.{puts_more, all_more}
-use Rattle.ptdump_engine.proofs.WalkLaws.{is_arrival-walk}
 use Rattle.ptdump_engine.proofs.report.write_walks.Goals as goal
 
 pub loop-address-init : goal.loop-address-init
@@ -21,12 +18,13 @@ loop-address-preserved g c =
     let L = g.L.LevelCount.LEVELS in
     let T = words_loaded c.args.loaded.now in
     let root = c.args.loaded.now.root in
+    let asked = c.args.access in
     let xs = c.args.addresses.now in
     let i = c.loop-address.address-index in
     let at = c.new_truncate-address.ensures in (
-      puts_more g.W.Write.contents (λ a. walk_text (walk_of L T root (a % position_count L))) c.args.output.now c.loop-address.output c.write_walk.new.output xs i c.loop-address-test.true
-          c.loop-address.invariant.0
-          (subst (λ p. Puts g.W.Write.contents c.loop-address.output c.write_walk.new.output (walk_text (walk_of L T root p))) at c.in_ok-arrives.ensures.text),
-      ap₂ (λ b d. b && d) c.loop-address.invariant.1 (c.in_ok-arrives.ensures.arrives ∙ is_arrival-walk L T root c.new_truncate-address.result ∙ ap (λ p. is_some (page_walk L T root p)) at)
-          ∙ sym (all_more (λ a. is_some (page_walk L T root (a % position_count L))) xs i c.loop-address-test.true),
+      puts_more g.W.Write.contents (λ a. walk_and_access_text L T root asked (a % position_count L)) c.args.output.now c.loop-address.output c.write_walk_and_access.new.output xs i
+          c.loop-address-test.true c.loop-address.invariant.0
+          (subst (λ p. Puts g.W.Write.contents c.loop-address.output c.write_walk_and_access.new.output (walk_and_access_text L T root asked p)) at c.in_ok-arrives.ensures.text),
+      ap₂ (λ b d. b && d) c.loop-address.invariant.1 (c.in_ok-arrives.ensures.arrives ∙ ap (is_there asked L T root) at)
+          ∙ sym (all_more (λ a. is_there asked L T root (a % position_count L)) xs i c.loop-address-test.true),
     )

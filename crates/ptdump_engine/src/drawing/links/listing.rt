@@ -5,6 +5,7 @@ ghost use Rattle.ptdump_engine.specs.Links.{IsLink};
 
 use crate::drawing::links::TableLink;
 use std::alloc::{AllocError, Global};
+use x86_64_dump::TablesByLevel;
 use x86_64_page::frame::PhysFrame;
 use x86_64_page::page::Size4KiB;
 use x86_64_tables::phys_memory::{PageTableFrameMapping, TableMemory, table_in};
@@ -15,7 +16,7 @@ pub fn table_links<T: TableMemory, P: PageTableFrameMapping>(
     alloc: Global,
     memory: &T,
     mapping: &P,
-    tables: &[Vec<PhysFrame<Size4KiB>>],
+    tables: TablesByLevel<'_>,
 ) -> Result<Vec<TableLink>, AllocError>
     ensures { IfOk result (λ links.
         All (IsLink (words_of (T.tables memory.now) (P.places mapping.now))) links.items) }

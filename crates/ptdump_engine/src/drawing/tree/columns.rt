@@ -2,8 +2,7 @@
 ghost use Rattle.std.specs.Prelude.{◌≡◌, ◌+◌, ◌≤◌, ◌<◌};
 
 use crate::drawing::area::{Area, MARGIN, PICTURE_WIDTH};
-use x86_64_page::frame::PhysFrame;
-use x86_64_page::page::Size4KiB;
+use x86_64_dump::TablesByLevel;
 
 /// The height of the box of a table.
 const BOX_HEIGHT: u64 = 20;
@@ -25,7 +24,7 @@ pub(super) struct Columns {
 
 impl Columns {
     /// Creates the columns for tables by level.
-    pub fn new(tables: &[Vec<PhysFrame<Size4KiB>>], top: u64) -> Columns {
+    pub fn new(tables: TablesByLevel<'_>, top: u64) -> Columns {
         Columns {
             top,
             level_count: tables.len() as u64,
@@ -51,7 +50,7 @@ impl Columns {
 }
 
 /// Returns the width of the boxes, enough for the largest of the addresses.
-fn box_width(tables: &[Vec<PhysFrame<Size4KiB>>]) -> u64
+fn box_width(tables: TablesByLevel<'_>) -> u64
     ensures { result ≤ 180 }
 {
     let mut bits = 0;

@@ -4,7 +4,7 @@ use Rattle.std.specs.Borrow.{Bor}
 use Rattle.ptdump.specs.Requests.{AreNumbers}
 use Rattle.ptdump.proofs.NumberTexts.{numbers_more, number_at}
 use Rattle.ptdump.proofs.Refusals.{of_any_error}
-use Rattle.ptdump.proofs.request.numbers_of.Goals as goal
+use Rattle.ptdump.proofs.numbers.numbers_of.Goals as goal
 
 nothing : Bor (List ℕ)
 nothing = record { ref_ptr = (0, 0); now = [] }

@@ -7,17 +7,17 @@ use x86_64_tables::page_table::Rights;
 
 /// An address with the rights that are allowed there.
 #[derive(Clone, Copy)]
-pub struct Access {
+pub struct RightsAt {
     /// The address.
     pub address: u64,
     /// The rights.
     pub rights: Rights,
 }
 
-impl Display for Access {
-    ghost use Rattle.ptdump_engine.specs.Walks.{access_text};
+impl Display for RightsAt {
+    ghost use Rattle.ptdump_engine.specs.Walks.{rights_at_text};
 
-    ghost output = { λ access. Some (access_text access.address access.rights) };
+    ghost output = { λ at. Some (rights_at_text at.address at.rights) };
 
     fn fmt<W: Write>(&self, f: &mut Formatter<W>) -> FmtResult {
         write_hexadecimal(f, self.address)?;

@@ -1,0 +1,30 @@
+-- Names that are tested one by one.
+use Rattle.std.proofs.Common.{◌≡◌, ◌∙◌, ◌++◌, ℕ, List, Bool, true, false, true≢false, codes, sym, if◌then◌else◌}
+use Rattle.std.proofs.lemmas.Slice.Eq.{bytes_eq-Decides}
+use Rattle.std.specs.Str.{bytes_eq}
+use Rattle.x86_64_access.specs.declared.request.Access.{Access}
+use Rattle.x86_64_access.specs.declared.request.AccessKind.{AccessKind}
+use Rattle.x86_64_access.specs.declared.request.AccessKind.TheVariants.{Read, Write, Fetch}
+use Rattle.ptdump_engine.specs.Accesses.{access_name, kind_name}
+
+-- texts that are equal by the test are equal
+pub same_name : (a b : List ℕ) → bytes_eq a b ≡ true → a ≡ b
+same_name a b is = (bytes_eq-Decides a b).0 is
+
+-- texts that differ by the test differ
+pub other_name : (a b : List ℕ) → bytes_eq a b ≡ false → a ≡ b → ⊥
+other_name a b differs is = absurd (true≢false (sym ((bytes_eq-Decides a b).1 is) ∙ differs))
+
+-- no access has the name
+pub no_access : (name : List ℕ) → bytes_eq name (codes "user-read") ≡ false → bytes_eq name (codes "user-write") ≡ false → bytes_eq name (codes "user-fetch") ≡ false
+    → bytes_eq name (codes "supervisor-read") ≡ false → bytes_eq name (codes "supervisor-write") ≡ false → bytes_eq name (codes "supervisor-fetch") ≡ false
+    → (access : Access) → name ≡ access_name access → ⊥
+no_access name a b c d e f access = each access.user access.kind
+  where
+    each : (user : Bool) (kind : AccessKind) → name ≡ (if user then codes "user-" else codes "supervisor-") ++ kind_name kind → ⊥
+    each true Read = other_name name (codes "user-read") a
+    each true Write = other_name name (codes "user-write") b
+    each true Fetch = other_name name (codes "user-fetch") c
+    each false Read = other_name name (codes "supervisor-read") d
+    each false Write = other_name name (codes "supervisor-write") e
+    each false Fetch = other_name name (codes "supervisor-fetch") f

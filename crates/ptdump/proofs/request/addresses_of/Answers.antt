@@ -1,0 +1,17 @@
+use Rattle.std.proofs.Common.{List, ℕ, ◌∙◌, ap, map, subst, refl, IfOk, IfErr}
+use Rattle.std.specs.Borrow.{Bor}
+use Rattle.ptdump.specs.Requests.{AreNumbers, IsUnread}
+use Rattle.ptdump.proofs.NumberTexts.{texts_given}
+use Rattle.ptdump.proofs.request.addresses_of.Goals as goal
+
+pub returns-clause-ok : goal.returns-clause-ok
+returns-clause-ok c =
+    let texts = ap (λ (s : Bor (List (Bor (List ℕ)))). map (λ (v : Bor (List ℕ)). v.now) s.now) c.unwrap_or.ensures
+    ∙ texts_given c.get_strs.result _ _ refl c.get_strs.ensures in
+    subst (λ (ts : List (List ℕ)). IfOk c.numbers_of.result (λ numbers. AreNumbers ts numbers.items)) texts c.numbers_of.ensures.ok
+
+pub returns-clause-err : goal.returns-clause-err
+returns-clause-err c =
+    let texts = ap (λ (s : Bor (List (Bor (List ℕ)))). map (λ (v : Bor (List ℕ)). v.now) s.now) c.unwrap_or.ensures
+    ∙ texts_given c.get_strs.result _ _ refl c.get_strs.ensures in
+    subst (λ (ts : List (List ℕ)). IfErr c.numbers_of.result (IsUnread (AreNumbers ts))) texts c.numbers_of.ensures.err

@@ -1,0 +1,22 @@
+use Rattle.std.proofs.Common.{rules, inl, inr, refl, codes}
+use Rattle.clap.specs.Matches.{found_of}
+use Rattle.ptdump.specs.Requests.{IsCommand, IsUnread}
+use Rattle.ptdump.proofs.Commands.{no_walk}
+use Rattle.ptdump.proofs.request.walk_of.Goals as goal
+
+pub returns-in_err-addresses-clause-err : goal.returns-in_err-addresses-clause-err
+returns-in_err-addresses-clause-err c =
+    let found = found_of c.args.arguments.now in
+    let unread : IsUnread (IsCommand (codes "walk") found) c.in_err-addresses.field-0.0 =
+    elim c.in_err-addresses.ensures.err [
+      | inl memory ↦ inl memory
+      | inr none ↦ inr (no_walk (codes "walk") found refl (λ numbers asked are is. none numbers are))
+    ] in
+    search (rules, unread)
+
+pub returns-in_err-access-clause-err : goal.returns-in_err-access-clause-err
+returns-in_err-access-clause-err c =
+    let found = found_of c.args.arguments.now in
+    let unread : IsUnread (IsCommand (codes "walk") found) c.in_err-access.field-0.0 =
+    inr (no_walk (codes "walk") found refl (λ numbers asked are is. c.in_err-access.ensures.err asked is)) in
+    search (rules, unread)

@@ -1,0 +1,56 @@
+-- The access that the options of a walk describe.
+use Rattle.std.specs.Prelude.{◌≡◌, ◌≤◌, ℕ, Bool, not, List, [], ◌∷◌, Option, None, Some, codes, map, option_map, unwrap_or}
+use Rattle.std.specs.Borrow.{Bor}
+use Rattle.std.specs.List.{find, list_any}
+use Rattle.std.specs.Str.{bytes_eq}
+use Rattle.clap.specs.Matches.{first_value, matched_of, raw_values}
+use Rattle.clap.specs.declared.parser.matches.Found.{Found}
+use Rattle.ptdump_engine.specs.Accesses.{access_name}
+use Rattle.ptdump_engine.specs.declared.request.ProcessorAccess.{ProcessorAccess}
+use Rattle.x86_64_access.specs.declared.controls.Controls.{Controls}
+use Rattle.x86_64_mappings.specs.Numbers.{IsNumber, number_of}
+
+-- the texts of borrowed words
+abbrev pub texts_of : Bor (List (Bor (List ℕ))) → List (List ℕ)
+texts_of words = map (λ word. word.now) words.now
+
+-- whether a word is listed
+abbrev pub is_listed : (words : List (List ℕ)) → (word : List ℕ) → Bool
+is_listed words word = list_any (λ other. bytes_eq other word) words
+
+-- the names of the settings, and the name of no setting
+abbrev pub setting_names : List (List ℕ)
+setting_names = codes "wp" ∷ codes "nxe" ∷ codes "smep" ∷ codes "smap" ∷ codes "ac" ∷ codes "none" ∷ []
+
+-- no word is another name
+abbrev pub AreSettings : (words : List (List ℕ)) → Type 0
+AreSettings words = find (λ word. not (is_listed setting_names word)) words ≡ None
+
+-- the settings that are on are those with these names
+pub record AreControls (words : List (List ℕ)) (c : Controls) : Type 0 where
+  pub known : AreSettings words
+  pub write_protect : c.write_protect ≡ is_listed words (codes "wp")
+  pub no_execute : c.no_execute ≡ is_listed words (codes "nxe")
+  pub smep : c.smep ≡ is_listed words (codes "smep")
+  pub smap : c.smap ≡ is_listed words (codes "smap")
+  pub ac : c.ac ≡ is_listed words (codes "ac")
+
+-- a number from 32 to 52, or 52 if the text is missing
+abbrev pub IsBits : (text : Option (List ℕ)) → (bits : ℕ) → Type 0
+IsBits None bits = bits ≡ 52
+IsBits (Some text) bits = IsNumber text × (32 ≤ number_of text) × (number_of text ≤ 52) × (bits ≡ number_of text)
+
+-- the settings that are on if no words are given
+abbrev pub usual_names : List (List ℕ)
+usual_names = codes "wp" ∷ codes "nxe" ∷ codes "smep" ∷ codes "smap" ∷ []
+
+-- the access with this name, and what the words and the text say of the processor; or None if the name is missing
+abbrev pub IsAsked : (name : Option (List ℕ)) → (words : Option (List (List ℕ))) → (bits : Option (List ℕ)) → Option ProcessorAccess → Type 0
+IsAsked None words bits asked = asked ≡ None
+IsAsked (Some name) words bits None = ⊥
+IsAsked (Some name) words bits (Some asked) =
+    (name ≡ access_name asked.access) × AreControls (unwrap_or words usual_names) asked.controls × IsBits bits asked.controls.physical_bits
+
+-- the access of --as, --controls and --physical-bits
+abbrev pub IsAccess : Found → Option ProcessorAccess → Type 0
+IsAccess found = IsAsked (first_value found (codes "as")) (option_map raw_values (matched_of found (codes "controls"))) (first_value found (codes "physical-bits"))

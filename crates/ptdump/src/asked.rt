@@ -1,0 +1,158 @@
+//! The access that the options of a walk describe.
+ghost use Rattle.std.specs.Prelude.{◌≡◌, ◌≤◌, List, ℕ, Option, IfOk, IfErr, map, not, option_map, unwrap_or};
+ghost use Rattle.std.specs.List.{find, list_any};
+ghost use Rattle.std.specs.Option.{option_copied};
+ghost use Rattle.std.specs.Str.{bytes_eq};
+ghost use Rattle.clap.specs.Matches.{found_of};
+ghost use Rattle.ptdump.specs.Asked.{AreControls, IsAccess, IsBits, is_listed, setting_names, texts_of, usual_names};
+ghost use Rattle.ptdump_engine.specs.Accesses.{access_name};
+ghost use Rattle.ptdump_engine.specs.declared.request.ProcessorAccess.{ProcessorAccess};
+ghost use Rattle.x86_64_access.specs.declared.controls.Controls.{Controls};
+ghost use Rattle.x86_64_access.specs.declared.request.Access.{Access};
+
+use crate::numbers::number_of;
+use crate::stop::Stop;
+use clap::ArgMatches;
+use ptdump_engine::ProcessorAccess;
+use x86_64_access::{Access, AccessKind, Controls};
+
+/// The number of bits of physical addresses if none is given.
+const PHYSICAL_BITS: u8 = 52;
+
+/// Returns the access that the arguments of a walk describe, or `None` if they ask for none.
+///
+/// # Errors
+///
+/// What is wrong with the words.
+pub fn access_of<'a>(arguments: &ArgMatches<'a>) -> Result<Option<ProcessorAccess>, Stop<'a>>
+    ensures ok { IfOk result (IsAccess (found_of arguments.now)) }
+    ensures err { IfErr result (λ _. (asked : Option ProcessorAccess) →
+        ¬ (IsAccess (found_of arguments.now) asked)) }
+{
+    let Some(name) = arguments.get_str("as") else {
+        return Ok(None);
+    };
+    let access = access_named(name)?;
+    let physical_bits = bits_of(arguments.get_str("physical-bits"))?;
+    let controls = controls_of(arguments.get_strs("controls"), physical_bits)?;
+    Ok(Some(ProcessorAccess { access, controls }))
+}
+
+/// Returns the access with a name.
+#[tactic(auto, using(crate::proofs::Names::same_name, crate::proofs::Names::no_access))]
+fn access_named<'a>(name: &'a str) -> Result<Access, Stop<'a>>
+    ensures ok { IfOk result (λ access. name.now ≡ access_name access) }
+    ensures err { IfErr result (λ _. (access : Access) → ¬ (name.now ≡ access_name access)) }
+{
+    if name == "user-read" {
+        Ok(Access {
+            kind: AccessKind::Read,
+            user: true,
+        })
+    } else if name == "user-write" {
+        Ok(Access {
+            kind: AccessKind::Write,
+            user: true,
+        })
+    } else if name == "user-fetch" {
+        Ok(Access {
+            kind: AccessKind::Fetch,
+            user: true,
+        })
+    } else if name == "supervisor-read" {
+        Ok(Access {
+            kind: AccessKind::Read,
+            user: false,
+        })
+    } else if name == "supervisor-write" {
+        Ok(Access {
+            kind: AccessKind::Write,
+            user: false,
+        })
+    } else if name == "supervisor-fetch" {
+        Ok(Access {
+            kind: AccessKind::Fetch,
+            user: false,
+        })
+    } else {
+        Err(Stop::NoAccess(name))
+    }
+}
+
+/// Reads the number of bits of physical addresses, if it is given.
+fn bits_of<'a>(text: Option<&'a str>) -> Result<u8, Stop<'a>>
+    ensures ok { IfOk result (IsBits (option_copied text.entry)) }
+    ensures err { IfErr result (λ _. (bits : ℕ) → ¬ (IsBits (option_copied text.entry) bits)) }
+{
+    let Some(text) = text else {
+        return Ok(PHYSICAL_BITS);
+    };
+    match number_of("--physical-bits", text)? {
+        bits @ 32..=52 => Ok(bits as u8),
+        _ => Err(Stop::NoPhysicalBits(text)),
+    }
+}
+
+/// Returns the settings that words name, or the usual ones if there are no words, with a number of bits of physical addresses.
+fn controls_of<'a>(words: Option<&[&'a str]>, physical_bits: u8) -> Result<Controls, Stop<'a>>
+    ensures words { IfOk result (AreControls (unwrap_or (option_map texts_of words.entry) usual_names)) }
+    ensures bits { IfOk result (λ controls. controls.physical_bits ≡ physical_bits) }
+    ensures err { IfErr result (λ _. (controls : Controls) →
+        ¬ (AreControls (unwrap_or (option_map texts_of words.entry) usual_names) controls)) }
+{
+    match words {
+        Some(words) => controls_named(words, physical_bits),
+        None => Ok(Controls {
+            write_protect: true,
+            no_execute: true,
+            smep: true,
+            smap: true,
+            ac: false,
+            physical_bits,
+        }),
+    }
+}
+
+/// Returns the settings that words name, with a number of bits of physical addresses.
+fn controls_named<'a>(words: &[&'a str], physical_bits: u8) -> Result<Controls, Stop<'a>>
+    ensures words { IfOk result (AreControls (map (λ word. word.now) words.now)) }
+    ensures bits { IfOk result (λ controls. controls.physical_bits ≡ physical_bits) }
+    ensures err { IfErr result (λ _. (controls : Controls) →
+        ¬ (AreControls (map (λ word. word.now) words.now) controls)) }
+{
+    if let Some(word) = unknown_of(words) {
+        return Err(Stop::NoSetting(word));
+    }
+    Ok(Controls {
+        write_protect: is_listed(words, "wp"),
+        no_execute: is_listed(words, "nxe"),
+        smep: is_listed(words, "smep"),
+        smap: is_listed(words, "smap"),
+        ac: is_listed(words, "ac"),
+        physical_bits,
+    })
+}
+
+/// Returns the first word that is no name of a setting and isn't `none`.
+fn unknown_of<'a>(words: &[&'a str]) -> Option<&'a str>
+    ensures { result ≡ find (λ word. not (is_listed setting_names word.now)) words.now }
+{
+    words.iter().copied().find(|word| !is_setting(word))
+}
+
+/// Returns true if a word is the name of a setting, or `none`.
+fn is_setting(word: &str) -> bool
+    ensures { result ≡ is_listed setting_names word.now }
+{
+    matches!(
+        word.as_bytes(),
+        b"wp" | b"nxe" | b"smep" | b"smap" | b"ac" | b"none"
+    )
+}
+
+/// Returns true if a word is listed.
+fn is_listed(words: &[&str], word: &str) -> bool
+    ensures { result ≡ list_any (λ other. bytes_eq other.now word.now) words.now }
+{
+    words.iter().any(|other| *other == word)
+}

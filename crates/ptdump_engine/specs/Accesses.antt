@@ -1,0 +1,66 @@
+-- Accesses: the line that says what a processor does with an access at an address.
+use Rattle.std.specs.Prelude.{ℕ, ◌++◌, ◌==◌, Bool, true, false, not, min, bit_and, if◌then◌else◌, List, [], Option, None, Some, is_some, codes, decimal}
+use Rattle.x86_64_access.specs.Accesses.{access_of, controls_of}
+use Rattle.x86_64_access.specs.declared.controls.Controls.{Controls}
+use Rattle.x86_64_access.specs.declared.request.Access.{Access}
+use Rattle.x86_64_access.specs.declared.request.AccessKind.{AccessKind}
+use Rattle.x86_64_access.specs.declared.request.AccessKind.TheVariants.{Read, Write, Fetch}
+use Rattle.x86_64_mappings.specs.Numbers.{hexadecimal}
+use Rattle.x86_64_model.specs.Access.{Outcome, Arrives, Faults, NoMemory, access}
+use Rattle.x86_64_model.specs.Memory.{Words}
+use Rattle.x86_64_model.specs.PageWalk.{page_walk}
+use Rattle.ptdump_engine.specs.Walks.{line}
+use Rattle.ptdump_engine.specs.declared.request.ProcessorAccess.{ProcessorAccess}
+
+-- what the processor does with the access at position p, by the words of the tables below a root
+abbrev pub outcome_in : (L : ℕ) → Words → (root p : ℕ) → ProcessorAccess → Outcome
+outcome_in L T root p asked = access L (controls_of asked.controls) T root p (access_of asked.access)
+
+abbrev pub is_arrived : Outcome → Bool
+is_arrived (Arrives address) = true
+is_arrived outcome = false
+
+-- settings with at most 52 bits of physical addresses
+abbrev pub limited : Controls → Controls
+limited c = record c { physical_bits = min c.physical_bits 52 }
+
+-- ---- texts
+
+abbrev pub kind_name : AccessKind → List ℕ
+kind_name Read = codes "read"
+kind_name Write = codes "write"
+kind_name Fetch = codes "fetch"
+
+-- the name of an access, as user-read or supervisor-fetch
+abbrev pub access_name : Access → List ℕ
+access_name a = (if a.user then codes "user-" else codes "supervisor-") ++ kind_name a.kind
+
+-- a text if a code has a bit
+unfoldable pub bit_text : (code bit : ℕ) → (text : List ℕ) → List ℕ
+bit_text code bit text = if not (bit_and code bit == 0) then text else []
+
+-- an error code, and the names of its bits
+unfoldable pub code_text : (code : ℕ) → List ℕ
+code_text code = hexadecimal code ++ bit_text code 0x1 (codes ", present") ++ bit_text code 0x2 (codes ", write") ++ bit_text code 0x4 (codes ", user")
+    ++ bit_text code 0x8 (codes ", reserved bit") ++ bit_text code 0x10 (codes ", fetch")
+
+abbrev pub outcome_text : Outcome → List ℕ
+outcome_text (Arrives address) = codes " arrives at " ++ hexadecimal address
+outcome_text (Faults code level) = codes " faults at level " ++ decimal level ++ codes ", code " ++ code_text code
+outcome_text (NoMemory frame) = codes " needs the table at " ++ hexadecimal frame ++ codes ", which the dump lacks"
+
+-- the name of an access, and what the processor does with it
+abbrev pub access_text : Access → Outcome → List ℕ
+access_text a outcome = access_name a ++ outcome_text outcome
+
+-- ---- walks
+
+-- the line of the access that is asked for, if one is
+abbrev pub asked_text : Option ProcessorAccess → (L : ℕ) → Words → (root p : ℕ) → List ℕ
+asked_text None L T root p = []
+asked_text (Some asked) L T root p = line (access_text asked.access (outcome_in L T root p asked))
+
+-- whether the access that is asked for arrives, or if none is, the page walk
+abbrev pub is_there : Option ProcessorAccess → (L : ℕ) → Words → (root p : ℕ) → Bool
+is_there None L T root p = is_some (page_walk L T root p)
+is_there (Some asked) L T root p = is_arrived (outcome_in L T root p asked)

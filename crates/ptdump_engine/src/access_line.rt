@@ -1,0 +1,166 @@
+//! The line that says what a processor does with an access.
+ghost use Rattle.std.specs.Prelude.{◌≡◌, OnOk, IfOk, Some};
+ghost use Rattle.std.specs.Fmt.{WritesOnOk};
+ghost use Rattle.x86_64_access.specs.Accesses.{fault_of, outcome_of};
+ghost use Rattle.x86_64_model.specs.Memory.{words_of, identity_places};
+ghost use Rattle.ptdump_engine.specs.Accesses as accesses;
+ghost use Rattle.ptdump_engine.specs.Loaded.{words_loaded};
+ghost use Rattle.ptdump_engine.specs.Output.{Puts};
+ghost use Rattle.ptdump_engine.specs.Walks.{line};
+
+use crate::loaded::Loaded;
+use crate::output::{Output, OutputError};
+use crate::request::ProcessorAccess;
+use bitflags::Flags;
+use std::fmt::{Display, Formatter, Result as FmtResult, Write};
+use std::io;
+use x86_64_access::{Access, AccessKind, Controls, Fault, PageFaultCode, access};
+use x86_64_addr::addr::{PhysAddr, VirtAddrIn};
+use x86_64_addr::level_count::LevelCount;
+use x86_64_mappings::text::write_hexadecimal;
+use x86_64_page::frame::PhysFrame;
+use x86_64_page::page::Size4KiB;
+use x86_64_tables::phys_memory::{IdentityMapping, PhysMemory};
+
+/// The largest number of bits of a physical address.
+const PHYSICAL_BITS: u8 = 52;
+
+/// Writes what a processor does with an access at an address, and returns true if the access arrives.
+///
+/// # Errors
+///
+/// `OutputError::OutOfMemory` if memory allocation fails, `OutputError::Write` if a write fails.
+pub fn write_access<L: LevelCount, W: io::Write>(
+    loaded: &Loaded<'_, L>,
+    address: VirtAddrIn<L>,
+    asked: ProcessorAccess,
+    output: &mut Output<'_, W>,
+) -> Result<bool, OutputError>
+    ensures text { OnOk result (Puts W.contents output.old output.new (line (accesses.access_text asked.access
+        (accesses.outcome_in L.LEVELS (words_loaded loaded.now) loaded.now.root address asked)))) }
+    ensures arrives { IfOk result (λ arrives. arrives ≡ accesses.is_arrived
+        (accesses.outcome_in L.LEVELS (words_loaded loaded.now) loaded.now.root address asked)) }
+{
+    let end = end_of(loaded.tables.memory(), loaded.root, address, asked);
+    let line = AccessLine {
+        access: asked.access,
+        end,
+    };
+    writeln!(output, "{line}")?;
+    Ok(end.is_ok())
+}
+
+/// Returns what a processor does with an access at an address: the physical address at which it arrives, or the fault.
+fn end_of<L: LevelCount>(
+    memory: &PhysMemory,
+    root: PhysFrame<Size4KiB>,
+    address: VirtAddrIn<L>,
+    asked: ProcessorAccess,
+) -> Result<PhysAddr, Fault>
+    ensures { outcome_of result
+        ≡ accesses.outcome_in L.LEVELS (words_of memory.now identity_places) root address asked }
+{
+    let controls = limited(asked.controls);
+    access(
+        memory,
+        &IdentityMapping,
+        root,
+        address,
+        asked.access,
+        &controls,
+    )
+}
+
+/// Returns settings with at most 52 bits of physical addresses. Entries have no higher address bits, so accesses are the same.
+fn limited(controls: Controls) -> Controls
+    ensures { result ≡ accesses.limited controls }
+{
+    Controls {
+        physical_bits: controls.physical_bits.min(PHYSICAL_BITS),
+        ..controls
+    }
+}
+
+/// An access, and what a processor does with it, as text.
+#[derive(Clone, Copy)]
+struct AccessLine {
+    /// The access.
+    access: Access,
+    /// The physical address at which it arrives, or the fault.
+    end: Result<PhysAddr, Fault>,
+}
+
+impl Display for AccessLine {
+    ghost output = { λ line. Some (accesses.access_text line.access (outcome_of line.end)) };
+
+    fn fmt<W: Write>(&self, f: &mut Formatter<W>) -> FmtResult {
+        f.write_str(access_name(self.access))?;
+        write_end(f, self.end)
+    }
+}
+
+/// Returns the name of an access.
+fn access_name(access: Access) -> &'static str
+    ensures { result.now ≡ accesses.access_name access }
+{
+    match (access.user, access.kind) {
+        (true, AccessKind::Read) => "user-read",
+        (true, AccessKind::Write) => "user-write",
+        (true, AccessKind::Fetch) => "user-fetch",
+        (false, AccessKind::Read) => "supervisor-read",
+        (false, AccessKind::Write) => "supervisor-write",
+        (false, AccessKind::Fetch) => "supervisor-fetch",
+    }
+}
+
+/// Writes what a processor does with an access.
+fn write_end<W: Write>(f: &mut Formatter<W>, end: Result<PhysAddr, Fault>) -> FmtResult
+    ensures { WritesOnOk W.write_str_gives f.old result (accesses.outcome_text (outcome_of end)) f.new }
+{
+    match end {
+        Ok(address) => {
+            f.write_str(" arrives at ")?;
+            write_hexadecimal(f, address.as_u64())
+        }
+        Err(fault) => write_fault(f, fault),
+    }
+}
+
+/// Writes why an access doesn't arrive.
+fn write_fault<W: Write>(f: &mut Formatter<W>, fault: Fault) -> FmtResult
+    ensures { WritesOnOk W.write_str_gives f.old result (accesses.outcome_text (fault_of fault)) f.new }
+{
+    match fault {
+        Fault::PageFault { code, level } => {
+            write!(f, " faults at level {level}, code ")?;
+            write_code(f, code)
+        }
+        Fault::NoMemory { frame } => {
+            f.write_str(" needs the table at ")?;
+            write_hexadecimal(f, frame.start_address().as_u64())?;
+            f.write_str(", which the dump lacks")
+        }
+    }
+}
+
+/// Writes the error code of a page fault, with the names of its bits.
+#[tactic(auto, unfolding(crate::specs::Accesses::code_text))]
+fn write_code<W: Write>(f: &mut Formatter<W>, code: PageFaultCode) -> FmtResult
+    ensures { WritesOnOk W.write_str_gives f.old result (accesses.code_text code.0) f.new }
+{
+    let code = code.bits();
+    write_hexadecimal(f, code)?;
+    write_bit(f, code, 0x1, ", present")?;
+    write_bit(f, code, 0x2, ", write")?;
+    write_bit(f, code, 0x4, ", user")?;
+    write_bit(f, code, 0x8, ", reserved bit")?;
+    write_bit(f, code, 0x10, ", fetch")
+}
+
+/// Writes a text if a code has a bit.
+#[tactic(auto, unfolding(crate::specs::Accesses::bit_text))]
+fn write_bit<W: Write>(f: &mut Formatter<W>, code: u64, bit: u64, text: &'static str) -> FmtResult
+    ensures { WritesOnOk W.write_str_gives f.old result (accesses.bit_text code bit text.now) f.new }
+{
+    f.write_str(if code & bit != 0 { text } else { "" })
+}
