@@ -13,7 +13,7 @@ use Rattle.x86_64_model.specs.Pool.{IsTable}
 use Rattle.pagetab_engine.specs.Arguments.{count}
 use Rattle.pagetab_engine.specs.Frames.{direct_layout, recursive_layout, without_self_entry}
 use Rattle.pagetab_engine.specs.Slot.{stored_in}
-use Rattle.pagetab_engine.specs.declared.arguments.Levels.{Levels}
+use Rattle.x86_64_addr.specs.declared.level_count.Levels.{Levels}
 
 module _ (levels : Levels) (m : Memory) (r : ℕ) where
   abbrev T : Words

@@ -10,7 +10,7 @@ use Rattle.x86_64_tables.specs.PageTable.{zero_words}
 use Rattle.pagetab_engine.specs.Arguments.{count}
 use Rattle.pagetab_engine.specs.Frames.{direct_layout, recursive_layout, without_self_entry}
 use Rattle.pagetab_engine.specs.Hierarchy.{IsCopy, HasCopy, FitsIn, FitsImage, IsReached, IsHierarchy, first_memory}
-use Rattle.pagetab_engine.specs.declared.arguments.Levels.{Levels}
+use Rattle.x86_64_addr.specs.declared.level_count.Levels.{Levels}
 use Rattle.pagetab_engine.specs.declared.arguments.Mode.{Mode}
 use Rattle.pagetab_engine.specs.declared.arguments.Mode.TheVariants.{Direct, Offset, Recursive, Pair}
 use Rattle.pagetab_engine.specs.declared.frames.Frames.{Frames}

@@ -5,7 +5,7 @@ use Rattle.x86_64_model.specs.Position.{raw, lower_half, position_count}
 use Rattle.x86_64_mappings.specs.Numbers.{number_of}
 use Rattle.pagetab_engine.specs.Arguments.{SaysMode, Says}
 use Rattle.pagetab_engine.specs.declared.arguments.Arguments.{Arguments}
-use Rattle.pagetab_engine.specs.declared.arguments.Levels.TheVariants.{Four, Five}
+use Rattle.x86_64_addr.specs.declared.level_count.Levels.TheVariants.{Four, Five}
 use Rattle.pagetab_engine.specs.declared.arguments.Mode.{Mode}
 use Rattle.pagetab_engine.specs.declared.arguments.Mode.TheVariants.{Direct, Offset, Recursive, Pair}
 

@@ -4,7 +4,7 @@ use Rattle.x86_64.specs.Asked.{MapperCall, names_by}
 use Rattle.x86_64.specs.Replies.{Reply}
 use Rattle.x86_64.specs.Runs as runs
 use Rattle.x86_64.specs.Runs.{AfterStep}
-use Rattle.x86_64.specs.declared.calls.MapperReply.TheVariants.{NotAllowed}
+use Rattle.x86_64.specs.declared.call_values.MapperReply.TheVariants.{NotAllowed}
 use Rattle.pagetab_engine.specs.Arguments.{count, levels_of}
 use Rattle.pagetab_engine.specs.Calls.{asked_back}
 use Rattle.pagetab_engine.specs.Hierarchy.{call_back, call_step, hierarchy_state, is_index_named, is_refused, machine_of}

@@ -12,7 +12,7 @@ use Rattle.x86_64.specs.EveryWord.{IsLeft, SameWords}
 use Rattle.x86_64.specs.Replies.{Reply as CallReply}
 use Rattle.x86_64.specs.Runs as runs
 use Rattle.x86_64.specs.Runs.{AfterStep}
-use Rattle.x86_64.specs.declared.calls.MapperReply.TheVariants.{NotAllowed}
+use Rattle.x86_64.specs.declared.call_values.MapperReply.TheVariants.{NotAllowed}
 use Rattle.x86_64.proofs.EveryWord.{every_word_is_decided}
 use Rattle.pagetab_engine.specs.Arguments.{count, levels_of}
 use Rattle.pagetab_engine.specs.Calls.{machine_by, asked_back}

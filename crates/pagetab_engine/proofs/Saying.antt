@@ -1,7 +1,7 @@
 -- The meaning of the words of a mode, and that other words have none.
 use Rattle.std.proofs.Common.{◌≢◌, ℕ, List, [], ◌∷◌, codes, Option, Some, None, IfNone}
 use Rattle.pagetab_engine.specs.Arguments.{SaysMode}
-use Rattle.pagetab_engine.specs.declared.arguments.Levels.TheVariants.{Four, Five}
+use Rattle.x86_64_addr.specs.declared.level_count.Levels.TheVariants.{Four, Five}
 use Rattle.pagetab_engine.specs.declared.arguments.Mode.{Mode}
 use Rattle.pagetab_engine.specs.declared.arguments.Mode.TheVariants.{Direct, Offset, Recursive, Pair}
 

@@ -3,8 +3,8 @@ use Rattle.std.specs.Prelude.{◌≡◌, ◌≤◌, ◌<◌, ℕ, List, [], ◌�
 use Rattle.x86_64_model.specs.Position.{raw}
 use Rattle.x86_64_mappings.specs.Numbers.{IsNumber, number_of}
 use Rattle.pagetab_engine.specs.declared.arguments.Arguments.{Arguments}
-use Rattle.pagetab_engine.specs.declared.arguments.Levels.{Levels}
-use Rattle.pagetab_engine.specs.declared.arguments.Levels.TheVariants.{Four, Five}
+use Rattle.x86_64_addr.specs.declared.level_count.Levels.{Levels}
+use Rattle.x86_64_addr.specs.declared.level_count.Levels.TheVariants.{Four, Five}
 use Rattle.pagetab_engine.specs.declared.arguments.Mode.{Mode}
 use Rattle.pagetab_engine.specs.declared.arguments.Mode.TheVariants.{Direct, Offset, Recursive, Pair}
 

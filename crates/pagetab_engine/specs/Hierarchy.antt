@@ -12,7 +12,7 @@ use Rattle.x86_64.specs.FreeFrames.{KeepsFree as KeepsFreeFrames}
 use Rattle.x86_64.specs.Runs as runs
 use Rattle.x86_64.specs.Replies.{Reply}
 use Rattle.x86_64.specs.Runs.{AfterStep}
-use Rattle.x86_64.specs.declared.calls.MapperReply.TheVariants.{NotAllowed}
+use Rattle.x86_64.specs.declared.call_values.MapperReply.TheVariants.{NotAllowed}
 use Rattle.pagetab_engine.specs.Arguments.{count, levels_of}
 use Rattle.pagetab_engine.specs.Calls.{machine_by, asked_back, IsAnswered}
 use Rattle.pagetab_engine.specs.Frames.{direct_layout, recursive_layout, FitsBy, without_self_entry}

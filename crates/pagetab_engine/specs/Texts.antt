@@ -16,10 +16,10 @@ use Rattle.x86_64_tables.specs.declared.mapper.TranslateResult.{TranslateResult}
 use Rattle.x86_64_tables.specs.declared.mapper.TranslateResult.TheVariants.{Mapped, NotMapped, InvalidFrameAddress}
 use Rattle.x86_64_tables.specs.declared.mapper.UnmapError.{UnmapError}
 use Rattle.x86_64_tables.specs.declared.mapper.UnmapError.TheVariants as unmap
-use Rattle.x86_64.specs.declared.calls.MapperReply.{MapperReply}
-use Rattle.x86_64.specs.declared.calls.MapperReply.TheVariants as call
-use Rattle.x86_64.specs.declared.calls.PageReply.{PageReply}
-use Rattle.x86_64.specs.declared.calls.PageReply.TheVariants.{Map, Unmap, Update, TableFlags, Frame}
+use Rattle.x86_64.specs.declared.call_values.MapperReply.{MapperReply}
+use Rattle.x86_64.specs.declared.call_values.MapperReply.TheVariants as call
+use Rattle.x86_64.specs.declared.call_values.PageReply.{PageReply}
+use Rattle.x86_64.specs.declared.call_values.PageReply.TheVariants.{Map, Unmap, Update, TableFlags, Frame}
 use Rattle.pagetab_engine.specs.Reply.{Reply, Answered, Arrival, Word, Pool}
 use Rattle.pagetab_engine.specs.declared.ending.Fault.{Fault}
 use Rattle.pagetab_engine.specs.declared.ending.Fault.TheVariants.{BadLine, InvalidHierarchy, OutOfMemory, Input, Output, Usage}

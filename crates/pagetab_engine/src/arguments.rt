@@ -1,45 +1,32 @@
 //! The program's arguments.
-ghost use Rattle.std.specs.Prelude.{◌<◌, ℕ, [], ◌∷◌, map, string_bytes, IfSome, IfNone};
+ghost use Rattle.std.specs.Prelude.{◌≡◌, ◌<◌, ℕ, [], ◌∷◌, map, string_bytes, IfSome, IfNone};
 ghost use Rattle.std.specs.Option.{SomeIff};
-ghost use Rattle.pagetab_engine.specs.Arguments.{IsPlaces, IsAddress, IsIndex, Says, SaysMode};
+ghost use Rattle.pagetab_engine.specs.Arguments.{IsPlaces, IsAddress, IsIndex, Says, SaysMode, recursive_word as recursive_word_of, pair_word as pair_word_of};
 ghost use Rattle.x86_64_mappings.specs.Numbers.{number_of};
 ghost use Rattle.pagetab_engine.specs.declared.arguments.Mode.TheVariants.{Recursive, Pair};
 
 use x86_64::structures::paging::PageTableIndex;
 use x86_64::{CallIn, LevelCount, LevelFiveFlags, VirtAddr};
+use x86_64_addr::level_count::Levels;
 use x86_64_mappings::text::parse_number;
 
-/// The number of levels of page tables.
-#[derive(Clone, Copy)]
-pub enum Levels {
-    /// Four levels, for 48-bit addresses.
-    Four,
-    /// Five levels, for 57-bit addresses.
-    Five,
+/// Returns the word for the recursive mapper.
+fn recursive_word(levels: Levels) -> &'static str
+    ensures { result.now ≡ recursive_word_of levels }
+{
+    match levels {
+        Levels::Four => "recursive",
+        Levels::Five => "recursive5",
+    }
 }
 
-impl Levels {
-    ghost use Rattle.std.specs.Prelude.{◌≡◌};
-    ghost use Rattle.pagetab_engine.specs.Arguments.{recursive_word, pair_word};
-
-    /// Returns the word for the recursive mapper.
-    fn recursive_word(self) -> &'static str
-        ensures { result.now ≡ recursive_word self }
-    {
-        match self {
-            Levels::Four => "recursive",
-            Levels::Five => "recursive5",
-        }
-    }
-
-    /// Returns the word for a pair of mappers.
-    fn pair_word(self) -> &'static str
-        ensures { result.now ≡ pair_word self }
-    {
-        match self {
-            Levels::Four => "pair",
-            Levels::Five => "pair5",
-        }
+/// Returns the word for a pair of mappers.
+fn pair_word(levels: Levels) -> &'static str
+    ensures { result.now ≡ pair_word_of levels }
+{
+    match levels {
+        Levels::Four => "pair",
+        Levels::Five => "pair5",
     }
 }
 
@@ -152,9 +139,9 @@ fn parse_recursive(levels: Levels, word: &str, number: &str) -> Option<Mode>
     ensures no_pair { IfNone result ((index : ℕ) →
         ¬ (SaysMode word.now (number.now ∷ []) (Pair levels index))) }
 {
-    if word == levels.recursive_word() {
+    if word == recursive_word(levels) {
         Some(Mode::Recursive(levels, parse_index(number)?))
-    } else if word == levels.pair_word() {
+    } else if word == pair_word(levels) {
         Some(Mode::Pair(levels, parse_index(number)?))
     } else {
         None

@@ -10,7 +10,7 @@ ghost use Rattle.pagetab_engine.specs.private.RunParts.{LoadsImage, Replies, Run
 ghost use Rattle.pagetab_engine.specs.Reply.{IsToldByBoth, OnlyReads, command_back, command_reply, command_state, reply_of};
 ghost use Rattle.pagetab_engine.specs.declared.ending.Fault.TheVariants.{Output};
 
-use crate::arguments::{Arguments, Levels};
+use crate::arguments::Arguments;
 use crate::ending::{Ending, Fault};
 use crate::hierarchy::Hierarchy;
 use crate::lines::Lines;
@@ -20,6 +20,7 @@ use std::alloc::{AllocError, Global};
 use std::io::{ErrorKind, Read, Write};
 use x86_64::structures::paging::PageTableFlags;
 use x86_64::{FiveLevels, FourLevels, LevelCount, LevelFiveFlags, NoLevelFive};
+use x86_64_addr::level_count::Levels;
 
 /// Runs the program on its arguments. Reads an image and commands from `reader`, and writes a reply to each command.
 ///

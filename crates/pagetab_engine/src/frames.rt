@@ -10,7 +10,6 @@ ghost use Rattle.pagetab_engine.specs.Arguments.{count};
 ghost use Rattle.pagetab_engine.specs.Frames.{direct_layout, recursive_layout, FitsBy, IsLoadable, IsRefusedFor, memory_after, free_after, without_self_entry};
 ghost use Rattle.pagetab_engine.specs.Slot.{word_in};
 
-use crate::arguments::Levels;
 use crate::slot::Slot;
 use crate::statement::ImageLine;
 use std::alloc::{AllocError, Global};
@@ -19,6 +18,7 @@ use x86_64::{
     FramePool, IdentityMapping, LevelCount, PhysAddr, PhysMemory, PoolRefusal, VirtAddrIn, Walked,
     page_walk, pool_fits, pool_fits_57, pool_fits_recursive, pool_fits_recursive_57,
 };
+use x86_64_addr::level_count::Levels;
 
 /// Page tables in a memory, and the frames that are free for new ones.
 #[derive(Drop)]

@@ -9,13 +9,14 @@ ghost use Rattle.pagetab_engine.specs.Frames.{IsLoadable, IsRefusedFor, memory_a
 ghost use Rattle.pagetab_engine.specs.Hierarchy.{hierarchy_state, call_back, call_state, call_step, first_memory, is_index_named, is_refused, layout_of};
 ghost use Rattle.pagetab_engine.specs.Hierarchy.{BothAnswer, FitsImage, HasCopy, ReachesAll, IsHierarchy, KeepsHierarchy, KeepsFree, TwinTells};
 
-use crate::arguments::{Arguments, Levels, Mode};
-use crate::calls::{answer_at_offset, answer_by_both, answer_direct, answer_recursively};
+use crate::arguments::{Arguments, Mode};
+use crate::execution::{answer_at_offset, answer_by_both, answer_direct, answer_recursively};
 use crate::frames::Frames;
 use crate::statement::ImageLine;
 use std::alloc::{AllocError, Global};
 use x86_64::structures::paging::OffsetPageTable;
 use x86_64::{CallIn, LevelCount, LevelFiveFlags, MapperReply, PoolRefusal, ReplyIn, VirtAddrIn};
+use x86_64_addr::level_count::Levels;
 
 /// The frames of a hierarchy, and the mapper that executes calls.
 ///

@@ -2,7 +2,7 @@
 #![tactic(auto)]
 
 mod arguments;
-mod calls;
+mod execution;
 pub mod ending;
 pub mod engine;
 mod fields;

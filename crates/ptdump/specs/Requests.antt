@@ -4,8 +4,8 @@ use Rattle.clap.specs.Matches.{first_value, matched_of, raw_values}
 use Rattle.clap.specs.declared.parser.matches.Found.{Found}
 use Rattle.ptdump_engine.specs.declared.request.Command.{Command}
 use Rattle.ptdump_engine.specs.declared.request.Command.TheVariants.{Regions, Pages, Walk, Find, Check, Image, Picture}
-use Rattle.ptdump_engine.specs.declared.request.Levels.{Levels}
-use Rattle.ptdump_engine.specs.declared.request.Levels.TheVariants.{Four, Five}
+use Rattle.x86_64_addr.specs.declared.level_count.Levels.{Levels}
+use Rattle.x86_64_addr.specs.declared.level_count.Levels.TheVariants.{Four, Five}
 use Rattle.ptdump_engine.specs.declared.request.Request.{Request}
 use Rattle.ptdump_engine.specs.declared.failure.Failure.TheVariants.{OutOfMemory}
 use Rattle.ptdump.specs.Asked.{IsAccess}

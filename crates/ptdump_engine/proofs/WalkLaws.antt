@@ -5,11 +5,11 @@ use Rattle.std.proofs.Math.Nat.{mod-eq-sub-div-mul}
 use Rattle.x86_64_dump.specs.Reached.{SameBelow}
 use Rattle.x86_64_model.specs.Entry.{present, huge, address}
 use Rattle.x86_64_model.specs.Laws.Mappings.{arrival_in}
-use Rattle.x86_64_model.specs.Mappings.{Rights, Mapping, maps_page}
+use Rattle.x86_64_model.specs.Mappings.{Rights, Mapping, maps_page, every_right, granted}
 use Rattle.x86_64_model.specs.Memory.{Words}
 use Rattle.x86_64_model.specs.PageWalk.{Walked, read, page_start, arrives, page_walk}
 use Rattle.x86_64_model.specs.Position.{index, span}
-use Rattle.x86_64_model.specs.private.Found.{every_right, narrowed, page_at, found_on, found}
+use Rattle.x86_64_model.specs.private.Found.{page_at, found_on, found}
 use Rattle.x86_64_model.proofs.Lemmas.Mappings.Walked.{walk_finds}
 use Rattle.ptdump_engine.specs.Laws.{WrittenWalksArrive}
 use Rattle.ptdump_engine.specs.Walks.{End, Walk, arrives_at, not_present, huge_page, no_table, after, behind, ends, arrival_with, arrival_of, walk_from, walk_of, walk_rights}
@@ -23,7 +23,7 @@ abbrev arrival_below : Rights → Walk → Option Walked
 arrival_below r walk = arrival_with (both r (walk_rights walk)) walk.end
 
 -- reading a word only narrows the rights
-arrival-after : (r : Rights) (w : WordRead) (walk : Walk) → arrival_below r (after w walk) ≡ arrival_below (narrowed r w.word) walk
+arrival-after : (r : Rights) (w : WordRead) (walk : Walk) → arrival_below r (after w walk) ≡ arrival_below (granted r w.word) walk
 arrival-after r w walk = ap (λ s. arrival_with s walk.end) (narrowed_first r w walk)
 
 arrival-ends : (r : Rights) (end : End) → arrival_below r (ends end) ≡ arrival_with r end
@@ -34,14 +34,14 @@ abbrev found_by : (p level : ℕ) → Rights → (e : ℕ) → Option Mapping �
 found_by p level r e below = cond (present e) (cond (maps_page level e) (Some (page_at p level r e)) (cond (huge e) None below)) None
 
 behind_found : (p level e : ℕ) (r : Rights) (below : Walk) (mapping : Option Mapping)
-    → arrival_below (narrowed r e) below ≡ option_map (arrival_in p) mapping
-    → arrival_below (narrowed r e) (behind p level e below) ≡ option_map (arrival_in p) (found_by p level r e mapping)
+    → arrival_below (granted r e) below ≡ option_map (arrival_in p) mapping
+    → arrival_below (granted r e) (behind p level e below) ≡ option_map (arrival_in p) (found_by p level r e mapping)
 behind_found p level e r below mapping same = each (present e) (maps_page level e) (huge e)
   where
-    each : (b m h : Bool) → arrival_below (narrowed r e) (cond b (cond m (ends (arrives_at (page_start level e + p % span level))) (cond h (ends (huge_page level)) below)) (ends not_present))
+    each : (b m h : Bool) → arrival_below (granted r e) (cond b (cond m (ends (arrives_at (page_start level e + p % span level))) (cond h (ends (huge_page level)) below)) (ends not_present))
         ≡ option_map (arrival_in p) (cond b (cond m (Some (page_at p level r e)) (cond h None mapping)) None)
-    each true true h = arrival-ends (narrowed r e) (arrives_at (page_start level e + p % span level))
-        ∙ ap (λ o. arrives (page_start level e + o) (narrowed r e).write (narrowed r e).user) (mod-eq-sub-div-mul p (span level))
+    each true true h = arrival-ends (granted r e) (arrives_at (page_start level e + p % span level))
+        ∙ ap (λ o. arrives (page_start level e + o) (granted r e).write (granted r e).user) (mod-eq-sub-div-mul p (span level))
     each true false true = refl
     each true false false = same
     each false m h = refl
@@ -49,11 +49,11 @@ behind_found p level e r below mapping same = each (present e) (maps_page level 
 walked : (T : Words) (p level : ℕ) (r : Rights) (f : ℕ) → arrival_below r (walk_from T p level f) ≡ option_map (arrival_in p) (found_on T p level r f)
 unfolding walk_from found_on
 walked T p zero r f = refl
-walked T p (suc n) r f = by (read T f (index (suc n) p)) (λ e. walked T p n (narrowed r e) (address e))
+walked T p (suc n) r f = by (read T f (index (suc n) p)) (λ e. walked T p n (granted r e) (address e))
   where
-    by : (o : Option ℕ) → ((e : ℕ) → arrival_below (narrowed r e) (walk_from T p n (address e)) ≡ option_map (arrival_in p) (found_on T p n (narrowed r e) (address e)))
+    by : (o : Option ℕ) → ((e : ℕ) → arrival_below (granted r e) (walk_from T p n (address e)) ≡ option_map (arrival_in p) (found_on T p n (granted r e) (address e)))
         → arrival_below r (option_map_or (λ e. after (word_read p (suc n) f e) (behind p (suc n) e (walk_from T p n (address e)))) o (ends (no_table f)))
-        ≡ option_map (arrival_in p) (option_and_then (λ e. found_by p (suc n) r e (found_on T p n (narrowed r e) (address e))) o)
+        ≡ option_map (arrival_in p) (option_and_then (λ e. found_by p (suc n) r e (found_on T p n (granted r e) (address e))) o)
     by None on = refl
     by (Some e) on = arrival-after r (word_read p (suc n) f e) _ ∙ behind_found p (suc n) e r _ _ (on e)
 

@@ -3,11 +3,10 @@ use Rattle.std.proofs.Common.{◌≡◌, ◌∙◌, ◌≤◌, ◌-◌, ◌++◌
 use Rattle.std.specs.List.{flat_map}
 use Rattle.std.proofs.Math.Bool.{and_assoc, and-true}
 use Rattle.x86_64_model.specs.Entry.{address, writable, user, no_execute, present, huge}
-use Rattle.x86_64_model.specs.Mappings.{Rights}
+use Rattle.x86_64_model.specs.Mappings.{Rights, every_right, granted}
 use Rattle.x86_64_model.specs.Memory.{Words}
 use Rattle.x86_64_model.specs.PageWalk.{read}
 use Rattle.x86_64_model.specs.Position.{index}
-use Rattle.x86_64_model.specs.private.Found.{every_right, narrowed}
 use Rattle.ptdump_engine.specs.Walks.{Walk, End, no_table, after, behind, ends, end_text, line, walk_from, walk_rights, walk_text, word_text}
 use Rattle.ptdump_engine.specs.declared.word_read.WordRead.{WordRead}
 use Rattle.x86_64_tables.specs.Rights.{both}
@@ -20,7 +19,7 @@ word_read p level f e = record { level = level; table = f; index = index level p
 -- ---- rights
 
 -- the rights of words below another word
-pub narrowed_first : (r : Rights) (w : WordRead) (walk : Walk) → both r (walk_rights (after w walk)) ≡ both (narrowed r w.word) (walk_rights walk)
+pub narrowed_first : (r : Rights) (w : WordRead) (walk : Walk) → both r (walk_rights (after w walk)) ≡ both (granted r w.word) (walk_rights walk)
 narrowed_first r w walk = let below = walk_rights walk in λ i. record {
   write = sym (and_assoc r.write (writable w.word) below.write) i;
   user = sym (and_assoc r.user (user w.word) below.user) i;
@@ -33,7 +32,7 @@ rights_kept r end = λ i. record { write = and-true r.write i; user = and-true r
 
 -- ---- lines
 
-pub lines-after : (r : Rights) (w : WordRead) (walk : Walk) → lines_below r (after w walk) ≡ line (word_text w) ++ lines_below (narrowed r w.word) walk
+pub lines-after : (r : Rights) (w : WordRead) (walk : Walk) → lines_below r (after w walk) ≡ line (word_text w) ++ lines_below (granted r w.word) walk
 unfolding lines_below
 lines-after r w walk =
     let lines = flat_map (λ v. line (word_text v)) walk.words in

@@ -2,11 +2,10 @@
 use Rattle.std.proofs.Common.{◌≡◌, ◌∙◌, ◌≤◌, ◌+◌, ◌-◌, ◌%◌, ◌++◌, ℕ, Bool, true, false, cond, get_or, slice_index, List, Option, String, Some, None, option_map, refl, sym, ap, subst}
 use Rattle.std.specs.declared.alloc.Global.{Global}
 use Rattle.x86_64_model.specs.Entry.{address, present, huge}
-use Rattle.x86_64_model.specs.Mappings.{Rights, maps_page}
+use Rattle.x86_64_model.specs.Mappings.{Rights, maps_page, granted}
 use Rattle.x86_64_model.specs.Memory.{Words}
 use Rattle.x86_64_model.specs.PageWalk.{read, page_start}
 use Rattle.x86_64_model.specs.Position.{index, span}
-use Rattle.x86_64_model.specs.private.Found.{narrowed}
 use Rattle.ptdump_engine.specs.Output.{Puts}
 use Rattle.ptdump_engine.specs.Walks.{Walk, End, arrives_at, not_present, no_table, huge_page, after, behind, ends, end_text, line, walk_from, word_text}
 use Rattle.ptdump_engine.specs.declared.output.Output.{Output}
@@ -55,7 +54,7 @@ module _ {W : Type 0} (contents : W → Option (List ℕ)) where
   puts_missing old new T p level f r low missing put =
       subst (Puts contents old new) (sym (lines-ends r (no_table f)) ∙ ap (lines_below r) (sym (walk_from-missing T p level f low missing))) put
 
-  pub puts_below : (old between new : Output W (String Global)) (T : Words) (p level f e i : ℕ) (r s : Rights) (walk : Walk) → IsRead T p level f e → i ≡ index level p → s ≡ narrowed r e
+  pub puts_below : (old between new : Output W (String Global)) (T : Words) (p level f e i : ℕ) (r s : Rights) (walk : Walk) → IsRead T p level f e → i ≡ index level p → s ≡ granted r e
       → behind p level e (walk_from T p (level - 1) (address e)) ≡ walk
       → Puts contents old between (line (word_text (record { level = level; table = f; index = i; word = e })))
       → Puts contents between new (lines_below s walk)
@@ -69,7 +68,7 @@ module _ {W : Type 0} (contents : W → Option (List ℕ)) where
       subst (Puts contents old new) (sym lines) (puts_both contents old between new _ _ first rest)
 
   -- the walk ends after the word
-  pub puts_end : (old between new : Output W (String Global)) (T : Words) (p level f e i : ℕ) (r s : Rights) (end : End) → IsRead T p level f e → i ≡ index level p → s ≡ narrowed r e
+  pub puts_end : (old between new : Output W (String Global)) (T : Words) (p level f e i : ℕ) (r s : Rights) (end : End) → IsRead T p level f e → i ≡ index level p → s ≡ granted r e
       → behind p level e (walk_from T p (level - 1) (address e)) ≡ ends end
       → Puts contents old between (line (word_text (record { level = level; table = f; index = i; word = e })))
       → Puts contents between new (line (end_text s end))

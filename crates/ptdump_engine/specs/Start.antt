@@ -8,8 +8,8 @@ use Rattle.x86_64_dump.specs.declared.note.Note.{Note}
 use Rattle.x86_64_model.specs.Entry.{address, has}
 use Rattle.ptdump_engine.specs.declared.failure.Failure.{Failure}
 use Rattle.ptdump_engine.specs.declared.failure.Failure.TheVariants as failures
-use Rattle.ptdump_engine.specs.declared.request.Levels.{Levels}
-use Rattle.ptdump_engine.specs.declared.request.Levels.TheVariants.{Four, Five}
+use Rattle.x86_64_addr.specs.declared.level_count.Levels.{Levels}
+use Rattle.x86_64_addr.specs.declared.level_count.Levels.TheVariants.{Four, Five}
 use Rattle.ptdump_engine.specs.declared.request.Request.{Request}
 use Rattle.ptdump_engine.specs.declared.start.Start.{Start}
 use Rattle.ptdump_engine.specs.Steps.{and_then, of_dump}

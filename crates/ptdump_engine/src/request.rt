@@ -1,15 +1,7 @@
 //! The request to a run, and its outcome.
 
 use x86_64_access::{Access, Controls};
-
-/// The number of levels of page tables.
-#[derive(Clone, Copy, Debug, PartialEq, Eq)]
-pub enum Levels {
-    /// Four, with addresses of 48 bits.
-    Four,
-    /// Five, with addresses of 57 bits.
-    Five,
-}
+pub use x86_64_addr::level_count::Levels;
 
 /// An access, and what the processor that makes it is set to.
 #[derive(Clone, Copy, Debug, PartialEq, Eq)]

@@ -1,7 +1,7 @@
 -- A frame's start plus the offset in the page fits a word.
 use Rattle.std.proofs.Common.{◌≡◌, ℕ, zero, suc, ◌+◌, ◌*◌, ◌/◌, ◌%◌, ◌^◌, ◌≤◌, ◌<◌, ◌&&◌, nat_le, Bool, true, false, cond, List, [], ◌∷◌, ◌++◌, arith, lit≤, refl, sym, subst, IfOk, Result, Ok, Err}
 use Rattle.std.specs.declared.alloc.AllocError.{AllocError}
-use Rattle.test_reference.specs.declared.calls.Translated as plain
+use Rattle.test_reference.specs.declared.plain_calls.Translated as plain
 use Rattle.test_reference.specs.Calls.{translated_of}
 use Rattle.std.proofs.lemmas.Bool.{leb-true, and_parts}
 use Rattle.x86_64_model.specs.Position.{span, index}

@@ -7,7 +7,7 @@ use Rattle.x86_64_model.specs.Refusal.{Refusal, Done, Refused, PageNotMapped, Pa
 use Rattle.x86_64_model.specs.PageRules.{AfterChange, refused_or, set_flags}
 use Rattle.x86_64_model.specs.Allowed.{none_absent, refuses}
 use Rattle.test_reference.specs.Fronts.{first_present}
-use Rattle.test_reference.specs.declared.calls.Refusal as plain
+use Rattle.test_reference.specs.declared.plain_calls.Refusal as plain
 use Rattle.test_reference.specs.Calls.{refusals_of}
 use Rattle.test_reference.proofs.Parents.{rest, rest_more}
 

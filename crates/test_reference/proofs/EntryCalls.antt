@@ -11,8 +11,8 @@ use Rattle.x86_64_model.specs.Refusal as refusal
 use Rattle.x86_64_model.specs.Refusal.{first_stop, refused_if, answer_unless, Done, Refused, PageNotMapped, ParentEntryHugePage}
 use Rattle.x86_64_model.specs.PageRules.{AfterChange, refused_or, unmap_refusal, update_refusal, translate_refusal, unmap, update_flags, translate_page, set_flags}
 use Rattle.test_reference.specs.Calls.{refusals_of, answer_of}
-use Rattle.test_reference.specs.declared.calls.Refusal.{Refusal}
-use Rattle.test_reference.specs.declared.calls.Answer.{Answer}
+use Rattle.test_reference.specs.declared.plain_calls.Refusal.{Refusal}
+use Rattle.test_reference.specs.declared.plain_calls.Answer.{Answer}
 
 -- the expected change of a call may be replaced by an equal one
 pub changed_along : (r : Result Answer AllocError) (after : PathMap) (x y : AfterChange) → x ≡ y → IfOk r (λ answer. ◌≡◌ {A = AfterChange} (record { paths = after; answer = answer_of answer }) x) → IfOk r (λ answer. ◌≡◌ {A = AfterChange} (record { paths = after; answer = answer_of answer }) y)

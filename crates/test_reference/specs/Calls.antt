@@ -6,16 +6,16 @@ use Rattle.x86_64_model.specs.MapRule.{AfterMap}
 use Rattle.x86_64_model.specs.Refusal as refusal
 use Rattle.x86_64_model.specs.Translation as translation
 use Rattle.x86_64_model.specs.Call as call
-use Rattle.test_reference.specs.declared.calls.Refusal.{Refusal}
-use Rattle.test_reference.specs.declared.calls.Refusal.TheVariants.{PageNotMapped, ParentEntryHugePage, InvalidFrameAddress, PageAlreadyMapped, FrameAllocationFailed}
-use Rattle.test_reference.specs.declared.calls.Answer.{Answer}
-use Rattle.test_reference.specs.declared.calls.Answer.TheVariants.{Done, Refused}
-use Rattle.test_reference.specs.declared.calls.Translated.{Translated}
-use Rattle.test_reference.specs.declared.calls.Translated.TheVariants.{NotMapped, Mapped}
-use Rattle.test_reference.specs.declared.calls.PlainCall.{PlainCall}
-use Rattle.test_reference.specs.declared.calls.PlainCall.TheVariants.{MapTo, MapToWithTableFlags, IdentityMap, Unmap, UpdateFlags, SetFlags, TranslatePage, Translate, TranslateAddress, CleanUp}
-use Rattle.test_reference.specs.declared.calls.PlainReply.{PlainReply}
-use Rattle.test_reference.specs.declared.calls.PlainReply.TheVariants.{NotAllowed, Answered, Position, Address, Cleaned}
+use Rattle.test_reference.specs.declared.plain_calls.Refusal.{Refusal}
+use Rattle.test_reference.specs.declared.plain_calls.Refusal.TheVariants.{PageNotMapped, ParentEntryHugePage, InvalidFrameAddress, PageAlreadyMapped, FrameAllocationFailed}
+use Rattle.test_reference.specs.declared.plain_calls.Answer.{Answer}
+use Rattle.test_reference.specs.declared.plain_calls.Answer.TheVariants.{Done, Refused}
+use Rattle.test_reference.specs.declared.plain_calls.Translated.{Translated}
+use Rattle.test_reference.specs.declared.plain_calls.Translated.TheVariants.{NotMapped, Mapped}
+use Rattle.test_reference.specs.declared.plain_calls.PlainCall.{PlainCall}
+use Rattle.test_reference.specs.declared.plain_calls.PlainCall.TheVariants.{MapTo, MapToWithTableFlags, IdentityMap, Unmap, UpdateFlags, SetFlags, TranslatePage, Translate, TranslateAddress, CleanUp}
+use Rattle.test_reference.specs.declared.plain_calls.PlainReply.{PlainReply}
+use Rattle.test_reference.specs.declared.plain_calls.PlainReply.TheVariants.{NotAllowed, Answered, Position, Address, Cleaned}
 
 abbrev pub refusal_of : Refusal → refusal.Refusal
 refusal_of PageNotMapped = refusal.PageNotMapped

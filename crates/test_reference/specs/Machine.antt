@@ -6,7 +6,7 @@ use Rattle.x86_64_model.specs.Call.{Call}
 use Rattle.x86_64_model.specs.Machine.{Machine, State, AfterCall, do_call}
 use Rattle.test_reference.specs.Windows.{window_of}
 use Rattle.test_reference.specs.Calls.{reply_of}
-use Rattle.test_reference.specs.declared.calls.PlainReply.{PlainReply}
+use Rattle.test_reference.specs.declared.plain_calls.PlainReply.{PlainReply}
 use Rattle.test_reference.specs.declared.machine.PlainMachine.{PlainMachine}
 use Rattle.test_reference.specs.declared.machine.PlainState.{PlainState}
 

@@ -9,7 +9,7 @@ ghost use Rattle.x86_64_model.specs.PageRules.{AfterChange, refused_or, unmap_re
 ghost use Rattle.test_reference.specs.Windows.{entry_read};
 ghost use Rattle.test_reference.specs.Calls.{refusals_of, answer_of, after_change};
 
-use crate::calls::{Answer, Refusal};
+use crate::plain_calls::{Answer, Refusal};
 use crate::entries::PathEntries;
 use crate::machine::PlainMachine;
 use crate::positions::{front_at, is_small, level_of, span_size};

@@ -9,7 +9,7 @@ ghost use Rattle.test_reference.specs.Fronts.{first_present};
 ghost use Rattle.test_reference.specs.Windows.{window_of, entry_read};
 ghost use Rattle.test_reference.specs.Calls.{call_of};
 
-use crate::calls::PlainCall;
+use crate::plain_calls::PlainCall;
 use crate::entries::PathEntries;
 use crate::machine::PlainMachine;
 use crate::positions::{front_at, is_small, level_of, lower_half, path_at};

@@ -2,7 +2,7 @@
 //! it.
 #![tactic(auto)]
 
-pub mod calls;
+pub mod plain_calls;
 pub mod changes;
 pub mod cleaning;
 pub mod conditions;
@@ -14,7 +14,7 @@ pub mod translations;
 pub mod windows;
 pub mod words;
 
-pub use calls::{Answer, PlainCall, PlainReply, Refusal, Translated};
+pub use plain_calls::{Answer, PlainCall, PlainReply, Refusal, Translated};
 pub use entries::PathEntries;
 pub use machine::{PlainMachine, PlainState};
 pub use windows::PlainWindow;

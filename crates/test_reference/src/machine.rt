@@ -9,7 +9,7 @@ ghost use Rattle.test_reference.specs.Windows.{entry_read};
 ghost use Rattle.test_reference.specs.Calls.{call_of, translated_of};
 ghost use Rattle.test_reference.specs.Machine.{CanAdd, machine_of, plain_state, outcome, allowed_outcome};
 
-use crate::calls::{PlainCall, PlainReply, Translated};
+use crate::plain_calls::{PlainCall, PlainReply, Translated};
 use crate::cleaning::CleanUpRange;
 use crate::entries::PathEntries;
 use crate::positions::path_at;

@@ -9,7 +9,7 @@
 //! Ranges of pages, which the direct mapper maps, changes and unmaps as a whole, are compared with calls on each page.
 //!
 //! The script `tests/agreement` compares the program `pagetab` with the plain one, a call at a time.
-mod calls;
+mod plain_call;
 mod chooser;
 mod listing;
 mod lists;

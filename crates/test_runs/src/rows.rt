@@ -1,6 +1,6 @@
 //! Calls on an empty root, as tables: the replies, every word and free frame afterwards, and what is flushed. Here are
 //! rows that `pagetab` can't show. Others are transcripts, in `tests/pagetab`.
-mod calls;
+mod call_lists;
 mod flushing;
 mod hierarchies;
 mod mappings;

@@ -9,7 +9,7 @@ ghost use Rattle.x86_64_model.specs.Position.{index};
 ghost use Rattle.x86_64_model.specs.Store.{Fits};
 ghost use Rattle.x86_64_tables.specs.PageTableFlags.{bits_of};
 ghost use Rattle.x86_64.specs.Asked.{Of4KiB};
-ghost use Rattle.x86_64.specs.declared.calls.MapperReply.TheVariants.{NotAllowed};
+ghost use Rattle.x86_64.specs.declared.call_values.MapperReply.TheVariants.{NotAllowed};
 ghost use Rattle.x86_64.specs.Runs.{Stepped};
 ghost use Rattle.x86_64.specs.Pairs.{pool_store};
 

@@ -6,10 +6,10 @@ use Rattle.x86_64_model.specs.Call as machine
 use Rattle.x86_64_model.proofs.Lemmas.Machines.Effects.{page_at_level}
 use Rattle.x86_64.specs.Asked.{PageCall, MapTo, MapToWithTableFlags, IdentityMap, Unmap, UpdateFlags, SetFlags, TranslatePage, MapperCall, page_call, machine_call, calls_by}
 use Rattle.x86_64.specs.Calls.{size_asks, asks}
-use Rattle.x86_64.specs.declared.calls.SizeCallIn.{SizeCallIn}
-use Rattle.x86_64.specs.declared.calls.SizeCallIn.TheVariants as size
-use Rattle.x86_64.specs.declared.calls.CallIn.{CallIn}
-use Rattle.x86_64.specs.declared.calls.CallIn.TheVariants as call
+use Rattle.x86_64.specs.declared.call_values.SizeCallIn.{SizeCallIn}
+use Rattle.x86_64.specs.declared.call_values.SizeCallIn.TheVariants as size
+use Rattle.x86_64.specs.declared.call_values.CallIn.{CallIn}
+use Rattle.x86_64.specs.declared.call_values.CallIn.TheVariants as call
 
 -- if the call names a level, that level has table entries
 abbrev HasTables : (L : ℕ) → PageCall → Type 0

@@ -17,8 +17,8 @@ use Rattle.x86_64_model.proofs.Lemmas.Machines.Flushes.{flushes_suffice}
 use Rattle.x86_64_addr.specs.Levels.{IsLevelCount}
 use Rattle.x86_64_tables.specs.FlushRecorder.{page_item}
 use Rattle.x86_64_tables.specs.declared.mapper.recorder.FlushItem.{FlushItem}
-use Rattle.x86_64.specs.declared.calls.PageReply.TheVariants as size_reply
-use Rattle.x86_64.specs.declared.calls.MapperReply.TheVariants as reply
+use Rattle.x86_64.specs.declared.call_values.PageReply.TheVariants as size_reply
+use Rattle.x86_64.specs.declared.call_values.MapperReply.TheVariants as reply
 use Rattle.x86_64.specs.Asked.{PageCall, MapTo, MapToWithTableFlags, IdentityMap, Unmap, UpdateFlags, SetFlags, TranslatePage, MapperCall, Of4KiB, Of2MiB, Of1GiB, Translate, TranslateAddr, CleanUp, CleanUpRange, page_call, machine_call, calls_by}
 use Rattle.x86_64_tables.specs.declared.mapper.TranslateResult.{TranslateResult}
 use Rattle.x86_64.specs.Flushes.{size_items, items_of, items_told, level_of_size, item_of, NoneCovers, FlushesSuffice}

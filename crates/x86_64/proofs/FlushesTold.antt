@@ -18,8 +18,8 @@ use Rattle.x86_64_mappers.proofs.Way.EntryPaths.{path_length}
 use Rattle.x86_64.specs.Asked.{PageCall, MapTo, MapToWithTableFlags, IdentityMap, Unmap, UpdateFlags, SetFlags, TranslatePage, MapperCall, Of4KiB, Of2MiB, Of1GiB, Translate, TranslateAddr, CleanUp, CleanUpRange, page_call, machine_call}
 use Rattle.x86_64.specs.FlushesDue.{told_of, rank, larger, told, executed, settles, FlushesSettle, FlushesAreLeast}
 use Rattle.x86_64.specs.Replies.{SizeReply, Reply, map_error, unmap_error, update_error, translate_error, size_answer, translate_result, sized, reply_of}
-use Rattle.x86_64.specs.declared.calls.PageReply.TheVariants as size_reply
-use Rattle.x86_64.specs.declared.calls.MapperReply.TheVariants as reply
+use Rattle.x86_64.specs.declared.call_values.PageReply.TheVariants as size_reply
+use Rattle.x86_64.specs.declared.call_values.MapperReply.TheVariants as reply
 use Rattle.x86_64.specs.declared.flushing.Flush.{Flush}
 use Rattle.x86_64.specs.declared.flushing.Flush.TheVariants.{Nothing, Tables, Page, Everything}
 use Rattle.x86_64.specs.private.FlushReplies.{page_takes, takes, page_flush}

@@ -26,7 +26,7 @@ use Rattle.x86_64_tables.specs.declared.mapper.FlagUpdateError.TheVariants as up
 use Rattle.x86_64_tables.specs.declared.mapper.TranslateError.{TranslateError}
 use Rattle.x86_64_tables.specs.declared.mapper.TranslateError.TheVariants as translate_to
 use Rattle.x86_64.specs.Asked.{PageCall, MapTo, MapToWithTableFlags, IdentityMap, Unmap, UpdateFlags, SetFlags, TranslatePage, page_call}
-use Rattle.x86_64.specs.declared.calls.PageReply.TheVariants as reply
+use Rattle.x86_64.specs.declared.call_values.PageReply.TheVariants as reply
 use Rattle.x86_64.specs.Replies.{SizeReply, map_error, unmap_error, update_error, translate_error, result_of, size_reply, size_answer, is_refused, size_changes_nothing}
 use Rattle.x86_64.specs.FreeFrames.{KeepsFree}
 use Rattle.x86_64.specs.Runs.{machine_of, state_in}

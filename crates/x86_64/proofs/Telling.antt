@@ -15,8 +15,8 @@ use Rattle.x86_64_tables.specs.declared.mapper.MappedFrame.TheVariants.{Size4KiB
 use Rattle.x86_64_tables.specs.declared.mapper.TranslateResult.{TranslateResult}
 use Rattle.x86_64_tables.specs.declared.mapper.TranslateResult.TheVariants.{Mapped, NotMapped, InvalidFrameAddress}
 use Rattle.x86_64.specs.Asked.{PageCall, MapTo, MapToWithTableFlags, IdentityMap, UpdateFlags, SetFlags, TranslatePage, Unmap as UnmapPage, MapperCall, Of4KiB, Of2MiB, Of1GiB, Translate, TranslateAddr, CleanUp, CleanUpRange}
-use Rattle.x86_64.specs.declared.calls.PageReply.TheVariants.{Map, Unmap, Update, TableFlags, Frame}
-use Rattle.x86_64.specs.declared.calls.MapperReply.TheVariants as reply
+use Rattle.x86_64.specs.declared.call_values.PageReply.TheVariants.{Map, Unmap, Update, TableFlags, Frame}
+use Rattle.x86_64.specs.declared.call_values.MapperReply.TheVariants as reply
 use Rattle.x86_64.specs.Replies.{SizeReply, Reply, map_error, unmap_error, update_error, translate_error, size_answer, translate_result, sized, reply_of}
 use Rattle.x86_64.specs.ToldReplies.{size_told, told, RepliesTell}
 

@@ -6,11 +6,11 @@ use Rattle.x86_64_model.specs.Window.{begins_with}
 use Rattle.x86_64_tables.specs.PageTableFlags.{bits_of}
 use Rattle.x86_64.specs.Asked as asked
 use Rattle.x86_64.specs.Asked.{PageCall, MapperCall, page_names, names_by}
-use Rattle.x86_64.specs.declared.calls.SizeCallIn.{SizeCallIn}
-use Rattle.x86_64.specs.declared.calls.SizeCallIn.TheVariants.{MapTo, MapToWithTableFlags, IdentityMap, Unmap, UpdateFlags, SetFlagsP5, SetFlagsP4, SetFlagsP3, SetFlagsP2, TranslatePage}
+use Rattle.x86_64.specs.declared.call_values.SizeCallIn.{SizeCallIn}
+use Rattle.x86_64.specs.declared.call_values.SizeCallIn.TheVariants.{MapTo, MapToWithTableFlags, IdentityMap, Unmap, UpdateFlags, SetFlagsP5, SetFlagsP4, SetFlagsP3, SetFlagsP2, TranslatePage}
 use Rattle.std.specs.declared.convert.Infallible.{Infallible}
-use Rattle.x86_64.specs.declared.calls.CallIn.{CallIn}
-use Rattle.x86_64.specs.declared.calls.CallIn.TheVariants.{Of4KiB, Of2MiB, Of1GiB, Translate, TranslateAddr, CleanUp, CleanUpRange}
+use Rattle.x86_64.specs.declared.call_values.CallIn.{CallIn}
+use Rattle.x86_64.specs.declared.call_values.CallIn.TheVariants.{Of4KiB, Of2MiB, Of1GiB, Translate, TranslateAddr, CleanUp, CleanUpRange}
 
 -- the bits of flags of level five with four levels, when there are no such flags
 abbrev pub no_bits : Infallible → ℕ

@@ -19,8 +19,8 @@ use Rattle.x86_64_tables.specs.FlushRecorder.{Recorded, page_item}
 use Rattle.x86_64.specs.Asked.{MapperCall, calls_by}
 use Rattle.x86_64.specs.Runs.{machine_of, state_with, appended}
 use Rattle.x86_64.specs.Replies.{SizeReply, Reply}
-use Rattle.x86_64.specs.declared.calls.PageReply.TheVariants.{Map, Unmap, Update, TableFlags, Frame}
-use Rattle.x86_64.specs.declared.calls.MapperReply.TheVariants as reply
+use Rattle.x86_64.specs.declared.call_values.PageReply.TheVariants.{Map, Unmap, Update, TableFlags, Frame}
+use Rattle.x86_64.specs.declared.call_values.MapperReply.TheVariants as reply
 
 -- the item of a page of a size, if the call was accepted
 abbrev pub page_items : {E : Type 0} → (levels size : ℕ) → Result ℕ E → List FlushItem

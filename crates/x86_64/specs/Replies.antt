@@ -20,10 +20,10 @@ use Rattle.x86_64_page.specs.declared.page.Size4KiB.{Size4KiB as Small}
 use Rattle.x86_64_page.specs.declared.page.Size2MiB.{Size2MiB as Large}
 use Rattle.x86_64_page.specs.declared.page.Size1GiB.{Size1GiB as Giant}
 use Rattle.x86_64.specs.Asked.{PageCall, MapTo, MapToWithTableFlags, IdentityMap, Unmap, UpdateFlags, SetFlags, TranslatePage, MapperCall, Of4KiB, Of2MiB, Of1GiB, Translate, TranslateAddr, CleanUp, CleanUpRange}
-use Rattle.x86_64.specs.declared.calls.PageReply.{PageReply}
-use Rattle.x86_64.specs.declared.calls.PageReply.TheVariants as page_reply
-use Rattle.x86_64.specs.declared.calls.MapperReply.{MapperReply}
-use Rattle.x86_64.specs.declared.calls.MapperReply.TheVariants as reply
+use Rattle.x86_64.specs.declared.call_values.PageReply.{PageReply}
+use Rattle.x86_64.specs.declared.call_values.PageReply.TheVariants as page_reply
+use Rattle.x86_64.specs.declared.call_values.MapperReply.{MapperReply}
+use Rattle.x86_64.specs.declared.call_values.MapperReply.TheVariants as reply
 
 -- a page is its position (address counted without the gap), for any number of levels
 abbrev pub SizeReply : (S : Type 0) → Type 0

@@ -7,7 +7,7 @@ ghost use Rattle.x86_64.specs.Calls.{asks, size_asks};
 ghost use Rattle.x86_64.specs.FlushesDue.{TellsFlush};
 ghost use Rattle.x86_64.specs.private.FlushReplies.{page_flush, page_takes, takes};
 
-use crate::calls::{
+use crate::call_values::{
     CallIn, LevelFiveFlags, MapperReply, PageReply, ReplyIn, SizeCallIn, SizeReplyIn,
 };
 use bitflags::Flags;

@@ -5,28 +5,28 @@
 //! [`PhysMemory`] that owns its tables, or a [`LentMemory`] over tables of the caller.
 #![tactic(auto)]
 
-mod calls;
+mod call_values;
 pub mod flushing;
 pub mod laws;
 mod runs;
 pub mod structures;
 
-pub use calls::Call;
-pub use calls::Call57;
-pub use calls::CallIn;
-pub use calls::LevelFiveFlags;
-pub use calls::MapperReply;
-pub use calls::NoLevelFive;
-pub use calls::PageReply;
-pub use calls::Reply;
-pub use calls::Reply57;
-pub use calls::ReplyIn;
-pub use calls::SizeCall;
-pub use calls::SizeCall57;
-pub use calls::SizeCallIn;
-pub use calls::SizeReply;
-pub use calls::SizeReply57;
-pub use calls::SizeReplyIn;
+pub use call_values::Call;
+pub use call_values::Call57;
+pub use call_values::CallIn;
+pub use call_values::LevelFiveFlags;
+pub use call_values::MapperReply;
+pub use call_values::NoLevelFive;
+pub use call_values::PageReply;
+pub use call_values::Reply;
+pub use call_values::Reply57;
+pub use call_values::ReplyIn;
+pub use call_values::SizeCall;
+pub use call_values::SizeCall57;
+pub use call_values::SizeCallIn;
+pub use call_values::SizeReply;
+pub use call_values::SizeReply57;
+pub use call_values::SizeReplyIn;
 pub use runs::is_outside_window;
 pub use runs::is_outside_window as is_outside_window_57;
 pub use runs::run;

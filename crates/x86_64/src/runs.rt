@@ -16,7 +16,7 @@ mod flushed;
 mod pair;
 mod tokens;
 
-use crate::calls::{
+use crate::call_values::{
     CallIn, LevelFiveFlags, MapperReply, PageReply, ReplyIn, SizeCallIn, SizeReplyIn, identity_page,
 };
 use bitflags::Flags;

@@ -1,9 +1,8 @@
 -- Accesses agree with page walks.
 use Rattle.std.proofs.Common.{zero, suc, inl, inr, ⊎_elim, ◌⊎◌, ◌≡◌, ◌<◌, ◌≤◌, ◌||◌, ◌==◌, bit_and, ◌-◌, ◌+◌, ◌%◌, ℕ, ◌&&◌, Bool, true≢false, true, false, not, nat_le, cond, is_some, List, [], ◌∷◌, Some, None, Option, refl, sym, ap, subst, ◌∙◌, arith}
 use Rattle.x86_64_model.specs.Arrivals.{Reaches}
-use Rattle.x86_64_model.specs.Caches.{granted}
 use Rattle.x86_64_model.specs.Entry.{present, huge, writable, user, address}
-use Rattle.x86_64_model.specs.Mappings.{Rights, maps_page, rights_of}
+use Rattle.x86_64_model.specs.Mappings.{Rights, maps_page, rights_of, granted}
 use Rattle.x86_64_model.specs.Lists.{In}
 use Rattle.x86_64_model.specs.Memory.{Words}
 use Rattle.x86_64_model.specs.PageWalk.{Walked, page_start, page_walk, read, walk_on}

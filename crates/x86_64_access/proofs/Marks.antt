@@ -3,7 +3,7 @@ use Rattle.std.proofs.Common.{zero, suc, inl, inr, ◌⊎◌, ◌≡◌, ◌<◌
 use Rattle.std.proofs.lemmas.Nat.{and_assoc, and_comm}
 use Rattle.x86_64_model.proofs.Lemmas.Entries.Bits.{and_or_distrib, has_or, or_assoc, address_or}
 use Rattle.x86_64_model.specs.Entry.{has, present, huge, writable, user, no_execute, address}
-use Rattle.x86_64_model.specs.Mappings.{Rights, maps_page}
+use Rattle.x86_64_model.specs.Mappings.{Rights, maps_page, granted}
 use Rattle.x86_64_model.specs.Memory.{IsMapping, Memory, Places, Words, set_word, word, word_in, words_of}
 use Rattle.x86_64_model.specs.PageWalk.{Walked, arrives, page_start, page_walk, read, walk_on}
 use Rattle.x86_64_model.specs.Position.{index, span}
@@ -18,7 +18,6 @@ use Rattle.x86_64_model.proofs.Lemmas.Hierarchies.Held.{is_some-set, word-set_fr
 use Rattle.x86_64_model.proofs.Lemmas.Hierarchies.Memories.{covered, words_of-insert}
 use Rattle.x86_64_model.proofs.Lemmas.Hierarchies.Unset.{is_some-unset}
 use Rattle.x86_64_model.specs.Access.{Access, Arrives, Controls, Faults, Outcome, allowed, code, low_bits, reserved, set_bits, Kind, NoMemory, access, bits_to_set, is_write, marked as marks_left, memory_after, steps_from}
-use Rattle.x86_64_model.specs.Caches.{granted}
 use Rattle.x86_64_access.specs.private.Walking.{access_on, ArrivesFrom}
 use Rattle.x86_64_access.proofs.Walked.{and_left, and_right, arrives_below, is_arrival, none_arrives, sound_arrives, steps_page, steps_table, on_fault, on_none, on_page, on_root, on_table as to_table, on_zero}
 

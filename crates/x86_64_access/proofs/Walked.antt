@@ -2,7 +2,7 @@
 use Rattle.std.proofs.Common.{le-leb, ltb-true, nat_lt, zero, suc, ⊎_elim, inl, inr, ◌⊎◌, nat_eq, ◌≡◌, ◌<◌, ◌≤◌, ◌+◌, ◌-◌, ◌%◌, ◌^◌, ℕ, ◌&&◌, Bool, true≢false, true, false, not, ◌||◌, ◌==◌, nat_le, bit_and, cond, List, [], ◌∷◌, map, Some, None, Option, option_map, unwrap_or, refl, sym, ap, ◌∙◌, arith}
 use Rattle.std.specs.List.{last_or}
 use Rattle.x86_64_model.specs.Entry.{present, writable, user, huge, no_execute, address}
-use Rattle.x86_64_model.specs.Mappings.{Rights, rights_of, maps_page}
+use Rattle.x86_64_model.specs.Mappings.{Rights, rights_of, maps_page, granted}
 use Rattle.x86_64_model.specs.Memory.{Memory, Places, Words}
 use Rattle.x86_64_model.specs.PageWalk.{read, page_start}
 use Rattle.x86_64_model.specs.Position.{index, span}
@@ -10,7 +10,6 @@ use Rattle.x86_64_model.proofs.Lemmas.Entries.Words.{address_within}
 use Rattle.x86_64_model.specs.Access.{Access, Kind, Controls, set_bits, bits_to_set, marked, Outcome, NoMemory, Step, steps_from, ends_at, ends_by, reads_on, reserved, low_bits, allowed, code, Arrives, Faults, access}
 use Rattle.x86_64_access.specs.private.Walking.{access_on, may_read_on, ArrivesFrom}
 use Rattle.x86_64_tables.specs.Rights.{both}
-use Rattle.x86_64_model.specs.Caches.{granted}
 use Rattle.std.proofs.Math.Bool.{and-true, and-false, and_assoc}
 use Rattle.std.proofs.lemmas.Bool.{eqb-true, eqb-false, lt-leb, ltb-false}
 use Rattle.std.specs.List.{list_all}

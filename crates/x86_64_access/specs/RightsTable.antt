@@ -1,4 +1,4 @@
--- Which accesses are allowed, and the error codes of those that fault, as tables that were made of the manual's sentences.
+-- Which accesses are allowed, and the error codes of those that fault, as tables of all cases. They are read beside the manual's rules.
 -- Intel SDM vol. 3A, "Determination of Access Rights", "Page-Fault Exceptions".
 use Rattle.std.specs.Prelude.{◌≡◌, ℕ, ◌+◌, ◌*◌, ◌-◌, ◌^◌, ◌/◌, ◌%◌, ◌==◌, Bool, true, false}
 use Rattle.x86_64_model.specs.Access.{Access, Controls, Fetch, Kind, Read, Write, allowed, bit, code}

@@ -54,13 +54,13 @@ pub fn marks_may_happen()
     ensures { MarksMayHappen }
 {}
 
-/// An access is allowed where the table of rights says so, which was made of the manual's sentences.
+/// An access is allowed if and only if the table of rights says so, which lists all cases.
 #[tactic(auto, using(crate::proofs::RightsTable::rights_are_listed))]
 pub fn allowed_accesses_are_listed()
     ensures { RightsAreListed }
 {}
 
-/// An error code is that of the table of codes, which was made of the manual's sentences.
+/// An error code is that of the table of codes, which lists all cases.
 #[tactic(auto, using(crate::proofs::RightsTable::codes_are_listed))]
 pub fn error_codes_are_listed()
     ensures { CodesAreListed }

@@ -91,3 +91,12 @@ impl LevelCount for FiveLevels {
 
     ghost known_count = { refl };
 }
+
+/// The number of levels of page tables, as a value that a program can read or write.
+#[derive(Clone, Copy, Debug, PartialEq, Eq)]
+pub enum Levels {
+    /// Four levels, for addresses of 48 bits.
+    Four,
+    /// Five levels, for addresses of 57 bits.
+    Five,
+}

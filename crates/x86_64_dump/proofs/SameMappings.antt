@@ -1,12 +1,12 @@
 -- Words that are equal wherever page walks from a root lead have equal mappings and page walks.
 use Rattle.std.proofs.Common.{◌≡◌, ℕ, zero, suc, ◌+◌, ◌*◌, ◌%◌, ◌&&◌, nat_le, Bool, true, false, cond, List, [], ◌∷◌, flat_map, get_or, Option, Some, None, option_and_then, option_map, refl, sym, ap, ◌∙◌}
 use Rattle.x86_64_model.specs.Entry.{present, writable, user, huge, address}
-use Rattle.x86_64_model.specs.Mappings.{Rights, Mapping, maps_page, mappings_of}
+use Rattle.x86_64_model.specs.Mappings.{Rights, Mapping, maps_page, mappings_of, every_right, granted}
 use Rattle.x86_64_model.specs.Memory.{Words}
 use Rattle.x86_64_model.specs.PageWalk.{Walked, arrives, read, page_start, page_walk, walk_on}
 use Rattle.x86_64_model.specs.Path.{indices}
 use Rattle.x86_64_model.specs.Position.{span, index}
-use Rattle.x86_64_model.specs.private.Found.{every_right, narrowed, page_from}
+use Rattle.x86_64_model.specs.private.Found.{page_from}
 use Rattle.x86_64_model.proofs.Lemmas.Mappings.Listed.{listed_by, list_and_then, listed_on, mappings_listed}
 use Rattle.x86_64_dump.specs.Reached.{SameBelow}
 
@@ -28,10 +28,10 @@ by_word start level r e xs ys same = by (present e) (maps_page level e) (huge e)
 
 -- the mappings that a word of a table lists
 listed_at : Words → (n start : ℕ) → Rights → (i e : ℕ) → List Mapping
-listed_at V n start r i e = listed_by (start + i * span (suc n)) (suc n) r e (listed_on V n (start + i * span (suc n)) (narrowed r e) (address e))
+listed_at V n start r i e = listed_by (start + i * span (suc n)) (suc n) r e (listed_on V n (start + i * span (suc n)) (granted r e) (address e))
 
 same_at : (n : ℕ) (T W : Words) (start : ℕ) (r : Rights) (i : ℕ) (o : Option ℕ)
-    → ((e : ℕ) → o ≡ Some e → present e ≡ true → huge e ≡ false → listed_on T n (start + i * span (suc n)) (narrowed r e) (address e) ≡ listed_on W n (start + i * span (suc n)) (narrowed r e) (address e))
+    → ((e : ℕ) → o ≡ Some e → present e ≡ true → huge e ≡ false → listed_on T n (start + i * span (suc n)) (granted r e) (address e) ≡ listed_on W n (start + i * span (suc n)) (granted r e) (address e))
     → list_and_then (listed_at T n start r i) o ≡ list_and_then (listed_at W n start r i) o
 unfolding listed_at
 same_at n T W start r i None same = refl
@@ -41,7 +41,7 @@ same_listed : (n : ℕ) (T W : Words) (start : ℕ) (r : Rights) (f : ℕ) → S
 unfolding listed_at
 same_listed zero T W start r f same = refl
 same_listed (suc n) T W start r f same = ap (λ list. flat_map list indices) (λ k i.
-    (same_at n T W start r i (read T f i) (λ e is there small. same_listed n T W (start + i * span (suc n)) (narrowed r e) (address e) (same.1 i e is there small))
+    (same_at n T W start r i (read T f i) (λ e is there small. same_listed n T W (start + i * span (suc n)) (granted r e) (address e) (same.1 i e is there small))
     ∙ ap (list_and_then (listed_at W n start r i)) (same_read T W f i same.0)) k)
 
 pub same_mappings : (L : ℕ) (T W : Words) (root : ℕ) → SameBelow L T W root → mappings_of L T root ≡ mappings_of L W root

@@ -17,7 +17,7 @@ use Rattle.x86_64_tables.specs.MapperAnswers.{map_answer}
 use Rattle.x86_64_tables.specs.declared.mapper.MapToError.{MapToError}
 use Rattle.x86_64.specs.Asked as asked
 use Rattle.x86_64.specs.Pairs.{put_first}
-use Rattle.x86_64.specs.declared.calls.PageReply.TheVariants as reply
+use Rattle.x86_64.specs.declared.call_values.PageReply.TheVariants as reply
 use Rattle.x86_64.proofs.FreeFrames.{nothing_keeps_free}
 use Rattle.x86_64.proofs.Keeping.{keeps_nothing}
 use Rattle.x86_64.proofs.PageSteps.{Serves, Start, map_to_served}

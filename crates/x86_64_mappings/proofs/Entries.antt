@@ -8,8 +8,8 @@ use Rattle.x86_64_model.specs.Entry.{present, huge, address}
 use Rattle.x86_64_model.specs.Memory.{Words}
 use Rattle.x86_64_model.specs.PageWalk.{read}
 use Rattle.x86_64_model.specs.Position.{span, index, position_count}
-use Rattle.x86_64_model.specs.Mappings.{Rights, maps_page}
-use Rattle.x86_64_model.specs.private.Found.{narrowed, page_at, found_on, found, span_end, LeadsTo}
+use Rattle.x86_64_model.specs.Mappings.{Rights, maps_page, granted}
+use Rattle.x86_64_model.specs.private.Found.{page_at, found_on, found, span_end, LeadsTo}
 use Rattle.x86_64_model.proofs.Lemmas.Mappings.Found.{found_read}
 use Rattle.x86_64_model.proofs.Lemmas.Mappings.SpanEnds.{span-next, count-next, span_from, span_end_after, span_end_inside, same_number, next_span}
 use Rattle.x86_64_model.proofs.Lemmas.Paths.Pages.{span_pos}
@@ -25,7 +25,7 @@ number_up (suc n) p some =
 found_on_by : (T : Words) (x level : ℕ) (r : Rights) (f e : ℕ) → 1 ≤ level → read T f (index level x) ≡ Some e → found_on T x level r f ≡ found_by T x level r e
 found_on_by T x zero r f e some is = absurd (omega arith)
 found_on_by T x (suc n) r f e some is = found_read T x n r f e is
-    ∙ ap (λ k. cond (present e) (cond (maps_page (suc n) e) (Some (page_at x (suc n) r e)) (cond (huge e) None (found_on T x k (narrowed r e) (address e)))) None)
+    ∙ ap (λ k. cond (present e) (cond (maps_page (suc n) e) (Some (page_at x (suc n) r e)) (cond (huge e) None (found_on T x k (granted r e) (address e)))) None)
     (let e : n ≡ suc n - 1 = omega arith in e)
 
 pub index_below : (level p : ℕ) → index level p < 512
@@ -151,11 +151,11 @@ module _ (L : ℕ) (T : Words) (root next level : ℕ) (r : Rights) (rest : List
   first_found some = on.reads 0 next some (omega arith) (omega arith)
 
   -- the walk continues below the first entry if it names a table
-  pub leads_below : 0 < length rest → (let e = get_or rest 0 0 in present e ≡ true → maps_page level e ≡ false → huge e ≡ false → LeadsTo L T root next (level - 1) (narrowed r e) (address e))
+  pub leads_below : 0 < length rest → (let e = get_or rest 0 0 in present e ≡ true → maps_page level e ≡ false → huge e ≡ false → LeadsTo L T root next (level - 1) (granted r e) (address e))
   leads_below some there no_page table = let e = get_or rest 0 0 in record {
     on = λ x from to.
         let up : level - 1 + 1 ≡ level = let low = on.low in omega (arith, low) in
         let number : x / s ≡ next / s = same_number level next x (let start = span_from level next in omega (arith, start, from)) (subst (λ z. x < span_end z next) up to) in
         on.reads 0 x some from (number ∙ (let e : next / s ≡ next / s + 0 = omega arith in e))
-        ∙ (λ i. cond (there i) (cond (no_page i) (Some (page_at x level r e)) (cond (table i) None (found_on T x (level - 1) (narrowed r e) (address e)))) None);
+        ∙ (λ i. cond (there i) (cond (no_page i) (Some (page_at x level r e)) (cond (table i) None (found_on T x (level - 1) (granted r e) (address e)))) None);
   }

@@ -4,8 +4,8 @@ use Rattle.std.proofs.Math.Nat.{div-add-mod, div-mul-le_self, mod-eq_of_lt, mul_
 use Rattle.x86_64_model.specs.Entry.{huge, address, flags}
 use Rattle.x86_64_model.specs.PageWalk.{page_start}
 use Rattle.x86_64_model.specs.Position.{span, position_count}
-use Rattle.x86_64_model.specs.Mappings.{Rights, maps_page}
-use Rattle.x86_64_model.specs.private.Found.{narrowed, page_at}
+use Rattle.x86_64_model.specs.Mappings.{Rights, maps_page, granted}
+use Rattle.x86_64_model.specs.private.Found.{page_at}
 use Rattle.x86_64_tables.specs.PageTableFlags.{bits_of}
 use Rattle.x86_64_tables.specs.Translations.{frame_start, frame_size}
 use Rattle.x86_64_tables.specs.declared.mapper.MappedFrame.{MappedFrame}
@@ -32,7 +32,7 @@ sized level n size start e is_level is_size is =
 module _ (L level position e : ℕ) (r : Rights) (start : ℕ) (frame : MappedFrame) (given : PageTableFlags) (rights : Rights) where
   pub page_made : position < position_count L → start ≡ (position / frame_size frame * frame_size frame) % position_count L
       → frame_size frame ≡ span level → frame_start frame ≡ page_start level e → bits_of given ≡ flags e
-      → rights ≡ narrowed r e → mapping_to start frame given rights ≡ page_at position level r e
+      → rights ≡ granted r e → mapping_to start frame given rights ≡ page_at position level r e
   page_made inside at size from bits allowed =
       let down = div-mul-le_self position (frame_size frame) in
       let start_is : start ≡ position / span level * span level = at ∙ mod-eq_of_lt (omega (arith, down, inside)) ∙ ap (λ s. position / s * s) size in

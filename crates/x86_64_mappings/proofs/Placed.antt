@@ -7,8 +7,8 @@ use Rattle.x86_64_model.specs.Memory.{Words}
 use Rattle.x86_64_model.specs.PageWalk.{read}
 use Rattle.x86_64_model.specs.Position.{span}
 use Rattle.x86_64_model.specs.Path.{indices}
-use Rattle.x86_64_model.specs.Mappings.{Rights, Mapping, maps_page, mappings_of}
-use Rattle.x86_64_model.specs.private.Found.{every_right, narrowed, page_from}
+use Rattle.x86_64_model.specs.Mappings.{Rights, Mapping, maps_page, mappings_of, every_right, granted}
+use Rattle.x86_64_model.specs.private.Found.{page_from}
 use Rattle.x86_64_model.proofs.Lemmas.Mappings.Listed.{listed_by, list_and_then, listed_on, mappings_listed}
 use Rattle.x86_64_mappings.specs.private.Placed.{placed}
 
@@ -24,7 +24,7 @@ flat_map-same g h same (x ∷ xs) = ap₂ (λ ys zs. ys ++ zs) (same x) (flat_ma
 
 -- ---- placed twice
 
-placed_once : (s k : ℕ) (r : Rights) (e : ℕ) (m : Mapping) → placed (s + k) (narrowed r e) m ≡ placed s r (placed (0 + k) (narrowed every_right e) m)
+placed_once : (s k : ℕ) (r : Rights) (e : ℕ) (m : Mapping) → placed (s + k) (granted r e) m ≡ placed s r (placed (0 + k) (granted every_right e) m)
 placed_once s k r e m =
     let start : s + k + m.start ≡ s + (0 + k + m.start) = omega arith in
     λ i. record {
@@ -40,7 +40,7 @@ placed_once s k r e m =
     }
 
 -- the mappings of a table below an entry, whose span starts after k positions
-map_placed : (s k : ℕ) (r : Rights) (e : ℕ) (ms : List Mapping) → map (placed (s + k) (narrowed r e)) ms ≡ map (placed s r) (map (placed (0 + k) (narrowed every_right e)) ms)
+map_placed : (s k : ℕ) (r : Rights) (e : ℕ) (ms : List Mapping) → map (placed (s + k) (granted r e)) ms ≡ map (placed s r) (map (placed (0 + k) (granted every_right e)) ms)
 map_placed s k r e [] = refl
 map_placed s k r e (m ∷ ms) = ap₂ (λ m ms. m ∷ ms) (placed_once s k r e m) (map_placed s k r e ms)
 
@@ -53,18 +53,18 @@ page_placed s k level r e =
 module _ (T : Words) where
   -- the mappings by a word that is read
   by_word : (n s k : ℕ) (r : Rights) (o : Option ℕ) → ((s : ℕ) (r : Rights) (f : ℕ) → listed_on T n s r f ≡ map (placed s r) (listed_on T n 0 every_right f))
-      → list_and_then (λ e. listed_by (s + k) (suc n) r e (listed_on T n (s + k) (narrowed r e) (address e))) o
-      ≡ map (placed s r) (list_and_then (λ e. listed_by (0 + k) (suc n) every_right e (listed_on T n (0 + k) (narrowed every_right e) (address e))) o)
+      → list_and_then (λ e. listed_by (s + k) (suc n) r e (listed_on T n (s + k) (granted r e) (address e))) o
+      ≡ map (placed s r) (list_and_then (λ e. listed_by (0 + k) (suc n) every_right e (listed_on T n (0 + k) (granted every_right e) (address e))) o)
   by_word n s k r None below = refl
   by_word n s k r (Some e) below = by (present e) (maps_page (suc n) e) (huge e)
     where
-      table : listed_on T n (s + k) (narrowed r e) (address e) ≡ map (placed s r) (listed_on T n (0 + k) (narrowed every_right e) (address e))
-      table = below (s + k) (narrowed r e) (address e)
+      table : listed_on T n (s + k) (granted r e) (address e) ≡ map (placed s r) (listed_on T n (0 + k) (granted every_right e) (address e))
+      table = below (s + k) (granted r e) (address e)
           ∙ map_placed s k r e (listed_on T n 0 every_right (address e))
-          ∙ sym (ap (map (placed s r)) (below (0 + k) (narrowed every_right e) (address e)))
+          ∙ sym (ap (map (placed s r)) (below (0 + k) (granted every_right e) (address e)))
 
-      by : (b m h : Bool) → cond b (cond m (page_from (s + k) (suc n) r e ∷ []) (cond h [] (listed_on T n (s + k) (narrowed r e) (address e)))) []
-          ≡ map (placed s r) (cond b (cond m (page_from (0 + k) (suc n) every_right e ∷ []) (cond h [] (listed_on T n (0 + k) (narrowed every_right e) (address e)))) [])
+      by : (b m h : Bool) → cond b (cond m (page_from (s + k) (suc n) r e ∷ []) (cond h [] (listed_on T n (s + k) (granted r e) (address e)))) []
+          ≡ map (placed s r) (cond b (cond m (page_from (0 + k) (suc n) every_right e ∷ []) (cond h [] (listed_on T n (0 + k) (granted every_right e) (address e)))) [])
       by false m h = refl
       by true true h = ap (λ m. m ∷ []) (page_placed s k (suc n) r e)
       by true false true = refl

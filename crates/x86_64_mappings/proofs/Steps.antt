@@ -7,8 +7,8 @@ use Rattle.std.proofs.lemmas.List.{length-drop}
 use Rattle.x86_64_model.specs.Entry.{present, huge, address}
 use Rattle.x86_64_model.specs.Memory.{Words}
 use Rattle.x86_64_model.specs.Position.{span, index, position_count}
-use Rattle.x86_64_model.specs.Mappings.{Rights, Mapping, maps_page}
-use Rattle.x86_64_model.specs.private.Found.{every_right, narrowed, page_at, found_on, found}
+use Rattle.x86_64_model.specs.Mappings.{Rights, Mapping, maps_page, every_right, granted}
+use Rattle.x86_64_model.specs.private.Found.{page_at, found_on, found}
 use Rattle.x86_64_model.proofs.Lemmas.Mappings.Found.{leads_first, found_unread}
 use Rattle.x86_64_model.proofs.Lemmas.Mappings.Listing.{from_found, from_past, from_last}
 use Rattle.x86_64_mappings.specs.private.Cursors.{found_by, IsOn, IsCursor, IsStep, listed_from, small_page_first, is_there, way_left, table_by}
@@ -67,7 +67,7 @@ small_first level (e ∷ rest) small =
 
 -- an entry without PRESENT
 pub absent_says : (T : Words) (x level : ℕ) (r : Rights) (e : ℕ) → present e ≡ false → found_by T x level r e ≡ None
-absent_says T x level r e absent = ap (λ b. cond b (cond (maps_page level e) (Some (page_at x level r e)) (cond (huge e) None (found_on T x (level - 1) (narrowed r e) (address e)))) None) absent
+absent_says T x level r e absent = ap (λ b. cond b (cond (maps_page level e) (Some (page_at x level r e)) (cond (huge e) None (found_on T x (level - 1) (granted r e) (address e)))) None) absent
 
 -- if there is no table, nothing is found
 no_table : (T : Words) (x level : ℕ) (r : Rights) (f : ℕ) → T f ≡ None → found_on T x level r f ≡ None
@@ -81,21 +81,21 @@ pub unmapped_says : (T : Words) (x level : ℕ) (r : Rights) (e : ℕ) → (pres
 unmapped_says T x level r e no_page none = by (present e) (maps_page level e) (huge e) no_page none
   where
     below : Option Mapping
-    below = found_on T x (level - 1) (narrowed r e) (address e)
+    below = found_on T x (level - 1) (granted r e) (address e)
 
     by : (p m h : Bool) → (p && m) ≡ false → table_by T (cond p (cond m Page (cond h Nothing (Table (address e)))) Nothing) ≡ None
         → cond p (cond m (Some (page_at x level r e)) (cond h None below)) None ≡ None
     by false m h page none = refl
     by true true h page none = absurd (let t : true ≡ false = page in cc)
     by true false true page none = refl
-    by true false false page none = no_table T x (level - 1) (narrowed r e) (address e) none
+    by true false false page none = no_table T x (level - 1) (granted r e) (address e) none
 
 -- an entry that maps a page
 page_says : (T : Words) (x level : ℕ) (r : Rights) (e : ℕ) → (present e && maps_page level e) ≡ true → found_by T x level r e ≡ Some (page_at x level r e)
 page_says T x level r e page = by (present e) (maps_page level e) page
   where
     below : Option Mapping
-    below = cond (huge e) None (found_on T x (level - 1) (narrowed r e) (address e))
+    below = cond (huge e) None (found_on T x (level - 1) (granted r e) (address e))
 
     by : (p m : Bool) → (p && m) ≡ true → cond p (cond m (Some (page_at x level r e)) below) None ≡ Some (page_at x level r e)
     by true true page = refl
@@ -143,13 +143,13 @@ module _ (L : ℕ) (T : Words) (root next level : ℕ) (r : Rights) (rest : List
 
   -- the table below the first entry
   pub on_below : (table : List ℕ) → 0 < length rest → (let e = get_or rest 0 0 in table_by T (target_of level e) ≡ Some table → length table ≡ 512
-      → (1 ≤ level - 1) × IsOn L T root next (level - 1) (narrowed r e) (drop (index (level - 1) next) table))
+      → (1 ≤ level - 1) × IsOn L T root next (level - 1) (granted r e) (drop (index (level - 1) next) table))
   on_below table some is size =
       let e = get_or rest 0 0 in
       let parts = split e (present e) (maps_page level e) (huge e) is in
       let above : 1 ≤ level - 1 = not_one level e on.low parts.1 in (
         above,
-        on_table L T root next (level - 1) (narrowed r e) (address e) table above (let high = on.high in omega (arith, high)) (next_inside L T root next level r rest on some)
+        on_table L T root next (level - 1) (granted r e) (address e) table above (let high = on.high in omega (arith, high)) (next_inside L T root next level r rest on some)
             (leads_below L T root next level r rest on some parts.0 parts.1 parts.2) parts.3 size,
       )
     where
@@ -186,8 +186,8 @@ module _ (L : ℕ) (T : Words) (root : ℕ) (from to : Cursor) (high : L ≤ 5) 
 
   -- down to the table below the first entry
   pub below_step : (table : List ℕ) → length table ≡ 512 → 0 < length from.rest.now → 1 ≤ from.level - 1
-      → (let e = get_or from.rest.now 0 0 in IsOn L T root from.next (from.level - 1) (narrowed from.rights e) (drop (index (from.level - 1) from.next) table)
-      → to.next ≡ from.next → to.level ≡ from.level - 1 → to.rights ≡ narrowed from.rights e → to.rest.now ≡ drop (index (from.level - 1) from.next) table
+      → (let e = get_or from.rest.now 0 0 in IsOn L T root from.next (from.level - 1) (granted from.rights e) (drop (index (from.level - 1) from.next) table)
+      → to.next ≡ from.next → to.level ≡ from.level - 1 → to.rights ≡ granted from.rights e → to.rest.now ≡ drop (index (from.level - 1) from.next) table
       → IsStep L T root from to)
   below_step table size some above below next level rights rest =
       let old = way_some L from.next from.level from.rest.now some in

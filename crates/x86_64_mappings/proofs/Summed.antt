@@ -6,7 +6,7 @@ use Rattle.std.proofs.lemmas.Bool.{cond-false, true≢false}
 use Rattle.std.proofs.lemmas.List.Sums.{sum_by-append, sum_by-cons}
 use Rattle.std.proofs.lemmas.List.{length-map}
 use Rattle.std.proofs.lemmas.List.Folds.{list_any-append, list_all-append}
-use Rattle.x86_64_model.specs.Mappings.{Rights, Mapping}
+use Rattle.x86_64_model.specs.Mappings.{Rights, Mapping, every_right, granted}
 use Rattle.x86_64_mappings.specs.declared.summaries.summary.Summary.{Summary}
 use Rattle.x86_64_mappings.specs.Summaries.{summary_of}
 use Rattle.x86_64_mappings.specs.Wanted.{Asked, is_wanted, asked_mappings}
@@ -17,7 +17,6 @@ use Rattle.x86_64_mappings.specs.private.Targets.{asked_by, asked_on}
 use Rattle.x86_64_tables.specs.Rights.{both}
 use Rattle.x86_64_mappings.specs.private.Merged.{joined, lessened}
 use Rattle.x86_64_model.specs.Position.{span}
-use Rattle.x86_64_model.specs.private.Found.{every_right, narrowed}
 use Rattle.x86_64_mappings.proofs.Tables.{by_table, on_more}
 
 pub summary-append : (ms ns : List Mapping) → summary_of (ms ++ ns) ≡ joined (summary_of ms) (summary_of ns)
@@ -151,12 +150,12 @@ of_unwanted wanted m start is = let n : Mapping = record m { start = start } in
 -- ---- entry by entry
 
 -- the summary of the mappings by an entry that names a table
-pub of_table : (asked : Asked) (n start e f : ℕ) (r : Rights) (s : Summary) → Table f ≡ target_of (n + 1) e → r ≡ narrowed every_right e
+pub of_table : (asked : Asked) (n start e f : ℕ) (r : Rights) (s : Summary) → Table f ≡ target_of (n + 1) e → r ≡ granted every_right e
     → s ≡ summary_of (asked_mappings asked n f) → lessened r s ≡ summary_of (asked_by asked (n + 1) start every_right e)
 of_table asked n start e f r s named rights is =
     ap (lessened r) is ∙ sym (summary-placed start r (asked_mappings asked n f))
     ∙ ap summary_of (ap (λ r. map (placed start r) (asked_mappings asked n f)) rights
-    ∙ ap (λ k. map (placed start (narrowed every_right e)) (asked_mappings asked k f)) (let e : n ≡ n + 1 - 1 = omega arith in e)
+    ∙ ap (λ k. map (placed start (granted every_right e)) (asked_mappings asked k f)) (let e : n ≡ n + 1 - 1 = omega arith in e)
     ∙ sym (by_table asked (n + 1) start every_right e f named))
 
 -- one entry more

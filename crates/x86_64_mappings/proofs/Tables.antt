@@ -11,8 +11,8 @@ use Rattle.x86_64_model.specs.Memory.{Words}
 use Rattle.x86_64_model.specs.PageWalk.{read}
 use Rattle.x86_64_model.specs.Position.{span}
 use Rattle.x86_64_model.specs.Path.{indices}
-use Rattle.x86_64_model.specs.Mappings.{Rights, Mapping, maps_page, mappings_of}
-use Rattle.x86_64_model.specs.private.Found.{every_right, narrowed, page_from, page_at}
+use Rattle.x86_64_model.specs.Mappings.{Rights, Mapping, maps_page, mappings_of, every_right, granted}
+use Rattle.x86_64_model.specs.private.Found.{page_from, page_at}
 use Rattle.x86_64_model.proofs.Lemmas.Mappings.Listed.{listed_by, list_and_then, listed_on, mappings_listed}
 use Rattle.x86_64_tables.specs.declared.page_table.target.EntryTarget.TheVariants.{Nothing, Page, Table}
 use Rattle.x86_64_mappings.specs.Wanted.{Asked, is_wanted, asked_mappings}
@@ -25,14 +25,14 @@ use Rattle.x86_64_mappings.proofs.Placed.{flat_map-same, mappings_placed}
 
 module _ (T : Words) where
   -- the mappings by a word
-  by_leads : (n s : ℕ) (r : Rights) (e : ℕ) → listed_by s (suc n) r e (listed_on T n s (narrowed r e) (address e)) ≡ mapped_by T (suc n) s r e (target_of (suc n) e)
+  by_leads : (n s : ℕ) (r : Rights) (e : ℕ) → listed_by s (suc n) r e (listed_on T n s (granted r e) (address e)) ≡ mapped_by T (suc n) s r e (target_of (suc n) e)
   by_leads n s r e = by (present e) (maps_page (suc n) e) (huge e)
     where
-      table : listed_on T n s (narrowed r e) (address e) ≡ map (placed s (narrowed r e)) (mappings_of (suc n - 1) T (address e))
-      table = mappings_placed T n s (narrowed r e) (address e)
-          ∙ ap (λ k. map (placed s (narrowed r e)) (mappings_of k T (address e))) (let e : n ≡ suc n - 1 = omega arith in e)
+      table : listed_on T n s (granted r e) (address e) ≡ map (placed s (granted r e)) (mappings_of (suc n - 1) T (address e))
+      table = mappings_placed T n s (granted r e) (address e)
+          ∙ ap (λ k. map (placed s (granted r e)) (mappings_of k T (address e))) (let e : n ≡ suc n - 1 = omega arith in e)
 
-      by : (b m h : Bool) → cond b (cond m (page_from s (suc n) r e ∷ []) (cond h [] (listed_on T n s (narrowed r e) (address e)))) []
+      by : (b m h : Bool) → cond b (cond m (page_from s (suc n) r e ∷ []) (cond h [] (listed_on T n s (granted r e) (address e)))) []
           ≡ mapped_by T (suc n) s r e (cond b (cond m Page (cond h Nothing (Table (address e)))) Nothing)
       by false m h = refl
       by true true h = refl
@@ -44,7 +44,7 @@ module _ (T : Words) where
       ≡ flat_map (λ i. list_and_then (λ e. mapped_by T (suc n) (s + i * span (suc n)) r e (target_of (suc n) e)) (read T f i)) indices
   mappings_read n s r f = sym (mappings_placed T (suc n) s r f) ∙ flat_map-same _ _ (λ i. by (s + i * span (suc n)) (read T f i)) indices
     where
-      by : (start : ℕ) (o : Option ℕ) → list_and_then (λ e. listed_by start (suc n) r e (listed_on T n start (narrowed r e) (address e))) o
+      by : (start : ℕ) (o : Option ℕ) → list_and_then (λ e. listed_by start (suc n) r e (listed_on T n start (granted r e) (address e))) o
           ≡ list_and_then (λ e. mapped_by T (suc n) start r e (target_of (suc n) e)) o
       by start None = refl
       by start (Some e) = by_leads n start r e
@@ -136,10 +136,10 @@ pub by_nothing : (asked : Asked) (level s : ℕ) (r : Rights) (e : ℕ) → Noth
 by_nothing asked level s r e is = ap (λ t. filter (is_wanted asked.wanted) (mapped_by asked.words level s r e t)) (sym is)
 
 pub by_table : (asked : Asked) (level s : ℕ) (r : Rights) (e f : ℕ) → Table f ≡ target_of level e
-    → asked_by asked level s r e ≡ map (placed s (narrowed r e)) (asked_mappings asked (level - 1) f)
+    → asked_by asked level s r e ≡ map (placed s (granted r e)) (asked_mappings asked (level - 1) f)
 by_table asked level s r e f is =
     ap (λ t. filter (is_wanted asked.wanted) (mapped_by asked.words level s r e t)) (sym is)
-    ∙ filter-placed asked.wanted s (narrowed r e) (mappings_of (level - 1) asked.words f)
+    ∙ filter-placed asked.wanted s (granted r e) (mappings_of (level - 1) asked.words f)
 
 -- the mapping of a page, if it is wanted
 pub by_page : (asked : Asked) (level s : ℕ) (r : Rights) (e : ℕ) (m : Mapping) → Page ≡ target_of level e → m ≡ page_at s level r e → s % span level ≡ 0

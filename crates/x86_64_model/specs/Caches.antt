@@ -1,12 +1,12 @@
 -- The caches of a processor for one root: the TLB, which holds pages, and the paging-structure caches, which hold tables.
 -- Intel SDM vol. 3A, "Caching Translation Information"; AMD APM vol. 2, "Translation-Lookaside Buffer (TLB)".
-use Rattle.std.specs.Prelude.{zero, suc, ◌≡◌, ◌⊎◌, ℕ, ◌+◌, ◌-◌, ◌%◌, ◌&&◌, true, not, cond, List, [], ◌∷◌, ◌++◌, length, Option, Some, None, option_and_then}
+use Rattle.std.specs.Prelude.{zero, suc, ◌≡◌, ◌⊎◌, ℕ, ◌+◌, ◌-◌, ◌%◌, true, cond, List, [], ◌∷◌, ◌++◌, length, Option, Some, None, option_and_then}
 use Rattle.x86_64_model.specs.Lists.{In}
 use Rattle.x86_64_model.specs.Position.{span, index, page_path}
 use Rattle.x86_64_model.specs.Path.{level_of, begins}
-use Rattle.x86_64_model.specs.Entry.{present, writable, user, huge, no_execute, address}
+use Rattle.x86_64_model.specs.Entry.{present, huge, address}
 use Rattle.x86_64_model.specs.Memory.{Words, word}
-use Rattle.x86_64_model.specs.Mappings.{Rights, maps_page}
+use Rattle.x86_64_model.specs.Mappings.{Rights, maps_page, every_right, granted}
 use Rattle.x86_64_model.specs.PageWalk.{Walked, page_start}
 
 -- ---- ways
@@ -20,11 +20,7 @@ pub record Way : Type 0 where
 
 -- The start of every walk: the root's table, with all rights.
 abbrev pub start : (root : ℕ) → Way
-start root = record { path = []; frame = root; rights = record { write = true; user = true; execute = true } }
-
--- The rights that are left after one more entry.
-abbrev pub granted : Rights → (entry : ℕ) → Rights
-granted r e = record { write = r.write && writable e; user = r.user && user e; execute = r.execute && not (no_execute e) }
+start root = record { path = []; frame = root; rights = every_right }
 
 -- Rights r are among the rights s.
 pub record AtMost (r s : Rights) : Type 0 where

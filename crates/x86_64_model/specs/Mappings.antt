@@ -1,6 +1,6 @@
 -- Mappings: everything that words map below a root. The words are arbitrary, and L is any number of levels.
 -- Intel SDM vol. 3A, "4-Level Paging and 5-Level Paging"; AMD APM vol. 2, "Long-Mode Page Translation".
-use Rattle.std.specs.Prelude.{ℕ, ◌+◌, ◌-◌, ◌==◌, ◌&&◌, ◌||◌, nat_lt, nat_le, Bool, false, not, cond, List, [], ◌∷◌, filter, Option, Some, None, option_and_then, option_map, unwrap_or}
+use Rattle.std.specs.Prelude.{ℕ, ◌+◌, ◌-◌, ◌==◌, ◌&&◌, ◌||◌, nat_lt, nat_le, Bool, true, false, not, cond, List, [], ◌∷◌, filter, Option, Some, None, option_and_then, option_map, unwrap_or}
 use Rattle.std.specs.List.{filter_map, list_all, last_or}
 use Rattle.x86_64_model.specs.Entry.{present, writable, user, huge, no_execute, address, flags}
 use Rattle.x86_64_model.specs.Memory.{Words}
@@ -41,6 +41,14 @@ rights_of words = record {
   user = list_all user words;
   execute = list_all (λ e. not (no_execute e)) words;
 }
+
+-- The rights where no word restricts them: above the table of a root.
+abbrev pub every_right : Rights
+every_right = record { write = true; user = true; execute = true }
+
+-- The rights r, restricted by one more word.
+abbrev pub granted : Rights → (entry : ℕ) → Rights
+granted r e = record { write = r.write && writable e; user = r.user && user e; execute = r.execute && not (no_execute e) }
 
 -- What a leaf maps: the span of its path, as its first position and its size, with the frame and the flags of the last word. A
 -- position is the number of an address counted without the gap of the address space.

@@ -1,5 +1,5 @@
 //! Lists of calls, executed by the plain program and by both mappers of the library.
-use super::calls::plain_of;
+use super::plain_call::plain_of;
 use super::chooser::Chooser;
 use super::listing::compare_mappings;
 use super::outcomes::{Met, OUTCOMES, OUTCOMES_OF_LEVEL_5};

@@ -1,5 +1,5 @@
 //! Frames that don't lie at the places of their numbers.
-use super::calls::MAPPED;
+use super::call_lists::MAPPED;
 use super::{By, Row, State, add_replies, calls_of, compare};
 use crate::prelude::*;
 use x86_64::ShiftMapping;

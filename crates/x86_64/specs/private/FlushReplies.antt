@@ -3,7 +3,7 @@ use Rattle.std.specs.Prelude.{Bool, false, cond, Ok, Err}
 use Rattle.x86_64_model.specs.Entry.{no_execute}
 use Rattle.x86_64.specs.Asked.{PageCall, MapTo, MapToWithTableFlags, IdentityMap, Unmap, UpdateFlags, SetFlags, TranslatePage, MapperCall, Of4KiB, Of2MiB, Of1GiB, Translate, TranslateAddr, CleanUp, CleanUpRange}
 use Rattle.x86_64.specs.Replies.{SizeReply}
-use Rattle.x86_64.specs.declared.calls.PageReply.TheVariants as reply
+use Rattle.x86_64.specs.declared.call_values.PageReply.TheVariants as reply
 use Rattle.x86_64.specs.declared.flushing.Flush.{Flush}
 use Rattle.x86_64.specs.declared.flushing.Flush.TheVariants.{Nothing, Page, Everything}
 

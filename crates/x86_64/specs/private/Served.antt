@@ -9,7 +9,7 @@ use Rattle.x86_64_tables.specs.declared.mapper.FlagUpdateError.{FlagUpdateError}
 use Rattle.x86_64_tables.specs.declared.mapper.recorder.FlushItem.{FlushItem}
 use Rattle.std.specs.declared.convert.Infallible.{Infallible}
 use Rattle.x86_64.specs.Asked.{PageCall, page_call}
-use Rattle.x86_64.specs.declared.calls.PageReply.TheVariants.{TableFlags}
+use Rattle.x86_64.specs.declared.call_values.PageReply.TheVariants.{TableFlags}
 use Rattle.x86_64.specs.Flushes.{size_items}
 use Rattle.x86_64.specs.Replies.{SizeReply, size_answer, size_changes_nothing}
 use Rattle.x86_64.specs.Runs.{AfterStep, machine_with, state_in, state_with}

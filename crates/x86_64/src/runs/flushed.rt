@@ -6,7 +6,7 @@ ghost use Rattle.x86_64.specs.Flushes.{Flushed, RoomRefused};
 ghost use Rattle.x86_64.specs.Runs.{Ran};
 
 use super::serve_all;
-use crate::calls::{CallIn, LevelFiveFlags, ReplyIn};
+use crate::call_values::{CallIn, LevelFiveFlags, ReplyIn};
 use std::alloc::AllocError;
 use x86_64_addr::level_count::LevelCount;
 use x86_64_mappers::calls::TableAccess;

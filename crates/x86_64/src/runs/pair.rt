@@ -5,7 +5,7 @@ ghost use Rattle.x86_64.specs.Pairs.{AfterRun, AreAlike, MayRun};
 
 use super::serve_all;
 use super::tokens::Ignored;
-use crate::calls::{CallIn, LevelFiveFlags, ReplyIn};
+use crate::call_values::{CallIn, LevelFiveFlags, ReplyIn};
 use std::alloc::{AllocError, Global};
 use x86_64_addr::level_count::LevelCount;
 use x86_64_mappers::calls::TableAccess;

@@ -3,16 +3,16 @@ use Rattle.std.specs.Prelude.{◌≡◌, ℕ, ◌+◌, ◌-◌, ◌*◌, ◌/◌
 use Rattle.x86_64_model.specs.Entry.{present, huge, address}
 use Rattle.x86_64_model.specs.Memory.{Words}
 use Rattle.x86_64_model.specs.Position.{span, position_count}
-use Rattle.x86_64_model.specs.Mappings.{Rights, Mapping, maps_page, mappings_from, mappings_of}
+use Rattle.x86_64_model.specs.Mappings.{Rights, Mapping, maps_page, mappings_from, mappings_of, granted}
 use Rattle.x86_64_tables.specs.declared.page_table.target.EntryTarget.{EntryTarget}
 use Rattle.x86_64_tables.specs.declared.page_table.target.EntryTarget.TheVariants.{Table}
-use Rattle.x86_64_model.specs.private.Found.{narrowed, page_at, found_on, found}
+use Rattle.x86_64_model.specs.private.Found.{page_at, found_on, found}
 use Rattle.x86_64_mappings.specs.declared.listing.cursor.Cursor.{Cursor}
 
 -- the mapping found at a position in the span of an entry of a level, below words with rights r
 abbrev pub found_by : Words → (position level : ℕ) → Rights → (entry : ℕ) → Option Mapping
 found_by T x level r e = cond (present e)
-    (cond (maps_page level e) (Some (page_at x level r e)) (cond (huge e) None (found_on T x (level - 1) (narrowed r e) (address e))))
+    (cond (maps_page level e) (Some (page_at x level r e)) (cond (huge e) None (found_on T x (level - 1) (granted r e) (address e))))
     None
 
 -- The remaining entries of a level, from the one that spans a position on: from this position on, what is found in the span

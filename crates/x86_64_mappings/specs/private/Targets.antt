@@ -2,8 +2,8 @@
 use Rattle.std.specs.Prelude.{ℕ, ◌+◌, ◌-◌, List, [], ◌∷◌, ◌++◌, map, filter}
 use Rattle.x86_64_model.specs.Memory.{Words}
 use Rattle.x86_64_model.specs.Position.{span}
-use Rattle.x86_64_model.specs.Mappings.{Rights, Mapping, mappings_of}
-use Rattle.x86_64_model.specs.private.Found.{narrowed, page_from}
+use Rattle.x86_64_model.specs.Mappings.{Rights, Mapping, mappings_of, granted}
+use Rattle.x86_64_model.specs.private.Found.{page_from}
 use Rattle.x86_64_tables.specs.EntryTargets.{target_of}
 use Rattle.x86_64_tables.specs.declared.page_table.target.EntryTarget.{EntryTarget}
 use Rattle.x86_64_tables.specs.declared.page_table.target.EntryTarget.TheVariants.{Nothing, Page, Table}
@@ -15,7 +15,7 @@ use Rattle.x86_64_mappings.specs.private.Placed.{placed}
 abbrev pub mapped_by : Words → (level start : ℕ) → Rights → (entry : ℕ) → EntryTarget → List Mapping
 mapped_by T level s r e Nothing = []
 mapped_by T level s r e Page = page_from s level r e ∷ []
-mapped_by T level s r e (Table frame) = map (placed s (narrowed r e)) (mappings_of (level - 1) T frame)
+mapped_by T level s r e (Table frame) = map (placed s (granted r e)) (mappings_of (level - 1) T frame)
 
 -- the wanted mappings by an entry
 abbrev pub asked_by : Asked → (level start : ℕ) → Rights → (entry : ℕ) → List Mapping

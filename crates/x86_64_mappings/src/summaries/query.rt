@@ -1,8 +1,8 @@
 //! Queries: a memory, and which mappings of its tables are wanted.
 ghost use Rattle.std.specs.Prelude.{◌≡◌, ◌<◌, ◌≤◌, ◌∷◌, [], ℕ, true, filter};
 ghost use Rattle.std.specs.Option.{option_copied};
-ghost use Rattle.x86_64_model.specs.Mappings.{maps_page as page_mapped};
-ghost use Rattle.x86_64_model.specs.private.Found.{every_right, page_from};
+ghost use Rattle.x86_64_model.specs.Mappings.{maps_page as page_mapped, every_right};
+ghost use Rattle.x86_64_model.specs.private.Found.{page_from};
 ghost use Rattle.x86_64_mappings.specs.Summaries.{summary_of};
 ghost use Rattle.x86_64_mappings.specs.Wanted.{asked_of, is_wanted};
 ghost use Rattle.x86_64_mappings.specs.private.Known.{asking};

@@ -1,11 +1,11 @@
 //! Tables, as walks down from a root reach them.
 ghost use Rattle.std.specs.Prelude.{◌≡◌, ◌-◌, ◌≤◌};
-ghost use Rattle.x86_64_model.specs.private.Found.{every_right, narrowed};
 
 use x86_64_addr::level_count::LevelCount;
 use x86_64_page::frame::PhysFrame;
 use x86_64_page::page::Size4KiB;
 use x86_64_tables::page_table::{PageTableEntry, Rights};
+ghost use Rattle.x86_64_model.specs.Mappings.{every_right, granted};
 
 /// A table, as a walk down from a root reaches it.
 #[derive(Drop)]
@@ -46,7 +46,7 @@ impl ReachedTable {
           frame = frame;
           level = self.now.level - 1;
           start = start;
-          above = narrowed self.now.above entry.now;
+          above = granted self.now.above entry.now;
         } }
     {
         ReachedTable {

@@ -1,23 +1,15 @@
 -- The mapping at a position (the number of an address counted without the gap), found by a walk down from the root. It is the
 -- mapping of the list that has the position, None if none has it.
-use Rattle.std.specs.Prelude.{zero, suc, ◌≡◌, ℕ, ◌+◌, ◌*◌, ◌/◌, ◌<◌, ◌≤◌, ◌&&◌, true, not, cond, Option, Some, None, option_and_then}
-use Rattle.x86_64_model.specs.Entry.{present, writable, user, huge, no_execute, address, flags}
+use Rattle.std.specs.Prelude.{zero, suc, ◌≡◌, ℕ, ◌+◌, ◌*◌, ◌/◌, ◌<◌, ◌≤◌, cond, Option, Some, None, option_and_then}
+use Rattle.x86_64_model.specs.Entry.{present, huge, address, flags}
 use Rattle.x86_64_model.specs.Position.{span, index}
 use Rattle.x86_64_model.specs.Memory.{Words}
 use Rattle.x86_64_model.specs.PageWalk.{read, page_start}
-use Rattle.x86_64_model.specs.Mappings.{Rights, Mapping, maps_page}
-
--- The rights above the root's table, where no word restricts them.
-abbrev pub every_right : Rights
-every_right = record { write = true; user = true; execute = true }
-
--- The rights r, restricted by one more word.
-abbrev pub narrowed : Rights → (entry : ℕ) → Rights
-narrowed r e = record { write = r.write && writable e; user = r.user && user e; execute = r.execute && not (no_execute e) }
+use Rattle.x86_64_model.specs.Mappings.{Rights, Mapping, maps_page, every_right, granted}
 
 -- The mapping of a word that maps a page at a level, whose span starts at this position, below words with rights r.
 abbrev pub page_from : (start level : ℕ) → Rights → (entry : ℕ) → Mapping
-page_from start level r e = record { start = start; size = span level; frame = page_start level e; flags = flags e; rights = narrowed r e }
+page_from start level r e = record { start = start; size = span level; frame = page_start level e; flags = flags e; rights = granted r e }
 
 -- The mapping of such a word, from any position of its span.
 abbrev pub page_at : (p level : ℕ) → Rights → (entry : ℕ) → Mapping
@@ -29,7 +21,7 @@ found_on T p zero r frame = None
 found_on T p (suc n) r frame = option_and_then
     (λ e. cond (present e)
     (cond (maps_page (suc n) e) (Some (page_at p (suc n) r e))
-    (cond (huge e) None (found_on T p n (narrowed r e) (address e)))) None)
+    (cond (huge e) None (found_on T p n (granted r e) (address e)))) None)
     (read T frame (index (suc n) p))
 
 unfoldable pub found : (L : ℕ) → Words → (root p : ℕ) → Option Mapping

@@ -1,6 +1,5 @@
 //! What page table entries allow.
 ghost use Rattle.std.specs.Prelude.{◌≡◌, Some};
-ghost use Rattle.x86_64_model.specs.private.Found.{narrowed};
 ghost use Rattle.x86_64_tables.specs.Rights.{both, either};
 
 use super::{PageTableEntry, PageTableFlags, has_flag};
@@ -23,7 +22,7 @@ pub struct Rights {
 
 impl Model for Rights {
     ghost use Rattle.std.specs.Prelude.{refl};
-    ghost use Rattle.x86_64_model.specs.Mappings.{Rights as Allowed};
+    ghost use Rattle.x86_64_model.specs.Mappings.{Rights as Allowed, granted};
 
     ghost Value = { Allowed };
 
@@ -51,7 +50,7 @@ impl Rights {
 
     /// Returns what is still allowed below an entry.
     pub fn below(self, entry: &PageTableEntry) -> Rights
-        ensures { result ≡ narrowed self entry.now }
+        ensures { result ≡ granted self entry.now }
     {
         Rights {
             write: self.write & has_flag(entry, PageTableFlags::WRITABLE),

@@ -1,9 +1,8 @@
 use Rattle.std.proofs.Common.{rules, ◌≡◌, ◌∙◌, ◌-◌, ℕ, None, Some, IfOk, true, false, sym, ap, subst}
 use Rattle.x86_64_model.proofs.Lemmas.Entries.Words.{address_aligned}
 use Rattle.x86_64_model.specs.Entry.{present, huge}
-use Rattle.x86_64_model.specs.Mappings.{maps_page}
+use Rattle.x86_64_model.specs.Mappings.{maps_page, granted}
 use Rattle.x86_64_model.specs.Memory.{words_of, identity_places}
-use Rattle.x86_64_model.specs.private.Found.{narrowed}
 use Rattle.ptdump_engine.specs.Output.{Puts}
 use Rattle.ptdump_engine.specs.Walks.{line, word_text, not_present, ends, walk_from}
 use Rattle.ptdump_engine.specs.private.WalkLines.{is_arrival}
@@ -27,7 +26,7 @@ returns-then-not-has_flag-clause-text g t c =
     c.requires.low c.in-Some.ensures c.index_of-index.ensures.value c.index-entry.ensures.0 in
     let word = subst (λ w. Puts g.W.Write.contents c.args.output.now c.write_word.new.output (line (word_text (record { level = c.args.level; table = c.args.frame; index = c.index_of-index.result; word = w }))))
     c.word.ensures c.in_ok-write_word.ensures in
-    let rights : c.below-rights.result ≡ narrowed c.args.above e = c.below-rights.ensures in
+    let rights : c.below-rights.result ≡ granted c.args.above e = c.below-rights.ensures in
     let absent : present e ≡ false = search rules in
     puts_end g.W.Write.contents _ c.write_word.new.output _ T c.args.position c.args.level c.args.frame e c.index_of-index.result c.args.above c.below-rights.result
     not_present read c.index_of-index.ensures.value rights (behind_absent c.args.position c.args.level e _ absent) word c.in_ok-writeln.ensures
@@ -49,7 +48,7 @@ returns-then-maps_page-clause-text g t c =
     c.requires.low c.in-Some.ensures c.index_of-index.ensures.value c.index-entry.ensures.0 in
     let word = subst (λ w. Puts g.W.Write.contents c.args.output.now c.write_word.new.output (line (word_text (record { level = c.args.level; table = c.args.frame; index = c.index_of-index.result; word = w }))))
     c.word.ensures c.in_ok-write_word.ensures in
-    let rights : c.below-rights.result ≡ narrowed c.args.above e = c.below-rights.ensures in
+    let rights : c.below-rights.result ≡ granted c.args.above e = c.below-rights.ensures in
     let there : present e ≡ true = search rules in
     let page : maps_page c.args.level e ≡ true = search rules in
     puts_end g.W.Write.contents _ c.write_word.new.output _ T c.args.position c.args.level c.args.frame e c.index_of-index.result c.args.above c.below-rights.result
@@ -73,7 +72,7 @@ returns-then-has_flag-clause-text g t c =
     c.requires.low c.in-Some.ensures c.index_of-index.ensures.value c.index-entry.ensures.0 in
     let word = subst (λ w. Puts g.W.Write.contents c.args.output.now c.write_word.new.output (line (word_text (record { level = c.args.level; table = c.args.frame; index = c.index_of-index.result; word = w }))))
     c.word.ensures c.in_ok-write_word.ensures in
-    let rights : c.below-rights.result ≡ narrowed c.args.above e = c.below-rights.ensures in
+    let rights : c.below-rights.result ≡ granted c.args.above e = c.below-rights.ensures in
     let there : present e ≡ true = search rules in
     let page : maps_page c.args.level e ≡ false = search rules in
     let big : huge e ≡ true = search rules in
@@ -100,7 +99,7 @@ returns-clause-text g t c =
     c.requires.low c.in-Some.ensures c.index_of-index.ensures.value c.index-entry.ensures.0 in
     let word = subst (λ w. Puts g.W.Write.contents c.args.output.now c.write_word.new.output (line (word_text (record { level = c.args.level; table = c.args.frame; index = c.index_of-index.result; word = w }))))
     c.word.ensures c.in_ok-write_word.ensures in
-    let rights : c.below-rights.result ≡ narrowed c.args.above e = c.below-rights.ensures in
+    let rights : c.below-rights.result ≡ granted c.args.above e = c.below-rights.ensures in
     let there : present e ≡ true = search rules in
     let page : maps_page c.args.level e ≡ false = search rules in
     let table : huge e ≡ false = search rules in

@@ -1,6 +1,6 @@
 use Rattle.std.proofs.Common.{false, Some, sym, ap, ap₂, ◌∙◌}
 use Rattle.x86_64.specs.Calls.{asks}
-use Rattle.x86_64.specs.declared.calls.MapperReply.TheVariants as reply
+use Rattle.x86_64.specs.declared.call_values.MapperReply.TheVariants as reply
 use Rattle.x86_64.specs.private.FlushReplies.{page_flush}
 use Rattle.x86_64.proofs.FlushesTold.{told_by, is_some_index}
 use Rattle.x86_64.proofs.flushing.flush_after.Goals as goal

@@ -7,9 +7,9 @@ use Rattle.x86_64_model.specs.Entry.{present, huge, address}
 use Rattle.x86_64_model.specs.Memory.{Words, word}
 use Rattle.x86_64_model.specs.Path.{level_of, begins}
 use Rattle.x86_64_model.specs.Position.{index, page_path}
-use Rattle.x86_64_model.specs.Mappings.{Rights, maps_page}
+use Rattle.x86_64_model.specs.Mappings.{Rights, maps_page, granted}
 use Rattle.x86_64_model.specs.PageWalk.{page_start}
-use Rattle.x86_64_model.specs.Caches.{Way, granted, over, AtMost, Cached, Table, Page, leads_to, found, then_on, walk_from, walk}
+use Rattle.x86_64_model.specs.Caches.{Way, over, AtMost, Cached, Table, Page, leads_to, found, then_on, walk_from, walk}
 use Rattle.x86_64_model.proofs.Lemmas.Paths.Begins.{begins_on, begins_itself, from_begins, begins_more}
 use Rattle.x86_64_model.proofs.Lemmas.Walks.Walked.{Reads, one_more}
 use Rattle.x86_64_model.proofs.Lemmas.Walks.Fronts.{goes_on}

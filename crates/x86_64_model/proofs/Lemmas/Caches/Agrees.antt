@@ -6,9 +6,9 @@ use Rattle.x86_64_model.specs.Entry.{present, writable, user, huge, no_execute, 
 use Rattle.x86_64_model.specs.PathMap.{table_of}
 use Rattle.x86_64_model.specs.Memory.{Words, word}
 use Rattle.x86_64_model.specs.Path.{level_of, begins}
-use Rattle.x86_64_model.specs.Mappings.{Rights, maps_page}
+use Rattle.x86_64_model.specs.Mappings.{Rights, maps_page, granted}
 use Rattle.x86_64_model.specs.PageWalk.{page_start}
-use Rattle.x86_64_model.specs.Caches.{Way, start, granted, over, AtMost, Cached, Table, Page, leads_to, found}
+use Rattle.x86_64_model.specs.Caches.{Way, start, over, AtMost, Cached, Table, Page, leads_to, found}
 use Rattle.x86_64_model.proofs.Lemmas.Paths.Begins.{begins_on, begins_itself, from_begins}
 use Rattle.x86_64_model.proofs.Lemmas.Walks.Agrees.{named}
 use Rattle.x86_64_model.proofs.Lemmas.Hierarchies.Trees.{table_of_gives}

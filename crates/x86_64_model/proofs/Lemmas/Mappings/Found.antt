@@ -5,8 +5,8 @@ use Rattle.x86_64_model.specs.Entry.{present, huge, address}
 use Rattle.x86_64_model.specs.Memory.{Words}
 use Rattle.x86_64_model.specs.PageWalk.{read}
 use Rattle.x86_64_model.specs.Position.{index}
-use Rattle.x86_64_model.specs.Mappings.{Rights, Mapping, maps_page}
-use Rattle.x86_64_model.specs.private.Found.{every_right, narrowed, page_at, found_on, found, span_end, LeadsTo}
+use Rattle.x86_64_model.specs.Mappings.{Rights, Mapping, maps_page, every_right, granted}
+use Rattle.x86_64_model.specs.private.Found.{page_at, found_on, found, span_end, LeadsTo}
 use Rattle.x86_64_model.proofs.Lemmas.Mappings.SpanEnds.{same_index, span_end_up, span_end_after}
 
 -- above level one a page is mapped by a huge word at levels two and three
@@ -23,13 +23,13 @@ abbrev pub found_by : (p level : ℕ) → Rights → (e : ℕ) → (below : Opti
 found_by p level r e below = cond (present e) (cond (maps_page level e) (Some (page_at p level r e)) (cond (huge e) None below)) None
 
 pub found_read : (T : Words) (p n : ℕ) (r : Rights) (f e : ℕ) → read T f (index (suc n) p) ≡ Some e
-    → found_on T p (suc n) r f ≡ found_by p (suc n) r e (found_on T p n (narrowed r e) (address e))
+    → found_on T p (suc n) r f ≡ found_by p (suc n) r e (found_on T p n (granted r e) (address e))
 unfolding found_on
-found_read T p n r f e is = ap (option_and_then (λ e. found_by p (suc n) r e (found_on T p n (narrowed r e) (address e)))) is
+found_read T p n r f e is = ap (option_and_then (λ e. found_by p (suc n) r e (found_on T p n (granted r e) (address e)))) is
 
 pub found_unread : (T : Words) (p n : ℕ) (r : Rights) (f : ℕ) → read T f (index (suc n) p) ≡ None → found_on T p (suc n) r f ≡ None
 unfolding found_on
-found_unread T p n r f is = ap (option_and_then (λ e. found_by p (suc n) r e (found_on T p n (narrowed r e) (address e)))) is
+found_unread T p n r f is = ap (option_and_then (λ e. found_by p (suc n) r e (found_on T p n (granted r e) (address e)))) is
 
 pub neither : (b : Bool) → (let none : Option Mapping = None in cond b none none ≡ None)
 neither true = refl
@@ -51,17 +51,17 @@ module _ (L : ℕ) (T : Words) (root p : ℕ) where
   )
 
   by_entry : (n : ℕ) (r : Rights) (f e : ℕ) → LeadsTo L T root p (suc n) r f → read T f (index (suc n) p) ≡ Some e → (x : ℕ) → p ≤ x → x < span_end (suc n) p
-      → found L T root x ≡ found_by x (suc n) r e (found_on T x n (narrowed r e) (address e))
+      → found L T root x ≡ found_by x (suc n) r e (found_on T x n (granted r e) (address e))
   by_entry n r f e leads is x from to = let at = at_entry n r f leads x from to in at.0 ∙ found_read T x n r f e (ap (read T f) at.1 ∙ is)
 
   pub leads_down : (level : ℕ) (r : Rights) (frame e : ℕ) → 1 ≤ level → LeadsTo L T root p level r frame
       → read T frame (index level p) ≡ Some e → present e ≡ true → maps_page level e ≡ false → huge e ≡ false
-      → LeadsTo L T root p (level - 1) (narrowed r e) (address e)
+      → LeadsTo L T root p (level - 1) (granted r e) (address e)
   leads_down zero r f e some leads is there no_page not_huge = absurd (omega arith)
-  leads_down (suc n) r f e some leads is there no_page not_huge = subst (λ k. LeadsTo L T root p k (narrowed r e) (address e)) (let e : n ≡ suc n - 1 = omega arith in e) (record {
+  leads_down (suc n) r f e some leads is there no_page not_huge = subst (λ k. LeadsTo L T root p k (granted r e) (address e)) (let e : n ≡ suc n - 1 = omega arith in e) (record {
     on = λ x from to.
         by_entry n r f e leads is x from (subst (λ k. x < span_end k p) (let e : n + 1 ≡ suc n = omega arith in e) to)
-        ∙ (λ i. let below = found_on T x n (narrowed r e) (address e) in cond (there i) (cond (no_page i) (Some (page_at x (suc n) r e)) (cond (not_huge i) None below)) None);
+        ∙ (λ i. let below = found_on T x n (granted r e) (address e) in cond (there i) (cond (no_page i) (Some (page_at x (suc n) r e)) (cond (not_huge i) None below)) None);
   })
 
   pub page_there : (level : ℕ) (r : Rights) (frame e : ℕ) → 1 ≤ level → LeadsTo L T root p level r frame
@@ -69,7 +69,7 @@ module _ (L : ℕ) (T : Words) (root p : ℕ) where
       → found L T root p ≡ Some (page_at p level r e)
   page_there zero r f e some leads is there page = absurd (omega arith)
   page_there (suc n) r f e some leads is there page = by_entry n r f e leads is p (omega arith) (span_end_after (suc n) p)
-      ∙ (λ i. let below = found_on T p n (narrowed r e) (address e) in cond (there i) (cond (page i) (Some (page_at p (suc n) r e)) (cond (huge e) None below)) None)
+      ∙ (λ i. let below = found_on T p n (granted r e) (address e) in cond (there i) (cond (page i) (Some (page_at p (suc n) r e)) (cond (huge e) None below)) None)
 
   pub none_read : (level : ℕ) (r : Rights) (frame : ℕ) → 1 ≤ level → LeadsTo L T root p level r frame
       → read T frame (index level p) ≡ None
@@ -82,14 +82,14 @@ module _ (L : ℕ) (T : Words) (root p : ℕ) where
       → (x : ℕ) → p ≤ x → x < span_end level p → found L T root x ≡ None
   none_present zero r f e some leads is absent x from to = absurd (omega arith)
   none_present (suc n) r f e some leads is absent x from to = by_entry n r f e leads is x from to
-      ∙ (λ i. let below = found_on T x n (narrowed r e) (address e) in cond (absent i) (cond (maps_page (suc n) e) (Some (page_at x (suc n) r e)) (cond (huge e) None below)) None)
+      ∙ (λ i. let below = found_on T x n (granted r e) (address e) in cond (absent i) (cond (maps_page (suc n) e) (Some (page_at x (suc n) r e)) (cond (huge e) None below)) None)
 
   pub none_huge : (level : ℕ) (r : Rights) (frame e : ℕ) → 1 ≤ level → LeadsTo L T root p level r frame
       → read T frame (index level p) ≡ Some e → huge e ≡ true → maps_page level e ≡ false
       → (x : ℕ) → p ≤ x → x < span_end level p → found L T root x ≡ None
   none_huge zero r f e some leads is high no_page x from to = absurd (omega arith)
   none_huge (suc n) r f e some leads is high no_page x from to = by_entry n r f e leads is x from to
-      ∙ (λ i. let below = found_on T x n (narrowed r e) (address e) in cond (present e) (cond (no_page i) (Some (page_at x (suc n) r e)) (cond (high i) None below)) None)
+      ∙ (λ i. let below = found_on T x n (granted r e) (address e) in cond (present e) (cond (no_page i) (Some (page_at x (suc n) r e)) (cond (high i) None below)) None)
       ∙ neither (present e)
 
 -- ---- what is found is the page of a level
@@ -108,7 +108,7 @@ pub record IsPageOf (p highest : ℕ) (m : Mapping) (level : ℕ) (r : Rights) (
 pub found_page : (T : Words) (p n : ℕ) (r : Rights) (f : ℕ) (m : Mapping) → found_on T p n r f ≡ Some m → (level : ℕ) × (s : Rights) × (e : ℕ) × IsPageOf p n m level s e
 unfolding found_on
 found_page T p zero r f m is = absurd (let t : None ≡ Some m = is in cc)
-found_page T p (suc n) r f m is = by (read T f (index (suc n) p)) (λ e. found_page T p n (narrowed r e) (address e) m) is
+found_page T p (suc n) r f m is = by (read T f (index (suc n) p)) (λ e. found_page T p n (granted r e) (address e) m) is
   where
     each : (e : ℕ) (below : Option Mapping) → (below ≡ Some m → (level : ℕ) × (s : Rights) × (e : ℕ) × IsPageOf p n m level s e) → (b t h : Bool) → maps_page (suc n) e ≡ t
         → cond b (cond t (Some (page_at p (suc n) r e)) (cond h None below)) None ≡ Some m → (level : ℕ) × (s : Rights) × (e : ℕ) × IsPageOf p (suc n) m level s e
@@ -117,7 +117,7 @@ found_page T p (suc n) r f m is = by (read T f (index (suc n) p)) (λ e. found_p
     each e below on true false false page is = let more = on is in let levels = more.3.levels in (more.0, more.1, more.2, record { low = more.3.low; high = more.3.high; levels = omega (arith, levels); is = more.3.is })
     each e below on false t h page is = absurd (let t : None ≡ Some m = is in cc)
 
-    by : (o : Option ℕ) → ((e : ℕ) → found_on T p n (narrowed r e) (address e) ≡ Some m → (level : ℕ) × (s : Rights) × (e : ℕ) × IsPageOf p n m level s e)
-        → option_and_then (λ e. found_by p (suc n) r e (found_on T p n (narrowed r e) (address e))) o ≡ Some m → (level : ℕ) × (s : Rights) × (e : ℕ) × IsPageOf p (suc n) m level s e
+    by : (o : Option ℕ) → ((e : ℕ) → found_on T p n (granted r e) (address e) ≡ Some m → (level : ℕ) × (s : Rights) × (e : ℕ) × IsPageOf p n m level s e)
+        → option_and_then (λ e. found_by p (suc n) r e (found_on T p n (granted r e) (address e))) o ≡ Some m → (level : ℕ) × (s : Rights) × (e : ℕ) × IsPageOf p (suc n) m level s e
     by None on is = absurd (let t : None ≡ Some m = is in cc)
     by (Some e) on is = each e _ (on e) (present e) (maps_page (suc n) e) (huge e) refl is

@@ -8,8 +8,8 @@ use Rattle.x86_64_model.specs.Memory.{Words}
 use Rattle.x86_64_model.specs.PageWalk.{read}
 use Rattle.x86_64_model.specs.Position.{span}
 use Rattle.x86_64_model.specs.Path.{indices, paths_below, span_start}
-use Rattle.x86_64_model.specs.Mappings.{Rights, Mapping, maps_page, mapping_at, mappings_of}
-use Rattle.x86_64_model.specs.private.Found.{every_right, narrowed, page_from}
+use Rattle.x86_64_model.specs.Mappings.{Rights, Mapping, maps_page, mapping_at, mappings_of, every_right, granted}
+use Rattle.x86_64_model.specs.private.Found.{page_from}
 use Rattle.x86_64_model.proofs.Lemmas.CleanUps.Trees.{goes_below}
 use Rattle.x86_64_model.proofs.Lemmas.Paths.Starts.{next_start}
 use Rattle.x86_64_model.proofs.Lemmas.Walks.Walked.{one_more}
@@ -40,7 +40,7 @@ list_and_then k (Some e) = k e
 abbrev pub listed_on : Words → (level start : ℕ) → Rights → (frame : ℕ) → List Mapping
 listed_on T zero s r f = []
 listed_on T (suc n) s r f = flat_map
-    (λ i. list_and_then (λ e. listed_by (s + i * span (suc n)) (suc n) r e (listed_on T n (s + i * span (suc n)) (narrowed r e) (address e))) (read T f i))
+    (λ i. list_and_then (λ e. listed_by (s + i * span (suc n)) (suc n) r e (listed_on T n (s + i * span (suc n)) (granted r e) (address e))) (read T f i))
     indices
 
 module _ (L : ℕ) (T : Words) (root : ℕ) where
@@ -57,7 +57,7 @@ module _ (L : ℕ) (T : Words) (root : ℕ) where
   -- the mapping at an index, and those below it
   abbrev Listed : (n : ℕ) (q : List ℕ) → Rights → (frame i : ℕ) → Option ℕ → Type 0
   Listed n q r f i o = filter_map at (paths_below n (q ++ i ∷ []) ++ (q ++ i ∷ []) ∷ [])
-      ≡ list_and_then (λ e. listed_by (span_start L q + i * span (suc n)) (suc n) r e (listed_on T n (span_start L q + i * span (suc n)) (narrowed r e) (address e))) o
+      ≡ list_and_then (λ e. listed_by (span_start L q + i * span (suc n)) (suc n) r e (listed_on T n (span_start L q + i * span (suc n)) (granted r e) (address e))) o
 
   parts : (n : ℕ) (q : List ℕ) (i : ℕ) (below : List Mapping) (o : Option Mapping) → filter_map at (paths_below n (q ++ i ∷ [])) ≡ below → at (q ++ i ∷ []) ≡ o
       → filter_map at (paths_below n (q ++ i ∷ []) ++ (q ++ i ∷ []) ∷ []) ≡ below ++ cons_option o []
@@ -75,29 +75,29 @@ module _ (L : ℕ) (T : Words) (root : ℕ) where
   -- the same by a word that is present, maps a page and is huge, or not
   abbrev By : (n : ℕ) (q : List ℕ) → Rights → (i e : ℕ) → (there page high : Bool) → Type 0
   By n q r i e b m h = filter_map at (paths_below n (q ++ i ∷ []) ++ (q ++ i ∷ []) ∷ [])
-      ≡ cond b (cond m (page_from (span_start L q + i * span (suc n)) (suc n) r e ∷ []) (cond h [] (listed_on T n (span_start L q + i * span (suc n)) (narrowed r e) (address e)))) []
+      ≡ cond b (cond m (page_from (span_start L q + i * span (suc n)) (suc n) r e ∷ []) (cond h [] (listed_on T n (span_start L q + i * span (suc n)) (granted r e) (address e)))) []
 
   -- what a word that is read makes of the way
   module _ (n : ℕ) (q : List ℕ) (r : Rights) (f i e : ℕ) (leads : Leads (suc n) q r f) (is : read T f i ≡ Some e) where
     last : at (q ++ i ∷ []) ≡ cond (present e && maps_page (suc n) e) (Some (by_last_word L (q ++ i ∷ []) r e)) None
     last = leads i [] ∙ ap (option_and_then (λ e. cond (present e && maps_page (suc n) e) (Some (by_last_word L (q ++ i ∷ []) r e)) None)) is
 
-    more : (j : ℕ) (s : List ℕ) → at (q ++ i ∷ j ∷ s) ≡ cond (present e && not (huge e)) (mapped_on L T (q ++ i ∷ j ∷ s) n (narrowed r e) (address e) (j ∷ s)) None
-    more j s = leads i (j ∷ s) ∙ ap (option_and_then (λ e. cond (present e && not (huge e)) (mapped_on L T (q ++ i ∷ j ∷ s) (suc n - 1) (narrowed r e) (address e) (j ∷ s)) None)) is
-        ∙ ap (λ k. cond (present e && not (huge e)) (mapped_on L T (q ++ i ∷ j ∷ s) k (narrowed r e) (address e) (j ∷ s)) None) (let e : suc n - 1 ≡ n = omega arith in e)
+    more : (j : ℕ) (s : List ℕ) → at (q ++ i ∷ j ∷ s) ≡ cond (present e && not (huge e)) (mapped_on L T (q ++ i ∷ j ∷ s) n (granted r e) (address e) (j ∷ s)) None
+    more j s = leads i (j ∷ s) ∙ ap (option_and_then (λ e. cond (present e && not (huge e)) (mapped_on L T (q ++ i ∷ j ∷ s) (suc n - 1) (granted r e) (address e) (j ∷ s)) None)) is
+        ∙ ap (λ k. cond (present e && not (huge e)) (mapped_on L T (q ++ i ∷ j ∷ s) k (granted r e) (address e) (j ∷ s)) None) (let e : suc n - 1 ≡ n = omega arith in e)
 
-    after : (j : ℕ) (s : List ℕ) → at ((q ++ i ∷ []) ++ j ∷ s) ≡ cond (present e && not (huge e)) (mapped_on L T ((q ++ i ∷ []) ++ j ∷ s) n (narrowed r e) (address e) (j ∷ s)) None
-    after j s = subst (λ p. at p ≡ cond (present e && not (huge e)) (mapped_on L T p n (narrowed r e) (address e) (j ∷ s)) None) (sym (append_assoc q (i ∷ []) (j ∷ s))) (more j s)
+    after : (j : ℕ) (s : List ℕ) → at ((q ++ i ∷ []) ++ j ∷ s) ≡ cond (present e && not (huge e)) (mapped_on L T ((q ++ i ∷ []) ++ j ∷ s) n (granted r e) (address e) (j ∷ s)) None
+    after j s = subst (λ p. at p ≡ cond (present e && not (huge e)) (mapped_on L T p n (granted r e) (address e) (j ∷ s)) None) (sym (append_assoc q (i ∷ []) (j ∷ s))) (more j s)
 
     absent : present e ≡ false → (s : List ℕ) → at (q ++ i ∷ s) ≡ None
     absent h [] = last ∙ ap (λ b. cond (b && maps_page (suc n) e) (Some (by_last_word L (q ++ i ∷ []) r e)) None) h
-    absent h (j ∷ s) = more j s ∙ ap (λ b. cond (b && not (huge e)) (mapped_on L T (q ++ i ∷ j ∷ s) n (narrowed r e) (address e) (j ∷ s)) None) h
+    absent h (j ∷ s) = more j s ∙ ap (λ b. cond (b && not (huge e)) (mapped_on L T (q ++ i ∷ j ∷ s) n (granted r e) (address e) (j ∷ s)) None) h
 
     none_after : present e ≡ true → huge e ≡ true → filter_map at (paths_below n (q ++ i ∷ [])) ≡ []
-    none_after h g = none_below n (q ++ i ∷ []) (λ j s. after j s ∙ (λ k. cond (h k && not (g k)) (mapped_on L T ((q ++ i ∷ []) ++ j ∷ s) n (narrowed r e) (address e) (j ∷ s)) None))
+    none_after h g = none_below n (q ++ i ∷ []) (λ j s. after j s ∙ (λ k. cond (h k && not (g k)) (mapped_on L T ((q ++ i ∷ []) ++ j ∷ s) n (granted r e) (address e) (j ∷ s)) None))
 
-    leads_on : present e ≡ true → huge e ≡ false → Leads n (q ++ i ∷ []) (narrowed r e) (address e)
-    leads_on h g j s = after j s ∙ (λ k. cond (h k && not (g k)) (mapped_on L T ((q ++ i ∷ []) ++ j ∷ s) n (narrowed r e) (address e) (j ∷ s)) None)
+    leads_on : present e ≡ true → huge e ≡ false → Leads n (q ++ i ∷ []) (granted r e) (address e)
+    leads_on h g j s = after j s ∙ (λ k. cond (h k && not (g k)) (mapped_on L T ((q ++ i ∷ []) ++ j ∷ s) n (granted r e) (address e) (j ∷ s)) None)
 
     by_absent : present e ≡ false → (m h : Bool) → By n q r i e false m h
     by_absent h m g = none_at n q i (absent h)
@@ -118,11 +118,11 @@ module _ (L : ℕ) (T : Words) (root : ℕ) where
   by_small (suc n) q r f i e leads is l h g below =
       let no_page : maps_page (suc (suc n)) e ≡ false = huge_page n e ∙ ap (λ b. b && nat_le (suc (suc n)) 3) g in
       parts (suc n) q i _ None
-      (below (q ++ i ∷ []) (narrowed r e) (address e) (omega (arith, one_more q i, l)) (leads_on (suc n) q r f i e leads is h g))
+      (below (q ++ i ∷ []) (granted r e) (address e) (omega (arith, one_more q i, l)) (leads_on (suc n) q r f i e leads is h g))
       (last (suc n) q r f i e leads is ∙ (λ k. cond (h k && no_page k) (Some (by_last_word L (q ++ i ∷ []) r e)) None))
-      ∙ append-nil (listed_on T (suc n) (span_start L (q ++ i ∷ [])) (narrowed r e) (address e))
-      ∙ ap (λ s. listed_on T (suc n) s (narrowed r e) (address e)) (start_next (suc n) q r f i e leads is l)
-      ∙ ap (λ m. cond m (page_from (span_start L q + i * span (suc (suc n))) (suc (suc n)) r e ∷ []) (listed_on T (suc n) (span_start L q + i * span (suc (suc n))) (narrowed r e) (address e))) (sym no_page)
+      ∙ append-nil (listed_on T (suc n) (span_start L (q ++ i ∷ [])) (granted r e) (address e))
+      ∙ ap (λ s. listed_on T (suc n) s (granted r e) (address e)) (start_next (suc n) q r f i e leads is l)
+      ∙ ap (λ m. cond m (page_from (span_start L q + i * span (suc (suc n))) (suc (suc n)) r e ∷ []) (listed_on T (suc n) (span_start L q + i * span (suc (suc n))) (granted r e) (address e))) (sym no_page)
 
   by_word : (n : ℕ) (q : List ℕ) (r : Rights) (f i : ℕ) → Leads (suc n) q r f → length q + suc n ≡ L
       → ((q : List ℕ) (r : Rights) (f : ℕ) → length q + n ≡ L → Leads n q r f → filter_map at (paths_below n q) ≡ listed_on T n (span_start L q) r f)
@@ -131,7 +131,7 @@ module _ (L : ℕ) (T : Words) (root : ℕ) where
     where
       none : (s : List ℕ) → at (q ++ i ∷ s) ≡ None
       none [] = leads i [] ∙ ap (option_and_then (λ e. cond (present e && maps_page (suc n) e) (Some (by_last_word L (q ++ i ∷ []) r e)) None)) is
-      none (j ∷ s) = leads i (j ∷ s) ∙ ap (option_and_then (λ e. cond (present e && not (huge e)) (mapped_on L T (q ++ i ∷ j ∷ s) (suc n - 1) (narrowed r e) (address e) (j ∷ s)) None)) is
+      none (j ∷ s) = leads i (j ∷ s) ∙ ap (option_and_then (λ e. cond (present e && not (huge e)) (mapped_on L T (q ++ i ∷ j ∷ s) (suc n - 1) (granted r e) (address e) (j ∷ s)) None)) is
   by_word n q r f i leads l below (Some e) is = by (present e) (huge e) refl refl
     where
       by : (b h : Bool) → present e ≡ b → huge e ≡ h → By n q r i e b (maps_page (suc n) e) h

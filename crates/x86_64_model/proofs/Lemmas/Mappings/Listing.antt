@@ -6,8 +6,8 @@ use Rattle.x86_64_model.specs.Entry.{address}
 use Rattle.x86_64_model.specs.Lists.{In}
 use Rattle.x86_64_model.specs.Memory.{Words}
 use Rattle.x86_64_model.specs.Position.{span, position_count}
-use Rattle.x86_64_model.specs.Mappings.{Mapping, has_position, mappings_of, mappings_from}
-use Rattle.x86_64_model.specs.private.Found.{every_right, found}
+use Rattle.x86_64_model.specs.Mappings.{Mapping, has_position, mappings_of, mappings_from, every_right}
+use Rattle.x86_64_model.specs.private.Found.{found}
 use Rattle.x86_64_model.proofs.Lemmas.Entries.Words.{address_within}
 use Rattle.x86_64_model.proofs.Lemmas.Lists.Members.{found_is}
 use Rattle.x86_64_model.proofs.Lemmas.Mappings.Chains.{in_chain, has_parts, find_member, found_member, from_kept, from_dropped, found_first, from_same}

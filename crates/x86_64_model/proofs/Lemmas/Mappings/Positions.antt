@@ -6,8 +6,8 @@ use Rattle.x86_64_model.specs.Memory.{Words}
 use Rattle.x86_64_model.specs.PageWalk.{read}
 use Rattle.x86_64_model.specs.Position.{index, span, position_count}
 use Rattle.x86_64_model.specs.Path.{indices}
-use Rattle.x86_64_model.specs.Mappings.{Rights, Mapping, maps_page, has_position, mappings_of}
-use Rattle.x86_64_model.specs.private.Found.{every_right, narrowed, page_from, page_at, found_on, found}
+use Rattle.x86_64_model.specs.Mappings.{Rights, Mapping, maps_page, has_position, mappings_of, every_right, granted}
+use Rattle.x86_64_model.specs.private.Found.{page_from, page_at, found_on, found}
 use Rattle.x86_64_model.specs.Laws.Mappings.{MappingsAreApart, WalksArriveInMappings, arrival_in}
 use Rattle.x86_64_model.proofs.Lemmas.Paths.Pages.{span_pos}
 use Rattle.x86_64_model.proofs.Lemmas.Walks.Walked.{index_small}
@@ -34,7 +34,7 @@ by_chain start level r e below on = by (present e) (maps_page level e) (huge e)
 -- the mappings by the word at an index of a table whose span starts at a position
 abbrev part_at : Words → (n start : ℕ) → Rights → (frame i : ℕ) → List Mapping
 part_at T n s r f i = let start = s + i * span (suc n) in
-    list_and_then (λ e. listed_by start (suc n) r e (listed_on T n start (narrowed r e) (address e))) (read T f i)
+    list_and_then (λ e. listed_by start (suc n) r e (listed_on T n start (granted r e) (address e))) (read T f i)
 
 -- each part is in the span of its entry, if those of the tables below are in theirs
 part_chain : (T : Words) (n s : ℕ) (r : Rights) (f i : ℕ) → ((s : ℕ) (r : Rights) (f : ℕ) → IsChain s (s + position_count n) (listed_on T n s r f))
@@ -44,9 +44,9 @@ part_chain T n s r f i below = subst (λ end. IsChain start end (part_at T n s r
     start : ℕ
     start = s + i * span (suc n)
 
-    by : (o : Option ℕ) → IsChain start (start + span (suc n)) (list_and_then (λ e. listed_by start (suc n) r e (listed_on T n start (narrowed r e) (address e))) o)
+    by : (o : Option ℕ) → IsChain start (start + span (suc n)) (list_and_then (λ e. listed_by start (suc n) r e (listed_on T n start (granted r e) (address e))) o)
     by None = omega arith
-    by (Some e) = by_chain start (suc n) r e _ (subst (λ size. IsChain start (start + size) (listed_on T n start (narrowed r e) (address e))) (sym (span-next n)) (below start (narrowed r e) (address e)))
+    by (Some e) = by_chain start (suc n) r e _ (subst (λ size. IsChain start (start + size) (listed_on T n start (granted r e) (address e))) (sym (span-next n)) (below start (granted r e) (address e)))
 
 pub chain_on : (T : Words) (n s : ℕ) (r : Rights) (f : ℕ) → IsChain s (s + position_count n) (listed_on T n s r f)
 unfolding indices
@@ -83,12 +83,12 @@ find_on T p (suc n) r f =
     let at = next_span n p in let low = span_from (suc n) p in let high = span_end_after (suc n) p in let more = next_end s k w in
     find_part (part_at T n s r f) s w (λ i. part_chain T n s r f i (chain_on T n))
     p k 512 0 (omega arith) (let small = index_small (suc n) p in omega (arith, small)) (omega (arith, at, low)) (omega (arith, at, high, more))
-    ∙ ap (λ start. find (has_position p) (list_and_then (λ e. listed_by start (suc n) r e (listed_on T n start (narrowed r e) (address e))) (read T f k))) at
-    ∙ by (read T f k) (λ e. ap (λ m. find (has_position p) (listed_on T n (p / m * m) (narrowed r e) (address e))) (span-next n) ∙ find_on T p n (narrowed r e) (address e))
+    ∙ ap (λ start. find (has_position p) (list_and_then (λ e. listed_by start (suc n) r e (listed_on T n start (granted r e) (address e))) (read T f k))) at
+    ∙ by (read T f k) (λ e. ap (λ m. find (has_position p) (listed_on T n (p / m * m) (granted r e) (address e))) (span-next n) ∙ find_on T p n (granted r e) (address e))
   where
-    by : (o : Option ℕ) → ((e : ℕ) → find (has_position p) (listed_on T n (p / span (suc n) * span (suc n)) (narrowed r e) (address e)) ≡ found_on T p n (narrowed r e) (address e))
-        → find (has_position p) (list_and_then (λ e. listed_by (p / span (suc n) * span (suc n)) (suc n) r e (listed_on T n (p / span (suc n) * span (suc n)) (narrowed r e) (address e))) o)
-        ≡ option_and_then (λ e. found_by p (suc n) r e (found_on T p n (narrowed r e) (address e))) o
+    by : (o : Option ℕ) → ((e : ℕ) → find (has_position p) (listed_on T n (p / span (suc n) * span (suc n)) (granted r e) (address e)) ≡ found_on T p n (granted r e) (address e))
+        → find (has_position p) (list_and_then (λ e. listed_by (p / span (suc n) * span (suc n)) (suc n) r e (listed_on T n (p / span (suc n) * span (suc n)) (granted r e) (address e))) o)
+        ≡ option_and_then (λ e. found_by p (suc n) r e (found_on T p n (granted r e) (address e))) o
     by None on = refl
     by (Some e) on = find_by p (suc n) r e _ _ (on e)
 

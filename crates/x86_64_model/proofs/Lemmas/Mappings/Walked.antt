@@ -5,9 +5,9 @@ use Rattle.x86_64_model.specs.Entry.{present, writable, user, huge, address}
 use Rattle.x86_64_model.specs.Memory.{Words}
 use Rattle.x86_64_model.specs.Position.{index, span}
 use Rattle.x86_64_model.specs.PageWalk.{Walked, page_start, arrives, read, walk_on, page_walk}
-use Rattle.x86_64_model.specs.Mappings.{Rights, Mapping}
+use Rattle.x86_64_model.specs.Mappings.{Rights, Mapping, every_right, granted}
 use Rattle.x86_64_model.specs.Laws.Mappings.{arrival_in}
-use Rattle.x86_64_model.specs.private.Found.{every_right, narrowed, page_at, found_on, found}
+use Rattle.x86_64_model.specs.private.Found.{page_at, found_on, found}
 use Rattle.x86_64_model.proofs.Lemmas.Entries.Words.{address_aligned}
 use Rattle.x86_64_model.proofs.Lemmas.Maps.Leaves.{rounded}
 use Rattle.x86_64_model.proofs.Lemmas.Mappings.Found.{found_by, huge_page}
@@ -29,7 +29,7 @@ walked_on T p (suc zero) r f = by (read T f (index 1 p))
         ≡ option_map (arrival_in p) (option_and_then (λ e. found_by p 1 r e None) o)
     by None = refl
     by (Some e) = each e (present e)
-walked_on T p (suc (suc n)) r f = by (read T f (index (suc (suc n)) p)) (λ e. walked_on T p (suc n) (narrowed r e) (address e))
+walked_on T p (suc (suc n)) r f = by (read T f (index (suc (suc n)) p)) (λ e. walked_on T p (suc n) (granted r e) (address e))
   where
     each : (e : ℕ) (walk : Option Walked) (below : Option Mapping) → walk ≡ option_map (arrival_in p) below → (b h l : Bool)
         → cond b (cond h (cond l (arrives (page_start (suc (suc n)) e + p % span (suc (suc n))) (r.write && writable e) (r.user && user e)) None) walk) None
@@ -39,13 +39,13 @@ walked_on T p (suc (suc n)) r f = by (read T f (index (suc (suc n)) p)) (λ e. w
     each e walk below same true false l = same
     each e walk below same false h l = refl
 
-    by : (o : Option ℕ) → ((e : ℕ) → walk_on T p (suc n) (r.write && writable e) (r.user && user e) (address e) ≡ option_map (arrival_in p) (found_on T p (suc n) (narrowed r e) (address e)))
+    by : (o : Option ℕ) → ((e : ℕ) → walk_on T p (suc n) (r.write && writable e) (r.user && user e) (address e) ≡ option_map (arrival_in p) (found_on T p (suc n) (granted r e) (address e)))
         → option_and_then (λ e. cond (present e) (cond (huge e) (cond (nat_le (suc (suc n)) 3) (arrives (page_start (suc (suc n)) e + p % span (suc (suc n))) (r.write && writable e) (r.user && user e)) None)
         (walk_on T p (suc n) (r.write && writable e) (r.user && user e) (address e))) None) o
-        ≡ option_map (arrival_in p) (option_and_then (λ e. found_by p (suc (suc n)) r e (found_on T p (suc n) (narrowed r e) (address e))) o)
+        ≡ option_map (arrival_in p) (option_and_then (λ e. found_by p (suc (suc n)) r e (found_on T p (suc n) (granted r e) (address e))) o)
     by None on = refl
     by (Some e) on = each e _ _ (on e) (present e) (huge e) (nat_le (suc (suc n)) 3)
-        ∙ ap (λ m. option_map (arrival_in p) (cond (present e) (cond m (Some (page_at p (suc (suc n)) r e)) (cond (huge e) None (found_on T p (suc n) (narrowed r e) (address e)))) None)) (sym (huge_page n e))
+        ∙ ap (λ m. option_map (arrival_in p) (cond (present e) (cond m (Some (page_at p (suc (suc n)) r e)) (cond (huge e) None (found_on T p (suc n) (granted r e) (address e)))) None)) (sym (huge_page n e))
 
 pub walk_finds : (L : ℕ) (T : Words) (root p : ℕ) → page_walk L T root p ≡ option_map (arrival_in p) (found L T root p)
 unfolding page_walk found

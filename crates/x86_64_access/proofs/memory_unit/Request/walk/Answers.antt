@@ -1,14 +1,13 @@
 use Rattle.std.proofs.Common.{rules, ap, ◌⊎◌, ◌≡◌, ◌≤◌, ◌-◌, ◌+◌, ◌%◌, ◌∙◌, ◌&&◌, true, false, not, cond, None, Some, inl, inr, sym, arith}
 use Rattle.x86_64_model.proofs.Lemmas.Entries.Words.{address_aligned}
 use Rattle.x86_64_model.specs.Entry.{present}
-use Rattle.x86_64_model.specs.Mappings.{maps_page}
+use Rattle.x86_64_model.specs.Mappings.{maps_page, granted}
 use Rattle.x86_64_model.specs.Memory.{words_of}
 use Rattle.x86_64_model.specs.Position.{index, span}
 use Rattle.x86_64_model.specs.PageWalk.{read, page_start}
 use Rattle.x86_64_model.specs.Access.{Arrives, Faults, allowed, code, reserved}
 use Rattle.x86_64_access.specs.Accesses.{access_of, controls_of, fault_of, outcome_of}
 use Rattle.x86_64_access.specs.private.Walking.{access_on, may_read_on}
-use Rattle.x86_64_model.specs.Caches.{granted}
 use Rattle.x86_64_access.proofs.Walked.{on_root, on_zero, on_none, on_fault, on_page, on_table, page_low, others_fault, reads_sound}
 use Rattle.x86_64_access.proofs.memory_unit.Request.walk.Goals as goal
 

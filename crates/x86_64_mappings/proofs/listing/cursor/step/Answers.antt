@@ -1,8 +1,7 @@
 use Rattle.std.proofs.Common.{◌≡◌, ◌<◌, ◌≤◌, ◌==◌, ◌&&◌, ◌||◌, false, true, cond, length, get_or, Some, None, sym, ap, ◌∙◌, subst, arith}
 use Rattle.x86_64_model.specs.Entry.{present}
-use Rattle.x86_64_model.specs.Mappings.{maps_page}
+use Rattle.x86_64_model.specs.Mappings.{maps_page, granted}
 use Rattle.x86_64_model.specs.Memory.{words_of}
-use Rattle.x86_64_model.specs.private.Found.{narrowed}
 use Rattle.x86_64_tables.specs.EntryTargets.{target_of}
 use Rattle.x86_64_mappings.specs.private.Cursors.{table_by}
 use Rattle.x86_64_mappings.proofs.Steps.{there_first, past_absent, past_unmapped, past_step, on_below, below_step}
@@ -30,7 +29,7 @@ returns-in-Some-table_below g c =
     let is : table_by words (target_of from.level e) ≡ Some c.in-Some-table_below.table.now =
     subst (λ e. table_by words (target_of from.level e) ≡ Some c.in-Some-table_below.table.now) first (sym c.in-Some-table_below.ensures) in
     let below = on_below L words c.args.root from.next from.level from.rights from.rest.now c.requires.on c.in-Some-table_below.table.now some is c.on.ensures.size in
-    let rights = c.on.ensures.rights ∙ c.below-rights.ensures ∙ ap (narrowed from.rights) first in
+    let rights = c.on.ensures.rights ∙ c.below-rights.ensures ∙ ap (granted from.rights) first in
     below_step L words c.args.root from c.on.result g.L.LevelCount.at_most_five c.requires.on c.in-Some-table_below.table.now c.on.ensures.size some below.0 below.1
     c.on.ensures.next c.on.ensures.level rights c.on.ensures.rest
 

@@ -3,7 +3,7 @@ use Rattle.std.specs.Prelude.{OnOk}
 use Rattle.std.proofs.Math.Pow.{pow_mono}
 use Rattle.std.proofs.lemmas.List.{get_or_read, take_all}
 use Rattle.x86_64_model.specs.Position.{span, position_count}
-use Rattle.x86_64_model.specs.private.Found.{narrowed}
+use Rattle.x86_64_model.specs.Mappings.{granted}
 use Rattle.x86_64_mappings.specs.Wanted.{asked_of, asked_mappings, is_wanted}
 use Rattle.x86_64_mappings.specs.private.Placed.{placed}
 use Rattle.x86_64_mappings.specs.private.Targets.{asked_by, asked_in, asked_on}
@@ -97,7 +97,7 @@ loop-entry-preserved g t c =
             subst (λ v. g.V.Visitor.Visits old v (asked_on asked level s r (take (i + 1) words))) (sym w.visitor-is)
             (visited_same asked level s r words i less (g.V.Visitor.Visits old c.loop-entry.visitor) (here ∙ page ∙ ap (λ b. cond b (m ∷ []) []) is) c.loop-entry.invariant.visited)
         | in-Table+then-not-maps_nothing+in_ok-visit_table-in-Table w ↦
-            let below = map (placed c.loop-entry.start (narrowed r e)) (asked_mappings asked (level - 1) w.in-Table.frame) in
+            let below = map (placed c.loop-entry.start (granted r e)) (asked_mappings asked (level - 1) w.in-Table.frame) in
             let visited : g.V.Visitor.Visits c.loop-entry.visitor w.visit_table.new.visitor below =
             subst (λ table. g.V.Visitor.Visits c.loop-entry.visitor w.visit_table.new.visitor (asked_in asked table)) w.below-below.ensures w.in_ok-visit_table-in-Table.ensures in
             subst (λ v. g.V.Visitor.Visits old v (asked_on asked level s r (take (i + 1) words))) (sym w.visitor-is)
@@ -108,7 +108,7 @@ loop-entry-preserved g t c =
             let none = w.maps_nothing.ensures w.if-not-maps_nothing.false in
             subst (λ v. g.V.Visitor.Visits old v (asked_on asked level s r (take (i + 1) words))) (sym w.visitor-is)
             (visited_same asked level s r words i less (g.V.Visitor.Visits old c.loop-entry.visitor)
-            (here ∙ by_table asked level c.loop-entry.start r e w.in-Table.frame w.in-Table.ensures.value ∙ ap (map (placed c.loop-entry.start (narrowed r e))) none)
+            (here ∙ by_table asked level c.loop-entry.start r e w.in-Table.frame w.in-Table.ensures.value ∙ ap (map (placed c.loop-entry.start (granted r e))) none)
             c.loop-entry.invariant.visited)
         | in-Nothing w ↦
             subst (λ v. g.V.Visitor.Visits old v (asked_on asked level s r (take (i + 1) words))) (sym w.visitor-is)

@@ -4,7 +4,7 @@ use Rattle.std.proofs.lemmas.List.{get_or_read, take_all}
 use Rattle.std.proofs.lemmas.Nat.{pow_pos}
 use Rattle.std.proofs.lemmas.Result.{on_ok_weaker}
 use Rattle.x86_64_model.specs.Position.{span, position_count}
-use Rattle.x86_64_model.specs.private.Found.{narrowed}
+use Rattle.x86_64_model.specs.Mappings.{granted}
 use Rattle.x86_64_mappings.specs.Wanted.{asked_of, asked_mappings, is_wanted}
 use Rattle.x86_64_mappings.specs.private.Joined.{Joins}
 use Rattle.x86_64_mappings.specs.private.Placed.{placed}
@@ -143,7 +143,7 @@ join_table-loop-entry-preserved g t c =
             (here ∙ by_page asked level c.loop-entry.start r e m w.in-Page.ensures.value w.of_page-page.ensures aligned)
             (joins_both visits L g.met.V.Visitor.both front back held c.loop-entry.joiner after old c.loop-entry.visitor visited c.loop-entry.invariant.joined joins))
         | join_table-in-Table+in_ok-join_below-in-Table w ↦
-            let back = map (placed c.loop-entry.start (narrowed r e)) (asked_mappings asked (level - 1) w.in-Table.frame) in
+            let back = map (placed c.loop-entry.start (granted r e)) (asked_mappings asked (level - 1) w.in-Table.frame) in
             let after = w.join_below.new.joiner in
             let visited = w.join_below.new.visitor in
             let joins : Joins visits L back c.loop-entry.joiner c.loop-entry.visitor after visited =

@@ -1,11 +1,11 @@
 use Rattle.std.proofs.Common.{◌+◌, length, ◌∙◌}
-use Rattle.x86_64_model.specs.private.Found.{every_right}
 use Rattle.x86_64_mappings.specs.Wanted.{asked_of}
 use Rattle.x86_64_mappings.specs.private.Known.{asking}
 use Rattle.x86_64_mappings.specs.private.Targets.{asked_by}
 use Rattle.x86_64_mappings.proofs.Summed.{of_none, of_table}
 use Rattle.x86_64_mappings.proofs.Tables.{by_nothing}
 use Rattle.x86_64_mappings.proofs.summaries.table_summaries.entry_summary.Goals as goal
+use Rattle.x86_64_model.specs.Mappings.{every_right}
 
 pub returns-in-Nothing : goal.returns-in-Nothing
 returns-in-Nothing g c start =

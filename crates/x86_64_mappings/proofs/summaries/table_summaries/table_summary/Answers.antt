@@ -1,6 +1,5 @@
 use Rattle.std.proofs.Common.{◌≡◌, ◌<◌, ◌+◌, [], length, get_or, Some, refl, sym, ap, ◌∙◌, subst, arith}
 use Rattle.std.proofs.lemmas.List.{get_or_read, take_all}
-use Rattle.x86_64_model.specs.private.Found.{every_right}
 use Rattle.x86_64_mappings.specs.Summaries.{summary_of}
 use Rattle.x86_64_mappings.specs.Wanted.{asked_of, asked_mappings}
 use Rattle.x86_64_mappings.specs.private.Known.{asking}
@@ -8,6 +7,7 @@ use Rattle.x86_64_mappings.specs.private.Targets.{asked_by, asked_on}
 use Rattle.x86_64_mappings.proofs.Summed.{of_none, sum_more}
 use Rattle.x86_64_mappings.proofs.Tables.{asked_none, asked_table, asked_here, none_copied}
 use Rattle.x86_64_mappings.proofs.summaries.table_summaries.table_summary.Goals as goal
+use Rattle.x86_64_model.specs.Mappings.{every_right}
 
 pub returns-in_default : goal.returns-in_default
 returns-in_default g c =

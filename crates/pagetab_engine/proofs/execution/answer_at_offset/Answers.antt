@@ -8,7 +8,7 @@ use Rattle.x86_64.proofs.Moved.{moved}
 use Rattle.x86_64.specs.Calls.{asks}
 use Rattle.x86_64_model.specs.Mapper.{◌laid_in◌, PoolFits}
 use Rattle.pagetab_engine.proofs.AtOffset.{layout_at, at_offset, reached_after, kept_after, answered_after}
-use Rattle.pagetab_engine.proofs.calls.answer_at_offset.Goals as goal
+use Rattle.pagetab_engine.proofs.execution.answer_at_offset.Goals as goal
 
 pub answer_by-requires : goal.answer_by-requires
 answer_by-requires g c =

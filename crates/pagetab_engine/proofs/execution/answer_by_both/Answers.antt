@@ -5,7 +5,7 @@ use Rattle.x86_64_tables.specs.PageTableFlags.{bits_of}
 use Rattle.x86_64_mappers.specs.Layouts.{direct_at}
 use Rattle.x86_64_mappers.specs.Recursive.{recursive_at, window_with}
 use Rattle.pagetab_engine.proofs.ByMode.{alike_as_pair}
-use Rattle.pagetab_engine.proofs.calls.answer_by_both.Goals as goal
+use Rattle.pagetab_engine.proofs.execution.answer_by_both.Goals as goal
 
 pub returns-clause-twin : goal.returns-clause-twin
 returns-clause-twin g c =

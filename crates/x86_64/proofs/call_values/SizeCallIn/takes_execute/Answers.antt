@@ -2,7 +2,7 @@ use Rattle.std.proofs.Common.{sym, ap, ◌∙◌}
 use Rattle.x86_64_model.specs.Entry.{has}
 use Rattle.x86_64.specs.Calls.{size_asks}
 use Rattle.x86_64.specs.private.FlushReplies.{page_takes}
-use Rattle.x86_64.proofs.calls.SizeCallIn.takes_execute.Goals as goal
+use Rattle.x86_64.proofs.call_values.SizeCallIn.takes_execute.Goals as goal
 
 pub returns-in-MapToWithTableFlags : goal.returns-in-MapToWithTableFlags
 unfolding has
