@@ -1,5 +1,5 @@
 -- Accesses agree with page walks.
-use Rattle.std.proofs.Common.{zero, suc, inl, inr, ⊎_elim, ◌⊎◌, ◌≡◌, ◌<◌, ◌≤◌, ◌||◌, ◌==◌, bit_and, ◌-◌, ◌+◌, ◌%◌, ℕ, ◌&&◌, Bool, true≢false, true, false, not, nat_le, cond, is_some, List, [], ◌∷◌, Some, None, Option, refl, sym, ap, subst, ◌∙◌, arith}
+use Rattle.std.proofs.Common.{zero, suc, inl, inr, ◌≡◌, ◌<◌, ◌≤◌, ◌||◌, ◌==◌, bit_and, ◌-◌, ◌+◌, ◌%◌, ℕ, ◌&&◌, Bool, true≢false, true, false, not, nat_le, cond, is_some, List, [], ◌∷◌, Some, None, Option, refl, sym, ap, subst, ◌∙◌, arith}
 use Rattle.x86_64_model.specs.Arrivals.{Reaches}
 use Rattle.x86_64_model.specs.Entry.{present, huge, writable, user, address}
 use Rattle.x86_64_model.specs.Mappings.{Rights, maps_page, rights_of, granted}
@@ -10,7 +10,7 @@ use Rattle.x86_64_model.specs.Position.{index, span}
 use Rattle.x86_64_tables.proofs.WalkSteps.{on_absent, on_end, on_none as walk_none, on_table}
 use Rattle.x86_64_tables.specs.Walks.{ends}
 use Rattle.std.proofs.lemmas.Bool.{leb-false}
-use Rattle.x86_64_model.specs.Access.{Access, Arrives, Controls, Faults, Outcome, allowed, code, low_bits, Step, steps_from, access, reserved}
+use Rattle.x86_64_model.specs.Access.{Access, Arrives, Controls, Faults, Outcome, allowed, code, low_bits, Step, steps_from, reserved}
 use Rattle.x86_64_access.specs.private.Walking.{access_on}
 use Rattle.x86_64_tables.specs.Rights.{both}
 use Rattle.x86_64_access.specs.Laws.{ArriveWhereWalksDo, WalksAllowedArrive}

@@ -1,3 +1,4 @@
+mod Deciding
 mod Walked
 mod Agreement
 mod Marks

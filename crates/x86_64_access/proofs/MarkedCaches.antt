@@ -1,9 +1,7 @@
 -- Marks change nothing of what a processor may cache.
-use Rattle.std.proofs.Common.{inl, inr, ◌⊎◌, ◌≡◌, ℕ, cond, Some, None, refl, sym, ◌∙◌, ◌↔◌, List}
-use Rattle.x86_64_model.specs.Caches.{Cached, Caches, MayRead, Page, Table, Way, found, over}
-use Rattle.x86_64_model.specs.Entry.{present, huge, address}
+use Rattle.std.proofs.Common.{inl, inr, ◌⊎◌, ◌≡◌, ℕ, Some, refl, sym, ◌∙◌, List}
+use Rattle.x86_64_model.specs.Caches.{Cached, Caches, MayRead, Way, found}
 use Rattle.x86_64_model.specs.Lists.{In}
-use Rattle.x86_64_model.specs.Mappings.{maps_page, granted}
 use Rattle.x86_64_model.specs.Memory.{Words, word}
 use Rattle.x86_64_access.specs.Marks.{CachesStay, GetsMarks, OnlyMarks}
 use Rattle.x86_64_access.proofs.Marks.{same_address, same_has}

@@ -1,5 +1,5 @@
 -- Marks keep a hierarchy valid, and a pool that fits it.
-use Rattle.std.proofs.Common.{zero, suc, inl, inr, ◌⊎◌, ⊎_elim, ◌≡◌, ◌≢◌, ◌<◌, ℕ, ◌&&◌, Bool, true, false, not, cond, nat_lt, IsSome, Some, None, Option, List, [], ◌∷◌, ◌++◌, length, refl, sym, ap, ap₂, subst, subst₂, ◌∙◌, ◌↔◌}
+use Rattle.std.proofs.Common.{zero, suc, inl, inr, ◌⊎◌, ◌≡◌, ◌≢◌, ◌<◌, ℕ, ◌&&◌, Bool, true, false, not, cond, nat_lt, Some, None, Option, List, [], ◌∷◌, length, refl, sym, ap, ap₂, subst, subst₂, ◌∙◌}
 use Rattle.std.proofs.lemmas.Bool.{cases_eq}
 use Rattle.x86_64_model.proofs.Lemmas.Entries.Bits.{used_present}
 use Rattle.x86_64_model.proofs.Lemmas.Hierarchies.Exists.{entry_paths_of, holds_paths_of}
@@ -9,8 +9,7 @@ use Rattle.x86_64_model.specs.Entry.{present, huge, used, address, names_table}
 use Rattle.x86_64_model.specs.Hierarchy.{IsValid, paths_of, read_at}
 use Rattle.x86_64_model.specs.Memory.{Words, set_word, word}
 use Rattle.x86_64_model.specs.PathMap.{PathMap, entry, table_at, table_of}
-use Rattle.x86_64_model.specs.Pool.{Fits}
-use Rattle.x86_64_model.specs.Window.{IsSelfEntry, IsValidFor, SelfEntry, Window, outside_window}
+use Rattle.x86_64_model.specs.Window.{SelfEntry, Window, outside_window}
 use Rattle.x86_64_access.specs.Marks.{GetsMarks, OnlyMarks, FitsStay, window_in}
 use Rattle.x86_64_access.proofs.Marks.{same_address, same_has}
 

@@ -1,8 +1,8 @@
 -- Marks change no walk and no access.
-use Rattle.std.proofs.Common.{zero, suc, inl, inr, ◌⊎◌, ◌≡◌, ◌<◌, ◌≤◌, ◌-◌, ◌+◌, ◌%◌, ◌/◌, ◌*◌, ℕ, ◌&&◌, ◌||◌, ◌==◌, List, ◌∷◌, Bool, true≢false, true, false, not, nat_le, nat_lt, cond, is_some, IsSome, Some, None, Option, option_map, bit_and, bit_or, get_or, refl, sym, ap, subst, subst₂, ◌↔◌, ◌≢◌, ⊎_elim, length, set, unwrap_or, lt-ltb, ◌∙◌, arith}
+use Rattle.std.proofs.Common.{zero, suc, inl, inr, ◌⊎◌, ◌≡◌, ◌<◌, ◌≤◌, ◌-◌, ◌+◌, ◌%◌, ◌/◌, ◌*◌, ℕ, ◌&&◌, ◌||◌, ◌==◌, List, ◌∷◌, Bool, true≢false, true, false, not, nat_le, cond, IsSome, Some, None, Option, option_map, bit_and, bit_or, get_or, refl, sym, ap, subst, subst₂, ◌↔◌, ◌≢◌, ⊎_elim, length, set, unwrap_or, lt-ltb, ◌∙◌, arith}
 use Rattle.std.proofs.lemmas.Nat.{and_assoc, and_comm}
 use Rattle.x86_64_model.proofs.Lemmas.Entries.Bits.{and_or_distrib, has_or, or_assoc, address_or}
-use Rattle.x86_64_model.specs.Entry.{has, present, huge, writable, user, no_execute, address}
+use Rattle.x86_64_model.specs.Entry.{has, present, huge, writable, user, address}
 use Rattle.x86_64_model.specs.Mappings.{Rights, maps_page, granted}
 use Rattle.x86_64_model.specs.Memory.{IsMapping, Memory, Places, Words, set_word, word, word_in, words_of}
 use Rattle.x86_64_model.specs.PageWalk.{Walked, arrives, page_start, page_walk, read, walk_on}

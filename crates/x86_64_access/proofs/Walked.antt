@@ -1,5 +1,5 @@
 -- One word of the walk of an access, for code that has the level as a number.
-use Rattle.std.proofs.Common.{le-leb, ltb-true, nat_lt, zero, suc, ⊎_elim, inl, inr, ◌⊎◌, nat_eq, ◌≡◌, ◌<◌, ◌≤◌, ◌+◌, ◌-◌, ◌%◌, ◌^◌, ℕ, ◌&&◌, Bool, true≢false, true, false, not, ◌||◌, ◌==◌, nat_le, bit_and, cond, List, [], ◌∷◌, map, Some, None, Option, option_map, unwrap_or, refl, sym, ap, ◌∙◌, arith}
+use Rattle.std.proofs.Common.{eq-eqb, le-leb, ltb-true, nat_lt, zero, suc, ⊎_elim, inl, inr, ◌⊎◌, ◌≡◌, ◌<◌, ◌≤◌, ◌+◌, ◌-◌, ◌%◌, ◌^◌, ℕ, ◌&&◌, Bool, true≢false, true, false, not, ◌||◌, ◌==◌, nat_le, bit_and, cond, List, [], ◌∷◌, map, Some, None, Option, option_map, unwrap_or, refl, sym, ap, ◌∙◌, arith}
 use Rattle.std.specs.List.{last_or}
 use Rattle.x86_64_model.specs.Entry.{present, writable, user, huge, no_execute, address}
 use Rattle.x86_64_model.specs.Mappings.{Rights, rights_of, maps_page, granted}
@@ -144,6 +144,16 @@ module _ (c : Controls) (T : Words) (p : ℕ) (a : Access) (level frame : ℕ) (
       arrives : cond (not (allowed c a (granted r e))) (Faults (code c a true false) level) (Arrives (page_start level e + p % span level)) ≡ ends_at c a p (granted r e) step
       arrives = rw (here, sound, page) refl
 
+  -- the word maps a page of 4KiB whose rights suffice
+  pub on_small_page : level ≡ 1 → (present e && not (reserved c 1 e)) ≡ true → allowed c a (granted r e) ≡ true
+      → Arrives (page_start 1 e + p % span 1) ≡ access_on c T p a level frame r
+  on_small_page one sound may =
+      let fine : reserved c level e ≡ false = ap (λ k. reserved c k e) one ∙ and_right (present e) (reserved c 1 e) sound in
+      let page : maps_page level e ≡ true = ap (λ b. b || (huge e && ((level == 2) || (level == 3)))) (eq-eqb level 1 one) in
+      ap (λ k. Arrives (page_start k e + p % span k)) (sym one)
+      ∙ sym (ap (λ b. cond (not b) (Faults (code c a true false) level) (Arrives (page_start level e + p % span level))) may)
+      ∙ on_page (and_left (present e) (reserved c 1 e) sound) fine page
+
   -- the steps end at a page
   pub steps_page : maps_page level e ≡ true → steps_from c T p level frame ≡ step ∷ []
   unfolding steps_read
@@ -260,6 +270,43 @@ pub others_fault : (c : Controls) (level e : ℕ) → 1 ≤ level → maps_page 
 unfolding may_read_on reserved
 others_fault c level e low table = other_bad (present e) (huge e) (nat_lt (address e) (2 ^ c.physical_bits)) (nat_le (2 ^ c.physical_bits) (address e)) c.no_execute (no_execute e)
     (nat_le 4 level) (not (bit_and e (low_bits level) == 0)) (λ f. le-leb (2 ^ c.physical_bits) (address e) (ltb-false (address e) (2 ^ c.physical_bits) f)) (high_huge level e low table)
+
+pub read_not_huge : (c : Controls) (e : ℕ) → may_read_on c e ≡ true → huge e ≡ false
+unfolding may_read_on
+read_not_huge c e = by (present e) (huge e) (nat_lt (address e) (2 ^ c.physical_bits) && (c.no_execute || not (no_execute e)))
+  where
+    by : (p h rest : Bool) → (p && (not h && rest)) ≡ true → h ≡ false
+    by true false rest t = refl
+    by true true rest t = absurd (true≢false (sym t))
+    by false h rest t = absurd (true≢false (sym t))
+
+pub no_page : (a h b : Bool) → a ≡ false → h ≡ false → (a || (h && b)) ≡ false
+no_page false false b n m = refl
+no_page true h b n m = absurd (true≢false n)
+no_page false true b n m = absurd (true≢false m)
+
+pub or_not : (a b : Bool) → b ≡ false → (a || not b) ≡ true
+or_not true b h = refl
+or_not false false h = refl
+or_not false true h = absurd (true≢false h)
+
+-- a word at which the processor doesn't read on
+pub stops : (c : Controls) (level e : ℕ) → 1 ≤ level → ((level == 1) || not (may_read_on c e)) ≡ true → reads_on c level e ≡ false
+stops c level e low stop = by (maps_page level e) refl
+  where
+    sound : Bool
+    sound = present e && not (reserved c level e)
+
+    by : (b : Bool) → maps_page level e ≡ b → reads_on c level e ≡ false
+    by true page = rw page (and-false sound)
+    by false table =
+        let no_read : may_read_on c e ≡ false = other (level == 1) (may_read_on c e) (or_left (level == 1) (huge e && ((level == 2) || (level == 3))) table) stop in
+        rw (others_fault c level e low table no_read) refl
+      where
+        other : (a b : Bool) → a ≡ false → (a || not b) ≡ true → b ≡ false
+        other false false n h = refl
+        other false true n h = absurd (true≢false (sym h))
+        other true b n h = absurd (true≢false n)
 
 ends_of : (a h b : Bool) → (a || (h && b)) ≡ true → (a ≡ true) ⊎ (h ≡ true)
 ends_of true h b t = inl refl

@@ -2,7 +2,6 @@
 ghost use Rattle.std.specs.Prelude.{◌≡◌, ◌≤◌};
 ghost use Rattle.x86_64_model.specs.Access as model;
 ghost use Rattle.x86_64_access.specs.Accesses.{access_of, controls_of, kind_of};
-ghost use Rattle.x86_64_access.specs.private.Walking.{may_read_on};
 
 use crate::code::PageFaultCode;
 use crate::request::{Access, AccessKind};
@@ -46,20 +45,6 @@ impl Controls {
         is_beyond || is_misplaced || is_off
     }
 
-    /// Returns true if the processor reads on in the table that an entry names, provided that the entry maps no page.
-    ///
-    /// Requires at most 52 bits of physical addresses.
-    #[tactic(auto, unfolding(crate::specs::private::Walking::may_read_on))]
-    pub(crate) fn may_read_on(&self, entry: &PageTableEntry) -> bool
-        requires { self.now.physical_bits ≤ 52 }
-        ensures { result ≡ may_read_on (controls_of self.now) entry.now }
-    {
-        has_flag(entry, PageTableFlags::PRESENT)
-            && !has_flag(entry, PageTableFlags::HUGE_PAGE)
-            && entry.addr().as_u64() < 1 << self.physical_bits
-            && (self.no_execute || !has_flag(entry, PageTableFlags::NO_EXECUTE))
-    }
-
     /// Returns true if the rights of a page suffice for an access.
     pub fn allows(&self, access: Access, rights: Rights) -> bool
         ensures { result ≡ model.allowed (controls_of self.now) (access_of access) rights }
@@ -78,7 +63,7 @@ impl Controls {
     }
 
     /// Returns true if a supervisor is kept from users' pages for this kind of access.
-    fn keeps_out(&self, kind: AccessKind) -> bool
+    pub(crate) fn keeps_out(&self, kind: AccessKind) -> bool
         ensures { result ≡ model.kept_out (controls_of self.now) (kind_of kind) }
     {
         match kind {

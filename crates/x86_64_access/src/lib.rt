@@ -4,9 +4,12 @@
 
 mod code;
 mod controls;
+mod entry_bits;
 pub mod laws;
+mod masks;
 mod memory_unit;
 mod request;
+mod right_bits;
 
 pub use code::PageFaultCode;
 pub use controls::Controls;

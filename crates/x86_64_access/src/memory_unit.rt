@@ -7,7 +7,10 @@ ghost use Rattle.x86_64_model.specs.Position.{span};
 ghost use Rattle.x86_64_access.specs.Accesses.{access_of, controls_of, kind_of, outcome_of};
 
 use crate::controls::Controls;
+use crate::entry_bits::{ACCESSED, DIRTY, PRESENT};
+use crate::masks::Masks;
 use crate::request::{Access, AccessKind, Fault};
+use crate::right_bits::RightBits;
 use x86_64_addr::addr::{PhysAddr, VirtAddrIn};
 use x86_64_addr::level_count::LevelCount;
 use x86_64_page::frame::PhysFrame;
@@ -16,12 +19,6 @@ use x86_64_tables::page_table::{PageTableEntry, PageTableFlags, Rights};
 use x86_64_tables::phys_memory::{
     PageTableFrameMapping, TableMemory, has_flag, index_of, table_in,
 };
-
-/// The bit `ACCESSED` of an entry.
-const ACCESSED: u64 = 0x20;
-
-/// The bit `DIRTY` of an entry.
-const DIRTY: u64 = 0x40;
 
 /// Returns the physical address at which an access arrives, by the page tables from the root on.
 ///
@@ -99,9 +96,8 @@ struct Request {
 }
 
 impl Request {
-    ghost use Rattle.std.specs.Prelude.{◌&&◌, true, false, not, cond, OnOk, IfErr};
-    ghost use Rattle.x86_64_model.specs.Access.{Arrives, Faults, allowed, code, marked, reserved, steps_from};
-    ghost use Rattle.x86_64_model.specs.Entry.{present};
+    ghost use Rattle.std.specs.Prelude.{false};
+    ghost use Rattle.x86_64_model.specs.Access.{Faults, code, ends_at, marked, reads_on, steps_from};
     ghost use Rattle.x86_64_access.specs.Accesses.{fault_of};
     ghost use Rattle.x86_64_access.specs.private.Walking.{ArrivesFrom};
 
@@ -119,23 +115,22 @@ impl Request {
         ensures { outcome_of result ≡ model.access levels (controls_of self.controls)
             (words_of (T.tables memory.now) (P.places mapping.now)) root position (access_of self.access) }
     {
+        let masks = Masks::of(self.access, &self.controls);
         let mut frame = root;
-        let mut rights = Rights::ALL;
+        let mut rights = RightBits::ALL;
         for above in 0..levels {
             let level = levels - above;
             let Some(table) = table_in(memory, mapping, frame) else {
                 return Err(Fault::NoMemory { frame });
             };
             let entry = &table[index_of(position, level)];
-            if entry.maps_page(level) {
-                self.check(level, entry)?;
-                return self.end_at(level, entry, position, rights.below(entry));
-            }
-            if !self.controls.may_read_on(entry) {
-                let present = has_flag(entry, PageTableFlags::PRESENT);
-                return Err(self.fault(level, present, present));
-            }
             rights = rights.below(entry);
+            if level == 1 && entry.word() & masks.page == PRESENT && rights.suffice(masks) {
+                return Ok(address_in::<Size4KiB>(entry, position));
+            }
+            if level == 1 || entry.word() & masks.table != PRESENT {
+                return self.end_at(level, entry, position, rights.rights());
+            }
             frame = PhysFrame::from_start_address_unchecked(entry.addr());
         }
         Err(Fault::NoMemory { frame })
@@ -185,27 +180,8 @@ impl Request {
         }
     }
 
-    /// Faults if an entry isn't present, or has a reserved bit.
-    fn check(self, level: u64, entry: &PageTableEntry) -> Result<(), Fault>
-        requires { self.controls.physical_bits ≤ 52 }
-        ensures sound { OnOk result ((present entry.now ≡ true)
-            × (reserved (controls_of self.controls) level entry.now ≡ false)) }
-        ensures faults { IfErr result (λ fault. (fault_of fault ≡ Faults (code (controls_of self.controls)
-            (access_of self.access) (present entry.now) (present entry.now)) level)
-            × ((present entry.now && not (reserved (controls_of self.controls) level entry.now)) ≡ false)) }
-    {
-        if !has_flag(entry, PageTableFlags::PRESENT) {
-            return Err(self.fault(level, false, false));
-        }
-        if self.controls.is_reserved(level, entry) {
-            return Err(self.fault(level, true, true));
-        }
-        Ok(())
-    }
-
-    /// Returns where the access arrives in the page that an entry maps, or faults if the rights don't suffice.
-    ///
-    /// Requires a level from one to three.
+    /// Returns where the access ends at an entry of a level in which it doesn't read on: in the page that the entry maps, or by a
+    /// fault.
     fn end_at(
         self,
         level: u64,
@@ -214,12 +190,17 @@ impl Request {
         rights: Rights,
     ) -> Result<PhysAddr, Fault>
         requires low { 1 ≤ level }
-        requires high { level ≤ 3 }
-        ensures { outcome_of result ≡
-            cond (not (allowed (controls_of self.controls) (access_of self.access) rights))
-            (Faults (code (controls_of self.controls) (access_of self.access) true false) level)
-            (Arrives (page_start level entry.now + position % span level)) }
+        requires bits { self.controls.physical_bits ≤ 52 }
+        requires last { reads_on (controls_of self.controls) level entry.now ≡ false }
+        ensures { outcome_of result ≡ ends_at (controls_of self.controls) (access_of self.access) position rights
+            (record { level = level; frame = 0; index = 0; word = entry.now }) }
     {
+        if !has_flag(entry, PageTableFlags::PRESENT) {
+            return Err(self.fault(level, false, false));
+        }
+        if self.controls.is_reserved(level, entry) {
+            return Err(self.fault(level, true, true));
+        }
         if self.controls.allows(self.access, rights) {
             Ok(address_in_page(level, entry, position))
         } else {

@@ -2,7 +2,7 @@
 use Rattle.std.specs.Prelude.{◌≡◌, ◌^◌, ◌&&◌, ◌||◌, not, nat_lt, Bool, ℕ, map, None}
 use Rattle.std.specs.List.{last_or}
 use Rattle.x86_64_model.specs.Access.{Access, Controls, Outcome, Arrives, steps_from, ends_by}
-use Rattle.x86_64_model.specs.Entry.{present, huge, no_execute, address}
+use Rattle.x86_64_model.specs.Entry.{has, present, huge, no_execute, address}
 use Rattle.x86_64_model.specs.Mappings.{Rights, rights_of}
 use Rattle.x86_64_model.specs.Memory.{Words}
 use Rattle.x86_64_tables.specs.Rights.{both}
@@ -15,6 +15,10 @@ access_on c T p a level frame r = let steps = steps_from c T p level frame in
 -- Whether the processor reads on in the table that a word names, if the word maps no page: it is present and has no reserved bit.
 unfoldable pub may_read_on : Controls → (word : ℕ) → Bool
 may_read_on c e = present e && (not (huge e) && (nat_lt (address e) (2 ^ c.physical_bits) && (c.no_execute || not (no_execute e))))
+
+-- The rights that a number stands for by its bits: WRITABLE, USER_ACCESSIBLE, and, at the place of NO_EXECUTE, the right to execute.
+abbrev pub rights_by : (bits : ℕ) → Rights
+rights_by bits = record { write = has bits 0x2; user = has bits 0x4; execute = has bits 0x8000_0000_0000_0000 }
 
 -- The access arrives, if it comes to a frame's table of a level with some rights.
 abbrev pub ArrivesFrom : Controls → Words → (p : ℕ) → Access → (level frame : ℕ) → Type 0

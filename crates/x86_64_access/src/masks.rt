@@ -1,0 +1,95 @@
+//! Masks, which say of an access what goes through by one comparison of an entry's bits.
+ghost use Rattle.std.specs.Prelude.{◌≡◌, ◌≤◌, ◌==◌, ◌&&◌, not, ℕ, bit_and};
+ghost use Rattle.x86_64_model.specs.Access.{allowed, kept_out, reserved};
+ghost use Rattle.x86_64_model.specs.Entry.{present};
+ghost use Rattle.x86_64_access.specs.Accesses.{access_of, controls_of};
+ghost use Rattle.x86_64_access.specs.private.Masks.{high_bits, kept_bits, kind_bits, off_bits, user_bits};
+ghost use Rattle.x86_64_access.specs.private.Walking.{may_read_on, rights_by};
+
+use crate::controls::Controls;
+use crate::entry_bits::{ADDRESS, HUGE_PAGE, NO_EXECUTE, PRESENT, USER_ACCESSIBLE, WRITABLE};
+use crate::request::{Access, AccessKind};
+
+/// The masks of an access.
+#[derive(Clone, Copy)]
+pub(crate) struct Masks {
+    /// The processor reads on in the table that an entry names, provided that the entry maps no page, if of these bits the entry has
+    /// `PRESENT` alone.
+    pub table: u64,
+    /// The processor accepts an entry of level one if of these bits the entry has `PRESENT` alone.
+    pub page: u64,
+    /// The bits of the rights that decide whether the access is allowed ([`RightBits`](crate::right_bits::RightBits)).
+    pub asked: u64,
+    /// Those of them that must be there. The others must not.
+    pub needed: u64,
+}
+
+impl Masks {
+    /// Returns the masks of an access.
+    ///
+    /// Requires at most 52 bits of physical addresses.
+    pub fn of(access: Access, controls: &Controls) -> Masks
+        requires { controls.now.physical_bits ≤ 52 }
+        ensures table { (e : ℕ) → (bit_and e result.table == 1) ≡ may_read_on (controls_of controls.now) e }
+        ensures page { (e : ℕ) → (bit_and e result.page == 1)
+            ≡ (present e && not (reserved (controls_of controls.now) 1 e)) }
+        ensures rights { (b : ℕ) → (bit_and b result.asked == result.needed)
+            ≡ allowed (controls_of controls.now) (access_of access) (rights_by b) }
+    {
+        let reserved = high_bits(controls) | off_bits(controls);
+        let kind = kind_bits(access, controls);
+        let user = user_bits(access);
+        Masks {
+            table: HUGE_PAGE | reserved | PRESENT,
+            page: reserved | PRESENT,
+            asked: kind | (user | kept_bits(access, controls)),
+            needed: kind | user,
+        }
+    }
+}
+
+/// Returns the address bits that the processor lacks.
+fn high_bits(controls: &Controls) -> u64
+    requires { controls.now.physical_bits ≤ 52 }
+    ensures { result ≡ high_bits (controls_of controls.now) }
+{
+    ADDRESS & (u64::MAX << controls.physical_bits)
+}
+
+/// Returns `NO_EXECUTE` if it is off.
+fn off_bits(controls: &Controls) -> u64
+    ensures { result ≡ off_bits (controls_of controls.now) }
+{
+    if controls.no_execute { 0 } else { NO_EXECUTE }
+}
+
+/// Returns the right that the kind of an access needs.
+fn kind_bits(access: Access, controls: &Controls) -> u64
+    ensures { result ≡ kind_bits (controls_of controls.now) (access_of access) (access_of access).kind }
+{
+    match access.kind {
+        AccessKind::Read => 0,
+        AccessKind::Write if access.user || controls.write_protect => WRITABLE,
+        AccessKind::Fetch if controls.no_execute => NO_EXECUTE,
+        AccessKind::Write | AccessKind::Fetch => 0,
+    }
+}
+
+/// Returns the right of users, if a user asks.
+fn user_bits(access: Access) -> u64
+    ensures { result ≡ user_bits access.user }
+{
+    if access.user { USER_ACCESSIBLE } else { 0 }
+}
+
+/// Returns the right of users, if it keeps a supervisor out.
+fn kept_bits(access: Access, controls: &Controls) -> u64
+    ensures { result
+        ≡ kept_bits access.user (kept_out (controls_of controls.now) (access_of access).kind) }
+{
+    if !access.user && controls.keeps_out(access.kind) {
+        USER_ACCESSIBLE
+    } else {
+        0
+    }
+}
