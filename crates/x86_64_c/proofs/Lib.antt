@@ -4,3 +4,5 @@ pub mod Located
 pub mod Marked
 pub mod LentRuns
 pub mod Filling
+pub mod TogetherFit
+pub mod LentSpaces
