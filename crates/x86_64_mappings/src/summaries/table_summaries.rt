@@ -38,7 +38,7 @@ impl<'a, T: TableMemory, P: PageTableFrameMapping> Model for Summaries<'a, T, P>
 
     ghost use Rattle.x86_64_mappings.specs.Wanted.{asked_of};
     ghost use Rattle.x86_64_mappings.specs.private.Known.{AreLevels, asking};
-ghost use Rattle.x86_64_model.specs.Mappings.{every_right};
+    ghost use Rattle.x86_64_model.specs.Mappings.{every_right};
 
     ghost view = { λ s. asking s.query };
 

@@ -1,5 +1,6 @@
 //! What page table entries allow.
 ghost use Rattle.std.specs.Prelude.{◌≡◌, Some};
+ghost use Rattle.x86_64_model.specs.Mappings.{granted};
 ghost use Rattle.x86_64_tables.specs.Rights.{both, either};
 
 use super::{PageTableEntry, PageTableFlags, has_flag};
@@ -22,7 +23,7 @@ pub struct Rights {
 
 impl Model for Rights {
     ghost use Rattle.std.specs.Prelude.{refl};
-    ghost use Rattle.x86_64_model.specs.Mappings.{Rights as Allowed, granted};
+    ghost use Rattle.x86_64_model.specs.Mappings.{Rights as Allowed};
 
     ghost Value = { Allowed };
 
