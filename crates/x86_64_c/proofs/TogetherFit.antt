@@ -1,14 +1,16 @@
 -- Address spaces in the caller's tables: the test that they fit together, and calls on one of them.
-use Rattle.std.proofs.Common.{◌≡◌, ◌<◌, ◌⊎◌, ⊎_elim, ◌↔◌, ℕ, Bool, List, length, map, Option, Some, None, refl, sym, ap, ◌∙◌, subst, arith}
+use Rattle.std.proofs.Common.{◌≡◌, ◌<◌, ◌⊎◌, ⊎_elim, ◌↔◌, ℕ, Bool, List, [], ◌∷◌, length, map, Option, Some, None, refl, sym, ap, ◌∙◌, subst, arith}
 use Rattle.std.proofs.lemmas.List.{map-id}
 use Rattle.std.proofs.lemmas.Simd.{map-map}
 use Rattle.std.specs.Option.{option_or}
-use Rattle.x86_64_model.specs.Laws.Spaces.{KeepsRootEntries, SpacesStay}
+use Rattle.x86_64_model.specs.Call.{IsCall}
+use Rattle.x86_64_model.specs.Laws.Spaces.{KeepsRootEntries, SpacesStay, SharedHalvesStay, CallsKeepBelow}
 use Rattle.x86_64_model.specs.Layout.{Layout}
 use Rattle.x86_64_model.specs.Lists.{In, EachOnce}
 use Rattle.x86_64_model.specs.Memory.{Memory}
-use Rattle.x86_64_model.specs.Spaces.{AreSpaces}
-use Rattle.x86_64_model.specs.Store.{KeepsPool}
+use Rattle.x86_64_model.specs.Mapper.{◌laid_in◌, paths}
+use Rattle.x86_64_model.specs.Spaces.{AreSpaces, Avoids}
+use Rattle.x86_64_model.specs.Store.{KeepsPool, put_first}
 use Rattle.x86_64_model.proofs.Lemmas.Lists.Members.{in_map, from_map}
 use Rattle.x86_64_mappers.specs.Layouts.{direct_at}
 use Rattle.x86_64_spaces.specs.declared.space.Space.{Space}
@@ -17,13 +19,17 @@ use Rattle.x86_64_spaces.specs.SpaceLayouts.{layout_of, layouts_of, roots_of, sp
 use Rattle.x86_64_tables.specs.LentMemory.{numbered}
 use Rattle.x86_64_tables.specs.LentPool.{is_in, stacked}
 use Rattle.x86_64_tables.specs.Shifted.{shifted_places, shifted_is_mapping}
-use Rattle.x86_64_c.specs.AddressSpaces.{layout_given, layouts_given, space_at, FitTogether, SpacesFit, EachMayExecute, RequestsKeepSpaces, ChangesKeepSpaces}
+use Rattle.x86_64_c.specs.AddressSpaces.{layout_given, layouts_given, space_at, FitTogether, SpacesFit, EachMayExecute, RequestsKeepSpaces, ChangesKeepSpaces, OthersStay, RequestsKeepOthers}
+use Rattle.x86_64.specs.Asked.{machine_call}
+use Rattle.x86_64.specs.Replies.{Reply}
+use Rattle.x86_64.specs.Runs.{AfterStep}
 use Rattle.x86_64_c.specs.Calls.{Changes}
 use Rattle.x86_64_c.specs.Given.{bad_hierarchy, unless, hierarchy_in}
 use Rattle.x86_64_c.specs.PoolCalls.{Loan, loan, Executes, bad_call, bad_pool, MayExecute, Request}
 use Rattle.x86_64_c.specs.Status.{bad_array}
 use Rattle.x86_64_c.specs.declared.given.Hierarchy.{Hierarchy as Given}
 use Rattle.x86_64_c.proofs.Arguments.{four_or_five}
+use Rattle.x86_64_c.proofs.EntryChanges.{gives, plain}
 
 -- ---- the test
 
@@ -110,3 +116,31 @@ pub changes_keep_spaces : SpacesStay → ChangesKeepSpaces
 changes_keep_spaces stay own shared spaces tables now array free fit h some member call answer status done entries =
     kept stay own shared spaces h member (loan tables array free) (loan now array free) fit some refl
     (done.keeps (is_in own) (stacked array free) (fit.spaces.fits (layout_given h) member)) entries
+
+-- ---- requests that avoid the shared indices
+
+module _ (stay : SpacesStay) (halves : SharedHalvesStay) (below : CallsKeepBelow) (own : List ℕ) (shared : ℕ → Bool) (spaces : List Layout) (h : Given) (member : In spaces (layout_given h))
+    (lent after : Loan) (fit : FitTogether own shared spaces lent) (request : Request) (status : ℕ) (done : Executes own h lent request status after)
+    (is_call : IsCall h.levels (machine_call h.levels (request.call h.levels))) (avoids : Avoids h.levels shared (machine_call h.levels (request.call h.levels))) where
+  kept_others : (wrong : Option ℕ) → bad_call h lent request ≡ wrong → FitTogether own shared spaces after × OthersStay spaces h.root (numbered lent.tables) (numbered after.tables)
+  kept_others None good =
+      let one = layout_given h in
+      let right = none_first (bad_hierarchy h (length lent.tables)) _ (none_first (bad_pool h (length lent.tables) (length lent.array) lent.free) _ good) in
+      let some = has_levels h (length lent.tables) right in
+      let runs = done.runs good in
+      let led = sym (ap (λ (x : AfterStep Reply). x.state) runs.step) in
+      let fits = fit.spaces.fits one member in
+      let kept_below = below shared one plain put_first gives (is_in own) (numbered lent.tables) (numbered after.tables) _ _
+      (machine_call h.levels (request.call h.levels) ∷ []) (is_call, tt) fits led (avoids, tt) in
+      (
+        kept stay own shared spaces h member lent after fit some done.room runs.keeps (λ i s. kept_below (i ∷ []) s),
+        λ other i apart. (halves shared one other (shifted_is_mapping h.first) some (is_in own) (numbered lent.tables) (numbered after.tables) _ _ fits runs.keeps kept_below
+            (fit.spaces.share one other member i apart)).1,
+      )
+  kept_others (Some why) wrong =
+      let same = (done.bad why wrong).1 in
+      (subst (FitTogether own shared spaces) (sym same) fit, λ other i apart. ap (λ (l : Loan). paths (other laid_in numbered l.tables)) same)
+
+pub requests_keep_others : SpacesStay → SharedHalvesStay → CallsKeepBelow → RequestsKeepOthers
+requests_keep_others stay halves below own shared spaces lent after fit h member request status done is_call avoids =
+    kept_others stay halves below own shared spaces h member lent after fit request status done is_call avoids (bad_call h lent request) refl

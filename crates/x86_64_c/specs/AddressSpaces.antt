@@ -1,14 +1,15 @@
 -- Several address spaces in the caller's tables: hierarchies that share the tables below some indices of the highest level, with
 -- one pool.
-use Rattle.std.specs.Prelude.{◌≡◌, ◌≤◌, ◌<◌, ℕ, Bool, true, ◌==◌, ◌&&◌, ◌||◌, nat_le, nat_lt, List, ◌∷◌, length, map, Option, Some, None}
+use Rattle.std.specs.Prelude.{◌≡◌, ◌≢◌, ◌≤◌, ◌<◌, ℕ, Bool, true, ◌==◌, ◌&&◌, ◌||◌, nat_le, nat_lt, List, ◌∷◌, length, map, Option, Some, None}
 use Rattle.std.specs.Option.{option_or}
-use Rattle.x86_64_model.specs.Call.{Call}
+use Rattle.x86_64_model.specs.Call.{Call, IsCall}
 use Rattle.x86_64_model.specs.Laws.Spaces.{KeepsRootEntries}
 use Rattle.x86_64_model.specs.Layout.{Layout}
 use Rattle.x86_64_model.specs.Lists.{In, EachOnce}
-use Rattle.x86_64_model.specs.Mapper.{Hierarchy}
+use Rattle.x86_64_model.specs.Mapper.{◌laid_in◌, paths}
+use Rattle.x86_64_model.specs.Memory.{Memory}
 use Rattle.x86_64_model.specs.Refusal.{Answer}
-use Rattle.x86_64_model.specs.Spaces.{AreSpaces}
+use Rattle.x86_64_model.specs.Spaces.{AreSpaces, Avoids}
 use Rattle.x86_64_model.specs.Store.{Fits}
 use Rattle.x86_64_mappers.specs.Layouts.{direct_at}
 use Rattle.x86_64_spaces.specs.declared.space.Space.{Space}
@@ -17,6 +18,7 @@ use Rattle.x86_64_spaces.specs.SpaceLayouts.{indices_of, HasSharedAlone}
 use Rattle.x86_64_tables.specs.LentMemory.{numbered}
 use Rattle.x86_64_tables.specs.LentPool.{is_in, stacked}
 use Rattle.x86_64_tables.specs.Shifted.{shifted_places}
+use Rattle.x86_64.specs.Asked.{machine_call}
 use Rattle.x86_64_c.specs.Calls.{Changes}
 use Rattle.x86_64_c.specs.Given.{unless, bad_hierarchy, hierarchy_in}
 use Rattle.x86_64_c.specs.PoolCalls.{Loan, loan, Request, MayExecute, Executes, bad_pool, pool_in}
@@ -145,3 +147,14 @@ ChangesKeepSpaces = (own : List ℕ) (shared : ℕ → Bool) (spaces : List Layo
     → FitTogether own shared spaces (loan tables array free) → (h : Given) → 0 < h.levels → In spaces (layout_given h) → (call : Call) (answer : Answer) (status : ℕ)
     → Changes (hierarchy_in h tables) call answer (hierarchy_in h now) status
     → KeepsRootEntries shared (layout_given h) (numbered tables) (numbered now) → FitTogether own shared spaces (loan now array free)
+
+-- The spaces with another root than this one keep their path maps.
+abbrev pub OthersStay : (spaces : List Layout) → (root : ℕ) → (before after : Memory) → Type 0
+OthersStay spaces root m n = (other : Layout) → In spaces other → root ≢ other.root → paths (other laid_in n) ≡ paths (other laid_in m)
+
+-- A request that touches nothing below a shared index may be made without this condition, and the others keep their path maps.
+abbrev pub RequestsKeepOthers : Type 0
+RequestsKeepOthers = (own : List ℕ) (shared : ℕ → Bool) (spaces : List Layout) (lent after : Loan) → FitTogether own shared spaces lent
+    → (h : Given) → In spaces (layout_given h) → (request : Request) (status : ℕ) → Executes own h lent request status after
+    → IsCall h.levels (machine_call h.levels (request.call h.levels)) → Avoids h.levels shared (machine_call h.levels (request.call h.levels))
+    → FitTogether own shared spaces after × OthersStay spaces h.root (numbered lent.tables) (numbered after.tables)

@@ -22,7 +22,7 @@ use x86_64::{
     FiveLevels, FourLevels, FrameStore, GiveUpError, LentMemory, LentPool, LevelCount, OwnFrames,
     SharedIndices, ShiftMapping, Space, TableMemory, give_up_space, new_space, roots_fit_by_marks,
 };
-use x86_64_model::laws::spaces::spaces_stay;
+use x86_64_model::laws::spaces::{calls_keep_what_they_avoid, shared_halves_stay, spaces_stay};
 
 /// Tests whether hierarchies are address spaces that share the tables below some indices of the highest level, whether a pool fits
 /// each, and whether its array has room for every frame that it may ever hold: its own, and those of all tables and roots.
@@ -338,6 +338,9 @@ pub fn calls_keep_spaces()
     ensures may { spaces.EachMayExecute }
     ensures requests { spaces.RequestsKeepSpaces }
     ensures changes { spaces.ChangesKeepSpaces }
+    ensures others { spaces.RequestsKeepOthers }
 {
     spaces_stay();
+    shared_halves_stay();
+    calls_keep_what_they_avoid();
 }
