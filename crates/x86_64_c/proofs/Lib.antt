@@ -6,3 +6,4 @@ pub mod LentRuns
 pub mod Filling
 pub mod TogetherFit
 pub mod LentSpaces
+pub mod SpaceArguments
