@@ -1,6 +1,5 @@
 -- What is wrong with the arguments of calls on several address spaces, and what these leave if something is.
 use Rattle.std.proofs.Common.{◌≡◌, ◌⊎◌, inl, inr, ⊎_elim, ◌≤◌, ◌↔◌, ℕ, ◌==◌, ◌||◌, ◌&&◌, nat_le, nat_lt, Bool, true, false, List, length, Option, Some, None, IsTrue, refl, sym, ap, ap₂, ◌∙◌, subst, le-leb, lt-ltb, arith}
-use Rattle.std.proofs.lemmas.Option.{same_Some}
 use Rattle.std.specs.Option.{option_or}
 use Rattle.x86_64_c.specs.AddressSpaces.{bad_indices, bad_test, bad_new, bad_gone, MakesSpace, GivesUpSpace}
 use Rattle.x86_64_c.specs.Given.{bad_hierarchy, unless}
@@ -40,7 +39,7 @@ good_gone h lent from to good nonzero within right =
 
 pub refused_new : (own : List ℕ) (h : Hierarchy) (lent : Loan) (from to s before : ℕ) → bad_new h lent from to ≡ Some s → MakesSpace own h lent from to s before lent before
 refused_new own h lent from to s before wrong = record {
-  bad = λ why is. (same_Some (sym wrong ∙ is), refl, refl);
+  bad = λ why is. let same : Some s ≡ Some why = sym wrong ∙ is in (cc, refl, refl);
   none = λ good. let z : None ≡ Some s = sym good ∙ wrong in cc;
   made = λ good. let z : None ≡ Some s = sym good ∙ wrong in cc;
   room = refl;
@@ -49,7 +48,7 @@ refused_new own h lent from to s before wrong = record {
 
 pub refused_gone : (own : List ℕ) (h : Hierarchy) (lent : Loan) (from to s : ℕ) → bad_gone h lent from to ≡ Some s → GivesUpSpace own h lent from to s lent
 refused_gone own h lent from to s wrong = record {
-  bad = λ why is. (same_Some (sym wrong ∙ is), refl);
+  bad = λ why is. let same : Some s ≡ Some why = sym wrong ∙ is in (cc, refl);
   in_use = λ good. let z : None ≡ Some s = sym good ∙ wrong in cc;
   given_up = λ good. let z : None ≡ Some s = sym good ∙ wrong in cc;
   room = refl;

@@ -1,5 +1,5 @@
 -- Address spaces in the caller's tables: the test that they fit together, and calls on one of them.
-use Rattle.std.proofs.Common.{◌≡◌, ◌<◌, ◌⊎◌, ⊎_elim, ◌↔◌, ℕ, Bool, List, [], ◌∷◌, length, map, Option, Some, None, refl, sym, ap, ◌∙◌, subst, arith}
+use Rattle.std.proofs.Common.{◌≡◌, ◌<◌, ◌⊎◌, ⊎_elim, ◌↔◌, ℕ, Bool, true, List, [], ◌∷◌, length, map, IsTrue, Option, Some, None, refl, sym, ap, ◌∙◌, subst, arith}
 use Rattle.std.proofs.lemmas.List.{map-id}
 use Rattle.std.proofs.lemmas.Simd.{map-map}
 use Rattle.std.specs.Option.{option_or}
@@ -7,28 +7,30 @@ use Rattle.x86_64_model.specs.Call.{IsCall}
 use Rattle.x86_64_model.specs.Laws.Spaces.{KeepsRootEntries, SpacesStay, SharedHalvesStay, CallsKeepBelow}
 use Rattle.x86_64_model.specs.Layout.{Layout}
 use Rattle.x86_64_model.specs.Lists.{In, EachOnce}
-use Rattle.x86_64_model.specs.Memory.{Memory}
+use Rattle.x86_64_model.specs.Memory.{Memory, Places}
 use Rattle.x86_64_model.specs.Mapper.{◌laid_in◌, paths}
 use Rattle.x86_64_model.specs.Spaces.{AreSpaces, Avoids}
 use Rattle.x86_64_model.specs.Store.{KeepsPool, put_first}
 use Rattle.x86_64_model.proofs.Lemmas.Lists.Members.{in_map, from_map}
 use Rattle.x86_64_mappers.specs.Layouts.{direct_at}
+use Rattle.x86_64_spaces.specs.declared.space.SharedIndices.{SharedIndices}
 use Rattle.x86_64_spaces.specs.declared.space.Space.{Space}
 use Rattle.x86_64_spaces.specs.Room.{spaces_in, ShareWithRoom}
-use Rattle.x86_64_spaces.specs.SpaceLayouts.{layout_of, layouts_of, roots_of, spaces_at}
+use Rattle.x86_64_spaces.specs.SpaceLayouts.{indices_of, layout_of, layouts_of, roots_of, spaces_at}
 use Rattle.x86_64_tables.specs.LentMemory.{numbered}
 use Rattle.x86_64_tables.specs.LentPool.{is_in, stacked}
 use Rattle.x86_64_tables.specs.Shifted.{shifted_places, shifted_is_mapping}
-use Rattle.x86_64_c.specs.AddressSpaces.{layout_given, layouts_given, space_at, FitTogether, SpacesFit, EachMayExecute, RequestsKeepSpaces, ChangesKeepSpaces, OthersStay, RequestsKeepOthers}
+use Rattle.x86_64_c.specs.AddressSpaces.{layout_given, layouts_given, shared_in, space_at, FitTogether, SpacesFit, EachMayExecute, RequestsKeepSpaces, ChangesKeepSpaces, OthersStay, RequestsKeepOthers}
 use Rattle.x86_64.specs.Asked.{machine_call}
 use Rattle.x86_64.specs.Replies.{Reply}
 use Rattle.x86_64.specs.Runs.{AfterStep}
 use Rattle.x86_64_c.specs.Calls.{Changes}
-use Rattle.x86_64_c.specs.Given.{bad_hierarchy, unless, hierarchy_in}
+use Rattle.x86_64_c.specs.Given.{bad_hierarchy, hierarchy_in}
 use Rattle.x86_64_c.specs.PoolCalls.{Loan, loan, Executes, bad_call, bad_pool, MayExecute, Request}
-use Rattle.x86_64_c.specs.Status.{bad_array}
+use Rattle.x86_64_c.specs.Validity.{test_status, TellsWhether}
 use Rattle.x86_64_c.specs.declared.given.Hierarchy.{Hierarchy as Given}
 use Rattle.x86_64_c.proofs.Arguments.{four_or_five}
+use Rattle.x86_64_c.proofs.SpaceArguments.{tells}
 use Rattle.x86_64_c.proofs.EntryChanges.{gives, plain}
 
 -- ---- the test
@@ -44,9 +46,6 @@ module _ (shared : ℕ → Bool) (first levels : ℕ) (roots : List ℕ) (lent :
   abbrev Tested : Type 0
   Tested = ShareWithRoom shared (spaces_in levels (shifted_places first) (numbered lent.tables) (spaces_at roots)) (length lent.array) (stacked lent.array lent.free)
 
-  at : ℕ → Layout
-  at root = direct_at levels (shifted_places first) root
-
   given_fit : Tested → SpacesFit shared first levels roots lent
   given_fit x = record {
     each_once = subst EachOnce (same_roots first levels (numbered lent.tables) roots) x.0;
@@ -56,7 +55,7 @@ module _ (shared : ℕ → Bool) (first levels : ℕ) (roots : List ℕ) (lent :
         (in_map (λ root. direct_at levels (shifted_places first) root) roots root i));
     fit = record {
       room = x.1.few;
-      spaces = subst (AreSpaces shared (numbered lent.tables) (is_in x.1.own) (stacked lent.array lent.free)) (same_layouts first levels (numbered lent.tables) roots) x.1.spaces;
+      are_spaces = subst (AreSpaces shared (numbered lent.tables) (is_in x.1.own) (stacked lent.array lent.free)) (same_layouts first levels (numbered lent.tables) roots) x.1.spaces;
     };
   }
 
@@ -70,12 +69,24 @@ module _ (shared : ℕ → Bool) (first levels : ℕ) (roots : List ℕ) (lent :
           let from = from_map (λ root. direct_at levels (shifted_places first) root) roots a
           (subst (λ ls. In ls a) (same_layouts first levels (numbered lent.tables) roots) i) in
           subst (λ (a : Layout). is_in x.own a.root ≡ true) from.2 (x.own_roots from.0 from.1);
-      spaces = subst (AreSpaces shared (numbered lent.tables) (is_in x.own) (stacked lent.array lent.free)) (sym (same_layouts first levels (numbered lent.tables) roots)) x.fit.spaces;
+      spaces = subst (AreSpaces shared (numbered lent.tables) (is_in x.own) (stacked lent.array lent.free)) (sym (same_layouts first levels (numbered lent.tables) roots)) x.fit.are_spaces;
     },
   )
 
-  pub fits_given : Tested ↔ SpacesFit shared first levels roots lent
+  fits_given : Tested ↔ SpacesFit shared first levels roots lent
   fits_given = (given_fit, tested_fit)
+
+-- what the test tells, said of what the caller handed in
+pub told : (first levels from to : ℕ) (roots : List ℕ) (lent : Loan) (shared : SharedIndices) (places : Places) (m : Memory) → shared ≡ record { from = from; to = to } → places ≡ shifted_places first → m ≡ numbered lent.tables
+    → (passed : Bool) (status : ℕ) → status ≡ test_status passed
+    → (IsTrue passed ↔ ShareWithRoom (indices_of shared) (spaces_in levels places m (spaces_at roots)) (length lent.array) (stacked lent.array lent.free))
+    → TellsWhether (SpacesFit (shared_in from to) first levels roots lent) status
+told first levels from to roots lent shared places m same at tables passed status is means =
+    tells passed status is
+    (subst (λ m. IsTrue passed ↔ ShareWithRoom (shared_in from to) (spaces_in levels (shifted_places first) m (spaces_at roots)) (length lent.array) (stacked lent.array lent.free)) tables
+    (subst (λ places. IsTrue passed ↔ ShareWithRoom (shared_in from to) (spaces_in levels places m (spaces_at roots)) (length lent.array) (stacked lent.array lent.free)) at
+    (subst (λ s. IsTrue passed ↔ ShareWithRoom (indices_of s) (spaces_in levels places m (spaces_at roots)) (length lent.array) (stacked lent.array lent.free)) same means)))
+    (fits_given (shared_in from to) first levels roots lent)
 
 -- ---- calls on one of them
 
@@ -90,7 +101,7 @@ has_levels h n good = ⊎_elim (λ four. omega (arith, four)) (λ five. omega (a
 pub each_may_execute : EachMayExecute
 each_may_execute own shared spaces lent fit h member request = record {
   room = fit.room;
-  fits = λ good. fit.spaces.fits (layout_given h) member;
+  fits = λ good. fit.are_spaces.fits (layout_given h) member;
 }
 
 module _ (stay : SpacesStay) (own : List ℕ) (shared : ℕ → Bool) (spaces : List Layout) (h : Given) (member : In spaces (layout_given h)) where
@@ -99,7 +110,7 @@ module _ (stay : SpacesStay) (own : List ℕ) (shared : ℕ → Bool) (spaces : 
       → KeepsRootEntries shared (layout_given h) (numbered lent.tables) (numbered after.tables) → FitTogether own shared spaces after
   kept lent after fit some long keeps entries = record {
     room = let few = fit.room in omega (arith, few, long);
-    spaces = stay shared spaces (layout_given h) member (shifted_is_mapping h.first) some (is_in own) (numbered lent.tables) (numbered after.tables) _ _ fit.spaces keeps entries;
+    are_spaces = stay shared spaces (layout_given h) member (shifted_is_mapping h.first) some (is_in own) (numbered lent.tables) (numbered after.tables) _ _ fit.are_spaces keeps entries;
   }
 
   executed : (lent after : Loan) → FitTogether own shared spaces lent → (request : Request) (status : ℕ) → Executes own h lent request status after
@@ -115,7 +126,7 @@ requests_keep_spaces stay own shared spaces lent after fit h member request stat
 pub changes_keep_spaces : SpacesStay → ChangesKeepSpaces
 changes_keep_spaces stay own shared spaces tables now array free fit h some member call answer status done entries =
     kept stay own shared spaces h member (loan tables array free) (loan now array free) fit some refl
-    (done.keeps (is_in own) (stacked array free) (fit.spaces.fits (layout_given h) member)) entries
+    (done.keeps (is_in own) (stacked array free) (fit.are_spaces.fits (layout_given h) member)) entries
 
 -- ---- requests that avoid the shared indices
 
@@ -129,13 +140,13 @@ module _ (stay : SpacesStay) (halves : SharedHalvesStay) (below : CallsKeepBelow
       let some = has_levels h (length lent.tables) right in
       let runs = done.runs good in
       let led = sym (ap (λ (x : AfterStep Reply). x.state) runs.step) in
-      let fits = fit.spaces.fits one member in
+      let fits = fit.are_spaces.fits one member in
       let kept_below = below shared one plain put_first gives (is_in own) (numbered lent.tables) (numbered after.tables) _ _
       (machine_call h.levels (request.call h.levels) ∷ []) (is_call, tt) fits led (avoids, tt) in
       (
         kept stay own shared spaces h member lent after fit some done.room runs.keeps (λ i s. kept_below (i ∷ []) s),
         λ other i apart. (halves shared one other (shifted_is_mapping h.first) some (is_in own) (numbered lent.tables) (numbered after.tables) _ _ fits runs.keeps kept_below
-            (fit.spaces.share one other member i apart)).1,
+            (fit.are_spaces.share one other member i apart)).1,
       )
   kept_others (Some why) wrong =
       let same = (done.bad why wrong).1 in

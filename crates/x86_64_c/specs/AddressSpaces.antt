@@ -68,7 +68,7 @@ bad_gone h lent from to =
 -- Address spaces with one pool that fits each. The array has room for all frames that the pool may ever hold, which are its own.
 pub record FitTogether (own : List ℕ) (shared : ℕ → Bool) (spaces : List Layout) (lent : Loan) : Type 0 where
   pub room : length own ≤ length lent.array
-  pub spaces : AreSpaces shared (numbered lent.tables) (is_in own) (stacked lent.array lent.free) spaces
+  pub are_spaces : AreSpaces shared (numbered lent.tables) (is_in own) (stacked lent.array lent.free) spaces
 
 -- The roots are distinct, and their hierarchies fit together with a pool that may take back the roots, too.
 pub record SpacesFit (shared : ℕ → Bool) (first levels : ℕ) (roots : List ℕ) (lent : Loan) : Type 0 where
@@ -96,13 +96,13 @@ pub record Makes (own : List ℕ) (shared : ℕ → Bool) (template : Given) (le
       → FitTogether own shared (direct_at template.levels (shifted_places template.first) root ∷ spaces) after
 
 -- A call to make a space returned this status, and left this of what the caller lent, and this where it writes the root.
-pub record MakesSpace (own : List ℕ) (template : Given) (lent : Loan) (from to status before : ℕ) (after : Loan) (root : ℕ) : Type 0 where
+pub record MakesSpace (own : List ℕ) (template : Given) (lent : Loan) (from to result before : ℕ) (after : Loan) (root : ℕ) : Type 0 where
   -- If an argument is wrong, the status says what, and nothing changes.
-  pub bad : (why : ℕ) → bad_new template lent from to ≡ Some why → (status ≡ why) × (after ≡ lent) × (root ≡ before)
+  pub bad : (why : ℕ) → bad_new template lent from to ≡ Some why → (result ≡ why) × (after ≡ lent) × (root ≡ before)
   -- If the pool is empty, nothing changes.
-  pub none : bad_new template lent from to ≡ None → lent.free ≡ 0 → (status ≡ status.frame_allocation_failed) × (after ≡ lent) × (root ≡ before)
+  pub none : bad_new template lent from to ≡ None → lent.free ≡ 0 → (result ≡ status.frame_allocation_failed) × (after ≡ lent) × (root ≡ before)
   -- Otherwise a space is made.
-  pub made : bad_new template lent from to ≡ None → 0 < lent.free → (status ≡ status.ok) × Makes own (shared_in from to) template lent after root
+  pub made : bad_new template lent from to ≡ None → 0 < lent.free → (result ≡ status.ok) × Makes own (shared_in from to) template lent after root
   -- The array is as long as before, and the free frames are in it if they were before.
   pub room : length after.array ≡ length lent.array
   pub in_array : lent.free ≤ length lent.array → after.free ≤ length after.array
@@ -115,15 +115,15 @@ pub record GivesUp (own : List ℕ) (shared : ℕ → Bool) (gone : Given) (lent
       → FitTogether own shared spaces after
 
 -- A call to give up a space returned this status, and left this of what the caller lent.
-pub record GivesUpSpace (own : List ℕ) (gone : Given) (lent : Loan) (from to status : ℕ) (after : Loan) : Type 0 where
+pub record GivesUpSpace (own : List ℕ) (gone : Given) (lent : Loan) (from to result : ℕ) (after : Loan) : Type 0 where
   -- If an argument is wrong, the status says what, and nothing changes.
-  pub bad : (why : ℕ) → bad_gone gone lent from to ≡ Some why → (status ≡ why) × (after ≡ lent)
+  pub bad : (why : ℕ) → bad_gone gone lent from to ≡ Some why → (result ≡ why) × (after ≡ lent)
   -- If an entry of the root that isn't shared is used, nothing changes.
   pub in_use : bad_gone gone lent from to ≡ None → (HasSharedAlone (shared_in from to) (layout_given gone) (numbered lent.tables) → ⊥)
-      → (status ≡ status.space_in_use) × (after ≡ lent)
+      → (result ≡ status.space_in_use) × (after ≡ lent)
   -- Otherwise the space is given up.
   pub given_up : bad_gone gone lent from to ≡ None → HasSharedAlone (shared_in from to) (layout_given gone) (numbered lent.tables)
-      → (status ≡ status.ok) × GivesUp own (shared_in from to) gone lent after
+      → (result ≡ status.ok) × GivesUp own (shared_in from to) gone lent after
   -- The array is as long as before, and the free frames are in it if they were before.
   pub room : length after.array ≡ length lent.array
   pub in_array : lent.free ≤ length lent.array → after.free ≤ length after.array

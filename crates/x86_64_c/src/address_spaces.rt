@@ -30,6 +30,7 @@ use x86_64_model::laws::spaces::{calls_keep_what_they_avoid, shared_halves_stay,
 /// They are if the roots are distinct, each hierarchy is valid, all roots have the same words from index `shared_from` up to, but not
 /// including, `shared_to`, and no table is in two hierarchies but those below these indices. The marks, one for each table, may hold
 /// anything before and after. Returns `OK`, also for no root, `NOT_VALID`, or what is wrong with an argument.
+#[tactic(auto, using(crate::proofs::Arguments::handed_back, crate::proofs::Arguments::counted))]
 #[unsafe(no_mangle)]
 pub extern "C" fn x64_spaces_fit(
     first: u64,
@@ -63,27 +64,16 @@ pub extern "C" fn x64_spaces_fit(
     };
     let memory = LentMemory::new(tables);
     let mapping = ShiftMapping::new(first);
-    let passed = if levels == 4 {
-        fit::<FourLevels, _>(
-            &memory,
-            mapping,
-            roots,
-            shared,
-            &pool[..free_count],
-            pool.len(),
-            &mut marks[..count],
-        )
-    } else {
-        fit::<FiveLevels, _>(
-            &memory,
-            mapping,
-            roots,
-            shared,
-            &pool[..free_count],
-            pool.len(),
-            &mut marks[..count],
-        )
-    };
+    let passed = fit(
+        levels,
+        &memory,
+        mapping,
+        roots,
+        shared,
+        &pool[..free_count],
+        pool.len(),
+        &mut marks[..count],
+    );
     status_of_test(passed)
 }
 
@@ -102,9 +92,10 @@ fn shared_indices(from: u64, to: u64) -> Option<SharedIndices>
     })
 }
 
-/// Tests whether hierarchies with `L` levels of tables are address spaces, a pool of free frames fits each, and there is room for so
+/// Tests whether hierarchies with 4 or 5 levels of tables are address spaces, a pool of free frames fits each, and there is room for so
 /// many frames.
-fn fit<L: LevelCount, T: TableMemory>(
+fn fit<T: TableMemory>(
+    levels: u64,
     memory: &T,
     mapping: ShiftMapping,
     roots: &[u64],
@@ -113,12 +104,21 @@ fn fit<L: LevelCount, T: TableMemory>(
     capacity: usize,
     marks: &mut [bool],
 ) -> bool
-    requires { length marks.old ≡ len (T.tables memory.now) }
+    requires levels { levels ≡ 4 ⊎ levels ≡ 5 }
+    requires marks { length marks.old ≡ len (T.tables memory.now) }
     ensures { IsTrue result ↔ ShareWithRoom (indices_of shared)
-        (spaces_in L.LEVELS (shifted_places mapping.first) (T.tables memory.now) (spaces_at roots.now))
+        (spaces_in levels (shifted_places mapping.first) (T.tables memory.now) (spaces_at roots.now))
         capacity (reverse free.now) }
 {
-    roots_fit_by_marks::<L, _, _>(memory, &mapping, roots, shared, free, capacity, marks)
+    if levels == 4 {
+        roots_fit_by_marks::<FourLevels, _, _>(
+            memory, &mapping, roots, shared, free, capacity, marks,
+        )
+    } else {
+        roots_fit_by_marks::<FiveLevels, _, _>(
+            memory, &mapping, roots, shared, free, capacity, marks,
+        )
+    }
 }
 
 /// Makes one more address space: the last free frame of the pool becomes a root. It gets the template's entries from index
