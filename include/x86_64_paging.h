@@ -70,9 +70,9 @@
  * and their roots have the same entries at some indices, those from shared_from up to, but not
  * including, shared_to. A kernel that has the upper half for itself shares 256 to 512. With 0 to 0
  * nothing is shared. A call on one of the spaces then keeps the others: below shared entries they
- * see what it did, elsewhere they stay as they were, and all fit together again. It is proved that
- * this holds as long as the root's shared entries stay what they are. What changes one in one root
- * must not happen, or the caller has to do the same in all roots:
+ * see what it did, elsewhere they stay as they were, and all fit together again. This is proved of
+ * all calls but x64_access, as long as the root's shared entries stay what they are. What changes
+ * one in one root must not happen, or the caller has to do the same in all roots:
  *
  *   x64_map              if the shared entry is 0, or lacks one of the parent flags
  *   x64_clean_up         over addresses below a shared entry, if all tables there are empty

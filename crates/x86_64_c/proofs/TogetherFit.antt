@@ -20,7 +20,7 @@ use Rattle.x86_64_spaces.specs.SpaceLayouts.{indices_of, layout_of, layouts_of, 
 use Rattle.x86_64_tables.specs.LentMemory.{numbered}
 use Rattle.x86_64_tables.specs.LentPool.{is_in, stacked}
 use Rattle.x86_64_tables.specs.Shifted.{shifted_places, shifted_is_mapping}
-use Rattle.x86_64_c.specs.AddressSpaces.{layout_given, layouts_given, shared_in, space_at, FitTogether, SpacesFit, EachMayExecute, RequestsKeepSpaces, ChangesKeepSpaces, OthersStay, RequestsKeepOthers}
+use Rattle.x86_64_c.specs.AddressSpaces.{layout_given, layouts_given, shared_in, space_at, FitTogether, SpacesFit, EachMayBeUsed, RequestsKeepSpaces, ChangesKeepSpaces, OthersStay, RequestsKeepOthers}
 use Rattle.x86_64.specs.Asked.{machine_call}
 use Rattle.x86_64.specs.Replies.{Reply}
 use Rattle.x86_64.specs.Runs.{AfterStep}
@@ -98,11 +98,10 @@ none_first (Some x) b none = none
 has_levels : (h : Given) (n : ℕ) → bad_hierarchy h n ≡ None → 0 < h.levels
 has_levels h n good = ⊎_elim (λ four. omega (arith, four)) (λ five. omega (arith, five)) (four_or_five h n good)
 
-pub each_may_execute : EachMayExecute
-each_may_execute own shared spaces lent fit h member request = record {
-  room = fit.room;
-  fits = λ good. fit.are_spaces.fits (layout_given h) member;
-}
+pub each_may_be_used : EachMayBeUsed
+each_may_be_used own shared spaces lent fit h member =
+    let fits = fit.are_spaces.fits (layout_given h) member in
+    (λ request. record { room = fit.room; fits = λ good. fits }, λ wrong. record { room = fit.room; fits = λ good. fits })
 
 module _ (stay : SpacesStay) (own : List ℕ) (shared : ℕ → Bool) (spaces : List Layout) (h : Given) (member : In spaces (layout_given h)) where
   kept : (lent after : Loan) → FitTogether own shared spaces lent → 0 < h.levels → length after.array ≡ length lent.array

@@ -79,7 +79,7 @@ pub record SpacesFit (shared : ℕ → Bool) (first levels : ℕ) (roots : List 
 
 -- ---- spaces that are made and given up
 
--- A hierarchy may be one of a call's spaces, with a pool that has these frames as its own.
+-- A space may be the template of a new one, or may be given up, with a pool that has these frames as its own.
 pub record HasPool (own : List ℕ) (h : Given) (lent : Loan) (wrong : Option ℕ) : Type 0 where
   -- The array has room for all of its own frames.
   pub room : length own ≤ length lent.array
@@ -130,10 +130,10 @@ pub record GivesUpSpace (own : List ℕ) (gone : Given) (lent : Loan) (from to r
 
 -- ---- calls on one of them
 
--- Any request may be made on each of some spaces that fit together.
-abbrev pub EachMayExecute : Type 0
-EachMayExecute = (own : List ℕ) (shared : ℕ → Bool) (spaces : List Layout) (lent : Loan) → FitTogether own shared spaces lent
-    → (h : Given) → In spaces (layout_given h) → (request : Request) → MayExecute own h lent request
+-- Any request may be made on each of some spaces that fit together, and each may be a template.
+abbrev pub EachMayBeUsed : Type 0
+EachMayBeUsed = (own : List ℕ) (shared : ℕ → Bool) (spaces : List Layout) (lent : Loan) → FitTogether own shared spaces lent
+    → (h : Given) → In spaces (layout_given h) → ((request : Request) → MayExecute own h lent request) × ((wrong : Option ℕ) → HasPool own h lent wrong)
 
 -- After a request on one of them, they fit together again, if its root's entries at the shared indices are as before.
 abbrev pub RequestsKeepSpaces : Type 0

@@ -335,7 +335,7 @@ fn give_up_in<L: LevelCount, T: TableMemory, F: FrameStore>(
 /// Calls on each of several address spaces that fit together may be made, and they fit together again afterwards, as long as the
 /// entries of its root at the shared indices stay. So after `x64_spaces_fit` returned `OK` no further test is needed.
 pub fn calls_keep_spaces()
-    ensures may { spaces.EachMayExecute }
+    ensures used { spaces.EachMayBeUsed }
     ensures requests { spaces.RequestsKeepSpaces }
     ensures changes { spaces.ChangesKeepSpaces }
     ensures others { spaces.RequestsKeepOthers }
