@@ -1,9 +1,9 @@
 -- What is wrong with the arguments of calls on several address spaces, and what these leave if something is.
-use Rattle.std.proofs.Common.{◌≡◌, ◌⊎◌, inl, inr, ⊎_elim, ◌≤◌, ◌↔◌, ℕ, ◌==◌, ◌||◌, ◌&&◌, nat_le, nat_lt, Bool, true, false, List, length, Option, Some, None, IsTrue, refl, sym, ap, ap₂, ◌∙◌, subst, le-leb, lt-ltb, arith}
+use Rattle.std.proofs.Common.{◌≡◌, inl, inr, ◌≤◌, ◌↔◌, ℕ, ◌==◌, ◌||◌, ◌&&◌, nat_le, nat_lt, Bool, true, false, List, length, Some, None, IsTrue, refl, sym, ap, ap₂, ◌∙◌, le-leb, arith}
 use Rattle.std.specs.Option.{option_or}
 use Rattle.x86_64_c.specs.AddressSpaces.{bad_indices, bad_test, bad_new, bad_gone, MakesSpace, GivesUpSpace}
 use Rattle.x86_64_c.specs.Given.{bad_hierarchy, unless}
-use Rattle.x86_64_c.specs.PoolCalls.{Loan, bad_pool}
+use Rattle.x86_64_c.specs.PoolCalls.{Loan}
 use Rattle.x86_64_c.specs.Status as status
 use Rattle.x86_64_c.specs.Validity.{test_status, TellsWhether}
 use Rattle.x86_64_c.specs.declared.given.Hierarchy.{Hierarchy}

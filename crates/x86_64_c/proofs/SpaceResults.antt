@@ -1,7 +1,6 @@
 -- What calls that make a space or give one up return and leave, once the call in the caller's tables and pool is done.
-use Rattle.std.proofs.Common.{◌≡◌, ◌≢◌, inl, ◌≤◌, ◌<◌, ◌+◌, ◌-◌, ℕ, Bool, true, List, ◌∷◌, length, get_or, Option, Some, None, refl, sym, ap, ◌∙◌, subst, arith}
+use Rattle.std.proofs.Common.{◌≡◌, ◌≢◌, inl, ◌≤◌, ◌<◌, ◌+◌, ◌-◌, ℕ, Bool, List, ◌∷◌, length, get_or, Some, None, refl, sym, ap, ◌∙◌, subst, arith}
 use Rattle.std.specs.Prelude.{slice_get}
-use Rattle.x86_64_model.specs.Layout.{Layout}
 use Rattle.x86_64_model.specs.Lists.{In}
 use Rattle.x86_64_model.specs.Memory.{Memory}
 use Rattle.x86_64_model.specs.Store.{Store, Fits}
@@ -12,10 +11,10 @@ use Rattle.x86_64_spaces.specs.declared.space.Space.{Space}
 use Rattle.x86_64_spaces.specs.SpaceCalls.{TakesFirst, IsMade, IsGivenUp, IsReason}
 use Rattle.x86_64_spaces.specs.SpaceLayouts.{indices_of, HasSharedAlone}
 use Rattle.x86_64_tables.specs.LentMemory.{numbered}
-use Rattle.x86_64_tables.specs.LentPool.{is_in, stacked}
+use Rattle.x86_64_tables.specs.LentPool.{stacked}
 use Rattle.x86_64_tables.specs.Shifted.{shifted_places}
 use Rattle.x86_64_tables.proofs.Stacks.{stacked-pop}
-use Rattle.x86_64_c.specs.AddressSpaces.{layout_given, shared_in, space_at, bad_new, bad_gone, FitTogether, Makes, MakesSpace, GivesUp, GivesUpSpace}
+use Rattle.x86_64_c.specs.AddressSpaces.{layout_given, shared_in, space_at, bad_new, bad_gone, Makes, MakesSpace, GivesUpSpace}
 use Rattle.x86_64_c.specs.Given.{at, hierarchy_in, places_of}
 use Rattle.x86_64_c.specs.PoolCalls.{Loan, pool_in}
 use Rattle.x86_64_c.specs.Status as status
@@ -77,10 +76,13 @@ module _ (own : List ℕ) (h : Given) (lent after : Loan) (few : length own ≤ 
   gives_up_space from to good inside gone = record {
     bad = λ why is. let z : None ≡ Some why = sym good ∙ is in cc;
     in_use = λ _ used. absurd (used gone.none_used);
-    given_up = λ _ alone. (refl, record {
-      given_up = gone;
-      fit = λ spaces apart fit. record { room = omega (arith, few, long); are_spaces = gone.spaces spaces apart fit.are_spaces };
-    });
+    given_up = λ _ alone. (
+      refl,
+      record {
+        given_up = gone;
+        fit = λ spaces apart fit. record { room = omega (arith, few, long); are_spaces = gone.spaces spaces apart fit.are_spaces };
+      },
+    );
     room = long;
     in_array = λ _. inside;
   }

@@ -1,5 +1,5 @@
 -- Address spaces in the caller's tables: the test that they fit together, and calls on one of them.
-use Rattle.std.proofs.Common.{◌≡◌, ◌<◌, ◌⊎◌, ⊎_elim, ◌↔◌, ℕ, Bool, true, List, [], ◌∷◌, length, map, IsTrue, Option, Some, None, refl, sym, ap, ◌∙◌, subst, arith}
+use Rattle.std.proofs.Common.{◌≡◌, ◌<◌, ⊎_elim, ◌↔◌, ℕ, Bool, true, List, [], ◌∷◌, length, IsTrue, Option, Some, None, refl, sym, ap, ◌∙◌, subst, arith}
 use Rattle.std.proofs.lemmas.List.{map-id}
 use Rattle.std.proofs.lemmas.Simd.{map-map}
 use Rattle.std.specs.Option.{option_or}
@@ -24,9 +24,8 @@ use Rattle.x86_64_c.specs.AddressSpaces.{layout_given, layouts_given, shared_in,
 use Rattle.x86_64.specs.Asked.{machine_call}
 use Rattle.x86_64.specs.Replies.{Reply}
 use Rattle.x86_64.specs.Runs.{AfterStep}
-use Rattle.x86_64_c.specs.Calls.{Changes}
-use Rattle.x86_64_c.specs.Given.{bad_hierarchy, hierarchy_in}
-use Rattle.x86_64_c.specs.PoolCalls.{Loan, loan, Executes, bad_call, bad_pool, MayExecute, Request}
+use Rattle.x86_64_c.specs.Given.{bad_hierarchy}
+use Rattle.x86_64_c.specs.PoolCalls.{Loan, loan, Executes, bad_call, bad_pool, Request}
 use Rattle.x86_64_c.specs.Validity.{test_status, TellsWhether}
 use Rattle.x86_64_c.specs.declared.given.Hierarchy.{Hierarchy as Given}
 use Rattle.x86_64_c.proofs.Arguments.{four_or_five}
@@ -141,8 +140,7 @@ module _ (stay : SpacesStay) (halves : SharedHalvesStay) (below : CallsKeepBelow
       let led = sym (ap (λ (x : AfterStep Reply). x.state) runs.step) in
       let fits = fit.are_spaces.fits one member in
       let kept_below = below shared one plain put_first gives (is_in own) (numbered lent.tables) (numbered after.tables) _ _
-      (machine_call h.levels (request.call h.levels) ∷ []) (is_call, tt) fits led (avoids, tt) in
-      (
+      (machine_call h.levels (request.call h.levels) ∷ []) (is_call, tt) fits led (avoids, tt) in (
         kept stay own shared spaces h member lent after fit some done.room runs.keeps (λ i s. kept_below (i ∷ []) s),
         λ other i apart. (halves shared one other (shifted_is_mapping h.first) some (is_in own) (numbered lent.tables) (numbered after.tables) _ _ fits runs.keeps kept_below
             (fit.are_spaces.share one other member i apart)).1,
