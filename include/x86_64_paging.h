@@ -48,10 +48,11 @@
  *    free, and those of the tables below the root. Room for as many frames as there are tables in
  *    the array is always enough.
  *
- * If several hierarchies share an array of tables and a pool, the pool must fit all of them
- * together: no table of one is free, or a table of another, and the pool's array has room for the
- * tables below all roots. x64_pool_fits looks at one hierarchy and can't see the others. So give
- * the pool room for as many frames as there are tables, and make tables by these calls alone.
+ * If several hierarchies share an array of tables and a pool, they must fit together with it, which
+ * x64_spaces_fit tests: the pool fits each, no table of one is a table of another (but those below
+ * shared entries of the roots), and the pool's array has room for the free frames, all roots and
+ * the tables of all. x64_pool_fits looks at one hierarchy and can't see the others. Room for as
+ * many frames as there are tables in the array is always enough.
  *
  * Between two calls the caller may put a frame on top of the pool's stack, if it is in the array of
  * tables, not 0, neither free nor in use as a table, and if there is room; or take the top ones.
@@ -62,6 +63,25 @@
  *
  * Calls on the same memory must not run at the same time. Calls that only read the tables may: they
  * write nothing but their out parameters and marks. This is tested, but not proved.
+ *
+ * ADDRESS SPACES
+ *
+ * Hierarchies that fit together are address spaces: each has a root of its own, all have one pool,
+ * and their roots have the same entries at some indices, those from shared_from up to, but not
+ * including, shared_to. A kernel that has the upper half for itself shares 256 to 512. With 0 to 0
+ * nothing is shared. A call on one of the spaces then keeps the others: below shared entries they
+ * see what it did, elsewhere they stay as they were, and all fit together again. This is proved of
+ * all calls but x64_access, as long as the root's shared entries stay what they are. What changes
+ * one in one root must not happen, or the caller has to do the same in all roots:
+ *
+ *   x64_map              if the shared entry is 0, or lacks one of the parent flags
+ *   x64_clean_up         over addresses below a shared entry, if all tables there are empty
+ *   x64_set_table_flags  at the highest level
+ *   x64_access           with mark, if the shared entry lacks X64_ACCESSED; so does a processor
+ *
+ * So begin with one hierarchy, map something below each shared entry that will ever be used, with
+ * X64_ACCESSED among the parent flags, and make the others by x64_new_space. No further test is
+ * needed then.
  *
  * TABLES THAT A PROCESSOR USES
  *
@@ -74,6 +94,10 @@
  *   x64_map                      nothing; but everything, global pages too, if the parent flags
  *                                have X64_NO_EXECUTE, also if the call was refused, but not by
  *                                X64_NOT_ALLOWED or an X64_BAD_ status
+ *   x64_new_space                nothing
+ *   x64_give_up_space            before the call: no processor uses the root any more
+ *
+ * Below shared entries of address spaces, these are all processors that use one of the roots.
  *
  * A load of CR3 drops no page with X64_GLOBAL. PCIDs are left out: INVLPG and a load of CR3 concern
  * the current one. It is proved of the model (FlushesAreEnough) that these flushes suffice for a
@@ -113,8 +137,8 @@ extern "C" {
  *
  * X64_BAD_LEVELS and the statuses after it say that an argument is wrong; nothing has changed.
  * Arguments are checked before anything else: first the levels and the root of the hierarchy, then
- * arrays, then a level or the kind of an access with the number of bits of physical addresses, then
- * addresses, pages and frames in the order in which they are passed.
+ * arrays, then shared indices, a level or the kind of an access with the number of bits of physical
+ * addresses, then addresses, pages and frames in the order in which they are passed.
  */
 enum {
     X64_OK = 0,                      /* the call was done */
@@ -129,6 +153,7 @@ enum {
     X64_INVALID_FRAME_ADDRESS = 9,   /* the entry's address isn't a multiple of the page's size */
     X64_PAGE_FAULT = 10,             /* the access ends in a page fault */
     X64_NO_TABLE = 11,               /* the access needs a table that isn't in the array */
+    X64_SPACE_IN_USE = 12,           /* an entry of the root that isn't shared isn't 0 */
 
     X64_BAD_LEVELS = 16,  /* the number of levels isn't 4 or 5, or there is no such level */
     X64_BAD_ROOT = 17,    /* the root isn't the address of a frame in the array of tables */
@@ -136,7 +161,8 @@ enum {
     X64_BAD_ADDRESS = 19, /* an address isn't canonical */
     X64_BAD_PAGE = 20,    /* the size isn't one of the three, or the start no canonical multiple */
     X64_BAD_FRAME = 21,   /* the frame isn't a multiple of the page's size below 2^52 */
-    X64_BAD_ACCESS = 22   /* the kind isn't one of the three, or physical_bits isn't 32 to 52 */
+    X64_BAD_ACCESS = 22,  /* the kind isn't one of the three, or physical_bits isn't 32 to 52 */
+    X64_BAD_INDICES = 23  /* shared_from > shared_to, or shared_to > 512 */
 };
 
 /*
@@ -246,7 +272,7 @@ typedef struct x64_outcome {
 /*
  * CALLS THAT READ
  *
- * Each may also return X64_BAD_LEVELS or X64_BAD_ROOT.
+ * Each may also return X64_BAD_LEVELS and, if it is passed a hierarchy, X64_BAD_ROOT.
  */
 
 /*
@@ -317,10 +343,32 @@ uint32_t x64_pool_fits(const x64_hierarchy *hierarchy, const x64_table *tables, 
                        size_t mark_count);
 
 /*
+ * Tests whether the hierarchies with these roots fit together with the pool, and share the tables
+ * below the entries of their roots from shared_from up to, but not including, shared_to: the roots
+ * are distinct, all have the same words at these indices, each hierarchy is valid, and no table is
+ * in two of them but those below these entries; the free frames are distinct, each is in the array
+ * and is neither frame 0, nor a root, nor a table; and the pool's array has room for the free
+ * frames, all roots and all tables. `first` and `levels` are as in x64_hierarchy, the pool and
+ * `marks` as for x64_pool_fits. Each table is met once.
+ *
+ * If they do, each hierarchy is valid, the pool fits it, and each may be given up.
+ *
+ * Condition: pointers only. The tables, the roots and the pool may hold anything.
+ *
+ * Returns X64_OK if they fit together, also if root_count is 0; X64_NOT_VALID, also for a root that
+ * isn't the address of a frame in the array of tables; X64_BAD_LEVELS; X64_BAD_ARRAY if
+ * free_count > capacity or there are too few marks; X64_BAD_INDICES.
+ */
+uint32_t x64_spaces_fit(uint64_t first, uint64_t levels, const x64_table *tables,
+                        size_t table_count, const uint64_t *roots, size_t root_count,
+                        uint64_t shared_from, uint64_t shared_to, const uint64_t *pool,
+                        size_t capacity, size_t free_count, bool *marks, size_t mark_count);
+
+/*
  * CALLS THAT CHANGE TABLES
  *
  * Each may also return X64_BAD_LEVELS or X64_BAD_ROOT. Words change only in the root, in the tables
- * below it and, if x64_map makes new tables, in frames that it takes from the pool.
+ * below it and, if x64_map or x64_new_space makes tables, in frames that it takes from the pool.
  */
 
 /*
@@ -449,6 +497,45 @@ uint32_t x64_set_table_flags(const x64_hierarchy *hierarchy, x64_table *tables, 
 uint32_t x64_clean_up(const x64_hierarchy *hierarchy, x64_table *tables, size_t table_count,
                       uint64_t *pool, size_t capacity, size_t *free_count, uint64_t first_page,
                       uint64_t last_page);
+
+/*
+ * Makes one more address space. The last free frame of the pool becomes its root: it gets the
+ * template's entries from shared_from up to, but not including, shared_to, and all its other words
+ * become 0. Its physical address is written to *root, and *free_count decreases by one. If the
+ * template fits together with other spaces that share these entries, the new one does so, too.
+ *
+ * Condition: the pool fits the template (x64_pool_fits or x64_spaces_fit).
+ *
+ * Returns X64_OK or one of these; then nothing has changed:
+ *   X64_FRAME_ALLOCATION_FAILED  if the pool is empty
+ *   X64_BAD_ARRAY                if *free_count > capacity
+ *   X64_BAD_INDICES
+ */
+uint32_t x64_new_space(const x64_hierarchy *template_space, x64_table *tables, size_t table_count,
+                       uint64_t *pool, size_t capacity, size_t *free_count, uint64_t shared_from,
+                       uint64_t shared_to, uint64_t *root);
+
+/*
+ * Gives up an address space: all words of its root become 0, and the root's frame goes to the top
+ * of the pool: *free_count increases by one. Entries from shared_from up to, but not including,
+ * shared_to don't count: what is below them stays for the other spaces. All other entries must be
+ * 0, as after x64_unmap of all pages there and x64_clean_up of that range. If the space fits
+ * together with others that share these entries, they still do so, and no frame is lost.
+ *
+ * Condition: the pool fits the hierarchy, with room for the root, too (x64_spaces_fit). Room for as
+ * many frames as there are tables in the array is always enough, and so is what the pool had when
+ * x64_new_space took the root. No processor uses the root any more.
+ *
+ * Returns X64_OK or one of these; then nothing has changed:
+ *   X64_SPACE_IN_USE             if an entry that isn't shared isn't 0, whether it has X64_PRESENT
+ *                                or not
+ *   X64_BAD_ROOT                 also if the root is frame 0, which is never free
+ *   X64_BAD_ARRAY                if *free_count > capacity
+ *   X64_BAD_INDICES
+ */
+uint32_t x64_give_up_space(const x64_hierarchy *hierarchy, x64_table *tables, size_t table_count,
+                           uint64_t *pool, size_t capacity, size_t *free_count,
+                           uint64_t shared_from, uint64_t shared_to);
 
 #ifdef __cplusplus
 }

@@ -12,7 +12,7 @@
 
 #include "x86_64_paging.h"
 
-enum { TABLES = 16, ROOM = 12, FREE = 3, LISTED = 8, MAPPED = 6, SETTINGS = 7, STATUSES = 23 };
+enum { TABLES = 16, ROOM = 12, FREE = 3, LISTED = 8, MAPPED = 6, ROOTS = 2, SETTINGS = 8, STATUSES = 24 };
 
 /* Addresses that aren't canonical: the first with four levels, the second with five, too. */
 #define NOT_CANONICAL_4 UINT64_C(0x800000000000)
@@ -30,6 +30,7 @@ struct arguments {
     uint64_t mark_count, null_marks;
     uint64_t list_capacity, null_list;
     uint64_t address, start, size, frame, flags, parent_flags, level, first_page, last_page;
+    uint64_t root_count, null_roots, second_root, shared_from, shared_to;
     uint64_t kind, user, mark, write_protect, no_execute, smep, smap, ac, physical_bits;
     /* before the call the word at an index of a table gets these flags and the address of the table with a number */
     uint64_t word_table, word_index, word_flags, word_names;
@@ -68,6 +69,7 @@ struct world {
     x64_table tables[TABLES];
     uint64_t pool[ROOM];
     size_t free_count;
+    uint64_t roots[ROOTS];
     bool marks[TABLES];
     x64_walked walked;
     x64_translation translation;
@@ -75,6 +77,7 @@ struct world {
     size_t count;
     uint64_t next;
     uint64_t frame;
+    uint64_t root;
     x64_outcome outcome;
 };
 
@@ -86,7 +89,8 @@ static uint64_t table(uint64_t number) {
     return (first + number) * 4096;
 }
 
-/* Makes the memory: tables that map pages of all sizes and refuse for all reasons, and three free frames that hold rubbish. */
+/* Makes the memory: tables that map pages of all sizes and refuse for all reasons, and three free frames that hold rubbish. Table 11
+ * is a root that maps nothing. */
 static void fill(uint64_t levels) {
     memset(&world, 0xa5, sizeof world);
     memset(world.tables, 0, sizeof world.tables);
@@ -121,18 +125,22 @@ enum function {
     MAPPINGS,
     IS_VALID,
     POOL_FITS,
+    SPACES_FIT,
     ACCESS,
     MAP,
     UNMAP,
     UPDATE_FLAGS,
     SET_TABLE_FLAGS,
     CLEAN_UP,
+    NEW_SPACE,
+    GIVE_UP_SPACE,
     FUNCTIONS
 };
 
 static const char *const names[FUNCTIONS] = {
-    "x64_page_walk", "x64_translate", "x64_mappings",     "x64_is_valid",        "x64_pool_fits", "x64_access",
-    "x64_map",       "x64_unmap",     "x64_update_flags", "x64_set_table_flags", "x64_clean_up",
+    "x64_page_walk",  "x64_translate", "x64_mappings",  "x64_is_valid",     "x64_pool_fits",
+    "x64_spaces_fit", "x64_access",    "x64_map",       "x64_unmap",        "x64_update_flags",
+    "x64_set_table_flags",             "x64_clean_up",  "x64_new_space",    "x64_give_up_space",
 };
 
 /* Returns the arguments that rows change. */
@@ -152,6 +160,10 @@ static struct arguments usual(uint64_t levels) {
         .parent_flags = 0x3,
         .level = 4,
         .last_page = LAST_PAGE,
+        .root_count = ROOTS,
+        .second_root = table(11),
+        .shared_from = 256,
+        .shared_to = 512,
         .kind = X64_READ,
         .write_protect = 1,
         .no_execute = 1,
@@ -169,6 +181,8 @@ static uint32_t call(enum function function, const struct arguments *a) {
     uint64_t *pool = a->null_pool ? NULL : world.pool;
     bool *marks = a->null_marks ? NULL : world.marks;
     x64_mapping *list = a->null_list ? NULL : world.mappings;
+    uint64_t *roots = a->null_roots ? NULL : world.roots;
+    uint64_t from = a->shared_from, to = a->shared_to;
     x64_page page = {.start = a->start, .size = a->size};
     x64_map_request request = {.page = page, .frame = a->frame, .flags = a->flags, .parent_flags = a->parent_flags};
     x64_controls controls = {.write_protect = a->write_protect, .no_execute = a->no_execute, .smep = a->smep, .smap = a->smap,
@@ -186,6 +200,9 @@ static uint32_t call(enum function function, const struct arguments *a) {
         return x64_is_valid(h, tables, n, marks, a->mark_count);
     case POOL_FITS:
         return x64_pool_fits(h, tables, n, pool, a->capacity, a->free_count, marks, a->mark_count);
+    case SPACES_FIT:
+        return x64_spaces_fit(first, a->levels, tables, n, roots, a->root_count, from, to, pool, a->capacity, a->free_count,
+                              marks, a->mark_count);
     case ACCESS:
         return x64_access(h, tables, n, &controls, &access, &world.outcome);
     case MAP:
@@ -198,6 +215,10 @@ static uint32_t call(enum function function, const struct arguments *a) {
         return x64_set_table_flags(h, tables, n, &page, a->level, a->flags);
     case CLEAN_UP:
         return x64_clean_up(h, tables, n, pool, a->capacity, &world.free_count, a->first_page, a->last_page);
+    case NEW_SPACE:
+        return x64_new_space(h, tables, n, pool, a->capacity, &world.free_count, from, to, &world.root);
+    case GIVE_UP_SPACE:
+        return x64_give_up_space(h, tables, n, pool, a->capacity, &world.free_count, from, to);
     case FUNCTIONS:
         break;
     }
@@ -207,11 +228,16 @@ static uint32_t call(enum function function, const struct arguments *a) {
 /* ---- the rows */
 
 /* Bad arguments of every function. What is tested first is said first. */
-static const struct row every[] = {
+static const struct row levels_rows[] = {
     ROW("three levels", X64_BAD_LEVELS, SET(levels, 3)),
     ROW("six levels", X64_BAD_LEVELS, SET(levels, 6)),
     ROW("levels beyond 32 bits", X64_BAD_LEVELS, SET(levels, UINT64_C(0x100000004))),
-    ROW("bad levels before a bad root", X64_BAD_LEVELS, SET(levels, 0), SET(root_offset, 1)),
+    ROW("bad levels before all others", X64_BAD_LEVELS, SET(levels, 0), SET(root_offset, 1), SET(capacity, 0), SET(mark_count, 0),
+        SET(shared_to, 513)),
+};
+
+/* Bad arguments of every function that takes a hierarchy. */
+static const struct row hierarchies[] = {
     ROW("a root that is no multiple of 4096", X64_BAD_ROOT, SET(root_offset, 8)),
     ROW("a root with a flag", X64_BAD_ROOT, SET(root_offset, 1)),
     ROW("a root beyond the tables", X64_BAD_ROOT, SET(root_offset, (TABLES - 1) * 4096)),
@@ -221,7 +247,7 @@ static const struct row every[] = {
     ROW("no tables", X64_BAD_ROOT, SET(table_count, 0)),
     ROW("no tables, and null", X64_BAD_ROOT, SET(table_count, 0), SET(null_tables, 1)),
     ROW("a bad root before all others", X64_BAD_ROOT, SET(root_offset, 8), SET(capacity, 0), SET(mark_count, 0),
-        SET(address, NOT_CANONICAL), SET(size, 0), SET(first_page, 1), SET(kind, 3)),
+        SET(address, NOT_CANONICAL), SET(size, 0), SET(first_page, 1), SET(kind, 3), SET(shared_to, 513)),
 };
 
 static const struct row page_walk[] = {
@@ -316,6 +342,90 @@ static const struct row pool_fits[] = {
     ROW("a free frame with high bits", X64_NOT_VALID, SET(pool_table, 10), SET(pool_offset, UINT64_C(1) << 52)),
     ROW("frame 0", X64_NOT_VALID, SET(pool_zero, 1)),
     ROW("more free frames than room", X64_BAD_ARRAY, SET(capacity, FREE - 1)),
+};
+
+/* Bad arguments of every function that takes shared indices. */
+static const struct row indices[] = {
+    ROW("more free frames than room", X64_BAD_ARRAY, SET(capacity, FREE - 1)),
+    ROW("indices out of order", X64_BAD_INDICES, SET(shared_from, 257), SET(shared_to, 256)),
+    ROW("an index above 511", X64_BAD_INDICES, SET(shared_to, 513)),
+    ROW("an end beyond 16 bits", X64_BAD_INDICES, SET(shared_to, 0x10200)),
+    ROW("indices beyond 16 bits", X64_BAD_INDICES, SET(shared_from, 0x10100), SET(shared_to, 0x10200)),
+    ROW("a bad array before bad indices", X64_BAD_ARRAY, SET(capacity, FREE - 1), SET(shared_to, 513)),
+};
+
+static const struct row spaces_fit[] = {
+    ROW("two that map nothing in common", X64_OK, USUAL),
+    ROW("nothing is shared", X64_OK, SET(shared_from, 0), SET(shared_to, 0)),
+    ROW("one", X64_OK, SET(root_count, 1)),
+    ROW("none", X64_OK, SET(root_count, 0), SET(null_roots, 1)),
+    ROW("no free frame", X64_OK, SET(free_count, 0)),
+    ROW("a shared table, with four levels", X64_OK, SET(shared_from, 0), SET(shared_to, 1), SET(word_table, 11), SET(word_flags, 0x3),
+        SET(word_names, 3), SET(only, 4)),
+    ROW("a shared table, with five levels", X64_OK, SET(shared_from, 0), SET(shared_to, 1), SET(word_table, 11), SET(word_flags, 0x3),
+        SET(word_names, 2), SET(only, 5)),
+    ROW("the same table, but other flags", X64_NOT_VALID, SET(shared_from, 0), SET(shared_to, 1), SET(word_table, 11),
+        SET(word_flags, 0x7), SET(word_names, 3), SET(only, 4)),
+    ROW("the same table, and it isn't shared", X64_NOT_VALID, SET(shared_from, 1), SET(word_table, 11), SET(word_flags, 0x3),
+        SET(word_names, 3), SET(only, 4)),
+    ROW("the last shared index", X64_NOT_VALID, SET(word_table, 11), SET(word_index, 511), SET(word_flags, 0x3), SET(word_names, 12)),
+    ROW("the first shared index", X64_NOT_VALID, SET(word_table, 11), SET(word_index, 256), SET(word_flags, 0x3), SET(word_names, 12)),
+    ROW("the index before it", X64_OK, SET(word_table, 11), SET(word_index, 255), SET(word_flags, 0x3), SET(word_names, 12)),
+    ROW("a table of the other", X64_NOT_VALID, SET(word_table, 11), SET(word_flags, 0x3), SET(word_names, 7)),
+    ROW("the root of the other", X64_NOT_VALID, SET(word_table, 11), SET(word_flags, 0x3), SET(word_names, 1)),
+    ROW("the first isn't valid", X64_NOT_VALID, SET(word_table, 4), SET(word_index, 9), SET(word_flags, 3), SET(word_names, 5)),
+    ROW("the second isn't valid", X64_NOT_VALID, SET(word_table, 11), SET(word_index, 9), SET(word_flags, 0x83)),
+    ROW("one root twice", X64_NOT_VALID, SET(second_root, 0)),
+    ROW("a root that is no multiple of 4096", X64_NOT_VALID, SET(second_root, 11 * 4096 + 8)),
+    ROW("a root beyond the tables", X64_NOT_VALID, SET(second_root, (TABLES + 16) * 4096)),
+    ROW("a root with high bits", X64_NOT_VALID, SET(second_root, UINT64_C(1) << 63)),
+    ROW("room for just all, with four levels", X64_OK, SET(capacity, FREE + 7), SET(only, 4)),
+    ROW("room for just all, with five levels", X64_OK, SET(capacity, FREE + 8), SET(only, 5)),
+    ROW("room for one too few, with four levels", X64_NOT_VALID, SET(capacity, FREE + 6), SET(only, 4)),
+    ROW("room for one too few, with five levels", X64_NOT_VALID, SET(capacity, FREE + 7), SET(only, 5)),
+    ROW("a free frame that is the second root", X64_NOT_VALID, SET(pool_table, 11)),
+    ROW("a free frame that is a table", X64_NOT_VALID, SET(pool_table, 5)),
+    ROW("a free frame twice", X64_NOT_VALID, SET(pool_table, 9)),
+    ROW("frame 0", X64_NOT_VALID, SET(pool_zero, 1)),
+    ROW("too few marks", X64_BAD_ARRAY, SET(mark_count, TABLES - 1)),
+    ROW("no marks", X64_BAD_ARRAY, SET(null_marks, 1), SET(mark_count, 0)),
+};
+
+/* The number of the new root. */
+static const struct row new_space[] = {
+    {"the upper half", X64_OK, {USUAL}, 512, 0, 1, {8}},
+    {"the lower half", X64_OK, {SET(shared_from, 0), SET(shared_to, 256)}, 512, 0, 1, {8}},
+    {"all but the first", X64_OK, {SET(shared_from, 1)}, 512, 0, 1, {8}},
+    {"the first alone", X64_OK, {SET(shared_from, 0), SET(shared_to, 1)}, 512, 0, 1, {8}},
+    {"an entry behind the shared ones", X64_OK, {SET(shared_from, 0), SET(shared_to, 256), SET(word_table, 1), SET(word_index, 256),
+        SET(word_flags, 0x3), SET(word_names, 12)}, 512, 0, 1, {8}},
+    {"an entry before the shared ones", X64_OK, {SET(shared_from, 256), SET(shared_to, 511), SET(word_table, 1), SET(word_index, 255),
+        SET(word_flags, 0x3), SET(word_names, 12)}, 512, 0, 1, {8}},
+    {"nothing", X64_OK, {SET(shared_from, 512)}, 512, 0, 1, {8}},
+    {"the last free frame", X64_OK, {SET(free_count, 1)}, 512, 0, 1, {10}},
+    ROW("no free frame", X64_FRAME_ALLOCATION_FAILED, SET(free_count, 0)),
+    ROW("no pool", X64_FRAME_ALLOCATION_FAILED, SET(free_count, 0), SET(null_pool, 1), SET(capacity, 0)),
+    ROW("bad indices before no free frame", X64_BAD_INDICES, SET(free_count, 0), SET(shared_to, 513)),
+};
+
+/* The root that comes back. */
+static const struct row give_up_space[] = {
+    {"an empty space", X64_OK, {SET(root_offset, 10 * 4096)}, 0, 0, -1, {11}},
+    {"a shared entry", X64_OK, {SET(root_offset, 10 * 4096), SET(word_table, 11), SET(word_index, 511), SET(word_flags, 0x3),
+        SET(word_names, 12)}, 1, 0, -1, {11}},
+    {"the first shared entry", X64_OK, {SET(root_offset, 10 * 4096), SET(word_table, 11), SET(word_index, 256), SET(word_flags, 0x3),
+        SET(word_names, 12)}, 1, 0, -1, {11}},
+    {"the lower half is shared", X64_OK, {SET(shared_from, 0), SET(shared_to, 256)}, 1, 0, -1, {1}},
+    ROW("pages", X64_SPACE_IN_USE, USUAL),
+    ROW("nothing is shared", X64_SPACE_IN_USE, SET(shared_to, 256)),
+    ROW("the last entry that isn't shared", X64_SPACE_IN_USE, SET(root_offset, 10 * 4096), SET(word_table, 11), SET(word_index, 255),
+        SET(word_flags, 0x3), SET(word_names, 12)),
+    ROW("one without PRESENT", X64_SPACE_IN_USE, SET(root_offset, 10 * 4096), SET(word_table, 11), SET(word_flags, 0x2),
+        SET(word_names, 12)),
+    ROW("one behind the shared ones", X64_SPACE_IN_USE, SET(root_offset, 10 * 4096), SET(shared_to, 511), SET(word_table, 11),
+        SET(word_index, 511), SET(word_flags, 0x3), SET(word_names, 12)),
+    ROW("frame 0", X64_BAD_ROOT, SET(root, 0)),
+    ROW("frame 0 before a bad array", X64_BAD_ROOT, SET(root, 0), SET(capacity, 0)),
 };
 
 /* The physical address or that of a frame, the error code, the level, and the table with the word that gets DIRTY. */
@@ -532,6 +642,8 @@ static void prepare(const struct arguments *a) {
         world.pool[0] = table(a->pool_table) + a->pool_offset;
     if (a->pool_zero)
         world.pool[0] = 0;
+    world.roots[0] = a->root;
+    world.roots[1] = a->second_root != 0 ? a->second_root : a->root;
     world.free_count = a->free_count;
 }
 
@@ -561,6 +673,16 @@ static void check_marks(const struct row *row, uint64_t levels) {
         }
 }
 
+/* Checks that a new root has the template's entries at the shared indices alone. */
+static void check_root(const struct row *row, const struct arguments *a) {
+    const x64_table *root = &world.tables[world.root / 4096 - first], *template = &before.tables[1];
+    for (uint64_t index = 0; index < 512; index++) {
+        uint64_t wanted = a->shared_from <= index && index < a->shared_to ? template->words[index] : 0;
+        if (root->words[index] != wanted)
+            fail(NEW_SPACE, row, a->levels, "the root has 0x%" PRIx64 " and not 0x%" PRIx64, root->words[index], wanted);
+    }
+}
+
 /* Reads what a call wrote through its out parameters, as a row has it, and puts back what was there before. */
 static void read_out(enum function function, uint64_t out[4]) {
     memset(out, 0, 4 * sizeof *out);
@@ -588,6 +710,10 @@ static void read_out(enum function function, uint64_t out[4]) {
     case UNMAP:
         out[0] = world.frame;
         world.frame = before.frame;
+        break;
+    case NEW_SPACE:
+        out[0] = world.root / 4096 - first;
+        world.root = before.root;
         break;
     default:
         break;
@@ -676,6 +802,8 @@ static void try_row(enum function function, const struct row *row, uint64_t leve
         fail(function, row, levels, "%" PRIu64 " words changed, and not %" PRIu64, changed_words(), words);
     if (function == ACCESS)
         check_marks(row, levels);
+    if (function == NEW_SPACE && status == X64_OK)
+        check_root(row, &arguments);
     if (words != 0)
         memcpy(world.tables, before.tables, sizeof world.tables);
     check_pool(function, row, levels);
@@ -686,7 +814,7 @@ static void try_row(enum function function, const struct row *row, uint64_t leve
     if (writes(status)) {
         uint64_t out[4];
         read_out(function, out);
-        for (size_t n = 0; n < 4 && function != CLEAN_UP; n++)
+        for (size_t n = 0; n < 4 && row->taken >= 0; n++)
             if (out[n] != row->out[n])
                 fail(function, row, levels, "it wrote 0x%" PRIx64 " and not 0x%" PRIx64, out[n], row->out[n]);
     }
@@ -711,7 +839,7 @@ static void try_rows(enum function function, const struct row *rows, size_t coun
 
 /* Checks that a function met just the statuses that the header says it may return, which come after X64_OK and end with it. */
 static void check_statuses(enum function function, const uint32_t *statuses) {
-    bool may[STATUSES] = {[X64_OK] = true, [X64_BAD_LEVELS] = true, [X64_BAD_ROOT] = true};
+    bool may[STATUSES] = {[X64_OK] = true, [X64_BAD_LEVELS] = true, [X64_BAD_ROOT] = function != SPACES_FIT};
     for (; *statuses != X64_OK; statuses++)
         may[*statuses] = true;
     for (uint32_t status = 0; status < STATUSES; status++)
@@ -722,8 +850,13 @@ static void check_statuses(enum function function, const uint32_t *statuses) {
 }
 
 int main(void) {
-    for (int function = 0; function < FUNCTIONS; function++)
-        TRY((enum function)function, every);
+    for (int function = 0; function < FUNCTIONS; function++) {
+        TRY((enum function)function, levels_rows);
+        if (function != SPACES_FIT)
+            TRY((enum function)function, hierarchies);
+        if (function == SPACES_FIT || function > CLEAN_UP)
+            TRY((enum function)function, indices);
+    }
     for (int function = MAP; function < CLEAN_UP; function++)
         TRY((enum function)function, pages);
     TRY(PAGE_WALK, page_walk);
@@ -732,12 +865,15 @@ int main(void) {
     TRY(IS_VALID, is_valid);
     TRY(POOL_FITS, is_valid);
     TRY(POOL_FITS, pool_fits);
+    TRY(SPACES_FIT, spaces_fit);
     TRY(ACCESS, access_rows);
     TRY(MAP, map);
     TRY(UNMAP, unmap);
     TRY(UPDATE_FLAGS, update_flags);
     TRY(SET_TABLE_FLAGS, set_table_flags);
     TRY(CLEAN_UP, clean_up);
+    TRY(NEW_SPACE, new_space);
+    TRY(GIVE_UP_SPACE, give_up_space);
 
     static const uint32_t statuses[FUNCTIONS][8] = {
         [PAGE_WALK] = {X64_NOT_MAPPED, X64_BAD_ADDRESS},
@@ -751,7 +887,10 @@ int main(void) {
         [UNMAP] = {X64_PARENT_ENTRY_HUGE_PAGE, X64_PAGE_NOT_MAPPED, X64_INVALID_FRAME_ADDRESS, X64_BAD_PAGE},
         [UPDATE_FLAGS] = {X64_NOT_ALLOWED, X64_PARENT_ENTRY_HUGE_PAGE, X64_PAGE_NOT_MAPPED, X64_BAD_PAGE},
         [SET_TABLE_FLAGS] = {X64_NOT_ALLOWED, X64_PARENT_ENTRY_HUGE_PAGE, X64_PAGE_NOT_MAPPED, X64_BAD_PAGE},
+        [SPACES_FIT] = {X64_NOT_VALID, X64_BAD_ARRAY, X64_BAD_INDICES},
         [CLEAN_UP] = {X64_BAD_ARRAY, X64_BAD_PAGE},
+        [NEW_SPACE] = {X64_FRAME_ALLOCATION_FAILED, X64_BAD_ARRAY, X64_BAD_INDICES},
+        [GIVE_UP_SPACE] = {X64_SPACE_IN_USE, X64_BAD_ARRAY, X64_BAD_INDICES},
     };
     for (int function = 0; function < FUNCTIONS; function++)
         check_statuses((enum function)function, statuses[function]);

@@ -8,6 +8,7 @@ use crate::hierarchy::{Hierarchy, Levels, Translation, Walked, outcome_of};
 use crate::library::{self, Located, result_of};
 use crate::listing::{Mappings, Regions};
 use crate::page::{Page, PageSize, Table};
+use core::ops::Range;
 
 /// Frames of physical memory that can hold tables: `tables[i]` is the frame with the number `first + i`.
 pub struct Memory<'a> {
@@ -26,13 +27,39 @@ pub struct Pool<'a> {
     pub free: usize,
 }
 
+/// How many frames are free: a number of its own, or one that is lent.
+enum FreeCount<'a> {
+    Own(usize),
+    Lent(&'a mut usize),
+}
+
+impl FreeCount<'_> {
+    fn get(&self) -> usize {
+        match self {
+            FreeCount::Own(count) => *count,
+            FreeCount::Lent(count) => **count,
+        }
+    }
+
+    fn get_mut(&mut self) -> &mut usize {
+        match self {
+            FreeCount::Own(count) => count,
+            FreeCount::Lent(count) => count,
+        }
+    }
+}
+
 /// A valid hierarchy of page tables, and a pool that fits it. Both hold again after each call, whatever it returns.
 ///
-/// The pool is this address space's alone: frames that several roots share need a test of all of them.
+/// One that [`new`](Self::new) returns has its pool alone. Address spaces with one pool are [`Spaces`](crate::Spaces), which lend one at a
+/// time. Then calls that might change an entry of the root that the others share are refused with `SharedEntry`: a map below such an entry
+/// that is 0 or lacks some of the parent flags, a clean up that reaches below one, a change of its flags, and an access that would mark it.
 pub struct AddressSpace<'a> {
     memory: Memory<'a>,
-    pool: Pool<'a>,
+    frames: &'a mut [PhysAddr],
+    free: FreeCount<'a>,
     located: Located,
+    shared: Range<u64>,
 }
 
 impl<'a> AddressSpace<'a> {
@@ -64,7 +91,28 @@ impl<'a> AddressSpace<'a> {
                 marks.len(),
             )
         })?;
-        Ok(AddressSpace { memory, pool, located })
+        Ok(AddressSpace { memory, frames: pool.frames, free: FreeCount::Own(pool.free), located, shared: 0..0 })
+    }
+
+    /// Returns one of several address spaces that fit together, and share the entries of their roots at these indices.
+    pub(crate) fn of(memory: Memory<'a>, pool: &'a mut Pool<'_>, located: Located, shared: Range<u64>) -> AddressSpace<'a> {
+        AddressSpace { memory, frames: &mut *pool.frames, free: FreeCount::Lent(&mut pool.free), located, shared }
+    }
+
+    /// Returns the index of the highest level at an address.
+    fn index(&self, address: VirtAddr) -> u64 {
+        address.as_u64() >> (3 + 9 * self.located.levels) & 511
+    }
+
+    /// Returns `SharedEntry` if the root's entry above an address is shared, and is 0 or lacks one of these flags.
+    fn keep_shared(&self, address: VirtAddr, flags: Flags) -> Result<(), Error> {
+        let index = self.index(address);
+        let number = self.located.root.as_u64() / 4096 - self.memory.first;
+        let word = self.memory.tables[number as usize].words[index as usize];
+        if self.shared.contains(&index) && (word == 0 || word | flags.bits() != word) {
+            return Err(Error::SharedEntry);
+        }
+        Ok(())
     }
 
     /// Returns the hierarchy, to be read.
@@ -79,7 +127,7 @@ impl<'a> AddressSpace<'a> {
 
     /// Returns the free frames. The last one is handed out first.
     pub fn free_frames(&self) -> &[PhysAddr] {
-        &self.pool.frames[..self.pool.free]
+        &self.frames[..self.free.get()]
     }
 
     /// Maps a page to a frame. `parent_flags` are added to the entries above the page, mostly `PRESENT` and `WRITABLE`. Each missing table
@@ -87,20 +135,22 @@ impl<'a> AddressSpace<'a> {
     ///
     /// # Errors
     ///
-    /// `NotAllowed`, `FrameAllocationFailed`, `ParentEntryHugePage`, `PageAlreadyMapped`, `BadPage`, `BadFrame`. After the second to the
-    /// fourth, entries above the page may have got parent flags, and tables may have been made.
+    /// `NotAllowed`, `FrameAllocationFailed`, `ParentEntryHugePage`, `PageAlreadyMapped`, `BadPage`, `BadFrame`; `SharedEntry` if the entry
+    /// of the root above the page is shared, and is 0 or lacks some of the parent flags. After the second to the fourth, entries above the page may have got parent flags, and tables may have been made.
     pub fn map_to(&mut self, page: Page, frame: PhysAddr, flags: Flags, parent_flags: Flags) -> Result<(), Error> {
+        self.keep_shared(page.start(), parent_flags)?;
         let request = library::MapRequest { page, frame, flags, parent_flags };
-        let (tables, pool) = (&mut *self.memory.tables, &mut self.pool);
-        // SAFETY: the slices are borrowed for the call, and the pool fits: `new` tested it, and each call keeps it.
+        let (tables, frames) = (&mut *self.memory.tables, &mut *self.frames);
+        // SAFETY: the slices are borrowed for the call, and the pool fits: `new` tested it, and each call keeps it, also for the other spaces
+        // if there are some, since no shared entry of the root changes.
         result_of(unsafe {
             library::x64_map(
                 &self.located,
                 tables.as_mut_ptr(),
                 tables.len(),
-                pool.frames.as_mut_ptr(),
-                pool.frames.len(),
-                &mut pool.free,
+                frames.as_mut_ptr(),
+                frames.len(),
+                self.free.get_mut(),
                 &request,
             )
         })
@@ -135,8 +185,11 @@ impl<'a> AddressSpace<'a> {
     ///
     /// # Errors
     ///
-    /// `NotAllowed`, `PageNotMapped`, `ParentEntryHugePage`, `BadLevels`, `BadPage`.
+    /// `NotAllowed`, `PageNotMapped`, `ParentEntryHugePage`, `BadLevels`, `BadPage`; `SharedEntry` if the entry is shared.
     pub fn set_table_flags(&mut self, page: Page, level: u64, flags: Flags) -> Result<(), Error> {
+        if level == self.located.levels && self.shared.contains(&self.index(page.start())) {
+            return Err(Error::SharedEntry);
+        }
         let tables = &mut *self.memory.tables;
         // SAFETY: as in `unmap`.
         result_of(unsafe { library::x64_set_table_flags(&self.located, tables.as_mut_ptr(), tables.len(), &page, level, flags) })
@@ -147,18 +200,23 @@ impl<'a> AddressSpace<'a> {
     ///
     /// # Errors
     ///
-    /// `BadPage`.
+    /// `BadPage`; `SharedEntry` if an entry of the root above one of these pages is shared.
     pub fn clean_up(&mut self, first: VirtAddr, last: VirtAddr) -> Result<(), Error> {
-        let (tables, pool) = (&mut *self.memory.tables, &mut self.pool);
+        let low = self.index(first).max(self.shared.start);
+        let high = (self.index(last) + 1).min(self.shared.end);
+        if low < high {
+            return Err(Error::SharedEntry);
+        }
+        let (tables, frames) = (&mut *self.memory.tables, &mut *self.frames);
         // SAFETY: as in `map_to`.
         result_of(unsafe {
             library::x64_clean_up(
                 &self.located,
                 tables.as_mut_ptr(),
                 tables.len(),
-                pool.frames.as_mut_ptr(),
-                pool.frames.len(),
-                &mut pool.free,
+                frames.as_mut_ptr(),
+                frames.len(),
+                self.free.get_mut(),
                 first,
                 last,
             )
@@ -206,13 +264,14 @@ impl<'a> AddressSpace<'a> {
     ///
     /// # Errors
     ///
-    /// `BadAddress`, `BadAccess`.
+    /// `BadAddress`, `BadAccess`; `SharedEntry` if the entry of the root above the address is shared and lacks `ACCESSED`.
     pub fn access_and_mark(
         &mut self,
         address: VirtAddr,
         access: Access,
         controls: &Controls,
     ) -> Result<Result<PhysAddr, Fault>, Error> {
+        self.keep_shared(address, Flags::ACCESSED)?;
         let (tables, mut outcome) = (&mut *self.memory.tables, library::Outcome::default());
         // SAFETY: the slice is borrowed for the call. Marks keep the hierarchy valid and the pool fitting, which is proved.
         let status = unsafe {

@@ -21,11 +21,15 @@ pub enum Error {
     PageNotMapped,
     /// The entry's address, which is given, isn't a multiple of the page's size.
     InvalidFrameAddress(PhysAddr),
+    /// An entry of the root that isn't shared is used.
+    SpaceInUse,
+    /// The call might change an entry of the root that other address spaces share.
+    SharedEntry,
     /// There is no such level.
     BadLevels,
-    /// The root isn't the address of a frame that has one of the tables.
+    /// The root isn't the address of a frame that has one of the tables, or of none of the address spaces.
     BadRoot,
-    /// The pool has no room for its free frames, or there are too few marks.
+    /// The pool has no room for its free frames, there are too few marks, or there is no room for one more root.
     BadArray,
     /// The address isn't canonical.
     BadAddress,
@@ -35,6 +39,8 @@ pub enum Error {
     BadFrame,
     /// The number of bits of physical addresses isn't from 32 to 52.
     BadAccess,
+    /// The shared indices are out of order, or one is above 511.
+    BadIndices,
     /// The library returned a status that this package doesn't know.
     Unknown(u32),
 }
@@ -51,13 +57,16 @@ impl fmt::Display for Error {
             Error::InvalidFrameAddress(address) => {
                 return write!(f, "the entry's address {address:#x} isn't a multiple of the page's size");
             }
+            Error::SpaceInUse => "an entry of the root that isn't shared is used",
+            Error::SharedEntry => "the call might change an entry of the root that other address spaces share",
             Error::BadLevels => "there is no such level",
-            Error::BadRoot => "the root isn't the frame of one of the tables",
-            Error::BadArray => "the pool has no room for its free frames, or there are too few marks",
+            Error::BadRoot => "the root isn't the frame of one of the tables, or of none of the address spaces",
+            Error::BadArray => "the pool has no room for its free frames, there are too few marks, or there is no room for a root",
             Error::BadAddress => "the address isn't canonical",
             Error::BadPage => "the page's start isn't canonical, or no multiple of its size",
             Error::BadFrame => "the frame's start is no multiple of the page's size below 2^52",
             Error::BadAccess => "there aren't 32 to 52 bits of physical addresses",
+            Error::BadIndices => "the shared indices are out of order, or one is above 511",
             Error::Unknown(status) => return write!(f, "the library returned the unknown status {status}"),
         };
         f.write_str(text)

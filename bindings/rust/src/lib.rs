@@ -7,6 +7,7 @@
 //! - [`Hierarchy`] reads tables, whatever words they hold: page walks, accesses of a processor, lists of what is mapped, tests.
 //! - [`AddressSpace`] borrows tables and a pool of free frames, which it tests once, and changes them: it maps and unmaps pages of 4 KiB,
 //!   2 MiB and 1 GiB, changes flags, and frees empty tables.
+//! - [`Spaces`] are several address spaces that share some entries of their roots and have one pool, as a kernel has for its processes.
 //!
 //! ```
 //! use x86_64_paging::{AddressSpace, Flags, Levels, Memory, Page, PageSize, PhysAddr, Pool, Table, VirtAddr};
@@ -39,6 +40,7 @@ mod hierarchy;
 mod library;
 mod listing;
 mod page;
+mod spaces;
 
 pub use access::{Access, AccessKind, Controls, Fault, PageFaultCode};
 pub use address_space::{AddressSpace, Memory, Pool};
@@ -48,3 +50,4 @@ pub use flags::Flags;
 pub use hierarchy::{Hierarchy, Levels, Translation, Walked};
 pub use listing::{Mapping, Mappings, Region, Regions};
 pub use page::{Page, PageSize, Table};
+pub use spaces::{Roots, Spaces};

@@ -108,6 +108,42 @@ unsafe extern "C" {
         marks: *mut bool,
         mark_count: usize,
     ) -> u32;
+    pub fn x64_spaces_fit(
+        first: u64,
+        levels: u64,
+        tables: *const Table,
+        n: usize,
+        roots: *const PhysAddr,
+        root_count: usize,
+        shared_from: u64,
+        shared_to: u64,
+        pool: *const PhysAddr,
+        capacity: usize,
+        free: usize,
+        marks: *mut bool,
+        mark_count: usize,
+    ) -> u32;
+    pub fn x64_new_space(
+        template: &Located,
+        tables: *mut Table,
+        n: usize,
+        pool: *mut PhysAddr,
+        capacity: usize,
+        free: &mut usize,
+        shared_from: u64,
+        shared_to: u64,
+        root: &mut PhysAddr,
+    ) -> u32;
+    pub fn x64_give_up_space(
+        located: &Located,
+        tables: *mut Table,
+        n: usize,
+        pool: *mut PhysAddr,
+        capacity: usize,
+        free: &mut usize,
+        shared_from: u64,
+        shared_to: u64,
+    ) -> u32;
     pub fn x64_map(
         located: &Located,
         tables: *mut Table,
@@ -149,6 +185,7 @@ pub fn result_of(status: u32) -> Result<(), Error> {
         6 => Error::ParentEntryHugePage,
         7 => Error::PageAlreadyMapped,
         8 => Error::PageNotMapped,
+        12 => Error::SpaceInUse,
         16 => Error::BadLevels,
         17 => Error::BadRoot,
         18 => Error::BadArray,
@@ -156,6 +193,7 @@ pub fn result_of(status: u32) -> Result<(), Error> {
         20 => Error::BadPage,
         21 => Error::BadFrame,
         22 => Error::BadAccess,
+        23 => Error::BadIndices,
         other => Error::Unknown(other),
     })
 }

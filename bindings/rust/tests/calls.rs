@@ -2,7 +2,7 @@
 
 use x86_64_paging::{
     Access, AccessKind, AddressSpace, Controls, Error, Fault, Flags, Hierarchy, Levels, Mapping, Memory, Page, PageFaultCode,
-    PageSize, PhysAddr, Pool, Region, Table, Translation, VirtAddr, Walked,
+    PageSize, PhysAddr, Pool, Region, Roots, Spaces, Table, Translation, VirtAddr, Walked,
 };
 
 /// The frame of table 0, and how many tables there are.
@@ -230,4 +230,71 @@ fn errors_say_what_is_wrong() {
     );
     let fault = Fault::PageFault { code: PageFaultCode(7), level: 1 };
     assert_eq!(fault.to_string(), "a page fault at level 1, with the error code 0x7");
+}
+
+#[test]
+fn spaces_share_a_half() {
+    for levels in [Levels::Four, Levels::Five] {
+        let mut tables = [Table::EMPTY; TABLES];
+        let mut frames: Vec<PhysAddr> = (1..TABLES as u64).chain([0]).map(table).collect();
+        let mut roots = [table(0); 2];
+        let memory = Memory { tables: &mut tables, first: FIRST };
+        let pool = Pool { frames: &mut frames, free: TABLES - 1 };
+        let roots = Roots { list: &mut roots, count: 1 };
+        let mut spaces = Spaces::new(memory, pool, roots, levels, 256..512, &mut [true; TABLES]).unwrap();
+        let (highest, kernel, marked) = (upper_half(levels), table(0), BOTH | Flags::ACCESSED);
+
+        assert_eq!(spaces.space(kernel).unwrap().map_to(small(highest), frame(0x5000), BOTH, BOTH), Ok(()));
+        let process = spaces.new_space(kernel).unwrap();
+        assert_eq!(spaces.new_space(kernel), Err(Error::BadArray));
+        assert_eq!(spaces.new_space(table(1)), Err(Error::BadRoot));
+        assert_eq!(spaces.roots(), [kernel, process]);
+
+        let mut space = spaces.space(process).unwrap();
+        assert_eq!(space.map_to(small(0x1000), frame(0x6000), BOTH, BOTH), Ok(()));
+        assert_eq!(space.map_to(small(highest + 0x1000), frame(0x7000), BOTH, BOTH), Ok(()));
+        assert_eq!(space.map_to(small(highest), frame(0x7000), BOTH, marked), Err(Error::SharedEntry));
+        assert_eq!(space.map_to(small(!0xfff), frame(0x7000), BOTH, BOTH), Err(Error::SharedEntry));
+        assert_eq!(space.set_table_flags(small(highest), levels as u64, marked), Err(Error::SharedEntry));
+        assert_eq!(space.clean_up(at(0), at(!0xfff)), Err(Error::SharedEntry));
+        assert_eq!(space.clean_up(at(0), at(highest)), Err(Error::SharedEntry));
+        let access = Access { kind: AccessKind::Read, user: false };
+        let controls =
+            Controls { write_protect: true, no_execute: true, smep: true, smap: true, ac: false, physical_bits: 40 };
+        assert_eq!(space.access_and_mark(at(highest), access, &controls), Err(Error::SharedEntry));
+        assert_eq!(space.access_and_mark(at(0x1000), access, &controls), Ok(Ok(frame(0x6000))));
+
+        let space = spaces.space(kernel).unwrap();
+        assert_eq!(space.translate_addr(at(highest + 0x1000)), Ok(Some(frame(0x7000))));
+        assert_eq!(space.translate_addr(at(0x1000)), Ok(None));
+        assert_eq!(spaces.hierarchy(process).unwrap().mappings().count(), 3);
+
+        assert_eq!(spaces.give_up_space(process), Err(Error::SpaceInUse));
+        let mut space = spaces.space(process).unwrap();
+        assert_eq!(space.unmap(small(0x1000)), Ok(frame(0x6000)));
+        assert_eq!(space.clean_up(at(0), at(!highest & !0xfff)), Ok(()));
+        assert_eq!(spaces.give_up_space(process), Ok(()));
+        assert_eq!(spaces.give_up_space(process), Err(Error::BadRoot));
+        assert_eq!(spaces.free_frames().len(), TABLES - 1 - levels as usize + 1);
+        assert_eq!(spaces.space(kernel).unwrap().unmap(small(highest)), Ok(frame(0x5000)));
+    }
+}
+
+#[test]
+fn spaces_must_fit_together() {
+    let test = |count, room, free, shared, marks| {
+        let (mut tables, mut frames, mut roots) = ([Table::EMPTY; 4], vec![table(2); room], [table(1), table(1)]);
+        let memory = Memory { tables: &mut tables, first: FIRST };
+        let pool = Pool { frames: &mut frames, free };
+        let roots = Roots { list: &mut roots, count };
+        Spaces::new(memory, pool, roots, Levels::Four, shared, &mut vec![true; marks]).map(|_| ())
+    };
+    assert_eq!(test(1, 2, 1, 256..512, 4), Ok(()));
+    assert_eq!(test(2, 4, 1, 256..512, 4), Err(Error::NotValid));
+    assert_eq!(test(1, 1, 1, 256..512, 4), Err(Error::NotValid));
+    assert_eq!(test(1, 2, 2, 256..512, 4), Err(Error::NotValid));
+    assert_eq!(test(1, 2, 3, 256..512, 4), Err(Error::BadArray));
+    assert_eq!(test(3, 2, 1, 256..512, 4), Err(Error::BadArray));
+    assert_eq!(test(1, 2, 1, 256..512, 3), Err(Error::BadArray));
+    assert_eq!(test(1, 2, 1, 256..513, 4), Err(Error::BadIndices));
 }

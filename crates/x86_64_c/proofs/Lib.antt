@@ -4,3 +4,7 @@ pub mod Located
 pub mod Marked
 pub mod LentRuns
 pub mod Filling
+pub mod SpaceArguments
+pub mod TogetherFit
+pub mod LentSpaces
+pub mod SpaceResults

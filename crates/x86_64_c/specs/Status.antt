@@ -42,6 +42,10 @@ page_fault = 10
 abbrev pub no_table : ℕ
 no_table = 11
 
+-- An entry of the root that isn't shared is used.
+abbrev pub space_in_use : ℕ
+space_in_use = 12
+
 abbrev pub bad_levels : ℕ
 bad_levels = 16
 
@@ -63,3 +67,7 @@ bad_frame = 21
 -- The kind of an access, or the number of bits of physical addresses.
 abbrev pub bad_access : ℕ
 bad_access = 22
+
+-- Shared indices are out of order, or one is above 511.
+abbrev pub bad_indices : ℕ
+bad_indices = 23

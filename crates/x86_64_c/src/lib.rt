@@ -5,6 +5,7 @@
 #![tactic(auto)]
 
 mod accesses;
+mod address_spaces;
 mod changes;
 mod given;
 mod listing;

@@ -45,6 +45,9 @@ pub const PAGE_FAULT: u32 = 10;
 /// The access needs the table in a frame that has none in the array.
 pub const NO_TABLE: u32 = 11;
 
+/// An entry of the root that isn't shared is used.
+pub const SPACE_IN_USE: u32 = 12;
+
 /// There are neither four nor five levels, or no such level of tables.
 pub const BAD_LEVELS: u32 = 16;
 
@@ -65,6 +68,9 @@ pub const BAD_FRAME: u32 = 21;
 
 /// The kind of the access isn't one of the three, or the number of bits of physical addresses isn't from 32 to 52.
 pub const BAD_ACCESS: u32 = 22;
+
+/// The shared indices are out of order, or one is above 511.
+pub const BAD_INDICES: u32 = 23;
 
 /// Returns the status of a refused change of flags.
 pub fn flags_status(error: FlagUpdateError) -> u32

@@ -48,7 +48,7 @@ pub extern "C" fn x64_is_valid(
 }
 
 /// Returns the status of a test.
-fn status_of_test(passed: bool) -> u32
+pub fn status_of_test(passed: bool) -> u32
     ensures { result ≡ validity.test_status passed }
 {
     if passed {

@@ -1,0 +1,154 @@
+-- Address spaces in the caller's tables: the test that they fit together, and calls on one of them.
+use Rattle.std.proofs.Common.{◌≡◌, ◌<◌, ⊎_elim, ◌↔◌, ℕ, Bool, true, List, [], ◌∷◌, length, IsTrue, Option, Some, None, refl, sym, ap, ◌∙◌, subst, arith}
+use Rattle.std.proofs.lemmas.List.{map-id}
+use Rattle.std.proofs.lemmas.Simd.{map-map}
+use Rattle.std.specs.Option.{option_or}
+use Rattle.x86_64_model.specs.Call.{IsCall}
+use Rattle.x86_64_model.specs.Laws.Spaces.{KeepsRootEntries, SpacesStay, SharedHalvesStay, CallsKeepBelow}
+use Rattle.x86_64_model.specs.Layout.{Layout}
+use Rattle.x86_64_model.specs.Lists.{In, EachOnce}
+use Rattle.x86_64_model.specs.Memory.{Memory, Places}
+use Rattle.x86_64_model.specs.Mapper.{◌laid_in◌, paths}
+use Rattle.x86_64_model.specs.Spaces.{AreSpaces, Avoids}
+use Rattle.x86_64_model.specs.Store.{KeepsPool, put_first}
+use Rattle.x86_64_model.proofs.Lemmas.Lists.Members.{in_map, from_map}
+use Rattle.x86_64_mappers.specs.Layouts.{direct_at}
+use Rattle.x86_64_spaces.specs.declared.space.SharedIndices.{SharedIndices}
+use Rattle.x86_64_spaces.specs.declared.space.Space.{Space}
+use Rattle.x86_64_spaces.specs.Room.{spaces_in, ShareWithRoom}
+use Rattle.x86_64_spaces.specs.SpaceLayouts.{indices_of, layout_of, layouts_of, roots_of, spaces_at}
+use Rattle.x86_64_tables.specs.LentMemory.{numbered}
+use Rattle.x86_64_tables.specs.LentPool.{is_in, stacked}
+use Rattle.x86_64_tables.specs.Shifted.{shifted_places, shifted_is_mapping}
+use Rattle.x86_64_c.specs.AddressSpaces.{layout_given, layouts_given, shared_in, space_at, FitTogether, SpacesFit, EachMayBeUsed, RequestsKeepSpaces, ChangesKeepSpaces, OthersStay, RequestsKeepOthers}
+use Rattle.x86_64.specs.Asked.{machine_call}
+use Rattle.x86_64.specs.Replies.{Reply}
+use Rattle.x86_64.specs.Runs.{AfterStep}
+use Rattle.x86_64_c.specs.Given.{bad_hierarchy}
+use Rattle.x86_64_c.specs.PoolCalls.{Loan, loan, Executes, bad_call, bad_pool, Request}
+use Rattle.x86_64_c.specs.Validity.{test_status, TellsWhether}
+use Rattle.x86_64_c.specs.declared.given.Hierarchy.{Hierarchy as Given}
+use Rattle.x86_64_c.proofs.Arguments.{four_or_five}
+use Rattle.x86_64_c.proofs.SpaceArguments.{tells}
+use Rattle.x86_64_c.proofs.EntryChanges.{gives, plain}
+
+-- ---- the test
+
+module _ (first levels : ℕ) (m : Memory) (roots : List ℕ) where
+  same_layouts : layouts_of levels (shifted_places first) m (spaces_at roots) ≡ layouts_given first levels roots
+  same_layouts = map-map (layout_of levels (shifted_places first) m) space_at roots
+
+  same_roots : roots_of (spaces_at roots) ≡ roots
+  same_roots = map-map (λ (s : Space). s.root) space_at roots ∙ map-id roots
+
+module _ (shared : ℕ → Bool) (first levels : ℕ) (roots : List ℕ) (lent : Loan) where
+  abbrev Tested : Type 0
+  Tested = ShareWithRoom shared (spaces_in levels (shifted_places first) (numbered lent.tables) (spaces_at roots)) (length lent.array) (stacked lent.array lent.free)
+
+  given_fit : Tested → SpacesFit shared first levels roots lent
+  given_fit x = record {
+    each_once = subst EachOnce (same_roots first levels (numbered lent.tables) roots) x.0;
+    own = x.1.own;
+    own_roots = λ root i. x.1.roots (direct_at levels (shifted_places first) root)
+        (subst (λ ls. In ls (direct_at levels (shifted_places first) root)) (sym (same_layouts first levels (numbered lent.tables) roots))
+        (in_map (λ root. direct_at levels (shifted_places first) root) roots root i));
+    fit = record {
+      room = x.1.few;
+      are_spaces = subst (AreSpaces shared (numbered lent.tables) (is_in x.1.own) (stacked lent.array lent.free)) (same_layouts first levels (numbered lent.tables) roots) x.1.spaces;
+    };
+  }
+
+  tested_fit : SpacesFit shared first levels roots lent → Tested
+  tested_fit x = (
+    subst EachOnce (sym (same_roots first levels (numbered lent.tables) roots)) x.each_once,
+    record {
+      own = x.own;
+      few = x.fit.room;
+      roots = λ a i.
+          let from = from_map (λ root. direct_at levels (shifted_places first) root) roots a
+          (subst (λ ls. In ls a) (same_layouts first levels (numbered lent.tables) roots) i) in
+          subst (λ (a : Layout). is_in x.own a.root ≡ true) from.2 (x.own_roots from.0 from.1);
+      spaces = subst (AreSpaces shared (numbered lent.tables) (is_in x.own) (stacked lent.array lent.free)) (sym (same_layouts first levels (numbered lent.tables) roots)) x.fit.are_spaces;
+    },
+  )
+
+  fits_given : Tested ↔ SpacesFit shared first levels roots lent
+  fits_given = (given_fit, tested_fit)
+
+-- what the test tells, said of what the caller handed in
+pub told : (first levels from to : ℕ) (roots : List ℕ) (lent : Loan) (shared : SharedIndices) (places : Places) (m : Memory) → shared ≡ record { from = from; to = to } → places ≡ shifted_places first → m ≡ numbered lent.tables
+    → (passed : Bool) (status : ℕ) → status ≡ test_status passed
+    → (IsTrue passed ↔ ShareWithRoom (indices_of shared) (spaces_in levels places m (spaces_at roots)) (length lent.array) (stacked lent.array lent.free))
+    → TellsWhether (SpacesFit (shared_in from to) first levels roots lent) status
+told first levels from to roots lent shared places m same at tables passed status is means =
+    tells passed status is
+    (subst (λ m. IsTrue passed ↔ ShareWithRoom (shared_in from to) (spaces_in levels (shifted_places first) m (spaces_at roots)) (length lent.array) (stacked lent.array lent.free)) tables
+    (subst (λ places. IsTrue passed ↔ ShareWithRoom (shared_in from to) (spaces_in levels places m (spaces_at roots)) (length lent.array) (stacked lent.array lent.free)) at
+    (subst (λ s. IsTrue passed ↔ ShareWithRoom (indices_of s) (spaces_in levels places m (spaces_at roots)) (length lent.array) (stacked lent.array lent.free)) same means)))
+    (fits_given (shared_in from to) first levels roots lent)
+
+-- ---- calls on one of them
+
+none_first : (a b : Option ℕ) → option_or a b ≡ None → a ≡ None
+none_first None b none = refl
+none_first (Some x) b none = none
+
+-- a hierarchy with no wrong argument has levels
+has_levels : (h : Given) (n : ℕ) → bad_hierarchy h n ≡ None → 0 < h.levels
+has_levels h n good = ⊎_elim (λ four. omega (arith, four)) (λ five. omega (arith, five)) (four_or_five h n good)
+
+pub each_may_be_used : EachMayBeUsed
+each_may_be_used own shared spaces lent fit h member =
+    let fits = fit.are_spaces.fits (layout_given h) member in
+    (λ request. record { room = fit.room; fits = λ good. fits }, λ wrong. record { room = fit.room; fits = λ good. fits })
+
+module _ (stay : SpacesStay) (own : List ℕ) (shared : ℕ → Bool) (spaces : List Layout) (h : Given) (member : In spaces (layout_given h)) where
+  kept : (lent after : Loan) → FitTogether own shared spaces lent → 0 < h.levels → length after.array ≡ length lent.array
+      → KeepsPool (layout_given h) (is_in own) (numbered lent.tables) (stacked lent.array lent.free) (numbered after.tables) (stacked after.array after.free)
+      → KeepsRootEntries shared (layout_given h) (numbered lent.tables) (numbered after.tables) → FitTogether own shared spaces after
+  kept lent after fit some long keeps entries = record {
+    room = let few = fit.room in omega (arith, few, long);
+    are_spaces = stay shared spaces (layout_given h) member (shifted_is_mapping h.first) some (is_in own) (numbered lent.tables) (numbered after.tables) _ _ fit.are_spaces keeps entries;
+  }
+
+  executed : (lent after : Loan) → FitTogether own shared spaces lent → (request : Request) (status : ℕ) → Executes own h lent request status after
+      → KeepsRootEntries shared (layout_given h) (numbered lent.tables) (numbered after.tables) → (wrong : Option ℕ) → bad_call h lent request ≡ wrong → FitTogether own shared spaces after
+  executed lent after fit request status done entries None good =
+      let right = none_first (bad_hierarchy h (length lent.tables)) _ (none_first (bad_pool h (length lent.tables) (length lent.array) lent.free) _ good) in
+      kept lent after fit (has_levels h (length lent.tables) right) done.room (done.runs good).keeps entries
+  executed lent after fit request status done entries (Some why) wrong = subst (FitTogether own shared spaces) (sym (done.bad why wrong).1) fit
+
+pub requests_keep_spaces : SpacesStay → RequestsKeepSpaces
+requests_keep_spaces stay own shared spaces lent after fit h member request status done entries = executed stay own shared spaces h member lent after fit request status done entries (bad_call h lent request) refl
+
+pub changes_keep_spaces : SpacesStay → ChangesKeepSpaces
+changes_keep_spaces stay own shared spaces tables now array free fit h some member call answer status done entries =
+    kept stay own shared spaces h member (loan tables array free) (loan now array free) fit some refl
+    (done.keeps (is_in own) (stacked array free) (fit.are_spaces.fits (layout_given h) member)) entries
+
+-- ---- requests that avoid the shared indices
+
+module _ (stay : SpacesStay) (halves : SharedHalvesStay) (below : CallsKeepBelow) (own : List ℕ) (shared : ℕ → Bool) (spaces : List Layout) (h : Given) (member : In spaces (layout_given h))
+    (lent after : Loan) (fit : FitTogether own shared spaces lent) (request : Request) (status : ℕ) (done : Executes own h lent request status after)
+    (is_call : IsCall h.levels (machine_call h.levels (request.call h.levels))) (avoids : Avoids h.levels shared (machine_call h.levels (request.call h.levels))) where
+  kept_others : (wrong : Option ℕ) → bad_call h lent request ≡ wrong → FitTogether own shared spaces after × OthersStay spaces h.root (numbered lent.tables) (numbered after.tables)
+  kept_others None good =
+      let one = layout_given h in
+      let right = none_first (bad_hierarchy h (length lent.tables)) _ (none_first (bad_pool h (length lent.tables) (length lent.array) lent.free) _ good) in
+      let some = has_levels h (length lent.tables) right in
+      let runs = done.runs good in
+      let led = sym (ap (λ (x : AfterStep Reply). x.state) runs.step) in
+      let fits = fit.are_spaces.fits one member in
+      let kept_below = below shared one plain put_first gives (is_in own) (numbered lent.tables) (numbered after.tables) _ _
+      (machine_call h.levels (request.call h.levels) ∷ []) (is_call, tt) fits led (avoids, tt) in (
+        kept stay own shared spaces h member lent after fit some done.room runs.keeps (λ i s. kept_below (i ∷ []) s),
+        λ other i apart. (halves shared one other (shifted_is_mapping h.first) some (is_in own) (numbered lent.tables) (numbered after.tables) _ _ fits runs.keeps kept_below
+            (fit.are_spaces.share one other member i apart)).1,
+      )
+  kept_others (Some why) wrong =
+      let same = (done.bad why wrong).1 in
+      (subst (FitTogether own shared spaces) (sym same) fit, λ other i apart. ap (λ (l : Loan). paths (other laid_in numbered l.tables)) same)
+
+pub requests_keep_others : SpacesStay → SharedHalvesStay → CallsKeepBelow → RequestsKeepOthers
+requests_keep_others stay halves below own shared spaces lent after fit h member request status done is_call avoids =
+    kept_others stay halves below own shared spaces h member lent after fit request status done is_call avoids (bad_call h lent request) refl

@@ -1,0 +1,14 @@
+use Rattle.x86_64_c.proofs.TogetherFit.{each_may_be_used, requests_keep_spaces, changes_keep_spaces, requests_keep_others}
+use Rattle.x86_64_c.proofs.address_spaces.calls_keep_spaces.Goals as goal
+
+pub returns-clause-used : goal.returns-clause-used
+returns-clause-used c = each_may_be_used
+
+pub returns-clause-requests : goal.returns-clause-requests
+returns-clause-requests c = requests_keep_spaces c.spaces_stay.ensures
+
+pub returns-clause-changes : goal.returns-clause-changes
+returns-clause-changes c = changes_keep_spaces c.spaces_stay.ensures
+
+pub returns-clause-others : goal.returns-clause-others
+returns-clause-others c = requests_keep_others c.spaces_stay.ensures c.shared_halves_stay.ensures c.calls_keep_what_they_avoid.ensures

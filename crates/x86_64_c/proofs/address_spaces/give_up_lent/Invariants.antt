@@ -1,0 +1,4 @@
+use Rattle.x86_64_c.proofs.address_spaces.give_up_lent.Given as goal
+
+abbrev pub ghost-of : goal.ghost-of
+ghost-of g a = g.own

@@ -1,0 +1,15 @@
+use Rattle.std.proofs.Common.{sym, ap, ◌∙◌, length, arith}
+use Rattle.std.specs.FinMap.{len}
+use Rattle.std.proofs.lemmas.List.{length-take-le}
+use Rattle.x86_64_c.specs.PoolCalls.{loan}
+use Rattle.x86_64_c.proofs.Arguments.{counted}
+use Rattle.x86_64_c.proofs.TogetherFit.{told}
+use Rattle.x86_64_c.proofs.address_spaces.x64_spaces_fit.Goals as goal
+
+pub fit-passed-requires-clause-marks : goal.fit-passed-requires-clause-marks
+fit-passed-requires-clause-marks c = length-take-le (length c.args.tables.now) c.args.marks.now (omega (arith, c.if-marks-count.false)) ∙ sym (ap len c.new-memory.ensures.tables ∙ counted c.args.tables.now)
+
+pub returns-clause-fit : goal.returns-clause-fit
+returns-clause-fit c = λ good.
+    told c.args.first c.args.levels c.args.shared_from c.args.shared_to c.args.roots.now (loan c.args.tables.now c.args.pool.now c.args.free_count) c.in-Some.shared _ _ c.in-Some.ensures.some c.new-mapping.ensures
+    c.new-memory.ensures.tables c.fit-passed.result c.status_of_test.result c.status_of_test.ensures c.fit-passed.ensures
