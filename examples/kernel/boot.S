@@ -1,20 +1,18 @@
 /*
  * Starts the kernel: from 32-bit mode without paging to 64-bit mode at the kernel's own addresses. Then `run`, which lets the processor
- * run other code, and the entry points of the exceptions and the interrupt by which that ends.
+ * run other code, and the entry points of the exceptions and the interrupt that end this.
  */
 #include "kernel.h"
 
-#ifdef WITH_SSE /* for the build of the library for programs: OSFXSR and OSXMMEXCPT */
-#define SSE 0x600
-#else
-#define SSE 0
+#ifndef CR4
+#define CR4 0x20 /* PAE */
 #endif
 
         .section .boot, "awx"
         .align 4
-        .long 0x1badb002, 0, -0x1badb002 /* the header by which QEMU knows a multiboot kernel */
+        .long 0x1badb002, 0, -0x1badb002 /* what a multiboot loader looks for */
 
-/* The tables of the start: the lowest GiB of memory at 0, at DIRECT and at KERNEL. The kernel soon has others. */
+/* The tables of the start: the lowest GiB of memory at 0, at DIRECT and at KERNEL. The kernel soon makes others. */
         .align 4096
 start_5: .quad start_4 + 3
         .fill 510, 8, 0
@@ -36,33 +34,33 @@ start_2: .set entry, 0x83
         .code32
         .globl start
 start:
-        cli
-        mov %ebx, %edi /* the multiboot information */
+        mov %ebx, %edi /* what the multiboot loader tells */
         mov $7, %eax
         xor %ecx, %ecx
         cpuid
+        mov $CR4, %eax
         mov $start_4, %ebx
-        mov $(0x20 | SSE), %eax /* PAE */
-        test $0x10000, %ecx     /* five levels are used if the processor has them */
+        mov $4, %esi        /* levels of tables: five, if the processor can */
+        test $0x10000, %ecx
         jz paging
-        mov $start_5, %ebx
         or $0x1000, %eax /* LA57 */
+        mov $start_5, %ebx
+        mov $5, %esi
 paging:
         mov %eax, %cr4
         mov %ebx, %cr3
-        mov $0xc0000080, %ecx /* EFER: LME, NXE */
+        mov $0xc0000080, %ecx /* EFER */
         rdmsr
-        or $0x900, %eax
+        or $0x900, %eax /* NXE, LME */
         wrmsr
         mov %cr0, %eax
-        or $0x80010003, %eax /* PG, WP, MP, PE */
+        or $0x80010001, %eax /* PG, WP, PE */
         mov %eax, %cr0
-        lgdt start_descriptors
+        lgdt start_segments
         ljmp $CODE, $start_64
-start_descriptors:
+start_segments:
         .word 7 * 8 - 1
-        .long descriptors - KERNEL
-
+        .long segments - KERNEL
         .code64
 start_64:
         movabs $at_kernel, %rax
@@ -70,19 +68,16 @@ start_64:
 
         .text
 at_kernel:
-        lgdt all_descriptors
+        lgdt all_segments
         mov $DATA, %eax
         mov %eax, %ss
-        mov $stack_top, %rsp
-        mov %cr4, %rax
-        or $0x80, %eax /* PGE */
-        mov %rax, %cr4
+        mov $stack_end, %rsp
         mov $task, %rax
-        mov %ax, task_descriptor + 2
+        mov %ax, task_segment + 2
         shr $16, %rax
-        mov %al, task_descriptor + 4
-        mov %ah, task_descriptor + 7
-        mov $(task_descriptor - descriptors), %eax
+        mov %al, task_segment + 4
+        mov %ah, task_segment + 7
+        mov $(task_segment - segments), %eax
         ltr %ax
         call kernel_main
 
@@ -95,19 +90,21 @@ run:
         mov %rsp, kernel_stack
         lea REGISTERS_SIZE(%rdi), %rax
         mov %rax, task_stack
-        mov %rdi, %rsp
+        lea 16(%rdi), %rsp
         .irp register, r15, r14, r13, r12, r11, r10, r9, r8, rbp, rdi, rsi, rdx, rcx, rbx, rax
         pop %\register
         .endr
-        add $16, %rsp
+        add $16, %rsp /* the vector and the code */
         iretq
 
-/* Ends run. The processor has pushed where it was at the end of struct registers, and an entry point a code and the vector. */
+/* Ends run. The processor has pushed where it was to the end of struct registers, and an entry point has pushed the vector. */
 trapped:
         .irp register, rax, rbx, rcx, rdx, rsi, rdi, rbp, r8, r9, r10, r11, r12, r13, r14, r15
         push %\register
         .endr
-        mov %rsp, %rdi
+        mov %cr2, %rax
+        push %rax
+        lea -8(%rsp), %rdi
         xor %esp, %esp
         xchg %rsp, kernel_stack
         test %rsp, %rsp
@@ -117,10 +114,10 @@ trapped:
         .endr
         ret
 in_kernel:
-        mov $stack_top, %rsp
+        mov $stack_end, %rsp
         call kernel_faulted
 
-/* The entry points, 16 bytes apart: 32 exceptions, and the interrupt SYSTEM_CALL. Some exceptions push a code themselves. */
+/* The entry points, 16 bytes apart: 32 exceptions, of which some push a code themselves, and SYSTEM_CALL. */
         .globl entry_points
         .align 16
 entry_points:
@@ -135,10 +132,10 @@ entry_points:
         .set number, number + 1
         .endr
 
-/* Code that makes an access at %rdi for the judge, and is mapped for ring 3, too. */
-        .globl access_code, write_code
+/* Code that reads or writes at %rdi for the judge. It has a page for itself, which ring 3 can use, too. */
+        .globl judge_code, write_code
         .align 4096
-access_code:
+judge_code:
         mov (%rdi), %rax
         int $SYSTEM_CALL
 write_code:
@@ -147,29 +144,22 @@ write_code:
         .align 4096
 
         .data
-        .align 8
-descriptors:
-        .quad 0
-        .quad 0x00209b0000000000 /* CODE */
-        .quad 0x00cf93000000ffff /* DATA */
-        .quad 0x00cff3000000ffff /* USER_DATA */
-        .quad 0x0020fb0000000000 /* USER_CODE */
-task_descriptor:
-        .quad 0x0000890000000067, KERNEL >> 32 /* of struct task, whose address start_64 fills in */
-all_descriptors:
-        .word . - descriptors - 1
-        .quad descriptors
-kernel_stack: /* that of the kernel while other code runs, or 0 */
-        .quad 0
-task:
-        .fill 36, 1, 0
-task_stack: /* IST1: where the processor pushes */
-        .quad stack_top
+segments:
+        .quad 0, 0x00209b0000000000, 0x00cf93000000ffff /* CODE and DATA */
+        .quad 0x00cff3000000ffff, 0x0020fb0000000000    /* USER_DATA and USER_CODE */
+task_segment:
+        .quad 0x0000890000000067, KERNEL >> 32 /* at_kernel fills in the rest of the address of the task */
+all_segments:
+        .word . - segments - 1
+        .quad segments
+kernel_stack: .quad 0 /* while other code runs, where the kernel's stack is */
+task:   .fill 36, 1, 0
+task_stack: .quad stack_end /* IST1: where the processor pushes */
         .fill 58, 1, 0
         .word 104
 
         .bss
         .align 16
         .skip 16384
-stack_top:
+stack_end:
         .section .note.GNU-stack, "", @progbits

@@ -1,48 +1,34 @@
-/*
- * The program that processes run, in ring 3.
- */
+/* The program that each process runs in ring 3. */
 #include "kernel.h"
 
-/* In the heap: a word, and later a range of pages that are mapped at once. */
-static volatile uint64_t *const word = (uint64_t *)HEAP, *const range = (uint64_t *)(HEAP + 0x100000);
-enum { PAGES = 600, WORDS_PER_PAGE = 512 };
+static volatile uint64_t *const first_word = (uint64_t *)HEAP, *const last_word = (uint64_t *)HEAP_END - 1;
 
-static uint64_t call(uint64_t number, uint64_t first, uint64_t second) {
-    __asm__ volatile("int %3" : "+a"(number) : "D"(first), "S"(second), "i"(SYSTEM_CALL) : "memory");
+static uint64_t call(uint64_t number, uint64_t argument) {
+    __asm__ volatile("int %2" : "+a"(number) : "D"(argument), "i"(SYSTEM_CALL) : "memory");
     return number;
 }
 
-/* Reads a word, and tells the kernel. */
-static void tell(const volatile uint64_t *place) {
-    call(TELL, (uint64_t)place, *place);
-}
-
-/* Does what no process may do: writes to its code, runs its data, or reads the kernel's memory. */
+/* Does what no process may do: it writes to its code, reads the kernel's memory, or runs its data. */
 static void misbehave(uint64_t kind) {
     if (kind == 0)
-        *(volatile uint64_t *)(uint64_t)program = 0;
+        *(volatile uint64_t *)PROGRAM = 0;
     else if (kind == 1)
-        ((void (*)(void))HEAP)();
+        *(volatile uint64_t *)KERNEL;
     else
-        tell((uint64_t *)KERNEL);
+        ((void (*)(void))HEAP)();
 }
 
 void program(void) {
-    *word = 1;
+    *first_word = 1;
+    *last_word = 2;
     for (uint64_t kind = 0; kind < 3; kind++) {
-        if (call(FORK, 0, 0) == 0) {
-            *word += 10 + kind;
-            tell(word);
+        if (call(FORK, 0) == 0) {
+            *first_word += 10;
+            call(TELL, *first_word + *last_word);
             misbehave(kind);
         }
-        call(YIELD, 0, 0);
-        *word += 1;
-        tell(word);
+        *first_word += 1;
+        call(TELL, *first_word + *last_word);
     }
-    call(MAP, (uint64_t)range, PAGES);
-    range[(PAGES - 1) * WORDS_PER_PAGE] = 7;
-    tell(&range[(PAGES - 1) * WORDS_PER_PAGE]);
-    call(UNMAP, (uint64_t)range, PAGES);
-    tell(&range[(PAGES - 1) * WORDS_PER_PAGE]);
-    call(EXIT, 0, 0);
+    call(EXIT, 0);
 }
