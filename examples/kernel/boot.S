@@ -4,9 +4,7 @@
  */
 #include "kernel.h"
 
-#ifndef CR4
-#define CR4 0x20 /* PAE */
-#endif
+#define CR4 0x20 /* PAE. The library's build for programs needs 0x620, since it uses SSE */
 
         .section .boot, "awx"
         .align 4
@@ -31,8 +29,8 @@ start_2: .set entry, 0x83
         .set entry, entry + 0x200000
         .endr
 
+        .globl start, run, entry_points, judge_code, write_code
         .code32
-        .globl start
 start:
         mov %ebx, %edi /* what the multiboot loader tells */
         mov $7, %eax
@@ -82,7 +80,6 @@ at_kernel:
         call kernel_main
 
 /* void run(struct registers *registers) */
-        .globl run
 run:
         .irp register, rbx, rbp, r12, r13, r14, r15
         push %\register
@@ -118,7 +115,6 @@ in_kernel:
         call kernel_faulted
 
 /* The entry points, 16 bytes apart: 32 exceptions, of which some push a code themselves, and SYSTEM_CALL. */
-        .globl entry_points
         .align 16
 entry_points:
         .set number, 0
@@ -133,7 +129,6 @@ entry_points:
         .endr
 
 /* Code that reads or writes at %rdi for the judge. It has a page for itself, which ring 3 can use, too. */
-        .globl judge_code, write_code
         .align 4096
 judge_code:
         mov (%rdi), %rax

@@ -7,9 +7,6 @@
 /* The memory that pages are mapped to: the second GiB. */
 #define SANDBOX UINT64_C(0x40000000)
 
-/* All bits of entries but those of an address, X64_HUGE_PAGE, and those that decide accesses. */
-#define OTHER_FLAGS (UINT64_C(0x7ff0000000000e00) | X64_GLOBAL | X64_DIRTY | X64_ACCESSED | X64_NO_CACHE | X64_WRITE_THROUGH)
-
 enum { ACCESSES_PER_CALL = 8, MOST_SHOWN = 5, TRAP_FLAG = 0x100 };
 
 extern const uint8_t judge_code[], write_code[];
@@ -33,35 +30,28 @@ static uint64_t some_page(void) {
     return position * X64_SIZE_4KIB;
 }
 
+/* Returns any flags but X64_HUGE_PAGE. */
 static uint64_t some_flags(void) {
-    uint64_t flags = (below(UINT32_MAX) << 32 | below(UINT32_MAX)) & OTHER_FLAGS;
+    uint64_t flags = below(UINT32_MAX) << 52 | (below(UINT32_MAX) & 0xf78);
     flags |= (below(12) ? X64_PRESENT : 0) | (below(4) ? X64_WRITABLE : 0) | (below(4) ? X64_USER_ACCESSIBLE : 0);
-    return flags | (below(10) ? 0 : X64_NO_EXECUTE);
+    return below(10) ? flags & ~X64_NO_EXECUTE : flags;
 }
 
 /* Makes a call on a number of pages, from one on, or on that page alone. */
 static void make_call(const x64_page *page, uint64_t count) {
-    uint64_t frames[64], done = 0, frame = SANDBOX + below(8) * X64_SIZE_2MIB + below(8) * X64_SIZE_4KIB;
+    static uint64_t frames[MOST_PAGES];
     size_t frame_count;
+    uint64_t choice = below(8), frame = SANDBOX + below(8) * X64_SIZE_2MIB + below(8) * X64_SIZE_4KIB;
     x64_map_request request = {*page, frame & ~(page->size - 1), some_flags(), X64_PRESENT | X64_WRITABLE | X64_USER_ACCESSIBLE};
-    switch (below(8)) {
-    case 0:
+    if (choice == 0) {
         update_flags(&space, page, some_flags());
-        break;
-    case 1:
+    } else if (choice == 1) {
         set_table_flags(&space, page, 2 + below(space.levels - 1), some_flags());
-        break;
-    case 2:
-        unmap(&space, page, frames);
-        break;
-    case 3:
-        unmap_range(&space, page, count, frames, &frame_count, &done);
+    } else if (choice == 2) {
+        unmap(&space, page, count, frames, &frame_count);
         clean_up(&space, page->start, below(2) ? page->start : last_page());
-        break;
-    case 4:
-        request.parent_flags = some_flags();
-        __attribute__((fallthrough));
-    default:
+    } else {
+        request.parent_flags = below(4) ? request.parent_flags : some_flags();
         map(&space, &request, count);
     }
 }
@@ -73,18 +63,14 @@ static uint64_t address_near(const x64_page *first, uint64_t count) {
     return (pages[below(4)] + offsets[below(4)]) & (last_page() + X64_SIZE_4KIB - 1);
 }
 
-/* Lets the processor make an access. Before, %rax is a word, which a write writes. */
+/* Lets the processor make an access. Before it %rax is a word, which a write writes. A fetch ends after an instruction. */
 static void let_access(struct registers *registers, const x64_access_request *request, uint64_t word) {
-    bool is_fetch = request->kind == X64_FETCH;
-    uint64_t offset = request->kind == X64_WRITE ? (uint64_t)(write_code - judge_code) : 0;
-    *registers = (struct registers){
-        .rip = is_fetch ? request->address : JUDGE_CODE + offset,
-        .cs = request->user ? USER_CODE : CODE,
-        .ss = request->user ? USER_DATA : DATA,
-        .rflags = is_fetch ? TRAP_FLAG : 0, /* a fetch ends after one instruction */
-        .rdi = request->address,
-        .rax = word,
-    };
+    uint64_t code = JUDGE_CODE + (request->kind == X64_WRITE ? (uint64_t)(write_code - judge_code) : 0);
+    *registers = (struct registers){.rip = code, .cs = CODE, .ss = DATA, .rdi = request->address, .rax = word};
+    if (request->user)
+        registers->cs = USER_CODE, registers->ss = USER_DATA;
+    if (request->kind == X64_FETCH)
+        registers->rip = request->address, registers->rflags = TRAP_FLAG;
     run(registers);
 }
 
@@ -105,8 +91,9 @@ static bool compare(const x64_access_request *request, bool is_falsified) {
     arrived[request->kind]++;
     *place = request->kind == X64_WRITE ? 0 : word;
     let_access(&left, request, request->kind == X64_READ ? 0 : word);
-    return request->kind == X64_FETCH ? left.vector == DEBUG && left.rax == number
-                                      : left.vector == SYSTEM_CALL && left.rax == word && *place == word;
+    bool is_there = *place == word;
+    *place = 0; /* after INVLPG of a large page QEMU 7.2 still runs code that it has translated there, but not if this is overwritten */
+    return is_there && (request->kind == X64_FETCH ? left.vector == DEBUG && left.rax == number : left.vector == SYSTEM_CALL && left.rax == word);
 }
 
 /* Makes and compares so many accesses. Returns the number of differences. */
@@ -130,10 +117,10 @@ uint64_t judge(uint64_t seed, uint64_t accesses, bool is_falsified) {
         if (!compare(&request, is_falsified) && ++differences <= MOST_SHOWN)
             print("judge: a difference: address 0x%lx, kind %lu, user %lu\n", request.address, (uint64_t)request.kind, (uint64_t)request.user);
     }
-    print("judge: %lu accesses: %lu reads, %lu writes, %lu fetches arrive; others fault, by code:", accesses, arrived[0], arrived[1], arrived[2]);
-    for (uint64_t number = 0; number < 32; number++)
-        if (faulted[number] > 0)
-            print(" 0x%lx: %lu", number, faulted[number]);
-    print("; %lu differences\n", differences);
+    print("judge: %lu reads, %lu writes, %lu fetches arrive; the others fault with the codes", arrived[0], arrived[1], arrived[2]);
+    for (uint64_t code = 0; code < 32; code++)
+        if (faulted[code] > 0)
+            print(" 0x%lx: %lu", code, faulted[code]);
+    print("; %lu accesses, %lu differences\n", accesses, differences);
     return differences;
 }

@@ -37,7 +37,7 @@ void *memcpy(void *restrict to, const void *restrict from, size_t count);
 void *memset(void *to, int byte, size_t count);
 
 /* memory.c: the frames of all page tables, how many of them are free, and the kernel's space, after which all others are made */
-enum { TABLES_AT = 0x400000, TABLE_COUNT = 256 };
+enum { TABLES_AT = 0x400000, TABLE_COUNT = 256, MOST_PAGES = 1024 };
 static x64_table *const tables = (x64_table *)(DIRECT + TABLES_AT);
 extern size_t free_tables;
 extern x64_hierarchy kernel_space;
@@ -53,9 +53,7 @@ uint8_t *uses_of(uint64_t frame);
 enum flush { NOTHING, PAGES, TABLES, EVERYTHING };
 extern enum flush left_out;
 uint32_t map(const x64_hierarchy *space, const x64_map_request *request, uint64_t count);
-uint32_t unmap(const x64_hierarchy *space, const x64_page *page, uint64_t *frame);
-uint32_t unmap_range(const x64_hierarchy *space, const x64_page *first, uint64_t count, uint64_t frames[64], size_t *frame_count,
-                     uint64_t *done);
+uint32_t unmap(const x64_hierarchy *space, const x64_page *first, uint64_t count, uint64_t frames[MOST_PAGES], size_t *frame_count);
 uint32_t update_flags(const x64_hierarchy *space, const x64_page *page, uint64_t flags);
 uint32_t set_table_flags(const x64_hierarchy *space, const x64_page *page, uint64_t level, uint64_t flags);
 uint32_t clean_up(const x64_hierarchy *space, uint64_t first, uint64_t last);

@@ -5,27 +5,23 @@
 enum { SHARED_FROM = 256, SHARED_TO = 512 };
 
 enum { FRAMES_AT = 0x800000, FRAMES_END = 0x1000000, MOST_SINGLE_FLUSHES = 32 };
+#define CR4_PGE UINT64_C(0x80)
 
 enum flush left_out = NOTHING;
 x64_hierarchy kernel_space;
 size_t free_tables = TABLE_COUNT;
 static uint64_t pool[TABLE_COUNT];
 
-/* Flushes all that the processor caches, global pages too, by turning CR4.PGE off. Afterwards it is on. */
-static void flush_everything(void) {
-    uint64_t cr4, pge = 0x80;
-    __asm__ volatile("mov %%cr4, %0" : "=r"(cr4));
-    __asm__ volatile("mov %0, %%cr4" : : "r"(cr4 & ~pge) : "memory");
-    __asm__ volatile("mov %0, %%cr4" : : "r"(cr4 | pge) : "memory");
-}
-
 /* Flushes what the library's header says of a call, if it was done, and returns its status. For TABLES the INVLPG of any page does. */
 static uint32_t flush(enum flush due, const x64_page *first, uint64_t count, uint32_t status) {
     if (due == left_out || (status != X64_OK && status != X64_MORE))
         return status;
-    if (due == EVERYTHING || count > MOST_SINGLE_FLUSHES)
-        flush_everything();
-    else
+    if (due == EVERYTHING || count > MOST_SINGLE_FLUSHES) {
+        uint64_t cr4;
+        __asm__ volatile("mov %%cr4, %0" : "=r"(cr4));
+        __asm__ volatile("mov %0, %%cr4" : : "r"(cr4 & ~CR4_PGE) : "memory");
+        __asm__ volatile("mov %0, %%cr4" : : "r"(cr4 | CR4_PGE) : "memory");
+    } else
         for (uint64_t k = 0; k < count; k++)
             __asm__ volatile("invlpg (%0)" : : "r"(first->start + k * first->size) : "memory");
     return status;
@@ -41,14 +37,13 @@ uint32_t map(const x64_hierarchy *space, const x64_map_request *request, uint64_
     return status;
 }
 
-uint32_t unmap(const x64_hierarchy *space, const x64_page *page, uint64_t *frame) {
-    return flush(PAGES, page, 1, x64_unmap(space, tables, TABLE_COUNT, page, frame));
-}
-
-uint32_t unmap_range(const x64_hierarchy *space, const x64_page *first, uint64_t count, uint64_t frames[64], size_t *frame_count,
-                     uint64_t *done) {
-    uint32_t status = x64_unmap_range(space, tables, TABLE_COUNT, first, count, frames, 64, frame_count, done);
-    return flush(PAGES, first, *done, status);
+/* Unmaps pages, at most MOST_PAGES. */
+uint32_t unmap(const x64_hierarchy *space, const x64_page *first, uint64_t count, uint64_t frames[MOST_PAGES], size_t *frame_count) {
+    uint64_t done;
+    *frame_count = 1;
+    uint32_t status = count == 1 ? x64_unmap(space, tables, TABLE_COUNT, first, frames)
+                                 : x64_unmap_range(space, tables, TABLE_COUNT, first, count, frames, MOST_PAGES, frame_count, &done);
+    return flush(PAGES, first, count, status);
 }
 
 uint32_t update_flags(const x64_hierarchy *space, const x64_page *page, uint64_t flags) {
@@ -117,7 +112,7 @@ void make_kernel_space(uint64_t memory_size, uint64_t levels) {
     map_kernel(data_start, data_end, X64_SIZE_4KIB, KERNEL, X64_WRITABLE | X64_NO_EXECUTE);
     check_fit(&kernel_space, 1);
     use_space(&kernel_space);
-    flush_everything();
+    flush(EVERYTHING, NULL, 0, X64_OK); /* CR4.PGE is on from now on */
     print("kernel: %lu MiB of memory, %lu levels; %lu tables are free\n", memory_size >> 20, levels, (uint64_t)free_tables);
 }
 

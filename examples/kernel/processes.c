@@ -2,7 +2,7 @@
 #include "kernel.h"
 
 #define STACK_END 0x7ffffffff000
-enum { PAGES_AT_START = 600, WAS_PRESENT = 1, WAS_WRITE = 2, WAS_FETCH = 16 };
+enum { AREA_COUNT = 3, PAGES_AT_START = 600, WAS_PRESENT = 1, WAS_WRITE = 2, WAS_FETCH = 16 };
 
 struct process {
     struct registers registers;
@@ -13,31 +13,25 @@ struct process {
 /* The addresses that a process may touch, and the flags of pages there. */
 static const struct area {
     uint64_t start, end, flags;
-} areas[] = {
-    {PROGRAM, PROGRAM + 0x1000, X64_PRESENT | X64_USER_ACCESSIBLE},
+} areas[AREA_COUNT] = {
+    {PROGRAM, PROGRAM + X64_SIZE_4KIB, X64_PRESENT | X64_USER_ACCESSIBLE},
     {HEAP, HEAP_END, X64_PRESENT | X64_USER_ACCESSIBLE | X64_WRITABLE | X64_NO_EXECUTE},
     {STACK_END - 0x10000, STACK_END, X64_PRESENT | X64_USER_ACCESSIBLE | X64_WRITABLE | X64_NO_EXECUTE},
 };
-enum { AREA_COUNT = sizeof areas / sizeof *areas };
 
 static void map_pages(const struct process *process, uint64_t start, uint64_t frame, uint64_t count, uint64_t flags) {
     x64_map_request request = {{start, X64_SIZE_4KIB}, frame, flags, X64_PRESENT | X64_WRITABLE | X64_USER_ACCESSIBLE};
-    check("x64_map_range", map(&process->space, &request, count));
+    check("x64_map", map(&process->space, &request, count));
 }
 
-/* Unmaps the pages from one up to another, and lets go of their frames. */
+/* Unmaps the pages from an address up to another, and lets go of their frames. */
 static void unmap_pages(const struct process *process, uint64_t start, uint64_t end) {
-    uint64_t frames[64], done;
-    size_t frame_count;
-    uint32_t status;
-    x64_page page = {start, X64_SIZE_4KIB};
-    do {
-        status = unmap_range(&process->space, &page, (end - page.start) / page.size, frames, &frame_count, &done);
-        for (size_t k = 0; k < frame_count; k++)
-            --*uses_of(frames[k]);
-        page.start += done * page.size;
-    } while (status == X64_MORE);
-    check("x64_unmap_range", status);
+    static uint64_t frames[MOST_PAGES];
+    size_t count;
+    x64_page first = {start, X64_SIZE_4KIB};
+    check("x64_unmap_range", unmap(&process->space, &first, (end - start) / first.size, frames, &count));
+    while (count > 0)
+        --*uses_of(frames[--count]);
 }
 
 /* Lets a process write to a page: to a copy of it, unless nobody shares the frame any more. */
@@ -58,17 +52,16 @@ static const char *copy_on_write(const struct process *process, const x64_page *
 /* Handles a page fault. Returns what is done with the page, or null if the access isn't allowed. */
 static const char *handle_fault(const struct process *process, uint64_t address, uint64_t code) {
     x64_page page = {address & ~(X64_SIZE_4KIB - 1), X64_SIZE_4KIB};
-    for (const struct area *area = areas; area < areas + AREA_COUNT; area++) {
-        if (address < area->start || address >= area->end)
-            continue;
-        if (((code & WAS_WRITE) && !(area->flags & X64_WRITABLE)) || ((code & WAS_FETCH) && (area->flags & X64_NO_EXECUTE)))
+    const struct area *area = areas;
+    while (address < area->start || address >= area->end)
+        if (++area == areas + AREA_COUNT)
             return NULL;
-        if (code & WAS_PRESENT)
-            return copy_on_write(process, &page, area->flags);
-        map_pages(process, page.start, take_frames(1), 1, area->flags);
-        return "is mapped";
-    }
-    return NULL;
+    if (((code & WAS_WRITE) && !(area->flags & X64_WRITABLE)) || ((code & WAS_FETCH) && (area->flags & X64_NO_EXECUTE)))
+        return NULL;
+    if (code & WAS_PRESENT)
+        return copy_on_write(process, &page, area->flags);
+    map_pages(process, page.start, take_frames(1), 1, area->flags);
+    return "is mapped";
 }
 
 /* Makes a process that shares all pages with another one. Neither may write to them any more. */
@@ -79,16 +72,43 @@ static struct process fork(const struct process *process) {
     size_t count;
     while (x64_mappings(&process->space, tables, TABLE_COUNT, next, &mapping, 1, &count, &next) == X64_MORE && mapping.start < DIRECT) {
         x64_page page = {mapping.start, mapping.size};
-        uint64_t flags = mapping.flags & ~X64_WRITABLE;
-        check("x64_update_flags", update_flags(&process->space, &page, flags));
-        map_pages(&child, page.start, mapping.frame, 1, flags);
+        check("x64_update_flags", update_flags(&process->space, &page, mapping.flags & ~X64_WRITABLE));
+        map_pages(&child, page.start, mapping.frame, 1, mapping.flags & ~X64_WRITABLE);
         ++*uses_of(mapping.frame);
     }
     child.registers.rax = 0;
+    print("process %lu: makes process %lu; %lu tables are free\n", process->number, child.number, (uint64_t)free_tables);
     return child;
 }
 
-static void end_process(const struct process *process) {
+static void run_process(struct process *process);
+
+/* Handles what ended the run of a process. Returns whether it goes on, after a child that it makes. */
+static bool handle(struct process *process) {
+    struct registers *left = &process->registers;
+    if (left->vector != SYSTEM_CALL) {
+        const char *done = left->vector == PAGE_FAULT ? handle_fault(process, left->address, left->code) : NULL;
+        print("process %lu: exception %lu, code 0x%lx, at 0x%lx: %s\n", process->number, left->vector, left->code, left->address,
+              done ? done : "not allowed");
+        return done;
+    }
+    if (left->rax == FORK) {
+        struct process child = fork(process);
+        run_process(&child);
+        use_space(&process->space);
+        left->rax = child.number;
+        return true;
+    }
+    print("process %lu: %s %lu\n", process->number, left->rax == TELL ? "tells" : "exits with", left->rdi);
+    return left->rax == TELL;
+}
+
+/* Runs a process to its end. */
+static void run_process(struct process *process) {
+    use_space(&process->space);
+    do
+        run(&process->registers);
+    while (handle(process));
     use_space(&kernel_space);
     for (const struct area *area = areas; area < areas + AREA_COUNT; area++)
         unmap_pages(process, area->start, area->end);
@@ -96,36 +116,13 @@ static void end_process(const struct process *process) {
     print("process %lu: ended; %lu tables are free\n", process->number, (uint64_t)free_tables);
 }
 
-/* Runs a process until it exits or does what it may not. A child that it forks runs first. */
-static void run_process(struct process *process) {
-    struct registers *left = &process->registers;
-    use_space(&process->space);
-    for (run(left); left->vector != SYSTEM_CALL || left->rax != EXIT; run(left)) {
-        if (left->vector == SYSTEM_CALL && left->rax == FORK) {
-            struct process child = fork(process);
-            print("process %lu: forks; %lu tables are free\n", process->number, (uint64_t)free_tables);
-            left->rax = child.number;
-            run_process(&child);
-            use_space(&process->space);
-        } else if (left->vector == SYSTEM_CALL) {
-            print("process %lu: tells %lu\n", process->number, left->rdi);
-        } else {
-            const char *done = left->vector == PAGE_FAULT ? handle_fault(process, left->address, left->code) : NULL;
-            print("process %lu: exception %lu, code 0x%lx, at 0x%lx: %s\n", process->number, left->vector, left->code, left->address,
-                  done ? done : "not allowed");
-            if (!done)
-                break;
-        }
-    }
-    end_process(process);
-}
-
+/* Makes the first process and runs it. */
 void run_processes(void) {
     extern const uint8_t program_frame[];
     struct process first = {.space = new_space(), .number = 1};
     first.registers = (struct registers){.rip = (uint64_t)program, .cs = USER_CODE, .rsp = STACK_END - 8, .ss = USER_DATA};
     map_pages(&first, PROGRAM, (uint64_t)program_frame, 1, areas[0].flags);
-    ++*uses_of((uint64_t)program_frame);
     map_pages(&first, HEAP, take_frames(PAGES_AT_START), PAGES_AT_START, areas[1].flags);
+    ++*uses_of((uint64_t)program_frame);
     run_process(&first);
 }

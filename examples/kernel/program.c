@@ -8,27 +8,17 @@ static uint64_t call(uint64_t number, uint64_t argument) {
     return number;
 }
 
-/* Does what no process may do: it writes to its code, reads the kernel's memory, or runs its data. */
-static void misbehave(uint64_t kind) {
-    if (kind == 0)
-        *(volatile uint64_t *)PROGRAM = 0;
-    else if (kind == 1)
-        *(volatile uint64_t *)KERNEL;
-    else
-        ((void (*)(void))HEAP)();
-}
-
 void program(void) {
     *first_word = 1;
     *last_word = 2;
-    for (uint64_t kind = 0; kind < 3; kind++) {
-        if (call(FORK, 0) == 0) {
-            *first_word += 10;
-            call(TELL, *first_word + *last_word);
-            misbehave(kind);
-        }
-        *first_word += 1;
+    for (int k = 0; k < 3; k++) {
+        bool is_child = call(FORK, 0) == 0;
+        *first_word += is_child ? 10 : 1;
         call(TELL, *first_word + *last_word);
+        if (is_child && k < 2)
+            *(volatile uint64_t *)(k == 0 ? PROGRAM : KERNEL) = 0; /* not allowed: its code is read-only, the kernel isn't its own */
+        else if (is_child)
+            ((void (*)(void))HEAP)(); /* not allowed: its data can't be run */
     }
     call(EXIT, 0);
 }
