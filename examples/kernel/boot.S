@@ -1,12 +1,7 @@
-/*
- * Starts the kernel: from 32-bit mode without paging to 64-bit mode at the kernel's own addresses. Then `run`, which lets the processor
- * run other code, and the entry points of the exceptions and the interrupt that end this.
- */
+/* Starts the kernel, from 32-bit mode without paging; and lets the processor run other code, until an exception or an interrupt. */
 #include "kernel.h"
 
-#define CR4 0x20 /* PAE. The library's build for programs needs 0x620, since it uses SSE */
-
-        .section .boot, "awx"
+        .section .boot, "ax"
         .align 4
         .long 0x1badb002, 0, -0x1badb002 /* what a multiboot loader looks for */
 
@@ -29,17 +24,17 @@ start_2: .set entry, 0x83
         .set entry, entry + 0x200000
         .endr
 
-        .globl start, run, entry_points, judge_code, write_code
+        .globl start, run, entry_points, judge_code, write_code, task
         .code32
 start:
         mov %ebx, %edi /* what the multiboot loader tells */
         mov $7, %eax
         xor %ecx, %ecx
         cpuid
-        mov $CR4, %eax
+        mov $CR4, %eax /* PAE (tools/kernel_example) */
         mov $start_4, %ebx
-        mov $4, %esi        /* levels of tables: five, if the processor can */
-        test $0x10000, %ecx
+        mov $4, %esi /* levels of tables */
+        test $0x10000, %ecx /* can the processor use five? */
         jz paging
         or $0x1000, %eax /* LA57 */
         mov $start_5, %ebx
@@ -70,16 +65,10 @@ at_kernel:
         mov $DATA, %eax
         mov %eax, %ss
         mov $stack_end, %rsp
-        mov $task, %rax
-        mov %ax, task_segment + 2
-        shr $16, %rax
-        mov %al, task_segment + 4
-        mov %ah, task_segment + 7
-        mov $(task_segment - segments), %eax
+        mov $TASK, %eax
         ltr %ax
         call kernel_main
 
-/* void run(struct registers *registers) */
 run:
         .irp register, rbx, rbp, r12, r13, r14, r15
         push %\register
@@ -115,9 +104,9 @@ in_kernel:
         call kernel_faulted
 
 /* The entry points, 16 bytes apart: 32 exceptions, of which some push a code themselves, and SYSTEM_CALL. */
+        .set number, 0
         .align 16
 entry_points:
-        .set number, 0
         .rept 33
         .align 16
         .if (number != 8) && ((number < 10) || (number > 14)) && (number != 17) && (number != 21)
@@ -142,8 +131,7 @@ write_code:
 segments:
         .quad 0, 0x00209b0000000000, 0x00cf93000000ffff /* CODE and DATA */
         .quad 0x00cff3000000ffff, 0x0020fb0000000000    /* USER_DATA and USER_CODE */
-task_segment:
-        .quad 0x0000890000000067, KERNEL >> 32 /* at_kernel fills in the rest of the address of the task */
+        .quad task_segment, KERNEL >> 32                /* TASK: the address of the task, in parts (kernel.ld) */
 all_segments:
         .word . - segments - 1
         .quad segments
@@ -157,4 +145,3 @@ task_stack: .quad stack_end /* IST1: where the processor pushes */
         .align 16
         .skip 16384
 stack_end:
-        .section .note.GNU-stack, "", @progbits

@@ -1,18 +1,13 @@
-/*
- * The second mode: makes random calls on the tables that the processor uses and, after each, some accesses in ring 0 and ring 3. It
- * compares where they arrive, or the error codes of their faults, with what x64_access says.
- */
+/* The second mode: random calls on the tables that the processor uses, and accesses, compared with what x64_access says of each. */
 #include "kernel.h"
 
-/* The memory that pages are mapped to: the second GiB. */
-#define SANDBOX UINT64_C(0x40000000)
-
-enum { ACCESSES_PER_CALL = 8, MOST_SHOWN = 5, TRAP_FLAG = 0x100 };
+/* Pages are mapped to the second GiB of memory, the sandbox. */
+enum { SANDBOX = 0x40000000, ACCESSES_PER_CALL = 8, MOST_SHOWN = 5, TRAP_FLAG = 0x100 };
 
 extern const uint8_t judge_code[], write_code[];
 static const x64_controls controls = {.write_protect = true, .no_execute = true, .physical_bits = 52};
 static x64_hierarchy space;
-static uint64_t state, arrived[3], faulted[32];
+static uint64_t state, arrived[3], faulted;
 
 /* Returns a number below a limit, by a fixed rule: xorshift64*. */
 static uint64_t below(uint64_t limit) {
@@ -44,7 +39,7 @@ static void make_call(const x64_page *page, uint64_t count) {
     uint64_t choice = below(8), frame = SANDBOX + below(8) * X64_SIZE_2MIB + below(8) * X64_SIZE_4KIB;
     x64_map_request request = {*page, frame & ~(page->size - 1), some_flags(), X64_PRESENT | X64_WRITABLE | X64_USER_ACCESSIBLE};
     if (choice == 0) {
-        update_flags(&space, page, some_flags());
+        update_flags(&space, page, count, some_flags());
     } else if (choice == 1) {
         set_table_flags(&space, page, 2 + below(space.levels - 1), some_flags());
     } else if (choice == 2) {
@@ -65,7 +60,7 @@ static uint64_t address_near(const x64_page *first, uint64_t count) {
 
 /* Lets the processor make an access. Before it %rax is a word, which a write writes. A fetch ends after an instruction. */
 static void let_access(struct registers *registers, const x64_access_request *request, uint64_t word) {
-    uint64_t code = JUDGE_CODE + (request->kind == X64_WRITE ? (uint64_t)(write_code - judge_code) : 0);
+    uint64_t code = (uint64_t)(request->kind == X64_WRITE ? write_code : judge_code);
     *registers = (struct registers){.rip = code, .cs = CODE, .ss = DATA, .rdi = request->address, .rax = word};
     if (request->user)
         registers->cs = USER_CODE, registers->ss = USER_DATA;
@@ -82,9 +77,9 @@ static bool compare(const x64_access_request *request, bool is_falsified) {
     asked.kind = is_falsified && asked.kind == X64_WRITE ? X64_READ : asked.kind;
     uint32_t status = x64_access(&space, tables, TABLE_COUNT, &controls, &asked, &outcome);
     if (status != X64_OK) {
-        faulted[outcome.code & 31]++;
+        faulted++;
         let_access(&left, request, 0);
-        return status == X64_PAGE_FAULT && left.vector == PAGE_FAULT && left.code == outcome.code && left.address == request->address;
+        return status == X64_PAGE_FAULT && left.vector == PAGE_FAULT && left.code == outcome.code && left.cr2 == request->address;
     }
     volatile uint64_t *place = (uint64_t *)(DIRECT + outcome.address);
     uint64_t number = below(UINT32_MAX), word = number << 8 | 0xb8; /* also code: mov $number, %eax */
@@ -98,12 +93,10 @@ static bool compare(const x64_access_request *request, bool is_falsified) {
 
 /* Makes and compares so many accesses. Returns the number of differences. */
 uint64_t judge(uint64_t seed, uint64_t accesses, bool is_falsified) {
-    x64_map_request code = {{JUDGE_CODE, X64_SIZE_4KIB}, (uint64_t)judge_code - KERNEL, X64_PRESENT | X64_USER_ACCESSIBLE,
-                            X64_PRESENT | X64_WRITABLE | X64_USER_ACCESSIBLE};
     uint64_t count = 0, differences = 0;
-    x64_page page;
+    x64_page page = {(uint64_t)judge_code, X64_SIZE_4KIB};
     state = seed * UINT64_C(0x9e3779b97f4a7c15);
-    check("x64_map", map(&kernel_space, &code, 1));
+    check("x64_update_flags", update_flags(&kernel_space, &page, 1, X64_PRESENT | X64_USER_ACCESSIBLE));
     space = new_space();
     use_space(&space);
     for (uint64_t k = 0; k < accesses; k++) {
@@ -111,16 +104,14 @@ uint64_t judge(uint64_t seed, uint64_t accesses, bool is_falsified) {
             page.size = below(2) ? X64_SIZE_4KIB : below(3) ? X64_SIZE_2MIB : X64_SIZE_1GIB;
             page.start = some_page() & ~(page.size - 1);
             count = page.size == X64_SIZE_1GIB || below(2) ? 1 : 1 + below(500);
-            make_call(&page, count);
+        } else if (k % ACCESSES_PER_CALL == ACCESSES_PER_CALL / 2) {
+            make_call(&page, count); /* half of the accesses come before it, so that something is cached */
         }
         x64_access_request request = {address_near(&page, count), (uint32_t)below(3), below(2), false};
         if (!compare(&request, is_falsified) && ++differences <= MOST_SHOWN)
             print("judge: a difference: address 0x%lx, kind %lu, user %lu\n", request.address, (uint64_t)request.kind, (uint64_t)request.user);
     }
-    print("judge: %lu reads, %lu writes, %lu fetches arrive; the others fault with the codes", arrived[0], arrived[1], arrived[2]);
-    for (uint64_t code = 0; code < 32; code++)
-        if (faulted[code] > 0)
-            print(" 0x%lx: %lu", code, faulted[code]);
-    print("; %lu accesses, %lu differences\n", accesses, differences);
+    check_fit(&space, 2);
+    print("judge: %lu reads, %lu writes, %lu fetches arrive, %lu fault: %lu differences\n", arrived[0], arrived[1], arrived[2], faulted, differences);
     return differences;
 }

@@ -4,6 +4,7 @@
  */
 ENTRY(start)
 KERNEL = 0xffffffff80000000;
+task_segment = 0x0000890000000067 | (task & 0xffffff) << 16 | (task & 0xff000000) << 32;
 SECTIONS {
     .boot 0x100000 : { *(.boot) }
     .program 0x400000 : AT(ALIGN(LOADADDR(.boot) + SIZEOF(.boot), 4096)) { *program.o(.text .text.* .rodata .rodata.*) . = ALIGN(4096); }

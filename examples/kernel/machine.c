@@ -1,7 +1,6 @@
 /* The machine without its memory: the serial line, exceptions, the command line, and the end. */
-#include <stdarg.h>
-
 #include "kernel.h"
+#include <stdarg.h>
 
 enum { SERIAL = 0x3f8, DEBUG_EXIT = 0xf4, IS_GOOD = 16, IS_BAD = 17 };
 
@@ -57,7 +56,7 @@ void check(const char *call, uint32_t status) {
     end(false);
 }
 
-/* Called by boot.S after an exception in the kernel itself. */
+/* Called by boot.S if there was an exception in the kernel itself. */
 void kernel_faulted(const struct registers *registers) {
     print("kernel: exception %lu, code 0x%lx, at 0x%lx\n", registers->vector, registers->code, registers->rip);
     end(false);
@@ -67,10 +66,7 @@ void kernel_faulted(const struct registers *registers) {
 static void set_gates(void) {
     extern const uint8_t entry_points[];
     static uint64_t gates[2 * (SYSTEM_CALL + 1)];
-    const struct __attribute__((packed)) {
-        uint16_t limit;
-        uint64_t base;
-    } pointer = {sizeof gates - 1, (uint64_t)gates};
+    const struct __attribute__((packed)) { uint16_t limit; uint64_t base; } pointer = {sizeof gates - 1, (uint64_t)gates};
     for (uint64_t vector = 0; vector <= SYSTEM_CALL; vector++) {
         uint64_t address = (uint64_t)entry_points + 16 * vector, kind = vector == SYSTEM_CALL ? 0xee01 : 0x8e01;
         gates[2 * vector] = (address & 0xffff) | CODE << 16 | kind << 32 | (address >> 16 & 0xffff) << 48;
@@ -89,10 +85,7 @@ static uint64_t next_number(const char **text) {
     return number;
 }
 
-/*
- * Called by boot.S, with the address of what a multiboot loader tells: the KiBs of memory from 1 MiB on, and the command line. After the
- * name of the kernel this may have the seed of the judge, the number of accesses, what isn't flushed, and 1 if answers are falsified.
- */
+/* Called by boot.S with the address of what a multiboot loader tells: the KiBs of memory from 1 MiB on, and the command line. */
 void kernel_main(uint64_t information_at, uint64_t levels) {
     const uint32_t *information = (const uint32_t *)(DIRECT + information_at);
     const char *text = (const char *)(DIRECT + information[4]);

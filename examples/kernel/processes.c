@@ -2,7 +2,7 @@
 #include "kernel.h"
 
 #define STACK_END 0x7ffffffff000
-enum { AREA_COUNT = 3, PAGES_AT_START = 600, WAS_PRESENT = 1, WAS_WRITE = 2, WAS_FETCH = 16 };
+enum { AREA_COUNT = 3, MOST_PROCESSES = 4, PAGES_AT_START = 600, WAS_PRESENT = 1, WAS_WRITE = 2, WAS_FETCH = 16 };
 
 struct process {
     struct registers registers;
@@ -11,9 +11,7 @@ struct process {
 };
 
 /* The addresses that a process may touch, and the flags of pages there. */
-static const struct area {
-    uint64_t start, end, flags;
-} areas[AREA_COUNT] = {
+static const struct area { uint64_t start, end, flags; } areas[AREA_COUNT] = {
     {PROGRAM, PROGRAM + X64_SIZE_4KIB, X64_PRESENT | X64_USER_ACCESSIBLE},
     {HEAP, HEAP_END, X64_PRESENT | X64_USER_ACCESSIBLE | X64_WRITABLE | X64_NO_EXECUTE},
     {STACK_END - 0x10000, STACK_END, X64_PRESENT | X64_USER_ACCESSIBLE | X64_WRITABLE | X64_NO_EXECUTE},
@@ -31,15 +29,15 @@ static void unmap_pages(const struct process *process, uint64_t start, uint64_t 
     x64_page first = {start, X64_SIZE_4KIB};
     check("x64_unmap_range", unmap(&process->space, &first, (end - start) / first.size, frames, &count));
     while (count > 0)
-        --*uses_of(frames[--count]);
+        uses[frames[--count] / X64_SIZE_4KIB]--;
 }
 
 /* Lets a process write to a page: to a copy of it, unless nobody shares the frame any more. */
 static const char *copy_on_write(const struct process *process, const x64_page *page, uint64_t flags) {
     x64_translation old;
     check("x64_translate", x64_translate(&process->space, tables, TABLE_COUNT, page->start, &old));
-    if (*uses_of(old.frame) == 1) {
-        check("x64_update_flags", update_flags(&process->space, page, flags));
+    if (uses[old.frame / X64_SIZE_4KIB] == 1) {
+        check("x64_update_flags", update_flags(&process->space, page, 1, flags));
         return "may be written to";
     }
     uint64_t frame = take_frames(1);
@@ -72,43 +70,37 @@ static struct process fork(const struct process *process) {
     size_t count;
     while (x64_mappings(&process->space, tables, TABLE_COUNT, next, &mapping, 1, &count, &next) == X64_MORE && mapping.start < DIRECT) {
         x64_page page = {mapping.start, mapping.size};
-        check("x64_update_flags", update_flags(&process->space, &page, mapping.flags & ~X64_WRITABLE));
+        check("x64_update_flags", update_flags(&process->space, &page, 1, mapping.flags & ~X64_WRITABLE));
         map_pages(&child, page.start, mapping.frame, 1, mapping.flags & ~X64_WRITABLE);
-        ++*uses_of(mapping.frame);
+        uses[mapping.frame / X64_SIZE_4KIB]++;
     }
     child.registers.rax = 0;
     print("process %lu: makes process %lu; %lu tables are free\n", process->number, child.number, (uint64_t)free_tables);
     return child;
 }
 
-static void run_process(struct process *process);
-
-/* Handles what ended the run of a process. Returns whether it goes on, after a child that it makes. */
-static bool handle(struct process *process) {
-    struct registers *left = &process->registers;
-    if (left->vector != SYSTEM_CALL) {
-        const char *done = left->vector == PAGE_FAULT ? handle_fault(process, left->address, left->code) : NULL;
-        print("process %lu: exception %lu, code 0x%lx, at 0x%lx: %s\n", process->number, left->vector, left->code, left->address,
-              done ? done : "not allowed");
-        return done;
-    }
-    if (left->rax == FORK) {
-        struct process child = fork(process);
-        run_process(&child);
-        use_space(&process->space);
-        left->rax = child.number;
-        return true;
-    }
-    print("process %lu: %s %lu\n", process->number, left->rax == TELL ? "tells" : "exits with", left->rdi);
-    return left->rax == TELL;
-}
-
-/* Runs a process to its end. */
+/* Runs a process until it exits or does what isn't allowed. A child runs to its end before its parent goes on. */
 static void run_process(struct process *process) {
+    struct registers *left = &process->registers;
+    bool goes_on = true;
     use_space(&process->space);
-    do
-        run(&process->registers);
-    while (handle(process));
+    while (goes_on) {
+        run(left);
+        if (left->vector != SYSTEM_CALL) {
+            const char *done = left->vector == PAGE_FAULT ? handle_fault(process, left->cr2, left->code) : NULL;
+            print("process %lu: exception %lu, code 0x%lx, at 0x%lx: %s\n", process->number, left->vector, left->code, left->cr2,
+                  done ? done : "not allowed");
+            goes_on = done;
+        } else if (left->rax == FORK && process->number < MOST_PROCESSES) {
+            struct process child = fork(process);
+            run_process(&child);
+            use_space(&process->space);
+            left->rax = child.number;
+        } else {
+            print("process %lu: %s %lu\n", process->number, left->rax == TELL ? "tells" : "exits with", left->rdi);
+            goes_on = left->rax == TELL;
+        }
+    }
     use_space(&kernel_space);
     for (const struct area *area = areas; area < areas + AREA_COUNT; area++)
         unmap_pages(process, area->start, area->end);
@@ -123,6 +115,6 @@ void run_processes(void) {
     first.registers = (struct registers){.rip = (uint64_t)program, .cs = USER_CODE, .rsp = STACK_END - 8, .ss = USER_DATA};
     map_pages(&first, PROGRAM, (uint64_t)program_frame, 1, areas[0].flags);
     map_pages(&first, HEAP, take_frames(PAGES_AT_START), PAGES_AT_START, areas[1].flags);
-    ++*uses_of((uint64_t)program_frame);
+    uses[(uint64_t)program_frame / X64_SIZE_4KIB]++;
     run_process(&first);
 }
