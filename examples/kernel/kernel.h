@@ -17,7 +17,6 @@
 #define PAGE_FAULT 14
 #define SYSTEM_CALL 32
 #define REGISTERS_SIZE 192
-
 #ifndef __ASSEMBLER__
 #include "x86_64_paging.h"
 

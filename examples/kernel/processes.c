@@ -22,14 +22,15 @@ static void map_pages(const struct process *process, uint64_t start, uint64_t fr
     check("x64_map", map(&process->space, &request, count));
 }
 
-/* Unmaps the pages from an address up to another, and lets go of their frames. */
-static void unmap_pages(const struct process *process, uint64_t start, uint64_t end) {
+/* Unmaps the pages from an address up to another, and lets go of their frames. Returns how many. */
+static size_t unmap_pages(const struct process *process, uint64_t start, uint64_t end) {
     static uint64_t frames[MOST_PAGES];
     size_t count;
     x64_page first = {start, X64_SIZE_4KIB};
     check("x64_unmap_range", unmap(&process->space, &first, (end - start) / first.size, frames, &count));
-    while (count > 0)
-        uses[frames[--count] / X64_SIZE_4KIB]--;
+    for (size_t k = 0; k < count; k++)
+        uses[frames[k] / X64_SIZE_4KIB]--;
+    return count;
 }
 
 /* Lets a process write to a page: to a copy of it, unless nobody shares the frame any more. */
@@ -102,10 +103,11 @@ static void run_process(struct process *process) {
         }
     }
     use_space(&kernel_space);
+    size_t unmapped = 0;
     for (const struct area *area = areas; area < areas + AREA_COUNT; area++)
-        unmap_pages(process, area->start, area->end);
+        unmapped += unmap_pages(process, area->start, area->end);
     give_up_space(&process->space);
-    print("process %lu: ended; %lu tables are free\n", process->number, (uint64_t)free_tables);
+    print("process %lu: has ended, %lu pages are unmapped; %lu tables are free\n", process->number, unmapped, (uint64_t)free_tables);
 }
 
 /* Makes the first process and runs it. */
@@ -116,5 +118,6 @@ void run_processes(void) {
     map_pages(&first, PROGRAM, (uint64_t)program_frame, 1, areas[0].flags);
     map_pages(&first, HEAP, take_frames(PAGES_AT_START), PAGES_AT_START, areas[1].flags);
     uses[(uint64_t)program_frame / X64_SIZE_4KIB]++;
+    print("process 1: starts with %lu pages; %lu tables are free\n", (uint64_t)PAGES_AT_START + 1, (uint64_t)free_tables);
     run_process(&first);
 }
