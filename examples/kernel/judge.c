@@ -3,7 +3,6 @@
 
 /* Pages are mapped to the second GiB of memory, the sandbox. */
 enum { SANDBOX = 0x40000000, ACCESSES_PER_CALL = 8, MOST_SHOWN = 5, TRAP_FLAG = 0x100 };
-
 extern const uint8_t judge_code[], write_code[];
 static const x64_controls controls = {.write_protect = true, .no_execute = true, .physical_bits = 52};
 static x64_hierarchy space;
@@ -60,12 +59,11 @@ static uint64_t address_near(const x64_page *first, uint64_t count) {
 
 /* Lets the processor make an access. Before it %rax is a word, which a write writes. A fetch ends after an instruction. */
 static void let_access(struct registers *registers, const x64_access_request *request, uint64_t word) {
+    bool is_fetch = request->kind == X64_FETCH;
     uint64_t code = (uint64_t)(request->kind == X64_WRITE ? write_code : judge_code);
-    *registers = (struct registers){.rip = code, .cs = CODE, .ss = DATA, .rdi = request->address, .rax = word};
-    if (request->user)
-        registers->cs = USER_CODE, registers->ss = USER_DATA;
-    if (request->kind == X64_FETCH)
-        registers->rip = request->address, registers->rflags = TRAP_FLAG;
+    *registers = (struct registers){.rip = is_fetch ? request->address : code, .rflags = is_fetch ? TRAP_FLAG : 0,
+                                    .cs = request->user ? USER_CODE : CODE, .ss = request->user ? USER_DATA : DATA,
+                                    .rdi = request->address, .rax = word};
     run(registers);
 }
 
@@ -73,26 +71,29 @@ static void let_access(struct registers *registers, const x64_access_request *re
 static bool compare(const x64_access_request *request, bool is_falsified) {
     x64_access_request asked = *request;
     x64_outcome outcome;
-    struct registers left;
+    struct registers after;
     asked.kind = is_falsified && asked.kind == X64_WRITE ? X64_READ : asked.kind;
     uint32_t status = x64_access(&space, tables, TABLE_COUNT, &controls, &asked, &outcome);
     if (status != X64_OK) {
         faulted++;
-        let_access(&left, request, 0);
-        return status == X64_PAGE_FAULT && left.vector == PAGE_FAULT && left.code == outcome.code && left.cr2 == request->address;
+        let_access(&after, request, 0);
+        return status == X64_PAGE_FAULT && after.vector == PAGE_FAULT && after.code == outcome.code && after.cr2 == request->address;
     }
     volatile uint64_t *place = (uint64_t *)(DIRECT + outcome.address);
     uint64_t number = below(UINT32_MAX), word = number << 8 | 0xb8; /* also code: mov $number, %eax */
     arrived[request->kind]++;
     *place = request->kind == X64_WRITE ? 0 : word;
-    let_access(&left, request, request->kind == X64_READ ? 0 : word);
+    let_access(&after, request, request->kind == X64_READ ? 0 : word);
     bool is_there = *place == word;
-    *place = 0; /* after INVLPG of a large page QEMU 7.2 still runs code that it has translated there, but not if this is overwritten */
-    return is_there && (request->kind == X64_FETCH ? left.vector == DEBUG && left.rax == number : left.vector == SYSTEM_CALL && left.rax == word);
+    *place = 0; /* after INVLPG of a large page QEMU 7.2 still runs code that it found there before, unless this is overwritten */
+    if (request->kind == X64_FETCH)
+        return after.vector == DEBUG && after.rax == number;
+    return after.vector == SYSTEM_CALL && after.rax == word && is_there;
 }
 
 /* Makes and compares so many accesses. Returns the number of differences. */
 uint64_t judge(uint64_t seed, uint64_t accesses, bool is_falsified) {
+    static const char *const kinds[] = {"a read", "a write", "a fetch"};
     uint64_t count = 0, differences = 0;
     x64_page page = {(uint64_t)judge_code, X64_SIZE_4KIB};
     state = seed * UINT64_C(0x9e3779b97f4a7c15);
@@ -109,9 +110,10 @@ uint64_t judge(uint64_t seed, uint64_t accesses, bool is_falsified) {
         }
         x64_access_request request = {address_near(&page, count), (uint32_t)below(3), below(2), false};
         if (!compare(&request, is_falsified) && ++differences <= MOST_SHOWN)
-            print("judge: a difference: address 0x%lx, kind %lu, user %lu\n", request.address, (uint64_t)request.kind, (uint64_t)request.user);
+            print("judge: a difference: %s by ring %s at 0x%lx\n", kinds[request.kind], request.user ? "3" : "0", request.address);
     }
     check_fit(&space, 2);
-    print("judge: %lu reads, %lu writes, %lu fetches arrive, %lu fault: %lu differences\n", arrived[0], arrived[1], arrived[2], faulted, differences);
+    print("judge: %lu reads, %lu writes, %lu fetches arrive, ", arrived[X64_READ], arrived[X64_WRITE], arrived[X64_FETCH]);
+    print("%lu accesses fault: %lu differences\n", faulted, differences);
     return differences;
 }

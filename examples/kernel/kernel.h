@@ -19,7 +19,6 @@
 #define REGISTERS_SIZE 192
 #ifndef __ASSEMBLER__
 #include "x86_64_paging.h"
-
 /* boot.S: lets the processor go on with these registers until an exception or an interrupt, which leaves a vector, a code and CR2. */
 struct __attribute__((aligned(16))) registers {
     uint64_t padding, cr2, r15, r14, r13, r12, r11, r10, r9, r8, rbp, rdi, rsi, rdx, rcx, rbx, rax, vector, code, rip, cs, rflags, rsp, ss;
@@ -62,5 +61,4 @@ enum { FORK, TELL, EXIT };
 void program(void);
 void run_processes(void);
 uint64_t judge(uint64_t seed, uint64_t accesses, bool is_falsified);
-
 #endif

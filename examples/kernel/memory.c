@@ -3,7 +3,6 @@
 
 /* All spaces share the upper half: the indices of the root from SHARED_FROM up to, but not including, SHARED_TO. */
 enum { SHARED_FROM = 256, SHARED_TO = 512, FRAMES_AT = 0x800000, FRAMES_END = 0x1000000, MOST_SINGLE_FLUSHES = 32 };
-
 enum flush left_out = NOTHING;
 x64_hierarchy kernel_space;
 size_t free_tables = TABLE_COUNT;
@@ -14,14 +13,15 @@ uint8_t uses[FRAMES_END / X64_SIZE_4KIB]; /* how many pages each frame is mapped
 static uint32_t flush(enum flush due, const x64_page *first, uint64_t count, uint32_t status) {
     if (due == left_out || (status != X64_OK && status != X64_MORE))
         return status;
-    if (due == EVERYTHING || count > MOST_SINGLE_FLUSHES) {
-        uint64_t cr4, pge = 0x80;
-        __asm__ volatile("mov %%cr4, %0" : "=r"(cr4));
-        __asm__ volatile("mov %0, %%cr4" : : "r"(cr4 & ~pge) : "memory");
-        __asm__ volatile("mov %0, %%cr4" : : "r"(cr4 | pge) : "memory");
-    } else
+    if (due != EVERYTHING && count <= MOST_SINGLE_FLUSHES) {
         for (uint64_t k = 0; k < count; k++)
             __asm__ volatile("invlpg (%0)" : : "r"(first->start + k * first->size) : "memory");
+        return status;
+    }
+    uint64_t cr4, pge = 0x80; /* that CR4.PGE changes flushes everything, global pages too */
+    __asm__ volatile("mov %%cr4, %0" : "=r"(cr4));
+    __asm__ volatile("mov %0, %%cr4" : : "r"(cr4 & ~pge) : "memory");
+    __asm__ volatile("mov %0, %%cr4" : : "r"(cr4 | pge) : "memory");
     return status;
 }
 

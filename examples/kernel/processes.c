@@ -1,4 +1,4 @@
-/* The first mode: processes that get memory when they touch it, share it until they write to it, and end if they touch what isn't theirs. */
+/* The first mode: processes that get memory when they touch it, share it until they write, and end if they touch what isn't theirs. */
 #include "kernel.h"
 
 #define STACK_END 0x7ffffffff000
@@ -82,24 +82,24 @@ static struct process fork(const struct process *process) {
 
 /* Runs a process until it exits or does what isn't allowed. A child runs to its end before its parent goes on. */
 static void run_process(struct process *process) {
-    struct registers *left = &process->registers;
+    struct registers *state = &process->registers;
     bool goes_on = true;
     use_space(&process->space);
     while (goes_on) {
-        run(left);
-        if (left->vector != SYSTEM_CALL) {
-            const char *done = left->vector == PAGE_FAULT ? handle_fault(process, left->cr2, left->code) : NULL;
-            print("process %lu: exception %lu, code 0x%lx, at 0x%lx: %s\n", process->number, left->vector, left->code, left->cr2,
+        run(state);
+        if (state->vector != SYSTEM_CALL) {
+            const char *done = state->vector == PAGE_FAULT ? handle_fault(process, state->cr2, state->code) : NULL;
+            print("process %lu: exception %lu, code 0x%lx, at 0x%lx: %s\n", process->number, state->vector, state->code, state->cr2,
                   done ? done : "not allowed");
             goes_on = done;
-        } else if (left->rax == FORK && process->number < MOST_PROCESSES) {
+        } else if (state->rax == FORK && process->number < MOST_PROCESSES) {
             struct process child = fork(process);
             run_process(&child);
             use_space(&process->space);
-            left->rax = child.number;
+            state->rax = child.number;
         } else {
-            print("process %lu: %s %lu\n", process->number, left->rax == TELL ? "tells" : "exits with", left->rdi);
-            goes_on = left->rax == TELL;
+            print("process %lu: %s %lu\n", process->number, state->rax == TELL ? "tells" : "exits with", state->rdi);
+            goes_on = state->rax == TELL;
         }
     }
     use_space(&kernel_space);

@@ -16,9 +16,9 @@ void program(void) {
         *first_word += is_child ? 10 : 1;
         call(TELL, *first_word + *last_word);
         if (is_child && k < 2)
-            *(volatile uint64_t *)(k == 0 ? PROGRAM : KERNEL) = 0; /* not allowed: its code is read-only, the kernel isn't its own */
+            *(volatile uint64_t *)(k == 0 ? PROGRAM : DIRECT) = 0; /* not allowed: its code is read-only, and that is the kernel's */
         else if (is_child)
-            ((void (*)(void))HEAP)(); /* not allowed: its data can't be run */
+            ((void (*)(void))HEAP)(); /* not allowed: data can't be run */
     }
     call(EXIT, 0);
 }
