@@ -1,0 +1,123 @@
+/* The first mode: processes that get memory when they touch it, share it until they write, and end if they touch what isn't theirs. */
+#include "kernel.h"
+
+#define STACK_END 0x7ffffffff000
+enum { AREA_COUNT = 3, MOST_PROCESSES = 4, PAGES_AT_START = 600, WAS_PRESENT = 1, WAS_WRITE = 2, WAS_FETCH = 16 };
+
+struct process {
+    struct registers registers;
+    x64_hierarchy space;
+    uint64_t number;
+};
+
+/* The addresses that a process may touch, and the flags of pages there. */
+static const struct area { uint64_t start, end, flags; } areas[AREA_COUNT] = {
+    {PROGRAM, PROGRAM + X64_SIZE_4KIB, X64_PRESENT | X64_USER_ACCESSIBLE},
+    {HEAP, HEAP_END, X64_PRESENT | X64_USER_ACCESSIBLE | X64_WRITABLE | X64_NO_EXECUTE},
+    {STACK_END - 0x10000, STACK_END, X64_PRESENT | X64_USER_ACCESSIBLE | X64_WRITABLE | X64_NO_EXECUTE},
+};
+
+static void map_pages(const struct process *process, uint64_t start, uint64_t frame, uint64_t count, uint64_t flags) {
+    x64_map_request request = {{start, X64_SIZE_4KIB}, frame, flags, X64_PRESENT | X64_WRITABLE | X64_USER_ACCESSIBLE};
+    check("x64_map", map(&process->space, &request, count));
+}
+
+/* Unmaps the pages from an address up to another, and lets go of their frames. Returns how many. */
+static size_t unmap_pages(const struct process *process, uint64_t start, uint64_t end) {
+    static uint64_t frames[MOST_PAGES];
+    size_t count;
+    x64_page first = {start, X64_SIZE_4KIB};
+    check("x64_unmap_range", unmap(&process->space, &first, (end - start) / first.size, frames, &count));
+    for (size_t k = 0; k < count; k++)
+        uses[frames[k] / X64_SIZE_4KIB]--;
+    return count;
+}
+
+/* Lets a process write to a page: to a copy of it, unless nobody shares the frame any more. */
+static const char *copy_on_write(const struct process *process, const x64_page *page, uint64_t flags) {
+    x64_translation old;
+    check("x64_translate", x64_translate(&process->space, tables, TABLE_COUNT, page->start, &old));
+    if (uses[old.frame / X64_SIZE_4KIB] == 1) {
+        check("x64_update_flags", update_flags(&process->space, page, 1, flags));
+        return "may be written to";
+    }
+    uint64_t frame = take_frames(1);
+    memcpy((void *)(DIRECT + frame), (void *)(DIRECT + old.frame), X64_SIZE_4KIB);
+    unmap_pages(process, page->start, page->start + page->size);
+    map_pages(process, page->start, frame, 1, flags);
+    return "is copied";
+}
+
+/* Handles a page fault. Returns what is done with the page, or null if the access isn't allowed. */
+static const char *handle_fault(const struct process *process, uint64_t address, uint64_t code) {
+    x64_page page = {address & ~(X64_SIZE_4KIB - 1), X64_SIZE_4KIB};
+    const struct area *area = areas;
+    while (address < area->start || address >= area->end)
+        if (++area == areas + AREA_COUNT)
+            return NULL;
+    if (((code & WAS_WRITE) && !(area->flags & X64_WRITABLE)) || ((code & WAS_FETCH) && (area->flags & X64_NO_EXECUTE)))
+        return NULL;
+    if (code & WAS_PRESENT)
+        return copy_on_write(process, &page, area->flags);
+    map_pages(process, page.start, take_frames(1), 1, area->flags);
+    return "is mapped";
+}
+
+/* Makes a process that shares all pages with another one. Neither may write to them any more. */
+static struct process fork(const struct process *process) {
+    struct process child = {process->registers, new_space(), process->number + 1};
+    x64_mapping mapping;
+    uint64_t next = 0;
+    size_t count;
+    while (x64_mappings(&process->space, tables, TABLE_COUNT, next, &mapping, 1, &count, &next) == X64_MORE && mapping.start < DIRECT) {
+        x64_page page = {mapping.start, mapping.size};
+        check("x64_update_flags", update_flags(&process->space, &page, 1, mapping.flags & ~X64_WRITABLE));
+        map_pages(&child, page.start, mapping.frame, 1, mapping.flags & ~X64_WRITABLE);
+        uses[mapping.frame / X64_SIZE_4KIB]++;
+    }
+    child.registers.rax = 0;
+    print("process %lu: makes process %lu; %lu tables are free\n", process->number, child.number, (uint64_t)free_tables);
+    return child;
+}
+
+/* Runs a process until it exits or does what isn't allowed. A child runs to its end before its parent goes on. */
+static void run_process(struct process *process) {
+    struct registers *state = &process->registers;
+    bool goes_on = true;
+    use_space(&process->space);
+    while (goes_on) {
+        run(state);
+        if (state->vector != SYSTEM_CALL) {
+            const char *done = state->vector == PAGE_FAULT ? handle_fault(process, state->cr2, state->code) : NULL;
+            print("process %lu: exception %lu, code 0x%lx, at 0x%lx: %s\n", process->number, state->vector, state->code, state->cr2,
+                  done ? done : "not allowed");
+            goes_on = done;
+        } else if (state->rax == FORK && process->number < MOST_PROCESSES) {
+            struct process child = fork(process);
+            run_process(&child);
+            use_space(&process->space);
+            state->rax = child.number;
+        } else {
+            print("process %lu: %s %lu\n", process->number, state->rax == TELL ? "tells" : "exits with", state->rdi);
+            goes_on = state->rax == TELL;
+        }
+    }
+    use_space(&kernel_space);
+    size_t unmapped = 0;
+    for (const struct area *area = areas; area < areas + AREA_COUNT; area++)
+        unmapped += unmap_pages(process, area->start, area->end);
+    give_up_space(&process->space);
+    print("process %lu: has ended, %lu pages are unmapped; %lu tables are free\n", process->number, unmapped, (uint64_t)free_tables);
+}
+
+/* Makes the first process and runs it. */
+void run_processes(void) {
+    extern const uint8_t program_frame[];
+    struct process first = {.space = new_space(), .number = 1};
+    first.registers = (struct registers){.rip = (uint64_t)program, .cs = USER_CODE, .rsp = STACK_END - 8, .ss = USER_DATA};
+    map_pages(&first, PROGRAM, (uint64_t)program_frame, 1, areas[0].flags);
+    map_pages(&first, HEAP, take_frames(PAGES_AT_START), PAGES_AT_START, areas[1].flags);
+    uses[(uint64_t)program_frame / X64_SIZE_4KIB]++;
+    print("process 1: starts with %lu pages; %lu tables are free\n", (uint64_t)PAGES_AT_START + 1, (uint64_t)free_tables);
+    run_process(&first);
+}
