@@ -8,15 +8,18 @@
 //! pages in each of seven rounds, with one mapper after another. It prints a table of the least processor time of
 //! each operation to standard error, with its ratio to the time of the first mapper. For contiguous pages it also maps
 //! them, changes their flags and unmaps them one by one and as one range, by the first mapper, and prints both times.
+//! Last come the times of a page walk, whose rights are looked at, and of an access for each page.
 #![tactic(auto)]
 
 mod listing;
+mod lookups;
 mod page_calls;
 mod ranges;
 mod report;
 mod rounds;
 mod workload;
 
+use crate::lookups::{LOOKUPS, Lookup, measure_lookups};
 use crate::ranges::{CHANGES, Way, measure_ranges};
 use crate::report::{Measured, report_counts, report_table};
 use crate::rounds::{Access, OPERATIONS, measure};
@@ -77,10 +80,12 @@ fn run_once(rt: &HostRuntime) -> io::Result<ExitCode> {
 /// Does this with pages of a size. Returns true if the rounds could be done.
 fn count<S: PageSize>(rt: &HostRuntime) -> io::Result<bool> {
     let (mut rounds, mut changes) = (Vec::new(rt.alloc()), Vec::new(rt.alloc()));
+    let mut lookups = Vec::new(rt.alloc());
     let scattered = Workload::new(SMALL, Pattern::Scattered);
     let contiguous = Workload::new(SMALL, Pattern::Contiguous);
     if !add_rounds::<S>(rt, scattered, &mut rounds)?
         || !add_changes::<S>(rt, contiguous, &mut changes)?
+        || !add_lookups::<S>(rt, scattered, &mut lookups)?
     {
         return Ok(false);
     }
@@ -90,11 +95,14 @@ fn count<S: PageSize>(rt: &HostRuntime) -> io::Result<bool> {
     for (by, parts) in &changes {
         report_counts(rt, by, S::DEBUG_STR, &CHANGES, parts)?;
     }
+    for (by, parts) in &lookups {
+        report_counts(rt, by, S::DEBUG_STR, &LOOKUPS, parts)?;
+    }
     Ok(true)
 }
 
-/// Does all rounds with pages of a size, each with one mapper after another, and those of changes of contiguous pages.
-/// Prints the time of each operation.
+/// Does all rounds with pages of a size, each with one mapper after another, those of changes of contiguous pages, and
+/// those of lookups. Prints the time of each operation.
 fn compare<S: PageSize>(rt: &HostRuntime, workload: Workload) -> io::Result<ExitCode> {
     let (mut rounds, mut changes) = (Vec::new(rt.alloc()), Vec::new(rt.alloc()));
     for _ in 0..ROUNDS {
@@ -111,6 +119,13 @@ fn compare<S: PageSize>(rt: &HostRuntime, workload: Workload) -> io::Result<Exit
         }
         report_table(rt, Way::ALL.len(), &CHANGES, &changes)?;
     }
+    let mut lookups = Vec::new(rt.alloc());
+    for _ in 0..ROUNDS {
+        if !add_lookups::<S>(rt, workload, &mut lookups)? {
+            return Ok(ExitCode::from(2));
+        }
+    }
+    report_table(rt, Lookup::ALL.len(), &LOOKUPS, &lookups)?;
     Ok(ExitCode::from(0))
 }
 
@@ -137,6 +152,21 @@ fn add_changes<S: PageSize>(
 ) -> io::Result<bool> {
     for (way, name) in Way::ALL {
         let Some(parts) = measure_ranges::<S>(rt.alloc(), rt, workload, way)? else {
+            return Ok(false);
+        };
+        rounds.push((name, Vec::from_slice(rt.alloc(), &parts)?))?;
+    }
+    Ok(true)
+}
+
+/// Looks addresses up in each way. Returns true if all could be done.
+fn add_lookups<S: PageSize>(
+    rt: &HostRuntime,
+    workload: Workload,
+    rounds: &mut Vec<Measured>,
+) -> io::Result<bool> {
+    for (lookup, name) in Lookup::ALL {
+        let Some(parts) = measure_lookups::<S>(rt.alloc(), rt, workload, lookup)? else {
             return Ok(false);
         };
         rounds.push((name, Vec::from_slice(rt.alloc(), &parts)?))?;
