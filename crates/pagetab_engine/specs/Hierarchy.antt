@@ -131,7 +131,7 @@ pub record IsHierarchy (hierarchy : Hierarchy) : Type 0 where
   pub reached : ReachesAll hierarchy
   pub twin : HasTwin hierarchy.mode hierarchy.frames hierarchy.twin
 
--- The mode stays, and the rest of the free frames fits the valid hierarchy again, in a pair alike ones. What else calls keep is kept.
+-- The mode stays, and what calls keep of the mapper's hierarchy and free frames. What `IsHierarchy` says holds again.
 pub record KeepsHierarchy (before after : Hierarchy) : Type 0 where
   pub mode : after.mode ≡ before.mode
   pub keeps : Kept (hierarchy_of before) (pool_store before.frames.pool) (hierarchy_of after) (pool_store after.frames.pool)
