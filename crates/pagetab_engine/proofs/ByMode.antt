@@ -1,17 +1,19 @@
 -- The hierarchy of a mode for a number of levels, and what the mapper of the mode does with it.
-use Rattle.std.proofs.Common.{◌≡◌, ℕ, List, sym, ap, ◌∙◌, subst}
+use Rattle.std.proofs.Common.{◌≡◌, ℕ, Result, Ok, Err, sym, ap, ◌∙◌, subst, subst₂}
+use Rattle.std.specs.Result.{IfOk, OnErr}
 use Rattle.x86_64_model.specs.Alike.{Alike}
 use Rattle.x86_64_model.specs.Layout.{Layout}
 use Rattle.x86_64_model.specs.Mapper.{◌laid_in◌, paths}
-use Rattle.x86_64_model.specs.Pool.{serves_below}
 use Rattle.x86_64_model.specs.Memory.{Memory}
+use Rattle.x86_64_model.specs.Store.{Fits, Kept}
 use Rattle.x86_64.specs.Asked.{MapperCall}
+use Rattle.x86_64.specs.Pairs.{pool_store}
 use Rattle.x86_64.specs.Replies.{Reply}
-use Rattle.x86_64.specs.Runs as runs
+use Rattle.x86_64.proofs.Keeping.{kept_none}
 use Rattle.pagetab_engine.specs.Arguments.{count, levels_of}
 use Rattle.pagetab_engine.specs.Calls.{IsAnswered}
-use Rattle.pagetab_engine.specs.Frames.{direct_layout, recursive_layout, FitsBy}
-use Rattle.pagetab_engine.specs.Hierarchy.{layout, layout_of, IsReached, IsTwin, HasTwin, KeepsHierarchy}
+use Rattle.pagetab_engine.specs.Frames.{direct_layout, recursive_layout}
+use Rattle.pagetab_engine.specs.Hierarchy.{layout, layout_of, hierarchy_of, IsReached, IsTwin, HasTwin, KeepsHierarchy}
 use Rattle.pagetab_engine.specs.declared.arguments.Mode.{Mode}
 use Rattle.pagetab_engine.specs.declared.arguments.Mode.TheVariants.{Direct, Offset, Recursive, Pair}
 use Rattle.pagetab_engine.specs.declared.frames.Frames.{Frames}
@@ -38,20 +40,15 @@ module _ (before : Hierarchy) (levels : ℕ) (known : count (levels_of before.mo
   pub lies : layout_of before ≡ layout_in mode levels before.frames.memory
   lies = ap (λ mode. layout mode before.frames.memory) is ∙ same_layout mode levels before.frames.memory here
 
-  pub fits_in : FitsBy (layout_of before) before.frames → FitsBy (layout_in mode levels before.frames.memory) before.frames
-  fits_in = subst (λ (l : Layout). FitsBy l before.frames) lies
+  pub fits_in : Fits (hierarchy_of before) (pool_store before.frames.pool) → Fits (layout_in mode levels before.frames.memory laid_in before.frames.memory) (pool_store before.frames.pool)
+  fits_in = subst (λ (l : Layout). Fits (l laid_in before.frames.memory) (pool_store before.frames.pool)) lies
 
-  pub answered_in : (call : MapperCall) (n : Memory) (rest : List ℕ) (reply : Reply) → IsAnswered (layout_in mode levels before.frames.memory) before.frames.memory before.frames.pool.frames call n rest reply
-      → IsAnswered (layout_of before) before.frames.memory before.frames.pool.frames call n rest reply
-  answered_in call n rest reply = subst (λ (l : Layout). IsAnswered l before.frames.memory before.frames.pool.frames call n rest reply) (sym lies)
-
-  pub kept_in : (after : Hierarchy) → after.mode ≡ before.mode → serves_below after.frames.pool.limit ≡ serves_below before.frames.pool.limit
-      → layout_in mode levels after.frames.memory ≡ layout_in mode levels before.frames.memory → IsReached mode after.frames.memory → HasTwin mode after.frames after.twin
-      → runs.KeepsPool (layout_in mode levels before.frames.memory) (serves_below before.frames.pool.limit) before.frames.memory before.frames.pool.frames after.frames.memory after.frames.pool.frames → KeepsHierarchy before after
-  kept_in after same serves still reached twin kept =
+  pub kept_in : (after : Hierarchy) → after.mode ≡ before.mode → IsReached mode after.frames.memory → HasTwin mode after.frames after.twin
+      → Kept (layout_in mode levels before.frames.memory laid_in before.frames.memory) (pool_store before.frames.pool) (layout_in mode levels after.frames.memory laid_in after.frames.memory) (pool_store after.frames.pool) → KeepsHierarchy before after
+  kept_in after same reached twin kept =
       let m = before.frames.memory in let n = after.frames.memory in
-      kept_by before after same serves mode is (same_layout mode levels n here ∙ still ∙ sym (same_layout mode levels m here)) reached twin
-      (subst (λ (l : Layout). runs.KeepsPool l (serves_below before.frames.pool.limit) m before.frames.pool.frames n after.frames.pool.frames) (sym (same_layout mode levels m here)) kept)
+      kept_by before after same mode is reached twin
+      (subst₂ (λ (l k : Layout). Kept (l laid_in m) (pool_store before.frames.pool) (k laid_in n) (pool_store after.frames.pool)) (sym (same_layout mode levels m here)) (sym (same_layout mode levels n here)) kept)
 
 -- ---- two hierarchies
 
@@ -67,5 +64,13 @@ alike_as_pair levels index l k m n one other alike lies also here there =
     (subst (λ (k : Layout). Alike levels (paths (l laid_in m)) (paths (k laid_in n))) also alike)))
 
 -- the recursive mapper's hierarchy of a pair, if the mode has this number of levels
-pub twin_in : (known levels index : ℕ) (memory : Memory) (free : List ℕ) (twin : Frames) → known ≡ levels → IsTwin levels index memory free twin → IsTwin known index memory free twin
-twin_in known levels index memory free twin same = subst (λ n. IsTwin n index memory free twin) (sym same)
+pub twin_in : (known levels index : ℕ) (frames twin : Frames) → known ≡ levels → IsTwin levels index frames twin → IsTwin known index frames twin
+twin_in known levels index frames twin same = subst (λ n. IsTwin n index frames twin) (sym same)
+
+-- what a call keeps in a pair, whether it was executed or nothing changed
+pub kept_in_pair : {E : Type 0} (Others : Type 0) (levels : ℕ) (before after : Frames) (call : MapperCall) (result : Result Reply E) → Fits (direct_layout levels laid_in before.memory) (pool_store before.pool)
+    → IfOk result (IsAnswered (direct_layout levels laid_in before.memory) (pool_store before.pool) call (direct_layout levels laid_in after.memory) (pool_store after.pool)) → OnErr result ((after ≡ before) × Others)
+    → Kept (direct_layout levels laid_in before.memory) (pool_store before.pool) (direct_layout levels laid_in after.memory) (pool_store after.pool)
+kept_in_pair Others levels before after call (Ok reply) fits answered unchanged = answered.keeps
+kept_in_pair Others levels before after call (Err why) fits answered unchanged =
+    subst (λ (after : Frames). Kept (direct_layout levels laid_in before.memory) (pool_store before.pool) (direct_layout levels laid_in after.memory) (pool_store after.pool)) (sym unchanged.0) (kept_none _ _ fits)

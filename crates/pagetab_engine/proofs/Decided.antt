@@ -21,7 +21,8 @@ use Rattle.pagetab_engine.specs.declared.statement.ImageLine.{ImageLine}
 use Rattle.pagetab_engine.proofs.OneArguments.{one_arguments}
 use Rattle.pagetab_engine.proofs.OneStatement.{one_statement, said_not_bad}
 use Rattle.pagetab_engine.proofs.SameCommands.{IsSame, one_answer}
-use Rattle.pagetab_engine.proofs.SameImages.{SameImage, empty_same, loads_same, loadable_same, turned, fits_same, image_turned, reached_same, first_same}
+use Rattle.pagetab_engine.proofs.Images.{turned}
+use Rattle.pagetab_engine.proofs.SameImages.{SameImage, empty_same, loads_same, loadable_same, fits_same, image_turned, reached_same, first_same}
 
 -- ---- outcomes
 

@@ -1,28 +1,24 @@
 -- What no command changes, and so no list of commands.
-use Rattle.std.proofs.Common.{◌≡◌, ◌↔◌, ℕ, List, [], refl, sym, ap, ◌∙◌, subst, subst₂}
+use Rattle.std.proofs.Common.{◌≡◌, List, [], ℕ, refl, sym, ap, ◌∙◌, subst, subst₂}
 use Rattle.x86_64_model.specs.Layout.{Layout}
-use Rattle.x86_64_model.specs.Mapper.{◌laid_in◌, KeepsOutside, Owns}
-use Rattle.x86_64_model.specs.Pool.{serves_below}
-use Rattle.x86_64_model.specs.Memory.{Memory, Places, identity_places}
-use Rattle.x86_64.specs.Runs as runs
+use Rattle.x86_64_model.specs.Mapper as mapper
+use Rattle.x86_64_model.specs.Mapper.{◌laid_in◌, PoolFits}
+use Rattle.x86_64_model.specs.Memory.{Memory, identity_places}
+use Rattle.x86_64_model.specs.Store.{Store, Fits, Kept}
+use Rattle.x86_64.specs.Pairs.{pool_store}
 use Rattle.x86_64.proofs.FreeFrames.{nothing_keeps_free}
-use Rattle.pagetab_engine.specs.Hierarchy.{layout, layout_of, IsReached, HasTwin, IsHierarchy, KeepsHierarchy, KeepsFree}
+use Rattle.x86_64.proofs.Keeping.{kept_none}
+use Rattle.pagetab_engine.specs.Hierarchy.{hierarchy_of, layout, layout_of, IsReached, HasTwin, IsHierarchy, KeepsHierarchy, KeepsFree}
 use Rattle.pagetab_engine.specs.declared.arguments.Mode.{Mode}
 use Rattle.pagetab_engine.specs.declared.arguments.Mode.TheVariants.{Direct, Offset, Recursive, Pair}
 use Rattle.pagetab_engine.specs.declared.hierarchy.Hierarchy.{Hierarchy}
 
 pub keeps_itself : (hierarchy : Hierarchy) → IsHierarchy hierarchy → KeepsHierarchy hierarchy hierarchy
-keeps_itself hierarchy fits = record { mode = refl; layout = refl; serves = refl; fits = fits; conserved = λ frame. (λ own. own, λ own. own); others = λ place none. refl }
+keeps_itself hierarchy fits = record { mode = refl; keeps = kept_none (hierarchy_of hierarchy) (pool_store hierarchy.frames.pool) fits.fits; fits = fits }
 
-pub keeps_then : (before between after : Hierarchy) → KeepsHierarchy before between → KeepsHierarchy between after → KeepsHierarchy before after
-keeps_then before between after one next = record {
-  mode = next.mode ∙ one.mode;
-  layout = next.layout ∙ one.layout;
-  serves = next.serves ∙ one.serves;
-  fits = next.fits;
-  conserved = λ frame. (λ own. (next.conserved frame).0 ((one.conserved frame).0 own), λ own. (one.conserved frame).1 ((next.conserved frame).1 own));
-  others = λ place none. next.others place (λ frame own. none frame ((one.conserved frame).1 own)) ∙ one.others place none;
-}
+-- the rest of a store fits the hierarchy that is left
+rest_fits : {Lent : Type 0} (h after : mapper.Hierarchy Lent) (store rest : Store) → Kept h store after rest → Fits after rest
+rest_fits h after store rest kept = subst₂ (λ (l : Layout) serves. PoolFits (l laid_in after.memory) serves rest.frames) (sym kept.layout) (sym kept.serves) kept.keeps.fits
 
 -- each frame lies at the place of its number
 pub by_number : (mode : Mode) (memory : Memory) → (layout mode memory).places ≡ identity_places
@@ -32,35 +28,22 @@ by_number (Recursive levels index) memory = refl
 by_number (Pair levels index) memory = refl
 
 -- what the mapper of the mode keeps is kept in the hierarchy
-pub kept_by : (before after : Hierarchy) → after.mode ≡ before.mode → serves_below after.frames.pool.limit ≡ serves_below before.frames.pool.limit
-    → (mode : Mode) → before.mode ≡ mode → layout mode after.frames.memory ≡ layout mode before.frames.memory → IsReached mode after.frames.memory → HasTwin mode after.frames after.twin
-    → runs.KeepsPool (layout mode before.frames.memory) (serves_below before.frames.pool.limit) before.frames.memory before.frames.pool.frames after.frames.memory after.frames.pool.frames → KeepsHierarchy before after
-kept_by before after same serves mode is still reached twin kept =
+pub kept_by : (before after : Hierarchy) → after.mode ≡ before.mode → (mode : Mode) → before.mode ≡ mode → IsReached mode after.frames.memory → HasTwin mode after.frames after.twin
+    → Kept (layout mode before.frames.memory laid_in before.frames.memory) (pool_store before.frames.pool) (layout mode after.frames.memory laid_in after.frames.memory) (pool_store after.frames.pool) → KeepsHierarchy before after
+kept_by before after same mode is reached twin kept =
     let m = before.frames.memory in let n = after.frames.memory in
-    let free = before.frames.pool.frames in let rest = after.frames.pool.frames in
+    let store = pool_store before.frames.pool in let rest = pool_store after.frames.pool in
     let first : layout_of before ≡ layout mode m = ap (λ mode. layout mode m) is in
-    let last : layout_of after ≡ layout mode m = ap (λ mode. layout mode n) (same ∙ is) ∙ still in
+    let last : layout_of after ≡ layout mode n = ap (λ mode. layout mode n) (same ∙ is) in
+    let keeps : Kept (hierarchy_of before) store (hierarchy_of after) rest = subst₂ (λ (l k : Layout). Kept (l laid_in m) store (k laid_in n) rest) (sym first) (sym last) kept in
     record {
       mode = same;
-      layout = last ∙ sym first;
-      serves = serves;
+      keeps = keeps;
       fits = record {
-        fits = subst₂ (λ l serves. runs.PoolFits (l laid_in n) serves rest) (sym last) (sym serves) kept.fits;
+        fits = rest_fits (hierarchy_of before) (hierarchy_of after) store rest keeps;
         reached = subst (λ mode. IsReached mode n) (sym (same ∙ is)) reached;
         twin = subst (λ mode. HasTwin mode after.frames after.twin) (sym (same ∙ is)) twin;
       };
-      conserved = λ frame. subst₂ (λ (l k : Layout). Owns (l laid_in m) free frame ↔ Owns (k laid_in n) rest frame) (sym first) (sym last) (kept.conserved frame);
-      others = subst₂ (λ (l : Layout) (places : Places). KeepsOutside places (Owns (l laid_in m) free) m n) (sym first) (by_number mode m) kept.others;
-    }
-
--- what is kept in the hierarchy is what a mapper keeps
-pub kept_as : (before after : Hierarchy) → KeepsHierarchy before after → runs.KeepsPool (layout_of before) (serves_below before.frames.pool.limit) before.frames.memory before.frames.pool.frames after.frames.memory after.frames.pool.frames
-kept_as before after kept =
-    let m = before.frames.memory in let n = after.frames.memory in
-    let free = before.frames.pool.frames in let rest = after.frames.pool.frames in record {
-      fits = subst₂ (λ l serves. runs.PoolFits (l laid_in n) serves rest) kept.layout kept.serves kept.fits.fits;
-      conserved = λ frame. subst (λ (l : Layout). Owns (layout_of before laid_in m) free frame ↔ Owns (l laid_in n) rest frame) kept.layout (kept.conserved frame);
-      others = subst (λ (places : Places). KeepsOutside places (Owns (layout_of before laid_in m) free) m n) (sym (by_number before.mode m)) kept.others;
     }
 
 -- ---- the words of free frames

@@ -1,5 +1,6 @@
 mod ByMode
 pub mod Alignment
+pub mod Answering
 pub mod AtOffset
 pub mod Breaking
 pub mod Characters

@@ -1,15 +1,22 @@
--- The effect of a call that names the recursive index of a pair, and so isn't executed, and of one that is.
-use Rattle.std.proofs.Common.{◌≡◌, ℕ, true, false, cond, [], Some, sym, ap, ◌∙◌}
-use Rattle.x86_64.specs.Asked.{MapperCall, names_by}
+-- What is said of a call that names the recursive index of a pair, and so isn't executed, and of one that is.
+use Rattle.std.proofs.Common.{◌≡◌, ℕ, true, false, cond, [], Some, option_map, refl, sym, ap, ◌∙◌, subst}
+use Rattle.x86_64_model.specs.Layout.{Layout}
+use Rattle.x86_64.specs.Asked.{MapperCall, machine_call, names_by}
+use Rattle.x86_64.specs.FreeFrames.{back_by}
+use Rattle.x86_64.specs.Pairs.{pool_store}
 use Rattle.x86_64.specs.Replies.{Reply}
 use Rattle.x86_64.specs.Runs as runs
 use Rattle.x86_64.specs.Runs.{AfterStep}
 use Rattle.x86_64.specs.declared.call_values.MapperReply.TheVariants.{NotAllowed}
 use Rattle.pagetab_engine.specs.Arguments.{count, levels_of}
-use Rattle.pagetab_engine.specs.Calls.{asked_back}
-use Rattle.pagetab_engine.specs.Hierarchy.{call_back, call_step, hierarchy_state, is_index_named, is_refused, machine_of}
+use Rattle.pagetab_engine.specs.Calls.{IsAnswered}
+use Rattle.pagetab_engine.specs.Commands.{Call}
+use Rattle.pagetab_engine.specs.Hierarchy.{call_back, call_step, hierarchy_of, hierarchy_state, is_index_named, is_refused, layout_of, machine_of, IsHierarchy, KeepsFree, KeepsHierarchy, TwinTells}
+use Rattle.pagetab_engine.specs.Program.{Answers}
+use Rattle.pagetab_engine.specs.Reply.{Answered}
 use Rattle.pagetab_engine.specs.declared.arguments.Mode.{Mode}
 use Rattle.pagetab_engine.specs.declared.hierarchy.Hierarchy.{Hierarchy}
+use Rattle.pagetab_engine.proofs.Keeping.{free_itself, keeps_itself}
 
 -- whether a call is refused, by the mode's number of levels
 pub refused_by : (mode : Mode) (levels : ℕ) (call : MapperCall) → count (levels_of mode) ≡ levels → is_refused mode call ≡ is_index_named mode (names_by levels call)
@@ -17,18 +24,36 @@ refused_by mode levels call same = ap (λ n. is_index_named mode (names_by n cal
 
 module _ (hierarchy : Hierarchy) (call : MapperCall) where
   -- the call is not allowed, and changes nothing
-  abbrev pub refused : AfterStep Reply
+  abbrev refused : AfterStep Reply
   refused = record { state = hierarchy_state hierarchy; reply = Some NotAllowed }
 
-  pub step_refused : is_refused hierarchy.mode call ≡ true → call_step hierarchy call ≡ refused
-  step_refused is = ap (λ b. cond b refused (runs.step_by (machine_of hierarchy) (hierarchy_state hierarchy) call)) is
-
-  pub none_back : is_refused hierarchy.mode call ≡ true → call_back hierarchy call ≡ []
-  none_back is = ap (λ b. cond b [] (asked_back (machine_of hierarchy) (hierarchy_state hierarchy) call)) is
+  pub answers_refused : is_refused hierarchy.mode call ≡ true → IsHierarchy hierarchy → Answers (Call call) hierarchy (Answered NotAllowed) hierarchy
+  answers_refused is fits =
+      let machine = machine_of hierarchy in
+      let step : call_step hierarchy call ≡ refused = ap (λ b. cond b refused (runs.step_by machine (hierarchy_state hierarchy) call)) is in
+      record {
+        reply = ap (λ (after : AfterStep Reply). option_map Answered after.reply) step;
+        state = sym (ap (λ (after : AfterStep Reply). after.state) step);
+        reads = λ _. refl;
+        free = free_itself hierarchy _ (ap (λ b. cond b [] (back_by machine (hierarchy_state hierarchy) (machine_call machine.levels call))) is);
+        keeps = keeps_itself hierarchy fits;
+        both = λ executed. absurd (let t : true ≡ false = sym is ∙ executed in cc);
+      }
 
   -- the call is executed
-  pub step_asked : is_refused hierarchy.mode call ≡ false → call_step hierarchy call ≡ runs.step_by (machine_of hierarchy) (hierarchy_state hierarchy) call
-  step_asked is = ap (λ b. cond b refused (runs.step_by (machine_of hierarchy) (hierarchy_state hierarchy) call)) is
-
-  pub back_asked : is_refused hierarchy.mode call ≡ false → call_back hierarchy call ≡ asked_back (machine_of hierarchy) (hierarchy_state hierarchy) call
-  back_asked is = ap (λ b. cond b [] (asked_back (machine_of hierarchy) (hierarchy_state hierarchy) call)) is
+  pub answers_executed : (after : Hierarchy) (reply : Reply) → is_refused hierarchy.mode call ≡ false → KeepsHierarchy hierarchy after → TwinTells hierarchy.mode call hierarchy.twin after.twin reply
+      → IsAnswered (hierarchy_of hierarchy) (pool_store hierarchy.frames.pool) call (hierarchy_of after) (pool_store after.frames.pool) reply → Answers (Call call) hierarchy (Answered reply) after
+  answers_executed after reply is keeps twin answered =
+      let machine = machine_of hierarchy in
+      let step : call_step hierarchy call ≡ record { state = runs.state_in (layout_of hierarchy) after.frames.memory after.frames.pool.frames; reply = Some reply } =
+      ap (λ b. cond b refused (runs.step_by machine (hierarchy_state hierarchy) call)) is ∙ answered.step in
+      let back : call_back hierarchy call ≡ back_by machine (hierarchy_state hierarchy) (machine_call machine.levels call) =
+      ap (λ b. cond b [] (back_by machine (hierarchy_state hierarchy) (machine_call machine.levels call))) is in
+      record {
+        reply = ap (λ (after : AfterStep Reply). option_map Answered after.reply) step;
+        state = ap (λ (l : Layout). runs.state_in l after.frames.memory after.frames.pool.frames) keeps.keeps.layout ∙ sym (ap (λ (after : AfterStep Reply). after.state) step);
+        reads = λ refuses. absurd (let t : true ≡ false = sym refuses ∙ is in cc);
+        free = subst (λ back. KeepsFree hierarchy back after) (sym back) answered.free;
+        keeps = keeps;
+        both = λ _. twin;
+      }

@@ -7,15 +7,16 @@ use Rattle.x86_64_model.specs.Pool.{serves_below}
 use Rattle.x86_64_model.specs.Memory.{IsMapping, Memory, Places, Words, identity_places, words_of, word}
 use Rattle.x86_64_model.specs.PageWalk.{Walked, page_walk}
 use Rattle.x86_64_model.proofs.Lemmas.Hierarchies.Memories.{identity_is_mapping}
-use Rattle.x86_64.specs.Asked.{MapperCall}
+use Rattle.x86_64.specs.Asked.{MapperCall, machine_call}
 use Rattle.x86_64.specs.EveryWord.{IsLeft, SameWords}
+use Rattle.x86_64.specs.FreeFrames as free
+use Rattle.x86_64.specs.Pairs.{put_first}
 use Rattle.x86_64.specs.Replies.{Reply as CallReply}
 use Rattle.x86_64.specs.Runs as runs
 use Rattle.x86_64.specs.Runs.{AfterStep}
 use Rattle.x86_64.specs.declared.call_values.MapperReply.TheVariants.{NotAllowed}
 use Rattle.x86_64.proofs.EveryWord.{every_word_is_decided}
 use Rattle.pagetab_engine.specs.Arguments.{count, levels_of}
-use Rattle.pagetab_engine.specs.Calls.{machine_by, asked_back}
 use Rattle.pagetab_engine.specs.Commands.{Command, Call, Walk, Show}
 use Rattle.pagetab_engine.specs.Commands as command
 use Rattle.pagetab_engine.specs.Hierarchy.{call_step, is_refused, layout_of, hierarchy_state}
@@ -25,7 +26,7 @@ use Rattle.pagetab_engine.specs.Reply.{Reply, Answered, Arrival, Word, Pool, com
 use Rattle.pagetab_engine.specs.Slot.{word_in}
 use Rattle.pagetab_engine.specs.declared.arguments.Mode.{Mode}
 use Rattle.pagetab_engine.specs.declared.hierarchy.Hierarchy.{Hierarchy}
-use Rattle.pagetab_engine.proofs.Keeping.{by_number, kept_as}
+use Rattle.pagetab_engine.proofs.Keeping.{by_number}
 use Rattle.pagetab_engine.proofs.OneStatement.{slot_said, some_is}
 use Rattle.pagetab_engine.proofs.SameWalks.{same_walk, slot_word}
 
@@ -40,10 +41,10 @@ pub record IsSame (h k : Hierarchy) : Type 0 where
 
 -- the result of a call, by mode, layout and state
 abbrev step_by : Mode → Layout → State → MapperCall → AfterStep CallReply
-step_by mode l s call = cond (is_refused mode call) (record { state = s; reply = Some NotAllowed }) (runs.step_by (machine_by l) s call)
+step_by mode l s call = cond (is_refused mode call) (record { state = s; reply = Some NotAllowed }) (runs.step_by (runs.machine_of l put_first) s call)
 
 abbrev back_by : Mode → Layout → State → MapperCall → List ℕ
-back_by mode l s call = cond (is_refused mode call) [] (asked_back (machine_by l) s call)
+back_by mode l s call = cond (is_refused mode call) [] (free.back_by (runs.machine_of l put_first) s (machine_call l.levels call))
 
 module _ (h k : Hierarchy) (same : IsSame h k) where
   same_step : (call : MapperCall) → call_step h call ≡ call_step k call
@@ -77,13 +78,13 @@ module _ (h k : Hierarchy) (same : IsSame h k) where
 
   module _ (asked : Command) (told other : Reply) (a b : Hierarchy) (answers : Answers asked h told a) (also : Answers asked k other b) where
     after_layout : layout_of a ≡ layout_of b
-    after_layout = answers.keeps.layout ∙ same.layout ∙ sym also.keeps.layout
+    after_layout = answers.keeps.keeps.layout ∙ same.layout ∙ sym also.keeps.keeps.layout
 
     after_state : hierarchy_state a ≡ hierarchy_state b
     after_state = answers.state ∙ same_state asked ∙ sym also.state
 
     left_by : (before after : Hierarchy) (told : Reply) → Answers asked before told after → IsLeft (layout_of before) before.frames.memory before.frames.pool.frames (command_back before asked) after.frames.memory after.frames.pool.frames
-    left_by before after told answers = record { serves = serves_below before.frames.pool.limit; keeps = kept_as before after answers.keeps; free = answers.free }
+    left_by before after told answers = record { serves = serves_below before.frames.pool.limit; keeps = answers.keeps.keeps.keeps; free = answers.free }
 
     -- the second memory after the command, in the layout of the first
     other_left : IsLeft (layout_of h) k.frames.memory h.frames.pool.frames (command_back h asked) b.frames.memory a.frames.pool.frames
@@ -92,7 +93,7 @@ module _ (h k : Hierarchy) (same : IsSame h k) where
 
     same_paths : paths (layout_of h laid_in a.frames.memory) ≡ paths (layout_of h laid_in b.frames.memory)
     same_paths =
-        ap (λ l. paths (l laid_in a.frames.memory)) (sym answers.keeps.layout) ∙ ap (λ (s : State). s.paths) after_state ∙ ap (λ l. paths (l laid_in b.frames.memory)) (also.keeps.layout ∙ sym same.layout)
+        ap (λ l. paths (l laid_in a.frames.memory)) (sym answers.keeps.keeps.layout) ∙ ap (λ (s : State). s.paths) after_state ∙ ap (λ l. paths (l laid_in b.frames.memory)) (also.keeps.keeps.layout ∙ sym same.layout)
 
     after_words : SameWords (words_of a.frames.memory identity_places) (words_of b.frames.memory identity_places)
     after_words =

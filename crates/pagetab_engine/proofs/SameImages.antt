@@ -1,39 +1,30 @@
 -- Lines of an image have the same effect and are tested alike if the same lines were loaded before.
-use Rattle.std.proofs.Common.{◌≡◌, ◌/◌, ◌<◌, ℕ, List, [], ◌++◌, ◌∷◌, sym, ap, ◌∙◌, subst}
+use Rattle.std.proofs.Common.{◌≡◌, ◌/◌, ◌<◌, [], ◌++◌, ◌∷◌, sym, ap, ◌∙◌, subst}
 use Rattle.std.specs.Cmp.{nat_cmp_total}
 use Rattle.std.specs.FinMap.{same_map, nat_cmp-IsAntisymmetric}
 use Rattle.x86_64_model.specs.Mapper.{◌laid_in◌}
-use Rattle.x86_64_model.specs.Layout.{Layout}
 use Rattle.x86_64_model.specs.Lists.{In}
-use Rattle.x86_64_model.specs.Pool.{serves_below}
 use Rattle.x86_64_model.specs.Memory.{Memory, identity_places, words_of, word}
+use Rattle.x86_64_model.specs.Store.{Fits}
+use Rattle.x86_64.specs.Pairs.{pool_store}
 use Rattle.x86_64.specs.Runs as runs
-use Rattle.pagetab_engine.specs.Arguments.{count}
-use Rattle.pagetab_engine.specs.Frames.{FitsBy, IsLoadable, direct_layout, free_after, memory_after, recursive_layout}
-use Rattle.pagetab_engine.specs.Hierarchy.{FitsImage, FitsIn, HasCopy, IsCopy, IsReached, first_memory, layout}
+use Rattle.pagetab_engine.specs.Frames.{IsLoadable, free_after, memory_after}
+use Rattle.pagetab_engine.specs.Hierarchy.{FitsImage, IsReached, first_memory, image_layout, layout}
 use Rattle.pagetab_engine.specs.Program.{IsEmpty, IsFirst, Loads}
 use Rattle.pagetab_engine.specs.Slot.{stored}
 use Rattle.pagetab_engine.specs.declared.arguments.Arguments.{Arguments}
 use Rattle.pagetab_engine.specs.declared.arguments.Mode.{Mode}
-use Rattle.pagetab_engine.specs.declared.arguments.Mode.TheVariants.{Direct, Offset, Recursive, Pair}
 use Rattle.pagetab_engine.specs.declared.frames.Frames.{Frames}
 use Rattle.pagetab_engine.specs.declared.hierarchy.Hierarchy.{Hierarchy}
 use Rattle.pagetab_engine.specs.declared.statement.ImageLine.{ImageLine}
 use Rattle.pagetab_engine.specs.declared.statement.ImageLine.TheVariants.{Word, Free}
+use Rattle.pagetab_engine.proofs.Images.{SameFrames, fits_same_frames, turned}
 use Rattle.pagetab_engine.proofs.SameCommands.{IsSame}
-
--- equal words, free frames in the same order, and equally many places
-pub record SameFrames (f g : Frames) : Type 0 where
-  pub memory : f.memory ≡ g.memory
-  pub free : f.pool.frames ≡ g.pool.frames
-  pub limit : f.pool.limit ≡ g.pool.limit
 
 -- hierarchies of one mode with one image
 pub record SameImage (h k : Hierarchy) : Type 0 where
   pub mode : h.mode ≡ k.mode
   pub frames : SameFrames h.frames k.frames
-  pub copy : HasCopy h
-  pub other_copy : HasCopy k
 
 pub empty_same : (arguments : Arguments) (h k : Hierarchy) → IsEmpty arguments h → IsEmpty arguments k → SameImage h k
 empty_same arguments h k is also = record {
@@ -43,8 +34,6 @@ empty_same arguments h k is also = record {
     free = is.free ∙ sym also.free;
     limit = is.limit ∙ sym also.limit;
   };
-  copy = is.copy;
-  other_copy = also.copy;
 }
 
 same_memory : (f g : Frames) → SameFrames f g → (image : ImageLine) → memory_after f image ≡ memory_after g image
@@ -63,36 +52,18 @@ loads_same h k same image a b loads also = record {
     free = loads.free ∙ same_free h.frames k.frames same.frames image ∙ sym also.free;
     limit = loads.limit ∙ same.frames.limit ∙ sym also.limit;
   };
-  copy = loads.copy;
-  other_copy = also.copy;
 }
 
 pub loadable_same : (f g : Frames) → SameFrames f g → (image : ImageLine) → IsLoadable f image → IsLoadable g image
 loadable_same f g same (Word slot value) is = tt
 loadable_same f g same (Free frame) is = (is.0, subst (λ limit. frame / 4096 < limit) same.limit is.1, λ i. is.2 (subst (λ free. In free frame) (sym same.free) i))
 
-pub turned : (f g : Frames) → SameFrames f g → SameFrames g f
-turned f g same = record { memory = sym same.memory; free = sym same.free; limit = sym same.limit }
-
-fits_by : (by : Memory → Layout) (f g : Frames) → SameFrames f g → FitsBy (by f.memory) f → FitsBy (by g.memory) g
-fits_by by f g same = subst (λ (at : Memory × ℕ × List ℕ). runs.PoolFits (by at.0 laid_in at.0) (serves_below at.1) at.2) (λ i. (same.memory i, same.limit i, same.free i))
-
-fits_in : (mode : Mode) (f c g d : Frames) → SameFrames f g → IsCopy mode f c → IsCopy mode g d → FitsIn mode f c → FitsIn mode g d
-fits_in (Direct levels) f c g d same copy other fits = fits_by (λ m. direct_layout (count levels)) f g same fits
-fits_in (Offset offset) f c g d same copy other fits = fits_by (λ m. direct_layout 4) f g same fits
-fits_in (Recursive levels index) f c g d same copy other fits = fits_by (λ m. recursive_layout (count levels) m index) f g same fits
-fits_in (Pair levels index) f c g d same copy other fits = fits_by (λ m. recursive_layout (count levels) m index) c d (record {
-  memory = copy.0 ∙ same.memory ∙ sym other.0;
-  free = copy.1 ∙ same.free ∙ sym other.1;
-  limit = copy.2 ∙ same.limit ∙ sym other.2;
-}) fits
-
 pub fits_same : (h k : Hierarchy) → SameImage h k → FitsImage h → FitsImage k
-fits_same h k same fits = subst (λ mode. FitsIn mode k.frames k.twin) same.mode
-    (fits_in h.mode h.frames h.twin k.frames k.twin same.frames same.copy (subst (λ mode. IsCopy mode k.frames k.twin) (sym same.mode) same.other_copy) fits)
+fits_same h k same fits =
+    subst (λ mode. Fits (image_layout mode k.frames.memory laid_in k.frames.memory) (pool_store k.frames.pool)) same.mode (fits_same_frames (image_layout h.mode) h.frames k.frames same.frames fits)
 
 pub image_turned : (h k : Hierarchy) → SameImage h k → SameImage k h
-image_turned h k same = record { mode = sym same.mode; frames = turned h.frames k.frames same.frames; copy = same.other_copy; other_copy = same.copy }
+image_turned h k same = record { mode = sym same.mode; frames = turned h.frames k.frames same.frames }
 
 pub reached_same : (h k : Hierarchy) → SameImage h k → IsReached h.mode h.frames.memory → IsReached k.mode k.frames.memory
 reached_same h k same = subst (λ (at : Mode × Memory). IsReached at.0 at.1) (λ i. (same.mode i, same.frames.memory i))

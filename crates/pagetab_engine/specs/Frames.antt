@@ -2,13 +2,11 @@
 use Rattle.std.specs.Prelude.{◌≡◌, ◌≢◌, ◌<◌, ◌≤◌, ◌/◌, ℕ, ⊤, List, [], ◌∷◌, ◌++◌}
 use Rattle.x86_64_model.specs.Layout.{Layout}
 use Rattle.x86_64_model.specs.Lists.{In}
-use Rattle.x86_64_model.specs.Pool.{serves_below}
 use Rattle.x86_64_model.specs.Memory.{Memory, identity_places}
 use Rattle.x86_64_tables.specs.declared.frame_alloc.pool.PoolRefusal.{PoolRefusal}
 use Rattle.x86_64_tables.specs.declared.frame_alloc.pool.PoolRefusal.TheVariants.{Zero, OutOfRange, AlreadyFree}
 use Rattle.x86_64_mappers.specs.Layouts.{direct_at}
 use Rattle.x86_64_mappers.specs.Recursive.{recursive_now_at}
-use Rattle.x86_64_model.specs.Mapper.{◌laid_in◌, PoolFits}
 use Rattle.pagetab_engine.specs.Slot.{stored}
 use Rattle.pagetab_engine.specs.declared.frames.Frames.{Frames}
 use Rattle.pagetab_engine.specs.declared.statement.ImageLine.{ImageLine}
@@ -21,10 +19,6 @@ direct_layout levels = direct_at levels identity_places 0x1000
 -- this with a recursive index, and the root's present word there as self-entry
 abbrev pub recursive_layout : (levels : ℕ) → Memory → (index : ℕ) → Layout
 recursive_layout levels memory index = recursive_now_at levels memory 0x1000 index
-
--- the hierarchy is valid, and the free frames fit it
-abbrev pub FitsBy : Layout → Frames → Type 0
-FitsBy layout frames = PoolFits (layout laid_in frames.memory) (serves_below frames.pool.limit) frames.pool.frames
 
 -- the memory after the root's word at a recursive index was set to 0
 abbrev pub without_self_entry : (index : ℕ) → Memory → Memory

@@ -1,21 +1,22 @@
 -- The hierarchy that the program reads, or two with one image in a pair, as a machine.
-use Rattle.std.specs.Prelude.{◌≡◌, ◌↔◌, ℕ, ⊤, Bool, cond, false, List, [], Some}
-use Rattle.x86_64_model.specs.Alike.{Alike}
+use Rattle.std.specs.Prelude.{◌≡◌, ℕ, ⊤, Bool, cond, false, List, [], Some}
 use Rattle.x86_64_model.specs.Layout.{Layout}
-use Rattle.x86_64_model.specs.Mapper.{◌laid_in◌, KeepsOutside, Owns, paths}
+use Rattle.x86_64_model.specs.Mapper as mapper
+use Rattle.x86_64_model.specs.Mapper.{◌laid_in◌}
 use Rattle.x86_64_model.specs.Machine.{Machine, State}
-use Rattle.x86_64_model.specs.Pool.{serves_below}
-use Rattle.x86_64_model.specs.Memory.{Memory, identity_places}
+use Rattle.x86_64_model.specs.Memory.{Memory}
+use Rattle.x86_64_model.specs.Store.{Fits, Kept}
 use Rattle.x86_64_mappers.specs.Offsets.{OffsetFits}
-use Rattle.x86_64.specs.Asked.{MapperCall, names_by}
-use Rattle.x86_64.specs.FreeFrames.{KeepsFree as KeepsFreeFrames}
+use Rattle.x86_64.specs.Asked.{MapperCall, machine_call, names_by}
+use Rattle.x86_64.specs.FreeFrames.{KeepsFree as KeepsFreeFrames, back_by}
+use Rattle.x86_64.specs.Pairs.{AreAlike, pool_store}
 use Rattle.x86_64.specs.Runs as runs
 use Rattle.x86_64.specs.Replies.{Reply}
 use Rattle.x86_64.specs.Runs.{AfterStep}
 use Rattle.x86_64.specs.declared.call_values.MapperReply.TheVariants.{NotAllowed}
 use Rattle.pagetab_engine.specs.Arguments.{count, levels_of}
-use Rattle.pagetab_engine.specs.Calls.{machine_by, asked_back, IsAnswered}
-use Rattle.pagetab_engine.specs.Frames.{direct_layout, recursive_layout, FitsBy, without_self_entry}
+use Rattle.pagetab_engine.specs.Calls.{IsAnswered}
+use Rattle.pagetab_engine.specs.Frames.{direct_layout, recursive_layout, without_self_entry}
 use Rattle.pagetab_engine.specs.declared.arguments.Mode.{Mode}
 use Rattle.pagetab_engine.specs.declared.arguments.Mode.TheVariants.{Direct, Offset, Recursive, Pair}
 use Rattle.pagetab_engine.specs.declared.frames.Frames.{Frames}
@@ -31,15 +32,16 @@ IsCopy mode frames copy = ⊤
 abbrev pub HasCopy : Hierarchy → Type 0
 HasCopy hierarchy = IsCopy hierarchy.mode hierarchy.frames hierarchy.twin
 
--- the hierarchy is valid, and the free frames fit it; in a pair this is the recursive mapper's
-abbrev pub FitsIn : Mode → (frames copy : Frames) → Type 0
-FitsIn (Direct levels) frames copy = FitsBy (direct_layout (count levels)) frames
-FitsIn (Offset offset) frames copy = FitsBy (direct_layout 4) frames
-FitsIn (Recursive levels index) frames copy = FitsBy (recursive_layout (count levels) frames.memory index) frames
-FitsIn (Pair levels index) frames copy = FitsBy (recursive_layout (count levels) copy.memory index) copy
+-- the layout in which the image is tested; in a pair this is the recursive mapper's
+abbrev pub image_layout : Mode → Memory → Layout
+image_layout (Direct levels) memory = direct_layout (count levels)
+image_layout (Offset offset) memory = direct_layout 4
+image_layout (Recursive levels index) memory = recursive_layout (count levels) memory index
+image_layout (Pair levels index) memory = recursive_layout (count levels) memory index
 
+-- the hierarchy of the image is valid, and the free frames fit it
 abbrev pub FitsImage : Hierarchy → Type 0
-FitsImage hierarchy = FitsIn hierarchy.mode hierarchy.frames hierarchy.twin
+FitsImage hierarchy = Fits (image_layout hierarchy.mode hierarchy.frames.memory laid_in hierarchy.frames.memory) (pool_store hierarchy.frames.pool)
 
 -- the memory of the first commands; in a pair the direct mapper's lacks the self-entry
 abbrev pub first_memory : Mode → Memory → Memory
@@ -48,21 +50,24 @@ first_memory mode memory = memory
 
 -- ---- the commands
 
+-- the layout of the mapper that executes the commands; in a pair this is the direct mapper's
 abbrev pub layout : Mode → Memory → Layout
-layout (Direct levels) memory = direct_layout (count levels)
-layout (Offset offset) memory = direct_layout 4
-layout (Recursive levels index) memory = recursive_layout (count levels) memory index
 layout (Pair levels index) memory = direct_layout (count levels)
+layout mode memory = image_layout mode memory
 
 abbrev pub layout_of : Hierarchy → Layout
 layout_of hierarchy = layout hierarchy.mode hierarchy.frames.memory
 
+-- the hierarchy of this mapper, as the model has it
+abbrev pub hierarchy_of : Hierarchy → mapper.Hierarchy (Unit {0})
+hierarchy_of hierarchy = layout_of hierarchy laid_in hierarchy.frames.memory
+
 abbrev pub machine_of : Hierarchy → Machine
-machine_of hierarchy = machine_by (layout_of hierarchy)
+machine_of hierarchy = runs.machine_with (hierarchy_of hierarchy) (pool_store hierarchy.frames.pool)
 
 -- the path map that the words mean, and the free frames
 abbrev pub hierarchy_state : Hierarchy → State
-hierarchy_state hierarchy = runs.state_in (layout_of hierarchy) hierarchy.frames.memory hierarchy.frames.pool.frames
+hierarchy_state hierarchy = runs.state_with (hierarchy_of hierarchy) (pool_store hierarchy.frames.pool)
 
 -- whether the recursive index of a pair is among these names
 abbrev pub is_index_named : Mode → (names : ℕ → Bool) → Bool
@@ -79,29 +84,22 @@ call_step hierarchy call = cond (is_refused hierarchy.mode call)
     (record { state = hierarchy_state hierarchy; reply = Some NotAllowed })
     (runs.step_by (machine_of hierarchy) (hierarchy_state hierarchy) call)
 
--- the state after a call
-abbrev pub call_state : Hierarchy → MapperCall → State
-call_state hierarchy call = (call_step hierarchy call).state
-
 -- the frames that a call returns if a mapper executes it: those of the tables that a clean up removes
 abbrev pub call_back : Hierarchy → MapperCall → List ℕ
-call_back hierarchy call = cond (is_refused hierarchy.mode call) [] (asked_back (machine_of hierarchy) (hierarchy_state hierarchy) call)
+call_back hierarchy call = cond (is_refused hierarchy.mode call) [] (back_by (machine_of hierarchy) (hierarchy_state hierarchy) (machine_call (machine_of hierarchy).levels call))
 
 -- free frames keep their words, except that returned frames hold zeros
 abbrev pub KeepsFree : (before : Hierarchy) → (back : List ℕ) → (after : Hierarchy) → Type 0
 KeepsFree before back after = KeepsFreeFrames (layout_of before) before.frames.memory before.frames.pool.frames back after.frames.memory after.frames.pool.frames
 
--- In a pair, the recursive mapper executes a call in its own frames. The reply and the state after it are those of its machine,
--- the free frames fit its hierarchy again, and no other word changes.
-pub record TwinAnswers (levels index : ℕ) (before : Frames) (asked : MapperCall) (after : Frames) (reply : Reply) : Type 0 where
-  pub answered : IsAnswered (recursive_layout levels before.memory index) before.memory before.pool.frames asked after.memory after.pool.frames reply
-  pub layout : recursive_layout levels after.memory index ≡ recursive_layout levels before.memory index
-  pub serves : serves_below after.pool.limit ≡ serves_below before.pool.limit
-  pub keeps : runs.KeepsPool (recursive_layout levels before.memory index) (serves_below before.pool.limit) before.memory before.pool.frames after.memory after.pool.frames
+-- the recursive mapper executes a call in these frames
+abbrev pub AnswersRecursively : (levels index : ℕ) (before : Frames) → MapperCall → (after : Frames) → Reply → Type 0
+AnswersRecursively levels index before asked after reply =
+    IsAnswered (recursive_layout levels before.memory index laid_in before.memory) (pool_store before.pool) asked (recursive_layout levels after.memory index laid_in after.memory) (pool_store after.pool) reply
 
 -- in a pair the recursive mapper gives this reply too
 abbrev pub TwinTells : Mode → (asked : MapperCall) → (before after : Frames) → Reply → Type 0
-TwinTells (Pair levels index) asked before after reply = TwinAnswers (count levels) index before asked after reply
+TwinTells (Pair levels index) asked before after reply = AnswersRecursively (count levels) index before asked after reply
 TwinTells mode asked before after reply = ⊤
 
 -- this holds if the mappers execute the call
@@ -116,34 +114,25 @@ IsReached mode memory = ⊤
 abbrev pub ReachesAll : Hierarchy → Type 0
 ReachesAll hierarchy = IsReached hierarchy.mode hierarchy.frames.memory
 
--- The recursive mapper's hierarchy is valid for the index, the path maps are alike, and its free frames fit it and are equal to
--- the direct mapper's.
-pub record IsTwin (levels index : ℕ) (memory : Memory) (free : List ℕ) (twin : Frames) : Type 0 where
-  pub fits : FitsBy (recursive_layout levels twin.memory index) twin
-  pub alike : Alike levels (paths (direct_layout levels laid_in memory)) (paths (recursive_layout levels twin.memory index laid_in twin.memory))
-  pub same_free : free ≡ twin.pool.frames
+-- The recursive mapper's hierarchy is valid for the index, and its free frames fit it. Its path map and the direct mapper's are
+-- alike, and so are the free frames.
+pub record IsTwin (levels index : ℕ) (frames twin : Frames) : Type 0 where
+  pub fits : Fits (recursive_layout levels twin.memory index laid_in twin.memory) (pool_store twin.pool)
+  pub alike : AreAlike levels (direct_layout levels laid_in frames.memory) frames.pool (recursive_layout levels twin.memory index laid_in twin.memory) twin.pool
 
 -- in a pair the two hierarchies are alike
 abbrev pub HasTwin : Mode → (frames twin : Frames) → Type 0
-HasTwin (Pair levels index) frames twin = IsTwin (count levels) index frames.memory frames.pool.frames twin
+HasTwin (Pair levels index) frames twin = IsTwin (count levels) index frames twin
 HasTwin mode frames twin = ⊤
 
 -- the hierarchy is valid, the free frames fit it, and the mapper reaches each place; in a pair both hierarchies are so, and alike
 pub record IsHierarchy (hierarchy : Hierarchy) : Type 0 where
-  pub fits : FitsBy (layout_of hierarchy) hierarchy.frames
-  pub reached : IsReached hierarchy.mode hierarchy.frames.memory
+  pub fits : Fits (hierarchy_of hierarchy) (pool_store hierarchy.frames.pool)
+  pub reached : ReachesAll hierarchy
   pub twin : HasTwin hierarchy.mode hierarchy.frames hierarchy.twin
 
--- the root, a table, or a free frame
-abbrev pub IsOwn : Hierarchy → (frame : ℕ) → Type 0
-IsOwn hierarchy frame = Owns (layout_of hierarchy laid_in hierarchy.frames.memory) hierarchy.frames.pool.frames frame
-
--- The mode, the layout and the frames that the pool serves stay, and the free frames fit the valid hierarchy again. Free frames
--- and tables together are the same set as before, and no word outside them and the root changed.
+-- The mode stays, and what calls keep of the mapper's hierarchy and free frames. What `IsHierarchy` says holds again.
 pub record KeepsHierarchy (before after : Hierarchy) : Type 0 where
   pub mode : after.mode ≡ before.mode
-  pub layout : layout_of after ≡ layout_of before
-  pub serves : serves_below after.frames.pool.limit ≡ serves_below before.frames.pool.limit
+  pub keeps : Kept (hierarchy_of before) (pool_store before.frames.pool) (hierarchy_of after) (pool_store after.frames.pool)
   pub fits : IsHierarchy after
-  pub conserved : (frame : ℕ) → IsOwn before frame ↔ IsOwn after frame
-  pub others : KeepsOutside identity_places (IsOwn before) before.frames.memory after.frames.memory

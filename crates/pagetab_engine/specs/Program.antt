@@ -6,7 +6,7 @@ use Rattle.x86_64_tables.specs.PageTable.{zero_words}
 use Rattle.pagetab_engine.specs.Arguments.{Says, count, levels_of}
 use Rattle.pagetab_engine.specs.Commands.{Command, Image, Asks}
 use Rattle.pagetab_engine.specs.Frames.{IsLoadable, memory_after, free_after}
-use Rattle.pagetab_engine.specs.Hierarchy.{hierarchy_state, first_memory, FitsImage, HasCopy, IsReached, KeepsHierarchy, KeepsFree}
+use Rattle.pagetab_engine.specs.Hierarchy.{hierarchy_state, first_memory, FitsImage, HasCopy, ReachesAll, KeepsHierarchy, KeepsFree}
 use Rattle.pagetab_engine.specs.Lines.{Numbered, numbered_from, lines_of, SaysAccepted, IsBad}
 use Rattle.pagetab_engine.specs.Reply.{Reply, IsToldByBoth, OnlyReads, command_back, command_reply, command_state}
 use Rattle.pagetab_engine.specs.Texts.{reply_line}
@@ -109,9 +109,9 @@ levels_in arguments = count (levels_of arguments.mode)
 pub data IsRun (words : List (List ℕ)) (input : List ℕ) : Ending → (replies : List Reply) → Type 0 where
   usage : ((arguments : Arguments) → ¬ (Says words arguments)) → IsRun words input (Stopped Usage) []
   unreached : (arguments : Arguments) (hierarchy : Hierarchy)
-      → Says words arguments → IsEmpty arguments hierarchy → ¬ (IsReached hierarchy.mode hierarchy.frames.memory) → IsRun words input (Stopped Usage) []
+      → Says words arguments → IsEmpty arguments hierarchy → ¬ (ReachesAll hierarchy) → IsRun words input (Stopped Usage) []
   reads : (arguments : Arguments) (hierarchy : Hierarchy) (ending : Ending) (replies : List Reply)
-      → Says words arguments → IsEmpty arguments hierarchy → IsReached hierarchy.mode hierarchy.frames.memory
+      → Says words arguments → IsEmpty arguments hierarchy → ReachesAll hierarchy
       → Reads (levels_in arguments) arguments.places (numbered_from 1 (lines_of input)) hierarchy ending replies → IsRun words input ending replies
   no_memory : (arguments : Arguments) → Says words arguments → IsRun words input (Stopped OutOfMemory) []
 

@@ -2,7 +2,7 @@
 use Rattle.std.specs.Prelude.{◌≡◌, ◌<◌, ◌+◌, ℕ, ⊤, List, [], ◌∷◌, Option, Some, None, option_map}
 use Rattle.x86_64_addr.specs.Position.{IsCanonical}
 use Rattle.x86_64.specs.Asked.{Translate, TranslateAddr, CleanUp, CleanUpRange}
-use Rattle.pagetab_engine.specs.Commands.{Command, Call, Walk, Show, Pool, Statement, Image, Asks}
+use Rattle.pagetab_engine.specs.Commands.{Call, Walk, Show, Pool, Statement, Image, Asks}
 use Rattle.pagetab_engine.specs.Fields.{Says}
 use Rattle.pagetab_engine.specs.PageCalls.{IsPageCall, bytes_of, call_by}
 use Rattle.pagetab_engine.specs.Slot.{slot_at}

@@ -1,13 +1,13 @@
 //! The run of the program.
-ghost use Rattle.std.specs.Prelude.{◌≡◌, ◌<◌, ℕ, List, length, map, string_bytes, option_map, Some, IfOk, IfErr, OnOk, OnErr};
+ghost use Rattle.std.specs.Prelude.{◌≡◌, ◌<◌, ℕ, List, length, map, string_bytes, option_map, IfOk, IfErr, OnOk, OnErr};
 ghost use Rattle.std.specs.Io.KnownBytes.{Appends};
 ghost use Rattle.pagetab_engine.specs.Arguments.{count, levels_of};
 ghost use Rattle.pagetab_engine.specs.Commands.{command_of};
-ghost use Rattle.pagetab_engine.specs.Hierarchy.{hierarchy_state, HasCopy, IsHierarchy, KeepsHierarchy, KeepsFree, ReachesAll};
+ghost use Rattle.pagetab_engine.specs.Hierarchy.{HasCopy, IsHierarchy, KeepsHierarchy, ReachesAll};
 ghost use Rattle.pagetab_engine.specs.Lines.{ForSome, IsInput, MayBeLeft, TracesBack};
-ghost use Rattle.pagetab_engine.specs.Program.{AppendsFront, Runs, levels_in};
+ghost use Rattle.pagetab_engine.specs.Program.{Answers, AppendsFront, Runs, levels_in};
 ghost use Rattle.pagetab_engine.specs.private.RunParts.{LoadsImage, Replies, RunsFrom, Served, StopsAt, StopsInImage, ending_of};
-ghost use Rattle.pagetab_engine.specs.Reply.{IsToldByBoth, OnlyReads, command_back, command_reply, command_state, reply_of};
+ghost use Rattle.pagetab_engine.specs.Reply.{reply_of};
 ghost use Rattle.pagetab_engine.specs.declared.ending.Fault.TheVariants.{Output};
 
 use crate::arguments::Arguments;
@@ -246,17 +246,9 @@ fn answer<L: LevelCount, P5: LevelFiveFlags<L>>(
 ) -> Result<Reply<L>, AllocError>
     requires fits { IsHierarchy hierarchy.old }
     requires levels { count (levels_of hierarchy.old.mode) ≡ L.LEVELS }
-    ensures reply { IfOk result (λ reply.
-        command_reply hierarchy.old (command_of P5.bits command) ≡ Some (reply_of reply)) }
-    ensures state { OnOk result (
-        hierarchy_state hierarchy.new ≡ command_state hierarchy.old (command_of P5.bits command)) }
-    ensures free { OnOk result (
-        KeepsFree hierarchy.old (command_back hierarchy.old (command_of P5.bits command)) hierarchy.new) }
-    ensures both { IfOk result (λ reply.
-        IsToldByBoth hierarchy.old (command_of P5.bits command) (reply_of reply) hierarchy.new) }
-    ensures reads { OnlyReads hierarchy.old (command_of P5.bits command) → hierarchy.new ≡ hierarchy.old }
+    ensures answers { IfOk result (λ reply.
+        Answers (command_of P5.bits command) hierarchy.old (reply_of reply) hierarchy.new) }
     ensures unchanged { OnErr result (hierarchy.new ≡ hierarchy.old) }
-    ensures keeps { KeepsHierarchy hierarchy.old hierarchy.new }
 {
     Ok(match command {
         Command::Call(call) => Reply::Answered(hierarchy.answer_call(alloc, call)?),

@@ -2,12 +2,15 @@
 //! place is the index of a table in memory).
 ghost use Rattle.std.specs.Prelude.{◌≡◌, ◌↔◌, [], ℕ, if◌then◌else◌, IsOk, IfOk, IfErr, OnOk, OnErr, IsTrue, Some, None, nat_lt, option_map};
 ghost use Rattle.std.specs.FinMap as map;
+ghost use Rattle.x86_64_model.specs.Mapper.{◌laid_in◌};
 ghost use Rattle.x86_64_model.specs.Memory.{words_of, identity_places};
 ghost use Rattle.x86_64_model.specs.PageWalk as model;
+ghost use Rattle.x86_64_model.specs.Store.{Fits};
 ghost use Rattle.x86_64_tables.specs.PageTable.{zero_words};
 ghost use Rattle.x86_64_tables.specs.Walks.{walked_of};
+ghost use Rattle.x86_64.specs.Pairs.{pool_store};
 ghost use Rattle.pagetab_engine.specs.Arguments.{count};
-ghost use Rattle.pagetab_engine.specs.Frames.{direct_layout, recursive_layout, FitsBy, IsLoadable, IsRefusedFor, memory_after, free_after, without_self_entry};
+ghost use Rattle.pagetab_engine.specs.Frames.{direct_layout, recursive_layout, IsLoadable, IsRefusedFor, memory_after, free_after, without_self_entry};
 ghost use Rattle.pagetab_engine.specs.Slot.{word_in};
 
 use crate::slot::Slot;
@@ -83,7 +86,8 @@ impl Frames {
     ///
     /// `AllocError` if memory allocation fails.
     pub fn fits(&self, alloc: Global, levels: Levels) -> Result<bool, AllocError>
-        ensures { IfOk result (λ fits. IsTrue fits ↔ FitsBy (direct_layout (count levels)) self.now) }
+        ensures { IfOk result (λ fits. IsTrue fits
+            ↔ Fits (direct_layout (count levels) laid_in self.now.memory) (pool_store self.now.pool)) }
     {
         let (memory, pool) = (&self.memory, &self.pool);
         match levels {
@@ -103,8 +107,9 @@ impl Frames {
         levels: Levels,
         index: PageTableIndex,
     ) -> Result<bool, AllocError>
-        ensures { IfOk result (λ fits.
-            IsTrue fits ↔ FitsBy (recursive_layout (count levels) self.now.memory index) self.now) }
+        ensures { IfOk result (λ fits. IsTrue fits
+            ↔ Fits (recursive_layout (count levels) self.now.memory index laid_in self.now.memory)
+            (pool_store self.now.pool)) }
     {
         let (memory, pool) = (&self.memory, &self.pool);
         match levels {

@@ -1,13 +1,15 @@
 //! The program's hierarchy, or two hierarchies with one image in a pair, and the execution of calls.
-ghost use Rattle.std.specs.Prelude.{◌≡◌, ◌↔◌, [], ℕ, if◌then◌else◌, IsOk, IfOk, IfErr, OnOk, OnErr, IsTrue, true, false, Some, None, nat_lt};
-ghost use Rattle.std.specs.FinMap as map;
-ghost use Rattle.x86_64_tables.specs.PageTable.{zero_words};
+ghost use Rattle.std.specs.Prelude.{◌≡◌, ◌↔◌, IsOk, IfOk, IfErr, OnOk, OnErr, IsTrue, false};
 ghost use Rattle.x86_64.specs.Calls.{asks, names};
+ghost use Rattle.x86_64.specs.Pairs.{pool_store};
 ghost use Rattle.pagetab_engine.specs.Arguments.{count, levels_of};
 ghost use Rattle.pagetab_engine.specs.Calls.{IsAnswered};
-ghost use Rattle.pagetab_engine.specs.Frames.{IsLoadable, IsRefusedFor, memory_after, free_after};
-ghost use Rattle.pagetab_engine.specs.Hierarchy.{hierarchy_state, call_back, call_state, call_step, first_memory, is_index_named, is_refused, layout_of};
-ghost use Rattle.pagetab_engine.specs.Hierarchy.{BothAnswer, FitsImage, HasCopy, ReachesAll, IsHierarchy, KeepsHierarchy, KeepsFree, TwinTells};
+ghost use Rattle.pagetab_engine.specs.Commands.{Call};
+ghost use Rattle.pagetab_engine.specs.Frames.{IsLoadable, IsRefusedFor};
+ghost use Rattle.pagetab_engine.specs.Hierarchy.{hierarchy_of, is_index_named};
+ghost use Rattle.pagetab_engine.specs.Hierarchy.{FitsImage, HasCopy, ReachesAll, IsHierarchy, KeepsHierarchy, TwinTells};
+ghost use Rattle.pagetab_engine.specs.Program.{Answers, IsEmpty, IsFirst, Loads};
+ghost use Rattle.pagetab_engine.specs.Reply.{Answered};
 
 use crate::arguments::{Arguments, Mode};
 use crate::execution::{answer_at_offset, answer_by_both, answer_direct, answer_recursively};
@@ -37,12 +39,7 @@ impl Hierarchy {
     ///
     /// `AllocError` if memory allocation fails.
     pub fn new(alloc: Global, arguments: Arguments) -> Result<Hierarchy, AllocError>
-        ensures mode { IfOk result (λ hierarchy. hierarchy.mode ≡ arguments.mode) }
-        ensures memory { IfOk result (λ hierarchy. (place : ℕ) → map.get hierarchy.frames.memory place
-            ≡ (if nat_lt place arguments.places then Some zero_words else None)) }
-        ensures pool { IfOk result (λ hierarchy. hierarchy.frames.pool.frames ≡ []) }
-        ensures limit { IfOk result (λ hierarchy. hierarchy.frames.pool.limit ≡ arguments.places) }
-        ensures copy { IfOk result HasCopy }
+        ensures { IfOk result (IsEmpty arguments) }
     {
         let copied_places = match arguments.mode {
             Mode::Direct(_) | Mode::Offset(_) | Mode::Recursive(..) => 0,
@@ -81,13 +78,9 @@ impl Hierarchy {
     pub fn load(&mut self, line: &ImageLine) -> Result<(), PoolRefusal>
         requires { HasCopy self.old }
         ensures accepted { IsOk result ↔ IsLoadable self.old.frames line.now }
-        ensures memory { OnOk result (self.new.frames.memory ≡ memory_after self.old.frames line.now) }
-        ensures free { OnOk result (self.new.frames.pool.frames ≡ free_after self.old.frames line.now) }
+        ensures loads { OnOk result (Loads line.now self.old self.new) }
         ensures why { IfErr result (IsRefusedFor self.old.frames line.now) }
         ensures refused { OnErr result (self.new ≡ self.old) }
-        ensures limit { self.new.frames.pool.limit ≡ self.old.frames.pool.limit }
-        ensures mode { self.new.mode ≡ self.old.mode }
-        ensures copy { HasCopy self.new }
         ensures reached { ReachesAll self.old → ReachesAll self.new }
     {
         self.frames.load(line)?;
@@ -104,17 +97,14 @@ impl Hierarchy {
     ///
     /// # Errors
     ///
-    /// `AllocError` if memory allocation fails.
+    /// `AllocError` if memory allocation fails. Then nothing changes.
     pub fn end_image(&mut self, alloc: Global) -> Result<bool, AllocError>
         requires copy { HasCopy self.old }
         requires reached { ReachesAll self.old }
         ensures fits { IfOk result (λ fits. IsTrue fits ↔ IsHierarchy self.new) }
         ensures tested { IfOk result (λ fits. IsTrue fits ↔ FitsImage self.old) }
-        ensures memory { OnOk result (
-            self.new.frames.memory ≡ first_memory self.old.mode self.old.frames.memory) }
-        ensures pool { self.new.frames.pool ≡ self.old.frames.pool }
-        ensures mode { self.new.mode ≡ self.old.mode }
-        ensures twin { self.new.twin ≡ self.old.twin }
+        ensures first { OnOk result (IsFirst self.old self.new) }
+        ensures unchanged { OnErr result (self.new ≡ self.old) }
     {
         let fits = self.fits(alloc)?;
         self.clear_self_entry();
@@ -123,10 +113,7 @@ impl Hierarchy {
 
     /// In a pair, sets the root's word at the recursive index to 0 for the mapper that isn't recursive.
     fn clear_self_entry(&mut self)
-        ensures memory { self.new.frames.memory ≡ first_memory self.old.mode self.old.frames.memory }
-        ensures pool { self.new.frames.pool ≡ self.old.frames.pool }
-        ensures mode { self.new.mode ≡ self.old.mode }
-        ensures twin { self.new.twin ≡ self.old.twin }
+        ensures { IsFirst self.old self.new }
     {
         let mode = self.mode;
         match mode {
@@ -146,13 +133,14 @@ impl Hierarchy {
         match self.mode {
             Mode::Direct(levels) => self.frames.fits(alloc, levels),
             Mode::Offset(_) => self.frames.fits(alloc, Levels::Four),
-            Mode::Recursive(levels, index) => self.frames.fits_recursive(alloc, levels, index),
-            Mode::Pair(levels, index) => self.twin.fits_recursive(alloc, levels, index),
+            Mode::Recursive(levels, index) | Mode::Pair(levels, index) => {
+                self.frames.fits_recursive(alloc, levels, index)
+            }
         }
     }
 
-    /// Runs the list of one call with the mapper of the mode, and returns the reply. In a pair, a call that names the
-    /// recursive index is not allowed, even if it only reads.
+    /// Executes a call with the mapper of the mode, or with both in a pair, and returns the reply. In a pair, a call
+    /// that names the recursive index is not allowed, even if it only reads.
     ///
     /// Requires that the hierarchy is valid, that its free frames fit it, that the mapper reaches each place, and that
     /// the call is for its number of levels. In a pair, both hierarchies must be valid and alike.
@@ -167,14 +155,9 @@ impl Hierarchy {
     ) -> Result<ReplyIn<L>, AllocError>
         requires fits { IsHierarchy self.old }
         requires levels { count (levels_of self.old.mode) ≡ L.LEVELS }
-        ensures reply { IfOk result (λ reply. (call_step self.old (asks P5.bits call)).reply ≡ Some reply) }
-        ensures state { OnOk result (hierarchy_state self.new ≡ call_state self.old (asks P5.bits call)) }
-        ensures free { OnOk result (KeepsFree self.old (call_back self.old (asks P5.bits call)) self.new) }
-        ensures both { IfOk result (λ reply.
-            BothAnswer self.old.mode (asks P5.bits call) reply self.old.twin self.new.twin) }
-        ensures refused { is_refused self.old.mode (asks P5.bits call) ≡ true → self.new ≡ self.old }
+        ensures answers { IfOk result (λ reply.
+            Answers (Call (asks P5.bits call)) self.old (Answered reply) self.new) }
         ensures unchanged { OnErr result (self.new ≡ self.old) }
-        ensures keeps { KeepsHierarchy self.old self.new }
     {
         if self.mode.is_named(&call) {
             return Ok(MapperReply::NotAllowed);
@@ -195,24 +178,23 @@ impl Hierarchy {
         requires fits { IsHierarchy self.old }
         requires levels { count (levels_of self.old.mode) ≡ L.LEVELS }
         requires unnamed { is_index_named self.old.mode (names L.LEVELS P5.bits call) ≡ false }
-        ensures answered { IfOk result (
-            IsAnswered (layout_of self.old) self.old.frames.memory self.old.frames.pool.frames
-            (asks P5.bits call) self.new.frames.memory self.new.frames.pool.frames) }
+        ensures answered { IfOk result (IsAnswered
+            (hierarchy_of self.old) (pool_store self.old.frames.pool) (asks P5.bits call)
+            (hierarchy_of self.new) (pool_store self.new.frames.pool)) }
         ensures both { IfOk result (
             TwinTells self.old.mode (asks P5.bits call) self.old.twin self.new.twin) }
         ensures unchanged { OnErr result (self.new ≡ self.old) }
         ensures keeps { KeepsHierarchy self.old self.new }
     {
-        let (mode, twin) = (self.mode, &mut self.twin);
-        let (memory, pool) = (&mut self.frames.memory, &mut self.frames.pool);
+        let (mode, frames) = (self.mode, &mut self.frames);
         match mode {
-            Mode::Direct(_) => answer_direct(alloc, memory, pool, call),
+            Mode::Direct(_) => Ok(answer_direct(frames, call)),
             Mode::Offset(offset) => {
                 let offset = VirtAddrIn::new(offset.as_u64());
-                answer_at_offset(alloc, memory, offset, pool, call)
+                Ok(answer_at_offset(frames, offset, call))
             }
-            Mode::Recursive(_, index) => answer_recursively(alloc, memory, index, pool, call),
-            Mode::Pair(_, index) => answer_by_both(alloc, memory, pool, twin, index, call),
+            Mode::Recursive(_, index) => Ok(answer_recursively(frames, index, call)),
+            Mode::Pair(_, index) => answer_by_both(alloc, frames, &mut self.twin, index, call),
         }
     }
 }

@@ -28,10 +28,10 @@ const PLACES: usize = 512;
 type Stage = u64;
 
 /// The blocks that a run takes from the remaining memory, in order, each with the progress of the run, and whether only
-/// a pair takes it, which has two memories, two pools, and two replies to a call. They are the numbers and the tables
-/// of a memory, the frames and the marks of a pool, the marks of the test, the text of a reply, the list of a call, its
-/// reply, a list of frames, and all growths of the texts and lists that follow. All other blocks reuse memory that was
-/// freed.
+/// a pair takes it, which has two memories, two pools, and lists for a call and its two replies. They are the numbers
+/// and the tables of a memory, the frames and the marks of a pool, the marks of the test, the text of a reply, the list
+/// of a call, the lists of its replies, a list of frames, and all growths of the texts and lists that follow. All other
+/// blocks reuse memory that was freed.
 static BLOCKS: [(Stage, usize, bool); 15] = [
     (0, 8 * PLACES, false),
     (0, 4096 * PLACES, false),
@@ -43,8 +43,8 @@ static BLOCKS: [(Stage, usize, bool); 15] = [
     (0, PLACES, true),
     (1, PLACES, false),
     (1, 8, false),
-    (2, size_of::<Call>(), false),
-    (2, size_of::<Reply>(), false),
+    (2, size_of::<Call>(), true),
+    (2, size_of::<Reply>(), true),
     (2, size_of::<Reply>(), true),
     (3, 32, false),
     (3, 2048, false),

@@ -48,9 +48,9 @@ loop-statement-preserved g c =
     let takes : TracesBack (may c.loop-statement.lines) (may next) (λ lines rest. TakesStatement g.L.LevelCount.LEVELS c.args.places lines next.number rest (Image c.in-Image.line)) = rw read at c.next_statement.ensures.next in
     let loaded : Loads c.in-Image.line c.loop-statement.hierarchy c.load.new.self = search rules in
     record {
-      copy = c.load.ensures.copy;
+      copy = loaded.copy;
       reached = c.load.ensures.reached c.loop-statement.invariant.reached;
-      mode = c.load.ensures.mode ∙ c.loop-statement.invariant.mode;
+      mode = loaded.mode ∙ c.loop-statement.invariant.mode;
       follows = goes_on g.L.LevelCount.LEVELS c.args.places c.args.hierarchy.now (may c.args.lines.now) c.loop-statement.hierarchy (may c.loop-statement.lines) c.loop-statement.invariant.follows
           (may next) next.number c.in-Image.line c.load.new.self takes loaded;
     }

@@ -13,7 +13,9 @@ returns-clause-twin g c =
     let root = cr3_of recursive.active in
     record {
       fits = search rules;
-      alike = alike_as_pair levels c.args.index (direct_at levels identity_places direct.root) (recursive_at levels root (window_with root recursive.index (bits_of recursive.self_flags))) direct.memory.now (memory_of recursive.active) _ _
-          c.run_pair.ensures.alike.paths (search rules) (search rules) (search rules) (search rules);
-      same_free = search rules;
+      alike = record {
+        paths = alike_as_pair levels c.args.index (direct_at levels identity_places direct.root) (recursive_at levels root (window_with root recursive.index (bits_of recursive.self_flags))) direct.memory.now (memory_of recursive.active) _ _
+            c.run_pair.ensures.alike.paths (search rules) (search rules) (search rules) (search rules);
+        pools = search rules;
+      };
     }
