@@ -8,6 +8,7 @@ mod accesses;
 mod changes;
 mod given;
 mod listing;
+mod ranges;
 mod reads;
 mod runs;
 mod status;
