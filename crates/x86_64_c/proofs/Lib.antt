@@ -4,3 +4,7 @@ pub mod Located
 pub mod Marked
 pub mod LentRuns
 pub mod Filling
+pub mod RangeArguments
+pub mod RangeKeeps
+pub mod RangesSeen
+pub mod FrameArrays

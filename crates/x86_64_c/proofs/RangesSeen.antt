@@ -1,5 +1,6 @@
 -- What a mapper did with a range, stated of the words in the caller's memory.
-use Rattle.std.proofs.Common.{zero, suc, ◌≡◌, inl, inr, ◌≤◌, ◌<◌, ◌+◌, ◌*◌, ℕ, Bool, false, List, [], ◌∷◌, length, Result, Ok, Err, IfOk, IfErr, refl, sym, ap, ◌∙◌, subst, arith}
+use Rattle.std.proofs.Common.{zero, suc, ◌≡◌, inl, inr, ◌≤◌, ◌<◌, ◌+◌, ◌*◌, ℕ, Bool, false, List, [], ◌∷◌, ◌++◌, length, Result, Ok, Err, IfOk, IfErr, refl, sym, ap, ◌∙◌, subst, arith}
+use Rattle.std.specs.Borrow.{GName}
 use Rattle.std.proofs.lemmas.List.FromFn.{length-map-range_with_len}
 use Rattle.x86_64_model.specs.Call.{Call, Reply, NotAllowed, Answered, Position, Address, Cleaned, MapToWithTableFlags, Unmap, UpdateFlags}
 use Rattle.x86_64_model.specs.Entry.{IsParentFlags}
@@ -10,18 +11,28 @@ use Rattle.x86_64_model.specs.Memory.{Memory, Places}
 use Rattle.x86_64_model.specs.Path.{IsPage, path_at}
 use Rattle.x86_64_model.specs.Position.{span, position_count}
 use Rattle.x86_64_model.specs.Refusal.{Done, Refused}
-use Rattle.x86_64_model.specs.Store.{KeepsPool, put_first}
+use Rattle.x86_64_model.specs.Store.{KeepsPool, Store, put_first}
 use Rattle.x86_64_model.specs.Window.{begins_with}
 use Rattle.x86_64_model.proofs.Lemmas.Machines.Effects.{page_at_level}
 use Rattle.x86_64_model.proofs.Lemmas.Machines.Fitting.{AllCalls, ready_of_fits}
 use Rattle.x86_64_model.proofs.Lemmas.Paths.Pages.{span_pos}
 use Rattle.x86_64_mappers.specs.Layouts.{direct_at}
 use Rattle.x86_64_mappers.specs.RangeChanges.{DoesChanges, IsRange, frames_done, unmaps, updates}
-use Rattle.x86_64_mappers.specs.Ranges.{DoesMaps, IsNextMap, MapRange, MapsEach, map_at, maps, page_at}
+use Rattle.x86_64_mappers.specs.Ranges.{DoesMaps, IsNextMap, MapRange, MapsEach, MapsRange, StopsAt, accepted, map_at, maps, page_at}
+use Rattle.x86_64_mappers.specs.declared.access.ranges.MapRangeErrorIn.{MapRangeErrorIn}
+use Rattle.x86_64_tables.specs.FlushRecorder.{FlushRange, flush_range}
+use Rattle.x86_64_tables.specs.LentMemory.{numbered}
+use Rattle.x86_64_tables.specs.LentPool.{is_in, served_by}
+use Rattle.x86_64_tables.specs.MapperAnswers.{map_refusal}
+use Rattle.x86_64_tables.proofs.LentPools.{fits_own}
 use Rattle.x86_64_c.proofs.EntryChanges.{of}
 use Rattle.x86_64_c.proofs.RangeArguments.{page_before}
 use Rattle.x86_64_c.proofs.RangeKeeps.{keeps_calls, are_calls}
-use Rattle.x86_64_c.specs.Ranges.{Changes}
+use Rattle.x86_64_c.proofs.LentRuns.{stack}
+use Rattle.x86_64_c.specs.Calls.{result_status}
+use Rattle.x86_64_c.specs.Given.{at}
+use Rattle.x86_64_c.specs.Ranges.{Changes, Maps}
+use Rattle.x86_64_c.specs.declared.given.Located.{Located}
 
 -- ---- the calls on a range
 
@@ -149,3 +160,44 @@ pub maps_keep : (l : Layout) (m n : Memory) (serves : ℕ → Bool) (pool : List
     → PoolFits (of l m) serves pool → DoesMaps (of l m) pool r count answers (of l n) rest → KeepsPool l serves m pool n rest
 maps_keep l m n serves pool r count answers rest adds are fits does =
     keeps_calls l adds serves m pool fits (maps l.levels r count) are n rest (does.state put_first) does.fits (λ k none. does.others k (λ f own. none f own.0))
+
+-- what a map of a range returned, and what was told of it
+pub mapped : {Lent S V : Type 0} (h after : Hierarchy Lent) (l : Layout) (m n : Memory) → h.layout ≡ l → h.memory ≡ m → after.memory ≡ n → IsParentFlags l.added_flags
+    → (pool rest : Store) (r : MapRange) → ((k : ℕ) → AllCalls l.levels (maps l.levels r k)) → PoolFits (of l m) pool.serves pool.frames
+    → (page count : ℕ) (result : Result FlushRange (MapRangeErrorIn S V)) → MapsRange h pool.frames r count result after rest.frames → IfOk result (λ flush. flush ≡ flush_range page count)
+    → (status done : ℕ) → status ≡ result_status (λ (error : MapRangeErrorIn S V). map_refusal error.why) result → IfOk result (λ flush. done ≡ flush.count) → IfErr result (λ error. done ≡ error.mapped.count)
+    → Maps (of l m) pool r count (of l n) rest status done
+mapped h after l m n layout memory left adds pool rest r are fits page count (Ok flush) maps pages status done told all some =
+    let did = maps_did h after l m n layout memory left pool.frames r rest.frames count (accepted r count) maps in
+    record {
+      maps = inl (told, all ∙ ap (λ (f : FlushRange). f.count) pages, did);
+      keeps = maps_keep l m n pool.serves pool.frames r count (accepted r count) rest.frames adds (are count) fits did;
+    }
+mapped h after l m n layout memory left adds pool rest r are fits page count (Err error) maps pages status done told all some =
+    let answers : (k : ℕ) → List Reply = λ k. accepted r k ++ Answered (Refused (map_refusal error.why)) ∷ [] in
+    let k = error.mapped.count in
+    let did = maps_did h after l m n layout memory left pool.frames r rest.frames (k + 1) (answers k) maps.1 in
+    record {
+      maps = inr (map_refusal error.why, told, subst (λ d. StopsAt (of l m) pool.frames r count d (map_refusal error.why) (of l n) rest.frames) (sym some) (maps.0, did));
+      keeps = maps_keep l m n pool.serves pool.frames r (k + 1) (answers k) rest.frames adds (are (k + 1)) fits did;
+    }
+
+-- ---- maps with a pool that is lent
+
+own_maps : (own : List ℕ) (array count : GName) (serves also : ℕ → Bool) → serves ≡ served_by own array count → (h after : Hierarchy (Unit {0})) (pool rest : List ℕ) (r : MapRange) (number status done : ℕ)
+    → Maps h (stack serves pool) r number after (stack also rest) status done → Maps h (stack (is_in own) pool) r number after (stack (is_in own) rest) status done
+own_maps own array count serves also same h after pool rest r number status done maps = record {
+  maps = maps.maps;
+  keeps = record { fits = fits_own own array count same maps.keeps.fits; conserved = maps.keeps.conserved; others = maps.keeps.others };
+}
+
+pub lent_maps : (own : List ℕ) (array count : GName) (serves also : ℕ → Bool) → serves ≡ served_by own array count → (L : ℕ) (located : Located) (m n : Memory) (ts us : List (List ℕ)) (pool rest free left : List ℕ) (r : MapRange) (number status done : ℕ)
+    → m ≡ numbered ts → numbered us ≡ n → pool ≡ free → left ≡ rest
+    → Maps (at L located m) (stack serves pool) r number (at L located n) (stack also rest) status done
+    → Maps (at L located (numbered ts)) (stack (is_in own) free) r number (at L located (numbered us)) (stack (is_in own) left) status done
+lent_maps own array count serves also same L located m n ts us pool rest free left r number status done before after had has maps =
+    subst (λ l. Maps (at L located (numbered ts)) (stack (is_in own) free) r number (at L located (numbered us)) (stack (is_in own) l) status done) (sym has)
+    (subst (λ f. Maps (at L located (numbered ts)) (stack (is_in own) f) r number (at L located (numbered us)) (stack (is_in own) rest) status done) had
+    (subst (λ n. Maps (at L located (numbered ts)) (stack (is_in own) pool) r number (at L located n) (stack (is_in own) rest) status done) (sym after)
+    (subst (λ m. Maps (at L located m) (stack (is_in own) pool) r number (at L located n) (stack (is_in own) rest) status done) before
+    (own_maps own array count serves also same (at L located m) (at L located n) pool rest r number status done maps))))
