@@ -2,7 +2,7 @@
 
 use crate::access::{Access, Controls, Fault};
 use crate::addresses::{PhysAddr, VirtAddr};
-use crate::error::Error;
+use crate::error::{Error, MapRangeError};
 use crate::flags::Flags;
 use crate::hierarchy::{Hierarchy, Levels, Translation, Walked, outcome_of};
 use crate::library::{self, Located, result_of};
@@ -24,6 +24,15 @@ pub struct Pool<'a> {
     pub frames: &'a mut [PhysAddr],
     /// How many frames are free.
     pub free: usize,
+}
+
+/// What was unmapped of a range of pages.
+#[derive(Clone, Copy, Debug, PartialEq, Eq)]
+pub struct Unmapped {
+    /// How many pages were looked at, from the first one on.
+    pub pages: u64,
+    /// How many of them were mapped. So many frames were written.
+    pub frames: usize,
 }
 
 /// A valid hierarchy of page tables, and a pool that fits it. Both hold again after each call, whatever it returns.
@@ -104,6 +113,83 @@ impl<'a> AddressSpace<'a> {
                 &request,
             )
         })
+    }
+
+    /// Maps a number of pages of one size, from a page on, to as many frames, in order: each in turn as `map_to` does, up to the first one
+    /// that is refused. `parent_flags` must have `PRESENT`.
+    ///
+    /// # Errors
+    ///
+    /// Those of `map_to`, with the number of pages that were mapped. `BadPage` also if the pages don't end in the half of the address space
+    /// in which they start, and `BadFrame` also if the frames don't end at 2^52 or below.
+    pub fn map_range(
+        &mut self,
+        first: Page,
+        count: u64,
+        frame: PhysAddr,
+        flags: Flags,
+        parent_flags: Flags,
+    ) -> Result<(), MapRangeError> {
+        let request = library::MapRequest { page: first, frame, flags, parent_flags };
+        let (tables, pool, mut mapped) = (&mut *self.memory.tables, &mut self.pool, 0);
+        // SAFETY: as in `map_to`.
+        let status = unsafe {
+            library::x64_map_range(
+                &self.located,
+                tables.as_mut_ptr(),
+                tables.len(),
+                pool.frames.as_mut_ptr(),
+                pool.frames.len(),
+                &mut pool.free,
+                &request,
+                count,
+                &mut mapped,
+            )
+        };
+        result_of(status).map_err(|why| MapRangeError { mapped, why })
+    }
+
+    /// Unmaps a number of pages of one size, from a page on, but at most as many as `frames` has places. Passes over those whose `unmap` would
+    /// be refused, and writes the frames that the others were mapped to, in order, from the start of `frames` on. No table is freed.
+    ///
+    /// # Errors
+    ///
+    /// `BadPage`, also if the pages don't end in the half of the address space in which they start.
+    pub fn unmap_range(&mut self, first: Page, count: u64, frames: &mut [PhysAddr]) -> Result<Unmapped, Error> {
+        let (tables, mut unmapped) = (&mut *self.memory.tables, Unmapped { pages: 0, frames: 0 });
+        // SAFETY: as in `unmap`; `frames` is borrowed for the call, too.
+        let status = unsafe {
+            library::x64_unmap_range(
+                &self.located,
+                tables.as_mut_ptr(),
+                tables.len(),
+                &first,
+                count,
+                frames.as_mut_ptr(),
+                frames.len(),
+                &mut unmapped.frames,
+                &mut unmapped.pages,
+            )
+        };
+        match status {
+            library::MORE => Ok(unmapped),
+            status => result_of(status).map(|()| unmapped),
+        }
+    }
+
+    /// Sets the flags of the entries of a number of pages of one size, from a page on. Passes over those whose `update_flags` would be
+    /// refused, and returns how many the others are.
+    ///
+    /// # Errors
+    ///
+    /// `NotAllowed`; `BadPage`, also if the pages don't end in the half of the address space in which they start.
+    pub fn update_flags_range(&mut self, first: Page, count: u64, flags: Flags) -> Result<u64, Error> {
+        let (tables, mut changed) = (&mut *self.memory.tables, 0);
+        // SAFETY: as in `unmap`.
+        let status = unsafe {
+            library::x64_update_flags_range(&self.located, tables.as_mut_ptr(), tables.len(), &first, count, flags, &mut changed)
+        };
+        result_of(status).map(|()| changed)
     }
 
     /// Unmaps a page, and returns the address of the frame that it was mapped to. No table is freed.
