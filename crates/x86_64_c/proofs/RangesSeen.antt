@@ -1,12 +1,12 @@
 -- What a mapper did with a range, stated of the words in the caller's memory.
-use Rattle.std.proofs.Common.{zero, suc, ◌≡◌, inl, inr, ◌≤◌, ◌<◌, ◌+◌, ◌*◌, ℕ, Bool, false, List, [], ◌∷◌, ◌++◌, length, Result, Ok, Err, IfOk, IfErr, refl, sym, ap, ◌∙◌, subst, arith}
+use Rattle.std.proofs.Common.{zero, suc, ◌≡◌, inl, inr, ◌≤◌, ◌<◌, ◌+◌, ◌*◌, ℕ, Bool, false, List, [], ◌∷◌, ◌++◌, length, Result, Ok, Err, IfOk, IfErr, refl, sym, ap, ◌∙◌, subst, subst₂, arith}
 use Rattle.std.specs.Borrow.{GName}
 use Rattle.std.proofs.lemmas.List.FromFn.{length-map-range_with_len}
 use Rattle.x86_64_model.specs.Call.{Call, Reply, NotAllowed, Answered, Position, Address, Cleaned, MapToWithTableFlags, Unmap, UpdateFlags}
 use Rattle.x86_64_model.specs.Entry.{IsParentFlags}
 use Rattle.x86_64_model.specs.Layout.{Layout}
 use Rattle.x86_64_model.specs.Machine.{Machine, State, step, replies_of}
-use Rattle.x86_64_model.specs.Mapper.{Hierarchy, PoolFits, Valid, machine_of, path_of, state_in}
+use Rattle.x86_64_model.specs.Mapper.{Hierarchy, PoolFits, machine_of, state_in}
 use Rattle.x86_64_model.specs.Memory.{Memory, Places}
 use Rattle.x86_64_model.specs.Path.{IsPage, path_at}
 use Rattle.x86_64_model.specs.Position.{span, position_count}
@@ -23,6 +23,7 @@ use Rattle.x86_64_mappers.specs.declared.access.ranges.MapRangeErrorIn.{MapRange
 use Rattle.x86_64_tables.specs.FlushRecorder.{FlushRange, flush_range}
 use Rattle.x86_64_tables.specs.LentMemory.{numbered}
 use Rattle.x86_64_tables.specs.LentPool.{is_in, served_by}
+use Rattle.x86_64_tables.specs.Shifted.{shifted_places}
 use Rattle.x86_64_tables.specs.MapperAnswers.{map_refusal}
 use Rattle.x86_64_tables.proofs.LentPools.{fits_own}
 use Rattle.x86_64_c.proofs.EntryChanges.{of}
@@ -30,8 +31,10 @@ use Rattle.x86_64_c.proofs.RangeArguments.{page_before}
 use Rattle.x86_64_c.proofs.RangeKeeps.{keeps_calls, are_calls}
 use Rattle.x86_64_c.proofs.LentRuns.{stack}
 use Rattle.x86_64_c.specs.Calls.{result_status}
-use Rattle.x86_64_c.specs.Given.{at}
-use Rattle.x86_64_c.specs.Ranges.{Changes, Maps}
+use Rattle.x86_64_c.proofs.Located.{located_is}
+use Rattle.x86_64_c.specs.Given.{at, hierarchy_in, places_of}
+use Rattle.x86_64_c.specs.Ranges.{Changes, Maps, MayMap}
+use Rattle.x86_64_c.specs.declared.given.Hierarchy.{Hierarchy as Given}
 use Rattle.x86_64_c.specs.declared.given.Located.{Located}
 
 -- ---- the calls on a range
@@ -201,3 +204,20 @@ lent_maps own array count serves also same L located m n ts us pool rest free le
     (subst (λ n. Maps (at L located (numbered ts)) (stack (is_in own) pool) r number (at L located n) (stack (is_in own) rest) status done) (sym after)
     (subst (λ m. Maps (at L located m) (stack (is_in own) pool) r number (at L located n) (stack (is_in own) rest) status done) before
     (own_maps own array count serves also same (at L located m) (at L located n) pool rest r number status done maps))))
+
+-- ---- in the caller's tables
+
+module _ (h : Given) (located : Located) (L : ℕ) (levels : h.levels ≡ L) (root : located.root ≡ h.root) (places : places_of located ≡ shifted_places h.first) (s r : MapRange) (range : s ≡ r) (k n : ℕ) (count : k ≡ n) where
+  same : (ts : List (List ℕ)) → at L located (numbered ts) ≡ hierarchy_in h ts
+  same ts = located_is h located L levels root places (numbered ts) ts refl
+
+  pub may_given : (ts : List (List ℕ)) → MayMap (hierarchy_in h ts) r n → MayMap (at L located (numbered ts)) s k
+  may_given ts may = subst (λ a. MayMap a s k) (sym (same ts)) (subst₂ (MayMap (hierarchy_in h ts)) (sym range) (sym count) may)
+
+  pub given_may : (ts : List (List ℕ)) → MayMap (at L located (numbered ts)) s k → MayMap (hierarchy_in h ts) r n
+  given_may ts may = subst₂ (MayMap (hierarchy_in h ts)) range count (subst (λ a. MayMap a s k) (same ts) may)
+
+  pub maps_given : (ts us : List (List ℕ)) (pool rest : Store) (status done : ℕ) → Maps (at L located (numbered ts)) pool s k (at L located (numbered us)) rest status done → Maps (hierarchy_in h ts) pool r n (hierarchy_in h us) rest status done
+  maps_given ts us pool rest status done maps =
+      subst₂ (λ r n. Maps (hierarchy_in h ts) pool r n (hierarchy_in h us) rest status done) range count
+      (subst₂ (λ a b. Maps a pool s k b rest status done) (same ts) (same us) maps)

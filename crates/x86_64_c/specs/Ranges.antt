@@ -125,6 +125,10 @@ pub record Changes (h : Hierarchy (Unit {0})) (calls : List Call) (replies : Lis
   pub does : DoesChanges h calls replies after
   pub keeps : (serves : ℕ → Bool) (pool : List ℕ) → PoolFits h serves pool → KeepsPool h.layout serves h.memory pool after.memory pool
 
+-- The status of a call that looked at so many of a number of pages: it says whether these are all.
+abbrev pub end_status : (done count : ℕ) → ℕ
+end_status done count = cond (done == count) ok more
+
 -- Of a number of pages of a level, from a page on, as many were unmapped one after another as an array has entries. Those whose unmap is
 -- refused are passed over. The array begins with the frames of the others, and keeps what it holds behind them.
 pub record Unmaps (h : Hierarchy (Unit {0})) (level page count : ℕ) (array : List ℕ) (after : Hierarchy (Unit {0})) (status : ℕ) (frames : List ℕ) (frame_count done : ℕ) : Type 0 where
@@ -133,8 +137,7 @@ pub record Unmaps (h : Hierarchy (Unit {0})) (level page count : ℕ) (array : L
   pub changes : Changes h (unmaps h.layout.levels level page done) replies after
   pub taken : frames ≡ frames_done replies ++ drop (length (frames_done replies)) array
   pub number : frame_count ≡ length (frames_done replies)
-  -- The status says whether these are all pages.
-  pub status_is : status ≡ cond (done == count) ok more
+  pub status_is : status ≡ end_status done count
 
 -- The flags of so many pages of a level, from a page on, were set one after another. Those whose change is refused are passed over, and
 -- the number of the others was written.

@@ -460,7 +460,18 @@ fn unmap_pages<S: PageSize, L: LevelCount, T: TableMemory>(
     calls::unmap_range(&mut mapper, page, most, &mut sink).ignore();
     *frame_count = sink.count;
     *done = most;
-    if most == count { status::OK } else { status::MORE }
+    end_status(most, count)
+}
+
+/// Returns the status of a call that looked at so many of a number of pages.
+fn end_status(done: u64, count: u64) -> u32
+    ensures { result ≡ ranges.end_status done count }
+{
+    if done == count {
+        status::OK
+    } else {
+        status::MORE
+    }
 }
 
 // ---- changes of flags
