@@ -400,9 +400,25 @@ pub extern "C" fn x64_unmap_range(
     };
     let mut memory = LentMemory::new(tables);
     if hierarchy.levels == 4 {
-        unmap_in::<FourLevels, _>(&mut memory, located, first, count, frames, frame_count, done)
+        unmap_in::<FourLevels, _>(
+            &mut memory,
+            located,
+            first,
+            count,
+            frames,
+            frame_count,
+            done,
+        )
     } else {
-        unmap_in::<FiveLevels, _>(&mut memory, located, first, count, frames, frame_count, done)
+        unmap_in::<FiveLevels, _>(
+            &mut memory,
+            located,
+            first,
+            count,
+            frames,
+            frame_count,
+            done,
+        )
     }
 }
 
@@ -431,9 +447,33 @@ fn unmap_in<L: LevelCount, T: TableMemory>(
         return status::BAD_PAGE;
     };
     match page {
-        AnyPage::Of4KiB(page) => unmap_pages(memory, located, page, count, frames, frame_count, done),
-        AnyPage::Of2MiB(page) => unmap_pages(memory, located, page, count, frames, frame_count, done),
-        AnyPage::Of1GiB(page) => unmap_pages(memory, located, page, count, frames, frame_count, done),
+        AnyPage::Of4KiB(page) => unmap_pages(
+            memory,
+            located,
+            page,
+            count,
+            frames,
+            frame_count,
+            done,
+        ),
+        AnyPage::Of2MiB(page) => unmap_pages(
+            memory,
+            located,
+            page,
+            count,
+            frames,
+            frame_count,
+            done,
+        ),
+        AnyPage::Of1GiB(page) => unmap_pages(
+            memory,
+            located,
+            page,
+            count,
+            frames,
+            frame_count,
+            done,
+        ),
     }
 }
 

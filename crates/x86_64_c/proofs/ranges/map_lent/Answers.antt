@@ -23,7 +23,7 @@ returns-in-FourLevels-clause-refused g c = λ none.
     let count = same_count c.of.result.frames after.own.frames _ _ after.entries.ghost_name after.count.ghost_name serves in
     let back = handed_back c.args.tables.now in
     let inner = c.map_in.ensures.refused (λ may. none (rw c.in-FourLevels.is
-        (subst (λ m. MayMap (at 4 c.args.located m) (range_in c.in-FourLevels.map) (count_in c.in-FourLevels.map)) c.new-memory.ensures.tables may))) in
+    (subst (λ m. MayMap (at 4 c.args.located m) (range_in c.in-FourLevels.map) (count_in c.in-FourLevels.map)) c.new-memory.ensures.tables may))) in
     (inner.0, search rules, search rules, search rules, inner.3)
 
 pub returns-in-FourLevels-clause-maps : goal.returns-in-FourLevels-clause-maps
@@ -33,8 +33,8 @@ returns-in-FourLevels-clause-maps g c =
     let array = same_array c.of.result.frames after.own.frames _ _ after.entries.ghost_name after.count.ghost_name serves in
     let count = same_count c.of.result.frames after.own.frames _ _ after.entries.ghost_name after.count.ghost_name serves in
     rw (c.in-FourLevels.is, sym c.of.ensures) (λ may. lent_maps c.of.result.frames _ _ _ _ c.new-frames.ensures.serves 4 c.args.located _ _ c.args.tables.now _ _ _ _ _ _ _ c.map_in.result c.map_in.new.done
-        c.new-memory.ensures.tables (search rules) c.new-frames.ensures.supply (search rules)
-        (c.map_in.ensures.maps (subst (λ m. MayMap (at 4 c.args.located m) (range_in c.in-FourLevels.map) (count_in c.in-FourLevels.map)) (sym c.new-memory.ensures.tables) may)))
+    c.new-memory.ensures.tables (search rules) c.new-frames.ensures.supply (search rules)
+    (c.map_in.ensures.maps (subst (λ m. MayMap (at 4 c.args.located m) (range_in c.in-FourLevels.map) (count_in c.in-FourLevels.map)) (sym c.new-memory.ensures.tables) may)))
 
 pub returns-in-FourLevels-clause-in_array : goal.returns-in-FourLevels-clause-in_array
 returns-in-FourLevels-clause-in_array g c =
@@ -52,7 +52,7 @@ returns-clause-refused g c = λ none.
     let count = same_count c.of.result.frames after.own.frames _ _ after.entries.ghost_name after.count.ghost_name serves in
     let back = handed_back c.args.tables.now in
     let inner = c.map_in-in-FiveLevels.ensures.refused (λ may. none (rw c.in-FiveLevels.is
-        (subst (λ m. MayMap (at 5 c.args.located m) (range_in c.in-FiveLevels.map) (count_in c.in-FiveLevels.map)) c.new-memory.ensures.tables may))) in
+    (subst (λ m. MayMap (at 5 c.args.located m) (range_in c.in-FiveLevels.map) (count_in c.in-FiveLevels.map)) c.new-memory.ensures.tables may))) in
     (inner.0, search rules, search rules, search rules, inner.3)
 
 pub returns-clause-maps : goal.returns-clause-maps
@@ -62,8 +62,8 @@ returns-clause-maps g c =
     let array = same_array c.of.result.frames after.own.frames _ _ after.entries.ghost_name after.count.ghost_name serves in
     let count = same_count c.of.result.frames after.own.frames _ _ after.entries.ghost_name after.count.ghost_name serves in
     rw (c.in-FiveLevels.is, sym c.of.ensures) (λ may. lent_maps c.of.result.frames _ _ _ _ c.new-frames.ensures.serves 5 c.args.located _ _ c.args.tables.now _ _ _ _ _ _ _ c.map_in-in-FiveLevels.result c.map_in-in-FiveLevels.new.done
-        c.new-memory.ensures.tables (search rules) c.new-frames.ensures.supply (search rules)
-        (c.map_in-in-FiveLevels.ensures.maps (subst (λ m. MayMap (at 5 c.args.located m) (range_in c.in-FiveLevels.map) (count_in c.in-FiveLevels.map)) (sym c.new-memory.ensures.tables) may)))
+    c.new-memory.ensures.tables (search rules) c.new-frames.ensures.supply (search rules)
+    (c.map_in-in-FiveLevels.ensures.maps (subst (λ m. MayMap (at 5 c.args.located m) (range_in c.in-FiveLevels.map) (count_in c.in-FiveLevels.map)) (sym c.new-memory.ensures.tables) may)))
 
 pub returns-clause-in_array : goal.returns-clause-in_array
 returns-clause-in_array g c =
