@@ -429,51 +429,27 @@ fn unmap_in<L: LevelCount, T: TableMemory>(
     first: &Page,
     count: u64,
     frames: &mut [u64],
-    frame_count: &mut usize,
+    number: &mut usize,
     done: &mut u64,
 ) -> u32
     requires { ranges.bad_pages L.LEVELS first.now count ≡ None
         → Valid (given.at L.LEVELS located (T.tables memory.old)) }
     ensures bad { (status : ℕ) → ranges.bad_pages L.LEVELS first.now count ≡ Some status
         → (result ≡ status) × (T.tables memory.new ≡ T.tables memory.old) × (frames.new ≡ frames.old)
-        × (frame_count.new ≡ frame_count.old) × (done.new ≡ done.old) }
+        × (number.new ≡ number.old) × (done.new ≡ done.old) }
     ensures unmaps { ranges.bad_pages L.LEVELS first.now count ≡ None
         → ranges.Unmaps (given.at L.LEVELS located (T.tables memory.old)) (given.level_of first.now.size)
         (given.position_of L.LEVELS first.now.start) count frames.old
-        (given.at L.LEVELS located (T.tables memory.new)) result frames.new frame_count.new done.new }
+        (given.at L.LEVELS located (T.tables memory.new)) result frames.new number.new done.new }
     ensures lent { T.lent memory.new ≡ T.lent memory.old }
 {
     let Some(page) = first_page::<L>(first, count) else {
         return status::BAD_PAGE;
     };
     match page {
-        AnyPage::Of4KiB(page) => unmap_pages(
-            memory,
-            located,
-            page,
-            count,
-            frames,
-            frame_count,
-            done,
-        ),
-        AnyPage::Of2MiB(page) => unmap_pages(
-            memory,
-            located,
-            page,
-            count,
-            frames,
-            frame_count,
-            done,
-        ),
-        AnyPage::Of1GiB(page) => unmap_pages(
-            memory,
-            located,
-            page,
-            count,
-            frames,
-            frame_count,
-            done,
-        ),
+        AnyPage::Of4KiB(page) => unmap_pages(memory, located, page, count, frames, number, done),
+        AnyPage::Of2MiB(page) => unmap_pages(memory, located, page, count, frames, number, done),
+        AnyPage::Of1GiB(page) => unmap_pages(memory, located, page, count, frames, number, done),
     }
 }
 
@@ -484,13 +460,13 @@ fn unmap_pages<S: PageSize, L: LevelCount, T: TableMemory>(
     page: PageIn<S, L>,
     count: u64,
     frames: &mut [u64],
-    frame_count: &mut usize,
+    number: &mut usize,
     done: &mut u64,
 ) -> u32
     requires valid { Valid (given.at L.LEVELS located (T.tables memory.old)) }
     requires there { page + count * span S.LEVEL ≤ position_count L.LEVELS }
     ensures unmaps { ranges.Unmaps (given.at L.LEVELS located (T.tables memory.old)) S.LEVEL page count
-        frames.old (given.at L.LEVELS located (T.tables memory.new)) result frames.new frame_count.new
+        frames.old (given.at L.LEVELS located (T.tables memory.new)) result frames.new number.new
         done.new }
     ensures lent { T.lent memory.new ≡ T.lent memory.old }
 {
@@ -498,7 +474,7 @@ fn unmap_pages<S: PageSize, L: LevelCount, T: TableMemory>(
     let mut mapper = MappedPageTableIn::<_, L, T>::new(memory, located.root, located.mapping);
     let mut sink = FrameArray { frames, count: 0 };
     calls::unmap_range(&mut mapper, page, most, &mut sink).ignore();
-    *frame_count = sink.count;
+    *number = sink.count;
     *done = most;
     end_status(most, count)
 }

@@ -16,7 +16,7 @@ pub returns-then-hierarchy-eq4-clause-unmaps : goal.returns-then-hierarchy-eq4-c
 returns-then-hierarchy-eq4-clause-unmaps c = λ good.
     let inner = c.unmap_in.ensures.unmaps (sym (range_in c.args.hierarchy.now _ c.args.first.now c.args.count 4 c.in-Ok.ensures.good c.if-hierarchy-eq4.true) ∙ good) in
     given c.args.hierarchy.now c.in-Ok.located 4 c.if-hierarchy-eq4.true c.in-Ok.ensures.root c.in-Ok.ensures.places c.args.tables.now _ _ _ (sym c.new-memory.ensures.tables) (search rules)
-    (λ h L after. Unmaps h (level_of c.args.first.now.size) (position_of L c.args.first.now.start) c.args.count c.args.frames.now after c.unmap_in.result c.unmap_in.new.frames c.unmap_in.new.frame_count c.unmap_in.new.done) inner
+    (λ h L after. Unmaps h (level_of c.args.first.now.size) (position_of L c.args.first.now.start) c.args.count c.args.frames.now after c.unmap_in.result c.unmap_in.new.frames c.unmap_in.new.number c.unmap_in.new.done) inner
 
 pub returns-clause-bad : goal.returns-clause-bad
 returns-clause-bad c = λ status is.
@@ -30,7 +30,7 @@ returns-clause-unmaps c = λ good.
     let levels = five c.args.hierarchy.now _ c.in-Ok.ensures.good c.if-hierarchy-eq4.false in
     let inner = c.unmap_in-else-hierarchy-eq4.ensures.unmaps (sym (range_in c.args.hierarchy.now _ c.args.first.now c.args.count 5 c.in-Ok.ensures.good levels) ∙ good) in
     given c.args.hierarchy.now c.in-Ok.located 5 levels c.in-Ok.ensures.root c.in-Ok.ensures.places c.args.tables.now _ _ _ (sym c.new-memory.ensures.tables) (search rules)
-    (λ h L after. Unmaps h (level_of c.args.first.now.size) (position_of L c.args.first.now.start) c.args.count c.args.frames.now after c.unmap_in-else-hierarchy-eq4.result c.unmap_in-else-hierarchy-eq4.new.frames c.unmap_in-else-hierarchy-eq4.new.frame_count c.unmap_in-else-hierarchy-eq4.new.done) inner
+    (λ h L after. Unmaps h (level_of c.args.first.now.size) (position_of L c.args.first.now.start) c.args.count c.args.frames.now after c.unmap_in-else-hierarchy-eq4.result c.unmap_in-else-hierarchy-eq4.new.frames c.unmap_in-else-hierarchy-eq4.new.number c.unmap_in-else-hierarchy-eq4.new.done) inner
 
 pub unmap_in-requires : goal.unmap_in-requires
 unmap_in-requires c = λ good.
