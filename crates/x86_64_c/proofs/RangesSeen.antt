@@ -2,7 +2,7 @@
 use Rattle.std.proofs.Common.{zero, suc, ◌≡◌, inl, inr, ◌≤◌, ◌<◌, ◌+◌, ◌*◌, ℕ, Bool, false, List, [], ◌∷◌, ◌++◌, length, Result, Ok, Err, IfOk, IfErr, refl, sym, ap, ◌∙◌, subst, subst₂, arith}
 use Rattle.std.specs.Borrow.{GName}
 use Rattle.std.proofs.lemmas.List.FromFn.{length-map-range_with_len}
-use Rattle.x86_64_model.specs.Call.{Call, Reply, NotAllowed, Answered, Position, Address, Cleaned, MapToWithTableFlags, Unmap, UpdateFlags}
+use Rattle.x86_64_model.specs.Call.{Call, Reply, NotAllowed, Answered, Position, Address, Cleaned, Unmap, UpdateFlags}
 use Rattle.x86_64_model.specs.Entry.{IsParentFlags}
 use Rattle.x86_64_model.specs.Layout.{Layout}
 use Rattle.x86_64_model.specs.Machine.{Machine, State, step, replies_of}

@@ -1,4 +1,4 @@
-use Rattle.std.proofs.Common.{sym, ◌∙◌, leb-true, rules}
+use Rattle.std.proofs.Common.{rules}
 use Rattle.x86_64_c.proofs.RangeArguments.{ends_there}
 use Rattle.x86_64_c.proofs.ranges.first_page.Goals as goal
 

@@ -1,6 +1,6 @@
 use Rattle.std.proofs.Common.{◌≡◌, ◌≤◌, Some, None, refl, sym, ◌∙◌, length, arith, rules}
 use Rattle.x86_64_c.specs.PoolCalls.{loan}
-use Rattle.x86_64_c.specs.Ranges.{any_levels, any_range, any_count, bad_maps, bad_map_range, range_asked}
+use Rattle.x86_64_c.specs.Ranges.{any_levels, any_range, any_count, bad_maps, bad_map_range}
 use Rattle.x86_64_c.proofs.Arguments.{four_or_five, with_pool}
 use Rattle.x86_64_c.proofs.Located.{fits}
 use Rattle.x86_64_c.proofs.RangesSeen.{may_given, given_may, maps_given}

@@ -1,4 +1,4 @@
-use Rattle.std.proofs.Common.{◌≡◌, sym, ◌∙◌, rules}
+use Rattle.std.proofs.Common.{sym, ◌∙◌, rules}
 use Rattle.x86_64_c.specs.Ranges.{Unmaps}
 use Rattle.x86_64_c.specs.Given.{level_of, position_of}
 use Rattle.x86_64_c.proofs.Arguments.{five, handed_back}
