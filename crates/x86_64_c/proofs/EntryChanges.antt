@@ -22,7 +22,7 @@ use Rattle.x86_64_model.specs.Store.{put_first, KeepsPool}
 abbrev pub of : Layout → Memory → Hierarchy (Unit {0})
 of l m = record { layout = l; memory = m; lent = tt }
 
-gives : TakesBack put_first
+pub gives : TakesBack put_first
 gives = giving_from put_first (λ held f. IsPermutation-refl (f ∷ held))
 
 -- a pool that fitted the hierarchy still does

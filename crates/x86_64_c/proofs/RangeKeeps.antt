@@ -1,6 +1,5 @@
 -- What lists of calls keep: a pool that fitted still fits.
-use Rattle.std.proofs.Common.{zero, suc, ◌≡◌, ◌+◌, ℕ, Bool, List, ◌∷◌, map, subst}
-use Rattle.std.proofs.lemmas.List.Sorted.{IsPermutation-refl}
+use Rattle.std.proofs.Common.{zero, suc, ◌≡◌, ◌+◌, ℕ, Bool, List, map, subst}
 use Rattle.std.specs.List.{range_with_len}
 use Rattle.x86_64_model.specs.Call.{Call, IsCall}
 use Rattle.x86_64_model.specs.Entry.{IsParentFlags}
@@ -8,15 +7,11 @@ use Rattle.x86_64_model.specs.Layout.{Layout}
 use Rattle.x86_64_model.specs.Machine.{State, state_after}
 use Rattle.x86_64_model.specs.Mapper.{◌laid_in◌, KeepsOthers, Owns, PoolFits, SupplyFits, machine_of, paths, state_in, words}
 use Rattle.x86_64_model.specs.Memory.{Memory}
-use Rattle.x86_64_model.specs.Pool.{TakesBack}
 use Rattle.x86_64_model.specs.Store.{KeepsPool, put_first}
 use Rattle.x86_64_model.proofs.Lemmas.Machines.Fitting.{AllCalls, sound_of_fits, fits_of_sound, run_conserves}
-use Rattle.x86_64_model.proofs.Lemmas.Machines.Giving.{giving_from}
 use Rattle.x86_64_model.proofs.Lemmas.Machines.States.{IsSound, run_sound}
 use Rattle.x86_64_model.proofs.Lemmas.Maps.Frames.{Conserves}
-
-gives : TakesBack put_first
-gives = giving_from put_first (λ held f. IsPermutation-refl (f ∷ held))
+use Rattle.x86_64_c.proofs.EntryChanges.{gives}
 
 -- a list of calls, if the words mean the state after it and are as a mapper leaves them
 pub keeps_calls : (l : Layout) → IsParentFlags l.added_flags → (serves : ℕ → Bool) (m : Memory) (pool : List ℕ) → PoolFits (l laid_in m) serves pool

@@ -131,7 +131,8 @@ pub extern "C" fn x64_map_range(
     done: &mut u64,
 ) -> u32
     ghost own: { List ℕ }
-    requires { ranges.MayMapWith own hierarchy.now (loan tables.old pool.old free_count.old) request.now count }
+    requires { ranges.MayMapWith own hierarchy.now (loan tables.old pool.old free_count.old) request.now
+        count }
     ensures { ranges.MapsWith own hierarchy.now (loan tables.old pool.old free_count.old) request.now count
         done.old result (loan tables.new pool.new free_count.new) done.new }
 {
@@ -386,8 +387,8 @@ pub extern "C" fn x64_unmap_range(
 ) -> u32
     requires { ranges.bad_range hierarchy.now (length tables.old) first.now count ≡ None
         → Valid (given.hierarchy_in hierarchy.now tables.old) }
-    ensures bad { (status : ℕ) → ranges.bad_range hierarchy.now (length tables.old) first.now count ≡ Some status
-        → (result ≡ status) × (tables.new ≡ tables.old) × (frames.new ≡ frames.old)
+    ensures bad { (status : ℕ) → ranges.bad_range hierarchy.now (length tables.old) first.now count
+        ≡ Some status → (result ≡ status) × (tables.new ≡ tables.old) × (frames.new ≡ frames.old)
         × (frame_count.new ≡ frame_count.old) × (done.new ≡ done.old) }
     ensures unmaps { ranges.bad_range hierarchy.now (length tables.old) first.now count ≡ None
         → ranges.Unmaps (given.hierarchy_in hierarchy.now tables.old) (given.level_of first.now.size)
@@ -508,8 +509,8 @@ pub extern "C" fn x64_update_flags_range(
 ) -> u32
     requires { ranges.bad_range hierarchy.now (length tables.old) first.now count ≡ None
         → Valid (given.hierarchy_in hierarchy.now tables.old) }
-    ensures bad { (status : ℕ) → ranges.bad_range hierarchy.now (length tables.old) first.now count ≡ Some status
-        → (result ≡ status) × (tables.new ≡ tables.old) × (changed.new ≡ changed.old) }
+    ensures bad { (status : ℕ) → ranges.bad_range hierarchy.now (length tables.old) first.now count
+        ≡ Some status → (result ≡ status) × (tables.new ≡ tables.old) × (changed.new ≡ changed.old) }
     ensures updates { ranges.bad_range hierarchy.now (length tables.old) first.now count ≡ None
         → ranges.MayUpdate (given.hierarchy_in hierarchy.now tables.old) (given.level_of first.now.size)
         (given.position_of hierarchy.now.levels first.now.start) flags count changed.old
