@@ -89,9 +89,12 @@
  * it may have cached, before what a call let go is used again:
  *
  *   x64_unmap, x64_update_flags  the page (INVLPG of its first address), if the status is X64_OK
+ *   x64_unmap_range, x64_update_flags_range
+ *                                each page that was looked at, or everything, global pages too, if
+ *                                the status is X64_OK or X64_MORE
  *   x64_set_table_flags          everything, global pages too, if the status is X64_OK
- *   x64_clean_up                 tables (any INVLPG, or a load of CR3), before the next x64_map
- *   x64_map                      nothing; but everything, global pages too, if the parent flags
+ *   x64_clean_up                 tables (any INVLPG, or a load of CR3), before the next map
+ *   x64_map, x64_map_range       nothing; but everything, global pages too, if the parent flags
  *                                have X64_NO_EXECUTE, also if the call was refused, but not by
  *                                X64_NOT_ALLOWED or an X64_BAD_ status
  *   x64_new_space                nothing
@@ -107,8 +110,8 @@
  * and DIRTY in entries that it uses, and such a bit may be lost if it is set while a call writes
  * the same entry.
  *
- * x64_map clears a new table before it writes the entry that names it, so a processor that walks
- * the tables meanwhile finds no old words there. This order is that of the source, which a compiler
+ * A map clears a new table before it writes the entry that names it, so a processor that walks the
+ * tables meanwhile finds no old words there. This order is that of the source, which a compiler
  * may change. Frames that x64_clean_up puts back into the pool hold zeros.
  *
  * WHAT IS NOT PROVED
@@ -143,7 +146,7 @@ extern "C" {
 enum {
     X64_OK = 0,                      /* the call was done */
     X64_NOT_MAPPED = 1,              /* the address isn't mapped */
-    X64_MORE = 2,                    /* the array is full, and there are more mappings */
+    X64_MORE = 2,                    /* there are more mappings, or pages, than room */
     X64_NOT_VALID = 3,               /* the hierarchy isn't valid, or the pool doesn't fit it */
     X64_NOT_ALLOWED = 4,             /* these flags may not be set there; nothing has changed */
     X64_FRAME_ALLOCATION_FAILED = 5, /* a table is missing, and the pool is empty */
@@ -368,7 +371,7 @@ uint32_t x64_spaces_fit(uint64_t first, uint64_t levels, const x64_table *tables
  * CALLS THAT CHANGE TABLES
  *
  * Each may also return X64_BAD_LEVELS or X64_BAD_ROOT. Words change only in the root, in the tables
- * below it and, if x64_map or x64_new_space makes tables, in frames that it takes from the pool.
+ * below it and, if a map or x64_new_space makes tables, in frames that it takes from the pool.
  */
 
 /*
@@ -430,6 +433,29 @@ uint32_t x64_map(const x64_hierarchy *hierarchy, x64_table *tables, size_t table
                  const x64_map_request *request);
 
 /*
+ * Maps `count` pages of one size, from request->page on, to as many frames, from request->frame on,
+ * in order. Does what x64_map of each page in turn would do, up to the first one that is refused,
+ * but looks up each table only once. Writes to *done how many pages it mapped.
+ *
+ * Condition: the pool fits the hierarchy (x64_pool_fits).
+ *
+ * Returns X64_OK if all pages were mapped, and if count is 0, or one of these:
+ *   X64_NOT_ALLOWED              if the parent flags lack X64_PRESENT; or, unless count is 0, if
+ *                                x64_map of a page wouldn't be allowed. Nothing has changed
+ *   X64_FRAME_ALLOCATION_FAILED, X64_PARENT_ENTRY_HUGE_PAGE, X64_PAGE_ALREADY_MAPPED
+ *                                if x64_map refused the next page so. *done is written: so many
+ *                                pages are mapped. The next one left what a refused x64_map leaves,
+ *                                and no page after it was looked at
+ *   X64_BAD_ARRAY                if *free_count > capacity
+ *   X64_BAD_PAGE                 also if the pages don't end in the half of the address space in
+ *                                which they start
+ *   X64_BAD_FRAME                also if the last frame doesn't end at 2^52 or below
+ */
+uint32_t x64_map_range(const x64_hierarchy *hierarchy, x64_table *tables, size_t table_count,
+                       uint64_t *pool, size_t capacity, size_t *free_count,
+                       const x64_map_request *request, uint64_t count, uint64_t *done);
+
+/*
  * Unmaps a page: its entry becomes 0, and the physical address that it was mapped to is written to
  * *frame. No table is freed.
  *
@@ -447,6 +473,26 @@ uint32_t x64_unmap(const x64_hierarchy *hierarchy, x64_table *tables, size_t tab
                    const x64_page *page, uint64_t *frame);
 
 /*
+ * Unmaps `count` pages of one size, from *first on, but at most `capacity`, and writes to *done how
+ * many these are. Does what x64_unmap of each page in turn would do, but looks up each table only
+ * once, and passes over the pages below a missing table at once. A page whose unmap is refused, for
+ * whatever reason, is passed over and stays as it is. The addresses of the frames that the others
+ * were mapped to are written to `frames`, in order and from its start on, and their number to
+ * *frame_count. No table is freed.
+ *
+ * With X64_MORE *done is `capacity`, and a call with first->start + *done * first->size and
+ * count - *done continues after the last page that was looked at.
+ *
+ * Condition: the hierarchy is valid (x64_is_valid).
+ *
+ * Returns X64_OK if *done is count; X64_MORE if it is less; X64_BAD_PAGE, also if the pages don't
+ * end in the half of the address space in which they start.
+ */
+uint32_t x64_unmap_range(const x64_hierarchy *hierarchy, x64_table *tables, size_t table_count,
+                         const x64_page *first, uint64_t count, uint64_t *frames, size_t capacity,
+                         size_t *frame_count, uint64_t *done);
+
+/*
  * Sets the flags of a page's entry, which may lack X64_PRESENT. Its address stays, and the entry of
  * a larger page keeps X64_HUGE_PAGE.
  *
@@ -461,6 +507,23 @@ uint32_t x64_unmap(const x64_hierarchy *hierarchy, x64_table *tables, size_t tab
  */
 uint32_t x64_update_flags(const x64_hierarchy *hierarchy, x64_table *tables, size_t table_count,
                           const x64_page *page, uint64_t flags);
+
+/*
+ * Sets the flags of the entries of `count` pages of one size, from *first on. Does what
+ * x64_update_flags of each page in turn would do, but looks up each table only once, and passes
+ * over the pages below a missing table at once. A page whose change is refused, for whatever
+ * reason, is passed over and stays as it is. Writes to *changed how many pages the others are.
+ *
+ * Condition: the hierarchy is valid (x64_is_valid).
+ *
+ * Returns X64_OK or one of these; then nothing has changed:
+ *   X64_NOT_ALLOWED              if the flags have any of the bits 12 to 51
+ *   X64_BAD_PAGE                 also if the pages don't end in the half of the address space in
+ *                                which they start
+ */
+uint32_t x64_update_flags_range(const x64_hierarchy *hierarchy, x64_table *tables,
+                                size_t table_count, const x64_page *first, uint64_t count,
+                                uint64_t flags, uint64_t *changed);
 
 /*
  * Sets the flags of the entry on the way to a page at a level from 2 to hierarchy->levels. They

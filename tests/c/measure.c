@@ -2,7 +2,7 @@
  * Measures calls of the library: how many nanoseconds of processor time one takes, the least of seven rounds.
  *
  * The pages are of 4 KiB, contiguous, and so few that their tables stay in the cache. Each is mapped, translated and unmapped in turn
- * with the others, about ten million times in a round and in all.
+ * with the others, and as a range, about ten million times in a round and in all.
  */
 #define _DEFAULT_SOURCE
 #include <inttypes.h>
@@ -93,12 +93,35 @@ static void unmap(void) {
     }
 }
 
+static void map_range(void) {
+    x64_map_request request = {.page = page_at(0), .frame = 0, .flags = flags, .parent_flags = flags};
+    uint64_t done;
+    check(x64_map_range(&hierarchy, tables, TABLES, pool, TABLES, &free_count, &request, PAGES, &done));
+}
+
+static void update_range(void) {
+    x64_page page = page_at(0);
+    uint64_t changed;
+    check(x64_update_flags_range(&hierarchy, tables, TABLES, &page, PAGES, X64_PRESENT, &changed));
+    check(changed == PAGES ? X64_OK : X64_NOT_MAPPED);
+}
+
+static void unmap_range(void) {
+    static uint64_t frames[PAGES];
+    x64_page page = page_at(0);
+    size_t count;
+    uint64_t done;
+    check(x64_unmap_range(&hierarchy, tables, TABLES, &page, PAGES, frames, PAGES, &count, &done));
+    check(count == PAGES ? X64_OK : X64_NOT_MAPPED);
+}
+
 /* What is measured, in the order in which it is done. */
 static const struct {
     const char *name;
     void (*calls)(void);
 } operations[] = {{"map", map}, {"translate", translate}, {"walk", walk}, {"access", access_pages},
-    {"marking write", write_pages}, {"list", list}, {"unmap", unmap}};
+    {"marking write", write_pages}, {"list", list}, {"unmap", unmap}, {"map as a range", map_range},
+    {"update as a range", update_range}, {"unmap as a range", unmap_range}};
 
 enum { OPERATIONS = sizeof operations / sizeof *operations };
 

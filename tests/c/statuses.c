@@ -29,7 +29,7 @@ struct arguments {
     uint64_t capacity, free_count, null_pool;
     uint64_t mark_count, null_marks;
     uint64_t list_capacity, null_list;
-    uint64_t address, start, size, frame, flags, parent_flags, level, first_page, last_page;
+    uint64_t address, start, size, count, frame, flags, parent_flags, level, first_page, last_page;
     uint64_t root_count, null_roots, second_root, shared_from, shared_to;
     uint64_t kind, user, mark, write_protect, no_execute, smep, smap, ac, physical_bits;
     /* before the call the word at an index of a table gets these flags and the address of the table with a number */
@@ -78,6 +78,8 @@ struct world {
     uint64_t next;
     uint64_t frame;
     uint64_t root;
+    uint64_t frames[LISTED];
+    uint64_t done;
     x64_outcome outcome;
 };
 
@@ -131,6 +133,9 @@ enum function {
     UNMAP,
     UPDATE_FLAGS,
     SET_TABLE_FLAGS,
+    MAP_RANGE,
+    UNMAP_RANGE,
+    UPDATE_FLAGS_RANGE,
     CLEAN_UP,
     NEW_SPACE,
     GIVE_UP_SPACE,
@@ -138,9 +143,9 @@ enum function {
 };
 
 static const char *const names[FUNCTIONS] = {
-    "x64_page_walk",  "x64_translate", "x64_mappings",  "x64_is_valid",     "x64_pool_fits",
-    "x64_spaces_fit", "x64_access",    "x64_map",       "x64_unmap",        "x64_update_flags",
-    "x64_set_table_flags",             "x64_clean_up",  "x64_new_space",    "x64_give_up_space",
+    "x64_page_walk",  "x64_translate",    "x64_mappings",    "x64_is_valid",     "x64_pool_fits",       "x64_spaces_fit",
+    "x64_access",     "x64_map",          "x64_unmap",       "x64_update_flags", "x64_set_table_flags", "x64_map_range",
+    "x64_unmap_range", "x64_update_flags_range", "x64_clean_up", "x64_new_space", "x64_give_up_space",
 };
 
 /* Returns the arguments that rows change. */
@@ -155,6 +160,7 @@ static struct arguments usual(uint64_t levels) {
         .list_capacity = LISTED,
         .start = 0x4000,
         .size = X64_SIZE_4KIB,
+        .count = 1,
         .frame = 0x9000,
         .flags = 0x3,
         .parent_flags = 0x3,
@@ -183,6 +189,7 @@ static uint32_t call(enum function function, const struct arguments *a) {
     x64_mapping *list = a->null_list ? NULL : world.mappings;
     uint64_t *roots = a->null_roots ? NULL : world.roots;
     uint64_t from = a->shared_from, to = a->shared_to;
+    uint64_t *frames = a->null_list ? NULL : world.frames;
     x64_page page = {.start = a->start, .size = a->size};
     x64_map_request request = {.page = page, .frame = a->frame, .flags = a->flags, .parent_flags = a->parent_flags};
     x64_controls controls = {.write_protect = a->write_protect, .no_execute = a->no_execute, .smep = a->smep, .smap = a->smap,
@@ -213,6 +220,12 @@ static uint32_t call(enum function function, const struct arguments *a) {
         return x64_update_flags(h, tables, n, &page, a->flags);
     case SET_TABLE_FLAGS:
         return x64_set_table_flags(h, tables, n, &page, a->level, a->flags);
+    case MAP_RANGE:
+        return x64_map_range(h, tables, n, pool, a->capacity, &world.free_count, &request, a->count, &world.done);
+    case UNMAP_RANGE:
+        return x64_unmap_range(h, tables, n, &page, a->count, frames, a->list_capacity, &world.count, &world.done);
+    case UPDATE_FLAGS_RANGE:
+        return x64_update_flags_range(h, tables, n, &page, a->count, a->flags, &world.done);
     case CLEAN_UP:
         return x64_clean_up(h, tables, n, pool, a->capacity, &world.free_count, a->first_page, a->last_page);
     case NEW_SPACE:
@@ -603,6 +616,86 @@ static const struct row set_table_flags[] = {
     ROW("a bad page before bad flags", X64_BAD_PAGE, SET(start, 1), SET(flags, 0x1000)),
 };
 
+/* Bad numbers of pages of every function that takes one. */
+static const struct row ranges[] = {
+    ROW("behind the last page", X64_BAD_PAGE, SET(start, LAST_PAGE), SET(count, 2)),
+    ROW("behind the lower half with four levels", X64_BAD_PAGE, SET(start, NOT_CANONICAL_4 - 0x1000), SET(count, 2), SET(only, 4)),
+    ROW("behind the lower half with five levels", X64_BAD_PAGE, SET(start, NOT_CANONICAL - 0x1000), SET(count, 2), SET(only, 5)),
+    ROW("behind the upper half by 2 MiB", X64_BAD_PAGE, SET(start, UINT64_C(0xffffffffffe00000)), SET(size, X64_SIZE_2MIB),
+        SET(count, 2)),
+    ROW("more bytes than 64 bits count", X64_BAD_PAGE, SET(count, (UINT64_C(1) << 52) + 1)),
+    ROW("the greatest number", X64_BAD_PAGE, SET(count, UINT64_MAX)),
+    ROW("a page of no size, and no page", X64_BAD_PAGE, SET(size, 0), SET(count, 0)),
+};
+
+/* How many pages were mapped. */
+static const struct row map_range[] = {
+    {"one page", X64_OK, {USUAL}, 1, 0, 0, {1}},
+    {"all to the end of a table", X64_OK, {SET(count, 508)}, 508, 0, 0, {508}},
+    {"2 MiB", X64_OK, {SET(start, 0xa00000), SET(size, X64_SIZE_2MIB), SET(frame, 0x800000), SET(count, 2)}, 2, 0, 0, {2}},
+    {"1 GiB", X64_OK, {SET(start, 0x100000000), SET(size, X64_SIZE_1GIB), SET(frame, 0), SET(count, 2)}, 2, 0, 0, {2}},
+    {"three new tables", X64_OK, {SET(start, MISSING), SET(count, 2)}, 1 + 3 * 512, 0, 3, {2}},
+    {"the last pages", X64_OK, {SET(start, LAST_PAGE - 0x1000), SET(count, 2), SET(only, 4)}, 1 + 3 * 512, 0, 3, {2}},
+    {"the last frames", X64_OK, {SET(frame, UINT64_C(0xfffffffffe000)), SET(count, 2)}, 2, 0, 0, {2}},
+    ROW("no page", X64_OK, SET(count, 0)),
+    ROW("no page at all, with bad flags", X64_OK, SET(count, 0), SET(flags, 0x1003)),
+    ROW("no page, and parents without PRESENT", X64_NOT_ALLOWED, SET(count, 0), SET(parent_flags, 0x2)),
+    ROW("parents without PRESENT, which have it", X64_NOT_ALLOWED, SET(parent_flags, 0x2)),
+    ROW("an address in the flags", X64_NOT_ALLOWED, SET(flags, 0x1003)),
+    ROW("an address in the parent flags", X64_NOT_ALLOWED, SET(parent_flags, 0x1003)),
+    ROW("HUGE_PAGE in the parent flags", X64_NOT_ALLOWED, SET(parent_flags, 0x83)),
+    ROW("HUGE_PAGE for 4 KiB", X64_NOT_ALLOWED, SET(flags, 0x83)),
+    ROW("no free frame", X64_FRAME_ALLOCATION_FAILED, SET(start, MISSING), SET(free_count, 0)),
+    {"no free frame for the second page", X64_FRAME_ALLOCATION_FAILED, {SET(start, MISSING + 0x1ff000), SET(count, 2)},
+        1 + 3 * 512, 0, 3, {1}},
+    ROW("below 2 MiB", X64_PARENT_ENTRY_HUGE_PAGE, SET(start, 0x200000)),
+    {"up to 2 MiB", X64_PARENT_ENTRY_HUGE_PAGE, {SET(start, 0x1fe000), SET(count, 4)}, 2, 0, 0, {2}},
+    ROW("mapped", X64_PAGE_ALREADY_MAPPED, SET(start, 0x1000), SET(count, 4)),
+    {"up to a mapped one", X64_PAGE_ALREADY_MAPPED, {SET(start, 0), SET(count, 8)}, 1, 0, 0, {1}},
+    ROW("more free frames than room", X64_BAD_ARRAY, SET(capacity, FREE - 1)),
+    ROW("a bad array before a bad range", X64_BAD_ARRAY, SET(capacity, 0), SET(count, UINT64_MAX)),
+    ROW("a bad range before a bad frame", X64_BAD_PAGE, SET(count, UINT64_MAX), SET(frame, 1)),
+    ROW("a frame that is no multiple", X64_BAD_FRAME, SET(frame, 0x9800)),
+    ROW("a frame from 2^52 on", X64_BAD_FRAME, SET(frame, UINT64_C(1) << 52)),
+    ROW("a second frame from 2^52 on", X64_BAD_FRAME, SET(frame, UINT64_C(0xffffffffff000)), SET(count, 2)),
+    ROW("a bad frame before bad flags", X64_BAD_FRAME, SET(frame, 1), SET(flags, 0x1000)),
+};
+
+/* How many pages were looked at, how many frames there are, and the first and the last of these. */
+static const struct row unmap_range[] = {
+    {"one page", X64_OK, {SET(start, 0x1000)}, 1, 0, 0, {1, 1, 0x5000, 0x5000}},
+    {"one page of eight", X64_OK, {SET(start, 0), SET(count, LISTED)}, 1, 0, 0, {LISTED, 1, 0x5000, 0x5000}},
+    {"two pages", X64_OK, {SET(start, 0x1000), SET(count, 2), SET(word_table, 5), SET(word_index, 2), SET(word_flags, 0x6003)},
+        2, 0, 0, {2, 2, 0x5000, 0x6000}},
+    {"2 MiB", X64_OK, {SET(start, 0), SET(size, X64_SIZE_2MIB), SET(count, LISTED)}, 1, 0, 0, {LISTED, 1, 0x400000, 0x400000}},
+    {"1 GiB", X64_OK, {SET(start, 0), SET(size, X64_SIZE_1GIB), SET(count, LISTED)}, 1, 0, 0,
+        {LISTED, 1, 0x80000000, 0x80000000}},
+    WRITES("below 2 MiB", X64_OK, OUT(LISTED, 0, 0, 0), SET(start, 0x200000), SET(count, LISTED)),
+    WRITES("no tables there", X64_OK, OUT(LISTED, 0, 0, 0), SET(start, MISSING), SET(count, LISTED)),
+    WRITES("the last page", X64_OK, OUT(1, 0, 0, 0), SET(start, LAST_PAGE)),
+    ROW("no page", X64_OK, SET(count, 0)),
+    ROW("no page, and no array", X64_OK, SET(count, 0), SET(list_capacity, 0), SET(null_list, 1)),
+    {"room for all but one", X64_MORE, {SET(start, 0), SET(count, LISTED + 1)}, 1, 0, 0, {LISTED, 1, 0x5000, 0x5000}},
+    {"room for one", X64_MORE, {SET(start, 0x1000), SET(count, 2), SET(list_capacity, 1)}, 1, 0, 0, {1, 1, 0x5000, 0x5000}},
+    ROW("no room", X64_MORE, SET(start, 0x1000), SET(list_capacity, 0)),
+    ROW("no array", X64_MORE, SET(start, 0x1000), SET(list_capacity, 0), SET(null_list, 1)),
+};
+
+/* How many pages were changed. */
+static const struct row update_flags_range[] = {
+    {"one page", X64_OK, {SET(start, 0x1000), SET(flags, 0x1)}, 1, 0, 0, {1}},
+    {"three pages of a table", X64_OK, {SET(start, 0), SET(count, 512), SET(flags, 0x1)}, 3, 0, 0, {3}},
+    {"a table, and a page of 2 MiB", X64_OK, {SET(start, 0), SET(count, 1024), SET(flags, 0x1)}, 3, 0, 0, {3}},
+    {"2 MiB", X64_OK, {SET(start, 0), SET(size, X64_SIZE_2MIB), SET(count, 512), SET(flags, 0x1)}, 3, 0, 0, {3}},
+    {"1 GiB", X64_OK, {SET(start, 0), SET(size, X64_SIZE_1GIB), SET(count, 512), SET(flags, 0x1)}, 2, 0, 0, {2}},
+    WRITES("the flags that a page has", X64_OK, OUT(1, 0, 0, 0), SET(start, 0x1000)),
+    ROW("no tables there", X64_OK, SET(start, MISSING), SET(count, 1 << 20)),
+    ROW("no page", X64_OK, SET(count, 0)),
+    ROW("an address in the flags", X64_NOT_ALLOWED, SET(start, 0x1000), SET(flags, 0x1001)),
+    ROW("no page, and an address in the flags", X64_NOT_ALLOWED, SET(count, 0), SET(flags, 0x1001)),
+    ROW("a bad page before bad flags", X64_BAD_PAGE, SET(start, 1), SET(flags, 0x1000)),
+};
+
 /* The table that comes back last. */
 static const struct row clean_up[] = {
     {"all", X64_OK, {USUAL}, 1, 0, -1, {7}},
@@ -715,13 +808,29 @@ static void read_out(enum function function, uint64_t out[4]) {
         out[0] = world.root / 4096 - first;
         world.root = before.root;
         break;
+    case UNMAP_RANGE:
+        out[0] = world.done, out[1] = world.count;
+        if (world.count != 0)
+            out[2] = world.frames[0], out[3] = world.frames[world.count - 1];
+        memcpy(world.frames, before.frames, world.count * sizeof *world.frames);
+        world.done = before.done;
+        world.count = before.count;
+        break;
+    case MAP_RANGE:
+    case UPDATE_FLAGS_RANGE:
+        out[0] = world.done;
+        world.done = before.done;
+        break;
     default:
         break;
     }
 }
 
 /* Whether a call with this status writes through out parameters. */
-static bool writes(uint32_t status) {
+static bool writes(enum function function, uint32_t status) {
+    if (function == MAP_RANGE && (status == X64_FRAME_ALLOCATION_FAILED || status == X64_PARENT_ENTRY_HUGE_PAGE ||
+        status == X64_PAGE_ALREADY_MAPPED))
+        return true;
     return status == X64_OK || status == X64_MORE || status == X64_INVALID_FRAME_ADDRESS || status == X64_PAGE_FAULT ||
            status == X64_NO_TABLE;
 }
@@ -811,7 +920,7 @@ static void try_row(enum function function, const struct row *row, uint64_t leve
         memcpy(world.marks, before.marks, sizeof world.marks);
     if (function == MAPPINGS && status == X64_MORE)
         go_on(row, &arguments);
-    if (writes(status)) {
+    if (writes(function, status)) {
         uint64_t out[4];
         read_out(function, out);
         for (size_t n = 0; n < 4 && row->taken >= 0; n++)
@@ -859,6 +968,8 @@ int main(void) {
     }
     for (int function = MAP; function < CLEAN_UP; function++)
         TRY((enum function)function, pages);
+    for (int function = MAP_RANGE; function < CLEAN_UP; function++)
+        TRY((enum function)function, ranges);
     TRY(PAGE_WALK, page_walk);
     TRY(TRANSLATE, translate);
     TRY(MAPPINGS, mappings);
@@ -871,6 +982,9 @@ int main(void) {
     TRY(UNMAP, unmap);
     TRY(UPDATE_FLAGS, update_flags);
     TRY(SET_TABLE_FLAGS, set_table_flags);
+    TRY(MAP_RANGE, map_range);
+    TRY(UNMAP_RANGE, unmap_range);
+    TRY(UPDATE_FLAGS_RANGE, update_flags_range);
     TRY(CLEAN_UP, clean_up);
     TRY(NEW_SPACE, new_space);
     TRY(GIVE_UP_SPACE, give_up_space);
@@ -888,6 +1002,10 @@ int main(void) {
         [UPDATE_FLAGS] = {X64_NOT_ALLOWED, X64_PARENT_ENTRY_HUGE_PAGE, X64_PAGE_NOT_MAPPED, X64_BAD_PAGE},
         [SET_TABLE_FLAGS] = {X64_NOT_ALLOWED, X64_PARENT_ENTRY_HUGE_PAGE, X64_PAGE_NOT_MAPPED, X64_BAD_PAGE},
         [SPACES_FIT] = {X64_NOT_VALID, X64_BAD_ARRAY, X64_BAD_INDICES},
+        [MAP_RANGE] = {X64_NOT_ALLOWED, X64_FRAME_ALLOCATION_FAILED, X64_PARENT_ENTRY_HUGE_PAGE, X64_PAGE_ALREADY_MAPPED,
+                       X64_BAD_ARRAY, X64_BAD_PAGE, X64_BAD_FRAME},
+        [UNMAP_RANGE] = {X64_MORE, X64_BAD_PAGE},
+        [UPDATE_FLAGS_RANGE] = {X64_NOT_ALLOWED, X64_BAD_PAGE},
         [CLEAN_UP] = {X64_BAD_ARRAY, X64_BAD_PAGE},
         [NEW_SPACE] = {X64_FRAME_ALLOCATION_FAILED, X64_BAD_ARRAY, X64_BAD_INDICES},
         [GIVE_UP_SPACE] = {X64_SPACE_IN_USE, X64_BAD_ARRAY, X64_BAD_INDICES},

@@ -2,7 +2,7 @@
 
 use crate::access::{Access, Controls, Fault};
 use crate::addresses::{PhysAddr, VirtAddr};
-use crate::error::Error;
+use crate::error::{Error, MapRangeError};
 use crate::flags::Flags;
 use crate::hierarchy::{Hierarchy, Levels, Translation, Walked, outcome_of};
 use crate::library::{self, Located, result_of};
@@ -47,6 +47,15 @@ impl FreeCount<'_> {
             FreeCount::Lent(count) => count,
         }
     }
+}
+
+/// What was unmapped of a range of pages.
+#[derive(Clone, Copy, Debug, PartialEq, Eq)]
+pub struct Unmapped {
+    /// How many pages were looked at, from the first one on.
+    pub pages: u64,
+    /// How many of them were mapped. So many frames were written.
+    pub frames: usize,
 }
 
 /// A valid hierarchy of page tables, and a pool that fits it. Both hold again after each call, whatever it returns.
@@ -104,12 +113,16 @@ impl<'a> AddressSpace<'a> {
         address.as_u64() >> (3 + 9 * self.located.levels) & 511
     }
 
-    /// Returns `SharedEntry` if the root's entry above an address is shared, and is 0 or lacks one of these flags.
-    fn keep_shared(&self, address: VirtAddr, flags: Flags) -> Result<(), Error> {
-        let index = self.index(address);
+    /// Returns `SharedEntry` if an entry of the root above the addresses from the first to the last one is shared, and is 0 or lacks one of
+    /// these flags.
+    fn keep_shared(&self, first: VirtAddr, last: VirtAddr, flags: Flags) -> Result<(), Error> {
         let number = self.located.root.as_u64() / 4096 - self.memory.first;
-        let word = self.memory.tables[number as usize].words[index as usize];
-        if self.shared.contains(&index) && (word == 0 || word | flags.bits() != word) {
+        let words = &self.memory.tables[number as usize].words;
+        let changes = |index: u64| {
+            let word = words[index as usize];
+            self.shared.contains(&index) && (word == 0 || word | flags.bits() != word)
+        };
+        if (self.index(first)..=self.index(last)).any(changes) {
             return Err(Error::SharedEntry);
         }
         Ok(())
@@ -136,9 +149,10 @@ impl<'a> AddressSpace<'a> {
     /// # Errors
     ///
     /// `NotAllowed`, `FrameAllocationFailed`, `ParentEntryHugePage`, `PageAlreadyMapped`, `BadPage`, `BadFrame`; `SharedEntry` if the entry
-    /// of the root above the page is shared, and is 0 or lacks some of the parent flags. After the second to the fourth, entries above the page may have got parent flags, and tables may have been made.
+    /// of the root above the page is shared, and is 0 or lacks some of the parent flags. After the second to the fourth, entries above the
+    /// page may have got parent flags, and tables may have been made.
     pub fn map_to(&mut self, page: Page, frame: PhysAddr, flags: Flags, parent_flags: Flags) -> Result<(), Error> {
-        self.keep_shared(page.start(), parent_flags)?;
+        self.keep_shared(page.start(), page.start(), parent_flags)?;
         let request = library::MapRequest { page, frame, flags, parent_flags };
         let (tables, frames) = (&mut *self.memory.tables, &mut *self.frames);
         // SAFETY: the slices are borrowed for the call, and the pool fits: `new` tested it, and each call keeps it, also for the other spaces
@@ -154,6 +168,86 @@ impl<'a> AddressSpace<'a> {
                 &request,
             )
         })
+    }
+
+    /// Maps a number of pages of one size, from a page on, to as many frames, in order: each in turn as `map_to` does, up to the first one
+    /// that is refused. `parent_flags` must have `PRESENT`.
+    ///
+    /// # Errors
+    ///
+    /// Those of `map_to`, with the number of pages that were mapped. `BadPage` also if the pages don't end in the half of the address space
+    /// in which they start, and `BadFrame` also if the frames don't end at 2^52 or below.
+    pub fn map_range(
+        &mut self,
+        first: Page,
+        count: u64,
+        frame: PhysAddr,
+        flags: Flags,
+        parent_flags: Flags,
+    ) -> Result<(), MapRangeError> {
+        let bytes = count.saturating_sub(1).saturating_mul(first.size().bytes());
+        let last = VirtAddr::new(first.start().as_u64().saturating_add(bytes));
+        self.keep_shared(first.start(), last, parent_flags).map_err(|why| MapRangeError { mapped: 0, why })?;
+        let request = library::MapRequest { page: first, frame, flags, parent_flags };
+        let (tables, frames, mut mapped) = (&mut *self.memory.tables, &mut *self.frames, 0);
+        // SAFETY: as in `map_to`.
+        let status = unsafe {
+            library::x64_map_range(
+                &self.located,
+                tables.as_mut_ptr(),
+                tables.len(),
+                frames.as_mut_ptr(),
+                frames.len(),
+                self.free.get_mut(),
+                &request,
+                count,
+                &mut mapped,
+            )
+        };
+        result_of(status).map_err(|why| MapRangeError { mapped, why })
+    }
+
+    /// Unmaps a number of pages of one size, from a page on, but at most as many as `frames` has places. Passes over those whose `unmap` would
+    /// be refused, and writes the frames that the others were mapped to, in order, from the start of `frames` on. No table is freed.
+    ///
+    /// # Errors
+    ///
+    /// `BadPage`, also if the pages don't end in the half of the address space in which they start.
+    pub fn unmap_range(&mut self, first: Page, count: u64, frames: &mut [PhysAddr]) -> Result<Unmapped, Error> {
+        let (tables, mut unmapped) = (&mut *self.memory.tables, Unmapped { pages: 0, frames: 0 });
+        // SAFETY: as in `unmap`; `frames` is borrowed for the call, too.
+        let status = unsafe {
+            library::x64_unmap_range(
+                &self.located,
+                tables.as_mut_ptr(),
+                tables.len(),
+                &first,
+                count,
+                frames.as_mut_ptr(),
+                frames.len(),
+                &mut unmapped.frames,
+                &mut unmapped.pages,
+            )
+        };
+        match status {
+            library::MORE => Ok(unmapped),
+            status => result_of(status).map(|()| unmapped),
+        }
+    }
+
+    /// Sets the flags of the entries of a number of pages of one size, from a page on. Passes over those whose `update_flags` would be
+    /// refused, and returns how many the others are.
+    ///
+    /// # Errors
+    ///
+    /// `NotAllowed`; `BadPage`, also if the pages don't end in the half of the address space in which they start.
+    pub fn update_flags_range(&mut self, first: Page, count: u64, flags: Flags) -> Result<u64, Error> {
+        let (tables, mut changed) = (&mut *self.memory.tables, 0);
+        // SAFETY: as in `unmap`.
+        let status = unsafe {
+            library::x64_update_flags_range(&self.located, tables.as_mut_ptr(), tables.len(), &first, count, flags, &mut changed)
+        };
+        result_of(status).map(|()| changed)
     }
 
     /// Unmaps a page, and returns the address of the frame that it was mapped to. No table is freed.
@@ -271,7 +365,7 @@ impl<'a> AddressSpace<'a> {
         access: Access,
         controls: &Controls,
     ) -> Result<Result<PhysAddr, Fault>, Error> {
-        self.keep_shared(address, Flags::ACCESSED)?;
+        self.keep_shared(address, address, Flags::ACCESSED)?;
         let (tables, mut outcome) = (&mut *self.memory.tables, library::Outcome::default());
         // SAFETY: the slice is borrowed for the call. Marks keep the hierarchy valid and the pool fitting, which is proved.
         let status = unsafe {

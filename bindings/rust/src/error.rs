@@ -45,6 +45,23 @@ pub enum Error {
     Unknown(u32),
 }
 
+/// Why not all pages of a range were mapped, and how many were.
+#[derive(Clone, Copy, Debug, PartialEq, Eq)]
+pub struct MapRangeError {
+    /// How many pages were mapped, from the first one on.
+    pub mapped: u64,
+    /// Why the next one wasn't.
+    pub why: Error,
+}
+
+impl fmt::Display for MapRangeError {
+    fn fmt(&self, f: &mut fmt::Formatter<'_>) -> fmt::Result {
+        write!(f, "{} after {} pages were mapped", self.why, self.mapped)
+    }
+}
+
+impl core::error::Error for MapRangeError {}
+
 impl fmt::Display for Error {
     fn fmt(&self, f: &mut fmt::Formatter<'_>) -> fmt::Result {
         let text = match self {

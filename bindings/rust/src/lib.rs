@@ -6,7 +6,7 @@
 //!
 //! - [`Hierarchy`] reads tables, whatever words they hold: page walks, accesses of a processor, lists of what is mapped, tests.
 //! - [`AddressSpace`] borrows tables and a pool of free frames, which it tests once, and changes them: it maps and unmaps pages of 4 KiB,
-//!   2 MiB and 1 GiB, changes flags, and frees empty tables.
+//!   2 MiB and 1 GiB, one or a range of them, changes flags, and frees empty tables.
 //! - [`Spaces`] are several address spaces that share some entries of their roots and have one pool, as a kernel has for its processes.
 //!
 //! ```
@@ -43,9 +43,9 @@ mod page;
 mod spaces;
 
 pub use access::{Access, AccessKind, Controls, Fault, PageFaultCode};
-pub use address_space::{AddressSpace, Memory, Pool};
+pub use address_space::{AddressSpace, Memory, Pool, Unmapped};
 pub use addresses::{PhysAddr, VirtAddr};
-pub use error::Error;
+pub use error::{Error, MapRangeError};
 pub use flags::Flags;
 pub use hierarchy::{Hierarchy, Levels, Translation, Walked};
 pub use listing::{Mapping, Mappings, Region, Regions};

@@ -153,8 +153,39 @@ unsafe extern "C" {
         free: &mut usize,
         request: &MapRequest,
     ) -> u32;
+    pub fn x64_map_range(
+        located: &Located,
+        tables: *mut Table,
+        n: usize,
+        pool: *mut PhysAddr,
+        capacity: usize,
+        free: &mut usize,
+        request: &MapRequest,
+        count: u64,
+        done: &mut u64,
+    ) -> u32;
     pub fn x64_unmap(located: &Located, tables: *mut Table, n: usize, page: &Page, frame: &mut PhysAddr) -> u32;
+    pub fn x64_unmap_range(
+        located: &Located,
+        tables: *mut Table,
+        n: usize,
+        first: &Page,
+        count: u64,
+        frames: *mut PhysAddr,
+        capacity: usize,
+        frame_count: &mut usize,
+        done: &mut u64,
+    ) -> u32;
     pub fn x64_update_flags(located: &Located, tables: *mut Table, n: usize, page: &Page, flags: Flags) -> u32;
+    pub fn x64_update_flags_range(
+        located: &Located,
+        tables: *mut Table,
+        n: usize,
+        first: &Page,
+        count: u64,
+        flags: Flags,
+        changed: &mut u64,
+    ) -> u32;
     pub fn x64_set_table_flags(located: &Located, tables: *mut Table, n: usize, page: &Page, level: u64, flags: Flags) -> u32;
     pub fn x64_clean_up(
         located: &Located,

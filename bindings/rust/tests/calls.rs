@@ -1,8 +1,8 @@
 //! Tries each call, with four levels and with five.
 
 use x86_64_paging::{
-    Access, AccessKind, AddressSpace, Controls, Error, Fault, Flags, Hierarchy, Levels, Mapping, Memory, Page, PageFaultCode,
-    PageSize, PhysAddr, Pool, Region, Roots, Spaces, Table, Translation, VirtAddr, Walked,
+    Access, AccessKind, AddressSpace, Controls, Error, Fault, Flags, Hierarchy, Levels, MapRangeError, Mapping, Memory, Page,
+    PageFaultCode, PageSize, PhysAddr, Pool, Region, Roots, Spaces, Table, Translation, Unmapped, VirtAddr, Walked,
 };
 
 /// The frame of table 0, and how many tables there are.
@@ -162,6 +162,32 @@ fn pages_are_unmapped_and_tables_freed() {
 
 /// All settings on, but for EFLAGS.AC.
 const STRICT: Controls = Controls { write_protect: true, no_execute: true, smep: true, smap: true, ac: false, physical_bits: 40 };
+
+#[test]
+fn ranges_of_pages_are_mapped_changed_and_unmapped() {
+    for levels in [Levels::Four, Levels::Five] {
+        with_space(levels, |space| {
+            let first = small(0x1f_e000);
+            assert_eq!(space.map_range(first, 4, frame(0x5000), BOTH, BOTH), Ok(()));
+            assert_eq!(space.translate_addr(at(0x20_1abc)), Ok(Some(frame(0x8abc))));
+            let refused = MapRangeError { mapped: 2, why: Error::PageAlreadyMapped };
+            assert_eq!(space.map_range(small(0x1f_c000), 4, frame(0x1000), BOTH, BOTH), Err(refused));
+            let refused = MapRangeError { mapped: 0, why: Error::NotAllowed };
+            assert_eq!(space.map_range(small(0), 4, frame(0), BOTH, Flags::WRITABLE), Err(refused));
+
+            assert_eq!(space.update_flags_range(small(0), 1024, Flags::PRESENT), Ok(6));
+            assert_eq!(space.update_flags_range(small(u64::MAX - 0xfff), 2, Flags::PRESENT), Err(Error::BadPage));
+            assert_eq!(space.update_flags_range(small(0), 1, Flags::from_bits(0x1000)), Err(Error::NotAllowed));
+
+            let mut frames = [frame(0); 4];
+            assert_eq!(space.unmap_range(first, 5, &mut frames), Ok(Unmapped { pages: 4, frames: 4 }));
+            assert_eq!(frames, [0x5000, 0x6000, 0x7000, 0x8000].map(frame));
+            assert_eq!(space.unmap_range(small(0x1f_c000), 4, &mut frames), Ok(Unmapped { pages: 4, frames: 2 }));
+            assert_eq!(frames, [0x1000, 0x2000, 0x7000, 0x8000].map(frame));
+            assert_eq!(space.mappings().count(), 0);
+        });
+    }
+}
 
 #[test]
 fn accesses_arrive_or_fault_and_leave_marks() {

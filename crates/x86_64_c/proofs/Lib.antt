@@ -8,3 +8,7 @@ pub mod SpaceArguments
 pub mod TogetherFit
 pub mod LentSpaces
 pub mod SpaceResults
+pub mod RangeArguments
+pub mod RangeKeeps
+pub mod RangesSeen
+pub mod FrameArrays

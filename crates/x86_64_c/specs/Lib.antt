@@ -7,6 +7,7 @@ pub mod Accesses
 pub mod Calls
 pub mod PoolCalls
 pub mod AddressSpaces
+pub mod Ranges
 pub use Rattle.x86_64_model.specs.Mapper
 pub use Rattle.x86_64_model.specs.Translation
 pub use Rattle.x86_64_model.specs.Mappings

@@ -9,6 +9,7 @@ mod address_spaces;
 mod changes;
 mod given;
 mod listing;
+mod ranges;
 mod reads;
 mod runs;
 mod status;

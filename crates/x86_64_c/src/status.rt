@@ -13,7 +13,7 @@ pub const OK: u32 = 0;
 /// The address is mapped nowhere.
 pub const NOT_MAPPED: u32 = 1;
 
-/// The array is full, and there are more mappings.
+/// There are more mappings or pages than the array has room for.
 pub const MORE: u32 = 2;
 
 /// The hierarchy isn't valid, or the pool doesn't fit it.
@@ -83,7 +83,7 @@ pub fn flags_status(error: FlagUpdateError) -> u32
 }
 
 /// Returns the status of a refused map.
-fn map_status<S: PageSize>(error: MapToError<S>) -> u32
+pub fn map_status<S: PageSize>(error: MapToError<S>) -> u32
     ensures { result ≡ calls.refusal_status (map_refusal error) }
 {
     match error {

@@ -1,0 +1,52 @@
+-- Ranges of pages that end in a half of the address space.
+use Rattle.std.proofs.Common.{◌≡◌, ◌⊎◌, inl, inr, ℕ, ◌+◌, ◌-◌, ◌*◌, ◌<◌, ◌≤◌, cond, None, sym, ap, ◌∙◌, subst, subst₂, arith, rules}
+use Rattle.std.specs.Option.{option_or}
+use Rattle.std.proofs.Math.Nat.{mul-le-mul_right, add-mul}
+use Rattle.std.proofs.lemmas.Bool.{cases_lt, lt-ltb, le-ltb}
+use Rattle.x86_64_model.specs.Position.{lower_half, position_count, span}
+use Rattle.x86_64_c.specs.Given.{IsPageOf, bad_hierarchy, bad_page, level_of, position_of}
+use Rattle.x86_64_c.specs.Ranges.{half_end, bad_pages, bad_range}
+use Rattle.x86_64_c.specs.declared.given.Hierarchy.{Hierarchy}
+use Rattle.x86_64_c.specs.declared.given.Page.{Page}
+
+-- each of a number of pages starts before the end of them all
+pub page_before : (p count k size end : ℕ) → 0 < size → k < count → p + count * size ≤ end → p + k * size < end
+page_before p count k size end some less within =
+    let most : (k + 1) * size ≤ count * size = mul-le-mul_right size (let l : k + 1 ≤ count = omega (arith, less) in l) in
+    let one = add-mul k 1 size in
+    omega (arith, most, one, some, within)
+
+-- a half ends with the address space or before, and behind each position in it
+half_within : (L : ℕ) → (L ≡ 4) ⊎ (L ≡ 5) → lower_half L ≤ position_count L
+half_within L known = elim known [
+  | inl four ↦ subst (λ L. lower_half L ≤ position_count L) (sym four) (omega arith)
+  | inr five ↦ subst (λ L. lower_half L ≤ position_count L) (sym five) (omega arith)
+]
+
+ends : (L : ℕ) → (L ≡ 4) ⊎ (L ≡ 5) → (p : ℕ) → p < position_count L → (p ≤ half_end L p) × (half_end L p ≤ position_count L)
+ends L known p inside = let low = half_within L known in elim (cases_lt p (lower_half L)) [
+  | inl below ↦ subst (λ b. (p ≤ cond b (lower_half L) (position_count L)) × (cond b (lower_half L) (position_count L) ≤ position_count L)) (sym (lt-ltb p (lower_half L) below)) (omega (arith, below), low)
+  | inr above ↦ subst (λ b. (p ≤ cond b (lower_half L) (position_count L)) × (cond b (lower_half L) (position_count L) ≤ position_count L)) (sym (le-ltb p (lower_half L) above)) (omega (arith, inside), omega arith)
+]
+
+-- the size of a page is that of its level
+size_is : (L : ℕ) (page : Page) → bad_page L page ≡ None → page.size ≡ span (level_of page.size)
+size_is L page good = search rules
+
+-- so pages end there if they end in the half of the first one
+pub ends_there : (L : ℕ) → (L ≡ 4) ⊎ (L ≡ 5) → (page : Page) (level position count : ℕ) → bad_page L page ≡ None → IsPageOf L page level position
+    → count * page.size ≤ half_end L (position_of L page.start) - position_of L page.start → position + count * span level ≤ position_count L
+ends_there L known page level position count good is fits =
+    let p = position_of L page.start in
+    let inside : p < position_count L = elim known [
+      | inl four ↦ subst (λ L. position_of L page.start < position_count L) (sym four) (omega arith)
+      | inr five ↦ subst (λ L. position_of L page.start < position_count L) (sym five) (omega arith)
+    ] in
+    let end = ends L known p inside in
+    let low = end.0 in let high = end.1 in
+    let same : p + count * page.size ≤ position_count L = omega (arith, fits, low, high) in
+    subst₂ (λ q s. q + count * s ≤ position_count L) (sym is.position_is) (size_is L page good ∙ ap span (sym is.level_is)) same
+
+-- what is wrong with a range, once the hierarchy is right, and has L levels
+pub range_in : (h : Hierarchy) (n : ℕ) (page : Page) (count L : ℕ) → bad_hierarchy h n ≡ None → h.levels ≡ L → bad_range h n page count ≡ bad_pages L page count
+range_in h n page count L good levels = ap (λ o. option_or o (bad_pages h.levels page count)) good ∙ ap (λ l. bad_pages l page count) levels

@@ -1,0 +1,223 @@
+-- What a mapper did with a range, stated of the words in the caller's memory.
+use Rattle.std.proofs.Common.{zero, suc, ◌≡◌, inl, inr, ◌≤◌, ◌<◌, ◌+◌, ◌*◌, ℕ, Bool, false, List, [], ◌∷◌, ◌++◌, length, Result, Ok, Err, IfOk, IfErr, refl, sym, ap, ◌∙◌, subst, subst₂, arith}
+use Rattle.std.specs.Borrow.{GName}
+use Rattle.std.proofs.lemmas.List.FromFn.{length-map-range_with_len}
+use Rattle.x86_64_model.specs.Call.{Call, Reply, NotAllowed, Answered, Position, Address, Cleaned, Unmap, UpdateFlags}
+use Rattle.x86_64_model.specs.Entry.{IsParentFlags}
+use Rattle.x86_64_model.specs.Layout.{Layout}
+use Rattle.x86_64_model.specs.Machine.{Machine, State, step, replies_of}
+use Rattle.x86_64_model.specs.Mapper.{Hierarchy, PoolFits, machine_of, state_in}
+use Rattle.x86_64_model.specs.Memory.{Memory, Places}
+use Rattle.x86_64_model.specs.Path.{IsPage, path_at}
+use Rattle.x86_64_model.specs.Position.{span, position_count}
+use Rattle.x86_64_model.specs.Refusal.{Done, Refused}
+use Rattle.x86_64_model.specs.Store.{KeepsPool, Store, put_first}
+use Rattle.x86_64_model.specs.Window.{begins_with}
+use Rattle.x86_64_model.proofs.Lemmas.Machines.Effects.{page_at_level}
+use Rattle.x86_64_model.proofs.Lemmas.Machines.Fitting.{AllCalls, ready_of_fits}
+use Rattle.x86_64_model.proofs.Lemmas.Paths.Pages.{span_pos}
+use Rattle.x86_64_mappers.specs.Layouts.{direct_at}
+use Rattle.x86_64_mappers.specs.RangeChanges.{DoesChanges, IsRange, frames_done, unmaps, updates}
+use Rattle.x86_64_mappers.specs.Ranges.{DoesMaps, IsNextMap, MapRange, MapsEach, MapsRange, StopsAt, accepted, map_at, maps, page_at}
+use Rattle.x86_64_mappers.specs.declared.access.ranges.MapRangeErrorIn.{MapRangeErrorIn}
+use Rattle.x86_64_tables.specs.FlushRecorder.{FlushRange, flush_range}
+use Rattle.x86_64_tables.specs.LentMemory.{numbered}
+use Rattle.x86_64_tables.specs.LentPool.{is_in, served_by}
+use Rattle.x86_64_tables.specs.Shifted.{shifted_places}
+use Rattle.x86_64_tables.specs.MapperAnswers.{map_refusal}
+use Rattle.x86_64_tables.proofs.LentPools.{fits_own}
+use Rattle.x86_64_c.proofs.EntryChanges.{of}
+use Rattle.x86_64_c.proofs.RangeArguments.{page_before}
+use Rattle.x86_64_c.proofs.RangeKeeps.{keeps_calls, are_calls}
+use Rattle.x86_64_c.proofs.LentRuns.{stack}
+use Rattle.x86_64_c.specs.Calls.{result_status}
+use Rattle.x86_64_c.proofs.Located.{located_is}
+use Rattle.x86_64_c.specs.Given.{at, hierarchy_in, places_of}
+use Rattle.x86_64_c.specs.Ranges.{Changes, Maps, MayMap}
+use Rattle.x86_64_c.specs.declared.given.Hierarchy.{Hierarchy as Given}
+use Rattle.x86_64_c.specs.declared.given.Located.{Located}
+
+-- ---- the calls on a range
+
+-- in a layout without recursive index a range is one if its pages end with the address space or before
+pub range_is : {Lent : Type 0} (h : Hierarchy Lent) (L : ℕ) (places : Places) (root : ℕ) → h.layout ≡ direct_at L places root
+    → (level page count : ℕ) → page + count * span level ≤ position_count L → IsRange h level page count
+range_is h L places root is level page count within = record {
+  there = λ k less. subst (λ (l : Layout). page + k * span level < position_count l.levels) (sym is) (page_before page count k (span level) (position_count L) (span_pos level) less within);
+  outside = λ k less. subst (λ (l : Layout). begins_with l.window (path_at l.levels level (page + k * span level)) ≡ false) (sym is) refl;
+}
+
+module _ (L level : ℕ) (low : 1 ≤ level) (high : level ≤ 3) (some : 3 < L) where
+  within : level ≤ L
+  within = omega (arith, some, high)
+
+  pub maps_are : (r : MapRange) → r.level ≡ level → (count : ℕ) → AllCalls L (maps L r count)
+  maps_are r is count = are_calls L (λ k. map_at L r k) (λ k. subst (λ v. IsPage L (path_at L v (page_at r k))) (sym is) (page_at_level L level (page_at r k) low high within)) 0 count
+
+  pub unmaps_are : (page count : ℕ) → AllCalls L (unmaps L level page count)
+  unmaps_are page count = are_calls L (λ k. Unmap (path_at L level (page + k * span level))) (λ k. page_at_level L level (page + k * span level) low high within) 0 count
+
+  pub updates_are : (page flags count : ℕ) → AllCalls L (updates L level page flags count)
+  updates_are page given count = are_calls L (λ k. UpdateFlags (path_at L level (page + k * span level)) given) (λ k. page_at_level L level (page + k * span level) low high within) 0 count
+
+-- ---- changes
+
+seen_changes : {Lent : Type 0} (h after : Hierarchy Lent) (calls : List Call) (replies : List Reply) → DoesChanges h calls replies after → DoesChanges (of h.layout h.memory) calls replies (of after.layout after.memory)
+seen_changes h after calls replies does = record {
+  replies = does.replies;
+  state = does.state;
+  valid = does.valid;
+  fits = does.fits;
+  others = does.others;
+  layout = does.layout;
+  lent = refl;
+}
+
+pub changes_each : {Lent : Type 0} (h after : Hierarchy Lent) (l : Layout) (m n : Memory) → h.layout ≡ l → h.memory ≡ m → after.memory ≡ n → IsParentFlags l.added_flags
+    → (calls : (L : ℕ) → List Call) (replies : List Reply) → AllCalls l.levels (calls l.levels) → DoesChanges h (calls h.layout.levels) replies after → Changes (of l m) (calls l.levels) replies (of l n)
+changes_each h after l m n layout memory left adds calls replies are does =
+    let did = subst (λ l. DoesChanges (of l m) (calls l.levels) replies (of l n)) layout
+    (subst (λ m. DoesChanges (of h.layout m) (calls h.layout.levels) replies (of h.layout n)) memory
+    (subst (λ n. DoesChanges (of h.layout h.memory) (calls h.layout.levels) replies (of h.layout n)) left
+    (subst (λ k. DoesChanges (of h.layout h.memory) (calls h.layout.levels) replies (of k after.memory)) does.layout (seen_changes h after (calls h.layout.levels) replies does)))) in
+    record {
+      does = did;
+      keeps = λ serves pool fits. keeps_calls l adds serves m pool fits (calls l.levels) are n pool (did.state pool put_first) (did.fits pool (ready_of_fits l m serves pool fits))
+          (λ k none. did.others k (λ f table. none f (inr table)));
+    }
+
+-- ---- how many were done
+
+frames_few : (rs : List Reply) → length (frames_done rs) ≤ length rs
+frames_few [] = omega arith
+frames_few (Answered (Done f) ∷ rs) = let few = frames_few rs in omega (arith, few)
+frames_few (Answered (Refused why) ∷ rs) = let few = frames_few rs in omega (arith, few)
+frames_few (NotAllowed ∷ rs) = let few = frames_few rs in omega (arith, few)
+frames_few (Position t ∷ rs) = let few = frames_few rs in omega (arith, few)
+frames_few (Address a ∷ rs) = let few = frames_few rs in omega (arith, few)
+frames_few (Cleaned ∷ rs) = let few = frames_few rs in omega (arith, few)
+
+reply_each : (m : Machine) (s : State) (calls : List Call) → length (replies_of m s calls) ≡ length calls
+reply_each m s [] = refl
+reply_each m s (call ∷ calls) = ap suc (reply_each m (step m s call).state calls)
+
+pub few_frames : {Lent : Type 0} (h after : Hierarchy Lent) (L level page count : ℕ) (replies : List Reply) → DoesChanges h (unmaps L level page count) replies after → length (frames_done replies) ≤ count
+few_frames h after L level page count replies does =
+    let all = ap length (does.replies [] put_first) in
+    let each = reply_each (machine_of h.layout put_first) (state_in h.layout h.memory []) (unmaps L level page count) ∙ length-map-range_with_len (λ k. Unmap (path_at L level (page + k * span level))) 0 count in
+    let few = frames_few replies in
+    omega (arith, all, each, few)
+
+-- ---- maps
+
+next_seen : {Lent : Type 0} (h : Hierarchy Lent) (supply : List ℕ) (call : Call) (before answers : List Reply) (after : Hierarchy Lent) (rest : List ℕ)
+    → IsNextMap h supply call before answers after rest → IsNextMap (of h.layout h.memory) supply call before answers (of after.layout after.memory) rest
+next_seen h supply call before answers after rest next = record {
+  answer = next.answer;
+  may = record { fits = next.may.fits; allowed = next.may.allowed };
+  does = record {
+    outcome = next.does.outcome;
+    fits = next.does.fits;
+    others = next.does.others;
+    walks = next.does.walks;
+    layout = next.does.layout;
+    lent = refl;
+  };
+  last = next.last;
+}
+
+each_seen : {Lent : Type 0} (h : Hierarchy Lent) (supply : List ℕ) (r : MapRange) (count : ℕ) (answers : List Reply) (after : Hierarchy Lent) (rest : List ℕ)
+    → MapsEach h supply r count answers after rest → MapsEach (of h.layout h.memory) supply r count answers (of after.layout after.memory) rest
+each_seen h supply r zero answers after rest each = (each.0, ap (λ (k : Hierarchy _). of k.layout k.memory) each.1, each.2)
+each_seen h supply r (suc k) answers after rest each = (
+  of each.0.layout each.0.memory,
+  each.1,
+  each.2,
+  each_seen h supply r k each.2 each.0 each.1 each.3,
+  next_seen each.0 each.1 (map_at h.layout.levels r k) each.2 answers after rest each.4,
+)
+
+seen_maps : {Lent : Type 0} (h : Hierarchy Lent) (supply : List ℕ) (r : MapRange) (count : ℕ) (answers : List Reply) (after : Hierarchy Lent) (rest : List ℕ)
+    → DoesMaps h supply r count answers after rest → DoesMaps (of h.layout h.memory) supply r count answers (of after.layout after.memory) rest
+seen_maps h supply r count answers after rest does = record {
+  each = each_seen h supply r count answers after rest does.each;
+  replies = does.replies;
+  state = does.state;
+  fits = does.fits;
+  others = does.others;
+  walks = does.walks;
+  layout = does.layout;
+  lent = refl;
+}
+
+module _ {Lent : Type 0} (h after : Hierarchy Lent) (l : Layout) (m n : Memory) (layout : h.layout ≡ l) (memory : h.memory ≡ m) (left : after.memory ≡ n) (supply : List ℕ) (r : MapRange) (rest : List ℕ) where
+  pub maps_did : (count : ℕ) (answers : List Reply) → DoesMaps h supply r count answers after rest → DoesMaps (of l m) supply r count answers (of l n) rest
+  maps_did count answers does =
+      subst (λ l. DoesMaps (of l m) supply r count answers (of l n) rest) layout
+      (subst (λ m. DoesMaps (of h.layout m) supply r count answers (of h.layout n) rest) memory
+      (subst (λ n. DoesMaps (of h.layout h.memory) supply r count answers (of h.layout n) rest) left
+      (subst (λ k. DoesMaps (of h.layout h.memory) supply r count answers (of k after.memory) rest) does.layout (seen_maps h supply r count answers after rest does))))
+
+-- a pool that fitted before maps fits after them
+pub maps_keep : (l : Layout) (m n : Memory) (serves : ℕ → Bool) (pool : List ℕ) (r : MapRange) (count : ℕ) (answers : List Reply) (rest : List ℕ) → IsParentFlags l.added_flags → AllCalls l.levels (maps l.levels r count)
+    → PoolFits (of l m) serves pool → DoesMaps (of l m) pool r count answers (of l n) rest → KeepsPool l serves m pool n rest
+maps_keep l m n serves pool r count answers rest adds are fits does =
+    keeps_calls l adds serves m pool fits (maps l.levels r count) are n rest (does.state put_first) does.fits (λ k none. does.others k (λ f own. none f own.0))
+
+-- what a map of a range returned, and what was told of it
+pub mapped : {Lent S V : Type 0} (h after : Hierarchy Lent) (l : Layout) (m n : Memory) → h.layout ≡ l → h.memory ≡ m → after.memory ≡ n → IsParentFlags l.added_flags
+    → (pool rest : Store) (r : MapRange) → ((k : ℕ) → AllCalls l.levels (maps l.levels r k)) → PoolFits (of l m) pool.serves pool.frames
+    → (page count : ℕ) (result : Result FlushRange (MapRangeErrorIn S V)) → MapsRange h pool.frames r count result after rest.frames → IfOk result (λ flush. flush ≡ flush_range page count)
+    → (status done : ℕ) → status ≡ result_status (λ (error : MapRangeErrorIn S V). map_refusal error.why) result → IfOk result (λ flush. done ≡ flush.count) → IfErr result (λ error. done ≡ error.mapped.count)
+    → Maps (of l m) pool r count (of l n) rest status done
+mapped h after l m n layout memory left adds pool rest r are fits page count (Ok flush) maps pages status done told all some =
+    let did = maps_did h after l m n layout memory left pool.frames r rest.frames count (accepted r count) maps in
+    record {
+      maps = inl (told, all ∙ ap (λ (f : FlushRange). f.count) pages, did);
+      keeps = maps_keep l m n pool.serves pool.frames r count (accepted r count) rest.frames adds (are count) fits did;
+    }
+mapped h after l m n layout memory left adds pool rest r are fits page count (Err error) maps pages status done told all some =
+    let answers : (k : ℕ) → List Reply = λ k. accepted r k ++ Answered (Refused (map_refusal error.why)) ∷ [] in
+    let k = error.mapped.count in
+    let did = maps_did h after l m n layout memory left pool.frames r rest.frames (k + 1) (answers k) maps.1 in
+    record {
+      maps = inr (map_refusal error.why, told, subst (λ d. StopsAt (of l m) pool.frames r count d (map_refusal error.why) (of l n) rest.frames) (sym some) (maps.0, did));
+      keeps = maps_keep l m n pool.serves pool.frames r (k + 1) (answers k) rest.frames adds (are (k + 1)) fits did;
+    }
+
+-- ---- maps with a pool that is lent
+
+own_maps : (own : List ℕ) (array count : GName) (serves also : ℕ → Bool) → serves ≡ served_by own array count → (h after : Hierarchy (Unit {0})) (pool rest : List ℕ) (r : MapRange) (number status done : ℕ)
+    → Maps h (stack serves pool) r number after (stack also rest) status done → Maps h (stack (is_in own) pool) r number after (stack (is_in own) rest) status done
+own_maps own array count serves also same h after pool rest r number status done maps = record {
+  maps = maps.maps;
+  keeps = record { fits = fits_own own array count same maps.keeps.fits; conserved = maps.keeps.conserved; others = maps.keeps.others };
+}
+
+pub lent_maps : (own : List ℕ) (array count : GName) (serves also : ℕ → Bool) → serves ≡ served_by own array count → (L : ℕ) (located : Located) (m n : Memory) (ts us : List (List ℕ)) (pool rest free left : List ℕ) (r : MapRange) (number status done : ℕ)
+    → m ≡ numbered ts → numbered us ≡ n → pool ≡ free → left ≡ rest
+    → Maps (at L located m) (stack serves pool) r number (at L located n) (stack also rest) status done
+    → Maps (at L located (numbered ts)) (stack (is_in own) free) r number (at L located (numbered us)) (stack (is_in own) left) status done
+lent_maps own array count serves also same L located m n ts us pool rest free left r number status done before after had has maps =
+    subst (λ l. Maps (at L located (numbered ts)) (stack (is_in own) free) r number (at L located (numbered us)) (stack (is_in own) l) status done) (sym has)
+    (subst (λ f. Maps (at L located (numbered ts)) (stack (is_in own) f) r number (at L located (numbered us)) (stack (is_in own) rest) status done) had
+    (subst (λ n. Maps (at L located (numbered ts)) (stack (is_in own) pool) r number (at L located n) (stack (is_in own) rest) status done) (sym after)
+    (subst (λ m. Maps (at L located m) (stack (is_in own) pool) r number (at L located n) (stack (is_in own) rest) status done) before
+    (own_maps own array count serves also same (at L located m) (at L located n) pool rest r number status done maps))))
+
+-- ---- in the caller's tables
+
+module _ (h : Given) (located : Located) (L : ℕ) (levels : h.levels ≡ L) (root : located.root ≡ h.root) (places : places_of located ≡ shifted_places h.first) (s r : MapRange) (range : s ≡ r) (k n : ℕ) (count : k ≡ n) where
+  same : (ts : List (List ℕ)) → at L located (numbered ts) ≡ hierarchy_in h ts
+  same ts = located_is h located L levels root places (numbered ts) ts refl
+
+  pub may_given : (ts : List (List ℕ)) → MayMap (hierarchy_in h ts) r n → MayMap (at L located (numbered ts)) s k
+  may_given ts may = subst (λ a. MayMap a s k) (sym (same ts)) (subst₂ (MayMap (hierarchy_in h ts)) (sym range) (sym count) may)
+
+  pub given_may : (ts : List (List ℕ)) → MayMap (at L located (numbered ts)) s k → MayMap (hierarchy_in h ts) r n
+  given_may ts may = subst₂ (MayMap (hierarchy_in h ts)) range count (subst (λ a. MayMap a s k) (same ts) may)
+
+  pub maps_given : (ts us : List (List ℕ)) (pool rest : Store) (status done : ℕ) → Maps (at L located (numbered ts)) pool s k (at L located (numbered us)) rest status done → Maps (hierarchy_in h ts) pool r n (hierarchy_in h us) rest status done
+  maps_given ts us pool rest status done maps =
+      subst₂ (λ r n. Maps (hierarchy_in h ts) pool r n (hierarchy_in h us) rest status done) range count
+      (subst₂ (λ a b. Maps a pool s k b rest status done) (same ts) (same us) maps)
