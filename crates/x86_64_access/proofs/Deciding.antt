@@ -166,11 +166,11 @@ sound_by false false false true false = refl
 sound_by false false false false true = refl
 sound_by false false false false false = refl
 
-both_left : (a b : Bool) → (a && b) ≡ true → a ≡ true
+pub both_left : (a b : Bool) → (a && b) ≡ true → a ≡ true
 both_left true b t = refl
 both_left false b t = t
 
-both_right : (a b : Bool) → (a && b) ≡ true → b ≡ true
+pub both_right : (a b : Bool) → (a && b) ≡ true → b ≡ true
 both_right true b t = t
 both_right false b t = absurd (true≢false (sym t))
 

@@ -1,5 +1,5 @@
 -- One word of the walk of an access, for code that has the level as a number.
-use Rattle.std.proofs.Common.{eq-eqb, le-leb, ltb-true, nat_lt, zero, suc, ⊎_elim, inl, inr, ◌⊎◌, ◌≡◌, ◌<◌, ◌≤◌, ◌+◌, ◌-◌, ◌%◌, ◌^◌, ℕ, ◌&&◌, Bool, true≢false, true, false, not, ◌||◌, ◌==◌, nat_le, bit_and, cond, List, [], ◌∷◌, map, Some, None, Option, option_map, unwrap_or, refl, sym, ap, ◌∙◌, arith}
+use Rattle.std.proofs.Common.{le-leb, ltb-true, nat_lt, zero, suc, ⊎_elim, inl, inr, ◌⊎◌, ◌≡◌, ◌<◌, ◌≤◌, ◌+◌, ◌-◌, ◌%◌, ◌^◌, ℕ, ◌&&◌, Bool, true≢false, true, false, not, ◌||◌, ◌==◌, nat_le, bit_and, cond, List, [], ◌∷◌, map, Some, None, Option, option_map, unwrap_or, refl, sym, ap, ◌∙◌, arith}
 use Rattle.std.specs.List.{last_or}
 use Rattle.x86_64_model.specs.Entry.{present, writable, user, huge, no_execute, address}
 use Rattle.x86_64_model.specs.Mappings.{Rights, rights_of, maps_page, granted}
@@ -8,8 +8,10 @@ use Rattle.x86_64_model.specs.PageWalk.{read, page_start}
 use Rattle.x86_64_model.specs.Position.{index, span}
 use Rattle.x86_64_model.proofs.Lemmas.Entries.Words.{address_within}
 use Rattle.x86_64_model.specs.Access.{Access, Kind, Controls, set_bits, bits_to_set, marked, Outcome, NoMemory, Step, steps_from, ends_at, ends_by, reads_on, reserved, low_bits, allowed, code, Arrives, Faults, access}
+use Rattle.x86_64_access.proofs.Deciding.{both_left, both_right}
 use Rattle.x86_64_access.specs.private.Walking.{access_on, may_read_on, ArrivesFrom}
 use Rattle.x86_64_tables.specs.Rights.{both}
+use Rattle.std.specs.Int.Bits.{and_zero_r}
 use Rattle.std.proofs.Math.Bool.{and-true, and-false, and_assoc}
 use Rattle.std.proofs.lemmas.Bool.{eqb-true, eqb-false, lt-leb, ltb-false}
 use Rattle.std.specs.List.{list_all}
@@ -144,15 +146,11 @@ module _ (c : Controls) (T : Words) (p : ℕ) (a : Access) (level frame : ℕ) (
       arrives : cond (not (allowed c a (granted r e))) (Faults (code c a true false) level) (Arrives (page_start level e + p % span level)) ≡ ends_at c a p (granted r e) step
       arrives = rw (here, sound, page) refl
 
-  -- the word maps a page of 4KiB whose rights suffice
-  pub on_small_page : level ≡ 1 → (present e && not (reserved c 1 e)) ≡ true → allowed c a (granted r e) ≡ true
-      → Arrives (page_start 1 e + p % span 1) ≡ access_on c T p a level frame r
-  on_small_page one sound may =
-      let fine : reserved c level e ≡ false = ap (λ k. reserved c k e) one ∙ and_right (present e) (reserved c 1 e) sound in
-      let page : maps_page level e ≡ true = ap (λ b. b || (huge e && ((level == 2) || (level == 3)))) (eq-eqb level 1 one) in
-      ap (λ k. Arrives (page_start k e + p % span k)) (sym one)
-      ∙ sym (ap (λ b. cond (not b) (Faults (code c a true false) level) (Arrives (page_start level e + p % span level))) may)
-      ∙ on_page (and_left (present e) (reserved c 1 e) sound) fine page
+  -- the word maps a page whose rights suffice
+  pub on_arrival : present e ≡ true → reserved c level e ≡ false → maps_page level e ≡ true → allowed c a (granted r e) ≡ true
+      → Arrives (page_start level e + p % span level) ≡ access_on c T p a level frame r
+  on_arrival here sound page may =
+      sym (ap (λ b. cond (not b) (Faults (code c a true false) level) (Arrives (page_start level e + p % span level))) may) ∙ on_page here sound page
 
   -- the steps end at a page
   pub steps_page : maps_page level e ≡ true → steps_from c T p level frame ≡ step ∷ []
@@ -308,6 +306,19 @@ stops c level e low stop = by (maps_page level e) refl
         other false true n h = absurd (true≢false (sym h))
         other true b n h = absurd (true≢false n)
 
+-- a word that maps a page, and that the processor accepts
+accepted_by : (le h high low nx x : Bool) → high ≡ false → low ≡ true → ((le || (h && false)) || (x && not nx)) ≡ false → ((le || (h && (high || not low))) || (x && not nx)) ≡ false
+accepted_by le h false true nx x f t sound = sound
+accepted_by le h true low nx x f t sound = absurd (true≢false f)
+accepted_by le h false false nx x f t sound = absurd (true≢false (sym t))
+
+-- a page's word without low bits has a reserved bit only if it has one at level one
+pub low_sound : (c : Controls) (level e : ℕ) → level ≤ 3 → (bit_and e (low_bits level) == 0) ≡ true → reserved c 1 e ≡ false → reserved c level e ≡ false
+unfolding reserved
+low_sound c level e below low sound = accepted_by (nat_le (2 ^ c.physical_bits) (address e)) (huge e) (nat_le 4 level) (bit_and e (low_bits level) == 0) c.no_execute (no_execute e)
+    (lt-leb 4 level (omega (arith, below))) low
+    (ap (λ z. (nat_le (2 ^ c.physical_bits) (address e) || (huge e && not (z == 0))) || (no_execute e && not c.no_execute)) (sym (and_zero_r e)) ∙ sound)
+
 ends_of : (a h b : Bool) → (a || (h && b)) ≡ true → (a ≡ true) ⊎ (h ≡ true)
 ends_of true h b t = inl refl
 ends_of false true b t = inr refl
@@ -323,6 +334,33 @@ page_low level e page = ⊎_elim
     (λ one. omega (arith, eqb-true level 1 one))
     (λ more. ⊎_elim (λ two. omega (arith, eqb-true level 2 two)) (λ three. omega (arith, eqb-true level 3 three)) more)
     (one_of (level == 1) (huge e) (level == 2) (level == 3) page)
+
+-- a word that maps a page and that the processor accepts, by what a mask finds of it
+pub accepted : (c : Controls) (level e : ℕ) (m : Bool) → m ≡ (present e && not (reserved c 1 e))
+    → (m && ((level == 1) || (maps_page level e && (bit_and e (low_bits level) == 0)))) ≡ true
+    → (present e ≡ true) × (reserved c level e ≡ false) × (maps_page level e ≡ true)
+accepted c level e m is t = by (level == 1) refl
+  where
+    sound : (present e && not (reserved c 1 e)) ≡ true
+    sound = sym is ∙ both_left m ((level == 1) || (maps_page level e && (bit_and e (low_bits level) == 0))) t
+
+    fine : reserved c 1 e ≡ false
+    fine = and_right (present e) (reserved c 1 e) sound
+
+    by : (b : Bool) → (level == 1) ≡ b → (present e ≡ true) × (reserved c level e ≡ false) × (maps_page level e ≡ true)
+    by true one = (
+      and_left (present e) (reserved c 1 e) sound,
+      ap (λ k. reserved c k e) (eqb-true level 1 one) ∙ fine,
+      ap (λ b. b || (huge e && ((level == 2) || (level == 3)))) one,
+    )
+    by false other =
+        let large : (maps_page level e && (bit_and e (low_bits level) == 0)) ≡ true =
+        ap (λ b. b || (maps_page level e && (bit_and e (low_bits level) == 0))) (sym other) ∙ both_right m ((level == 1) || (maps_page level e && (bit_and e (low_bits level) == 0))) t in
+        let page = both_left (maps_page level e) (bit_and e (low_bits level) == 0) large in (
+          and_left (present e) (reserved c 1 e) sound,
+          low_sound c level e (page_low level e page) (both_right (maps_page level e) (bit_and e (low_bits level) == 0) large) fine,
+          page,
+        )
 
 -- an address in a page lies below 2^52
 pub arrives_within : (e p level : ℕ) → 1 ≤ level → level ≤ 3 → page_start level e + p % span level < 2 ^ 52

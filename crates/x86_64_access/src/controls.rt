@@ -90,7 +90,7 @@ impl Controls {
 }
 
 /// Returns the address bits of a large page's entry that must be 0.
-fn low_bits(level: u64) -> u64
+pub(crate) fn low_bits(level: u64) -> u64
     ensures { result ≡ model.low_bits level }
 {
     match level {

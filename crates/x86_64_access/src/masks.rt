@@ -1,14 +1,16 @@
 //! Masks, which say of an access what goes through by one comparison of an entry's bits.
-ghost use Rattle.std.specs.Prelude.{◌≡◌, ◌≤◌, ◌==◌, ◌&&◌, not, ℕ, bit_and};
-ghost use Rattle.x86_64_model.specs.Access.{allowed, kept_out, reserved};
+ghost use Rattle.std.specs.Prelude.{◌≡◌, ◌≤◌, ◌==◌, ◌&&◌, ◌||◌, not, ℕ, bit_and};
+ghost use Rattle.x86_64_model.specs.Access.{allowed, kept_out, low_bits, reserved};
+ghost use Rattle.x86_64_model.specs.Mappings.{maps_page};
 ghost use Rattle.x86_64_model.specs.Entry.{present};
 ghost use Rattle.x86_64_access.specs.Accesses.{access_of, controls_of};
 ghost use Rattle.x86_64_access.specs.private.Masks.{high_bits, kept_bits, kind_bits, off_bits, user_bits};
 ghost use Rattle.x86_64_access.specs.private.Walking.{may_read_on, rights_by};
 
-use crate::controls::Controls;
+use crate::controls::{Controls, low_bits};
 use crate::entry_bits::{ADDRESS, HUGE_PAGE, NO_EXECUTE, PRESENT, USER_ACCESSIBLE, WRITABLE};
 use crate::request::{Access, AccessKind};
+use x86_64_tables::page_table::PageTableEntry;
 
 /// The masks of an access.
 #[derive(Clone, Copy)]
@@ -16,7 +18,8 @@ pub(crate) struct Masks {
     /// The processor reads on in the table that an entry names, provided that the entry maps no page, if of these bits the entry has
     /// `PRESENT` alone.
     pub table: u64,
-    /// The processor accepts an entry of level one if of these bits the entry has `PRESENT` alone.
+    /// The processor accepts an entry of level one if of these bits the entry has `PRESENT` alone, and that of a larger page if it has
+    /// no low address bits, either.
     pub page: u64,
     /// The bits of the rights that decide whether the access is allowed ([`RightBits`](crate::right_bits::RightBits)).
     pub asked: u64,
@@ -45,6 +48,16 @@ impl Masks {
             asked: kind | (user | kept_bits(access, controls)),
             needed: kind | user,
         }
+    }
+
+    /// Returns true if an entry of a level maps a page, and has none of the bits that keep the processor from accepting it.
+    #[inline]
+    pub fn accept(self, level: u64, entry: &PageTableEntry) -> bool
+        ensures { result ≡ ((bit_and entry.now self.page == 1)
+            && ((level == 1) || (maps_page level entry.now && (bit_and entry.now (low_bits level) == 0)))) }
+    {
+        entry.word() & self.page == PRESENT
+            && (level == 1 || (entry.maps_page(level) && entry.word() & low_bits(level) == 0))
     }
 }
 

@@ -125,10 +125,10 @@ impl Request {
             };
             let entry = &table[index_of(position, level)];
             rights = rights.below(entry);
-            if level == 1 && entry.word() & masks.page == PRESENT && rights.suffice(masks) {
-                return Ok(address_in::<Size4KiB>(entry, position));
-            }
             if level == 1 || entry.word() & masks.table != PRESENT {
+                if masks.accept(level, entry) && rights.suffice(masks) {
+                    return Ok(address_in_page(level, entry, position));
+                }
                 return self.end_at(level, entry, position, rights.rights());
             }
             frame = PhysFrame::from_start_address_unchecked(entry.addr());

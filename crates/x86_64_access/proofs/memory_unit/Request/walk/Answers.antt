@@ -9,9 +9,9 @@ use Rattle.x86_64_model.specs.PageWalk.{read}
 use Rattle.x86_64_access.specs.Accesses.{access_of, controls_of}
 use Rattle.x86_64_access.specs.private.Walking.{access_on, may_read_on, rights_by}
 use Rattle.x86_64_access.proofs.Deciding.{rights_all}
-use Rattle.x86_64_access.proofs.Walked.{no_page, on_small_page, on_root, on_zero, on_none, on_end, on_table, or_not, read_not_huge, reads_sound, stops}
+use Rattle.x86_64_access.proofs.Walked.{no_page, on_arrival, page_low, accepted, on_root, on_zero, on_none, on_end, on_table, or_not, read_not_huge, reads_sound, stops}
 use Rattle.x86_64_access.proofs.memory_unit.Request.walk.Goals as goal
-use Rattle.x86_64_access.proofs.memory_unit.Request.walk.Goals.{then-level-eq1-2-via-then-level-eq1-2, then-level-eq1-2-via-else-level-eq1-2+then-word-masks-ne-PRESENT}
+use Rattle.x86_64_access.proofs.memory_unit.Request.walk.Goals.{then-level-eq1-via-then-level-eq1, then-level-eq1-via-else-level-eq1+then-word-masks-ne-PRESENT}
 
 pub loop-above-init : goal.loop-above-init
 loop-above-init g c =
@@ -36,16 +36,16 @@ end_at-requires-clause-last g c =
     let e = c.index-entry.result.now in
     let controls = controls_of c.args.self.controls in
     let low : 1 ≤ level = omega (arith, c.loop-above-test.true) in
-    let stop : ((level == 1) || not (may_read_on controls e)) ≡ true = elim c.then-level-eq1-2.branch [
-      | then-level-eq1-2-via-then-level-eq1-2 w ↦ ap (λ b. b || not (may_read_on controls e)) (eq-eqb level 1 w.if-level-eq1-2.true)
-      | then-level-eq1-2-via-else-level-eq1-2+then-word-masks-ne-PRESENT w ↦
+    let stop : ((level == 1) || not (may_read_on controls e)) ≡ true = elim c.then-level-eq1.branch [
+      | then-level-eq1-via-then-level-eq1 w ↦ ap (λ b. b || not (may_read_on controls e)) (eq-eqb level 1 w.if-level-eq1.true)
+      | then-level-eq1-via-else-level-eq1+then-word-masks-ne-PRESENT w ↦
           let other : (bit_and e c.of-masks.result.table == 1) ≡ false = search rules in
           or_not (level == 1) (may_read_on controls e) (sym (c.of-masks.ensures.table e) ∙ other)
     ] in
     stops controls level e low stop
 
-pub returns-then-level-eq1-2 : goal.returns-then-level-eq1-2
-returns-then-level-eq1-2 g c =
+pub returns-then-level-eq1 : goal.returns-then-level-eq1
+returns-then-level-eq1 g c =
     let words = words_of (g.T.TableMemory.tables c.args.memory.now) (g.P.PageTableFrameMapping.places c.args.mapping.now) in
     let level = c.args.levels - c.loop-above.above in
     let e = c.index-entry.result.now in
@@ -57,6 +57,13 @@ returns-then-level-eq1-2 g c =
     c.end_at.ensures ∙ ap (λ r. ends_at controls asked c.args.position r (record { level = level; frame = 0; index = 0; word = e })) (c.rights.ensures ∙ c.below-rights.ensures)
     ∙ on_end controls words c.args.position asked level c.loop-above.frame (rights_by c.loop-above.rights.0) e low is ends ∙ c.loop-above.invariant
 
+pub address_in_page-requires-clause-high : goal.address_in_page-requires-clause-high
+address_in_page-requires-clause-high g c =
+    let e = c.index-entry.result.now in
+    let level = c.args.levels - c.loop-above.above in
+    let parts = accepted (controls_of c.args.self.controls) level e (bit_and e c.of-masks.result.page == 1) (c.of-masks.ensures.page e) (sym c.accept.ensures ∙ c.if-accept.true) in
+    page_low level e parts.2
+
 pub returns-then-suffice : goal.returns-then-suffice
 returns-then-suffice g c =
     let words = words_of (g.T.TableMemory.tables c.args.memory.now) (g.P.PageTableFrameMapping.places c.args.mapping.now) in
@@ -66,11 +73,10 @@ returns-then-suffice g c =
     let asked = access_of c.args.self.access in
     let is : Some e ≡ read words c.loop-above.frame (index level c.args.position) = search rules in
     let low : 1 ≤ level = omega (arith, c.loop-above-test.true) in
-    let one : level ≡ 1 = search rules in
-    let page : (bit_and e c.of-masks.result.page == 1) ≡ true = search rules in
+    let parts = accepted controls level e (bit_and e c.of-masks.result.page == 1) (c.of-masks.ensures.page e) (sym c.accept.ensures ∙ c.if-accept.true) in
     let enough : (bit_and c.below-rights.result.0 c.of-masks.result.asked == c.of-masks.result.needed) ≡ true = search rules in
-    ap Arrives c.address_in.ensures
-    ∙ on_small_page controls words c.args.position asked level c.loop-above.frame (rights_by c.loop-above.rights.0) e low is one (sym (c.of-masks.ensures.page e) ∙ page)
+    ap Arrives c.address_in_page.ensures
+    ∙ on_arrival controls words c.args.position asked level c.loop-above.frame (rights_by c.loop-above.rights.0) e low is parts.0 parts.1 parts.2
     (ap (allowed controls asked) (sym c.below-rights.ensures) ∙ sym (c.of-masks.ensures.rights c.below-rights.result.0) ∙ enough)
     ∙ c.loop-above.invariant
 
@@ -84,7 +90,7 @@ loop-above-preserved g c =
     let one : (bit_and e c.of-masks.result.table == 1) ≡ true = search rules in
     let on : may_read_on controls e ≡ true = sym (c.of-masks.ensures.table e) ∙ one in
     let parts = reads_sound controls level e on in
-    let table : maps_page level e ≡ false = no_page (level == 1) (huge e) ((level == 2) || (level == 3)) (ne_eqb level 1 c.if-level-eq1-2.false) (read_not_huge controls e on) in
+    let table : maps_page level e ≡ false = no_page (level == 1) (huge e) ((level == 2) || (level == 3)) (ne_eqb level 1 c.if-level-eq1.false) (read_not_huge controls e on) in
     let next : c.args.levels - (c.loop-above.above + 1) ≡ level - 1 = omega arith in
     let low : 1 ≤ level = omega (arith, c.loop-above-test.true) in
     rw (next, c.below-rights.ensures, c.from_start_address_unchecked-frame.ensures, c.addr.ensures)
