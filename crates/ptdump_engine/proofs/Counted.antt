@@ -1,5 +1,5 @@
 -- Counted: how many mappings there can be, and how many bytes they can map.
-use Rattle.std.proofs.Common.{◌≡◌, ◌≤◌, ◌<◌, ◌+◌, ◌^◌, ◌×◌, ℕ, List, [], ◌∷◌, length, sum_by, subst, sym, arith}
+use Rattle.std.proofs.Common.{◌≡◌, ◌≤◌, ◌<◌, ◌+◌, ◌*◌, ◌^◌, ℕ, List, [], ◌∷◌, length, sum_by, arith}
 use Rattle.std.proofs.lemmas.List.Sums.{sum_by-cons}
 use Rattle.std.proofs.Math.Pow.{pow_mono}
 use Rattle.x86_64_model.specs.Mappings.{Mapping, mappings_of}
@@ -20,5 +20,6 @@ within a b (m ∷ ms) h =
 pub counted_fits : (L : ℕ) (T : Words) (root : ℕ) → L ≤ 5 → (length (mappings_of L T root) ≤ 2 ^ 57) × (sum_by (λ m. m.size) (mappings_of L T root) ≤ 2 ^ 57)
 counted_fits L T root few =
     let both = within 0 (position_count L) (mappings_of L T root) (mappings_chain L T root) in
-    let most : position_count L ≤ 2 ^ 57 = pow_mono (omega (arith, few)) in
+    let levels : 12 + 9 * L ≤ 57 = omega (arith, few) in
+    let most : position_count L ≤ 2 ^ 57 = pow_mono levels in
     (omega (arith, both.0, both.1, most), omega (arith, both.1, most))

@@ -52,7 +52,12 @@ fn count_mappings<L: LevelCount>(loaded: &Loaded<'_, L>) -> (u64, u64)
     let memory = loaded.tables.memory();
     let mut count = 0;
     let mut bytes = 0;
-    for mapping in mappings_from(memory, &IdentityMapping, loaded.root, VirtAddrIn::<L>::zero()) {
+    for mapping in mappings_from(
+        memory,
+        &IdentityMapping,
+        loaded.root,
+        VirtAddrIn::<L>::zero(),
+    ) {
         count += 1;
         bytes += mapping.size();
     }
