@@ -14,7 +14,7 @@ use x86_64_mappings::text::write_size;
 use x86_64_tables::phys_memory::IdentityMapping;
 
 /// The number of tables that were read, and how much they map.
-#[derive(Clone, Copy, Debug, PartialEq, Eq)]
+#[derive(Clone, Copy)]
 pub struct Totals {
     /// The number of tables.
     pub tables: usize,
