@@ -2,9 +2,9 @@
 #![tactic(auto)]
 
 mod arguments;
-mod execution;
 pub mod ending;
 pub mod engine;
+mod execution;
 mod fields;
 mod frames;
 mod hierarchy;

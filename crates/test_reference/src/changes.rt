@@ -9,9 +9,9 @@ ghost use Rattle.x86_64_model.specs.PageRules.{AfterChange, refused_or, unmap_re
 ghost use Rattle.test_reference.specs.Windows.{entry_read};
 ghost use Rattle.test_reference.specs.Calls.{refusals_of, answer_of, after_change};
 
-use crate::plain_calls::{Answer, Refusal};
 use crate::entries::PathEntries;
 use crate::machine::PlainMachine;
+use crate::plain_calls::{Answer, Refusal};
 use crate::positions::{front_at, is_small, level_of, span_size};
 use crate::windows::{entry_at, first_stop};
 use crate::words::{HUGE_PAGE, address, is_huge, is_present, is_used};

@@ -9,9 +9,9 @@ ghost use Rattle.test_reference.specs.Fronts.{first_present};
 ghost use Rattle.test_reference.specs.Windows.{window_of, entry_read};
 ghost use Rattle.test_reference.specs.Calls.{call_of};
 
-use crate::plain_calls::PlainCall;
 use crate::entries::PathEntries;
 use crate::machine::PlainMachine;
+use crate::plain_calls::PlainCall;
 use crate::positions::{front_at, is_small, level_of, lower_half, path_at};
 use crate::windows::{begins_with, entry_at, first_stop};
 use crate::words::{is_huge, is_present, is_used, no_address, parent_part};

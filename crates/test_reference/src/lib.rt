@@ -2,19 +2,19 @@
 //! it.
 #![tactic(auto)]
 
-pub mod plain_calls;
 pub mod changes;
 pub mod cleaning;
 pub mod conditions;
 pub mod entries;
 pub mod machine;
 pub mod maps;
+pub mod plain_calls;
 pub mod positions;
 pub mod translations;
 pub mod windows;
 pub mod words;
 
-pub use plain_calls::{Answer, PlainCall, PlainReply, Refusal, Translated};
 pub use entries::PathEntries;
 pub use machine::{PlainMachine, PlainState};
+pub use plain_calls::{Answer, PlainCall, PlainReply, Refusal, Translated};
 pub use windows::PlainWindow;

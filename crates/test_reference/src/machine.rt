@@ -9,9 +9,9 @@ ghost use Rattle.test_reference.specs.Windows.{entry_read};
 ghost use Rattle.test_reference.specs.Calls.{call_of, translated_of};
 ghost use Rattle.test_reference.specs.Machine.{CanAdd, machine_of, plain_state, outcome, allowed_outcome};
 
-use crate::plain_calls::{PlainCall, PlainReply, Translated};
 use crate::cleaning::CleanUpRange;
 use crate::entries::PathEntries;
+use crate::plain_calls::{PlainCall, PlainReply, Translated};
 use crate::positions::path_at;
 use crate::translations::translate;
 use crate::windows::PlainWindow;

@@ -6,10 +6,10 @@ ghost use Rattle.x86_64_model.specs.MapRule.{with_flags, with_tables, map_call a
 ghost use Rattle.test_reference.specs.Calls.{after_map};
 ghost use Rattle.test_reference.specs.Fronts.{fronts, is_wanted, has_huge_page};
 
-use crate::plain_calls::{Answer, Refusal};
 use crate::changes::leaf_entry;
 use crate::entries::PathEntries;
 use crate::machine::PlainMachine;
+use crate::plain_calls::{Answer, Refusal};
 use crate::positions::front;
 use crate::words::{is_used, is_used_and_huge};
 use std::alloc::{AllocError, Global};

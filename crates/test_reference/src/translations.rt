@@ -6,8 +6,8 @@ ghost use Rattle.x86_64_model.specs.Translation.{Mapped, translate_on as transla
 ghost use Rattle.test_reference.specs.Windows.{entry_read};
 ghost use Rattle.test_reference.specs.Calls.{translated_of};
 
-use crate::plain_calls::Translated;
 use crate::entries::PathEntries;
+use crate::plain_calls::Translated;
 use crate::positions::{index, span};
 use crate::windows::{PlainWindow, entry_at};
 use crate::words::{address, flags, is_huge, is_present, is_used};

@@ -5,8 +5,8 @@ ghost use Rattle.x86_64_model.specs.Refusal.{first_stop as first_stop_of};
 ghost use Rattle.test_reference.specs.Windows.{window_of, the_window, entry_read};
 ghost use Rattle.test_reference.specs.Calls.{refusals_of};
 
-use crate::plain_calls::Refusal;
 use crate::entries::PathEntries;
+use crate::plain_calls::Refusal;
 use crate::words::{is_huge, is_present};
 
 /// A recursive index, and the root's entry at this index.

@@ -9,10 +9,10 @@
 //! Ranges of pages, which the direct mapper maps, changes and unmaps as a whole, are compared with calls on each page.
 //!
 //! The script `tests/agreement` compares the program `pagetab` with the plain one, a call at a time.
-mod plain_call;
 mod chooser;
 mod listing;
 mod lists;
 mod outcomes;
+mod plain_call;
 mod ranges;
 mod twins;

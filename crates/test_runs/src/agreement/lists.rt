@@ -1,8 +1,8 @@
 //! Lists of calls, executed by the plain program and by both mappers of the library.
-use super::plain_call::plain_of;
 use super::chooser::Chooser;
 use super::listing::compare_mappings;
 use super::outcomes::{Met, OUTCOMES, OUTCOMES_OF_LEVEL_5};
+use super::plain_call::plain_of;
 use super::twins::{RECURSIVE_INDEX, Twins};
 use crate::call_rows::{CallRow, call_of};
 use crate::pairs::{is_pair, none_names, run_pair_on};

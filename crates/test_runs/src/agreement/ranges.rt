@@ -6,8 +6,8 @@ ghost use Rattle.x86_64_model.specs.Mapper.{◌laid_in◌, SupplyFits, Valid, Po
 ghost use Rattle.x86_64_model.specs.Memory.{identity_places};
 ghost use Rattle.x86_64_model.specs.Pool.{serves_below};
 
-use super::plain_call::{page_of, plain_of};
 use super::chooser::Chooser;
+use super::plain_call::{page_of, plain_of};
 use super::twins::Twins;
 use crate::call_rows::CallRow::{self, Giant, Large, Small};
 use crate::call_rows::PageCallRow::{self, MapTo, MapToWithTableFlags, Unmap, UpdateFlags};

@@ -1,11 +1,11 @@
 //! Tables, as walks down from a root reach them.
 ghost use Rattle.std.specs.Prelude.{◌≡◌, ◌-◌, ◌≤◌};
+ghost use Rattle.x86_64_model.specs.Mappings.{every_right, granted};
 
 use x86_64_addr::level_count::LevelCount;
 use x86_64_page::frame::PhysFrame;
 use x86_64_page::page::Size4KiB;
 use x86_64_tables::page_table::{PageTableEntry, Rights};
-ghost use Rattle.x86_64_model.specs.Mappings.{every_right, granted};
 
 /// A table, as a walk down from a root reaches it.
 #[derive(Drop)]

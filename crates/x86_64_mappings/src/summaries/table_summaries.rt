@@ -1,5 +1,6 @@
 //! The summaries of the tables of a memory.
 ghost use Rattle.std.specs.Prelude.{◌≡◌, ◌+◌, ◌<◌, ◌≤◌, ℕ, length, IfOk, IfSome};
+ghost use Rattle.x86_64_model.specs.Mappings.{every_right};
 ghost use Rattle.x86_64_mappings.specs.Summaries.{summary_of};
 ghost use Rattle.x86_64_mappings.specs.Wanted.{Asked, asked_of, asked_mappings};
 ghost use Rattle.x86_64_mappings.specs.private.Known.{IsLevel, AreLevels, asking};
@@ -38,7 +39,6 @@ impl<'a, T: TableMemory, P: PageTableFrameMapping> Model for Summaries<'a, T, P>
 
     ghost use Rattle.x86_64_mappings.specs.Wanted.{asked_of};
     ghost use Rattle.x86_64_mappings.specs.private.Known.{AreLevels, asking};
-ghost use Rattle.x86_64_model.specs.Mappings.{every_right};
 
     ghost view = { λ s. asking s.query };
 
