@@ -49,7 +49,7 @@ impl<W: Destination> FoundLines for Output<'_, W> {
 /// A visitor that writes a line for each virtual address that leads to a physical address, from the mappings that it visits.
 ///
 /// The lines are put into an [`Output`], which is a type parameter so that contracts can identify it once it is returned.
-pub struct Finder<'a, O: FoundLines> {
+pub struct Finder<'a, O> {
     /// The destination of the lines.
     output: &'a mut O,
     /// The physical address.
@@ -58,7 +58,7 @@ pub struct Finder<'a, O: FoundLines> {
     pub is_found: bool,
 }
 
-impl<O: FoundLines> Drop for Finder<'_, O> {
+impl<O> Drop for Finder<'_, O> {
     fn drop(self)
         ensures { self.exit.0.now ≡ self.entry.output.now }
     {
