@@ -53,8 +53,8 @@ pub fn run<S: ByteSource, W: Destination, E: Destination, G: Progress>(
     errors: &mut E,
     progress: &mut G,
 ) -> Result<Outcome, Failure>
-    ensures run { S.IsKnown →
-        program.Runs (W.may_refuse || E.may_refuse) request.now (S.bytes source) (W.contents writer.old) (W.contents writer.new) result }
+    ensures run { S.IsKnown → program.Runs (W.may_refuse || E.may_refuse) request.now (S.bytes source)
+        (W.contents writer.old) (W.contents writer.new) result }
     ensures notes { S.IsKnown → OnOk result (program.is_image request.now.command ≡ false →
         program.Notes request.now (S.bytes source) (E.contents errors.old) (E.contents errors.new)) }
     ensures told { S.IsKnown → OnOk result

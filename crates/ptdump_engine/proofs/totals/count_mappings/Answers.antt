@@ -13,7 +13,7 @@ overflow_add-count g c =
     let listed : c.into_iter-mapping-iterator.result ≡ mappings_from c.zero.result (mappings_of L T root) = search rules in
     let all = listed ∙ ap (λ p. mappings_from p (mappings_of L T root)) c.zero.ensures ∙ from_first L T root in
     let more = one_more L T root c.loop-mapping.count c.loop-mapping.bytes c.into_iter-mapping-iterator.result c.loop-mapping.mapping-iterator c.next.new.self c.in-Some.mapping
-        g.L.LevelCount.at_most_five all c.in-Some.ensures.steps c.loop-mapping.invariant in
+    g.L.LevelCount.at_most_five all c.in-Some.ensures.steps c.loop-mapping.invariant in
     omega (arith, more.0)
 
 pub overflow_add-bytes : goal.overflow_add-bytes
@@ -24,7 +24,7 @@ overflow_add-bytes g c =
     let listed : c.into_iter-mapping-iterator.result ≡ mappings_from c.zero.result (mappings_of L T root) = search rules in
     let all = listed ∙ ap (λ p. mappings_from p (mappings_of L T root)) c.zero.ensures ∙ from_first L T root in
     let more = one_more L T root c.loop-mapping.count c.loop-mapping.bytes c.into_iter-mapping-iterator.result c.loop-mapping.mapping-iterator c.next.new.self c.in-Some.mapping
-        g.L.LevelCount.at_most_five all c.in-Some.ensures.steps c.loop-mapping.invariant in
+    g.L.LevelCount.at_most_five all c.in-Some.ensures.steps c.loop-mapping.invariant in
     rw c.size-bytes.ensures (omega (arith, more.1))
 
 pub returns : goal.returns
@@ -35,5 +35,5 @@ returns g c =
     let listed : c.into_iter-mapping-iterator.result ≡ mappings_from c.zero.result (mappings_of L T root) = search rules in
     let all = listed ∙ ap (λ p. mappings_from p (mappings_of L T root)) c.zero.ensures ∙ from_first L T root in
     let both = none_left L T root c.loop-mapping.count c.loop-mapping.bytes c.into_iter-mapping-iterator.result c.loop-mapping.mapping-iterator all c.in-None.ensures.steps.0
-        c.loop-mapping.invariant in
+    c.loop-mapping.invariant in
     record { count = both.0; bytes = both.1 }
