@@ -8,3 +8,4 @@ pub mod WalkLines
 pub mod Walking
 pub mod Wholly
 pub mod Renamed
+pub mod Counted

@@ -1,5 +1,5 @@
 -- Whole reports: the writer receives all that was put in, and words with equal mappings have equal reports.
-use Rattle.std.proofs.Common.{◌≡◌, ◌∙◌, ◌%◌, ◌++◌, ℕ, List, [], Option, None, Some, String, IfSome, IfOk, IfErr, Result, Ok, Err, is_some, filter, inl, refl, sym, ap, subst, append-nil}
+use Rattle.std.proofs.Common.{◌≡◌, ◌∙◌, ◌%◌, ◌++◌, ℕ, Bool, false, List, [], Option, None, Some, String, IfSome, IfOk, IfErr, Result, Ok, Err, is_some, filter, inl, refl, sym, ap, subst, append-nil}
 use Rattle.std.proofs.KnownBytes.{Appends-trans}
 use Rattle.std.specs.Io.KnownBytes.{Appends, append_known}
 use Rattle.std.specs.List.{flat_map, list_all, list_any}
@@ -104,19 +104,19 @@ opens request file dump start contents starts =
     ∙ ap (λ found. and_then found (λ start. Ok (record { dump = dump; start = start }))) starts
 
 -- why nothing is opened
-pub no_dump : (request : Request) (file : List ℕ) (error : DumpError) → Fails error (contents_of file request.base) → FailsBy (failure_of error) (opened_for request file)
+pub no_dump : (may : Bool) (request : Request) (file : List ℕ) (error : DumpError) → Fails error (contents_of file request.base) → FailsBy may (failure_of error) (opened_for request file)
 unfolding opened_for
-no_dump request file error fails = dump_fails error (contents_of file request.base) _ fails
+no_dump may request file error fails = dump_fails may error (contents_of file request.base) _ fails
 
-pub no_start : (request : Request) (file : List ℕ) (dump : Contents) (failure : Failure) → contents_of file request.base ≡ Ok dump → FailsBy failure (start_for request dump)
-    → FailsBy failure (opened_for request file)
+pub no_start : (may : Bool) (request : Request) (file : List ℕ) (dump : Contents) (failure : Failure) → contents_of file request.base ≡ Ok dump → FailsBy false failure (start_for request dump)
+    → FailsBy may failure (opened_for request file)
 unfolding opened_for
-no_start request file dump failure contents fails =
-    subst (λ found. FailsBy {A = Opened} failure (and_then (of_dump found) (λ dump. and_then (start_for request dump) (λ start. Ok (record { dump = dump; start = start }))))) (sym contents)
-    (fails_then failure (start_for request dump) (λ start. Ok (record { dump = dump; start = start })) fails)
+no_start may request file dump failure contents fails =
+    subst (λ found. FailsBy {A = Opened} may failure (and_then (of_dump found) (λ dump. and_then (start_for request dump) (λ start. Ok (record { dump = dump; start = start }))))) (sym contents)
+    (fails_then may failure (start_for request dump) (λ start. Ok (record { dump = dump; start = start })) fails)
 
 -- a run that opened what was asked for reports on it, or fails because of memory or a write
-pub runs_by : (request : Request) (file : List ℕ) (before after : Option (List ℕ)) (o : Opened) (result : Result Outcome Failure) → opened_for request file ≡ Ok o
-    → IfOk result (λ outcome. ReportsOf request before after outcome o) → IfErr result IsForced → Runs request file before after result
-runs_by request file before after o (Ok outcome) opened reports forced = (o, opened, reports)
-runs_by request file before after o (Err failure) opened reports forced = (forced_fails failure (opened_for request file) forced, inl forced)
+pub runs_by : (may : Bool) (request : Request) (file : List ℕ) (before after : Option (List ℕ)) (o : Opened) (result : Result Outcome Failure) → opened_for request file ≡ Ok o
+    → IfOk result (λ outcome. ReportsOf request before after outcome o) → IfErr result (IsForced may) → Runs may request file before after result
+runs_by may request file before after o (Ok outcome) opened reports forced = (o, opened, reports)
+runs_by may request file before after o (Err failure) opened reports forced = (forced_fails may failure (opened_for request file) forced, inl forced)

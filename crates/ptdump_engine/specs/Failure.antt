@@ -5,8 +5,6 @@ use Rattle.x86_64_dump.specs.declared.error.DumpError.TheVariants as dump
 use Rattle.x86_64_dump.specs.declared.error.Fault.TheVariants.{BaseOfElf}
 use Rattle.ptdump_engine.specs.declared.failure.Failure.{Failure}
 use Rattle.ptdump_engine.specs.declared.failure.Failure.TheVariants as failures
-use Rattle.ptdump_engine.specs.declared.output.OutputError.{OutputError}
-use Rattle.ptdump_engine.specs.declared.output.OutputError.TheVariants as output
 
 -- 2: the request; 3: the file; 4: memory allocation; 5: a failed write
 abbrev pub status_of : Failure → ℕ
@@ -20,11 +18,6 @@ status_of (failures.NoRoot root) = 3
 status_of (failures.Read error) = 3
 status_of failures.OutOfMemory = 4
 status_of failures.Output = 5
-
--- the failure of a run, from that of putting text into an output
-abbrev pub failure_by : OutputError → Failure
-failure_by output.OutOfMemory = failures.OutOfMemory
-failure_by output.Write = failures.Output
 
 -- the failure of a run, from that of reading the dump
 abbrev pub failure_of : DumpError → Failure

@@ -96,10 +96,11 @@ abbrev pub ReportsOf : Request → (before after : Option (List ℕ)) → Outcom
 ReportsOf request before after outcome o =
     Reports request.command (level_count o.start.levels) (words_of_dump o.dump) o.start.root before after outcome
 
--- The result and the output of a run on a file. A run that fails because of its request or its file has written nothing.
-abbrev pub Runs : Request → (file : List ℕ) → (before after : Option (List ℕ)) → Result Outcome Failure → Type 0
-Runs request file before after (Ok outcome) = (o : Opened) × (opened_for request file ≡ Ok o) × ReportsOf request before after outcome o
-Runs request file before after (Err failure) = FailsBy failure (opened_for request file) × (IsForced failure ⊎ (after ≡ before))
+-- The result and the output of a run on a file. A run that fails because of its request or its file has written nothing. It
+-- fails because of a write only if its writers may refuse one.
+abbrev pub Runs : (may_refuse : Bool) → Request → (file : List ℕ) → (before after : Option (List ℕ)) → Result Outcome Failure → Type 0
+Runs may request file before after (Ok outcome) = (o : Opened) × (opened_for request file ≡ Ok o) × ReportsOf request before after outcome o
+Runs may request file before after (Err failure) = FailsBy may failure (opened_for request file) × (IsForced may failure ⊎ (after ≡ before))
 
 -- ---- standard error, and the progress
 

@@ -1,5 +1,5 @@
 -- Steps: expected results, step by step, and calls that return them.
-use Rattle.std.specs.Prelude.{◌≡◌, Option, None, Some, Result, Ok, Err, ⊤}
+use Rattle.std.specs.Prelude.{◌≡◌, Bool, true, false, Option, None, Some, Result, Ok, Err, ⊤}
 use Rattle.x86_64_dump.specs.declared.error.Fault.{Fault}
 use Rattle.ptdump_engine.specs.declared.failure.Failure.{Failure}
 use Rattle.ptdump_engine.specs.declared.failure.Failure.TheVariants as failures
@@ -17,19 +17,19 @@ abbrev pub unless : {A : Type 0} → Option Failure → A → Result A Failure
 unless None a = Ok a
 unless (Some failure) a = Err failure
 
--- memory allocation or a write failed
-abbrev pub IsForced : Failure → Type 0
-IsForced failures.OutOfMemory = ⊤
-IsForced failures.Output = ⊤
-IsForced failure = ⊥
+-- memory allocation failed, or a write, which may be refused
+abbrev pub IsForced : (may_refuse : Bool) → Failure → Type 0
+IsForced may failures.OutOfMemory = ⊤
+IsForced may failures.Output = may ≡ true
+IsForced may failure = ⊥
 
--- a call fails with the expected failure, unless memory allocation or a write failed
-abbrev pub FailsBy : {A : Type 0} → Failure → Result A Failure → Type 0
-FailsBy failures.OutOfMemory found = ⊤
-FailsBy failures.Output found = ⊤
-FailsBy failure found = found ≡ Err failure
+-- a call fails with the expected failure, unless memory allocation failed, or a write, which may be refused
+abbrev pub FailsBy : {A : Type 0} → (may_refuse : Bool) → Failure → Result A Failure → Type 0
+FailsBy may failures.OutOfMemory found = ⊤
+FailsBy may failures.Output found = may ≡ true
+FailsBy may failure found = found ≡ Err failure
 
--- a call returns the expected result, unless memory allocation or a write failed
+-- a call that writes nothing returns the expected result, unless memory allocation failed
 abbrev pub Finds : {A : Type 0} → Result A Failure → Result A Failure → Type 0
 Finds (Ok a) found = found ≡ Ok a
-Finds (Err failure) found = FailsBy failure found
+Finds (Err failure) found = FailsBy false failure found

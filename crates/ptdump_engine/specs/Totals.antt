@@ -1,5 +1,5 @@
 -- Totals: the number of tables that were read, and how much they map.
-use Rattle.std.specs.Prelude.{◌≡◌, ◌⊎◌, ◌++◌, ℕ, List, codes, decimal, length, sum_by}
+use Rattle.std.specs.Prelude.{◌≡◌, ◌++◌, ℕ, List, codes, decimal, length, sum_by}
 use Rattle.x86_64_dump.specs.Loaded.{IsTableCount}
 use Rattle.x86_64_mappings.specs.Texts.{size_text}
 use Rattle.x86_64_model.specs.Mappings.{Mapping, mappings_of}
@@ -9,9 +9,9 @@ use Rattle.ptdump_engine.specs.declared.totals.Totals.{Totals}
 abbrev pub totals_text : Totals → List ℕ
 totals_text t = codes "tables " ++ decimal t.tables ++ codes ", mappings " ++ decimal t.mappings ++ codes ", mapped " ++ size_text t.bytes
 
--- the number and the size of these mappings, or 0 for both if they aren't known
+-- the number and the size of these mappings
 abbrev pub IsMapped : List Mapping → Totals → Type 0
-IsMapped ms t = ((t.mappings ≡ length ms) × (t.bytes ≡ sum_by (λ m. m.size) ms)) ⊎ ((t.mappings ≡ 0) × (t.bytes ≡ 0))
+IsMapped ms t = (t.mappings ≡ length ms) × (t.bytes ≡ sum_by (λ m. m.size) ms)
 
 -- the totals of the tables that a root leads to in W, with L levels of tables
 pub record AreTotals (L : ℕ) (W : Words) (root : ℕ) (totals : Totals) : Type 0 where

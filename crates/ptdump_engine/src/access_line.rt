@@ -8,12 +8,12 @@ ghost use Rattle.ptdump_engine.specs.Loaded.{words_loaded};
 ghost use Rattle.ptdump_engine.specs.Output.{Puts};
 ghost use Rattle.ptdump_engine.specs.Walks.{line};
 
+use crate::destination::Destination;
 use crate::loaded::Loaded;
 use crate::output::{Output, OutputError};
 use crate::request::ProcessorAccess;
 use bitflags::Flags;
 use std::fmt::{Display, Formatter, Result as FmtResult, Write};
-use std::io;
 use x86_64_access::{Access, AccessKind, Controls, Fault, PageFaultCode, access};
 use x86_64_addr::addr::{PhysAddr, VirtAddrIn};
 use x86_64_addr::level_count::LevelCount;
@@ -30,12 +30,12 @@ const PHYSICAL_BITS: u8 = 52;
 /// # Errors
 ///
 /// `OutputError::OutOfMemory` if memory allocation fails, `OutputError::Write` if a write fails.
-pub fn write_access<L: LevelCount, W: io::Write>(
+pub fn write_access<L: LevelCount, W: Destination>(
     loaded: &Loaded<'_, L>,
     address: VirtAddrIn<L>,
     asked: ProcessorAccess,
     output: &mut Output<'_, W>,
-) -> Result<bool, OutputError>
+) -> Result<bool, OutputError<W>>
     ensures text { OnOk result (Puts W.contents output.old output.new (line (accesses.access_text asked.access
         (accesses.outcome_in L.LEVELS (words_loaded loaded.now) loaded.now.root address asked)))) }
     ensures arrives { IfOk result (λ arrives. arrives ≡ accesses.is_arrived

@@ -1,11 +1,11 @@
 //! The report of a check.
 ghost use Rattle.std.specs.Prelude.{⊤};
 
+use crate::destination::Destination;
 use crate::findings::table_findings;
 use crate::loaded::Loaded;
 use crate::output::{Output, OutputError};
 use std::alloc::Global;
-use std::io::Write;
 use x86_64_addr::level_count::LevelCount;
 use x86_64_mappings::{RegionIn, Visitor, visit_regions};
 
@@ -40,18 +40,18 @@ impl Flaw {
 
 /// A visitor that writes a line for each region with a flaw, and counts them.
 #[derive(Drop)]
-struct FlawedRegions<'a, 'b, W: Write> {
+struct FlawedRegions<'a, 'b, W: Destination> {
     flaw: Flaw,
     output: &'a mut Output<'b, W>,
     count: u64,
 }
 
-impl<L: LevelCount, W: Write> Visitor<RegionIn<L>> for FlawedRegions<'_, '_, W> {
-    type Error = OutputError;
+impl<L: LevelCount, W: Destination> Visitor<RegionIn<L>> for FlawedRegions<'_, '_, W> {
+    type Error = OutputError<W>;
 
     ghost Visits = { λ _ _ _. ⊤ };
 
-    fn visit(&mut self, region: RegionIn<L>) -> Result<(), OutputError> {
+    fn visit(&mut self, region: RegionIn<L>) -> Result<(), OutputError<W>> {
         if self.flaw.is_in(&region) {
             let text = self.flaw.text();
             writeln!(self.output, "{text} {region}")?;
@@ -70,11 +70,11 @@ impl<L: LevelCount, W: Write> Visitor<RegionIn<L>> for FlawedRegions<'_, '_, W> 
 /// # Errors
 ///
 /// `OutputError::OutOfMemory` if memory allocation fails, `OutputError::Write` if a write fails.
-pub fn write_findings<L: LevelCount, W: Write>(
+pub fn write_findings<L: LevelCount, W: Destination>(
     alloc: Global,
     loaded: &Loaded<'_, L>,
     output: &mut Output<'_, W>,
-) -> Result<u64, OutputError> {
+) -> Result<u64, OutputError<W>> {
     let executable = write_regions(loaded, Flaw::WritableAndExecutable, output)?;
     let upper = write_regions(loaded, Flaw::UserInUpperHalf, output)?;
     let tables = write_tables(alloc, loaded, output)?;
@@ -84,11 +84,11 @@ pub fn write_findings<L: LevelCount, W: Write>(
 }
 
 /// Writes a line for each region with a flaw, and returns the number of lines.
-fn write_regions<L: LevelCount, W: Write>(
+fn write_regions<L: LevelCount, W: Destination>(
     loaded: &Loaded<'_, L>,
     flaw: Flaw,
     output: &mut Output<'_, W>,
-) -> Result<u64, OutputError> {
+) -> Result<u64, OutputError<W>> {
     let mut regions = FlawedRegions {
         flaw,
         output,
@@ -99,11 +99,11 @@ fn write_regions<L: LevelCount, W: Write>(
 }
 
 /// Writes a line for each finding in the tables, and returns the number of lines.
-fn write_tables<L: LevelCount, W: Write>(
+fn write_tables<L: LevelCount, W: Destination>(
     alloc: Global,
     loaded: &Loaded<'_, L>,
     output: &mut Output<'_, W>,
-) -> Result<u64, OutputError> {
+) -> Result<u64, OutputError<W>> {
     let tables = loaded.tables;
     let findings = table_findings(alloc, tables.memory(), tables.frames(), loaded.root)?;
     for finding in &findings {

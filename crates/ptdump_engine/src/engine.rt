@@ -1,5 +1,5 @@
 //! The run of the program.
-ghost use Rattle.std.specs.Prelude.{◌≡◌, [], false, None, OnOk, IfOk, IfErr, IfSome, string_bytes};
+ghost use Rattle.std.specs.Prelude.{◌≡◌, ◌||◌, [], false, None, OnOk, IfOk, IfErr, IfSome, string_bytes};
 ghost use Rattle.std.specs.FinMap as finite;
 ghost use Rattle.std.specs.Io.KnownBytes.{Appends};
 ghost use Rattle.x86_64_dump.specs.Dump.{words_of_dump};
@@ -15,6 +15,7 @@ ghost use Rattle.ptdump_engine.specs.declared.totals.Totals.{Totals};
 
 use crate::arguments::{argument_failure, root_failure};
 use crate::check::write_findings;
+use crate::destination::Destination;
 use crate::failure::Failure;
 use crate::image::write_image;
 use crate::loaded::Loaded;
@@ -25,7 +26,6 @@ use crate::request::{Command, Levels, Outcome, Request};
 use crate::start::{Start, start_of};
 use crate::totals::Totals;
 use std::alloc::Global;
-use std::io::Write;
 use std::marker::PhantomData;
 use x86_64_addr::level_count::{FiveLevels, FourLevels, LevelCount};
 use x86_64_dump::{ByteSource, Dump, Progress, read_tables};
@@ -45,7 +45,7 @@ use x86_64_tables::phys_memory::IdentityMapping;
 /// A failure if the file isn't a dump, the start of page walks can't be determined, an address is invalid, or the root isn't in
 /// the dump, all before anything is written to `writer`. A walk reports a missing root itself. A failure if memory allocation,
 /// a read or a write fails.
-pub fn run<S: ByteSource, W: Write, E: Write, G: Progress>(
+pub fn run<S: ByteSource, W: Destination, E: Destination, G: Progress>(
     alloc: Global,
     source: S,
     request: &Request,
@@ -53,8 +53,8 @@ pub fn run<S: ByteSource, W: Write, E: Write, G: Progress>(
     errors: &mut E,
     progress: &mut G,
 ) -> Result<Outcome, Failure>
-    ensures run { S.IsKnown →
-        program.Runs request.now (S.bytes source) (W.contents writer.old) (W.contents writer.new) result }
+    ensures run { S.IsKnown → program.Runs (W.may_refuse || E.may_refuse) request.now (S.bytes source)
+        (W.contents writer.old) (W.contents writer.new) result }
     ensures notes { S.IsKnown → OnOk result (program.is_image request.now.command ≡ false →
         program.Notes request.now (S.bytes source) (E.contents errors.old) (E.contents errors.new)) }
     ensures told { S.IsKnown → OnOk result
@@ -81,10 +81,10 @@ pub fn run<S: ByteSource, W: Write, E: Write, G: Progress>(
 }
 
 /// Writes immediately if the file is shorter than its headers say.
-fn write_short<S: ByteSource, E: Write>(
+fn write_short<S: ByteSource, E: Destination>(
     dump: &Dump<S>,
     notes: &mut Output<'_, E>,
-) -> Result<(), OutputError>
+) -> Result<(), OutputError<E>>
     ensures text { S.IsKnown → OnOk result
         (Puts E.contents notes.old notes.new (program.short_text (opened S.bytes dump.now))) }
     ensures all { OnOk result (string_bytes notes.old.text ≡ [] → string_bytes notes.new.text ≡ []) }
@@ -121,7 +121,8 @@ fn start_for<S: ByteSource>(
 }
 
 /// Reads the tables that a root leads to, and writes a command's report on them, and the totals.
-fn report<L: LevelCount, S: ByteSource, W: Write, E: Write, G: Progress>(
+#[tactic(auto, using(crate::proofs::Failing::forced_first, crate::proofs::Failing::forced_second))]
+fn report<L: LevelCount, S: ByteSource, W: Destination, E: Destination, G: Progress>(
     alloc: Global,
     dump: &Dump<S>,
     root: PhysFrame<Size4KiB>,
@@ -139,7 +140,7 @@ fn report<L: LevelCount, S: ByteSource, W: Write, E: Write, G: Progress>(
         (put_in E.contents notes.old) (E.contents notes.new.writer.now)) }
     ensures told { S.IsKnown → OnOk result (program.ToldOfTables G.Told G.Ended L.LEVELS
         (words_of_dump (opened S.bytes dump.now)) root progress.old progress.new) }
-    ensures errors { S.IsKnown → IfErr result IsForced }
+    ensures errors { S.IsKnown → IfErr result (IsForced (W.may_refuse || E.may_refuse)) }
 {
     let tables = read_tables::<L, S, G>(alloc, dump, root, progress);
     progress.end();
@@ -158,7 +159,8 @@ fn report<L: LevelCount, S: ByteSource, W: Write, E: Write, G: Progress>(
 }
 
 /// Writes a command's whole report, and returns true if the request is fulfilled.
-fn write_whole<L: LevelCount, S: ByteSource, W: Write, E: Write>(
+#[tactic(auto, using(crate::proofs::Failing::forced_first, crate::proofs::Failing::forced_second))]
+fn write_whole<L: LevelCount, S: ByteSource, W: Destination, E: Destination>(
     alloc: Global,
     dump: &Dump<S>,
     loaded: &Loaded<'_, L>,
@@ -175,7 +177,7 @@ fn write_whole<L: LevelCount, S: ByteSource, W: Write, E: Write>(
         IfSome (program.completeness_of command.now L.LEVELS (words_loaded loaded.now) loaded.now.root)
         (λ all. is ≡ all)) }
     ensures notes { OnOk result (program.is_image command.now ≡ false → notes.new ≡ notes.old) }
-    ensures errors { S.IsKnown → IfErr result IsForced }
+    ensures errors { S.IsKnown → IfErr result (IsForced (W.may_refuse || E.may_refuse)) }
 {
     let mut output = Output::new(alloc, writer);
     let is_complete = write_report(alloc, dump, loaded, command, &mut output, notes)?;
@@ -184,7 +186,8 @@ fn write_whole<L: LevelCount, S: ByteSource, W: Write, E: Write>(
 }
 
 /// Writes a command's report, and returns true if the request is fulfilled.
-fn write_report<L: LevelCount, S: ByteSource, W: Write, E: Write>(
+#[tactic(auto, using(crate::proofs::Failing::forced_first, crate::proofs::Failing::forced_second))]
+fn write_report<L: LevelCount, S: ByteSource, W: Destination, E: Destination>(
     alloc: Global,
     dump: &Dump<S>,
     loaded: &Loaded<'_, L>,
@@ -201,7 +204,7 @@ fn write_report<L: LevelCount, S: ByteSource, W: Write, E: Write>(
         IfSome (program.completeness_of command.now L.LEVELS (words_loaded loaded.now) loaded.now.root)
         (λ all. is ≡ all)) }
     ensures notes { OnOk result (program.is_image command.now ≡ false → notes.new ≡ notes.old) }
-    ensures errors { S.IsKnown → IfErr result IsForced }
+    ensures errors { S.IsKnown → IfErr result (IsForced (W.may_refuse || E.may_refuse)) }
 {
     match command {
         Command::Regions => {
@@ -227,10 +230,10 @@ fn write_report<L: LevelCount, S: ByteSource, W: Write, E: Write>(
 }
 
 /// Writes the number of tables that were read, and how much they map.
-fn write_totals<L: LevelCount, E: Write>(
+fn write_totals<L: LevelCount, E: Destination>(
     loaded: &Loaded<'_, L>,
     notes: &mut Output<'_, E>,
-) -> Result<(), OutputError>
+) -> Result<(), OutputError<E>>
     requires { IsLoaded loaded.now }
     ensures text { OnOk result ((totals : Totals)
         × (totals.tables ≡ finite.len loaded.now.tables.now.memory)

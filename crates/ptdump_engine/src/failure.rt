@@ -1,6 +1,7 @@
 //! Why runs fail.
 ghost use Rattle.std.specs.Prelude.{◌≡◌};
 
+use crate::destination::Destination;
 use crate::output::OutputError;
 use crate::request::Levels;
 use std::alloc::AllocError;
@@ -119,15 +120,15 @@ impl From<AllocError> for Failure {
     }
 }
 
-impl From<OutputError> for Failure {
-    ghost use Rattle.ptdump_engine.specs.Failure.{failure_by};
+impl<W: Destination> From<OutputError<W>> for Failure {
+    ghost use Rattle.ptdump_engine.specs.Steps.{IsForced};
 
-    ghost from_gives = { λ error failure. failure ≡ failure_by error };
+    ghost from_gives = { λ _ failure. IsForced W.may_refuse failure };
 
-    fn from(error: OutputError) -> Failure {
+    fn from(error: OutputError<W>) -> Failure {
         match error {
             OutputError::OutOfMemory => Failure::OutOfMemory,
-            OutputError::Write => Failure::Output,
+            OutputError::Write(refusal) => refusal.failure(),
         }
     }
 }

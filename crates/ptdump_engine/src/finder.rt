@@ -2,15 +2,18 @@
 ghost use Rattle.std.specs.Prelude.{◌≡◌, ◌++◌, ℕ, List, [], false, OnOk};
 ghost use Rattle.ptdump_engine.specs.Walks.{line, rights_at_text};
 
+use crate::destination::Destination;
 use crate::output::{Output, OutputError};
 use crate::rights_at::RightsAt;
-use std::io::Write;
 use x86_64_addr::addr::{PhysAddr, VirtAddrIn};
 use x86_64_addr::level_count::LevelCount;
 use x86_64_mappings::{MappingIn, Visitor};
 
 /// A destination for lines with the addresses that are found, and the rights there.
 pub trait FoundLines {
+    /// The reason why a line isn't put in.
+    type Error: Drop;
+
     /// That a text was put in.
     ghost puts: { Self → Self → List ℕ → Type 0 };
 
@@ -20,12 +23,14 @@ pub trait FoundLines {
         puts before between front → puts between after back → puts before after (front ++ back) };
 
     /// Puts a line in.
-    fn write_found(&mut self, found: RightsAt) -> Result<(), OutputError>
+    fn write_found(&mut self, found: RightsAt) -> Result<(), Self::Error>
         ensures { OnOk result (puts self.old self.new
             (line (rights_at_text found.address found.rights))) };
 }
 
-impl<W: Write> FoundLines for Output<'_, W> {
+impl<W: Destination> FoundLines for Output<'_, W> {
+    type Error = OutputError<W>;
+
     ghost use Rattle.ptdump_engine.specs.Output.{Puts};
     ghost use Rattle.ptdump_engine.specs.private.Puts.{puts_nothing, puts_both};
 
@@ -36,7 +41,7 @@ impl<W: Write> FoundLines for Output<'_, W> {
     ghost parts = { λ before between after front back.
         puts_both W.contents before between after front back };
 
-    fn write_found(&mut self, found: RightsAt) -> Result<(), OutputError> {
+    fn write_found(&mut self, found: RightsAt) -> Result<(), OutputError<W>> {
         writeln!(self, "{found}")
     }
 }
@@ -44,7 +49,7 @@ impl<W: Write> FoundLines for Output<'_, W> {
 /// A visitor that writes a line for each virtual address that leads to a physical address, from the mappings that it visits.
 ///
 /// The lines are put into an [`Output`], which is a type parameter so that contracts can identify it once it is returned.
-pub struct Finder<'a, O: FoundLines> {
+pub struct Finder<'a, O> {
     /// The destination of the lines.
     output: &'a mut O,
     /// The physical address.
@@ -53,7 +58,7 @@ pub struct Finder<'a, O: FoundLines> {
     pub is_found: bool,
 }
 
-impl<O: FoundLines> Drop for Finder<'_, O> {
+impl<O> Drop for Finder<'_, O> {
     fn drop(self)
         ensures { self.exit.0.now ≡ self.entry.output.now }
     {
@@ -82,7 +87,7 @@ impl<'a, O: FoundLines> Finder<'a, O> {
 }
 
 impl<L: LevelCount, O: FoundLines> Visitor<MappingIn<L>> for Finder<'_, O> {
-    type Error = OutputError;
+    type Error = O::Error;
 
     ghost use Rattle.ptdump_engine.specs.private.Finding.{IsSearched};
     ghost use Rattle.ptdump_engine.specs.private.Searched.{searched_nothing, searched_both};
@@ -90,7 +95,7 @@ impl<L: LevelCount, O: FoundLines> Visitor<MappingIn<L>> for Finder<'_, O> {
     ghost Visits = { λ old new mappings. IsSearched O.puts L.LEVELS old new mappings };
 
     /// Writes the virtual address in a mapping that leads to the physical address.
-    fn visit(&mut self, mapping: MappingIn<L>) -> Result<(), OutputError> {
+    fn visit(&mut self, mapping: MappingIn<L>) -> Result<(), O::Error> {
         let start = mapping.frame.start_address().as_u64();
         let offset = self.physical.as_u64().saturating_sub(start);
         let address = VirtAddrIn::<L>::new_truncate(mapping.start.position() + offset);

@@ -1,13 +1,13 @@
 //! The report that is an image for `pagetab`.
-ghost use Rattle.std.specs.Prelude.{IfErr};
+ghost use Rattle.std.specs.Prelude.{◌||◌, IfErr};
 ghost use Rattle.ptdump_engine.specs.Steps.{IsForced};
 
+use crate::destination::Destination;
 use crate::failure::Failure;
 use crate::findings::{Image, Table};
 use crate::loaded::Loaded;
 use crate::output::{Output, OutputError};
 use std::alloc::Global;
-use std::io::Write;
 use x86_64_addr::level_count::LevelCount;
 use x86_64_dump::{ByteSource, Dump};
 
@@ -19,14 +19,15 @@ use x86_64_dump::{ByteSource, Dump};
 ///
 /// `Failure::Read` if the dump can't be read, `Failure::OutOfMemory` if memory allocation fails, `Failure::Output` if a write
 /// fails.
-pub fn write_image<L: LevelCount, S: ByteSource, W: Write, E: Write>(
+#[tactic(auto, using(crate::proofs::Failing::forced_first, crate::proofs::Failing::forced_second))]
+pub fn write_image<L: LevelCount, S: ByteSource, W: Destination, E: Destination>(
     alloc: Global,
     dump: &Dump<S>,
     loaded: &Loaded<'_, L>,
     output: &mut Output<'_, W>,
     errors: &mut Output<'_, E>,
 ) -> Result<(), Failure>
-    ensures { S.IsKnown → IfErr result IsForced }
+    ensures { S.IsKnown → IfErr result (IsForced (W.may_refuse || E.may_refuse)) }
 {
     let image = Image::read(alloc, dump, loaded.root, L::LEVELS)?;
     write_words(dump, &image, output)?;
@@ -34,12 +35,12 @@ pub fn write_image<L: LevelCount, S: ByteSource, W: Write, E: Write>(
 }
 
 /// Writes the lines of an image.
-fn write_words<S: ByteSource, W: Write>(
+fn write_words<S: ByteSource, W: Destination>(
     dump: &Dump<S>,
     image: &Image,
     output: &mut Output<'_, W>,
 ) -> Result<(), Failure>
-    ensures { S.IsKnown → IfErr result IsForced }
+    ensures { S.IsKnown → IfErr result (IsForced W.may_refuse) }
 {
     for table in image.tables() {
         if let Some(words) = dump.read_frame(table.frame).map_err(Failure::Read)? {
@@ -52,12 +53,12 @@ fn write_words<S: ByteSource, W: Write>(
 
 /// Writes the report on an image: the old address of each table, what is left out, why `pagetab` refuses the image, and the
 /// command line that reads it.
-fn write_report<S: ByteSource, E: Write>(
+fn write_report<S: ByteSource, E: Destination>(
     dump: &Dump<S>,
     image: &Image,
     errors: &mut Output<'_, E>,
 ) -> Result<(), Failure>
-    ensures { S.IsKnown → IfErr result IsForced }
+    ensures { S.IsKnown → IfErr result (IsForced E.may_refuse) }
 {
     writeln!(errors, "new         old               level")?;
     write_rows(image, image.tables(), errors)?;
@@ -77,11 +78,11 @@ fn write_report<S: ByteSource, E: Write>(
 }
 
 /// Writes the lines of tables.
-fn write_rows<E: Write>(
+fn write_rows<E: Destination>(
     image: &Image,
     tables: &[Table],
     errors: &mut Output<'_, E>,
-) -> Result<(), OutputError> {
+) -> Result<(), OutputError<E>> {
     for table in tables {
         let row = image.row(table);
         writeln!(errors, "{row}")?;
@@ -90,12 +91,12 @@ fn write_rows<E: Write>(
 }
 
 /// Writes why `pagetab` refuses entries.
-fn write_refusals<S: ByteSource, E: Write>(
+fn write_refusals<S: ByteSource, E: Destination>(
     dump: &Dump<S>,
     image: &Image,
     errors: &mut Output<'_, E>,
 ) -> Result<(), Failure>
-    ensures { S.IsKnown → IfErr result IsForced }
+    ensures { S.IsKnown → IfErr result (IsForced E.may_refuse) }
 {
     for table in image.tables() {
         if let Some(words) = dump.read_frame(table.frame).map_err(Failure::Read)? {

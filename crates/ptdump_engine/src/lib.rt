@@ -4,6 +4,7 @@
 mod access_line;
 mod arguments;
 mod check;
+mod destination;
 mod drawing;
 mod engine;
 mod failure;
@@ -22,6 +23,7 @@ mod totals;
 mod walk;
 mod word_read;
 
+pub use destination::Destination;
 pub use engine::run;
 pub use failure::Failure;
 pub use loaded::Loaded;

@@ -5,19 +5,19 @@ ghost use Rattle.ptdump_engine.specs.Output.{Puts};
 ghost use Rattle.ptdump_engine.specs.Walks.{line};
 ghost use Rattle.ptdump_engine.specs.private.Puts.{puts_nothing, puts_each};
 
+use crate::destination::Destination;
 use crate::output::{Output, OutputError};
-use std::io::Write;
 use x86_64_addr::level_count::LevelCount;
 use x86_64_mappings::{MappingIn, RegionIn, Visitor};
 
-impl<L: LevelCount, W: Write> Visitor<MappingIn<L>> for Output<'_, W> {
-    type Error = OutputError;
+impl<L: LevelCount, W: Destination> Visitor<MappingIn<L>> for Output<'_, W> {
+    type Error = OutputError<W>;
 
     ghost Visits = { λ old new mappings.
         Puts W.contents old new (flat_map (λ m. line (mapping_text L.LEVELS m)) mappings) };
 
     /// Writes a line for a mapping.
-    fn visit(&mut self, mapping: MappingIn<L>) -> Result<(), OutputError> {
+    fn visit(&mut self, mapping: MappingIn<L>) -> Result<(), OutputError<W>> {
         writeln!(self, "{mapping}")
     }
 
@@ -27,14 +27,14 @@ impl<L: LevelCount, W: Write> Visitor<MappingIn<L>> for Output<'_, W> {
         puts_each W.contents (λ m. line (mapping_text L.LEVELS m)) before between after front back };
 }
 
-impl<L: LevelCount, W: Write> Visitor<RegionIn<L>> for Output<'_, W> {
-    type Error = OutputError;
+impl<L: LevelCount, W: Destination> Visitor<RegionIn<L>> for Output<'_, W> {
+    type Error = OutputError<W>;
 
     ghost Visits = { λ old new regions.
         Puts W.contents old new (flat_map (λ r. line (region_text L.LEVELS r)) regions) };
 
     /// Writes a line for a region.
-    fn visit(&mut self, region: RegionIn<L>) -> Result<(), OutputError> {
+    fn visit(&mut self, region: RegionIn<L>) -> Result<(), OutputError<W>> {
         writeln!(self, "{region}")
     }
 

@@ -1,28 +1,62 @@
 //! Output that is collected, and passed on in large pieces.
-ghost use Rattle.std.specs.Prelude.{◌≡◌, IfSome, OnOk, string_bytes, []};
+ghost use Rattle.std.specs.Prelude.{◌≡◌, IfSome, OnOk, string_bytes, [], true};
+ghost use Rattle.ptdump_engine.specs.Steps.{IsForced};
 
+use crate::destination::Destination;
+use crate::failure::Failure;
 use std::alloc::{AllocError, Global};
 use std::fmt::Display;
-use std::io::Write;
+use std::marker::{Model, PhantomData};
 
 /// The number of bytes that are collected before they are passed on.
 const PIECE: usize = 0x1_0000;
 
+/// A refusal of a destination. There is one only if the destination may refuse.
+#[derive(Drop)]
+pub struct Refusal<W: Destination> {
+    destination: PhantomData<W>,
+}
+
+impl<W: Destination> Model for Refusal<W> {
+    ghost use Rattle.std.specs.Prelude.{◌≡◌, true};
+
+    ghost Value = { Unit {0} };
+
+    ghost view = { λ _. tt };
+
+    ghost invariant = { λ _. W.may_refuse ≡ true };
+}
+
+impl<W: Destination> Refusal<W> {
+    /// Returns the refusal for an error of a destination.
+    fn of<E: Drop>(_error: E) -> Self
+        requires { W.may_refuse ≡ true }
+    {
+        Refusal {
+            destination: PhantomData,
+        }
+    }
+
+    /// Returns the failure of a run that ends for it.
+    pub fn failure(self) -> Failure
+        ensures { IsForced W.may_refuse result }
+    {
+        let Refusal { destination: _ } = self;
+        Failure::Output
+    }
+}
+
 /// The reason why a text wasn't put into an output.
-#[derive(Clone, Copy, Debug, PartialEq, Eq)]
-pub enum OutputError {
+#[derive(Drop)]
+pub enum OutputError<W: Destination> {
     /// Memory allocation failed.
     OutOfMemory,
     /// A write failed.
-    Write,
+    Write(Refusal<W>),
 }
 
-impl From<AllocError> for OutputError {
-    ghost use Rattle.ptdump_engine.specs.declared.output.OutputError.TheVariants.{OutOfMemory};
-
-    ghost from_gives = { λ _ error. error ≡ OutOfMemory };
-
-    fn from(_error: AllocError) -> OutputError {
+impl<W: Destination> From<AllocError> for OutputError<W> {
+    fn from(_error: AllocError) -> OutputError<W> {
         OutputError::OutOfMemory
     }
 }
@@ -31,12 +65,12 @@ impl From<AllocError> for OutputError {
 ///
 /// The contents of the writer followed by the collected text are all that was put in. The text is a `String`. It is a type
 /// parameter so that contracts can identify the borrowed writer once it is returned.
-pub struct Output<'a, W: Write, T: Drop = String> {
+pub struct Output<'a, W: Destination, T: Drop = String> {
     writer: &'a mut W,
     text: T,
 }
 
-impl<W: Write, T: Drop> Drop for Output<'_, W, T> {
+impl<W: Destination, T: Drop> Drop for Output<'_, W, T> {
     /// Returns the writer as it is. Text that is still collected is lost.
     fn drop(self)
         ensures { self.exit.0.now ≡ self.entry.writer.now }
@@ -48,7 +82,7 @@ impl<W: Write, T: Drop> Drop for Output<'_, W, T> {
     }
 }
 
-impl<'a, W: Write> Output<'a, W> {
+impl<'a, W: Destination> Output<'a, W> {
     /// Creates an output with nothing collected.
     pub fn new(alloc: Global, writer: &'a mut W) -> Self
         ensures writer { result.writer.ghost_name ≡ writer.entry.ghost_name }
@@ -62,7 +96,7 @@ impl<'a, W: Write> Output<'a, W> {
     }
 }
 
-impl<W: Write> Output<'_, W> {
+impl<W: Destination> Output<'_, W> {
     ghost use Rattle.ptdump_engine.specs.Output.{Puts};
 
     /// Puts a text in. `write!` and `writeln!` call it.
@@ -70,7 +104,7 @@ impl<W: Write> Output<'_, W> {
     /// # Errors
     ///
     /// `OutputError::OutOfMemory` if memory allocation fails, `OutputError::Write` if a write fails.
-    pub fn write_fmt<D: Display + Drop>(&mut self, text: D) -> Result<(), OutputError>
+    pub fn write_fmt<D: Display + Drop>(&mut self, text: D) -> Result<(), OutputError<W>>
         ensures { OnOk result (IfSome (D.output text) (Puts W.contents self.old self.new)) }
     {
         self.text.write(text)?;
@@ -85,21 +119,26 @@ impl<W: Write> Output<'_, W> {
     /// # Errors
     ///
     /// `OutputError::Write` if a write fails.
-    pub fn finish(&mut self) -> Result<(), OutputError>
+    pub fn finish(&mut self) -> Result<(), OutputError<W>>
         ensures same { OnOk result (Puts W.contents self.old self.new []) }
         ensures all { OnOk result (string_bytes self.new.text ≡ []) }
     {
         self.hand_on()?;
-        self.writer.flush().map_err(|_| OutputError::Write)
+        match self.writer.flush() {
+            Ok(()) => Ok(()),
+            Err(error) => Err(OutputError::Write(Refusal::of(error))),
+        }
     }
 
     /// Passes on the collected text.
-    fn hand_on(&mut self) -> Result<(), OutputError>
+    fn hand_on(&mut self) -> Result<(), OutputError<W>>
         ensures same { OnOk result (Puts W.contents self.old self.new []) }
         ensures all { OnOk result (string_bytes self.new.text ≡ []) }
     {
         let text = self.text.as_bytes();
-        self.writer.write_all(text).map_err(|_| OutputError::Write)?;
+        if let Err(error) = self.writer.write_all(text) {
+            return Err(OutputError::Write(Refusal::of(error)));
+        }
         self.text.clear();
         Ok(())
     }

@@ -1,12 +1,12 @@
 //! The report that is a picture.
 ghost use Rattle.std.specs.Prelude.{⊤};
 
+use crate::destination::Destination;
 use crate::drawing::{MOST_DRAWN_TABLES, Mapped, Picture, TableLink, table_links};
 use crate::loaded::Loaded;
 use crate::output::{Output, OutputError};
 use crate::totals::Totals;
 use std::alloc::{AllocError, Global};
-use std::io::Write;
 use x86_64_addr::level_count::LevelCount;
 use x86_64_mappings::{RegionIn, Visitor, visit_regions};
 use x86_64_tables::phys_memory::IdentityMapping;
@@ -37,11 +37,11 @@ impl<L: LevelCount> Visitor<RegionIn<L>> for Collector<L> {
 /// # Errors
 ///
 /// `OutputError::OutOfMemory` if memory allocation fails, `OutputError::Write` if a write fails.
-pub fn write_picture<L: LevelCount, W: Write>(
+pub fn write_picture<L: LevelCount, W: Destination>(
     alloc: Global,
     loaded: &Loaded<'_, L>,
     output: &mut Output<'_, W>,
-) -> Result<(), OutputError> {
+) -> Result<(), OutputError<W>> {
     let mut collector = Collector::<L> {
         regions: Vec::new(alloc),
     };

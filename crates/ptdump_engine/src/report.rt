@@ -11,13 +11,13 @@ ghost use Rattle.ptdump_engine.specs.private.Asked.{mappings_asked};
 ghost use Rattle.ptdump_engine.specs.private.Finding.{some_there, visited_text};
 
 use crate::access_line::write_access;
+use crate::destination::Destination;
 use crate::finder::{Finder, FoundLines};
 use crate::loaded::Loaded;
 use crate::output::{Output, OutputError};
 use crate::request::ProcessorAccess;
 use crate::walk::write_walk;
 use std::alloc::Global;
-use std::io::Write;
 use x86_64_addr::addr::{PhysAddr, VirtAddrIn};
 use x86_64_addr::level_count::LevelCount;
 use x86_64_mappings::{Summaries, visit_mappings, visit_regions};
@@ -29,10 +29,10 @@ use x86_64_tables::phys_memory::{IdentityMapping, PhysMemory};
 ///
 /// `OutputError::OutOfMemory` if memory allocation fails, `OutputError::Write` if a write fails.
 #[tactic(auto, unfolding(crate::specs::Reports::regions_text))]
-pub fn write_regions<L: LevelCount, W: Write>(
+pub fn write_regions<L: LevelCount, W: Destination>(
     loaded: &Loaded<'_, L>,
     output: &mut Output<'_, W>,
-) -> Result<(), OutputError>
+) -> Result<(), OutputError<W>>
     requires { IsLoaded loaded.now }
     ensures { OnOk result (Puts W.contents output.old output.new
         (reports.regions_text L.LEVELS (words_loaded loaded.now) loaded.now.root)) }
@@ -50,10 +50,10 @@ pub fn write_regions<L: LevelCount, W: Write>(
 ///
 /// `OutputError::OutOfMemory` if memory allocation fails, `OutputError::Write` if a write fails.
 #[tactic(auto, unfolding(crate::specs::Reports::pages_text))]
-pub fn write_pages<L: LevelCount, W: Write>(
+pub fn write_pages<L: LevelCount, W: Destination>(
     loaded: &Loaded<'_, L>,
     output: &mut Output<'_, W>,
-) -> Result<(), OutputError>
+) -> Result<(), OutputError<W>>
     requires { IsLoaded loaded.now }
     ensures { OnOk result (Puts W.contents output.old output.new
         (reports.pages_text L.LEVELS (words_loaded loaded.now) loaded.now.root)) }
@@ -71,12 +71,12 @@ pub fn write_pages<L: LevelCount, W: Write>(
 /// # Errors
 ///
 /// `OutputError::OutOfMemory` if memory allocation fails, `OutputError::Write` if a write fails.
-pub fn write_walks<L: LevelCount, W: Write>(
+pub fn write_walks<L: LevelCount, W: Destination>(
     loaded: &Loaded<'_, L>,
     addresses: &[u64],
     access: Option<ProcessorAccess>,
     output: &mut Output<'_, W>,
-) -> Result<bool, OutputError>
+) -> Result<bool, OutputError<W>>
     ensures text { OnOk result (Puts W.contents output.old output.new
         (reports.walks_text L.LEVELS (words_loaded loaded.now) loaded.now.root access addresses.now)) }
     ensures complete { IfOk result (λ all.
@@ -93,12 +93,12 @@ pub fn write_walks<L: LevelCount, W: Write>(
 
 /// Writes the walk to an address, and what a processor does with an access there, if one is asked for. Returns true if the access
 /// arrives, or if none is asked for, the walk.
-fn write_walk_and_access<L: LevelCount, W: Write>(
+fn write_walk_and_access<L: LevelCount, W: Destination>(
     loaded: &Loaded<'_, L>,
     address: VirtAddrIn<L>,
     access: Option<ProcessorAccess>,
     output: &mut Output<'_, W>,
-) -> Result<bool, OutputError>
+) -> Result<bool, OutputError<W>>
     ensures text { OnOk result (Puts W.contents output.old output.new
         (reports.walk_and_access_text L.LEVELS (words_loaded loaded.now) loaded.now.root access address)) }
     ensures arrives { IfOk result (λ arrives.
@@ -116,12 +116,12 @@ fn write_walk_and_access<L: LevelCount, W: Write>(
 /// # Errors
 ///
 /// `OutputError::OutOfMemory` if memory allocation fails, `OutputError::Write` if a write fails.
-pub fn write_found<L: LevelCount, W: Write>(
+pub fn write_found<L: LevelCount, W: Destination>(
     alloc: Global,
     loaded: &Loaded<'_, L>,
     addresses: &[u64],
     output: &mut Output<'_, W>,
-) -> Result<bool, OutputError>
+) -> Result<bool, OutputError<W>>
     requires { find (λ a. nat_le (2 ^ 52) a) addresses.now ≡ None }
     ensures text { OnOk result (Puts W.contents output.old output.new
         (reports.find_text L.LEVELS (words_loaded loaded.now) loaded.now.root addresses.now)) }
@@ -138,12 +138,12 @@ pub fn write_found<L: LevelCount, W: Write>(
 }
 
 /// Writes the virtual addresses that lead to a physical address, and returns true if there are any.
-fn write_addresses_to<L: LevelCount, W: Write>(
+fn write_addresses_to<L: LevelCount, W: Destination>(
     alloc: Global,
     loaded: &Loaded<'_, L>,
     physical: PhysAddr,
     output: &mut Output<'_, W>,
-) -> Result<bool, OutputError>
+) -> Result<bool, OutputError<W>>
     ensures text { OnOk result (Puts W.contents output.old output.new
         (reports.addresses_text L.LEVELS (words_loaded loaded.now) loaded.now.root physical)) }
     ensures found { IfOk result (λ found. found
@@ -162,7 +162,7 @@ fn write_addresses_by<L: LevelCount, O: FoundLines>(
     loaded: &Loaded<'_, L>,
     physical: PhysAddr,
     output: &mut O,
-) -> Result<bool, OutputError>
+) -> Result<bool, O::Error>
     ensures text { OnOk result (O.puts output.old output.new
         (visited_text L.LEVELS physical (mappings_asked summaries.now L.LEVELS loaded.now.root))) }
     ensures found { IfOk result (λ found.

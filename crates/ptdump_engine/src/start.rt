@@ -21,7 +21,7 @@ const ROOT_MASK: u64 = 0x000f_ffff_ffff_f000;
 const LA57: u64 = 0x1000;
 
 /// The start of page walks.
-#[derive(Clone, Copy, Debug, PartialEq)]
+#[derive(Clone, Copy)]
 pub struct Start {
     /// The frame of the root's table.
     pub root: PhysFrame<Size4KiB>,

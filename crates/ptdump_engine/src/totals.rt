@@ -1,5 +1,5 @@
 //! The totals of what was read, and what it maps.
-ghost use Rattle.std.specs.Prelude.{◌≡◌, Some};
+ghost use Rattle.std.specs.Prelude.{◌≡◌, Some, length, sum_by};
 ghost use Rattle.std.specs.FinMap as finite;
 ghost use Rattle.x86_64_model.specs.Mappings.{mappings_of};
 ghost use Rattle.ptdump_engine.specs.Loaded.{IsLoaded, words_loaded};
@@ -7,11 +7,14 @@ ghost use Rattle.ptdump_engine.specs.Totals.{IsMapped};
 
 use crate::loaded::Loaded;
 use std::fmt::{Display, Formatter, Result as FmtResult, Write};
+use x86_64_addr::addr::VirtAddrIn;
 use x86_64_addr::level_count::LevelCount;
+use x86_64_mappings::mappings_from;
 use x86_64_mappings::text::write_size;
+use x86_64_tables::phys_memory::IdentityMapping;
 
 /// The number of tables that were read, and how much they map.
-#[derive(Clone, Copy, Debug, PartialEq, Eq)]
+#[derive(Clone, Copy)]
 pub struct Totals {
     /// The number of tables.
     pub tables: usize,
@@ -30,7 +33,7 @@ impl Totals {
     {
         let (mappings, bytes) = match loaded.summaries.of(L::LEVELS, loaded.root) {
             Some(summary) => (summary.count, summary.bytes),
-            None => (0, 0),
+            None => count_mappings(loaded),
         };
         Totals {
             tables: loaded.tables.len(),
@@ -38,6 +41,27 @@ impl Totals {
             bytes,
         }
     }
+}
+
+/// Counts the mappings below a root, and the bytes that they map, one by one.
+fn count_mappings<L: LevelCount>(loaded: &Loaded<'_, L>) -> (u64, u64)
+    ensures count { result.0 ≡ length (mappings_of L.LEVELS (words_loaded loaded.now) loaded.now.root) }
+    ensures bytes { result.1
+        ≡ sum_by (λ m. m.size) (mappings_of L.LEVELS (words_loaded loaded.now) loaded.now.root) }
+{
+    let memory = loaded.tables.memory();
+    let mut count = 0;
+    let mut bytes = 0;
+    for mapping in mappings_from(
+        memory,
+        &IdentityMapping,
+        loaded.root,
+        VirtAddrIn::<L>::zero(),
+    ) {
+        count += 1;
+        bytes += mapping.size();
+    }
+    (count, bytes)
 }
 
 impl Display for Totals {

@@ -10,11 +10,11 @@ ghost use Rattle.ptdump_engine.specs.Output.{Puts};
 ghost use Rattle.ptdump_engine.specs.Walks as walks;
 ghost use Rattle.ptdump_engine.specs.private.WalkLines.{lines_below, is_arrival};
 
+use crate::destination::Destination;
 use crate::loaded::Loaded;
 use crate::output::{Output, OutputError};
 use crate::rights_at::RightsAt;
 use crate::word_read::{MissingTable, WordRead};
-use std::io::Write;
 use x86_64_addr::addr::VirtAddrIn;
 use x86_64_addr::level_count::LevelCount;
 use x86_64_mappings::span;
@@ -29,11 +29,11 @@ use x86_64_tables::phys_memory::{IdentityMapping, PhysMemory, index_of, table_in
 ///
 /// `OutputError::OutOfMemory` if memory allocation fails, `OutputError::Write` if a write fails.
 #[tactic(auto, unfolding(crate::specs::Walks::walk_text, crate::specs::private::WalkLines::lines_below))]
-pub fn write_walk<L: LevelCount, W: Write>(
+pub fn write_walk<L: LevelCount, W: Destination>(
     loaded: &Loaded<'_, L>,
     address: VirtAddrIn<L>,
     output: &mut Output<'_, W>,
-) -> Result<bool, OutputError>
+) -> Result<bool, OutputError<W>>
     ensures text { OnOk result (Puts W.contents output.old output.new (
         walks.walk_text (walks.walk_of L.LEVELS (words_loaded loaded.now) loaded.now.root address))) }
     ensures arrives { IfOk result (λ arrives. arrives
@@ -53,14 +53,14 @@ pub fn write_walk<L: LevelCount, W: Write>(
 
 /// Writes the rest of the walk to a position, the number of an address counted without the gap, from the table of a level in a
 /// frame. `above` are the rights that the words above allow.
-fn walk_on<W: Write>(
+fn walk_on<W: Destination>(
     memory: &PhysMemory,
     position: u64,
     level: u64,
     frame: PhysFrame<Size4KiB>,
     above: Rights,
     output: &mut Output<'_, W>,
-) -> Result<bool, OutputError>
+) -> Result<bool, OutputError<W>>
     requires low { 1 ≤ level }
     requires high { level ≤ 5 }
     ensures text { OnOk result (Puts W.contents output.old output.new (lines_below above
@@ -99,10 +99,10 @@ fn walk_on<W: Write>(
 }
 
 /// Writes that the table in a frame is missing.
-fn write_missing<W: Write>(
+fn write_missing<W: Destination>(
     frame: PhysFrame<Size4KiB>,
     output: &mut Output<'_, W>,
-) -> Result<(), OutputError>
+) -> Result<(), OutputError<W>>
     ensures { OnOk result (Puts W.contents output.old output.new (walks.line (walks.missing_text frame))) }
 {
     let missing = MissingTable(frame);
@@ -110,14 +110,17 @@ fn write_missing<W: Write>(
 }
 
 /// Writes a word that a walk reads.
-fn write_word<W: Write>(read: WordRead, output: &mut Output<'_, W>) -> Result<(), OutputError>
+fn write_word<W: Destination>(
+    read: WordRead,
+    output: &mut Output<'_, W>,
+) -> Result<(), OutputError<W>>
     ensures { OnOk result (Puts W.contents output.old output.new (walks.line (walks.word_text read))) }
 {
     writeln!(output, "{read}")
 }
 
 /// Writes that a word has `HUGE_PAGE` at a level at which no entry maps a page.
-fn write_huge<W: Write>(level: u64, output: &mut Output<'_, W>) -> Result<(), OutputError>
+fn write_huge<W: Destination>(level: u64, output: &mut Output<'_, W>) -> Result<(), OutputError<W>>
     ensures { (rights : Allowed) → OnOk result (Puts W.contents output.old output.new
         (walks.line (walks.end_text rights (walks.huge_page level)))) }
 {
@@ -125,13 +128,13 @@ fn write_huge<W: Write>(level: u64, output: &mut Output<'_, W>) -> Result<(), Ou
 }
 
 /// Writes that a walk arrives in the page that an entry of a level maps, with the rights that all entries allow.
-fn write_arrival<W: Write>(
+fn write_arrival<W: Destination>(
     position: u64,
     level: u64,
     entry: &PageTableEntry,
     rights: Rights,
     output: &mut Output<'_, W>,
-) -> Result<(), OutputError>
+) -> Result<(), OutputError<W>>
     requires low { 1 ≤ level }
     requires page { page_mapped level entry.now ≡ true }
     ensures { OnOk result (Puts W.contents output.old output.new (walks.line (

@@ -7,7 +7,7 @@ use x86_64_page::frame::PhysFrame;
 use x86_64_page::page::Size4KiB;
 
 /// A word that a walk reads, with its table and index.
-#[derive(Clone, Copy, Debug, PartialEq)]
+#[derive(Clone, Copy)]
 pub struct WordRead {
     /// The level of its table.
     pub level: u64,
@@ -35,7 +35,7 @@ impl Display for WordRead {
 }
 
 /// The frame of a table that isn't in the dump.
-#[derive(Clone, Copy, Debug, PartialEq)]
+#[derive(Clone, Copy)]
 pub struct MissingTable(pub PhysFrame<Size4KiB>);
 
 impl Display for MissingTable {

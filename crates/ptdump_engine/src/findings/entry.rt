@@ -17,7 +17,7 @@ const FLAGS_MASK: u64 = 0xfff0_0000_0000_0fff;
 const HIGHEST_OF_PAGES: u64 = 3;
 
 /// A table: its frame and its level.
-#[derive(Clone, Copy, Debug, PartialEq, Eq)]
+#[derive(Clone, Copy)]
 pub struct Table {
     /// The frame of the table.
     pub frame: PhysFrame<Size4KiB>,
@@ -26,7 +26,7 @@ pub struct Table {
 }
 
 /// The slot of an entry: a table and an index. Slots are ordered as they are in memory.
-#[derive(Clone, Copy, Debug, PartialEq, Eq, PartialOrd, Ord)]
+#[derive(Clone, Copy, PartialEq, Eq, PartialOrd, Ord)]
 pub struct Slot {
     /// The frame of the table.
     pub table: PhysFrame<Size4KiB>,
@@ -47,7 +47,7 @@ impl Display for Slot {
 }
 
 /// The word of an entry, with its slot.
-#[derive(Clone, Copy, Debug, PartialEq, Eq)]
+#[derive(Clone, Copy)]
 pub struct Entry {
     /// The slot of the entry.
     pub slot: Slot,

@@ -14,7 +14,7 @@ use x86_64_tables::phys_memory::{IdentityMapping, PhysMemory, table_in};
 const LEVELS_OF_PAGES: usize = 3;
 
 /// A problem in page tables.
-#[derive(Clone, Copy, Debug, PartialEq, Eq)]
+#[derive(Clone, Copy)]
 pub enum Finding {
     /// A frame is named as a table more than once.
     NamedOften {

@@ -31,7 +31,7 @@ struct Meeting {
 }
 
 /// The reason why `pagetab` refuses an image with an entry that names a table.
-#[derive(Clone, Copy, Debug, PartialEq, Eq)]
+#[derive(Clone, Copy)]
 enum Fault {
     /// It names the root, and is in another table.
     NamesRoot,

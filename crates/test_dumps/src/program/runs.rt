@@ -1,5 +1,5 @@
 //! Runs of the program, and how they end.
-use ptdump_engine::{Command, Failure, Outcome, Progress, Request, run};
+use ptdump_engine::{Command, Destination, Failure, Outcome, Progress, Request, run};
 use std::alloc::{AllocError, Global};
 use std::io::{self, ErrorKind, Write};
 use std::process::Abort;
@@ -99,6 +99,22 @@ impl Write for Sink {
 
     fn flush(&mut self) -> io::Result<()> {
         Ok(())
+    }
+}
+
+impl Destination for Sink {
+    ghost use Rattle.std.specs.Prelude.{None, true};
+
+    ghost contents = { λ _. None };
+
+    ghost may_refuse = { true };
+
+    fn write_all(&mut self, bytes: &[u8]) -> io::Result<()> {
+        Write::write_all(self, bytes)
+    }
+
+    fn flush(&mut self) -> io::Result<()> {
+        Write::flush(self)
     }
 }
 

@@ -18,7 +18,7 @@ returns-clause-written g c = λ known.
     let L = g.L.LevelCount.LEVELS in
     let T = words_in c.in_ok-tables.tables in
     let W = words_of_dump (opened g.S.ByteSource.bytes c.args.dump.now) in
-    let contents = g.W.Write.contents in
+    let contents = g.W.Destination.contents in
     record {
       text = subst (λ text. IfSome text (Appends (contents c.args.writer.now) (contents c.write_whole.new.writer)))
           (same_report c.args.command.now L T W c.args.root (c.in_ok-tables.ensures.mappings known) (c.in_ok-tables.ensures.same known)) c.in_ok-is_complete.ensures.text;
@@ -30,7 +30,7 @@ pub returns-clause-totals : goal.returns-clause-totals
 returns-clause-totals g c = λ known not_image.
     let L = g.L.LevelCount.LEVELS in
     let W = words_of_dump (opened g.S.ByteSource.bytes c.args.dump.now) in
-    let contents = g.E.Write.contents in
+    let contents = g.E.Destination.contents in
     let same = c.in_ok-is_complete.ensures.notes not_image in
     let (totals, tables, mapped, puts) = c.in_ok-write_totals.ensures.text in
     let Mapped : List Mapping → Type 0 = λ ms. IsMapped ms totals in

@@ -1,4 +1,4 @@
-use Rattle.std.proofs.Common.{rules, ◌≡◌, OnOk, inr, refl, sym, subst, IfOk, Ok, Err}
+use Rattle.std.proofs.Common.{rules, ◌≡◌, ◌||◌, OnOk, inr, refl, sym, subst, IfOk, Ok, Err}
 use Rattle.x86_64_dump.specs.Dump.{words_of_dump}
 use Rattle.x86_64_dump.specs.Opened.{opened}
 use Rattle.ptdump_engine.specs.Failure.{failure_of}
@@ -12,13 +12,13 @@ use Rattle.ptdump_engine.proofs.engine.run.Goals as goal
 pub returns-in_err-dump-clause-run : goal.returns-in_err-dump-clause-run
 returns-in_err-dump-clause-run g c = λ known.
     let is : c.from_residual.result ≡ Err (failure_of c.in_err-dump.field-0.0) = search rules in
-    rw is (no_dump c.args.request.now (g.S.ByteSource.bytes c.args.source) c.in_err-dump.field-0.0 (c.in_err-dump.ensures known), inr refl)
+    rw is (no_dump (g.W.Destination.may_refuse || g.E.Destination.may_refuse) c.args.request.now (g.S.ByteSource.bytes c.args.source) c.in_err-dump.field-0.0 (c.in_err-dump.ensures known), inr refl)
 
 pub returns-in_err-start-clause-run : goal.returns-in_err-start-clause-run
 returns-in_err-start-clause-run g c = λ known.
     let is : c.from_residual-in_err-start.result ≡ Err c.in_err-start.field-0.0 = search rules in
     rw is (
-      no_start c.args.request.now (g.S.ByteSource.bytes c.args.source) (opened g.S.ByteSource.bytes c.in_ok-dump.dump) c.in_err-start.field-0.0
+      no_start (g.W.Destination.may_refuse || g.E.Destination.may_refuse) c.args.request.now (g.S.ByteSource.bytes c.args.source) (opened g.S.ByteSource.bytes c.in_ok-dump.dump) c.in_err-start.field-0.0
           (c.in_ok-dump.ensures known) (c.in_err-start.ensures.start known),
       inr refl,
     )
@@ -28,8 +28,8 @@ returns-in-Four-clause-run g c = λ known.
     let request = c.args.request.now in
     let dump = opened g.S.ByteSource.bytes c.in_ok-dump.dump in
     let start = c.in_ok-start.start in
-    let contents = g.W.Write.contents in
-    runs_by request (g.S.ByteSource.bytes c.args.source) (contents c.args.writer.now) (contents c.report.new.writer) (record { dump = dump; start = start }) c.report.result
+    let contents = g.W.Destination.contents in
+    runs_by (g.W.Destination.may_refuse || g.E.Destination.may_refuse) request (g.S.ByteSource.bytes c.args.source) (contents c.args.writer.now) (contents c.report.new.writer) (record { dump = dump; start = start }) c.report.result
     (opens request (g.S.ByteSource.bytes c.args.source) dump start (c.in_ok-dump.ensures known) (c.in_ok-start.ensures.start known))
     (subst (λ levels. IfOk c.report.result (λ outcome.
     Reports request.command (level_count levels) (words_of_dump dump) start.root (contents c.args.writer.now) (contents c.report.new.writer) outcome)) (sym c.in-Four.is) (c.report.ensures.written known))
@@ -40,8 +40,8 @@ returns-clause-run g c = λ known.
     let request = c.args.request.now in
     let dump = opened g.S.ByteSource.bytes c.in_ok-dump.dump in
     let start = c.in_ok-start.start in
-    let contents = g.W.Write.contents in
-    runs_by request (g.S.ByteSource.bytes c.args.source) (contents c.args.writer.now) (contents c.report-in-Five.new.writer) (record { dump = dump; start = start }) c.report-in-Five.result
+    let contents = g.W.Destination.contents in
+    runs_by (g.W.Destination.may_refuse || g.E.Destination.may_refuse) request (g.S.ByteSource.bytes c.args.source) (contents c.args.writer.now) (contents c.report-in-Five.new.writer) (record { dump = dump; start = start }) c.report-in-Five.result
     (opens request (g.S.ByteSource.bytes c.args.source) dump start (c.in_ok-dump.ensures known) (c.in_ok-start.ensures.start known))
     (subst (λ levels. IfOk c.report-in-Five.result (λ outcome.
     Reports request.command (level_count levels) (words_of_dump dump) start.root (contents c.args.writer.now) (contents c.report-in-Five.new.writer) outcome)) (sym c.in-Five.is) (c.report-in-Five.ensures.written known))
@@ -73,7 +73,7 @@ returns-in-Four-clause-notes g c = λ known.
     let file = g.S.ByteSource.bytes c.args.source in
     let dump = opened g.S.ByteSource.bytes c.in_ok-dump.dump in
     let start = c.in_ok-start.start in
-    let contents = g.E.Write.contents in
+    let contents = g.E.Destination.contents in
     let short = put_first contents c.new-notes.result c.write_short.new.notes (short_text dump) c.new-notes.ensures.empty (c.in_ok-write_short.ensures.text known) in
     let begun : Appends (contents c.args.errors.now) (put_in contents c.write_short.new.notes) (short_text dump) =
     subst (λ e. Appends (contents e) (put_in contents c.write_short.new.notes) (short_text dump)) c.new-notes.ensures.now short in
@@ -94,7 +94,7 @@ returns-clause-notes g c = λ known.
     let file = g.S.ByteSource.bytes c.args.source in
     let dump = opened g.S.ByteSource.bytes c.in_ok-dump.dump in
     let start = c.in_ok-start.start in
-    let contents = g.E.Write.contents in
+    let contents = g.E.Destination.contents in
     let short = put_first contents c.new-notes.result c.write_short.new.notes (short_text dump) c.new-notes.ensures.empty (c.in_ok-write_short.ensures.text known) in
     let begun : Appends (contents c.args.errors.now) (put_in contents c.write_short.new.notes) (short_text dump) =
     subst (λ e. Appends (contents e) (put_in contents c.write_short.new.notes) (short_text dump)) c.new-notes.ensures.now short in

@@ -14,7 +14,7 @@ returns-clause-text g c =
     let L = g.L.LevelCount.LEVELS in
     let root = c.args.loaded.now.root in
     let asked = c.in_ok-summaries.ensures ∙ ap (λ m. record { memory = m; mapping = record {}; wanted = Some c.args.physical }) c.memory-memory.ensures in
-    on_ok c.write_addresses_by.result (subst (Puts g.W.Write.contents c.args.output.now c.write_addresses_by.new.output)
+    on_ok c.write_addresses_by.result (subst (Puts g.W.Destination.contents c.args.output.now c.write_addresses_by.new.output)
     (ap (λ s. visited_text L c.args.physical (mappings_asked s L root)) asked ∙ lines_found L (words_loaded c.args.loaded.now) root c.args.physical))
     c.write_addresses_by.ensures.text
 

@@ -12,7 +12,7 @@ use Rattle.ptdump_engine.proofs.report.write_found.Goals as goal
 
 pub loop-address-init : goal.loop-address-init
 unfolding find_text
-loop-address-init g c = (puts_nothing g.W.Write.contents c.args.output.now, refl)
+loop-address-init g c = (puts_nothing g.W.Destination.contents c.args.output.now, refl)
 
 pub new-physical-requires : goal.new-physical-requires
 new-physical-requires g c =
@@ -29,9 +29,9 @@ loop-address-preserved g c =
     let xs = c.args.addresses.now in
     let i = c.loop-address.address-index in
     let at = c.new-physical.ensures in (
-      puts_more g.W.Write.contents (addresses_text L T root) c.args.output.now c.loop-address.output c.write_addresses_to.new.output xs i c.loop-address-test.true
+      puts_more g.W.Destination.contents (addresses_text L T root) c.args.output.now c.loop-address.output c.write_addresses_to.new.output xs i c.loop-address-test.true
           c.loop-address.invariant.0
-          (subst (λ a. Puts g.W.Write.contents c.loop-address.output c.write_addresses_to.new.output (addresses_text L T root a)) at c.in_ok-is_found.ensures.text),
+          (subst (λ a. Puts g.W.Destination.contents c.loop-address.output c.write_addresses_to.new.output (addresses_text L T root a)) at c.in_ok-is_found.ensures.text),
       ap₂ (λ b d. b && d) c.loop-address.invariant.1 (c.in_ok-is_found.ensures.found ∙ ap (λ a. list_any (leads_to a) (mappings_of L T root)) at)
           ∙ sym (all_more (λ a. list_any (leads_to a) (mappings_of L T root)) xs i c.loop-address-test.true),
     )

@@ -12,5 +12,5 @@ pub returns : goal.returns
 unfolding pages_text
 returns g c =
     let L = g.L.LevelCount.LEVELS in
-    on_ok c.visit_mappings.result (subst (λ ms. Puts g.W.Write.contents c.args.output.now c.visit_mappings.new.visitor (flat_map (λ m. line (mapping_text L m)) ms))
+    on_ok c.visit_mappings.result (subst (λ ms. Puts g.W.Destination.contents c.args.output.now c.visit_mappings.new.visitor (flat_map (λ m. line (mapping_text L m)) ms))
     (all_asked c.args.loaded.now c.requires L c.args.loaded.now.root)) c.visit_mappings.ensures

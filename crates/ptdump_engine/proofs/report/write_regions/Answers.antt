@@ -13,5 +13,5 @@ pub returns : goal.returns
 unfolding regions_text
 returns g c =
     let L = g.L.LevelCount.LEVELS in
-    on_ok c.visit_regions.result (subst (λ ms. Puts g.W.Write.contents c.args.output.now c.visit_regions.new.visitor (flat_map (λ r. line (region_text L r)) (regions_in L ms)))
+    on_ok c.visit_regions.result (subst (λ ms. Puts g.W.Destination.contents c.args.output.now c.visit_regions.new.visitor (flat_map (λ r. line (region_text L r)) (regions_in L ms)))
     (all_asked c.args.loaded.now c.requires L c.args.loaded.now.root)) c.visit_regions.ensures

@@ -15,7 +15,7 @@ returns-in-None-clause-text g c =
     let root = c.args.loaded.now.root in
     let p = c.args.address in
     let walk = walk_text (walk_of L T root p) in
-    subst (Puts g.W.Write.contents c.args.output.now c.write_walk.new.output)
+    subst (Puts g.W.Destination.contents c.args.output.now c.write_walk.new.output)
     (sym (append-nil walk) ∙ ap (λ asked. walk ++ asked_text asked L T root p) (sym c.in-None.is)) c.in_ok-arrives.ensures.text
 
 pub returns-in-None-clause-arrives : goal.returns-in-None-clause-arrives
@@ -32,7 +32,7 @@ returns-in-Some-clause-text g c =
     let T = words_loaded c.args.loaded.now in
     let root = c.args.loaded.now.root in
     let p = c.args.address in
-    let contents = g.W.Write.contents in
+    let contents = g.W.Destination.contents in
     let walk = walk_text (walk_of L T root p) in
     on_ok c.write_access.result (λ put. subst (Puts contents c.args.output.now c.write_access.new.output)
     (ap (λ asked. walk ++ asked_text asked L T root p) (sym c.in-Some.is))

@@ -12,7 +12,7 @@ use Rattle.ptdump_engine.proofs.walk.+walk_on.Goals as goal
 
 pub returns-in_default-clause-text : goal.returns-in_default-clause-text
 returns-in_default-clause-text g t c =
-    puts_missing g.W.Write.contents _ _ _ c.args.position c.args.level c.args.frame c.args.above c.requires.low (sym c.in_default.ensures)
+    puts_missing g.W.Destination.contents _ _ _ c.args.position c.args.level c.args.frame c.args.above c.requires.low (sym c.in_default.ensures)
     c.in_ok-write_missing.ensures
 
 pub returns-in_default-clause-arrives : goal.returns-in_default-clause-arrives
@@ -24,11 +24,11 @@ returns-then-not-has_flag-clause-text g t c =
     let e = c.index-entry.result.now in
     let read : IsRead T c.args.position c.args.level c.args.frame e = is_read T c.args.position c.args.level c.args.frame e c.in-Some.table.now c.index_of-index.result
     c.requires.low c.in-Some.ensures c.index_of-index.ensures.value c.index-entry.ensures.0 in
-    let word = subst (λ w. Puts g.W.Write.contents c.args.output.now c.write_word.new.output (line (word_text (record { level = c.args.level; table = c.args.frame; index = c.index_of-index.result; word = w }))))
+    let word = subst (λ w. Puts g.W.Destination.contents c.args.output.now c.write_word.new.output (line (word_text (record { level = c.args.level; table = c.args.frame; index = c.index_of-index.result; word = w }))))
     c.word.ensures c.in_ok-write_word.ensures in
     let rights : c.below-rights.result ≡ granted c.args.above e = c.below-rights.ensures in
     let absent : present e ≡ false = search rules in
-    puts_end g.W.Write.contents _ c.write_word.new.output _ T c.args.position c.args.level c.args.frame e c.index_of-index.result c.args.above c.below-rights.result
+    puts_end g.W.Destination.contents _ c.write_word.new.output _ T c.args.position c.args.level c.args.frame e c.index_of-index.result c.args.above c.below-rights.result
     not_present read c.index_of-index.ensures.value rights (behind_absent c.args.position c.args.level e _ absent) word c.in_ok-writeln.ensures
 
 pub returns-then-not-has_flag-clause-arrives : goal.returns-then-not-has_flag-clause-arrives
@@ -46,12 +46,12 @@ returns-then-maps_page-clause-text g t c =
     let e = c.index-entry.result.now in
     let read : IsRead T c.args.position c.args.level c.args.frame e = is_read T c.args.position c.args.level c.args.frame e c.in-Some.table.now c.index_of-index.result
     c.requires.low c.in-Some.ensures c.index_of-index.ensures.value c.index-entry.ensures.0 in
-    let word = subst (λ w. Puts g.W.Write.contents c.args.output.now c.write_word.new.output (line (word_text (record { level = c.args.level; table = c.args.frame; index = c.index_of-index.result; word = w }))))
+    let word = subst (λ w. Puts g.W.Destination.contents c.args.output.now c.write_word.new.output (line (word_text (record { level = c.args.level; table = c.args.frame; index = c.index_of-index.result; word = w }))))
     c.word.ensures c.in_ok-write_word.ensures in
     let rights : c.below-rights.result ≡ granted c.args.above e = c.below-rights.ensures in
     let there : present e ≡ true = search rules in
     let page : maps_page c.args.level e ≡ true = search rules in
-    puts_end g.W.Write.contents _ c.write_word.new.output _ T c.args.position c.args.level c.args.frame e c.index_of-index.result c.args.above c.below-rights.result
+    puts_end g.W.Destination.contents _ c.write_word.new.output _ T c.args.position c.args.level c.args.frame e c.index_of-index.result c.args.above c.below-rights.result
     _ read c.index_of-index.ensures.value rights (behind_page c.args.position c.args.level e _ there page) word c.in_ok-write_arrival.ensures
 
 pub returns-then-maps_page-clause-arrives : goal.returns-then-maps_page-clause-arrives
@@ -70,13 +70,13 @@ returns-then-has_flag-clause-text g t c =
     let e = c.index-entry.result.now in
     let read : IsRead T c.args.position c.args.level c.args.frame e = is_read T c.args.position c.args.level c.args.frame e c.in-Some.table.now c.index_of-index.result
     c.requires.low c.in-Some.ensures c.index_of-index.ensures.value c.index-entry.ensures.0 in
-    let word = subst (λ w. Puts g.W.Write.contents c.args.output.now c.write_word.new.output (line (word_text (record { level = c.args.level; table = c.args.frame; index = c.index_of-index.result; word = w }))))
+    let word = subst (λ w. Puts g.W.Destination.contents c.args.output.now c.write_word.new.output (line (word_text (record { level = c.args.level; table = c.args.frame; index = c.index_of-index.result; word = w }))))
     c.word.ensures c.in_ok-write_word.ensures in
     let rights : c.below-rights.result ≡ granted c.args.above e = c.below-rights.ensures in
     let there : present e ≡ true = search rules in
     let page : maps_page c.args.level e ≡ false = search rules in
     let big : huge e ≡ true = search rules in
-    puts_end g.W.Write.contents _ c.write_word.new.output _ T c.args.position c.args.level c.args.frame e c.index_of-index.result c.args.above c.below-rights.result
+    puts_end g.W.Destination.contents _ c.write_word.new.output _ T c.args.position c.args.level c.args.frame e c.index_of-index.result c.args.above c.below-rights.result
     _ read c.index_of-index.ensures.value rights (behind_huge c.args.position c.args.level e _ there page big) word
     (c.in_ok-write_huge.ensures c.below-rights.result)
 
@@ -97,14 +97,14 @@ returns-clause-text g t c =
     let e = c.index-entry.result.now in
     let read : IsRead T c.args.position c.args.level c.args.frame e = is_read T c.args.position c.args.level c.args.frame e c.in-Some.table.now c.index_of-index.result
     c.requires.low c.in-Some.ensures c.index_of-index.ensures.value c.index-entry.ensures.0 in
-    let word = subst (λ w. Puts g.W.Write.contents c.args.output.now c.write_word.new.output (line (word_text (record { level = c.args.level; table = c.args.frame; index = c.index_of-index.result; word = w }))))
+    let word = subst (λ w. Puts g.W.Destination.contents c.args.output.now c.write_word.new.output (line (word_text (record { level = c.args.level; table = c.args.frame; index = c.index_of-index.result; word = w }))))
     c.word.ensures c.in_ok-write_word.ensures in
     let rights : c.below-rights.result ≡ granted c.args.above e = c.below-rights.ensures in
     let there : present e ≡ true = search rules in
     let page : maps_page c.args.level e ≡ false = search rules in
     let table : huge e ≡ false = search rules in
     let frame = c.from_start_address_unchecked-below.ensures ∙ c.addr.ensures in
-    on_ok c.walk_on.result (puts_below g.W.Write.contents _ c.write_word.new.output _ T c.args.position c.args.level c.args.frame e c.index_of-index.result
+    on_ok c.walk_on.result (puts_below g.W.Destination.contents _ c.write_word.new.output _ T c.args.position c.args.level c.args.frame e c.index_of-index.result
     c.args.above c.below-rights.result _ read c.index_of-index.ensures.value rights
     (behind_table c.args.position c.args.level e _ there page table ∙ ap (walk_from T c.args.position (c.args.level - 1)) (sym frame)) word)
     c.walk_on.ensures.text

@@ -1,4 +1,4 @@
-use Rattle.std.proofs.Common.{◌≡◌, ◌∙◌, inl, inr, ap}
+use Rattle.std.proofs.Common.{◌≡◌, ◌∙◌, ap}
 use Rattle.x86_64_mappings.specs.Summaries.{summary_of}
 use Rattle.x86_64_mappings.specs.Wanted.{asked_mappings, asked_of}
 use Rattle.x86_64_model.specs.Mappings.{mappings_of}
@@ -19,6 +19,6 @@ returns-clause-mapped g c = λ is.
       | in-Some w ↦
           let summary : w.in-Some.summary ≡ summary_of (mappings_of L (words_loaded loaded) loaded.root) =
           w.in-Some.ensures ∙ ap (λ level. summary_of (asked_mappings asked level loaded.root)) c.LEVELS.ensures ∙ ap summary_of all in
-          inl (ap (λ pair. pair.0) w.mappings-is ∙ ap (λ s. s.count) summary, ap (λ pair. pair.1) w.mappings-is ∙ ap (λ s. s.bytes) summary)
-      | in-None w ↦ inr (ap (λ pair. pair.0) w.mappings-is, ap (λ pair. pair.1) w.mappings-is)
+          (ap (λ pair. pair.0) w.mappings-is ∙ ap (λ s. s.count) summary, ap (λ pair. pair.1) w.mappings-is ∙ ap (λ s. s.bytes) summary)
+      | in-None w ↦ (ap (λ pair. pair.0) w.mappings-is ∙ w.count_mappings.ensures.count, ap (λ pair. pair.1) w.mappings-is ∙ w.count_mappings.ensures.bytes)
     ]
