@@ -65,14 +65,16 @@ type Mode = (
     bool,
 );
 
+/// The modes. Pairs come first, while the memory is hardly used: later an allocator may give a larger block than was asked for, and keep
+/// it for larger requests once it is freed.
 static MODES: [Mode; 7] = [
+    ("pair 512 510", SELF_ENTRY, FOUR, true),
+    ("pair5 512 510", SELF_ENTRY, FIVE, true),
     ("direct 512", "", FOUR, false),
     ("offset 512 0xffff800000000000", "", FOUR, false),
     ("recursive 512 510", SELF_ENTRY, FOUR, false),
-    ("pair 512 510", SELF_ENTRY, FOUR, true),
     ("direct5 512", "", FIVE, false),
     ("recursive5 512 510", SELF_ENTRY, FIVE, false),
-    ("pair5 512 510", SELF_ENTRY, FIVE, true),
 ];
 
 /// The end of a run without memory.
