@@ -21,7 +21,8 @@ pub fn store_by_user<T: TableMemory>(
 ) -> Result<PhysAddr, Fault>
     requires { controls.now.physical_bits ≤ 52 }
     ensures outcome { outcome_of result ≡ model.access 4 (controls_of controls.now)
-        (words_of (T.tables memory.old) identity_places) root addr (record { kind = model.Write; user = true }) }
+        (words_of (T.tables memory.old) identity_places) root addr
+        (record { kind = model.Write; user = true }) }
     ensures marks { OnlyMarks (words_of (T.tables memory.old) identity_places)
         (words_of (T.tables memory.new) identity_places) }
 {

@@ -6,3 +6,4 @@ mod MarkedHierarchies
 mod MarkedCaches
 mod MarkingProcessors
 mod RightsTable
+mod Corners

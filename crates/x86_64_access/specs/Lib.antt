@@ -5,6 +5,7 @@ pub mod Laws
 pub mod Marks
 pub mod MarkingProcessors
 pub mod RightsTable
+pub mod Corners
 pub mod private
 pub use Rattle.x86_64_model.specs.PageWalk
 pub use Rattle.x86_64_model.specs.Mappings

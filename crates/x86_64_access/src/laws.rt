@@ -1,4 +1,5 @@
 //! Laws of accesses: how they agree with page walks.
+ghost use Rattle.x86_64_access.specs.Corners.{MissingEntriesFault, NoExecuteIsReserved, ReservedBitsFault, SmapKeepsOut, SmepKeepsOut, SupervisorsWrite};
 ghost use Rattle.x86_64_access.specs.MarkingProcessors.{FlushesAreEnoughWithMarks, MarksMayHappen};
 ghost use Rattle.x86_64_access.specs.Marks.{AccessesLeaveMarks, AccessesStay, CachesStay, FitsStay, WalksStay};
 ghost use Rattle.x86_64_access.specs.RightsTable.{CodesAreListed, RightsAreListed};
@@ -64,4 +65,40 @@ pub fn allowed_accesses_are_listed()
 #[tactic(auto, using(crate::proofs::RightsTable::codes_are_listed))]
 pub fn error_codes_are_listed()
     ensures { CodesAreListed }
+{}
+
+/// If the first entry that is read lacks `PRESENT`, the access faults with P = 0, whatever lies below.
+#[tactic(auto, using(crate::proofs::Corners::missing_entries_fault))]
+pub fn missing_entries_fault()
+    ensures { MissingEntriesFault }
+{}
+
+/// If the first entry that is read has a reserved bit, the access faults with P and RSVD, whatever lies below.
+#[tactic(auto, using(crate::proofs::Corners::reserved_bits_fault))]
+pub fn reserved_bits_fault()
+    ensures { ReservedBitsFault }
+{}
+
+/// While EFER.NXE is off, `NO_EXECUTE` is a reserved bit.
+#[tactic(auto, using(crate::proofs::Corners::no_execute_is_reserved))]
+pub fn no_execute_is_reserved()
+    ensures { NoExecuteIsReserved }
+{}
+
+/// A supervisor writes to its own pages without `WRITABLE` if and only if CR0.WP is off.
+#[tactic(auto, using(crate::proofs::Corners::supervisors_write))]
+pub fn write_protection_is_for_supervisors()
+    ensures { SupervisorsWrite }
+{}
+
+/// With SMAP, a supervisor reads a user's pages if and only if EFLAGS.AC is on.
+#[tactic(auto, using(crate::proofs::Corners::smap_keeps_out))]
+pub fn smap_keeps_supervisors_out()
+    ensures { SmapKeepsOut }
+{}
+
+/// A supervisor fetches from a user's page that may be executed if and only if SMEP is off.
+#[tactic(auto, using(crate::proofs::Corners::smep_keeps_out))]
+pub fn smep_keeps_supervisors_out()
+    ensures { SmepKeepsOut }
 {}

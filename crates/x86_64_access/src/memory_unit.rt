@@ -76,7 +76,8 @@ pub fn access_and_mark<T: TableMemory, P: PageTableFrameMapping, L: LevelCount>(
         (words_of (T.tables memory.old) (P.places mapping.now)) root addr (access_of access) }
     ensures marks { let words = words_of (T.tables memory.old) (P.places mapping.now) in
         T.tables memory.new ≡ model.memory_after (P.places mapping.now) (kind_of access.kind)
-        (model.steps_from (controls_of controls.now) words addr L.LEVELS root) (outcome_of result) (T.tables memory.old) }
+        (model.steps_from (controls_of controls.now) words addr L.LEVELS root) (outcome_of result)
+        (T.tables memory.old) }
     ensures lent { T.lent memory.new ≡ T.lent memory.old }
 {
     let request = Request {
@@ -150,7 +151,8 @@ impl Request {
         requires low { 1 ≤ level }
         requires high { level ≤ 5 }
         requires arrives { ArrivesFrom (controls_of self.controls)
-            (words_of (T.tables memory.old) (P.places mapping.now)) position (access_of self.access) level frame }
+            (words_of (T.tables memory.old) (P.places mapping.now))
+            position (access_of self.access) level frame }
         ensures marks { T.tables memory.new ≡ marked (P.places mapping.now) (kind_of self.access.kind)
             (steps_from (controls_of self.controls) (words_of (T.tables memory.old) (P.places mapping.now))
             position level frame) (T.tables memory.old) }
@@ -192,7 +194,8 @@ impl Request {
         requires low { 1 ≤ level }
         requires bits { self.controls.physical_bits ≤ 52 }
         requires last { reads_on (controls_of self.controls) level entry.now ≡ false }
-        ensures { outcome_of result ≡ ends_at (controls_of self.controls) (access_of self.access) position rights
+        ensures { outcome_of result
+            ≡ ends_at (controls_of self.controls) (access_of self.access) position rights
             (record { level = level; frame = 0; index = 0; word = entry.now }) }
     {
         if !has_flag(entry, PageTableFlags::PRESENT) {

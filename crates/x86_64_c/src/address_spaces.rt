@@ -317,7 +317,8 @@ fn give_up_in<L: LevelCount, T: TableMemory, F: FrameStore>(
     frames: &mut F,
     shared: SharedIndices,
 ) -> Result<(), GiveUpError>
-    requires fits { Fits (given.at L.LEVELS located (T.tables memory.old)) (store_of F.FrameStore frames.old) }
+    requires fits { Fits (given.at L.LEVELS located (T.tables memory.old))
+        (store_of F.FrameStore frames.old) }
     requires served { F.serves frames.old located.root ≡ true }
     ensures reason { IfErr result (λ why.
         IsReason (indices_of shared) (given.at L.LEVELS located (T.tables memory.old)) why) }

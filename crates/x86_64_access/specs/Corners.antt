@@ -1,0 +1,52 @@
+-- Worked cases of accesses that readers of the manual ask about.
+-- Intel SDM vol. 3A, "Access Rights", "Page-Fault Exceptions".
+use Rattle.std.specs.Prelude.{◌≡◌, ℕ, ◌≤◌, Bool, true, false, not, Some}
+use Rattle.x86_64_model.specs.Access.{Access, Controls, Faults, Fetch, Read, Write, access, allowed, code, reserved}
+use Rattle.x86_64_model.specs.Entry.{no_execute, present}
+use Rattle.x86_64_model.specs.Mappings.{Rights}
+use Rattle.x86_64_model.specs.Memory.{Words}
+use Rattle.x86_64_model.specs.PageWalk.{read}
+use Rattle.x86_64_model.specs.Position.{index}
+
+-- ---- the first word that is read
+
+-- The word that the processor reads first for position p, from a root's table of level L.
+abbrev pub ReadsFirst : (L : ℕ) → Words → (root p word : ℕ) → Type 0
+ReadsFirst L T root p e = (1 ≤ L) × (Some e ≡ read T root (index L p))
+
+-- If it is missing, the access faults with P = 0, and a reserved bit below isn't seen.
+abbrev pub MissingEntriesFault : Type 0
+MissingEntriesFault = (L : ℕ) (c : Controls) (T : Words) (root p e : ℕ) (a : Access)
+    → ReadsFirst L T root p e → present e ≡ false → access L c T root p a ≡ Faults (code c a false false) L
+
+-- If it has a reserved bit, the access faults with P and RSVD, and a missing entry below isn't seen.
+abbrev pub ReservedBitsFault : Type 0
+ReservedBitsFault = (L : ℕ) (c : Controls) (T : Words) (root p e : ℕ) (a : Access)
+    → ReadsFirst L T root p e → present e ≡ true → reserved c L e ≡ true → access L c T root p a ≡ Faults (code c a true true) L
+
+-- While EFER.NXE is off, NO_EXECUTE (bit 63) is a reserved bit, for reads and writes, too.
+abbrev pub NoExecuteIsReserved : Type 0
+NoExecuteIsReserved = (L : ℕ) (c : Controls) (T : Words) (root p e : ℕ) (a : Access)
+    → ReadsFirst L T root p e → present e ≡ true → no_execute e ≡ true → c.no_execute ≡ false
+    → access L c T root p a ≡ Faults (code c a true true) L
+
+-- ---- a supervisor's accesses
+
+-- The rights of a page: whether it may be written, is a user's, and may be executed.
+abbrev pub rights : (write user execute : Bool) → Rights
+rights w u x = record { write = w; user = u; execute = x }
+
+-- A supervisor writes to its own pages that lack WRITABLE if and only if CR0.WP is off.
+abbrev pub SupervisorsWrite : Type 0
+SupervisorsWrite = (c : Controls) (execute : Bool)
+    → allowed c (record { kind = Write; user = false }) (rights false false execute) ≡ not c.write_protect
+
+-- With SMAP a supervisor reads a user's pages if and only if EFLAGS.AC is on.
+abbrev pub SmapKeepsOut : Type 0
+SmapKeepsOut = (c : Controls) (write execute : Bool) → c.smap ≡ true
+    → allowed c (record { kind = Read; user = false }) (rights write true execute) ≡ c.ac
+
+-- A supervisor fetches from a user's page that may be executed if and only if SMEP is off.
+abbrev pub SmepKeepsOut : Type 0
+SmepKeepsOut = (c : Controls) (write : Bool)
+    → allowed c (record { kind = Fetch; user = false }) (rights write true true) ≡ not c.smep
