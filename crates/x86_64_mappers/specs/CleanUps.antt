@@ -1,5 +1,5 @@
 -- Clean ups that return the frames of removed tables to a deallocator.
-use Rattle.std.specs.Prelude.{ℕ, Bool, List}
+use Rattle.std.specs.Prelude.{◌≡◌, ℕ, Bool, List}
 use Rattle.x86_64_model.specs.Mapper.{Hierarchy, MayCleanUp, CleansUp}
 use Rattle.x86_64_model.specs.Store.{Store}
 
@@ -16,6 +16,8 @@ store_of members value = record { frames = members.held value; serves = members.
 abbrev pub MayCleanUpInto : {Lent : Type 0} → Hierarchy Lent → Store → Type 0
 MayCleanUpInto h store = MayCleanUp h store.serves store.frames
 
--- The effect of a clean up of the positions from low to high that returns frames to the store, which holds the frames `rest` then.
-abbrev pub CleansUpInto : {Lent : Type 0} → Hierarchy Lent → Store → (low high : ℕ) → (after : Hierarchy Lent) → (rest : List ℕ) → Type 0
-CleansUpInto h store low high after rest = CleansUp h store.take_back store.frames low high after rest
+-- The effect of a clean up of the positions from low to high that returns frames to the store. It is `rest` then, and serves the same
+-- frames.
+pub record CleansUpInto {Lent : Type 0} (h : Hierarchy Lent) (store : Store) (low high : ℕ) (after : Hierarchy Lent) (rest : Store) : Type 0 where
+  pub cleans : CleansUp h store.take_back store.frames low high after rest.frames
+  pub serves : rest.serves ≡ store.serves

@@ -10,6 +10,7 @@ pub mod Ranges
 pub mod Reached
 pub mod Recursive
 pub mod RefusedMappers
+pub mod Supplies
 pub mod Windows
 pub mod private
 pub use Rattle.x86_64_model.specs.Layout

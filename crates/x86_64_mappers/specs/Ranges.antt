@@ -10,6 +10,7 @@ use Rattle.x86_64_model.specs.Path.{path_at}
 use Rattle.x86_64_model.specs.Position.{span, position_count}
 use Rattle.x86_64_model.specs.Refusal.{Refusal, Answer, Done, Refused}
 use Rattle.x86_64_tables.specs.MapperAnswers.{map_refusal}
+use Rattle.x86_64_mappers.specs.Supplies.{Supply}
 use Rattle.x86_64_mappers.specs.declared.access.ranges.MapRangeErrorIn.{MapRangeErrorIn}
 
 -- the first page, by its position, and the first frame of a range of pages of a level, with the flags of each map
@@ -82,7 +83,13 @@ abbrev pub StopsAt : {Lent : Type 0} → Hierarchy Lent → (supply : List ℕ) 
 StopsAt h supply r count done why after rest =
     (done < count) × DoesMaps h supply r (done + 1) (accepted r done ++ Answered (Refused why) ∷ []) after rest
 
--- What a map of the first pages of a range leaves, by its result: all were mapped, or the map of one of them was refused.
-abbrev pub MapsRange : {Lent X S L : Type 0} → Hierarchy Lent → (supply : List ℕ) → MapRange → (count : ℕ) → Result X (MapRangeErrorIn S L) → (after : Hierarchy Lent) → (rest : List ℕ) → Type 0
-MapsRange h supply r count (Ok _) after rest = MapsAll h supply r count after rest
-MapsRange h supply r count (Err error) after rest = StopsAt h supply r count error.mapped.count (map_refusal error.why) after rest
+-- What maps of the first pages of a range leave, by their result: all were mapped, or the map of one of them was refused.
+abbrev pub MapsByResult : {Lent X S L : Type 0} → Hierarchy Lent → (supply : List ℕ) → MapRange → (count : ℕ) → Result X (MapRangeErrorIn S L) → (after : Hierarchy Lent) → (rest : List ℕ) → Type 0
+MapsByResult h supply r count (Ok _) after rest = MapsAll h supply r count after rest
+MapsByResult h supply r count (Err error) after rest = StopsAt h supply r count error.mapped.count (map_refusal error.why) after rest
+
+-- What a map of the first pages of a range leaves that takes the frames of new tables from a supply. It is `rest` then, and serves
+-- the same frames.
+pub record MapsRange {Lent X S L : Type 0} (h : Hierarchy Lent) (supply : Supply) (r : MapRange) (count : ℕ) (result : Result X (MapRangeErrorIn S L)) (after : Hierarchy Lent) (rest : Supply) : Type 0 where
+  pub maps : MapsByResult h supply.frames r count result after rest.frames
+  pub serves : rest.serves ≡ supply.serves

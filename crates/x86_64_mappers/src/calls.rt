@@ -4,9 +4,10 @@
 ghost use Rattle.std.specs.Prelude.{◌≡◌, ◌<◌, ◌≤◌, ◌-◌, IfOk};
 ghost use Rattle.x86_64_model.specs.Mapper.{Valid};
 ghost use Rattle.x86_64_model.specs.Position.{lower_half, position_count};
-ghost use Rattle.x86_64_model.specs.PageCalls.{MayAsk, MayAskMap, Answers, AnswersMap, MapTo, MapToWithTableFlags, IdentityMap, Unmap, UpdateFlags, SetFlags};
+ghost use Rattle.x86_64_model.specs.PageCalls.{MayAsk, MayAskMap, Answers, MapTo, MapToWithTableFlags, IdentityMap, Unmap, UpdateFlags, SetFlags};
 ghost use Rattle.x86_64_mappers.specs.CleanUps.{store_of, MayCleanUpInto, CleansUpInto};
 ghost use Rattle.x86_64_mappers.specs.PageAnswers.{allows_call, allows_page, translated_page, AnswersFlags, ArrivesIfPresent};
+ghost use Rattle.x86_64_mappers.specs.Supplies.{MapsFrom, supply_of};
 ghost use Rattle.x86_64_tables.specs.MapperAnswers.{map_answer, unmap_answer, translate_answer};
 ghost use Rattle.x86_64_tables.specs.PageTableFlags.{bits_of};
 
@@ -49,11 +50,11 @@ pub fn map_to_with_table_flags<
 ) -> Result<MapperFlushIn<S, L>, MapToError<S>>
     requires { MayAskMap (M.hierarchy mapper.old) (A.supply frame_allocator.old) S.LEVEL
         (MapToWithTableFlags page frame (bits_of flags) (bits_of parent_flags)) }
-    ensures does { AnswersMap (M.hierarchy mapper.old) (A.supply frame_allocator.old) S.LEVEL
-        (MapToWithTableFlags page frame (bits_of flags) (bits_of parent_flags)) (map_answer frame result)
-        (M.hierarchy mapper.new) (A.supply frame_allocator.new) }
+    ensures does { MapsFrom (M.hierarchy mapper.old) (supply_of A.FrameAllocator frame_allocator.old)
+        S.LEVEL (MapToWithTableFlags page frame (bits_of flags) (bits_of parent_flags))
+        (map_answer frame result) (M.hierarchy mapper.new)
+        (supply_of A.FrameAllocator frame_allocator.new) }
     ensures page { IfOk result (λ flush. flush ≡ page) }
-    ensures serves { A.serves frame_allocator.new ≡ A.serves frame_allocator.old }
 {
     let path = path_of_page(mapper, page);
     map::map_path(
@@ -85,13 +86,12 @@ pub fn map_to<
 ) -> Result<MapperFlushIn<S, L>, MapToError<S>>
     requires { MayAskMap (M.hierarchy mapper.old) (A.supply frame_allocator.old) S.LEVEL
         (MapTo page frame (bits_of flags)) }
-    ensures does { AnswersMap (M.hierarchy mapper.old) (A.supply frame_allocator.old) S.LEVEL
-        (MapTo page frame (bits_of flags)) (map_answer frame result)
-        (M.hierarchy mapper.new) (A.supply frame_allocator.new) }
+    ensures does { MapsFrom (M.hierarchy mapper.old) (supply_of A.FrameAllocator frame_allocator.old)
+        S.LEVEL (MapTo page frame (bits_of flags)) (map_answer frame result)
+        (M.hierarchy mapper.new) (supply_of A.FrameAllocator frame_allocator.new) }
     ensures page { IfOk result (λ flush. flush ≡ page) }
     ensures arrives { IfOk result (λ _.
         ArrivesIfPresent (M.hierarchy mapper.new) S.SIZE page frame (bits_of flags)) }
-    ensures serves { A.serves frame_allocator.new ≡ A.serves frame_allocator.old }
 {
     let parent_flags = parent_flags(flags);
     map_to_with_table_flags(mapper, page, frame, flags, parent_flags, frame_allocator)
@@ -115,13 +115,12 @@ pub fn identity_map<
     requires low { frame < lower_half L.LEVELS }
     requires may { MayAskMap (M.hierarchy mapper.old) (A.supply frame_allocator.old) S.LEVEL
         (MapTo frame frame (bits_of flags)) }
-    ensures does { AnswersMap (M.hierarchy mapper.old) (A.supply frame_allocator.old) S.LEVEL
-        (IdentityMap frame (bits_of flags)) (map_answer frame result)
-        (M.hierarchy mapper.new) (A.supply frame_allocator.new) }
+    ensures does { MapsFrom (M.hierarchy mapper.old) (supply_of A.FrameAllocator frame_allocator.old)
+        S.LEVEL (IdentityMap frame (bits_of flags)) (map_answer frame result)
+        (M.hierarchy mapper.new) (supply_of A.FrameAllocator frame_allocator.new) }
     ensures page { IfOk result (λ flush. flush ≡ frame) }
     ensures arrives { IfOk result (λ _.
         ArrivesIfPresent (M.hierarchy mapper.new) S.SIZE frame frame (bits_of flags)) }
-    ensures serves { A.serves frame_allocator.new ≡ A.serves frame_allocator.old }
 {
     let start = VirtAddrIn::new(frame.start_address().as_u64());
     map_to(
@@ -247,10 +246,9 @@ pub fn clean_up<L: LevelCount, M: TableAccess + TablesIn<L>, D: FrameDeallocator
     frame_deallocator: &mut D,
 )
     requires { MayCleanUpInto (M.hierarchy mapper.old) (store_of D.FrameDeallocator frame_deallocator.old) }
-    ensures cleans { CleansUpInto (M.hierarchy mapper.old)
-        (store_of D.FrameDeallocator frame_deallocator.old)
-        0 (position_count L.LEVELS - 1) (M.hierarchy mapper.new) (D.held frame_deallocator.new) }
-    ensures serves { D.serves frame_deallocator.new ≡ D.serves frame_deallocator.old }
+    ensures { CleansUpInto (M.hierarchy mapper.old) (store_of D.FrameDeallocator frame_deallocator.old)
+        0 (position_count L.LEVELS - 1)
+        (M.hierarchy mapper.new) (store_of D.FrameDeallocator frame_deallocator.new) }
 {
     clean_up_range(mapper, all_pages::<L>(), frame_deallocator);
 }

@@ -69,10 +69,11 @@ pub trait Mapper<S: PageSize>: TableAccess + PageTables {
     ghost use Rattle.x86_64_model.specs.Call.{Reply};
     ghost use Rattle.x86_64_model.specs.Entry.{no_address, present};
     ghost use Rattle.x86_64_model.specs.Mapper.{SupplyFits};
-    ghost use Rattle.x86_64_model.specs.PageCalls.{MayAsk, MayAskMap, Answers, AnswersMap, MapTo, MapToWithTableFlags, IdentityMap, Unmap, UpdateFlags, SetFlags};
+    ghost use Rattle.x86_64_model.specs.PageCalls.{MayAsk, MayAskMap, Answers, MapTo, MapToWithTableFlags, IdentityMap, Unmap, UpdateFlags, SetFlags};
     ghost use Rattle.x86_64_mappers.specs.RangeChanges.{IsRange, frames_done, UnmapsEach, UpdatesEach};
     ghost use Rattle.x86_64_mappers.specs.Ranges.{MayMapRange, range_of, MapsRange};
     ghost use Rattle.x86_64_mappers.specs.PageAnswers.{allows_call, allows_page, translated_page, AnswersFlags, ArrivesIfPresent};
+    ghost use Rattle.x86_64_mappers.specs.Supplies.{MapsFrom, supply_of};
     ghost use Rattle.x86_64_tables.specs.FlushRecorder.{flush_range};
     ghost use Rattle.x86_64_tables.specs.MapperAnswers.{map_answer, unmap_answer, translate_answer};
 
@@ -107,11 +108,11 @@ pub trait Mapper<S: PageSize>: TableAccess + PageTables {
     ) -> Result<MapperFlush<S>, MapToError<S>>
         requires { MayAskMap (Self.hierarchy self.old) (A.supply frame_allocator.old) S.LEVEL
             (MapToWithTableFlags page frame (bits_of flags) (bits_of parent_flags)) }
-        ensures does { AnswersMap (Self.hierarchy self.old) (A.supply frame_allocator.old) S.LEVEL
-            (MapToWithTableFlags page frame (bits_of flags) (bits_of parent_flags)) (map_answer frame result)
-            (Self.hierarchy self.new) (A.supply frame_allocator.new) }
+        ensures does { MapsFrom (Self.hierarchy self.old) (supply_of A.FrameAllocator frame_allocator.old)
+            S.LEVEL (MapToWithTableFlags page frame (bits_of flags) (bits_of parent_flags))
+            (map_answer frame result) (Self.hierarchy self.new)
+            (supply_of A.FrameAllocator frame_allocator.new) }
         ensures page { IfOk result (λ flush. flush ≡ page) }
-        ensures serves { A.serves frame_allocator.new ≡ A.serves frame_allocator.old }
     {
         calls::map_to_with_table_flags(self, page, frame, flags, parent_flags, frame_allocator)
     }
@@ -131,13 +132,12 @@ pub trait Mapper<S: PageSize>: TableAccess + PageTables {
     ) -> Result<MapperFlush<S>, MapToError<S>>
         requires { MayAskMap (Self.hierarchy self.old) (A.supply frame_allocator.old) S.LEVEL
             (MapTo page frame (bits_of flags)) }
-        ensures does { AnswersMap (Self.hierarchy self.old) (A.supply frame_allocator.old) S.LEVEL
-            (MapTo page frame (bits_of flags)) (map_answer frame result)
-            (Self.hierarchy self.new) (A.supply frame_allocator.new) }
+        ensures does { MapsFrom (Self.hierarchy self.old) (supply_of A.FrameAllocator frame_allocator.old)
+            S.LEVEL (MapTo page frame (bits_of flags)) (map_answer frame result)
+            (Self.hierarchy self.new) (supply_of A.FrameAllocator frame_allocator.new) }
         ensures page { IfOk result (λ flush. flush ≡ page) }
         ensures arrives { IfOk result (λ _.
             ArrivesIfPresent (Self.hierarchy self.new) S.SIZE page frame (bits_of flags)) }
-        ensures serves { A.serves frame_allocator.new ≡ A.serves frame_allocator.old }
     {
         calls::map_to(self, page, frame, flags, frame_allocator)
     }
@@ -154,13 +154,12 @@ pub trait Mapper<S: PageSize>: TableAccess + PageTables {
         requires low { frame < 2 ^ 47 }
         requires may { MayAskMap (Self.hierarchy self.old) (A.supply frame_allocator.old) S.LEVEL
             (MapTo frame frame (bits_of flags)) }
-        ensures does { AnswersMap (Self.hierarchy self.old) (A.supply frame_allocator.old) S.LEVEL
-            (IdentityMap frame (bits_of flags)) (map_answer frame result)
-            (Self.hierarchy self.new) (A.supply frame_allocator.new) }
+        ensures does { MapsFrom (Self.hierarchy self.old) (supply_of A.FrameAllocator frame_allocator.old)
+            S.LEVEL (IdentityMap frame (bits_of flags)) (map_answer frame result)
+            (Self.hierarchy self.new) (supply_of A.FrameAllocator frame_allocator.new) }
         ensures page { IfOk result (λ flush. flush ≡ frame) }
         ensures arrives { IfOk result (λ _.
             ArrivesIfPresent (Self.hierarchy self.new) S.SIZE frame frame (bits_of flags)) }
-        ensures serves { A.serves frame_allocator.new ≡ A.serves frame_allocator.old }
     {
         calls::identity_map(self, frame, flags, frame_allocator)
     }
@@ -263,12 +262,11 @@ pub trait Mapper<S: PageSize>: TableAccess + PageTables {
         requires fits { SupplyFits (Self.hierarchy self.old) (A.supply frame_allocator.old) }
         requires may { MayMapRange (Self.hierarchy self.old)
             (range_of S.LEVEL page frame (bits_of flags) (bits_of parent_flags)) count }
-        ensures maps { MapsRange (Self.hierarchy self.old) (A.supply frame_allocator.old)
+        ensures maps { MapsRange (Self.hierarchy self.old) (supply_of A.FrameAllocator frame_allocator.old)
             (range_of S.LEVEL page frame (bits_of flags) (bits_of parent_flags)) count result
-            (Self.hierarchy self.new) (A.supply frame_allocator.new) }
+            (Self.hierarchy self.new) (supply_of A.FrameAllocator frame_allocator.new) }
         ensures pages { IfOk result (λ flush. flush ≡ flush_range page count) }
         ensures first { IfErr result (λ error. error.mapped.page ≡ page) }
-        ensures serves { A.serves frame_allocator.new ≡ A.serves frame_allocator.old }
     {
         calls::map_range(
             self,

@@ -80,16 +80,17 @@ VisitsTable h first last path frame = IsVisited h.layout h.memory (span_start h.
 abbrev pub MeetsPages : {Lent : Type 0} → Hierarchy Lent → (first last path : List ℕ) → Type 0
 MeetsPages h first last path = meets h.layout.levels (span_start h.layout.levels first) (span_end h.layout.levels last) path ≡ true
 
--- the tables below the table that the path leads to were cleaned up; the store holds the frames `rest` then
-abbrev pub CleansBelow : {Lent : Type 0} → Hierarchy Lent → Store → (first last path : List ℕ) → (after : Hierarchy Lent) → (rest : List ℕ) → Type 0
-CleansBelow h store first last path after rest =
-    IsCleaned h.layout store.take_back h.memory store.frames (cleaned_below h.layout.levels (paths h) (span_start h.layout.levels first) (span_end h.layout.levels last) path)
-    (back_below h.layout.levels (paths h) (span_start h.layout.levels first) (span_end h.layout.levels last) path) after.memory rest
+-- the tables below the table that the path leads to were cleaned up; the store is `rest` then
+pub record CleansBelow {Lent : Type 0} (h : Hierarchy Lent) (store : Store) (first last path : List ℕ) (after : Hierarchy Lent) (rest : Store) : Type 0 where
+  pub below : IsCleaned h.layout store.take_back h.memory store.frames (cleaned_below h.layout.levels (paths h) (span_start h.layout.levels first) (span_end h.layout.levels last) path)
+      (back_below h.layout.levels (paths h) (span_start h.layout.levels first) (span_end h.layout.levels last) path) after.memory rest.frames
+  pub serves : rest.serves ≡ store.serves
 
 -- the entry at the path was cleaned up
-abbrev pub CleansEntry : {Lent : Type 0} → Hierarchy Lent → Store → (first last path : List ℕ) → (after : Hierarchy Lent) → (rest : List ℕ) → Type 0
-CleansEntry h store first last path after rest = IsCleanedAt h.layout store.take_back h.memory store.frames (span_start h.layout.levels first) (span_end h.layout.levels last) path after.memory rest
+pub record CleansEntry {Lent : Type 0} (h : Hierarchy Lent) (store : Store) (first last path : List ℕ) (after : Hierarchy Lent) (rest : Store) : Type 0 where
+  pub cleaned : IsCleanedAt h.layout store.take_back h.memory store.frames (span_start h.layout.levels first) (span_end h.layout.levels last) path after.memory rest.frames
+  pub serves : rest.serves ≡ store.serves
 
 -- the pages were cleaned up
-abbrev pub CleansUpPages : {Lent : Type 0} → Hierarchy Lent → Store → (first last : List ℕ) → (after : Hierarchy Lent) → (rest : List ℕ) → Type 0
+abbrev pub CleansUpPages : {Lent : Type 0} → Hierarchy Lent → Store → (first last : List ℕ) → (after : Hierarchy Lent) → (rest : Store) → Type 0
 CleansUpPages h store first last after rest = CleansUpInto h store (span_start h.layout.levels first) (span_end h.layout.levels last) after rest

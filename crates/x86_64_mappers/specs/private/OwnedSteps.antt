@@ -1,8 +1,9 @@
 -- The steps of a mapper's calls, as relations on hierarchies: the record of layout, memory and loan that a mapper owns for a
 -- while.
-use Rattle.std.specs.Prelude.{ℕ, List, Result}
+use Rattle.std.specs.Prelude.{◌≡◌, ℕ, List, Result}
 use Rattle.x86_64_model.specs.Mapper.{Hierarchy}
 use Rattle.x86_64_model.specs.Refusal.{Refusal, Answer}
+use Rattle.x86_64_mappers.specs.Supplies.{Supply}
 use Rattle.x86_64_mappers.specs.private.EntryCalls.{IsChangedAt}
 use Rattle.x86_64_mappers.specs.private.Linked.{IsClearedFirst, MayLink}
 use Rattle.x86_64_mappers.specs.private.MapSteps.{IsDown}
@@ -27,12 +28,14 @@ abbrev pub LinksTable : {Lent : Type 0} → Hierarchy Lent → (frame i w cleare
 LinksTable h f i w g after = IsClearedFirst h.layout.places h.memory f i w g after.memory
 
 -- word i of the table in a frame names a table, created from the supply if it was missing, or the step was refused
-abbrev pub MakesTable : {Lent : Type 0} → Hierarchy Lent → (supply : List ℕ) → (parent_flags frame i : ℕ) → Result ℕ Refusal → (after : Hierarchy Lent) → (rest : List ℕ) → Type 0
-MakesTable h s more f i made after rest = IsMade h.layout.places more h.layout.added_flags h.memory s f i made after.memory rest
+pub record MakesTable {Lent : Type 0} (h : Hierarchy Lent) (supply : Supply) (parent_flags frame i : ℕ) (made : Result ℕ Refusal) (after : Hierarchy Lent) (rest : Supply) : Type 0 where
+  pub is : IsMade h.layout.places parent_flags h.layout.added_flags h.memory supply.frames frame i made after.memory rest.frames
+  pub serves : rest.serves ≡ supply.serves
 
 -- the tables along the parents of a page exist now, created from the supply if they were missing, or the way down was refused
-abbrev pub MakesTables : {Lent : Type 0} → Hierarchy Lent → (supply : List ℕ) → (parent_flags : ℕ) → (parents : List ℕ) → Result ℕ Refusal → (after : Hierarchy Lent) → (rest : List ℕ) → Type 0
-MakesTables h s more path made after rest = IsDown h.layout h.memory s more path made after.memory rest
+pub record MakesTables {Lent : Type 0} (h : Hierarchy Lent) (supply : Supply) (parent_flags : ℕ) (parents : List ℕ) (made : Result ℕ Refusal) (after : Hierarchy Lent) (rest : Supply) : Type 0 where
+  pub down : IsDown h.layout h.memory supply.frames parent_flags parents made after.memory rest.frames
+  pub serves : rest.serves ≡ supply.serves
 
 -- unused word i of the table in a frame became the entry w of a page, or the map was refused for the page's frame
 abbrev pub SetsLeaf : {Lent : Type 0} → Hierarchy Lent → (table i w frame : ℕ) → Answer → (after : Hierarchy Lent) → Type 0

@@ -12,6 +12,7 @@ use Rattle.x86_64_model.specs.Memory.{Memory, Places, words_of}
 use Rattle.x86_64_model.specs.Position.{span}
 use Rattle.x86_64_model.specs.Refusal.{Refusal}
 use Rattle.x86_64_mappers.specs.Ranges.{MapRange, MapsEach, maps}
+use Rattle.x86_64_mappers.specs.Supplies.{Supply}
 use Rattle.x86_64_mappers.specs.private.MapSteps.{KeepsOwned, IsAt, IsDown}
 use Rattle.x86_64_mappers.specs.private.PageCalls.{page_word}
 
@@ -49,8 +50,9 @@ abbrev pub IsPart : (l : Layout) (m : Memory) (s : List ℕ) (more : ℕ) (paren
 IsPart l m s more parents level i a given count (Ok n) after rest = IsPartMapped l m s more parents level i a given count n after rest
 IsPart l m s more parents level i a given count (Err why) after rest = IsDown l m s more parents (Err why) after rest
 
-abbrev pub MapsPart : {Lent : Type 0} → Hierarchy Lent → (supply : List ℕ) → (parent_flags : ℕ) → (parents : List ℕ) → (level i frame flags count : ℕ) → Result ℕ Refusal → (after : Hierarchy Lent) → (rest : List ℕ) → Type 0
-MapsPart h s more parents level i a given count result after rest = IsPart h.layout h.memory s more parents level i a given count result after.memory rest
+pub record MapsPart {Lent : Type 0} (h : Hierarchy Lent) (supply : Supply) (parent_flags : ℕ) (parents : List ℕ) (level i frame flags count : ℕ) (result : Result ℕ Refusal) (after : Hierarchy Lent) (rest : Supply) : Type 0 where
+  pub part : IsPart h.layout h.memory supply.frames parent_flags parents level i frame flags count result after.memory rest.frames
+  pub serves : rest.serves ≡ supply.serves
 
 -- what the maps of the first pages of a run, one after another, leave in a memory
 pub record IsRun (l : Layout) (m : Memory) (s : List ℕ) (r : MapRange) (count : ℕ) (answers : List Reply) (n : Memory) (rest : List ℕ) : Type 0 where

@@ -46,10 +46,9 @@ pub fn clean_up_range<M: TableAccess + TablesIn<L>, L: LevelCount, D: FrameDeall
     frame_deallocator: &mut D,
 )
     requires { MayCleanUpInto (M.hierarchy mapper.old) (store_of D.FrameDeallocator frame_deallocator.old) }
-    ensures cleans { CleansUpInto (M.hierarchy mapper.old)
-        (store_of D.FrameDeallocator frame_deallocator.old)
-        range.start (range.end + 0xfff) (M.hierarchy mapper.new) (D.held frame_deallocator.new) }
-    ensures serves { D.serves frame_deallocator.new ≡ D.serves frame_deallocator.old }
+    ensures { CleansUpInto (M.hierarchy mapper.old) (store_of D.FrameDeallocator frame_deallocator.old)
+        range.start (range.end + 0xfff)
+        (M.hierarchy mapper.new) (store_of D.FrameDeallocator frame_deallocator.new) }
 {
     let first = path_of_address(mapper, range.start.start_address());
     let last = path_of_address(mapper, range.end.start_address());
@@ -68,10 +67,8 @@ fn clean_up_paths<M: TableAccess, D: FrameDeallocator<Size4KiB>>(
     requires last { length last.now ≡ (M.hierarchy mapper.old).layout.levels }
     requires may { MayCleanUpInto (M.hierarchy mapper.old)
         (store_of D.FrameDeallocator frame_deallocator.old) }
-    ensures cleans { CleansUpPages (M.hierarchy mapper.old)
-        (store_of D.FrameDeallocator frame_deallocator.old)
-        first.now last.now (M.hierarchy mapper.new) (D.held frame_deallocator.new) }
-    ensures serves { D.serves frame_deallocator.new ≡ D.serves frame_deallocator.old }
+    ensures { CleansUpPages (M.hierarchy mapper.old) (store_of D.FrameDeallocator frame_deallocator.old)
+        first.now last.now (M.hierarchy mapper.new) (store_of D.FrameDeallocator frame_deallocator.new) }
 {
     if page_number(last) < page_number(first) {
         return;
@@ -104,10 +101,9 @@ fn clean_up_table<M: TableAccess, D: FrameDeallocator<Size4KiB>>(
         range.now.first.now range.now.last.now path.now table }
     ensures cleaned { CleansBelow (M.hierarchy mapper.old) (store_of D.FrameDeallocator frame_deallocator.old)
         range.now.first.now range.now.last.now path.now
-        (M.hierarchy mapper.new) (D.held frame_deallocator.new) }
+        (M.hierarchy mapper.new) (store_of D.FrameDeallocator frame_deallocator.new) }
     ensures layout { (M.hierarchy mapper.new).layout ≡ (M.hierarchy mapper.old).layout }
     ensures lent { (M.hierarchy mapper.new).lent ≡ (M.hierarchy mapper.old).lent }
-    ensures serves { D.serves frame_deallocator.new ≡ D.serves frame_deallocator.old }
 {
     if path.len() + 1 < range.first.len() {
         let first = index_in_table(range.first, path, 0);
@@ -172,10 +168,9 @@ fn clean_up_entry<M: TableAccess, D: FrameDeallocator<Size4KiB>>(
         range.now.first.now range.now.last.now (path.now ++ index ∷ []) }
     ensures cleaned { CleansEntry (M.hierarchy mapper.old) (store_of D.FrameDeallocator frame_deallocator.old)
         range.now.first.now range.now.last.now (path.now ++ index ∷ [])
-        (M.hierarchy mapper.new) (D.held frame_deallocator.new) }
+        (M.hierarchy mapper.new) (store_of D.FrameDeallocator frame_deallocator.new) }
     ensures layout { (M.hierarchy mapper.new).layout ≡ (M.hierarchy mapper.old).layout }
     ensures lent { (M.hierarchy mapper.new).lent ≡ (M.hierarchy mapper.old).lent }
-    ensures serves { D.serves frame_deallocator.new ≡ D.serves frame_deallocator.old }
 {
     if is_recursive(mapper, path, index) {
         return;

@@ -2,9 +2,10 @@
 ghost use Rattle.std.specs.Prelude.{◌≡◌, ◌<◌, ◌+◌, true, false, if◌then◌else◌, length, take, get_or, bit_or, Some, IfOk, Ok, Err};
 ghost use Rattle.x86_64_model.specs.Call.{MapToWithTableFlags};
 ghost use Rattle.x86_64_model.specs.Entry.{address, huge, IsParentFlags};
-ghost use Rattle.x86_64_model.specs.Mapper.{SupplyFits, MayMap, DoesMap, paths, words};
+ghost use Rattle.x86_64_model.specs.Mapper.{SupplyFits, MayMap, paths, words};
 ghost use Rattle.x86_64_model.specs.Refusal.{ParentEntryHugePage};
 ghost use Rattle.x86_64_model.specs.Window.{begins_with};
+ghost use Rattle.x86_64_mappers.specs.Supplies.{DoesMapFrom, supply_of};
 ghost use Rattle.x86_64_mappers.specs.private.OpenWay.{WillBePresent};
 ghost use Rattle.x86_64_mappers.specs.private.OwnedSteps.{LinksTable, MakesTable, MakesTables, SetsLeaf, SetsWord, LeadsOpenly, MayNameTable};
 ghost use Rattle.x86_64_mappers.specs.Reached.{Reaches};
@@ -157,13 +158,12 @@ fn create_next_table<M: TableAccess, A: FrameAllocator<Size4KiB>>(
     requires outside { begins_with (M.hierarchy mapper.old).layout.window parents.now ≡ false }
     requires flags { IsParentFlags (bits_of parent_flags) }
     requires way { LeadsOpenly (M.hierarchy mapper.old) (bits_of parent_flags) parents.now k table }
-    ensures made { MakesTable (M.hierarchy mapper.old) (A.supply frame_allocator.old) (bits_of parent_flags)
-        table (get_or parents.now k 0) (create_result result) (M.hierarchy mapper.new)
-        (A.supply frame_allocator.new) }
+    ensures made { MakesTable (M.hierarchy mapper.old) (supply_of A.FrameAllocator frame_allocator.old)
+        (bits_of parent_flags) table (get_or parents.now k 0) (create_result result)
+        (M.hierarchy mapper.new) (supply_of A.FrameAllocator frame_allocator.new) }
     ensures index { get_or parents.now k 0 < 512 }
     ensures layout { (M.hierarchy mapper.new).layout ≡ (M.hierarchy mapper.old).layout }
     ensures lent { (M.hierarchy mapper.new).lent ≡ (M.hierarchy mapper.old).lent }
-    ensures serves { A.serves frame_allocator.new ≡ A.serves frame_allocator.old }
 {
     let entry = entry_mut(mapper, &parents[..k], table, parents[k]);
     if !entry.is_unused() {
@@ -196,12 +196,12 @@ pub(super) fn create_tables<M: TableAccess, A: FrameAllocator<Size4KiB>>(
     requires outside { begins_with (M.hierarchy mapper.old).layout.window parents.now ≡ false }
     requires flags { IsParentFlags (bits_of parent_flags) }
     requires present { WillBePresent (paths (M.hierarchy mapper.old)) (bits_of parent_flags) parents.now }
-    ensures down { MakesTables (M.hierarchy mapper.old) (A.supply frame_allocator.old) (bits_of parent_flags)
-        parents.now (create_result result) (M.hierarchy mapper.new) (A.supply frame_allocator.new) }
+    ensures made { MakesTables (M.hierarchy mapper.old) (supply_of A.FrameAllocator frame_allocator.old)
+        (bits_of parent_flags) parents.now (create_result result)
+        (M.hierarchy mapper.new) (supply_of A.FrameAllocator frame_allocator.new) }
     ensures reached { IfOk result (λ frame. Reaches (M.hierarchy mapper.new) parents.now frame) }
     ensures layout { (M.hierarchy mapper.new).layout ≡ (M.hierarchy mapper.old).layout }
     ensures lent { (M.hierarchy mapper.new).lent ≡ (M.hierarchy mapper.old).lent }
-    ensures serves { A.serves frame_allocator.new ≡ A.serves frame_allocator.old }
 {
     let mut table = mapper.root();
     for k in 0..parents.len() {
@@ -257,10 +257,9 @@ pub fn map_path<S: PageSize, M: TableAccess, A: FrameAllocator<Size4KiB>>(
     requires levels { length path.now + S.LEVEL ≡ (M.hierarchy mapper.old).layout.levels + 1 }
     requires may { MayMap (M.hierarchy mapper.old) (A.supply frame_allocator.old)
         (MapToWithTableFlags path.now frame (bits_of flags) (bits_of parent_flags)) }
-    ensures does { DoesMap (M.hierarchy mapper.old) (A.supply frame_allocator.old)
+    ensures { DoesMapFrom (M.hierarchy mapper.old) (supply_of A.FrameAllocator frame_allocator.old)
         (MapToWithTableFlags path.now frame (bits_of flags) (bits_of parent_flags)) (map_answer frame result)
-        (M.hierarchy mapper.new) (A.supply frame_allocator.new) }
-    ensures serves { A.serves frame_allocator.new ≡ A.serves frame_allocator.old }
+        (M.hierarchy mapper.new) (supply_of A.FrameAllocator frame_allocator.new) }
 {
     let last = path.len() - 1;
     let parents = &path[..last];

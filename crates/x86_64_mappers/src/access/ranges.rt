@@ -5,6 +5,7 @@ ghost use Rattle.x86_64_model.specs.Mapper.{SupplyFits, paths};
 ghost use Rattle.x86_64_model.specs.Window.{begins_with};
 ghost use Rattle.x86_64_mappers.specs.Ranges.{range_of, MayMapRange, MapsRange};
 ghost use Rattle.x86_64_mappers.specs.Reached.{Reaches};
+ghost use Rattle.x86_64_mappers.specs.Supplies.{supply_of};
 ghost use Rattle.x86_64_mappers.specs.private.OpenWay.{WillBePresent};
 ghost use Rattle.x86_64_mappers.specs.private.RangeSteps.{with_leaves, AreUnused, SetsLeaves, MapsPart};
 ghost use Rattle.x86_64_mappers.specs.private.Results.{create_result};
@@ -125,12 +126,11 @@ fn map_part<S: PageSize, M: TableAccess, A: FrameAllocator<Size4KiB>>(
     requires within { get_or path.now (length path.now - 1) 0 + count ≤ 512 }
     requires frames { (k : ℕ) → k < count → frame + k * S.SIZE < 2 ^ 52 }
     ensures within { IfOk result (λ mapped. mapped ≤ count) }
-    ensures maps { MapsPart (M.hierarchy mapper.old) (A.supply frame_allocator.old) (bits_of parent_flags)
-        (table_path path.now) S.LEVEL (last_index path.now) frame (bits_of flags) count (create_result result)
-        (M.hierarchy mapper.new) (A.supply frame_allocator.new) }
+    ensures maps { MapsPart (M.hierarchy mapper.old) (supply_of A.FrameAllocator frame_allocator.old)
+        (bits_of parent_flags) (table_path path.now) S.LEVEL (last_index path.now) frame (bits_of flags) count
+        (create_result result) (M.hierarchy mapper.new) (supply_of A.FrameAllocator frame_allocator.new) }
     ensures layout { (M.hierarchy mapper.new).layout ≡ (M.hierarchy mapper.old).layout }
     ensures lent { (M.hierarchy mapper.new).lent ≡ (M.hierarchy mapper.old).lent }
-    ensures serves { A.serves frame_allocator.new ≡ A.serves frame_allocator.old }
 {
     let last = path.len() - 1;
     let parents = &path[..last];
@@ -160,12 +160,11 @@ pub fn map_range<
     requires fits { SupplyFits (M.hierarchy mapper.old) (A.supply frame_allocator.old) }
     requires may { MayMapRange (M.hierarchy mapper.old)
         (range_of S.LEVEL page frame (bits_of flags) (bits_of parent_flags)) count }
-    ensures maps { MapsRange (M.hierarchy mapper.old) (A.supply frame_allocator.old)
+    ensures maps { MapsRange (M.hierarchy mapper.old) (supply_of A.FrameAllocator frame_allocator.old)
         (range_of S.LEVEL page frame (bits_of flags) (bits_of parent_flags)) count result
-        (M.hierarchy mapper.new) (A.supply frame_allocator.new) }
+        (M.hierarchy mapper.new) (supply_of A.FrameAllocator frame_allocator.new) }
     ensures pages { IfOk result (λ flush. flush ≡ flush_range page count) }
     ensures first { IfErr result (λ error. error.mapped.page ≡ page) }
-    ensures serves { A.serves frame_allocator.new ≡ A.serves frame_allocator.old }
 {
     let mut done = 0;
     'parts: while done < count {

@@ -20,10 +20,9 @@ pub trait CleanUp57: TableAccess + PageTables57 {
     final fn clean_up<D: FrameDeallocator<Size4KiB>>(&mut self, frame_deallocator: &mut D)
         requires { MayCleanUpInto (Self.hierarchy self.old)
             (store_of D.FrameDeallocator frame_deallocator.old) }
-        ensures cleans { CleansUpInto (Self.hierarchy self.old)
-            (store_of D.FrameDeallocator frame_deallocator.old)
-            0 0x1ff_ffff_ffff_ffff (Self.hierarchy self.new) (D.held frame_deallocator.new) }
-        ensures serves { D.serves frame_deallocator.new ≡ D.serves frame_deallocator.old }
+        ensures { CleansUpInto (Self.hierarchy self.old)
+            (store_of D.FrameDeallocator frame_deallocator.old) 0 0x1ff_ffff_ffff_ffff
+            (Self.hierarchy self.new) (store_of D.FrameDeallocator frame_deallocator.new) }
     {
         calls::clean_up(self, frame_deallocator);
     }
@@ -44,10 +43,9 @@ pub trait CleanUp57: TableAccess + PageTables57 {
     )
         requires { MayCleanUpInto (Self.hierarchy self.old)
             (store_of D.FrameDeallocator frame_deallocator.old) }
-        ensures cleans { CleansUpInto (Self.hierarchy self.old)
-            (store_of D.FrameDeallocator frame_deallocator.old)
-            range.start (range.end + 0xfff) (Self.hierarchy self.new) (D.held frame_deallocator.new) }
-        ensures serves { D.serves frame_deallocator.new ≡ D.serves frame_deallocator.old }
+        ensures { CleansUpInto (Self.hierarchy self.old)
+            (store_of D.FrameDeallocator frame_deallocator.old) range.start (range.end + 0xfff)
+            (Self.hierarchy self.new) (store_of D.FrameDeallocator frame_deallocator.new) }
     {
         calls::clean_up_range(self, range, frame_deallocator);
     }

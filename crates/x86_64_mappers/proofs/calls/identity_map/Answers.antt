@@ -30,5 +30,8 @@ returns-clause-does g c =
     let after = g.M.Tables.hierarchy c.map_to.new.mapper in
     let rest = g.A.FrameAllocator.supply c.map_to.new.frame_allocator in
     let answer = map_answer c.args.frame c.map_to.result in
-    does_map_identity h supply answer after rest g.S.PageSize.LEVEL c.args.frame (bits_of c.args.flags)
-    (subst (λ p. DoesMap h supply (MapTo (path_of h g.S.PageSize.LEVEL p) c.args.frame (bits_of c.args.flags)) answer after rest) page c.map_to.ensures.does)
+    record {
+      map = does_map_identity h supply answer after rest g.S.PageSize.LEVEL c.args.frame (bits_of c.args.flags)
+          (subst (λ p. DoesMap h supply (MapTo (path_of h g.S.PageSize.LEVEL p) c.args.frame (bits_of c.args.flags)) answer after rest) page c.map_to.ensures.does.map);
+      serves = c.map_to.ensures.does.serves;
+    }

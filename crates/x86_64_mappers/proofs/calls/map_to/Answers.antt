@@ -24,8 +24,11 @@ returns-clause-does g c =
     let after = g.M.Tables.hierarchy done.new.mapper in
     let rest = g.A.FrameAllocator.supply done.new.frame_allocator in
     let answer = map_answer c.args.frame done.result in
-    does_map_to h supply answer after rest page c.args.frame (bits_of c.args.flags)
-    (subst (λ (more : ℕ). DoesMap h supply (MapToWithTableFlags page c.args.frame (bits_of c.args.flags) more) answer after rest) c.parent_flags-parent_flags.ensures done.ensures.does)
+    record {
+      map = does_map_to h supply answer after rest page c.args.frame (bits_of c.args.flags)
+          (subst (λ (more : ℕ). DoesMap h supply (MapToWithTableFlags page c.args.frame (bits_of c.args.flags) more) answer after rest) c.parent_flags-parent_flags.ensures done.ensures.does.map);
+      serves = done.ensures.does.serves;
+    }
 
 pub returns-clause-arrives : goal.returns-clause-arrives
 returns-clause-arrives g c =
@@ -37,4 +40,4 @@ returns-clause-arrives g c =
     let after = g.M.Tables.hierarchy done.new.mapper in
     let rest = g.A.FrameAllocator.supply done.new.frame_allocator in
     map_arrives h supply g.S.PageSize.LEVEL g.S.PageSize.SIZE c.args.page c.args.frame (bits_of c.args.flags) _ g.S.PageSize.size g.S.PageSize.low g.S.PageSize.high
-    (g.met.M.Tables.at_least_four mapper) (g.M.Tables.added_flags mapper).adds (search rules) (search rules) (search rules) after rest c.requires c.parent_flags-parent_flags.ensures done.result done.ensures.does
+    (g.met.M.Tables.at_least_four mapper) (g.M.Tables.added_flags mapper).adds (search rules) (search rules) (search rules) after rest c.requires c.parent_flags-parent_flags.ensures done.result done.ensures.does.map

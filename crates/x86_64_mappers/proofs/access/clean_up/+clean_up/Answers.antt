@@ -33,8 +33,11 @@ clean_up_entry-returns-then-is_recursive-clause-cleaned g t c =
     let high = span_end h.layout.levels c.args.range.now.last.now in
     let q = c.args.path.now in
     let valid = c.requires.may.valid in
-    entry_stays h.layout g.D.FrameDeallocator.take_back h.memory valid (g.D.FrameDeallocator.held c.args.frame_deallocator.now) low high (q ++ c.args.index ∷ [])
-    (recursive_out h.layout h.memory valid low high q c.args.index c.requires.visited.outside (sym c.is_recursive.ensures ∙ c.if-is_recursive.true))
+    record {
+      cleaned = entry_stays h.layout g.D.FrameDeallocator.take_back h.memory valid (g.D.FrameDeallocator.held c.args.frame_deallocator.now) low high (q ++ c.args.index ∷ [])
+          (recursive_out h.layout h.memory valid low high q c.args.index c.requires.visited.outside (sym c.is_recursive.ensures ∙ c.if-is_recursive.true));
+      serves = refl;
+    }
 
 pub clean_up_entry-next_table-requires-clause-reached : goal.clean_up_entry-next_table-requires-clause-reached
 clean_up_entry-next_table-requires-clause-reached g t c =
@@ -50,9 +53,12 @@ clean_up_entry-returns-in_default-clause-cleaned g t c =
     let high = span_end h.layout.levels c.args.range.now.last.now in
     let q = c.args.path.now in
     let valid = c.requires.may.valid in
-    entry_stays h.layout g.D.FrameDeallocator.take_back h.memory valid (g.D.FrameDeallocator.held c.args.frame_deallocator.now) low high (q ++ c.args.index ∷ [])
-    (refused_out h.layout h.memory valid low high q c.args.table c.requires.visited c.args.index c.next_table.ensures.index (sym c.is_recursive.ensures ∙ c.if-is_recursive.false)
-    (walk_refusal c.in_default.field-0) c.in_default.ensures.below)
+    record {
+      cleaned = entry_stays h.layout g.D.FrameDeallocator.take_back h.memory valid (g.D.FrameDeallocator.held c.args.frame_deallocator.now) low high (q ++ c.args.index ∷ [])
+          (refused_out h.layout h.memory valid low high q c.args.table c.requires.visited c.args.index c.next_table.ensures.index (sym c.is_recursive.ensures ∙ c.if-is_recursive.false)
+          (walk_refusal c.in_default.field-0) c.in_default.ensures.below);
+      serves = refl;
+    }
 
 pub clean_up_entry-clean_up_table-requires : goal.clean_up_entry-clean_up_table-requires
 clean_up_entry-clean_up_table-requires g t c κs within =
@@ -97,7 +103,7 @@ clean_up_entry-table-requires-clause-reached g t c =
     let done = c.clean_up_table.ensures in
     let next = next_visited h.layout h.memory c.requires.may.valid low high q f c.requires.visited i c.next_table.ensures.index (sym c.is_recursive.ensures ∙ c.if-is_recursive.false)
     c.requires.short c.requires.meets below c.in-Ok.ensures.below in
-    let b = below_cleaned h.layout g.D.FrameDeallocator.take_back h.memory held low high q f i below c.requires.visited next n rest _ c.child_indices-indices.ensures done.cleaned in
+    let b = below_cleaned h.layout g.D.FrameDeallocator.take_back h.memory held low high q f i below c.requires.visited next n rest _ c.child_indices-indices.ensures done.cleaned.below in
     subst₂ (λ l p. IsReached l n p below) (sym done.layout) (sym c.child_indices-indices.ensures) (visited_reached h.layout n low high (q ++ i ∷ []) below b.there b.cleaned.valid)
 
 pub clean_up_entry-entry_mut-requires-clause-reached : goal.clean_up_entry-entry_mut-requires-clause-reached
@@ -116,7 +122,7 @@ clean_up_entry-entry_mut-requires-clause-reached g t c =
     let done = c.clean_up_table.ensures in
     let next = next_visited h.layout h.memory c.requires.may.valid low high q f c.requires.visited i c.next_table.ensures.index (sym c.is_recursive.ensures ∙ c.if-is_recursive.false)
     c.requires.short c.requires.meets below c.in-Ok.ensures.below in
-    let b = below_cleaned h.layout g.D.FrameDeallocator.take_back h.memory held low high q f i below c.requires.visited next n rest _ c.child_indices-indices.ensures done.cleaned in
+    let b = below_cleaned h.layout g.D.FrameDeallocator.take_back h.memory held low high q f i below c.requires.visited next n rest _ c.child_indices-indices.ensures done.cleaned.below in
     subst (λ l. IsReached l n q f) (sym done.layout) (visited_reached h.layout n low high q f b.here b.cleaned.valid)
 
 pub clean_up_entry-deallocate_frame-requires-clause-served : goal.clean_up_entry-deallocate_frame-requires-clause-served
@@ -135,10 +141,10 @@ clean_up_entry-deallocate_frame-requires-clause-served g t c =
     let done = c.clean_up_table.ensures in
     let next = next_visited h.layout h.memory c.requires.may.valid low high q f c.requires.visited i c.next_table.ensures.index (sym c.is_recursive.ensures ∙ c.if-is_recursive.false)
     c.requires.short c.requires.meets below c.in-Ok.ensures.below in
-    let b = below_cleaned h.layout g.D.FrameDeallocator.take_back h.memory held low high q f i below c.requires.visited next n rest _ c.child_indices-indices.ensures done.cleaned in
+    let b = below_cleaned h.layout g.D.FrameDeallocator.take_back h.memory held low high q f i below c.requires.visited next n rest _ c.child_indices-indices.ensures done.cleaned.below in
     let may = may_still h g.D.FrameDeallocator.take_back (giving_from g.D.FrameDeallocator.take_back g.met.D.FrameDeallocator.take_back_rearranges) (g.D.FrameKeeper.serves c.args.frame_deallocator.now) held c.requires.may _ _ n rest b.cleaned in
     let gives = may_give (record h { memory = n }) (g.D.FrameKeeper.serves c.args.frame_deallocator.now) rest may q i below b.there.leads in
-    ap (λ serves. serves below) done.serves ∙ gives.0
+    ap (λ serves. serves below) done.cleaned.serves ∙ gives.0
 
 pub clean_up_entry-deallocate_frame-requires-clause-not_held : goal.clean_up_entry-deallocate_frame-requires-clause-not_held
 clean_up_entry-deallocate_frame-requires-clause-not_held g t c =
@@ -156,7 +162,7 @@ clean_up_entry-deallocate_frame-requires-clause-not_held g t c =
     let done = c.clean_up_table.ensures in
     let next = next_visited h.layout h.memory c.requires.may.valid low high q f c.requires.visited i c.next_table.ensures.index (sym c.is_recursive.ensures ∙ c.if-is_recursive.false)
     c.requires.short c.requires.meets below c.in-Ok.ensures.below in
-    let b = below_cleaned h.layout g.D.FrameDeallocator.take_back h.memory held low high q f i below c.requires.visited next n rest _ c.child_indices-indices.ensures done.cleaned in
+    let b = below_cleaned h.layout g.D.FrameDeallocator.take_back h.memory held low high q f i below c.requires.visited next n rest _ c.child_indices-indices.ensures done.cleaned.below in
     let may = may_still h g.D.FrameDeallocator.take_back (giving_from g.D.FrameDeallocator.take_back g.met.D.FrameDeallocator.take_back_rearranges) (g.D.FrameKeeper.serves c.args.frame_deallocator.now) held c.requires.may _ _ n rest b.cleaned in
     let gives = may_give (record h { memory = n }) (g.D.FrameKeeper.serves c.args.frame_deallocator.now) rest may q i below b.there.leads in
     gives.1
@@ -177,14 +183,17 @@ clean_up_entry-returns-then-is_empty-clause-cleaned g t c =
     let done = c.clean_up_table.ensures in
     let next = next_visited h.layout h.memory c.requires.may.valid low high q f c.requires.visited i c.next_table.ensures.index (sym c.is_recursive.ensures ∙ c.if-is_recursive.false)
     c.requires.short c.requires.meets below c.in-Ok.ensures.below in
-    let b = below_cleaned h.layout g.D.FrameDeallocator.take_back h.memory held low high q f i below c.requires.visited next n rest _ c.child_indices-indices.ensures done.cleaned in
+    let b = below_cleaned h.layout g.D.FrameDeallocator.take_back h.memory held low high q f i below c.requires.visited next n rest _ c.child_indices-indices.ensures done.cleaned.below in
     let mapper = c.args.mapper.now in
     let o = (g.M.Tables.hierarchy (g.M.TableAccess.with_table c.clean_up_table.new.mapper f (slice_set (table_in after.layout n f) i c.set_unused.new.self))).memory in
     let there = ap (λ l. words (l laid_in n) below) (sym done.layout) ∙ c.table.ensures in
     let set = subst₂ (λ (l : Layout) w. IsSet l.places n f i w o) done.layout c.set_unused.ensures (c.entry_mut.ensures.set c.set_unused.new.self) in
-    entry_gone h.layout g.D.FrameDeallocator.take_back h.memory c.requires.may.valid held low high q f i below n rest b
-    (g.met.M.Tables.is_mapping mapper).distinct (positive_levels h.layout.levels (g.met.M.Tables.at_least_four mapper)) c.next_table.ensures.index
-    (empty_words (words (h.layout laid_in n)) below c.table.result.now there c.is_empty.ensures.size (c.is_empty.ensures.empty.0 c.if-is_empty.true)) o set _ c.deallocate_frame.ensures.held
+    record {
+      cleaned = entry_gone h.layout g.D.FrameDeallocator.take_back h.memory c.requires.may.valid held low high q f i below n rest b
+          (g.met.M.Tables.is_mapping mapper).distinct (positive_levels h.layout.levels (g.met.M.Tables.at_least_four mapper)) c.next_table.ensures.index
+          (empty_words (words (h.layout laid_in n)) below c.table.result.now there c.is_empty.ensures.size (c.is_empty.ensures.empty.0 c.if-is_empty.true)) o set _ c.deallocate_frame.ensures.held;
+      serves = c.deallocate_frame.ensures.serves ∙ done.cleaned.serves;
+    }
 
 pub clean_up_entry-returns-else-is_empty-clause-cleaned : goal.clean_up_entry-returns-else-is_empty-clause-cleaned
 clean_up_entry-returns-else-is_empty-clause-cleaned g t c =
@@ -202,10 +211,13 @@ clean_up_entry-returns-else-is_empty-clause-cleaned g t c =
     let done = c.clean_up_table.ensures in
     let next = next_visited h.layout h.memory c.requires.may.valid low high q f c.requires.visited i c.next_table.ensures.index (sym c.is_recursive.ensures ∙ c.if-is_recursive.false)
     c.requires.short c.requires.meets below c.in-Ok.ensures.below in
-    let b = below_cleaned h.layout g.D.FrameDeallocator.take_back h.memory held low high q f i below c.requires.visited next n rest _ c.child_indices-indices.ensures done.cleaned in
+    let b = below_cleaned h.layout g.D.FrameDeallocator.take_back h.memory held low high q f i below c.requires.visited next n rest _ c.child_indices-indices.ensures done.cleaned.below in
     let there = ap (λ l. words (l laid_in n) below) (sym done.layout) ∙ c.table.ensures in
-    entry_kept h.layout g.D.FrameDeallocator.take_back h.memory c.requires.may.valid held low high q f i below n rest b
-    (λ all. let t : false ≡ true = sym c.if-is_empty.false ∙ c.is_empty.ensures.empty.1 (words_empty (words (h.layout laid_in n)) below c.table.result.now there c.is_empty.ensures.size all) in cc)
+    record {
+      cleaned = entry_kept h.layout g.D.FrameDeallocator.take_back h.memory c.requires.may.valid held low high q f i below n rest b
+          (λ all. let t : false ≡ true = sym c.if-is_empty.false ∙ c.is_empty.ensures.empty.1 (words_empty (words (h.layout laid_in n)) below c.table.result.now there c.is_empty.ensures.size all) in cc);
+      serves = done.cleaned.serves;
+    }
 
 -- ---- a table
 
@@ -301,7 +313,7 @@ clean_up_table-next_named-next-requires-in-loop-next-clause-reached g t c =
     let inv = c.loop-next.invariant in
     let v = c.requires.visited in
     let apart = (g.met.M.Tables.is_mapping mapper).distinct in
-    let at = subst₂ (λ (l : Layout) j. IsCleanedAt l g.D.FrameDeallocator.take_back n rest (span_start l.levels first) (span_end l.levels last) (q ++ j ∷ []) o left) inv.layout c.new-index.ensures done.ensures.cleaned in
+    let at = subst₂ (λ (l : Layout) j. IsCleanedAt l g.D.FrameDeallocator.take_back n rest (span_start l.levels first) (span_end l.levels last) (q ++ j ∷ []) o left) inv.layout c.new-index.ensures done.ensures.cleaned.cleaned in
     let here = before_next h.layout g.D.FrameDeallocator.take_back h.memory c.requires.may.valid held low high q v.visits i apart n rest inv.cleaned o left at in
     subst (λ l. IsReached l o q c.args.table) (sym (done.ensures.layout ∙ inv.layout))
     (visited_reached h.layout o low high q c.args.table (still_before h.layout h.memory low high q c.args.table v (i + 1) o here.meant) here.valid)
@@ -325,7 +337,7 @@ clean_up_table-loop-next-preserved g t c =
     let inv = c.loop-next.invariant in
     let v = c.requires.visited in
     let apart = (g.met.M.Tables.is_mapping mapper).distinct in
-    let at = subst₂ (λ (l : Layout) j. IsCleanedAt l g.D.FrameDeallocator.take_back n rest (span_start l.levels first) (span_end l.levels last) (q ++ j ∷ []) o left) inv.layout c.new-index.ensures done.ensures.cleaned in
+    let at = subst₂ (λ (l : Layout) j. IsCleanedAt l g.D.FrameDeallocator.take_back n rest (span_start l.levels first) (span_end l.levels last) (q ++ j ∷ []) o left) inv.layout c.new-index.ensures done.ensures.cleaned.cleaned in
     let here = before_next h.layout g.D.FrameDeallocator.take_back h.memory c.requires.may.valid held low high q v.visits i apart n rest inv.cleaned o left at in
     let next = c.next_named-next-in-loop-next in
     let on = not_before (i + 1) c.index_in_table-last.result next.result next.ensures.from (omega (arith, c.loop-next-test.true)) in
@@ -338,7 +350,7 @@ clean_up_table-loop-next-preserved g t c =
       in_table = most;
       layout = layout;
       lent = done.ensures.lent ∙ inv.lent;
-      serves = done.ensures.serves ∙ inv.serves;
+      serves = done.ensures.cleaned.serves ∙ inv.serves;
     }
 
 pub clean_up_table-loop-next-smaller : goal.clean_up_table-loop-next-smaller
@@ -356,9 +368,12 @@ clean_up_table-returns-after-loop-next-clause-cleaned g t c =
     let q = c.args.path.now in
     let i = c.loop-next.next in
     let v = c.requires.visited in
-    before_last h.layout g.D.FrameDeallocator.take_back h.memory c.requires.may.valid (g.D.FrameDeallocator.held c.args.frame_deallocator.now) low high q i c.loop-next.invariant.in_table
-    (λ k from to. out_after h.layout.levels (paths h) c.args.range.now.first.now c.args.range.now.last.now c.requires.range q c.requires.short v.below v.visits k to (omega (arith, from, c.loop-next-test.false, c.index_in_table-last.ensures.index)))
-    (g.M.Tables.hierarchy c.loop-next.mapper).memory (g.D.FrameDeallocator.held c.loop-next.frame_deallocator) c.loop-next.invariant.cleaned
+    record {
+      below = before_last h.layout g.D.FrameDeallocator.take_back h.memory c.requires.may.valid (g.D.FrameDeallocator.held c.args.frame_deallocator.now) low high q i c.loop-next.invariant.in_table
+          (λ k from to. out_after h.layout.levels (paths h) c.args.range.now.first.now c.args.range.now.last.now c.requires.range q c.requires.short v.below v.visits k to (omega (arith, from, c.loop-next-test.false, c.index_in_table-last.ensures.index)))
+          (g.M.Tables.hierarchy c.loop-next.mapper).memory (g.D.FrameDeallocator.held c.loop-next.frame_deallocator) c.loop-next.invariant.cleaned;
+      serves = c.loop-next.invariant.serves;
+    }
 
 pub clean_up_table-returns-else-path-range-clause-cleaned : goal.clean_up_table-returns-else-path-range-clause-cleaned
 clean_up_table-returns-else-path-range-clause-cleaned g t c =
@@ -366,5 +381,8 @@ clean_up_table-returns-else-path-range-clause-cleaned g t c =
     let low = span_start h.layout.levels c.args.range.now.first.now in
     let high = span_end h.layout.levels c.args.range.now.last.now in
     let q = c.args.path.now in
-    level_one h.layout g.D.FrameDeallocator.take_back h.memory c.requires.may.valid (g.D.FrameDeallocator.held c.args.frame_deallocator.now) low high q
-    (omega (arith, c.if-path-range.false, c.requires.range.first_long))
+    record {
+      below = level_one h.layout g.D.FrameDeallocator.take_back h.memory c.requires.may.valid (g.D.FrameDeallocator.held c.args.frame_deallocator.now) low high q
+          (omega (arith, c.if-path-range.false, c.requires.range.first_long));
+      serves = refl;
+    }

@@ -1,4 +1,4 @@
-use Rattle.std.proofs.Common.{◌≡◌, ◌<◌, ◌*◌, ap, subst, ◌∙◌, arith}
+use Rattle.std.proofs.Common.{◌≡◌, ◌<◌, ◌*◌, refl, ap, subst, ◌∙◌, arith}
 use Rattle.x86_64_model.specs.Mapper.{CleansUp}
 use Rattle.x86_64_model.specs.Path.{span_start}
 use Rattle.x86_64_mappers.proofs.CleanUp.CleanUpEnds.{ends_whole, ends_empty}
@@ -6,19 +6,22 @@ use Rattle.x86_64_mappers.proofs.Entry.EntryEnds.{with_memory}
 use Rattle.x86_64_mappers.specs.private.CleaningUp.{span_end}
 use Rattle.x86_64_mappers.proofs.access.clean_up.clean_up_paths.Goals as goal
 
-pub returns-then-page_number-clause-cleans : goal.returns-then-page_number-clause-cleans
-returns-then-page_number-clause-cleans g c =
+pub returns-then-page_number : goal.returns-then-page_number
+returns-then-page_number g c =
     let mapper = c.args.mapper.now in
     let h = g.M.Tables.hierarchy mapper in
     let L = h.layout.levels in
     let last : c.page_number.result * 0x1000 ≡ span_start L c.args.last.now = c.page_number.ensures.start ∙ ap (λ n. span_start n c.args.last.now) c.requires.last in
     let first : c.page_number-2.result * 0x1000 ≡ span_start L c.args.first.now = c.page_number-2.ensures.start ∙ ap (λ n. span_start n c.args.first.now) c.requires.first in
     let before : c.page_number.result < c.page_number-2.result = c.if-page_number.true in
-    ends_empty h (g.M.Tables.added_flags mapper).adds c.requires.may.valid g.D.FrameDeallocator.take_back (g.D.FrameDeallocator.held c.args.frame_deallocator.now)
-    (span_start L c.args.first.now) (span_end L c.args.last.now) (omega (arith, first, last, before))
+    record {
+      cleans = ends_empty h (g.M.Tables.added_flags mapper).adds c.requires.may.valid g.D.FrameDeallocator.take_back (g.D.FrameDeallocator.held c.args.frame_deallocator.now)
+          (span_start L c.args.first.now) (span_end L c.args.last.now) (omega (arith, first, last, before));
+      serves = refl;
+    }
 
-pub returns-clause-cleans : goal.returns-clause-cleans
-returns-clause-cleans g c =
+pub returns : goal.returns
+returns g c =
     let mapper = c.args.mapper.now in
     let h = g.M.Tables.hierarchy mapper in
     let low = span_start h.layout.levels c.args.first.now in
@@ -27,5 +30,8 @@ returns-clause-cleans g c =
     let done = c.clean_up_table in
     let after = g.M.Tables.hierarchy done.new.mapper in
     let rest = g.D.FrameDeallocator.held done.new.frame_deallocator in
-    subst (λ after. CleansUp h g.D.FrameDeallocator.take_back held low high after rest) (with_memory h after done.ensures.layout done.ensures.lent)
-    (ends_whole h (g.M.Tables.added_flags mapper).adds c.requires.may.valid g.D.FrameDeallocator.take_back held low high after.memory rest done.ensures.cleaned)
+    record {
+      cleans = subst (λ after. CleansUp h g.D.FrameDeallocator.take_back held low high after rest) (with_memory h after done.ensures.layout done.ensures.lent)
+          (ends_whole h (g.M.Tables.added_flags mapper).adds c.requires.may.valid g.D.FrameDeallocator.take_back held low high after.memory rest done.ensures.cleaned.below);
+      serves = done.ensures.cleaned.serves;
+    }

@@ -24,12 +24,16 @@ returns-in_default-clause-made g c =
     let item = get_or_read c.args.parents.now c.args.k i c.requires.within c.index-parents-k.is 0 in
     let entry = c.entry_mut-entry in
     let u : used entry.result.now ≡ false = (let e = c.is_unused.ensures in let t = c.if-not-is_unused.false in grind arith) in
-    let empty = supply_empty (g.A.FrameAllocator.supply c.args.frame_allocator.now) (sym c.in_default.ensures.first) in (
-      ap (λ i. used (word (words (l laid_in m)) c.args.table i)) (sym item) ∙ ap used (sym entry.ensures.value) ∙ u,
-      empty,
-      unchanged l.places m c.args.table i entry.result.now entry.ensures.value _ (g.met.M.Tables.is_mapping s).distinct entry.ensures.index (entry.ensures.set _),
-      (rw empty at c.in_default.ensures.rest),
-    )
+    let empty = supply_empty (g.A.FrameAllocator.supply c.args.frame_allocator.now) (sym c.in_default.ensures.first) in
+    record {
+      is = (
+        ap (λ i. used (word (words (l laid_in m)) c.args.table i)) (sym item) ∙ ap used (sym entry.ensures.value) ∙ u,
+        empty,
+        unchanged l.places m c.args.table i entry.result.now entry.ensures.value _ (g.met.M.Tables.is_mapping s).distinct entry.ensures.index (entry.ensures.set _),
+        (rw empty at c.in_default.ensures.rest),
+      );
+      serves = c.in_default.ensures.serves;
+    }
 
 pub link_table-requires-clause-may : goal.link_table-requires-clause-may
 link_table-requires-clause-may g c =
@@ -67,6 +71,9 @@ returns-clause-made g c =
     let u : used entry.result.now ≡ false = (let e = c.is_unused.ensures in let t = c.if-not-is_unused.false in grind arith) in
     let kept = g.met.M.TableAccess.keeps_layout s c.args.table _ in
     let flags = c.union-flags.ensures tt ∙ ap (bit_or c.args.parent_flags.0) (c.new_table_flags.ensures ∙ ap (λ (l : Layout). l.added_flags) kept) in
-    inr (taken_linked l _ kept m _ unmoved _ _ c.args.table (get_or c.args.parents.now c.args.k 0) c.union-flags.result.0 _ f flags n
-    (ap (λ i. used (word (words (l laid_in m)) c.args.table i)) (sym item) ∙ ap used (sym entry.ensures.value) ∙ u)
-    (supply_first _ _ f c.in-Some.ensures.first c.in-Some.ensures.rest) c.link_table.ensures.linked)
+    record {
+      is = inr (taken_linked l _ kept m _ unmoved _ _ c.args.table (get_or c.args.parents.now c.args.k 0) c.union-flags.result.0 _ f flags n
+          (ap (λ i. used (word (words (l laid_in m)) c.args.table i)) (sym item) ∙ ap used (sym entry.ensures.value) ∙ u)
+          (supply_first _ _ f c.in-Some.ensures.first c.in-Some.ensures.rest) c.link_table.ensures.linked);
+      serves = c.in-Some.ensures.serves;
+    }

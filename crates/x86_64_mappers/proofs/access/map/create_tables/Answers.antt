@@ -5,8 +5,8 @@ use Rattle.x86_64_mappers.specs.private.Results.{create_refusal}
 use Rattle.x86_64_mappers.proofs.Map.OpenWays.{open_end, open_next}
 use Rattle.x86_64_mappers.proofs.access.map.create_tables.Goals as goal
 
-pub returns-in_err-table-clause-down : goal.returns-in_err-table-clause-down
-returns-in_err-table-clause-down g c =
+pub returns-in_err-table-clause-made : goal.returns-in_err-table-clause-made
+returns-in_err-table-clause-made g c =
     let s = c.args.mapper.now in
     let l = (g.M.Tables.hierarchy s).layout in
     let q = c.args.parents.now in
@@ -15,9 +15,12 @@ returns-in_err-table-clause-down g c =
     let k = c.loop-k.k in
     let inv = c.loop-k.invariant in
     let e = err_from_is_err_and c.from_residual.result c.from_residual.ensures.1 in
-    rw (e.1, e.2) (stop l (g.met.M.Tables.is_mapping s).distinct (g.M.Tables.added_flags s).adds (g.M.Tables.hierarchy s).memory (g.A.FrameAllocator.supply c.args.frame_allocator.now) more q c.requires.outside c.requires.flags c.requires.short
-    k c.loop-k-test.true n _ c.loop-k.table inv.down (get_or q k 0) refl c.create_next_table.ensures.index (g.M.Tables.hierarchy c.create_next_table.new.mapper).memory _
-    (create_refusal c.in_err-table.field-0.0) (rw inv.layout at c.in_err-table.ensures.made))
+    rw (e.1, e.2) (record {
+      down = stop l (g.met.M.Tables.is_mapping s).distinct (g.M.Tables.added_flags s).adds (g.M.Tables.hierarchy s).memory (g.A.FrameAllocator.supply c.args.frame_allocator.now) more q c.requires.outside c.requires.flags c.requires.short
+          k c.loop-k-test.true n _ c.loop-k.table inv.down (get_or q k 0) refl c.create_next_table.ensures.index (g.M.Tables.hierarchy c.create_next_table.new.mapper).memory _
+          (create_refusal c.in_err-table.field-0.0) (rw inv.layout at c.in_err-table.ensures.made.is);
+      serves = c.in_err-table.ensures.made.serves ∙ inv.serves;
+    })
 
 pub loop-k-preserved : goal.loop-k-preserved
 loop-k-preserved g c =
@@ -36,14 +39,14 @@ loop-k-preserved g c =
     let inv = c.loop-k.invariant in
     let next = c.in_ok-table.table in
     let small = c.create_next_table.ensures.index in
-    let is_made = rw inv.layout at c.in_ok-table.ensures.made in
+    let is_made = rw inv.layout at c.in_ok-table.ensures.made.is in
     let step = made l apart adds m supply more q c.requires.outside c.requires.flags c.requires.short k within n _ c.loop-k.table inv.down (get_or q k 0) refl small o _ (Ok next) is_made in record {
       down = turn l apart adds m supply more q c.requires.outside c.requires.flags c.requires.short k within n _ c.loop-k.table inv.down (get_or q k 0) refl small o _ next is_made;
       way = open_next l n inv.down.owned.ready.valid more q k within c.loop-k.table inv.way o step.opens small next step.leads;
       done = omega (arith, within);
       layout = c.create_next_table.ensures.layout ∙ inv.layout;
       lent = c.create_next_table.ensures.lent ∙ inv.lent;
-      serves = c.create_next_table.ensures.serves ∙ inv.serves;
+      serves = c.create_next_table.ensures.made.serves ∙ inv.serves;
     }
 
 pub returns-clause-reached : goal.returns-clause-reached

@@ -12,7 +12,7 @@ create_tables-requires-clause-outside g c =
 pub returns-in_err-table-clause-maps : goal.returns-in_err-table-clause-maps
 returns-in_err-table-clause-maps g c =
     let e = err_from_is_err_and c.from_residual.result c.from_residual.ensures.1 in
-    rw (e.1, e.2) c.in_err-table.ensures.down
+    rw (e.1, e.2) (record { part = c.in_err-table.ensures.made.down; serves = c.in_err-table.ensures.made.serves })
 
 pub returns-clause-maps : goal.returns-clause-maps
 returns-clause-maps g c =
@@ -21,10 +21,14 @@ returns-clause-maps g c =
     let q = c.args.path.now in
     let size = has_last_index q (some_index_of l.levels q g.S.PageSize.LEVEL c.requires.levels (page_below_root l.levels g.S.PageSize.LEVEL (g.met.M.Tables.at_least_four s) g.S.PageSize.high)) in
     let middle = (g.M.Tables.hierarchy c.create_tables.new.mapper).memory in
-    let index : c.from-first.result ≡ get_or q (length q - 1) 0 = c.from-first.ensures.0 ∙ last_item q c.index-path-last.result size c.index-path-last.is in record {
-      table = c.in_ok-table.table;
-      middle = middle;
-      down = c.in_ok-table.ensures.down;
-      leaves = subst (λ i. AreLeavesSet l.places middle c.in_ok-table.table g.S.PageSize.LEVEL i c.args.frame c.args.flags.0 c.args.count c.set_leaves.result (g.M.Tables.hierarchy c.set_leaves.new.mapper).memory)
-          index (rw c.create_tables.ensures.layout at c.set_leaves.ensures.set);
+    let index : c.from-first.result ≡ get_or q (length q - 1) 0 = c.from-first.ensures.0 ∙ last_item q c.index-path-last.result size c.index-path-last.is in
+    record {
+      part = record {
+        table = c.in_ok-table.table;
+        middle = middle;
+        down = c.in_ok-table.ensures.made.down;
+        leaves = subst (λ i. AreLeavesSet l.places middle c.in_ok-table.table g.S.PageSize.LEVEL i c.args.frame c.args.flags.0 c.args.count c.set_leaves.result (g.M.Tables.hierarchy c.set_leaves.new.mapper).memory)
+            index (rw c.create_tables.ensures.layout at c.set_leaves.ensures.set);
+      };
+      serves = c.create_tables.ensures.made.serves;
     }

@@ -110,15 +110,18 @@ returns-then-mapped-part-clause-maps g c =
     let some = part_some done total c.from-room.result count c.parts-test.true c.from-room.ensures.1 c.min-part.ensures in
     let n = c.in-Ok.mapped in
     let part : IsPart l now left r.parent_flags (take (length q - 1) q) level (get_or q (length q - 1) 0) a r.flags count (Ok n) after.memory rest =
-    subst (λ (l : Layout). IsPart l now left r.parent_flags (take (length q - 1) q) level (get_or q (length q - 1) 0) a r.flags count (Ok n) after.memory rest) inv.layout c.in-Ok.ensures.maps in
+    subst (λ (l : Layout). IsPart l now left r.parent_flags (take (length q - 1) q) level (get_or q (length q - 1) 0) a r.flags count (Ok n) after.memory rest) inv.layout c.in-Ok.ensures.maps.part in
     let frame : c.add.result ≡ frame_at r (done + n) = c.add.ensures ∙ ap (λ z. c.args.frame + (done + n) * z) g.S.PageSize.size in
     let counted : c.new-mapped.result.count ≡ done + n = ap (λ (range : FlushRange). range.count) c.new-mapped.ensures in
-    subst (λ k. StopsAt h supply r total k (PageAlreadyMapped c.add.result) after rest) (sym counted) (
-      few_left done n total (512 - c.from-room.result) count c.parts-test.true c.min-part.ensures c.if-mapped-part.true,
-      ends_run h supply r (done + n + 1) (accepted r (done + n) ++ Answered (Refused (PageAlreadyMapped c.add.result)) ∷ []) after rest (c.map_part.ensures.layout ∙ inv.layout) (c.map_part.ensures.lent ∙ inv.lent)
-          (subst (λ f. IsRun l m supply r (done + n + 1) (accepted r (done + n) ++ Answered (Refused (PageAlreadyMapped f)) ∷ []) after.memory rest) (sym frame)
-          (page_full l m supply r total given done now left inv.run q is_path a is_frame count fits inside after.memory rest n c.if-mapped-part.true part)),
-    )
+    record {
+      maps = subst (λ k. StopsAt h supply r total k (PageAlreadyMapped c.add.result) after rest) (sym counted) (
+        few_left done n total (512 - c.from-room.result) count c.parts-test.true c.min-part.ensures c.if-mapped-part.true,
+        ends_run h supply r (done + n + 1) (accepted r (done + n) ++ Answered (Refused (PageAlreadyMapped c.add.result)) ∷ []) after rest (c.map_part.ensures.layout ∙ inv.layout) (c.map_part.ensures.lent ∙ inv.lent)
+            (subst (λ f. IsRun l m supply r (done + n + 1) (accepted r (done + n) ++ Answered (Refused (PageAlreadyMapped f)) ∷ []) after.memory rest) (sym frame)
+            (page_full l m supply r total given done now left inv.run q is_path a is_frame count fits inside after.memory rest n c.if-mapped-part.true part)),
+      );
+      serves = c.map_part.ensures.maps.serves ∙ inv.serves;
+    }
 
 pub parts-preserved : goal.parts-preserved
 parts-preserved g c =
@@ -156,12 +159,12 @@ parts-preserved g c =
     let most : n ≤ count = c.in-Ok.ensures.within in
     let all : count ≤ n = c.if-mapped-part.false in
     let part : IsPart l now left r.parent_flags (take (length q - 1) q) level (get_or q (length q - 1) 0) a r.flags count (Ok n) after.memory rest =
-    subst (λ (l : Layout). IsPart l now left r.parent_flags (take (length q - 1) q) level (get_or q (length q - 1) 0) a r.flags count (Ok n) after.memory rest) inv.layout c.in-Ok.ensures.maps in record {
+    subst (λ (l : Layout). IsPart l now left r.parent_flags (take (length q - 1) q) level (get_or q (length q - 1) 0) a r.flags count (Ok n) after.memory rest) inv.layout c.in-Ok.ensures.maps.part in record {
       run = pages_mapped l m supply r total given done now left inv.run q is_path a is_frame count fits inside after.memory rest n (omega (arith, some, all)) most part;
       within = omega (arith, inside, most);
       layout = c.map_part.ensures.layout ∙ inv.layout;
       lent = c.map_part.ensures.lent ∙ inv.lent;
-      serves = c.map_part.ensures.serves ∙ inv.serves;
+      serves = c.map_part.ensures.maps.serves ∙ inv.serves;
     }
 
 pub returns-in-Err-clause-maps : goal.returns-in-Err-clause-maps
@@ -198,14 +201,17 @@ returns-in-Err-clause-maps g c =
     let some = part_some done total c.from-room.result count c.parts-test.true c.from-room.ensures.1 c.min-part.ensures in
     let why = create_refusal c.in-Err.why in
     let part : IsPart l now left r.parent_flags (take (length q - 1) q) level (get_or q (length q - 1) 0) a r.flags count (Err why) after.memory rest =
-    subst (λ (l : Layout). IsPart l now left r.parent_flags (take (length q - 1) q) level (get_or q (length q - 1) 0) a r.flags count (Err why) after.memory rest) inv.layout c.in-Err.ensures.maps in
+    subst (λ (l : Layout). IsPart l now left r.parent_flags (take (length q - 1) q) level (get_or q (length q - 1) 0) a r.flags count (Err why) after.memory rest) inv.layout c.in-Err.ensures.maps.part in
     let counted : c.new-mapped-in-Err.result.count ≡ done = ap (λ (range : FlushRange). range.count) c.new-mapped-in-Err.ensures in
-    subst (λ k. StopsAt h supply r total k (map_refusal c.into-why.result) after rest) (sym counted) (
-      c.parts-test.true,
-      ends_run h supply r (done + 1) (accepted r done ++ Answered (Refused (map_refusal c.into-why.result)) ∷ []) after rest (c.map_part.ensures.layout ∙ inv.layout) (c.map_part.ensures.lent ∙ inv.lent)
-          (subst (λ w. IsRun l m supply r (done + 1) (accepted r done ++ Answered (Refused w) ∷ []) after.memory rest) (sym c.into-why.ensures)
-          (way_refused l m supply r total given done now left inv.run q is_path a is_frame count fits inside after.memory rest why some part)),
-    )
+    record {
+      maps = subst (λ k. StopsAt h supply r total k (map_refusal c.into-why.result) after rest) (sym counted) (
+        c.parts-test.true,
+        ends_run h supply r (done + 1) (accepted r done ++ Answered (Refused (map_refusal c.into-why.result)) ∷ []) after rest (c.map_part.ensures.layout ∙ inv.layout) (c.map_part.ensures.lent ∙ inv.lent)
+            (subst (λ w. IsRun l m supply r (done + 1) (accepted r done ++ Answered (Refused w) ∷ []) after.memory rest) (sym c.into-why.ensures)
+            (way_refused l m supply r total given done now left inv.run q is_path a is_frame count fits inside after.memory rest why some part)),
+      );
+      serves = c.map_part.ensures.maps.serves ∙ inv.serves;
+    }
 
 pub new-mapped-requires : goal.new-mapped-requires
 new-mapped-requires g c = λ k less. page_there (g.M.Tables.hierarchy c.args.mapper.now).layout.levels g.L.LevelCount.LEVELS g.S.PageSize.LEVEL g.S.PageSize.SIZE c.args.page k g.S.PageSize.size
@@ -225,4 +231,7 @@ returns-clause-maps g c =
     let after = g.M.Tables.hierarchy c.parts.mapper in
     let rest = g.A.FrameAllocator.supply c.parts.frame_allocator in
     let all : c.parts.done ≡ c.args.count = (let most = inv.within in let least = c.parts-test.false in omega (arith, most, least)) in
-    ends_run h supply r c.args.count (accepted r c.args.count) after rest inv.layout inv.lent (subst (λ k. IsRun h.layout h.memory supply r k (accepted r k) after.memory rest) all inv.run)
+    record {
+      maps = ends_run h supply r c.args.count (accepted r c.args.count) after rest inv.layout inv.lent (subst (λ k. IsRun h.layout h.memory supply r k (accepted r k) after.memory rest) all inv.run);
+      serves = inv.serves;
+    }
