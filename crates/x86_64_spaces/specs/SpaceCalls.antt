@@ -16,9 +16,9 @@ use Rattle.x86_64_tables.specs.PageTable.{zero_words}
 
 -- ---- a new space
 
--- The first frame of a supply is taken, if there is one, and the rest is left.
-abbrev pub TakesFirst : (supply : List ℕ) → (taken : Option ℕ) → (rest : List ℕ) → Type 0
-TakesFirst supply taken rest = (taken ≡ slice_get supply 0) × (rest ≡ drop 1 supply)
+-- The first frame of a store is taken, if there is one, and the rest is left. The store serves the same frames.
+abbrev pub TakesFirst : Store → (taken : Option ℕ) → (rest : Store) → Type 0
+TakesFirst store taken rest = (taken ≡ slice_get store.frames 0) × (rest.frames ≡ drop 1 store.frames) × (rest.serves ≡ store.serves)
 
 -- A hierarchy may be the template of a new address space: it is valid, and the frames of the store fit it. Its root's entry at the
 -- recursive index of the new one is unused (or its own self-entry), if this index is shared.
@@ -57,8 +57,9 @@ pub record IsGivenUp {Lent : Type 0} (shared : ℕ → Bool) (gone : Hierarchy L
   -- There was no reason against it.
   pub none_used : HasSharedAlone shared gone.layout gone.memory
   pub not_zero : gone.layout.root ≢ 0
-  -- The store took the root's frame back, which holds zeros now. No other word changed.
+  -- The store took the root's frame back, which holds zeros now, and serves the same frames. No other word changed.
   pub given_back : rest.frames ≡ store.take_back store.frames gone.layout.root
+  pub serves : rest.serves ≡ store.serves
   pub cleared : words_of n gone.layout.places gone.layout.root ≡ Some zero_words
   pub others : KeepsOthers (λ f. f ≡ gone.layout.root) (gone.layout laid_in gone.memory) (gone.layout laid_in n)
   -- Other address spaces that share these indices with it are address spaces without it.

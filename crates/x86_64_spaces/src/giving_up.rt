@@ -50,7 +50,6 @@ pub fn give_up_space<L: LevelCount, T: TableMemory, P: PageTableFrameMapping, F:
         OnOk result (IsGivenUp (indices_of shared) gone (store_of F.FrameStore store.old)
         (T.tables memory.new) (store_of F.FrameStore store.new)) }
     ensures lent { T.lent memory.new ≡ T.lent memory.old }
-    ensures serves { F.serves store.new ≡ F.serves store.old }
 {
     spaces_are_given_up();
     if !maps_nothing(memory, mapping, space, shared) {

@@ -39,14 +39,13 @@ pub fn new_space<L: LevelCount, T: TableMemory, P: PageTableFrameMapping, F: Fra
 ) -> Option<PhysFrame<Size4KiB>>
     requires { let one = space_in L.LEVELS (P.places mapping.now) (T.tables memory.old) template.now in
         MayBeTemplate (indices_of shared) recursive one (store_of F.FrameStore store.old) }
-    ensures taken { TakesFirst (F.supply store.old) result (F.supply store.new) }
+    ensures taken { TakesFirst (store_of F.FrameStore store.old) result (store_of F.FrameStore store.new) }
     ensures none { IfNone result (memory.new ≡ memory.old) }
     ensures made { let one = space_in L.LEVELS (P.places mapping.now) (T.tables memory.old) template.now in
         IfSome result (λ root. IsMade (indices_of shared) one (store_of F.FrameStore store.old)
         (record { root = root; recursive = recursive })
         (T.tables memory.new) (store_of F.FrameStore store.new)) }
     ensures lent { T.lent memory.new ≡ T.lent memory.old }
-    ensures serves { F.serves store.new ≡ F.serves store.old }
 {
     new_spaces_share();
     let root = store.allocate_frame()?;

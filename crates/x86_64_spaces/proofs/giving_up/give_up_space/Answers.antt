@@ -78,6 +78,7 @@ returns-clause-given_up g c =
       none_used = alone;
       not_zero = nonzero;
       given_back = rest;
+      serves = c.deallocate_frame.ensures.serves;
       cleared = cleared;
       others = others;
       spaces = λ spaces once are.
