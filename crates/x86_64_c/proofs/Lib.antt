@@ -12,3 +12,4 @@ pub mod RangeArguments
 pub mod RangeKeeps
 pub mod RangesSeen
 pub mod FrameArrays
+pub mod SpaceRanges

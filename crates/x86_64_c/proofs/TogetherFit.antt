@@ -89,21 +89,25 @@ told first levels from to roots lent shared places m same at tables passed statu
 
 -- ---- calls on one of them
 
-none_first : (a b : Option ℕ) → option_or a b ≡ None → a ≡ None
+pub none_first : (a b : Option ℕ) → option_or a b ≡ None → a ≡ None
 none_first None b none = refl
 none_first (Some x) b none = none
 
 -- a hierarchy with no wrong argument has levels
-has_levels : (h : Given) (n : ℕ) → bad_hierarchy h n ≡ None → 0 < h.levels
+pub has_levels : (h : Given) (n : ℕ) → bad_hierarchy h n ≡ None → 0 < h.levels
 has_levels h n good = ⊎_elim (λ four. omega (arith, four)) (λ five. omega (arith, five)) (four_or_five h n good)
 
 pub each_may_be_used : EachMayBeUsed
 each_may_be_used own shared spaces lent fit h member =
     let fits = fit.are_spaces.fits (layout_given h) member in
-    (λ request. record { room = fit.room; fits = λ good. fits }, λ wrong. record { room = fit.room; fits = λ good. fits })
+    (
+      λ request. record { room = fit.room; fits = λ good. fits },
+      λ request count. record { room = fit.room; fits = λ good. fits },
+      λ wrong. record { room = fit.room; fits = λ good. fits },
+    )
 
 module _ (stay : SpacesStay) (own : List ℕ) (shared : ℕ → Bool) (spaces : List Layout) (h : Given) (member : In spaces (layout_given h)) where
-  kept : (lent after : Loan) → FitTogether own shared spaces lent → 0 < h.levels → length after.array ≡ length lent.array
+  pub kept : (lent after : Loan) → FitTogether own shared spaces lent → 0 < h.levels → length after.array ≡ length lent.array
       → KeepsPool (layout_given h) (is_in own) (numbered lent.tables) (stacked lent.array lent.free) (numbered after.tables) (stacked after.array after.free)
       → KeepsRootEntries shared (layout_given h) (numbered lent.tables) (numbered after.tables) → FitTogether own shared spaces after
   kept lent after fit some long keeps entries = record {

@@ -1,9 +1,11 @@
 -- Several address spaces in the caller's tables: hierarchies that share the tables below some indices of the highest level, with
 -- one pool.
 use Rattle.std.specs.Prelude.{◌≡◌, ◌≢◌, ◌≤◌, ◌<◌, ℕ, Bool, true, ◌==◌, ◌&&◌, ◌||◌, nat_le, nat_lt, List, ◌∷◌, length, map, Option, Some, None}
+use Rattle.std.specs.List.{AllByRecursion}
 use Rattle.std.specs.Option.{option_or}
-use Rattle.x86_64_model.specs.Call.{Call, IsCall}
+use Rattle.x86_64_model.specs.Call.{Call, IsCall, Reply}
 use Rattle.x86_64_model.specs.Laws.Spaces.{KeepsRootEntries}
+use Rattle.x86_64_model.specs.Laws.Steps.{AllCalls}
 use Rattle.x86_64_model.specs.Layout.{Layout}
 use Rattle.x86_64_model.specs.Lists.{In, EachOnce}
 use Rattle.x86_64_model.specs.Mapper.{◌laid_in◌, paths}
@@ -12,6 +14,7 @@ use Rattle.x86_64_model.specs.Refusal.{Answer}
 use Rattle.x86_64_model.specs.Spaces.{AreSpaces, Avoids}
 use Rattle.x86_64_model.specs.Store.{Fits}
 use Rattle.x86_64_mappers.specs.Layouts.{direct_at}
+use Rattle.x86_64_mappers.specs.Ranges.{map_at}
 use Rattle.x86_64_spaces.specs.declared.space.Space.{Space}
 use Rattle.x86_64_spaces.specs.SpaceCalls.{TakesFirst, IsMade, IsGivenUp}
 use Rattle.x86_64_spaces.specs.SpaceLayouts.{indices_of, HasSharedAlone}
@@ -22,8 +25,11 @@ use Rattle.x86_64.specs.Asked.{machine_call}
 use Rattle.x86_64_c.specs.Calls.{Changes}
 use Rattle.x86_64_c.specs.Given.{unless, bad_hierarchy, hierarchy_in}
 use Rattle.x86_64_c.specs.PoolCalls.{Loan, loan, Request, MayExecute, Executes, bad_pool, pool_in}
+use Rattle.x86_64_c.specs.Ranges as range
+use Rattle.x86_64_c.specs.Ranges.{MapsWith, MayMapWith, range_asked}
 use Rattle.x86_64_c.specs.Status as status
 use Rattle.x86_64_c.specs.declared.given.Hierarchy.{Hierarchy as Given}
+use Rattle.x86_64_c.specs.declared.given.MapRequest.{MapRequest}
 
 -- ---- which spaces
 
@@ -130,10 +136,12 @@ pub record GivesUpSpace (own : List ℕ) (gone : Given) (lent : Loan) (from to r
 
 -- ---- calls on one of them
 
--- Any request may be made on each of some spaces that fit together, and each may be a template.
+-- Any request may be made on each of some spaces that fit together, also one to map a range, and each may be a template.
 abbrev pub EachMayBeUsed : Type 0
 EachMayBeUsed = (own : List ℕ) (shared : ℕ → Bool) (spaces : List Layout) (lent : Loan) → FitTogether own shared spaces lent
-    → (h : Given) → In spaces (layout_given h) → ((request : Request) → MayExecute own h lent request) × ((wrong : Option ℕ) → HasPool own h lent wrong)
+    → (h : Given) → In spaces (layout_given h)
+    → ((request : Request) → MayExecute own h lent request) × ((request : MapRequest) (count : ℕ) → MayMapWith own h lent request count)
+    × ((wrong : Option ℕ) → HasPool own h lent wrong)
 
 -- After a request on one of them, they fit together again, if its root's entries at the shared indices are as before.
 abbrev pub RequestsKeepSpaces : Type 0
@@ -148,6 +156,19 @@ ChangesKeepSpaces = (own : List ℕ) (shared : ℕ → Bool) (spaces : List Layo
     → Changes (hierarchy_in h tables) call answer (hierarchy_in h now) status
     → KeepsRootEntries shared (layout_given h) (numbered tables) (numbered now) → FitTogether own shared spaces (loan now array free)
 
+-- So do they after a range of maps.
+abbrev pub RangeMapsKeepSpaces : Type 0
+RangeMapsKeepSpaces = (own : List ℕ) (shared : ℕ → Bool) (spaces : List Layout) (lent after : Loan) → FitTogether own shared spaces lent
+    → (h : Given) → In spaces (layout_given h) → (request : MapRequest) (count was status done : ℕ) → MapsWith own h lent request count was status after done
+    → KeepsRootEntries shared (layout_given h) (numbered lent.tables) (numbered after.tables) → FitTogether own shared spaces after
+
+-- So do they after a range of unmaps or of changes of flags.
+abbrev pub RangeChangesKeepSpaces : Type 0
+RangeChangesKeepSpaces = (own : List ℕ) (shared : ℕ → Bool) (spaces : List Layout) (tables now : List (List ℕ)) (array : List ℕ) (free : ℕ)
+    → FitTogether own shared spaces (loan tables array free) → (h : Given) → 0 < h.levels → In spaces (layout_given h) → (calls : List Call) (replies : List Reply)
+    → range.Changes (hierarchy_in h tables) calls replies (hierarchy_in h now)
+    → KeepsRootEntries shared (layout_given h) (numbered tables) (numbered now) → FitTogether own shared spaces (loan now array free)
+
 -- The spaces with another root than this one keep their path maps.
 abbrev pub OthersStay : (spaces : List Layout) → (root : ℕ) → (before after : Memory) → Type 0
 OthersStay spaces root m n = (other : Layout) → In spaces other → root ≢ other.root → paths (other laid_in n) ≡ paths (other laid_in m)
@@ -158,3 +179,17 @@ RequestsKeepOthers = (own : List ℕ) (shared : ℕ → Bool) (spaces : List Lay
     → (h : Given) → In spaces (layout_given h) → (request : Request) (status : ℕ) → Executes own h lent request status after
     → IsCall h.levels (machine_call h.levels (request.call h.levels)) → Avoids h.levels shared (machine_call h.levels (request.call h.levels))
     → FitTogether own shared spaces after × OthersStay spaces h.root (numbered lent.tables) (numbered after.tables)
+
+-- Likewise for a range of maps.
+abbrev pub RangeMapsKeepOthers : Type 0
+RangeMapsKeepOthers = (own : List ℕ) (shared : ℕ → Bool) (spaces : List Layout) (lent after : Loan) → FitTogether own shared spaces lent
+    → (h : Given) → In spaces (layout_given h) → (request : MapRequest) (count was status done : ℕ) → MapsWith own h lent request count was status after done
+    → ((k : ℕ) → k < count → Avoids h.levels shared (map_at h.levels (range_asked h.levels request) k))
+    → FitTogether own shared spaces after × OthersStay spaces h.root (numbered lent.tables) (numbered after.tables)
+
+-- Likewise for a range of unmaps or of changes of flags.
+abbrev pub RangeChangesKeepOthers : Type 0
+RangeChangesKeepOthers = (own : List ℕ) (shared : ℕ → Bool) (spaces : List Layout) (tables now : List (List ℕ)) (array : List ℕ) (free : ℕ)
+    → FitTogether own shared spaces (loan tables array free) → (h : Given) → 0 < h.levels → In spaces (layout_given h) → (calls : List Call) (replies : List Reply)
+    → range.Changes (hierarchy_in h tables) calls replies (hierarchy_in h now) → AllCalls h.levels calls → AllByRecursion (Avoids h.levels shared) calls
+    → FitTogether own shared spaces (loan now array free) × OthersStay spaces h.root (numbered tables) (numbered now)

@@ -339,7 +339,11 @@ pub fn calls_keep_spaces()
     ensures used { spaces.EachMayBeUsed }
     ensures requests { spaces.RequestsKeepSpaces }
     ensures changes { spaces.ChangesKeepSpaces }
+    ensures maps { spaces.RangeMapsKeepSpaces }
+    ensures range_changes { spaces.RangeChangesKeepSpaces }
     ensures others { spaces.RequestsKeepOthers }
+    ensures others_of_maps { spaces.RangeMapsKeepOthers }
+    ensures others_of_changes { spaces.RangeChangesKeepOthers }
 {
     spaces_stay();
     shared_halves_stay();
