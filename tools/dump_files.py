@@ -14,6 +14,8 @@
     @ header load 120 0x1000 4096              a program header: its kind (load, note or a number), where its bytes begin in
                                                the file, their physical address, and how many they are
     @ file dump bytes                          a file of the bytes below
+    @ file dump lime                           a LiME file: the ranges below, each behind its header
+    @ range 2 frames from 0x1000               memory in the LiME file, from an address on; the words after it are in it
     @ numbers 0 to 511                         words, each a number times 4096: 0x0, 0x1000, 0x2000 ..
     @ note QEMU 100 to 154                     a note of an ELF file with this name, and such words in it
     @ hex 7f 45 4c 46                          bytes
@@ -89,7 +91,7 @@ class File:
 
     def bytes(self) -> bytes:
         """Returns its bytes."""
-        made = {"raw": self.raw, "core": self.core, "elf": self.elf, "bytes": lambda: bytes(self.content)}[self.kind]()
+        made = {"raw": self.raw, "core": self.core, "lime": self.lime, "elf": self.elf, "bytes": lambda: bytes(self.content)}[self.kind]()
         return made[: self.end]
 
     def raw(self) -> bytes:
@@ -108,6 +110,10 @@ class File:
             contents += content
         return header({**FIELDS, "count": len(parts), **self.fields}) + headers + contents
 
+    def lime(self) -> bytes:
+        """Returns the bytes of a LiME file: each range behind its header."""
+        return b"".join(range_header(part.address, len(part.bytes)) + bytes(part.bytes) for part in self.memory)
+
     def elf(self) -> bytes:
         """Returns the bytes of an ELF file: its header, the program headers and the bytes."""
         fields = {**FIELDS, "count": len(self.headers), **self.fields}
@@ -117,6 +123,11 @@ class File:
 def program_header(kind: int, offset: int, address: int, size: int) -> bytes:
     """Returns a program header."""
     return struct.pack("<IIQQQQQQ", kind, 0, offset, 0, address, size, size, 0)
+
+
+def range_header(address: int, size: int) -> bytes:
+    """Returns LiME's header of a range."""
+    return b"EMiL" + struct.pack("<IQQQ", 1, address, address + size - 1, 0)
 
 
 def header(fields: dict[str, int]) -> bytes:
@@ -202,6 +213,7 @@ def set_end(file: File, text: str) -> None:
 
 COMMANDS: dict[str, Callable[[File, str], None]] = {
     "segment": add_memory,
+    "range": add_memory,
     "processor": add_processor,
     "field": set_field,
     "header": add_header,
@@ -217,8 +229,8 @@ COMMANDS: dict[str, Callable[[File, str], None]] = {
 def begin(text: str) -> tuple[str, File]:
     """Returns the name of a file, and the file, of the line that begins it."""
     _, name, kind, *rest = text.split(maxsplit=3)
-    if kind not in ("raw", "core", "elf", "bytes"):
-        raise ValueError("a file is raw, core, elf or bytes")
+    if kind not in ("raw", "core", "lime", "elf", "bytes"):
+        raise ValueError("a file is raw, core, lime, elf or bytes")
     file = File(kind)
     if kind == "raw":
         add_memory(file, "".join(rest))

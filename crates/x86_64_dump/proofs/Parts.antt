@@ -6,6 +6,7 @@ use Rattle.std.proofs.lemmas.Bool.{cases_lt}
 use Rattle.std.proofs.lemmas.List.{length-take, get_or_append_left, get_or-take, get_or-drop, get_or-replicate, get_or_past, get_or-append_right}
 use Rattle.x86_64_dump.specs.Numbers.{u16_at, u32_at, u64_at}
 use Rattle.x86_64_dump.specs.Dump.{segment_at}
+use Rattle.x86_64_dump.specs.Lime.{range_header_at}
 use Rattle.x86_64_dump.specs.Opening.{header_of}
 use Rattle.x86_64_dump.specs.Source.{part_of}
 
@@ -58,8 +59,6 @@ segment_shown part file at offset count shows fits =
 pub header_shown : (front file : List ℕ) → Shows front file 0 64 → header_of front ≡ header_of file
 unfolding header_of
 header_shown front file shows =
-    let start = u64_shown front file 0 0 64 shows (omega arith) in
-    let magic = u32_shown front file 0 0 64 shows (omega arith) in
     let class = shows.bytes 4 (omega arith) in
     let order = shows.bytes 5 (omega arith) in
     let file_type = u16_shown front file 16 0 64 shows (omega arith) in
@@ -68,6 +67,16 @@ header_shown front file shows =
     let sections = u64_shown front file 40 0 64 shows (omega arith) in
     let entry_size = u16_shown front file 54 0 64 shows (omega arith) in
     let count = u16_shown front file 56 0 64 shows (omega arith) in
+    cc
+
+pub range_header_shown : (part file : List ℕ) (offset : ℕ) → Shows part file offset 32 → range_header_at part 0 ≡ range_header_at file offset
+unfolding range_header_at
+range_header_shown part file offset shows =
+    let start : offset + 0 ≡ offset = omega arith in
+    let magic : u32_at part 0 ≡ u32_at file offset = u32_shown part file 0 offset 32 shows (omega arith) ∙ ap (u32_at file) start in
+    let version = u32_shown part file 4 offset 32 shows (omega arith) in
+    let first = u64_shown part file 8 offset 32 shows (omega arith) in
+    let last = u64_shown part file 16 offset 32 shows (omega arith) in
     cc
 
 zero_of_zeros : (n i : ℕ) → i < n → get_or {A = ℕ} (replicate n 0) i 0 ≡ 0

@@ -6,6 +6,7 @@ use Rattle.std.specs.Option.{option_map}
 use Rattle.x86_64_model.specs.Entry.{is_frame}
 use Rattle.x86_64_model.specs.Memory.{Words}
 use Rattle.x86_64_dump.specs.Numbers.{u32_at, u64_at}
+use Rattle.x86_64_dump.specs.declared.formats.Format.{Format}
 use Rattle.x86_64_dump.specs.declared.segment.Segment.{Segment}
 
 -- the segment that the program header at an offset of the file describes
@@ -33,9 +34,10 @@ frame_offset file_length segments frame = option_map (λ segment. offset_in segm
 unfoldable pub words_at : (file : List ℕ) → (offset : ℕ) → List ℕ
 words_at file offset = map (λ i. u64_at file (offset + 8 * i)) (range_with_len 0 512)
 
--- a file and its segments
+-- a file, its format and its segments
 pub record Contents : Type 0 where
   pub file : List ℕ
+  pub format : Format
   pub segments : List Segment
 
 -- the words of each frame that the dump has

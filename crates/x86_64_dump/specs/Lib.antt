@@ -1,5 +1,7 @@
 pub mod Numbers
 pub mod Dump
+pub mod Formats
+pub mod Lime
 pub mod Opening
 pub mod Opened
 pub mod Notes

@@ -4,9 +4,9 @@ use Rattle.x86_64_dump.specs.Dump.{Contents, frame_offset, words_of_dump}
 use Rattle.x86_64_model.specs.Memory.{Words}
 use Rattle.x86_64_dump.specs.declared.dump.Dump.{Dump}
 
--- the bytes of its source, and its segments
+-- the bytes of its source, its format and its segments
 abbrev pub opened : {S : Type 0} → (S → List ℕ) → Dump S → Contents
-opened bytes dump = record { file = bytes dump.source; segments = dump.segments.items }
+opened bytes dump = record { file = bytes dump.source; format = dump.format; segments = dump.segments.items }
 
 -- the words of its frames
 abbrev pub words_opened : {S : Type 0} → (S → List ℕ) → Dump S → Words

@@ -1,8 +1,13 @@
 -- Opening: which files are dumps, and their segments. System V ABI, "ELF Header"; a core file has the header of any ELF file.
-use Rattle.std.specs.Prelude.{◌≡◌, ℕ, ◌+◌, ◌*◌, ◌==◌, ◌&&◌, ◌||◌, Bool, not, cond, if◌then◌else◌, List, [], ◌∷◌, length, nat_lt, Option, None, Some, is_some, Result, Ok, Err, ⊤}
+use Rattle.std.specs.Prelude.{◌≡◌, ℕ, ◌+◌, ◌*◌, ◌==◌, ◌&&◌, Bool, not, cond, if◌then◌else◌, List, [], ◌∷◌, length, nat_lt, Option, None, Some, Result, Ok, Err, ⊤}
+use Rattle.std.specs.List.{list_any}
 use Rattle.std.specs.Option.{unwrap_or}
+use Rattle.x86_64_dump.specs.Formats.{format_of}
+use Rattle.x86_64_dump.specs.Lime.{after, lime_segments}
 use Rattle.x86_64_dump.specs.Numbers.{byte_at, u16_at, u32_at, u64_at}
 use Rattle.x86_64_dump.specs.Dump.{Contents, segments_at}
+use Rattle.x86_64_dump.specs.declared.formats.Format.{Format}
+use Rattle.x86_64_dump.specs.declared.formats.Format.TheVariants as formats
 use Rattle.x86_64_dump.specs.declared.header.Header.{Header}
 use Rattle.x86_64_dump.specs.declared.segment.Segment.{Segment}
 use Rattle.x86_64_dump.specs.declared.error.Fault.{Fault}
@@ -13,8 +18,6 @@ use Rattle.x86_64_dump.specs.declared.error.DumpError.TheVariants as errors
 -- the fields of a file's header; fields past the end of the file are 0
 unfoldable pub header_of : (file : List ℕ) → Header
 header_of file = record {
-  start = u64_at file 0;
-  magic = u32_at file 0;
   class = byte_at file 4;
   order = byte_at file 5;
   file_type = u16_at file 16;
@@ -24,14 +27,6 @@ header_of file = record {
   entry_size = u16_at file 54;
   count = u16_at file 56;
 }
-
--- the magic number is "\x7fELF"
-abbrev pub is_elf : Header → Bool
-is_elf header = header.magic == 0x464c_457f
-
--- the file begins with "KDUMP   " or "DISKDUMP"
-abbrev pub is_compressed : Header → Bool
-is_compressed header = header.start == 0x2020_2050_4d55_444b || header.start == 0x504d_5544_4b53_4944
 
 -- why an ELF file isn't a core file of x86-64
 unfoldable pub header_fault : (file_length : ℕ) → Header → Option Fault
@@ -54,35 +49,45 @@ unfoldable pub table_fault : (file_length count : ℕ) → Header → Option Fau
 table_fault file_length count header =
     if nat_lt file_length (header.headers + 56 * count) then Some (faults.HeadersOutside header.headers count file_length) else None
 
-abbrev pub unless : {A : Type 0} → Option Fault → A → Result A Fault
-unless None x = Ok x
-unless (Some fault) x = Err fault
+-- the fault, or if there is none, the result
+abbrev pub unless : {A : Type 0} → Option Fault → Result A Fault → Result A Fault
+unless None found = found
+unless (Some fault) found = Err fault
+
+abbrev pub has_memory : List Segment → Bool
+has_memory segments = list_any (λ segment. segment.kind == 1) segments
+
+-- segments, of which one is memory, as in each core file but those of Xen's `dump-core`
+abbrev pub with_memory : List Segment → Result (List Segment) Fault
+with_memory segments = if has_memory segments then Ok segments else Err faults.NoMemory
 
 -- the segments of a core file of x86-64
 unfoldable pub elf_segments : (file : List ℕ) → Header → Result (List Segment) Fault
 elf_segments file header =
-    if is_some (header_fault (length file) header) then unless (header_fault (length file) header) []
-    else unless (table_fault (length file) (count_of file header) header) (segments_at file header.headers (count_of file header))
+    unless (header_fault (length file) header)
+    (unless (table_fault (length file) (count_of file header) header)
+    (with_memory (segments_at file header.headers (count_of file header))))
 
--- all bytes of a file as memory from a base address on
-abbrev pub raw_segment : (file_length base : ℕ) → Segment
-raw_segment file_length base = record { kind = 1; offset = 0; address = base; size = file_length }
+-- the one segment of a raw file: all of its bytes are memory from a base address on
+abbrev pub raw_segments : (file : List ℕ) → (base : ℕ) → List Segment
+raw_segments file base = record { kind = 1; offset = 0; address = base; size = length file } ∷ []
 
--- the segments of a file, or why it isn't a dump
-unfoldable pub segments_of : (file : List ℕ) → (base : Option ℕ) → Result (List Segment) Fault
-segments_of file base =
-    if is_compressed (header_of file) then Err faults.Compressed
-    else if not (is_elf (header_of file)) then Ok (raw_segment (length file) (unwrap_or base 0) ∷ [])
-    else if is_some base then Err faults.BaseOfElf
-    else elf_segments file (header_of file)
+-- the segments of a file of a format, or why it isn't a dump. A base is for raw files
+abbrev pub segments_of : Format → (file : List ℕ) → (base : Option ℕ) → Result (List Segment) Fault
+segments_of formats.Raw file base = Ok (raw_segments file (unwrap_or base 0))
+segments_of formats.Elf file None = elf_segments file (header_of file)
+segments_of formats.Lime file None = lime_segments file
+segments_of formats.Elf file (Some base) = Err faults.BaseGiven
+segments_of formats.Lime file (Some base) = Err faults.BaseGiven
+segments_of (formats.Unread format) file base = Err (faults.Unread format)
 
-abbrev pub with_file : (file : List ℕ) → Result (List Segment) Fault → Result Contents Fault
-with_file file (Ok segments) = Ok (record { file = file; segments = segments })
-with_file file (Err fault) = Err fault
+-- the contents of a file of a format, or why it isn't a dump
+abbrev pub contents_as : Format → (file : List ℕ) → (base : Option ℕ) → Result Contents Fault
+contents_as format file base = after (segments_of format file base) (λ segments. Ok (record { file = file; format = format; segments = segments }))
 
--- the contents of a file, or why it isn't a dump
+-- likewise for the format that the file's beginning has
 abbrev pub contents_of : (file : List ℕ) → (base : Option ℕ) → Result Contents Fault
-contents_of file base = with_file file (segments_of file base)
+contents_of file base = contents_as (format_of file) file base
 
 -- an error agrees with the expected result: a fault is the expected one, no read fails, and memory allocation may always fail
 abbrev pub Fails : {Y : Type 0} → DumpError → Result Y Fault → Type 0

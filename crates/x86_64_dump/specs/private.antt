@@ -1,2 +1,3 @@
 pub mod NotesLeft
 pub mod FrameNumbers
+pub mod Magics

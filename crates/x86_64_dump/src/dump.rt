@@ -1,11 +1,12 @@
 //! Dump files.
 ghost use Rattle.std.specs.Prelude.{◌≡◌, ◌+◌, ◌≤◌, true, IsOk, IfOk, IfSome, is_some, Ok, length};
 
-use crate::elf::read_segments;
 use crate::error::DumpError;
+use crate::formats::{Format, read_format};
 use crate::frame::{frame_offset, is_cut_off, words_in};
 use crate::note::Note;
 use crate::notes::{read_notes, read_register};
+use crate::opening::read_segments;
 use crate::segment::Segment;
 use crate::source::ByteSource;
 use std::alloc::Global;
@@ -15,36 +16,74 @@ use x86_64_page::page::Size4KiB;
 
 /// The physical memory in a dump file, read frame by frame.
 ///
-/// Contracts see it as its file and its segments. Only the segments are kept in memory.
+/// Contracts see it as its file, its format and its segments. Only the segments are kept in memory.
 #[derive(Drop)]
 pub struct Dump<S: ByteSource> {
     source: S,
+    format: Format,
     segments: Vec<Segment>,
 }
 
 impl<S: ByteSource> Dump<S> {
     ghost use Rattle.x86_64_model.specs.Entry.{is_frame};
     ghost use Rattle.x86_64_dump.specs.Dump.{words_of_dump, frame_offset, is_short};
-    ghost use Rattle.x86_64_dump.specs.Opening.{contents_of, Gives, GivesAtOnce};
+    ghost use Rattle.x86_64_dump.specs.Formats.{is_raw};
+    ghost use Rattle.x86_64_dump.specs.Opening.{contents_of, contents_as, Gives, GivesAtOnce};
     ghost use Rattle.x86_64_dump.specs.Opened.{opened, holds};
     ghost use Rattle.x86_64_dump.specs.Notes.{processors_of, register_of};
 
     /// Opens a dump and reads which parts of the file are memory.
     ///
     /// A file that begins with the magic number of ELF must be a little-endian, 64-bit core file of x86-64, as QEMU's
-    /// `dump-guest-memory` and Linux's kdump write. Any other file is raw: its bytes are those of physical memory from `base`
-    /// on, or from 0 if `base` is `None`.
+    /// `dump-guest-memory` and Linux's kdump write, and one with that of LiME must have ranges of version 1. A file of a format
+    /// that is known and isn't read is refused. Any other file is raw: its bytes are those of physical memory from `base` on, or
+    /// from 0 if `base` is `None`.
     ///
     /// # Errors
     ///
-    /// `DumpError::Fault` if and only if the file is a compressed dump, an ELF file that isn't such a core file or is damaged,
-    /// or an ELF file although there is a base. `DumpError::OutOfMemory` if memory allocation fails, `DumpError::Read` if the
-    /// source can't be read.
+    /// `DumpError::Fault` if and only if the file is of a format that isn't read, an ELF file that isn't such a core file, one
+    /// without memory, a file that is damaged, or one with addresses of its own although there is a base.
+    /// `DumpError::OutOfMemory` if memory allocation fails, `DumpError::Read` if the source can't be read.
     pub fn open(alloc: Global, source: S, base: Option<u64>) -> Result<Dump<S>, DumpError>
         ensures { S.IsKnown → Gives (opened S.bytes) result (contents_of (S.bytes source) base) }
     {
-        let segments = read_segments(alloc, &source, base)?;
-        Ok(Dump { source, segments })
+        let format = read_format(&source)?;
+        Dump::open_as(alloc, source, format, base)
+    }
+
+    /// Opens a dump as `open` does, but as a file of this format, whatever it begins with. So any file can be opened as raw.
+    ///
+    /// # Errors
+    ///
+    /// As those of `open`.
+    pub fn open_as(
+        alloc: Global,
+        source: S,
+        format: Format,
+        base: Option<u64>,
+    ) -> Result<Dump<S>, DumpError>
+        ensures { S.IsKnown → Gives (opened S.bytes) result (contents_as format (S.bytes source) base) }
+    {
+        let segments = read_segments(alloc, &source, format, base)?;
+        Ok(Dump {
+            source,
+            format,
+            segments,
+        })
+    }
+
+    /// Returns true if the file is raw.
+    pub fn is_raw(&self) -> bool
+        ensures { result ≡ is_raw (opened S.bytes self.now).format }
+    {
+        matches!(self.format, Format::Raw)
+    }
+
+    /// Returns the segments of the file, in their order.
+    pub fn segments(&self) -> &[Segment]
+        ensures { result.now ≡ (opened S.bytes self.now).segments }
+    {
+        &self.segments
     }
 
     /// Returns true if the file is shorter than its headers say: a segment ends after the file, as in a truncated dump. The frames

@@ -2,7 +2,7 @@
 ghost use Rattle.std.specs.Prelude.{◌≡◌, ◌+◌, ◌*◌, ◌/◌, ◌≤◌, ◌<◌, ◌^◌, ◌++◌, length, nat_lt, IsOk, IfOk, IfNone, OnOk, Ok};
 ghost use Rattle.x86_64_dump.specs.Numbers.{u32_at};
 ghost use Rattle.x86_64_dump.specs.Dump.{segment_at, segments_at};
-ghost use Rattle.x86_64_dump.specs.Opening.{header_of, header_fault, table_fault, count_of, elf_segments, segments_of, raw_segment, is_elf, is_compressed, Gives};
+ghost use Rattle.x86_64_dump.specs.Opening.{header_of, header_fault, table_fault, count_of, elf_segments, has_memory, with_memory, Gives, GivesAtOnce};
 
 use crate::error::{DumpError, Fault};
 use crate::header::Header;
@@ -11,15 +11,6 @@ use crate::segment::Segment;
 use crate::source::ByteSource;
 use std::alloc::{AllocError, Global};
 use std::io;
-
-/// The first four bytes of ELF files, `ELFMAG`.
-const ELF_MAGIC: u32 = 0x464c_457f;
-
-/// The first eight bytes of kdump's compressed dumps, `KDUMP   `.
-const KDUMP_MAGIC: u64 = 0x2020_2050_4d55_444b;
-
-/// The first eight bytes of diskdump's compressed dumps, `DISKDUMP`.
-const DISKDUMP_MAGIC: u64 = 0x504d_5544_4b53_4944;
 
 /// The value `ELFCLASS64` of `EI_CLASS`.
 const CLASS_64_BITS: u8 = 2;
@@ -45,49 +36,17 @@ const PIECE: u32 = 73;
 /// The count, `PN_XNUM`, that refers to section header 0 for the number of program headers.
 const COUNT_ELSEWHERE: u16 = 65535;
 
-/// Reads the segments of a dump.
-pub fn read_segments<S: ByteSource>(
-    alloc: Global,
-    source: &S,
-    base: Option<u64>,
-) -> Result<Vec<Segment>, DumpError>
-    ensures { S.IsKnown → Gives (λ v. v.items) result (segments_of (S.bytes source.now) base) }
+/// Reads the segments of an ELF file.
+pub fn read_elf<S: ByteSource>(alloc: Global, source: &S) -> Result<Vec<Segment>, DumpError>
+    ensures { S.IsKnown →
+        Gives (λ v. v.items) result (elf_segments (S.bytes source.now) (header_of (S.bytes source.now))) }
 {
     let header = read_header(source)?;
-    if is_kdump(&header) {
-        return Err(DumpError::Fault(Fault::Compressed));
-    }
-    if header.magic != ELF_MAGIC {
-        let whole = raw(source.len(), base.unwrap_or(0));
-        return Ok(vec![in alloc; whole]?);
-    }
-    if base.is_some() {
-        return Err(DumpError::Fault(Fault::BaseOfElf));
-    }
-    read_elf(alloc, source, &header)
+    read_by(alloc, source, &header)
 }
 
-/// Returns true if a file begins as compressed dumps do.
-fn is_kdump(header: &Header) -> bool
-    ensures { result ≡ is_compressed header.now }
-{
-    header.start == KDUMP_MAGIC || header.start == DISKDUMP_MAGIC
-}
-
-/// Returns the one segment of a raw file, which is all of its bytes.
-fn raw(length: u64, base: u64) -> Segment
-    ensures { result ≡ raw_segment length base }
-{
-    Segment {
-        kind: Segment::LOAD,
-        offset: 0,
-        address: base,
-        size: length,
-    }
-}
-
-/// Reads the segments of an ELF file.
-fn read_elf<S: ByteSource>(
+/// Reads the segments of an ELF file with this header.
+fn read_by<S: ByteSource>(
     alloc: Global,
     source: &S,
     header: &Header,
@@ -102,7 +61,25 @@ fn read_elf<S: ByteSource>(
     if let Some(fault) = fault_of_table(header, length, count) {
         return Err(DumpError::Fault(fault));
     }
-    read_table(alloc, source, header.headers, count)
+    with_memory(read_table(alloc, source, header.headers, count)?)
+}
+
+/// Returns the segments if one of them is memory.
+fn with_memory(segments: Vec<Segment>) -> Result<Vec<Segment>, DumpError>
+    ensures { GivesAtOnce (λ v. v.items) result (with_memory segments.items) }
+{
+    if has_memory(&segments) {
+        Ok(segments)
+    } else {
+        Err(DumpError::Fault(Fault::NoMemory))
+    }
+}
+
+/// Returns true if one of the segments is memory.
+fn has_memory(segments: &[Segment]) -> bool
+    ensures { result ≡ has_memory segments.now }
+{
+    segments.iter().any(|segment| segment.kind == Segment::LOAD)
 }
 
 /// Returns true if a part of a file ends after the end of the file.
@@ -188,8 +165,6 @@ fn header_in(front: &[u8]) -> Header
     ensures { result ≡ header_of front.now }
 {
     Header {
-        start: read_u64(front, 0),
-        magic: read_u32(front, 0),
         class: front[4],
         order: front[5],
         file_type: read_u16(front, 16),

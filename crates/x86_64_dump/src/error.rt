@@ -2,6 +2,7 @@
 ghost use Rattle.std.specs.Prelude.{◌≡◌};
 ghost use Rattle.x86_64_dump.specs.declared.error.DumpError.TheVariants as errors;
 
+use crate::formats::UnreadFormat;
 use std::alloc::{AllocError, AllocFailed};
 use std::error::Error;
 use std::fmt::{Display, Formatter, Result as FmtResult, Write};
@@ -10,10 +11,10 @@ use std::io;
 /// The reason why a file isn't a readable dump.
 #[derive(Clone, Copy, Debug, PartialEq, Eq)]
 pub enum Fault {
-    /// The file is a compressed dump of kdump or diskdump.
-    Compressed,
-    /// A base was given for an ELF file, whose headers already have its addresses.
-    BaseOfElf,
+    /// The file is of a format that isn't read.
+    Unread(UnreadFormat),
+    /// A base was given for a file whose headers already have its addresses.
+    BaseGiven,
     /// The file is shorter than an ELF header.
     HeaderCut {
         /// The number of bytes in the file.
@@ -60,6 +61,47 @@ pub enum Fault {
         /// The number of bytes in the file.
         length: u64,
     },
+    /// None of the program headers describes memory.
+    NoMemory,
+    /// The file ends within the header of a range of LiME.
+    RangeHeaderCut {
+        /// Where the header begins.
+        offset: u64,
+        /// The number of bytes in the file.
+        length: u64,
+    },
+    /// The bytes where the header of a range of LiME should be don't begin with its magic number.
+    NoRangeHeader {
+        /// Where the header should begin.
+        offset: u64,
+    },
+    /// The header of a range of LiME has a version that isn't read.
+    WrongLimeVersion {
+        /// Where the header begins.
+        offset: u64,
+        /// Its version.
+        version: u32,
+    },
+    /// The last address of a range of LiME is below its first address.
+    RangeReversed {
+        /// Where the header begins.
+        offset: u64,
+        /// The first address.
+        first: u64,
+        /// The last address.
+        last: u64,
+    },
+    /// The file ends within a range of LiME.
+    RangeCut {
+        /// Where the header begins.
+        offset: u64,
+        /// The first address.
+        first: u64,
+        /// The last address.
+        last: u64,
+        /// The number of bytes in the file.
+        length: u64,
+    },
     /// QEMU's note of a processor ends before a register does, or the file ends before.
     NoteCut {
         /// Where the descriptor of the note begins.
@@ -85,11 +127,9 @@ pub enum DumpError {
 impl Display for Fault {
     fn fmt<W: Write>(&self, f: &mut Formatter<W>) -> FmtResult {
         match self {
-            Fault::Compressed => f.write_str(
-                "the file is a compressed kdump: write an ELF dump without compression, by `makedumpfile -E` or QEMU's `dump-guest-memory`",
-            ),
-            Fault::BaseOfElf => f.write_str(
-                "the file is an ELF file, whose headers say its addresses: leave the base out",
+            Fault::Unread(format) => write!(f, "{format}"),
+            Fault::BaseGiven => f.write_str(
+                "the file has headers, which say its addresses: leave the base out",
             ),
             Fault::HeaderCut { length } => write!(
                 f,
@@ -106,6 +146,9 @@ impl Display for Fault {
             } => write!(
                 f,
                 "the {count} program headers of 56 bytes begin at byte {offset}, and the file has {length} bytes: the file is damaged or cut off"
+            ),
+            Fault::NoMemory => f.write_str(
+                "the ELF core has no segment of memory, as cores of Xen's `dump-core` have none: write a dump within the machine, by LiME or kdump",
             ),
             Fault::NoteCut {
                 offset,
@@ -143,6 +186,46 @@ impl Fault {
             Fault::WrongEntrySize { size } => write!(
                 f,
                 "e_phentsize at byte 54 is {size}, not 56: the program headers can't be read"
+            ),
+            _ => self.write_wrong_range(f),
+        }
+    }
+
+    /// Writes which range of a LiME file can't be read. Writes nothing for other faults.
+    fn write_wrong_range<W: Write>(&self, f: &mut Formatter<W>) -> FmtResult {
+        match self {
+            Fault::RangeHeaderCut { offset, length } => write!(
+                f,
+                "the header of 32 bytes of a LiME range begins at byte {offset}, and the file has {length} bytes: the file is cut off"
+            ),
+            Fault::NoRangeHeader { offset } => write!(
+                f,
+                "at byte {offset}, behind the range before, no header of a LiME range begins: the file is damaged"
+            ),
+            Fault::WrongLimeVersion { offset, version: 2 } => write!(
+                f,
+                "the LiME range at byte {offset} is of version 2, as AVML compresses it: write the file without compression, by `avml-convert`"
+            ),
+            Fault::WrongLimeVersion { offset, version } => write!(
+                f,
+                "the LiME range at byte {offset} is of version {version}, not 1: write the file by LiME with format=lime"
+            ),
+            Fault::RangeReversed {
+                offset,
+                first,
+                last,
+            } => write!(
+                f,
+                "the LiME range at byte {offset} is from 0x{first:x} to 0x{last:x}, which is below: the file is damaged"
+            ),
+            Fault::RangeCut {
+                offset,
+                first,
+                last,
+                length,
+            } => write!(
+                f,
+                "the LiME range at byte {offset} is from 0x{first:x} to 0x{last:x}, and the file has {length} bytes: the file is damaged or cut off"
             ),
             _ => Ok(()),
         }

@@ -3,10 +3,6 @@
 /// The fields of the ELF header at the start of a file, if it has one. ELF-64 Object File Format, "ELF header".
 #[derive(Clone, Copy, Debug, PartialEq, Eq)]
 pub struct Header {
-    /// The first eight bytes, which identify other formats.
-    pub start: u64,
-    /// The first four bytes.
-    pub magic: u32,
     /// `EI_CLASS`: 2 for 64 bits.
     pub class: u8,
     /// `EI_DATA`: 1 for little endian.

@@ -4,17 +4,21 @@
 mod dump;
 mod elf;
 mod error;
+mod formats;
 mod frame;
 mod header;
+mod lime;
 mod note;
 mod notes;
 mod numbers;
+mod opening;
 mod segment;
 mod source;
 mod tables;
 
 pub use dump::Dump;
 pub use error::{DumpError, Fault};
+pub use formats::{Format, UnreadFormat};
 pub use note::Note;
 pub use segment::Segment;
 pub use source::{ByteSource, FileSource};

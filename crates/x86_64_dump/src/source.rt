@@ -3,7 +3,7 @@ ghost use Rattle.std.specs.Prelude.{◌≡◌, ◌+◌, ◌≤◌, ℕ, List, le
 ghost use Rattle.x86_64_dump.specs.Source.{part_of};
 
 use std::fs::File;
-use std::io::{self, ErrorKind};
+use std::io::{self, ErrorKind, Seek, SeekFrom};
 use std::os::unix::fs::FileExt;
 
 /// A source of bytes that are read at offsets: a file or a slice.
@@ -76,13 +76,18 @@ pub struct FileSource {
 }
 
 impl FileSource {
-    /// Creates a source from a file.
+    /// Creates a source from a file, a block device or another file that can be seeked.
     ///
     /// # Errors
     ///
-    /// An error if the length of the file can't be read.
-    pub fn new(file: File) -> io::Result<FileSource> {
-        let length = file.metadata()?.len();
+    /// An error if the length of the file can't be read, and if it is no regular file, if its end can't be seeked.
+    pub fn new(mut file: File) -> io::Result<FileSource> {
+        let about = file.metadata()?;
+        let length = if about.is_file() || about.is_dir() {
+            about.len()
+        } else {
+            file.seek(SeekFrom::End(0))?
+        };
         Ok(FileSource { file, length })
     }
 }

@@ -1,0 +1,57 @@
+-- Formats: the formats of files, by the magic numbers that they begin with. System V ABI, "ELF Identification"; LiME, "lime.h";
+-- makedumpfile, "makedumpfile.h", "diskdump_mod.h"; VMware's states as crash reads them, "vmware_vmss.h"; RFC 1952, RFC 8878.
+use Rattle.std.specs.Prelude.{ℕ, Bool, true, false, List, [], ◌∷◌, ◌++◌, codes, drop, nat_eq, option_map, unwrap_or}
+use Rattle.std.specs.List.{find, starts_with}
+use Rattle.x86_64_dump.specs.declared.formats.Format.{Format}
+use Rattle.x86_64_dump.specs.declared.formats.Format.TheVariants as formats
+use Rattle.x86_64_dump.specs.declared.formats.UnreadFormat.{UnreadFormat}
+use Rattle.x86_64_dump.specs.declared.formats.UnreadFormat.TheVariants as unread
+
+-- a magic number, which stands at an offset of files of a format
+pub record Row : Type 0 where
+  pub offset : ℕ
+  pub magic : List ℕ
+  pub format : Format
+
+abbrev pub row : (offset : ℕ) → (magic : List ℕ) → Format → Row
+row offset magic format = record { offset = offset; magic = magic; format = format }
+
+-- likewise for a format that isn't read
+abbrev pub unread_row : (offset : ℕ) → (magic : List ℕ) → UnreadFormat → Row
+unread_row offset magic format = row offset magic (formats.Unread format)
+
+-- the table of formats
+abbrev pub rows : List Row
+rows =
+    row 0 (0x7f ∷ codes "ELF") formats.Elf
+    ∷ row 0 (codes "EMiL") formats.Lime
+    ∷ unread_row 0 (codes "makedumpfile" ++ 0 ∷ 0 ∷ 0 ∷ 0 ∷ []) unread.Flattened
+    ∷ unread_row 0 (codes "KDUMP   ") unread.Kdump
+    ∷ unread_row 0 (codes "DISKDUMP") unread.Kdump
+    ∷ unread_row 0 (codes "PAGEDU64") unread.WindowsCrash
+    ∷ unread_row 0 (codes "PAGEDUMP") unread.WindowsCrash
+    ∷ unread_row 0 (0xd0 ∷ 0xbe ∷ 0xd0 ∷ 0xbe ∷ []) unread.VmwareState
+    ∷ unread_row 0 (0xd0 ∷ 0xbe ∷ 0xd2 ∷ 0xbe ∷ []) unread.VmwareState
+    ∷ unread_row 0 (0xd2 ∷ 0xbe ∷ 0xd2 ∷ 0xbe ∷ []) unread.VmwareState
+    ∷ unread_row 0 (0xd3 ∷ 0xbe ∷ 0xd3 ∷ 0xbe ∷ []) unread.VmwareState
+    ∷ unread_row 0 (0xd1 ∷ 0xba ∷ 0xd1 ∷ 0xba ∷ []) unread.VmwareState
+    ∷ unread_row 0 (0x1f ∷ 0x8b ∷ []) unread.Gzip
+    ∷ unread_row 0 (0xfd ∷ codes "7zXZ" ++ 0 ∷ []) unread.Xz
+    ∷ unread_row 0 (0x28 ∷ 0xb5 ∷ 0x2f ∷ 0xfd ∷ []) unread.Zstd
+    ∷ unread_row 0 (0x04 ∷ 0x22 ∷ 0x4d ∷ 0x18 ∷ []) unread.Lz4
+    ∷ unread_row 0 (0x02 ∷ 0x21 ∷ 0x4c ∷ 0x18 ∷ []) unread.Lz4
+    ∷ unread_row 0 (codes "BZh") unread.Bzip2
+    ∷ unread_row 0 (codes "PK" ++ 0x03 ∷ 0x04 ∷ []) unread.Zip
+    ∷ []
+
+-- whether a file has the magic number of a row
+abbrev pub has_magic : (file : List ℕ) → Row → Bool
+has_magic file row = starts_with nat_eq (drop row.offset file) row.magic
+
+-- the format of a file: that of the first row whose magic number it has, or else raw
+unfoldable pub format_of : (file : List ℕ) → Format
+format_of file = unwrap_or (option_map (λ row. row.format) (find (has_magic file) rows)) formats.Raw
+
+abbrev pub is_raw : Format → Bool
+is_raw formats.Raw = true
+is_raw format = false
