@@ -9,3 +9,5 @@ pub mod Closed
 pub mod Listing
 pub mod Places
 pub mod Failing
+pub mod Lines
+pub mod Digits

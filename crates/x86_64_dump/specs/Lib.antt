@@ -3,6 +3,7 @@ pub mod Dump
 pub mod Opening
 pub mod Opened
 pub mod Notes
+pub mod VmCoreInfo
 pub mod Source
 pub mod Reached
 pub mod Tables
