@@ -11,3 +11,5 @@ pub mod Places
 pub mod Failing
 mod Rows
 mod Ranges
+pub mod Lines
+pub mod Digits

@@ -5,6 +5,7 @@ pub mod Lime
 pub mod Opening
 pub mod Opened
 pub mod Notes
+pub mod VmCoreInfo
 pub mod Source
 pub mod Reached
 pub mod Tables

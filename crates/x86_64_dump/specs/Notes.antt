@@ -1,11 +1,15 @@
--- Notes: QEMU's notes of processors among the notes of a core file. System V ABI, "Note Section": a note is the size of its name,
--- the size of its descriptor, a type, the name and the descriptor. The last two are each padded to a multiple of four bytes.
-use Rattle.std.specs.Prelude.{ℕ, zero, suc, ◌+◌, ◌-◌, ◌*◌, ◌/◌, ◌==◌, ◌&&◌, ◌||◌, Bool, cond, if◌then◌else◌, min, List, [], ◌∷◌, length, nat_lt, nat_le, Result, Ok, Err}
+-- Notes: the notes of a core file, by their kinds. System V ABI, "Note Section": a note is the size of its name, the size of its
+-- descriptor, a type, the name and the descriptor. The last two are each padded to a multiple of four bytes.
+use Rattle.std.specs.Prelude.{ℕ, zero, suc, ◌+◌, ◌-◌, ◌*◌, ◌/◌, ◌++◌, ◌==◌, ◌||◌, Bool, true, false, not, codes, cond, if◌then◌else◌, min, List, [], ◌∷◌, length, nat_lt, nat_le, Result, Ok, Err}
 use Rattle.std.specs.List.{filter, flat_map, take_while}
-use Rattle.x86_64_dump.specs.Numbers.{byte_at, u32_at, u64_at}
+use Rattle.std.specs.Str.{bytes_eq}
+use Rattle.x86_64_dump.specs.Numbers.{u32_at, u64_at}
 use Rattle.x86_64_dump.specs.Dump.{Contents}
 use Rattle.x86_64_dump.specs.declared.segment.Segment.{Segment}
+use Rattle.x86_64_dump.specs.Source.{part_of}
 use Rattle.x86_64_dump.specs.declared.note.Note.{Note}
+use Rattle.x86_64_dump.specs.declared.note.NoteKind.{NoteKind}
+use Rattle.x86_64_dump.specs.declared.note.NoteKind.TheVariants.{Qemu, VmCoreInfo, VirtualBox, Other}
 use Rattle.x86_64_dump.specs.declared.error.Fault.{Fault}
 use Rattle.x86_64_dump.specs.declared.error.Fault.TheVariants as faults
 
@@ -13,14 +17,29 @@ use Rattle.x86_64_dump.specs.declared.error.Fault.TheVariants as faults
 abbrev pub padded : (size : ℕ) → ℕ
 padded size = (size + 3) / 4 * 4
 
--- whether the note at an offset is named "QEMU"
-unfoldable pub is_qemu : (file : List ℕ) → (at : ℕ) → Bool
-is_qemu file at = u32_at file at == 5 && u32_at file (at + 12) == 0x554d_4551 && byte_at file (at + 16) == 0
+-- the kind of the notes with a name, which ends with its NUL
+unfoldable pub kind_named : (name : List ℕ) → NoteKind
+kind_named name =
+    if bytes_eq name (codes "QEMU" ++ 0 ∷ []) then Qemu
+    else if bytes_eq name (codes "VMCOREINFO" ++ 0 ∷ []) then VmCoreInfo
+    else if bytes_eq name (codes "VBCPU" ++ 0 ∷ []) then VirtualBox
+    else Other
+
+abbrev pub is_kind : NoteKind → NoteKind → Bool
+is_kind Qemu Qemu = true
+is_kind VmCoreInfo VmCoreInfo = true
+is_kind VirtualBox VirtualBox = true
+is_kind Other Other = true
+is_kind _ _ = false
+
+-- the kind of the note at an offset. The longest of the names has eleven bytes
+unfoldable pub kind_at : (file : List ℕ) → (at : ℕ) → NoteKind
+kind_at file at = if nat_lt 11 (u32_at file at) then Other else kind_named (part_of file (at + 12) (u32_at file at))
 
 -- the note at an offset
 unfoldable pub note_at : (file : List ℕ) → (at : ℕ) → Note
 note_at file at = record {
-  is_qemu = is_qemu file at;
+  kind = kind_at file at;
   offset = at + 12 + padded (u32_at file at);
   size = u32_at file (at + 4);
   span = 12 + padded (u32_at file at) + padded (u32_at file (at + 4));
@@ -35,27 +54,35 @@ notes_from file at (suc count) = note_at file at ∷ notes_from file (at + (note
 abbrev pub ends_by : (end : ℕ) → Note → Bool
 ends_by end note = nat_le (note.offset + note.size) end
 
--- QEMU's notes in a part of the file, up to the first note that doesn't end in the part. A note has at least twelve bytes
-unfoldable pub notes_between : (file : List ℕ) → (start end : ℕ) → List Note
-notes_between file start end = filter (λ note. note.is_qemu) (take_while (ends_by end) (notes_from file start ((end - start) / 12)))
+-- the notes of a kind in a part of the file, up to the first note that doesn't end in the part. A note has at least twelve bytes
+unfoldable pub notes_between : NoteKind → (file : List ℕ) → (start end : ℕ) → List Note
+notes_between kind file start end = filter (λ note. is_kind note.kind kind) (take_while (ends_by end) (notes_from file start ((end - start) / 12)))
 
 -- the number of bytes of notes that a segment has in the file
 abbrev pub notes_size : (file_length : ℕ) → Segment → ℕ
 notes_size file_length segment = cond (segment.kind == 4) (min segment.size (file_length - segment.offset)) 0
 
--- QEMU's notes in a segment
-abbrev pub notes_in : (file : List ℕ) → Segment → List Note
-notes_in file segment = notes_between file segment.offset (segment.offset + notes_size (length file) segment)
+-- the notes of a kind in a segment
+abbrev pub notes_in : NoteKind → (file : List ℕ) → Segment → List Note
+notes_in kind file segment = notes_between kind file segment.offset (segment.offset + notes_size (length file) segment)
 
 -- the longest front part of a list whose sizes add up to at most the room
 abbrev pub fitting : {A : Type 0} → (room : ℕ) → (size : A → ℕ) → List A → List A
 fitting room size [] = []
 fitting room size (x ∷ xs) = cond (nat_le (size x) room) (x ∷ fitting (room - size x) size xs) []
 
--- the notes of the processors of a dump, in order. Segments of notes count as long as they have together no more bytes than the
--- file, so all segments count if they don't overlap
+-- the notes of a kind in a dump, in order. Segments of notes count as long as they have together no more bytes than the file, so
+-- all segments count if they don't overlap
+abbrev pub notes_of : NoteKind → Contents → List Note
+notes_of kind dump = flat_map (notes_in kind dump.file) (fitting (length dump.file) (notes_size (length dump.file)) dump.segments)
+
+-- QEMU's notes of the processors
 abbrev pub processors_of : Contents → List Note
-processors_of dump = flat_map (notes_in dump.file) (fitting (length dump.file) (notes_size (length dump.file)) dump.segments)
+processors_of dump = notes_of Qemu dump
+
+-- whether there are VirtualBox's notes of processors
+abbrev pub is_of_virtualbox : Contents → Bool
+is_of_virtualbox dump = not (length (notes_of VirtualBox dump) == 0)
 
 -- whether a note's descriptor, or the file, ends before the register of eight bytes at an offset of the descriptor does
 abbrev pub is_note_cut : (file_length : ℕ) → Note → (at : ℕ) → Bool

@@ -1,14 +1,15 @@
 //! Dump files.
 ghost use Rattle.std.specs.Prelude.{◌≡◌, ◌+◌, ◌≤◌, true, IsOk, IfOk, IfSome, is_some, Ok, length};
 
-use crate::error::DumpError;
+use crate::error::{DumpError, Fault};
 use crate::formats::{Format, read_format};
 use crate::frame::{frame_offset, is_cut_off, words_in};
-use crate::note::Note;
-use crate::notes::{read_notes, read_register};
+use crate::note::{Note, NoteKind};
+use crate::notes::{read_notes, read_register, read_text};
 use crate::opening::read_segments;
 use crate::segment::Segment;
 use crate::source::ByteSource;
+use crate::vmcoreinfo::Kernel;
 use std::alloc::Global;
 use std::io;
 use x86_64_page::frame::PhysFrame;
@@ -30,7 +31,8 @@ impl<S: ByteSource> Dump<S> {
     ghost use Rattle.x86_64_dump.specs.Formats.{is_raw};
     ghost use Rattle.x86_64_dump.specs.Opening.{contents_of, contents_as, Gives, GivesAtOnce};
     ghost use Rattle.x86_64_dump.specs.Opened.{opened, holds};
-    ghost use Rattle.x86_64_dump.specs.Notes.{processors_of, register_of};
+    ghost use Rattle.x86_64_dump.specs.Notes.{is_of_virtualbox, notes_of, processors_of, register_of};
+    ghost use Rattle.x86_64_dump.specs.VmCoreInfo.{kernel_in};
 
     /// Opens a dump and reads which parts of the file are memory.
     ///
@@ -144,7 +146,64 @@ impl<S: ByteSource> Dump<S> {
         ensures { S.IsKnown →
             Gives (λ notes. notes.items) result (Ok (processors_of (opened S.bytes self.now))) }
     {
-        read_notes(alloc, &self.source, &self.segments)
+        self.notes(alloc, NoteKind::Qemu)
+    }
+
+    /// Reads the notes of a kind, in order.
+    fn notes(&self, alloc: Global, kind: NoteKind) -> Result<Vec<Note>, DumpError>
+        ensures { S.IsKnown →
+            Gives (λ notes. notes.items) result (Ok (notes_of kind (opened S.bytes self.now))) }
+    {
+        read_notes(alloc, &self.source, &self.segments, kind)
+    }
+
+    /// Finds the root of the kernel by the first of Linux's notes VMCOREINFO, or returns `None` if there is none.
+    ///
+    /// The first 65536 bytes of the note's descriptor are read. Segments of notes count as for [`Dump::processors`].
+    ///
+    /// # Errors
+    ///
+    /// `Fault::VmCoreInfo` if and only if there is such a note, and it doesn't say where the root is. `DumpError::OutOfMemory` if
+    /// memory allocation fails, `DumpError::Read` if the source can't be read.
+    pub fn kernel(&self, alloc: Global) -> Result<Option<Kernel>, DumpError>
+        ensures { S.IsKnown →
+            Gives (λ kernel. kernel) result (kernel_in (opened S.bytes self.now)) }
+    {
+        let notes = self.notes(alloc, NoteKind::VmCoreInfo)?;
+        let Some(note) = notes.first() else {
+            return Ok(None);
+        };
+        let text = read_text(alloc, &self.source, note)?;
+        match Kernel::of(&text) {
+            Ok(kernel) => Ok(Some(kernel)),
+            Err(fault) => Err(DumpError::Fault(Fault::VmCoreInfo(fault))),
+        }
+    }
+
+    /// Returns true if the dump has VirtualBox's notes of processors.
+    ///
+    /// # Errors
+    ///
+    /// `DumpError::OutOfMemory` if memory allocation fails, `DumpError::Read` if the source can't be read.
+    pub fn is_of_virtualbox(&self, alloc: Global) -> Result<bool, DumpError>
+        ensures { S.IsKnown →
+            Gives (λ is. is) result (Ok (is_of_virtualbox (opened S.bytes self.now))) }
+    {
+        let notes = self.notes(alloc, NoteKind::VirtualBox)?;
+        Ok(!notes.is_empty())
+    }
+
+    /// Reads the CR0 of a processor: the eight bytes at 392 of the note's descriptor.
+    ///
+    /// # Errors
+    ///
+    /// `Fault::NoteCut` if and only if the note lacks it, `DumpError::Read` if the source can't be read.
+    pub fn cr0(&self, processor: &Note) -> Result<u64, DumpError>
+        ensures { S.IsKnown →
+            GivesAtOnce (λ value. value) result
+            (register_of (opened S.bytes self.now).file processor.now 392) }
+    {
+        read_register(&self.source, processor, 392)
     }
 
     /// Reads the CR3 of a processor: the eight bytes at 416 of the note's descriptor.

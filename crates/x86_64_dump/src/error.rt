@@ -3,6 +3,7 @@ ghost use Rattle.std.specs.Prelude.{◌≡◌};
 ghost use Rattle.x86_64_dump.specs.declared.error.DumpError.TheVariants as errors;
 
 use crate::formats::UnreadFormat;
+use crate::vmcoreinfo::KernelFault;
 use std::alloc::{AllocError, AllocFailed};
 use std::error::Error;
 use std::fmt::{Display, Formatter, Result as FmtResult, Write};
@@ -111,6 +112,8 @@ pub enum Fault {
         /// The number of bytes that the descriptor needs, all of them within the file.
         needed: u64,
     },
+    /// Linux's note VMCOREINFO doesn't say where the kernel's root is.
+    VmCoreInfo(KernelFault),
 }
 
 /// The reason why a file wasn't read as a dump.
@@ -158,6 +161,7 @@ impl Display for Fault {
                 f,
                 "QEMU's note at byte {offset} has {size} bytes, and the register ends at its byte {needed}, or the file ends before: give the register's value, or another processor"
             ),
+            Fault::VmCoreInfo(fault) => write!(f, "{fault}"),
             _ => self.write_wrong_field(f),
         }
     }

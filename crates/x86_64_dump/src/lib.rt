@@ -15,11 +15,13 @@ mod opening;
 mod segment;
 mod source;
 mod tables;
+mod vmcoreinfo;
 
 pub use dump::Dump;
 pub use error::{DumpError, Fault};
 pub use formats::{Format, UnreadFormat};
-pub use note::Note;
+pub use note::{Note, NoteKind};
 pub use segment::Segment;
 pub use source::{ByteSource, FileSource};
 pub use tables::{DumpTables, NoProgress, Progress, TablesByLevel, read_tables};
+pub use vmcoreinfo::{Kernel, KernelFault, Key};

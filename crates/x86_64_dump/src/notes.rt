@@ -1,13 +1,14 @@
-//! QEMU's notes.
-ghost use Rattle.std.specs.Prelude.{◌≡◌, ◌+◌, ◌*◌, ◌/◌, ◌≤◌, ◌<◌, ◌^◌, ◌++◌, length, cond, Some, None, IsOk, IfOk, OnOk, Ok};
-ghost use Rattle.x86_64_dump.specs.Numbers.{byte_at, u32_at};
+//! Notes of a kind.
+ghost use Rattle.std.specs.Prelude.{◌≡◌, ◌+◌, ◌*◌, ◌/◌, ◌≤◌, ◌<◌, ◌^◌, ◌++◌, length, nat_lt, cond, Some, None, IsOk, IfOk, OnOk, Ok};
+ghost use Rattle.x86_64_dump.specs.Numbers.{u32_at};
 ghost use Rattle.x86_64_dump.specs.Opening.{Gives, GivesAtOnce};
-ghost use Rattle.x86_64_dump.specs.Notes.{padded, is_qemu, note_at, notes_size, is_note_cut, register_of};
-ghost use Rattle.x86_64_dump.specs.private.NotesLeft.{is_whole, if_qemu, qemu_notes, notes_within};
+ghost use Rattle.x86_64_dump.specs.Notes.{padded, kind_at, note_at, notes_size, is_note_cut, register_of};
+ghost use Rattle.x86_64_dump.specs.VmCoreInfo.{text_of};
+ghost use Rattle.x86_64_dump.specs.private.NotesLeft.{is_whole, if_kept, kept_notes, notes_within};
 
 use crate::elf::ends_after;
 use crate::error::{DumpError, Fault};
-use crate::note::Note;
+use crate::note::{Note, NoteKind};
 use crate::numbers::{read_u32, read_u64};
 use crate::segment::Segment;
 use crate::source::ByteSource;
@@ -17,15 +18,22 @@ use std::io;
 /// The number of bytes in a note before its name.
 const HEAD_SIZE: u64 = 12;
 
-/// Reads QEMU's notes in the segments of a file. If the segments overlap so much that they have more bytes of notes than the
+/// The number of bytes in the longest name of the notes that have a kind.
+const LONGEST_NAME: u32 = 11;
+
+/// The greatest number of bytes that are read of a text.
+const TEXT_LIMIT: u64 = 0x1_0000;
+
+/// Reads the notes of a kind in the segments of a file. If the segments overlap so much that they have more bytes of notes than the
 /// file has bytes, the segments beyond that are left out.
 pub fn read_notes<S: ByteSource>(
     alloc: Global,
     source: &S,
     segments: &[Segment],
+    kind: NoteKind,
 ) -> Result<Vec<Note>, DumpError>
     ensures { S.IsKnown → Gives (λ v. v.items) result
-        (Ok (notes_within (length (S.bytes source.now)) (S.bytes source.now) segments.now)) }
+        (Ok (notes_within kind (length (S.bytes source.now)) (S.bytes source.now) segments.now)) }
 {
     let length = source.len();
     let mut room = length;
@@ -35,23 +43,24 @@ pub fn read_notes<S: ByteSource>(
         let Some(rest) = room.checked_sub(size) else {
             return Ok(notes);
         };
-        add_from(source, segment.offset, size, &mut notes)?;
+        add_from(source, segment.offset, size, kind, &mut notes)?;
         room = rest;
     }
     Ok(notes)
 }
 
-/// Adds QEMU's notes in the bytes from an offset on.
+/// Adds the notes of a kind in the bytes from an offset on.
 fn add_from<S: ByteSource>(
     source: &S,
     offset: u64,
     size: u64,
+    kind: NoteKind,
     notes: &mut Vec<Note>,
 ) -> Result<(), DumpError>
     requires { offset + size < 2 ^ 64 }
     ensures { S.IsKnown → (0 < size → offset + size ≤ length (S.bytes source.now)) →
         Gives (λ _. notes.new.items) result
-        (Ok (notes.old.items ++ qemu_notes (size / 12) (S.bytes source.now) offset size)) }
+        (Ok (notes.old.items ++ kept_notes kind (size / 12) (S.bytes source.now) offset size)) }
 {
     let mut at = offset;
     let mut left = size;
@@ -59,7 +68,7 @@ fn add_from<S: ByteSource>(
         let Some(note) = read_note(source, at, left)? else {
             return Ok(());
         };
-        push_qemu(notes, note)?;
+        push_kept(notes, note, kind)?;
         let Some(rest) = left.checked_sub(note.span) else {
             return Ok(());
         };
@@ -69,11 +78,11 @@ fn add_from<S: ByteSource>(
     Ok(())
 }
 
-/// Adds a note if it is QEMU's.
-fn push_qemu(notes: &mut Vec<Note>, note: Note) -> Result<(), AllocError>
-    ensures { OnOk result (notes.new.items ≡ notes.old.items ++ if_qemu note) }
+/// Adds a note if it is of a kind.
+fn push_kept(notes: &mut Vec<Note>, note: Note, kind: NoteKind) -> Result<(), AllocError>
+    ensures { OnOk result (notes.new.items ≡ notes.old.items ++ if_kept kind note) }
 {
-    if note.is_qemu {
+    if note.kind.is(kind) {
         notes.push(note)?;
     }
     Ok(())
@@ -109,7 +118,7 @@ fn read_note<S: ByteSource>(source: &S, at: u64, left: u64) -> io::Result<Option
         return Ok(None);
     }
     Ok(Some(Note {
-        is_qemu: is_qemu(source, at, name_size)?,
+        kind: read_kind(source, at, name_size)?,
         offset: at + HEAD_SIZE + padded(name_size),
         size: u64::from(size),
         span: HEAD_SIZE + padded(name_size) + padded(size),
@@ -123,19 +132,40 @@ fn padded(size: u32) -> u64
     (u64::from(size) + 3) / 4 * 4
 }
 
-/// Returns true if the note at an offset, with a name of this size, is QEMU's.
-fn is_qemu<S: ByteSource>(source: &S, at: u64, name_size: u32) -> io::Result<bool>
-    requires { name_size ≡ 5 → at + 17 < 2 ^ 64 }
+/// Reads the kind of the note at an offset, with a name of this size.
+fn read_kind<S: ByteSource>(source: &S, at: u64, name_size: u32) -> io::Result<NoteKind>
+    requires { at + 12 + name_size < 2 ^ 64 }
     ensures value { S.IsKnown → name_size ≡ u32_at (S.bytes source.now) at →
-        IfOk result (λ is. is ≡ is_qemu (S.bytes source.now) at) }
-    ensures succeeds { S.IsKnown → (name_size ≡ 5 → at + 17 ≤ length (S.bytes source.now)) → IsOk result }
+        IfOk result (λ kind. kind ≡ kind_at (S.bytes source.now) at) }
+    ensures succeeds { S.IsKnown → at + 12 + name_size ≤ length (S.bytes source.now) → IsOk result }
 {
-    if name_size != 5 {
-        return Ok(false);
+    if name_size > LONGEST_NAME {
+        return Ok(NoteKind::Other);
     }
-    let mut name = [0; 5];
-    source.read_exact_at(&mut name, at + HEAD_SIZE)?;
-    Ok(read_u32(&name, 0) == 0x554d_4551 && name[4] == 0)
+    let mut bytes = [0; 11];
+    let name = &mut bytes[..name_size as usize];
+    source.read_exact_at(name, at + HEAD_SIZE)?;
+    Ok(NoteKind::named(name))
+}
+
+/// Reads the text of a note: its descriptor, or the first 65536 bytes of it, as far as the file has them.
+pub fn read_text<S: ByteSource>(
+    alloc: Global,
+    source: &S,
+    note: &Note,
+) -> Result<Vec<u8>, DumpError>
+    ensures { S.IsKnown → Gives (λ v. v.items) result (Ok (text_of (S.bytes source.now) note.now)) }
+{
+    let size = note
+        .size
+        .min(TEXT_LIMIT)
+        .min(source.len().saturating_sub(note.offset));
+    if size == 0 {
+        return Ok(Vec::new(alloc));
+    }
+    let mut text = vec![in alloc; 0; size as usize]?;
+    source.read_exact_at(&mut text, note.offset)?;
+    Ok(text)
 }
 
 /// Returns true if the note, or the file, ends before the register of eight bytes at an offset of its descriptor does.

@@ -1,14 +1,14 @@
 use Rattle.std.proofs.Common.{refl, ◌≡◌, ◌+◌, ◌-◌, ◌/◌, ◌++◌, suc, arith}
-use Rattle.x86_64_dump.specs.private.NotesLeft.{qemu_notes}
-use Rattle.x86_64_dump.proofs.NotesRead.{qemu_notes_end, no_qemu_notes, added_all, added_one}
+use Rattle.x86_64_dump.specs.private.NotesLeft.{kept_notes}
+use Rattle.x86_64_dump.proofs.NotesRead.{kept_notes_end, no_kept_notes, added_all, added_one}
 use Rattle.x86_64_dump.proofs.notes.add_from.Goals as goal
 
 pub returns-in_default : goal.returns-in_default
 returns-in_default g c known readable =
     let file = g.S.ByteSource.bytes c.args.source.now in
     let most = c.args.size / 12 - c.loop.counter in
-    added_all c.loop.notes.items (qemu_notes most file c.loop.at c.loop.left) c.args.notes.now.items (qemu_notes (c.args.size / 12) file c.args.offset c.args.size)
-    (qemu_notes_end most file c.loop.at c.loop.left c.in_ok-note.field-0 c.in_default.is (c.in_ok-note.ensures.value known)) (c.loop.invariant.told known)
+    added_all c.loop.notes.items (kept_notes c.args.kind most file c.loop.at c.loop.left) c.args.notes.now.items (kept_notes c.args.kind (c.args.size / 12) file c.args.offset c.args.size)
+    (kept_notes_end c.args.kind most file c.loop.at c.loop.left c.in_ok-note.field-0 c.in_default.is (c.in_ok-note.ensures.value known)) (c.loop.invariant.told known)
 
 pub returns-in_default-checked_sub : goal.returns-in_default-checked_sub
 returns-in_default-checked_sub g c known readable =
@@ -17,13 +17,13 @@ returns-in_default-checked_sub g c known readable =
     let next = c.args.size / 12 - (c.loop.counter + 1) in
     let note = c.in-Some.note in
     let notes = c.loop.notes.items in
-    let added = c.push_qemu.new.notes.items in
+    let added = c.push_kept.new.notes.items in
     let old = c.args.notes.now.items in
-    let all = qemu_notes (c.args.size / 12) file c.args.offset c.args.size in
+    let all = kept_notes c.args.kind (c.args.size / 12) file c.args.offset c.args.size in
     let more : suc next ≡ most = omega (arith, c.loop-test.true) in
-    let told = added_one most next file c.loop.at c.loop.left (c.loop.left - note.span) c.in_ok-note.field-0 note notes added (old ++ all) more refl c.in-Some.is (c.in_ok-note.ensures.value known) c.in_ok-push_qemu.ensures (c.loop.invariant.told known) in
-    added_all added (qemu_notes next file (c.loop.at + note.span) (c.loop.left - note.span)) old all
-    (no_qemu_notes next file (c.loop.at + note.span) (c.loop.left - note.span) (omega (arith, c.in_default-checked_sub.ensures))) told
+    let told = added_one c.args.kind most next file c.loop.at c.loop.left (c.loop.left - note.span) c.in_ok-note.field-0 note notes added (old ++ all) more refl c.in-Some.is (c.in_ok-note.ensures.value known) c.in_ok-push_kept.ensures (c.loop.invariant.told known) in
+    added_all added (kept_notes c.args.kind next file (c.loop.at + note.span) (c.loop.left - note.span)) old all
+    (no_kept_notes c.args.kind next file (c.loop.at + note.span) (c.loop.left - note.span) (omega (arith, c.in_default-checked_sub.ensures))) told
 
 pub loop-preserved : goal.loop-preserved
 loop-preserved g c = record {
@@ -33,8 +33,8 @@ loop-preserved g c = record {
       let most = c.args.size / 12 - c.loop.counter in
       let next = c.args.size / 12 - (c.loop.counter + 1) in
       let note = c.in-Some.note in
-      let added = c.push_qemu.new.notes.items in
-      let all = c.args.notes.now.items ++ qemu_notes (c.args.size / 12) file c.args.offset c.args.size in
+      let added = c.push_kept.new.notes.items in
+      let all = c.args.notes.now.items ++ kept_notes c.args.kind (c.args.size / 12) file c.args.offset c.args.size in
       let more : suc next ≡ most = omega (arith, c.loop-test.true) in
-      added_one most next file c.loop.at c.loop.left c.in-Some-checked_sub.rest c.in_ok-note.field-0 note c.loop.notes.items added all more c.in-Some-checked_sub.ensures.1 c.in-Some.is (c.in_ok-note.ensures.value known) c.in_ok-push_qemu.ensures (c.loop.invariant.told known);
+      added_one c.args.kind most next file c.loop.at c.loop.left c.in-Some-checked_sub.rest c.in_ok-note.field-0 note c.loop.notes.items added all more c.in-Some-checked_sub.ensures.1 c.in-Some.is (c.in_ok-note.ensures.value known) c.in_ok-push_kept.ensures (c.loop.invariant.told known);
 }

@@ -25,4 +25,4 @@ returns-clause-value g c known =
     let named = name_size_read file _ at _ read c.read_u32-name_size.ensures in
     let sized = size_read file _ at _ read c.read_u32-size.ensures in
     let all = whole file at c.args.left _ _ named sized (omega (arith, c.if-left-padded.false, c.padded.ensures, c.from.ensures)) in
-    note_found file at c.args.left _ _ _ _ _ _ _ all named sized (c.in_ok-is_qemu.ensures.value known named) c.padded-2.ensures c.from-2.ensures c.padded-3.ensures c.padded-4.ensures
+    note_found file at c.args.left _ _ _ _ _ _ _ all named sized (c.in_ok-read_kind.ensures.value known named) c.padded-2.ensures c.from-2.ensures c.padded-3.ensures c.padded-4.ensures

@@ -11,7 +11,7 @@ loop-segment-preserved g c known =
     let file = g.S.ByteSource.bytes c.args.source.now in
     let segments = c.args.segments.now in
     let size = c.notes_size-size.result in
-    within_step file segments c.loop-segment.segment-index c.loop-segment.room size c.in-Some.rest (get_or segments c.loop-segment.segment-index nothing) c.loop-segment.notes.items c.add_from.new.notes.items (notes_within (length file) file segments)
+    within_step c.args.kind file segments c.loop-segment.segment-index c.loop-segment.room size c.in-Some.rest (get_or segments c.loop-segment.segment-index nothing) c.loop-segment.notes.items c.add_from.new.notes.items (notes_within c.args.kind (length file) file segments)
     (drop-cons segments c.loop-segment.segment-index nothing c.loop-segment-test.true)
     (c.notes_size-size.ensures.size ∙ ap (λ n. notes_size n (get_or segments c.loop-segment.segment-index nothing)) (c.len-length.ensures ∙ g.met.S.ByteSource.counted known c.args.source.now))
     c.in-Some.ensures.0
@@ -23,7 +23,7 @@ pub returns-in_default : goal.returns-in_default
 returns-in_default g c known =
     let file = g.S.ByteSource.bytes c.args.source.now in
     let segments = c.args.segments.now in
-    within_stop file segments c.loop-segment.segment-index c.loop-segment.room c.notes_size-size.result (get_or segments c.loop-segment.segment-index nothing) c.loop-segment.notes.items (notes_within (length file) file segments)
+    within_stop c.args.kind file segments c.loop-segment.segment-index c.loop-segment.room c.notes_size-size.result (get_or segments c.loop-segment.segment-index nothing) c.loop-segment.notes.items (notes_within c.args.kind (length file) file segments)
     (drop-cons segments c.loop-segment.segment-index nothing c.loop-segment-test.true)
     (c.notes_size-size.ensures.size ∙ ap (λ n. notes_size n (get_or segments c.loop-segment.segment-index nothing)) (c.len-length.ensures ∙ g.met.S.ByteSource.counted known c.args.source.now))
     (omega (arith, c.in_default.ensures))
@@ -33,5 +33,5 @@ pub returns : goal.returns
 returns g c known =
     let file = g.S.ByteSource.bytes c.args.source.now in
     let segments = c.args.segments.now in
-    within_end file segments c.loop-segment.segment-index c.loop-segment.room c.loop-segment.notes.items (notes_within (length file) file segments)
+    within_end c.args.kind file segments c.loop-segment.segment-index c.loop-segment.room c.loop-segment.notes.items (notes_within c.args.kind (length file) file segments)
     (drop_all c.loop-segment.segment-index segments c.loop-segment-test.false) (c.loop-segment.invariant known)

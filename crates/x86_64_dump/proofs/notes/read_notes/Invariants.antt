@@ -6,4 +6,4 @@ use Rattle.x86_64_dump.proofs.notes.read_notes.Given as goal
 abbrev pub invariant-loop-segment : goal.invariant-loop-segment
 invariant-loop-segment g l =
     let file = g.S.ByteSource.bytes l.source in
-    g.S.ByteSource.IsKnown → l.notes.items ++ notes_within l.room file (drop l.segment-index l.segments) ≡ notes_within (length file) file l.segments
+    g.S.ByteSource.IsKnown → l.notes.items ++ notes_within l.kind l.room file (drop l.segment-index l.segments) ≡ notes_within l.kind (length file) file l.segments

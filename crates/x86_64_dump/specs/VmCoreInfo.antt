@@ -1,0 +1,112 @@
+-- VMCOREINFO: what Linux's note of this name says of its kernel. Its descriptor is text, whose lines are KEY=VALUE.
+-- Linux, "VMCOREINFO" in the documentation of kdump.
+use Rattle.std.specs.Prelude.{ℕ, ◌+◌, ◌-◌, ◌%◌, ◌^◌, ◌==◌, ◌&&◌, Bool, not, codes, if◌then◌else◌, min, List, [], ◌∷◌, drop, length, nat_lt, Option, None, Some, option_map, slice_get, take, Result, Ok, Err}
+use Rattle.std.specs.Char.{is_digit}
+use Rattle.std.specs.List.{find, list_all, slice_split}
+use Rattle.std.specs.Option.{ok_or, option_and_then, option_map_or, unwrap_or}
+use Rattle.std.specs.Str.{bytes_eq}
+use Rattle.std.specs.Str.Parse.{digits_value}
+use Rattle.x86_64_addr.specs.declared.level_count.Levels.{Levels}
+use Rattle.x86_64_addr.specs.declared.level_count.Levels.TheVariants.{Four, Five}
+use Rattle.std.specs.Result.{result_map_both}
+use Rattle.x86_64_dump.specs.Dump.{Contents}
+use Rattle.x86_64_dump.specs.Notes.{notes_of}
+use Rattle.x86_64_dump.specs.Source.{part_of}
+use Rattle.x86_64_dump.specs.declared.error.Fault.{Fault}
+use Rattle.x86_64_dump.specs.declared.error.Fault.TheVariants as faults
+use Rattle.x86_64_dump.specs.declared.note.NoteKind.TheVariants.{VmCoreInfo}
+use Rattle.x86_64_dump.specs.declared.note.Note.{Note}
+use Rattle.x86_64_dump.specs.declared.vmcoreinfo.Key.{Key}
+use Rattle.x86_64_dump.specs.declared.vmcoreinfo.Key.TheVariants.{SwapperPgDir, PhysBase, FiveLevels, SmeMask}
+use Rattle.x86_64_dump.specs.declared.vmcoreinfo.Kernel.{Kernel}
+use Rattle.x86_64_dump.specs.declared.vmcoreinfo.KernelFault.{KernelFault}
+use Rattle.x86_64_dump.specs.declared.vmcoreinfo.Shift.{Shift}
+use Rattle.x86_64_dump.specs.declared.vmcoreinfo.Shift.TheVariants.{Up, Down}
+use Rattle.x86_64_dump.specs.declared.vmcoreinfo.KernelFault.TheVariants.{Missing, NoNumber, NoFrame, Encrypted}
+
+-- the text of a note: the first 65536 bytes of its descriptor
+abbrev pub text_of : (file : List ℕ) → Note → List ℕ
+text_of file note = part_of file note.offset (min note.size 0x1_0000)
+
+abbrev pub all_but_last : List (List ℕ) → List (List ℕ)
+all_but_last [] = []
+all_but_last (part ∷ []) = []
+all_but_last (part ∷ next ∷ parts) = part ∷ all_but_last (next ∷ parts)
+
+-- the lines of a text, each ended by a line feed; what is behind the last line feed is no line
+abbrev pub lines_of : (text : List ℕ) → List (List ℕ)
+lines_of text = all_but_last (slice_split (λ byte. byte == 10) text)
+
+-- the keys, each with `=` behind it
+abbrev pub key_text : Key → List ℕ
+key_text SwapperPgDir = codes "SYMBOL(swapper_pg_dir)="
+key_text PhysBase = codes "NUMBER(phys_base)="
+key_text FiveLevels = codes "NUMBER(pgtable_l5_enabled)="
+key_text SmeMask = codes "NUMBER(sme_mask)="
+
+abbrev pub begins_with : (line prefix : List ℕ) → Bool
+begins_with line prefix = bytes_eq (take (length prefix) line) prefix
+
+-- what is behind a prefix in the first line that begins with it
+unfoldable pub value_of : (text prefix : List ℕ) → Option (List ℕ)
+value_of text prefix = option_map (drop (length prefix)) (find (λ line. begins_with line prefix) (lines_of text))
+
+-- the number that one or more digits of a radix are, if it is below 2^64 and there is nothing else
+unfoldable pub number_of : (radix : ℕ) → (digits : List ℕ) → Option ℕ
+number_of radix digits =
+    if not (length digits == 0) && list_all (λ digit. is_digit digit radix) digits && nat_lt (digits_value radix digits) (2 ^ 64)
+    then Some (digits_value radix digits) else None
+
+-- likewise with a minus in front of it, or without
+unfoldable pub shift_of : (digits : List ℕ) → Option Shift
+shift_of digits = if begins_with digits (codes "-") then option_map Down (number_of 10 (drop 1 digits)) else option_map Up (number_of 10 digits)
+
+abbrev pub and_then : {A B : Type 0} → Result A KernelFault → (A → Result B KernelFault) → Result B KernelFault
+and_then (Ok a) next = next a
+and_then (Err fault) next = Err fault
+
+-- what a key's value says, if a line has the key
+abbrev pub parsed : {A : Type 0} → (parse : List ℕ → Option A) → Key → (value : Option (List ℕ)) → Result (Option A) KernelFault
+parsed parse key None = Ok None
+parsed parse key (Some value) = option_map_or (λ a. Ok (Some a)) (parse value) (Err (NoNumber key))
+
+abbrev pub number_in : (text : List ℕ) → (radix : ℕ) → Key → Result (Option ℕ) KernelFault
+number_in text radix key = parsed (number_of radix) key (value_of text (key_text key))
+
+abbrev pub shift_in : (text : List ℕ) → Key → Result (Option Shift) KernelFault
+shift_in text key = parsed shift_of key (value_of text (key_text key))
+
+-- an address moved by a number, unless that is negative
+abbrev pub moved : (address : ℕ) → Shift → Option ℕ
+moved address (Up n) = Some (address + n)
+moved address (Down n) = if nat_lt address n then None else Some (address - n)
+
+-- the address of a frame
+abbrev pub frame_at : (address : ℕ) → Option ℕ
+frame_at address = if nat_lt address (2 ^ 52) && address % 4096 == 0 then Some address else None
+
+-- where a symbol of the kernel is in physical memory: its address - 0xffffffff80000000 + phys_base, if that is a frame's
+unfoldable pub physical : (symbol : ℕ) → Shift → Option ℕ
+physical symbol shift = if nat_lt symbol 0xffff_ffff_8000_0000 then None else option_and_then frame_at (moved (symbol - 0xffff_ffff_8000_0000) shift)
+
+abbrev pub levels_by : (five : ℕ) → Levels
+levels_by five = if five == 1 then Five else Four
+
+-- the root of the kernel, or why there is none. Memory that is encrypted can't be read
+unfoldable pub kernel_of : (text : List ℕ) → Result Kernel KernelFault
+kernel_of text = and_then (number_in text 16 SwapperPgDir) (λ symbol.
+    and_then (ok_or symbol (Missing SwapperPgDir)) (λ symbol.
+    and_then (shift_in text PhysBase) (λ shift.
+    and_then (ok_or shift (Missing PhysBase)) (λ shift.
+    and_then (number_in text 10 FiveLevels) (λ five.
+    and_then (number_in text 10 SmeMask) (λ mask.
+    if not (unwrap_or mask 0 == 0) then Err Encrypted else
+    and_then (ok_or (physical symbol shift) NoFrame) (λ root. Ok (record { root = root; levels = levels_by (unwrap_or five 0) }))))))))
+
+abbrev pub kernel_by : (file : List ℕ) → (note : Option Note) → Result (Option Kernel) Fault
+kernel_by file None = Ok None
+kernel_by file (Some note) = result_map_both Some faults.VmCoreInfo (kernel_of (text_of file note))
+
+-- the root of the kernel by the first of the notes VMCOREINFO, if there is one
+abbrev pub kernel_in : Contents → Result (Option Kernel) Fault
+kernel_in dump = kernel_by dump.file (slice_get (notes_of VmCoreInfo dump) 0)
