@@ -90,7 +90,8 @@
  * TABLES THAT A PROCESSOR USES
  *
  * The library executes no privileged instruction. Each processor that uses the root must flush what
- * it may have cached, before what a call let go is used again:
+ * it may have cached, before what a call let go is used again. x64_flush_after tells it by this
+ * table:
  *
  *   x64_unmap, x64_update_flags  the page (INVLPG of its first address), if the status is X64_OK
  *   x64_unmap_range, x64_update_flags_range
@@ -108,8 +109,9 @@
  * Below shared entries of address spaces, these are all processors that use one of the roots.
  *
  * A load of CR3 drops no page with X64_GLOBAL. PCIDs are left out: INVLPG and a load of CR3 concern
- * the current one. It is proved of the model (FlushesAreEnough) that these flushes suffice for a
- * processor that caches, and marks entries, at any moment.
+ * the current one. It is proved of the model (flushes_after_calls_are_enough) that these flushes
+ * suffice for a processor that caches, and (flushes_are_enough_with_marks) marks entries, at any
+ * moment.
  *
  * A call assumes that nothing else writes to the tables while it runs. A processor sets ACCESSED
  * and DIRTY in entries that it uses, and such a bit may be lost if it is set while a call writes
@@ -157,8 +159,8 @@ extern "C" {
 /*
  * STATUSES
  *
- * Every function returns one of these. It writes its out parameters only if it returns X64_OK,
- * unless its description says otherwise.
+ * Every function but x64_flush_after returns one of these. It writes its out parameters only if it
+ * returns X64_OK, unless its description says otherwise.
  *
  * X64_BAD_LEVELS and the statuses after it say that an argument is wrong; nothing has changed.
  * Arguments are checked before anything else: first the levels and the root of the hierarchy, then
@@ -177,17 +179,34 @@ enum {
     X64_PAGE_NOT_MAPPED = 8,         /* the page, or the entry, isn't there */
     X64_INVALID_FRAME_ADDRESS = 9,   /* the entry's address isn't a multiple of the page's size */
     X64_PAGE_FAULT = 10,             /* the access ends in a page fault */
-    X64_NO_TABLE = 11,               /* the access needs a table that isn't in the array */
+    X64_NO_TABLE = 11,               /* the access, or the walk, needs a table not in the array */
     X64_SPACE_IN_USE = 12,           /* an entry of the root that isn't shared isn't 0 */
 
     X64_BAD_LEVELS = 16,  /* the number of levels isn't 4 or 5, or there is no such level */
     X64_BAD_ROOT = 17,    /* the root isn't the address of a frame in the array of tables */
-    X64_BAD_ARRAY = 18,   /* the pool has no room for its free frames, or marks are too few */
+    X64_BAD_ARRAY = 18,   /* the pool has no room for its free frames, or an array is too short */
     X64_BAD_ADDRESS = 19, /* an address isn't canonical */
     X64_BAD_PAGE = 20,    /* the size isn't one of the three, or the start no canonical multiple */
     X64_BAD_FRAME = 21,   /* the frame isn't a multiple of the page's size below 2^52 */
     X64_BAD_ACCESS = 22,  /* the kind isn't one of the three, or physical_bits isn't 32 to 52 */
     X64_BAD_INDICES = 23  /* shared_from > shared_to, or shared_to > 512 */
+};
+
+/* What has to be flushed after a call. Each flush drops what those before it drop. */
+enum {
+    X64_FLUSH_NOTHING = 0,   /* nothing */
+    X64_FLUSH_TABLES = 1,    /* cached tables: any INVLPG or a load of CR3, before the next map */
+    X64_FLUSH_PAGE = 2,      /* the page, or each one of a range: INVLPG of an address in it */
+    X64_FLUSH_EVERYTHING = 3 /* everything, global pages too */
+};
+
+/* The calls after which something may have to be flushed. */
+enum {
+    X64_CALL_MAP = 0,             /* x64_map, x64_map_range */
+    X64_CALL_UNMAP = 1,           /* x64_unmap, x64_unmap_range */
+    X64_CALL_UPDATE_FLAGS = 2,    /* x64_update_flags, x64_update_flags_range */
+    X64_CALL_SET_TABLE_FLAGS = 3, /* x64_set_table_flags */
+    X64_CALL_CLEAN_UP = 4         /* x64_clean_up */
 };
 
 /*
@@ -212,6 +231,9 @@ enum {
 #define X64_SIZE_2MIB UINT64_C(0x200000)
 #define X64_SIZE_1GIB UINT64_C(0x40000000)
 
+/* The most levels of tables, and so the most entries that a walk reads. */
+#define X64_MOST_LEVELS 5
+
 /* The kinds of accesses. */
 #define X64_READ 0
 #define X64_WRITE 1
@@ -235,6 +257,22 @@ typedef struct x64_walked {
     bool write;       /* all entries on the way have X64_WRITABLE */
     bool user;        /* all entries on the way have X64_USER_ACCESSIBLE */
 } x64_walked;
+
+/* Where the processor arrives, and with all rights. */
+typedef struct x64_walk_result {
+    uint64_t address; /* the physical address */
+    bool write;       /* all entries on the way have X64_WRITABLE */
+    bool user;        /* all entries on the way have X64_USER_ACCESSIBLE */
+    bool execute;     /* no entry on the way has X64_NO_EXECUTE */
+} x64_walk_result;
+
+/* An entry that a walk reads. */
+typedef struct x64_entry {
+    uint64_t level; /* the level of its table */
+    uint64_t table; /* the physical address of its table */
+    uint64_t index; /* its index in the table: 0 to 511 */
+    uint64_t word;  /* its address and flags */
+} x64_entry;
 
 /* What an address is mapped to. */
 typedef struct x64_translation {
@@ -312,6 +350,40 @@ typedef struct x64_outcome {
 X64_NODISCARD
 uint32_t x64_page_walk(const x64_hierarchy *hierarchy, const x64_table *tables, size_t table_count,
                        uint64_t address, x64_walked *walked);
+
+/*
+ * Does what x64_page_walk does, and also tells whether no entry on the way has X64_NO_EXECUTE. If
+ * EFER.NXE is off, that bit is reserved, and the processor faults instead: x64_access does what a
+ * processor does by its settings.
+ *
+ * Condition: pointers only. The tables may hold anything.
+ *
+ * Returns X64_OK; X64_NOT_MAPPED if the walk arrives nowhere; X64_BAD_ADDRESS.
+ */
+X64_NODISCARD
+uint32_t x64_walk(const x64_hierarchy *hierarchy, const x64_table *tables, size_t table_count,
+                  uint64_t address, x64_walk_result *walked);
+
+/*
+ * Writes the entries that the walk to an address reads to `entries`, from the root's on, one for
+ * each level down to the last one that it reads, and their number to *count. The array has room for
+ * `capacity` entries, at least as many as there are levels: X64_MOST_LEVELS are always enough. It
+ * keeps what it held behind the entries that are written.
+ *
+ * Condition: pointers only. The tables may hold anything.
+ *
+ * Returns why the walk ends, as one of these; all of them write `entries` and *count:
+ *   X64_OK                       the last entry maps a page, at which the walk arrives
+ *   X64_NOT_MAPPED               the last entry lacks X64_PRESENT; the walk doesn't look at its
+ *                                other bits
+ *   X64_PARENT_ENTRY_HUGE_PAGE   the last entry has X64_HUGE_PAGE above level 3, where it maps no
+ *                                page
+ *   X64_NO_TABLE                 the table that the last entry names isn't in the array
+ * or X64_BAD_ARRAY if there is room for fewer entries than levels; X64_BAD_ADDRESS.
+ */
+X64_NODISCARD
+uint32_t x64_entries(const x64_hierarchy *hierarchy, const x64_table *tables, size_t table_count,
+                     uint64_t address, x64_entry *entries, size_t capacity, size_t *count);
 
 /*
  * Looks up the entry of the page that contains an address, and writes to *translation what the
@@ -599,6 +671,24 @@ uint32_t x64_clean_up(const x64_hierarchy *hierarchy, x64_table *tables, size_t 
                       uint64_t last_page);
 
 /*
+ * Returns what has to be flushed after a call that returned this status: one of the X64_FLUSH_
+ * numbers, by the table under TABLES THAT A PROCESSOR USES. `call` is one of the X64_CALL_ numbers.
+ * `parent_flags` are those of a map, and mean nothing for other calls. For a number that is no call
+ * it returns X64_FLUSH_EVERYTHING, unless the status is X64_NOT_ALLOWED or an X64_BAD_ status.
+ *
+ * It is proved that this is the least flush that settles all that the model makes due after a call
+ * (flush_after in crates/x86_64_model/specs/Flushing.antt), and of the model that such flushes are
+ * enough (flushes_after_calls_are_enough). For a range it settles what is due after each page.
+ *
+ * A caller who knows more may flush less. Nothing has to be flushed after a map if x64_entries
+ * reads the same entries above the page before the call and after it; nor after x64_update_flags if
+ * the entry isn't 0, has each of X64_PRESENT, X64_WRITABLE and X64_USER_ACCESSIBLE that it had, and
+ * hasn't got X64_NO_EXECUTE.
+ */
+X64_NODISCARD
+uint32_t x64_flush_after(uint32_t call, uint64_t parent_flags, uint32_t status);
+
+/*
  * Makes one more address space. The last free frame of the pool becomes its root: it gets the
  * template's entries from shared_from up to, but not including, shared_to, and all its other words
  * become 0. Its physical address is written to *root, and *free_count decreases by one. If the
@@ -743,6 +833,23 @@ static inline uint32_t x64_space_page_walk(const x64_space *space, uint64_t addr
                                            x64_walked *walked) {
     x64_hierarchy hierarchy = x64_space_hierarchy(space);
     return x64_page_walk(&hierarchy, space->tables, space->table_count, address, walked);
+}
+
+/* x64_walk */
+X64_NODISCARD
+static inline uint32_t x64_space_walk(const x64_space *space, uint64_t address,
+                                      x64_walk_result *walked) {
+    x64_hierarchy hierarchy = x64_space_hierarchy(space);
+    return x64_walk(&hierarchy, space->tables, space->table_count, address, walked);
+}
+
+/* x64_entries */
+X64_NODISCARD
+static inline uint32_t x64_space_entries(const x64_space *space, uint64_t address,
+                                         x64_entry *entries, size_t capacity, size_t *count) {
+    x64_hierarchy hierarchy = x64_space_hierarchy(space);
+    return x64_entries(&hierarchy, space->tables, space->table_count, address, entries, capacity,
+                       count);
 }
 
 /* x64_translate */

@@ -19,6 +19,8 @@ struct memory {
     uint64_t pool[TABLES];
     bool marks[TABLES];
     x64_walked walked;
+    x64_walk_result arrival;
+    x64_entry entries[X64_MOST_LEVELS];
     x64_translation translation;
     x64_mapping mappings[LISTED];
     x64_outcome outcome;
@@ -101,6 +103,9 @@ static void try_reads(void) {
     access.kind = X64_WRITE;
     access.mark = true;
     SAME(X64_OK, x64_space_page_walk(&space, 0x1234, &a.walked), x64_page_walk(&hierarchy, TABLES_OF(b), 0x1234, &b.walked));
+    SAME(X64_OK, x64_space_walk(&space, 0x1234, &a.arrival), x64_walk(&hierarchy, TABLES_OF(b), 0x1234, &b.arrival));
+    SAME(X64_NOT_MAPPED, x64_space_entries(&space, 0x2000, a.entries, X64_MOST_LEVELS, &a.count),
+         x64_entries(&hierarchy, TABLES_OF(b), 0x2000, b.entries, X64_MOST_LEVELS, &b.count));
     SAME(X64_OK, x64_space_translate(&space, 0x1234, &a.translation), x64_translate(&hierarchy, TABLES_OF(b), 0x1234, &b.translation));
     SAME(X64_MORE, x64_space_mappings(&space, 0, a.mappings, LISTED, &a.count, &a.word),
          x64_mappings(&hierarchy, TABLES_OF(b), 0, b.mappings, LISTED, &b.count, &b.word));

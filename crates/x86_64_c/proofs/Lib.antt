@@ -12,3 +12,6 @@ pub mod RangeArguments
 pub mod RangeKeeps
 pub mod RangesSeen
 pub mod FrameArrays
+pub mod StepsRead
+pub mod FlushCalls
+pub mod WalkBySteps
