@@ -54,8 +54,11 @@
  * the tables of all. x64_pool_fits looks at one hierarchy and can't see the others. Room for as
  * many frames as there are tables in the array is always enough.
  *
- * Between two calls the caller may put a frame on top of the pool's stack, if it is in the array of
- * tables, not 0, neither free nor in use as a table, and if there is room; or take the top ones.
+ * Between two calls the caller may add a frame to the pool: write its address to pool[free_count],
+ * and add one to free_count. It must be in the array of tables, not 0, neither free nor a root nor
+ * in use as a table, and the array must have room for it beside the free frames and all tables
+ * below the roots. Or the caller may take free frames for itself, the top ones first, by lowering
+ * free_count.
  *
  * Conditions 2 and 3 hold again after every call, whatever its status. If only these calls change
  * the tables and the pool, it is enough to test them once. Each call checks its other arguments
@@ -87,14 +90,16 @@
  * TABLES THAT A PROCESSOR USES
  *
  * The library executes no privileged instruction. Each processor that uses the root must flush what
- * it may have cached, before what a call let go is used again:
+ * it may have cached, before what a call let go is used again. x64_flush_after tells it by this
+ * table:
  *
  *   x64_unmap, x64_update_flags  the page (INVLPG of its first address), if the status is X64_OK
  *   x64_unmap_range, x64_update_flags_range
  *                                each page that was looked at, or everything, global pages too, if
  *                                the status is X64_OK or X64_MORE
  *   x64_set_table_flags          everything, global pages too, if the status is X64_OK
- *   x64_clean_up                 tables (any INVLPG, or a load of CR3), before the next map
+ *   x64_clean_up                 tables (any INVLPG, or a load of CR3), before the next map, if the
+ *                                status is X64_OK. If EFER.TCE is set (AMD), INVLPG isn't enough
  *   x64_map, x64_map_range       nothing; but everything, global pages too, if the parent flags
  *                                have X64_NO_EXECUTE, also if the call was refused, but not by
  *                                X64_NOT_ALLOWED or an X64_BAD_ status
@@ -104,8 +109,9 @@
  * Below shared entries of address spaces, these are all processors that use one of the roots.
  *
  * A load of CR3 drops no page with X64_GLOBAL. PCIDs are left out: INVLPG and a load of CR3 concern
- * the current one. It is proved of the model (FlushesAreEnough) that these flushes suffice for a
- * processor that caches, and marks entries, at any moment.
+ * the current one. It is proved of the model (flushes_after_calls_are_enough) that these flushes
+ * suffice for a processor that caches, and (flushes_are_enough_with_marks) marks entries, at any
+ * moment.
  *
  * A call assumes that nothing else writes to the tables while it runs. A processor sets ACCESSED
  * and DIRTY in entries that it uses, and such a bit may be lost if it is set while a call writes
@@ -120,7 +126,7 @@
  * This file: the prover does not read it. tools/c_library compares the functions declared below
  * with the symbols that the library exports and with the parameters in its source. It also compares
  * the order, types and offsets of the fields of each struct, and the numbers of the statuses, with
- * those in the source.
+ * those in the source. The inline functions at the end of this file are tested.
  */
 #ifndef X86_64_PAGING_H
 #define X86_64_PAGING_H
@@ -129,6 +135,23 @@
 #include <stddef.h>
 #include <stdint.h>
 
+/* The version, 1.0.0: 10000 times its first number, 100 times the second one, and the third one. */
+#define X64_VERSION 10000
+
+/* Lets the compiler warn of a call whose status is ignored. Whoever defines it, as nothing for
+ * example, before this file is included has it so. */
+#ifndef X64_NODISCARD
+#if defined(__cplusplus) && __cplusplus >= 201703L
+#define X64_NODISCARD [[nodiscard]]
+#elif defined(__STDC_VERSION__) && __STDC_VERSION__ >= 202311L
+#define X64_NODISCARD [[nodiscard]]
+#elif defined(__GNUC__)
+#define X64_NODISCARD __attribute__((warn_unused_result))
+#else
+#define X64_NODISCARD
+#endif
+#endif
+
 #ifdef __cplusplus
 extern "C" {
 #endif
@@ -136,8 +159,8 @@ extern "C" {
 /*
  * STATUSES
  *
- * Every function returns one of these. It writes its out parameters only if it returns X64_OK,
- * unless its description says otherwise.
+ * Every function but x64_flush_after returns one of these. It writes its out parameters only if it
+ * returns X64_OK, unless its description says otherwise.
  *
  * X64_BAD_LEVELS and the statuses after it say that an argument is wrong; nothing has changed.
  * Arguments are checked before anything else: first the levels and the root of the hierarchy, then
@@ -156,17 +179,34 @@ enum {
     X64_PAGE_NOT_MAPPED = 8,         /* the page, or the entry, isn't there */
     X64_INVALID_FRAME_ADDRESS = 9,   /* the entry's address isn't a multiple of the page's size */
     X64_PAGE_FAULT = 10,             /* the access ends in a page fault */
-    X64_NO_TABLE = 11,               /* the access needs a table that isn't in the array */
+    X64_NO_TABLE = 11,               /* the access, or the walk, needs a table not in the array */
     X64_SPACE_IN_USE = 12,           /* an entry of the root that isn't shared isn't 0 */
 
     X64_BAD_LEVELS = 16,  /* the number of levels isn't 4 or 5, or there is no such level */
     X64_BAD_ROOT = 17,    /* the root isn't the address of a frame in the array of tables */
-    X64_BAD_ARRAY = 18,   /* the pool has no room for its free frames, or marks are too few */
+    X64_BAD_ARRAY = 18,   /* the pool has no room for its free frames, or an array is too short */
     X64_BAD_ADDRESS = 19, /* an address isn't canonical */
     X64_BAD_PAGE = 20,    /* the size isn't one of the three, or the start no canonical multiple */
     X64_BAD_FRAME = 21,   /* the frame isn't a multiple of the page's size below 2^52 */
     X64_BAD_ACCESS = 22,  /* the kind isn't one of the three, or physical_bits isn't 32 to 52 */
     X64_BAD_INDICES = 23  /* shared_from > shared_to, or shared_to > 512 */
+};
+
+/* What has to be flushed after a call. Each flush drops what those before it drop. */
+enum {
+    X64_FLUSH_NOTHING = 0,   /* nothing */
+    X64_FLUSH_TABLES = 1,    /* cached tables: any INVLPG or a load of CR3, before the next map */
+    X64_FLUSH_PAGE = 2,      /* the page, or each one of a range: INVLPG of an address in it */
+    X64_FLUSH_EVERYTHING = 3 /* everything, global pages too */
+};
+
+/* The calls after which something may have to be flushed. */
+enum {
+    X64_CALL_MAP = 0,             /* x64_map, x64_map_range */
+    X64_CALL_UNMAP = 1,           /* x64_unmap, x64_unmap_range */
+    X64_CALL_UPDATE_FLAGS = 2,    /* x64_update_flags, x64_update_flags_range */
+    X64_CALL_SET_TABLE_FLAGS = 3, /* x64_set_table_flags */
+    X64_CALL_CLEAN_UP = 4         /* x64_clean_up */
 };
 
 /*
@@ -191,6 +231,9 @@ enum {
 #define X64_SIZE_2MIB UINT64_C(0x200000)
 #define X64_SIZE_1GIB UINT64_C(0x40000000)
 
+/* The most levels of tables, and so the most entries that a walk reads. */
+#define X64_MOST_LEVELS 5
+
 /* The kinds of accesses. */
 #define X64_READ 0
 #define X64_WRITE 1
@@ -214,6 +257,22 @@ typedef struct x64_walked {
     bool write;       /* all entries on the way have X64_WRITABLE */
     bool user;        /* all entries on the way have X64_USER_ACCESSIBLE */
 } x64_walked;
+
+/* Where the processor arrives, and with all rights. */
+typedef struct x64_walk_result {
+    uint64_t address; /* the physical address */
+    bool write;       /* all entries on the way have X64_WRITABLE */
+    bool user;        /* all entries on the way have X64_USER_ACCESSIBLE */
+    bool execute;     /* no entry on the way has X64_NO_EXECUTE */
+} x64_walk_result;
+
+/* An entry that a walk reads. */
+typedef struct x64_entry {
+    uint64_t level; /* the level of its table */
+    uint64_t table; /* the physical address of its table */
+    uint64_t index; /* its index in the table: 0 to 511 */
+    uint64_t word;  /* its address and flags */
+} x64_entry;
 
 /* What an address is mapped to. */
 typedef struct x64_translation {
@@ -288,8 +347,43 @@ typedef struct x64_outcome {
  *
  * Returns X64_OK; X64_NOT_MAPPED if the walk arrives nowhere; X64_BAD_ADDRESS.
  */
+X64_NODISCARD
 uint32_t x64_page_walk(const x64_hierarchy *hierarchy, const x64_table *tables, size_t table_count,
                        uint64_t address, x64_walked *walked);
+
+/*
+ * Does what x64_page_walk does, and also tells whether no entry on the way has X64_NO_EXECUTE. If
+ * EFER.NXE is off, that bit is reserved, and the processor faults instead: x64_access does what a
+ * processor does by its settings.
+ *
+ * Condition: pointers only. The tables may hold anything.
+ *
+ * Returns X64_OK; X64_NOT_MAPPED if the walk arrives nowhere; X64_BAD_ADDRESS.
+ */
+X64_NODISCARD
+uint32_t x64_walk(const x64_hierarchy *hierarchy, const x64_table *tables, size_t table_count,
+                  uint64_t address, x64_walk_result *walked);
+
+/*
+ * Writes the entries that the walk to an address reads to `entries`, from the root's on, one for
+ * each level down to the last one that it reads, and their number to *count. The array has room for
+ * `capacity` entries, at least as many as there are levels: X64_MOST_LEVELS are always enough. It
+ * keeps what it held behind the entries that are written.
+ *
+ * Condition: pointers only. The tables may hold anything.
+ *
+ * Returns why the walk ends, as one of these; all of them write `entries` and *count:
+ *   X64_OK                       the last entry maps a page, at which the walk arrives
+ *   X64_NOT_MAPPED               the last entry lacks X64_PRESENT; the walk doesn't look at its
+ *                                other bits
+ *   X64_PARENT_ENTRY_HUGE_PAGE   the last entry has X64_HUGE_PAGE above level 3, where it maps no
+ *                                page
+ *   X64_NO_TABLE                 the table that the last entry names isn't in the array
+ * or X64_BAD_ARRAY if there is room for fewer entries than levels; X64_BAD_ADDRESS.
+ */
+X64_NODISCARD
+uint32_t x64_entries(const x64_hierarchy *hierarchy, const x64_table *tables, size_t table_count,
+                     uint64_t address, x64_entry *entries, size_t capacity, size_t *count);
 
 /*
  * Looks up the entry of the page that contains an address, and writes to *translation what the
@@ -301,6 +395,7 @@ uint32_t x64_page_walk(const x64_hierarchy *hierarchy, const x64_table *tables, 
  *
  * Returns X64_OK; X64_NOT_MAPPED if there is no such entry; X64_BAD_ADDRESS.
  */
+X64_NODISCARD
 uint32_t x64_translate(const x64_hierarchy *hierarchy, const x64_table *tables, size_t table_count,
                        uint64_t address, x64_translation *translation);
 
@@ -317,6 +412,7 @@ uint32_t x64_translate(const x64_hierarchy *hierarchy, const x64_table *tables, 
  *
  * Returns X64_OK; X64_MORE; X64_BAD_ADDRESS.
  */
+X64_NODISCARD
 uint32_t x64_mappings(const x64_hierarchy *hierarchy, const x64_table *tables, size_t table_count,
                       uint64_t from, x64_mapping *mappings, size_t capacity, size_t *count,
                       uint64_t *next);
@@ -329,6 +425,7 @@ uint32_t x64_mappings(const x64_hierarchy *hierarchy, const x64_table *tables, s
  *
  * Returns X64_OK if it is valid; X64_NOT_VALID; X64_BAD_ARRAY if there are too few marks.
  */
+X64_NODISCARD
 uint32_t x64_is_valid(const x64_hierarchy *hierarchy, const x64_table *tables, size_t table_count,
                       bool *marks, size_t mark_count);
 
@@ -342,6 +439,7 @@ uint32_t x64_is_valid(const x64_hierarchy *hierarchy, const x64_table *tables, s
  * Returns X64_OK if the pool fits; X64_NOT_VALID, also if the pool's array is too short for the
  * frames that may come back; X64_BAD_ARRAY if free_count > capacity or there are too few marks.
  */
+X64_NODISCARD
 uint32_t x64_pool_fits(const x64_hierarchy *hierarchy, const x64_table *tables, size_t table_count,
                        const uint64_t *pool, size_t capacity, size_t free_count, bool *marks,
                        size_t mark_count);
@@ -363,6 +461,7 @@ uint32_t x64_pool_fits(const x64_hierarchy *hierarchy, const x64_table *tables, 
  * isn't the address of a frame in the array of tables; X64_BAD_LEVELS; X64_BAD_ARRAY if
  * free_count > capacity or there are too few marks; X64_BAD_INDICES.
  */
+X64_NODISCARD
 uint32_t x64_spaces_fit(uint64_t first, uint64_t levels, const x64_table *tables,
                         size_t table_count, const uint64_t *roots, size_t root_count,
                         uint64_t shared_from, uint64_t shared_to, const uint64_t *pool,
@@ -401,6 +500,7 @@ uint32_t x64_spaces_fit(uint64_t first, uint64_t levels, const x64_table *tables
  *                    checked before the address
  *   X64_BAD_ADDRESS
  */
+X64_NODISCARD
 uint32_t x64_access(const x64_hierarchy *hierarchy, x64_table *tables, size_t table_count,
                     const x64_controls *controls, const x64_access_request *request,
                     x64_outcome *outcome);
@@ -429,6 +529,7 @@ uint32_t x64_access(const x64_hierarchy *hierarchy, x64_table *tables, size_t ta
  * parent flags, too, so that page may have more rights than before. New tables are part of the
  * hierarchy, and x64_clean_up frees them if they are empty.
  */
+X64_NODISCARD
 uint32_t x64_map(const x64_hierarchy *hierarchy, x64_table *tables, size_t table_count,
                  uint64_t *pool, size_t capacity, size_t *free_count,
                  const x64_map_request *request);
@@ -452,6 +553,7 @@ uint32_t x64_map(const x64_hierarchy *hierarchy, x64_table *tables, size_t table
  *                                which they start
  *   X64_BAD_FRAME                also if the last frame doesn't end at 2^52 or below
  */
+X64_NODISCARD
 uint32_t x64_map_range(const x64_hierarchy *hierarchy, x64_table *tables, size_t table_count,
                        uint64_t *pool, size_t capacity, size_t *free_count,
                        const x64_map_request *request, uint64_t count, uint64_t *done);
@@ -470,6 +572,7 @@ uint32_t x64_map_range(const x64_hierarchy *hierarchy, x64_table *tables, size_t
  *                                multiple of the size. That address is written to *frame
  *   X64_BAD_PAGE
  */
+X64_NODISCARD
 uint32_t x64_unmap(const x64_hierarchy *hierarchy, x64_table *tables, size_t table_count,
                    const x64_page *page, uint64_t *frame);
 
@@ -489,6 +592,7 @@ uint32_t x64_unmap(const x64_hierarchy *hierarchy, x64_table *tables, size_t tab
  * Returns X64_OK if *done is count; X64_MORE if it is less; X64_BAD_PAGE, also if the pages don't
  * end in the half of the address space in which they start.
  */
+X64_NODISCARD
 uint32_t x64_unmap_range(const x64_hierarchy *hierarchy, x64_table *tables, size_t table_count,
                          const x64_page *first, uint64_t count, uint64_t *frames, size_t capacity,
                          size_t *frame_count, uint64_t *done);
@@ -506,6 +610,7 @@ uint32_t x64_unmap_range(const x64_hierarchy *hierarchy, x64_table *tables, size
  *   X64_PARENT_ENTRY_HUGE_PAGE   if an entry above the page has X64_HUGE_PAGE
  *   X64_BAD_PAGE
  */
+X64_NODISCARD
 uint32_t x64_update_flags(const x64_hierarchy *hierarchy, x64_table *tables, size_t table_count,
                           const x64_page *page, uint64_t flags);
 
@@ -522,6 +627,7 @@ uint32_t x64_update_flags(const x64_hierarchy *hierarchy, x64_table *tables, siz
  *   X64_BAD_PAGE                 also if the pages don't end in the half of the address space in
  *                                which they start
  */
+X64_NODISCARD
 uint32_t x64_update_flags_range(const x64_hierarchy *hierarchy, x64_table *tables,
                                 size_t table_count, const x64_page *first, uint64_t count,
                                 uint64_t flags, uint64_t *changed);
@@ -543,6 +649,7 @@ uint32_t x64_update_flags_range(const x64_hierarchy *hierarchy, x64_table *table
  *   X64_BAD_LEVELS               also if there is no such level
  *   X64_BAD_PAGE
  */
+X64_NODISCARD
 uint32_t x64_set_table_flags(const x64_hierarchy *hierarchy, x64_table *tables, size_t table_count,
                              const x64_page *page, uint64_t level, uint64_t flags);
 
@@ -558,9 +665,28 @@ uint32_t x64_set_table_flags(const x64_hierarchy *hierarchy, x64_table *tables, 
  *
  * Returns X64_OK; X64_BAD_ARRAY if *free_count > capacity; X64_BAD_PAGE for either page.
  */
+X64_NODISCARD
 uint32_t x64_clean_up(const x64_hierarchy *hierarchy, x64_table *tables, size_t table_count,
                       uint64_t *pool, size_t capacity, size_t *free_count, uint64_t first_page,
                       uint64_t last_page);
+
+/*
+ * Returns what has to be flushed after a call that returned this status: one of the X64_FLUSH_
+ * numbers, by the table under TABLES THAT A PROCESSOR USES. `call` is one of the X64_CALL_ numbers.
+ * `parent_flags` are those of a map, and mean nothing for other calls. For a number that is no call
+ * it returns X64_FLUSH_EVERYTHING, unless the status is X64_NOT_ALLOWED or an X64_BAD_ status.
+ *
+ * It is proved that this is the least flush that settles all that the model makes due after a call
+ * (flush_after in crates/x86_64_model/specs/Flushing.antt), and of the model that such flushes are
+ * enough (flushes_after_calls_are_enough). For a range it settles what is due after each page.
+ *
+ * A caller who knows more may flush less. Nothing has to be flushed after a map if x64_entries
+ * reads the same entries above the page before the call and after it; nor after x64_update_flags if
+ * the entry isn't 0, has each of X64_PRESENT, X64_WRITABLE and X64_USER_ACCESSIBLE that it had, and
+ * hasn't got X64_NO_EXECUTE.
+ */
+X64_NODISCARD
+uint32_t x64_flush_after(uint32_t call, uint64_t parent_flags, uint32_t status);
 
 /*
  * Makes one more address space. The last free frame of the pool becomes its root: it gets the
@@ -575,6 +701,7 @@ uint32_t x64_clean_up(const x64_hierarchy *hierarchy, x64_table *tables, size_t 
  *   X64_BAD_ARRAY                if *free_count > capacity
  *   X64_BAD_INDICES
  */
+X64_NODISCARD
 uint32_t x64_new_space(const x64_hierarchy *template_space, x64_table *tables, size_t table_count,
                        uint64_t *pool, size_t capacity, size_t *free_count, uint64_t shared_from,
                        uint64_t shared_to, uint64_t *root);
@@ -597,9 +724,271 @@ uint32_t x64_new_space(const x64_hierarchy *template_space, x64_table *tables, s
  *   X64_BAD_ARRAY                if *free_count > capacity
  *   X64_BAD_INDICES
  */
+X64_NODISCARD
 uint32_t x64_give_up_space(const x64_hierarchy *hierarchy, x64_table *tables, size_t table_count,
                            uint64_t *pool, size_t capacity, size_t *free_count,
                            uint64_t shared_from, uint64_t shared_to);
+
+/* Returns the name of a status, as "X64_OK", or "unknown status" if no status has this number. */
+static inline const char *x64_status_name(uint32_t status) {
+    switch (status) {
+    case X64_OK:
+        return "X64_OK";
+    case X64_NOT_MAPPED:
+        return "X64_NOT_MAPPED";
+    case X64_MORE:
+        return "X64_MORE";
+    case X64_NOT_VALID:
+        return "X64_NOT_VALID";
+    case X64_NOT_ALLOWED:
+        return "X64_NOT_ALLOWED";
+    case X64_FRAME_ALLOCATION_FAILED:
+        return "X64_FRAME_ALLOCATION_FAILED";
+    case X64_PARENT_ENTRY_HUGE_PAGE:
+        return "X64_PARENT_ENTRY_HUGE_PAGE";
+    case X64_PAGE_ALREADY_MAPPED:
+        return "X64_PAGE_ALREADY_MAPPED";
+    case X64_PAGE_NOT_MAPPED:
+        return "X64_PAGE_NOT_MAPPED";
+    case X64_INVALID_FRAME_ADDRESS:
+        return "X64_INVALID_FRAME_ADDRESS";
+    case X64_PAGE_FAULT:
+        return "X64_PAGE_FAULT";
+    case X64_NO_TABLE:
+        return "X64_NO_TABLE";
+    case X64_SPACE_IN_USE:
+        return "X64_SPACE_IN_USE";
+    case X64_BAD_LEVELS:
+        return "X64_BAD_LEVELS";
+    case X64_BAD_ROOT:
+        return "X64_BAD_ROOT";
+    case X64_BAD_ARRAY:
+        return "X64_BAD_ARRAY";
+    case X64_BAD_ADDRESS:
+        return "X64_BAD_ADDRESS";
+    case X64_BAD_PAGE:
+        return "X64_BAD_PAGE";
+    case X64_BAD_FRAME:
+        return "X64_BAD_FRAME";
+    case X64_BAD_ACCESS:
+        return "X64_BAD_ACCESS";
+    case X64_BAD_INDICES:
+        return "X64_BAD_INDICES";
+    default:
+        return "unknown status";
+    }
+}
+
+/*
+ * A CONTEXT
+ *
+ * An x64_space is all that the calls above are passed again and again, and for each call there is
+ * one on it. It passes its arguments on and returns what that call returns, so conditions, statuses
+ * and what is written are the same. A page is passed by its start and its size.
+ *
+ * Address spaces that have one pool have one free_count. So use one x64_space for all of them, and
+ * set its root to that of the address space which a call is about.
+ */
+typedef struct x64_space {
+    x64_table *tables;  /* the tables */
+    size_t table_count; /* how many they are */
+    uint64_t first;     /* the number of the frame that tables[0] is */
+    uint64_t root;      /* the physical address of the root table */
+    uint64_t levels;    /* the number of levels of tables: 4 or 5 */
+    uint64_t *pool;     /* the free frames, and room for more */
+    size_t capacity;    /* for how many frames there is room */
+    size_t free_count;  /* how many are free: pool[0] to pool[free_count - 1] */
+} x64_space;
+
+static inline x64_hierarchy x64_space_hierarchy(const x64_space *space) {
+    x64_hierarchy hierarchy;
+    hierarchy.first = space->first;
+    hierarchy.root = space->root;
+    hierarchy.levels = space->levels;
+    return hierarchy;
+}
+
+static inline x64_page x64_page_of(uint64_t start, uint64_t size) {
+    x64_page page;
+    page.start = start;
+    page.size = size;
+    return page;
+}
+
+/* The request to map a page as the Rust crate's map_to does: the entries above it get those of
+ * X64_PRESENT, X64_WRITABLE and X64_USER_ACCESSIBLE that its own flags have. */
+static inline x64_map_request x64_map_request_of(uint64_t page, uint64_t size, uint64_t frame,
+                                                 uint64_t flags) {
+    x64_map_request request;
+    request.page = x64_page_of(page, size);
+    request.frame = frame;
+    request.flags = flags;
+    request.parent_flags = flags & (X64_PRESENT | X64_WRITABLE | X64_USER_ACCESSIBLE);
+    return request;
+}
+
+/* x64_page_walk */
+X64_NODISCARD
+static inline uint32_t x64_space_page_walk(const x64_space *space, uint64_t address,
+                                           x64_walked *walked) {
+    x64_hierarchy hierarchy = x64_space_hierarchy(space);
+    return x64_page_walk(&hierarchy, space->tables, space->table_count, address, walked);
+}
+
+/* x64_walk */
+X64_NODISCARD
+static inline uint32_t x64_space_walk(const x64_space *space, uint64_t address,
+                                      x64_walk_result *walked) {
+    x64_hierarchy hierarchy = x64_space_hierarchy(space);
+    return x64_walk(&hierarchy, space->tables, space->table_count, address, walked);
+}
+
+/* x64_entries */
+X64_NODISCARD
+static inline uint32_t x64_space_entries(const x64_space *space, uint64_t address,
+                                         x64_entry *entries, size_t capacity, size_t *count) {
+    x64_hierarchy hierarchy = x64_space_hierarchy(space);
+    return x64_entries(&hierarchy, space->tables, space->table_count, address, entries, capacity,
+                       count);
+}
+
+/* x64_translate */
+X64_NODISCARD
+static inline uint32_t x64_space_translate(const x64_space *space, uint64_t address,
+                                           x64_translation *translation) {
+    x64_hierarchy hierarchy = x64_space_hierarchy(space);
+    return x64_translate(&hierarchy, space->tables, space->table_count, address, translation);
+}
+
+/* x64_mappings */
+X64_NODISCARD
+static inline uint32_t x64_space_mappings(const x64_space *space, uint64_t from,
+                                          x64_mapping *mappings, size_t capacity, size_t *count,
+                                          uint64_t *next) {
+    x64_hierarchy hierarchy = x64_space_hierarchy(space);
+    return x64_mappings(&hierarchy, space->tables, space->table_count, from, mappings, capacity,
+                        count, next);
+}
+
+/* x64_is_valid */
+X64_NODISCARD
+static inline uint32_t x64_space_is_valid(const x64_space *space, bool *marks, size_t mark_count) {
+    x64_hierarchy hierarchy = x64_space_hierarchy(space);
+    return x64_is_valid(&hierarchy, space->tables, space->table_count, marks, mark_count);
+}
+
+/* x64_pool_fits */
+X64_NODISCARD
+static inline uint32_t x64_space_pool_fits(const x64_space *space, bool *marks, size_t mark_count) {
+    x64_hierarchy hierarchy = x64_space_hierarchy(space);
+    return x64_pool_fits(&hierarchy, space->tables, space->table_count, space->pool,
+                         space->capacity, space->free_count, marks, mark_count);
+}
+
+/* x64_access */
+X64_NODISCARD
+static inline uint32_t x64_space_access(const x64_space *space, const x64_controls *controls,
+                                        const x64_access_request *request, x64_outcome *outcome) {
+    x64_hierarchy hierarchy = x64_space_hierarchy(space);
+    return x64_access(&hierarchy, space->tables, space->table_count, controls, request, outcome);
+}
+
+/* x64_map, with the parent flags of x64_map_request_of */
+X64_NODISCARD
+static inline uint32_t x64_space_map(x64_space *space, uint64_t page, uint64_t size, uint64_t frame,
+                                     uint64_t flags) {
+    x64_hierarchy hierarchy = x64_space_hierarchy(space);
+    x64_map_request request = x64_map_request_of(page, size, frame, flags);
+    return x64_map(&hierarchy, space->tables, space->table_count, space->pool, space->capacity,
+                   &space->free_count, &request);
+}
+
+/* x64_map_range, with the parent flags of x64_map_request_of */
+X64_NODISCARD
+static inline uint32_t x64_space_map_range(x64_space *space, uint64_t first_page, uint64_t size,
+                                           uint64_t count, uint64_t first_frame, uint64_t flags,
+                                           uint64_t *done) {
+    x64_hierarchy hierarchy = x64_space_hierarchy(space);
+    x64_map_request request = x64_map_request_of(first_page, size, first_frame, flags);
+    return x64_map_range(&hierarchy, space->tables, space->table_count, space->pool,
+                         space->capacity, &space->free_count, &request, count, done);
+}
+
+/* x64_unmap */
+X64_NODISCARD
+static inline uint32_t x64_space_unmap(const x64_space *space, uint64_t page, uint64_t size,
+                                       uint64_t *frame) {
+    x64_hierarchy hierarchy = x64_space_hierarchy(space);
+    x64_page unmapped = x64_page_of(page, size);
+    return x64_unmap(&hierarchy, space->tables, space->table_count, &unmapped, frame);
+}
+
+/* x64_unmap_range */
+X64_NODISCARD
+static inline uint32_t x64_space_unmap_range(const x64_space *space, uint64_t first_page,
+                                             uint64_t size, uint64_t count, uint64_t *frames,
+                                             size_t capacity, size_t *frame_count, uint64_t *done) {
+    x64_hierarchy hierarchy = x64_space_hierarchy(space);
+    x64_page first = x64_page_of(first_page, size);
+    return x64_unmap_range(&hierarchy, space->tables, space->table_count, &first, count, frames,
+                           capacity, frame_count, done);
+}
+
+/* x64_update_flags */
+X64_NODISCARD
+static inline uint32_t x64_space_update_flags(const x64_space *space, uint64_t page, uint64_t size,
+                                              uint64_t flags) {
+    x64_hierarchy hierarchy = x64_space_hierarchy(space);
+    x64_page changed = x64_page_of(page, size);
+    return x64_update_flags(&hierarchy, space->tables, space->table_count, &changed, flags);
+}
+
+/* x64_update_flags_range */
+X64_NODISCARD
+static inline uint32_t x64_space_update_flags_range(const x64_space *space, uint64_t first_page,
+                                                    uint64_t size, uint64_t count, uint64_t flags,
+                                                    uint64_t *changed) {
+    x64_hierarchy hierarchy = x64_space_hierarchy(space);
+    x64_page first = x64_page_of(first_page, size);
+    return x64_update_flags_range(&hierarchy, space->tables, space->table_count, &first, count,
+                                  flags, changed);
+}
+
+/* x64_set_table_flags */
+X64_NODISCARD
+static inline uint32_t x64_space_set_table_flags(const x64_space *space, uint64_t page,
+                                                 uint64_t size, uint64_t level, uint64_t flags) {
+    x64_hierarchy hierarchy = x64_space_hierarchy(space);
+    x64_page below = x64_page_of(page, size);
+    return x64_set_table_flags(&hierarchy, space->tables, space->table_count, &below, level, flags);
+}
+
+/* x64_clean_up */
+X64_NODISCARD
+static inline uint32_t x64_space_clean_up(x64_space *space, uint64_t first_page,
+                                          uint64_t last_page) {
+    x64_hierarchy hierarchy = x64_space_hierarchy(space);
+    return x64_clean_up(&hierarchy, space->tables, space->table_count, space->pool, space->capacity,
+                        &space->free_count, first_page, last_page);
+}
+
+/* x64_new_space, with this one as the template */
+X64_NODISCARD
+static inline uint32_t x64_space_new(x64_space *space, uint64_t shared_from, uint64_t shared_to,
+                                     uint64_t *root) {
+    x64_hierarchy hierarchy = x64_space_hierarchy(space);
+    return x64_new_space(&hierarchy, space->tables, space->table_count, space->pool,
+                         space->capacity, &space->free_count, shared_from, shared_to, root);
+}
+
+/* x64_give_up_space */
+X64_NODISCARD
+static inline uint32_t x64_space_give_up(x64_space *space, uint64_t shared_from,
+                                         uint64_t shared_to) {
+    x64_hierarchy hierarchy = x64_space_hierarchy(space);
+    return x64_give_up_space(&hierarchy, space->tables, space->table_count, space->pool,
+                             space->capacity, &space->free_count, shared_from, shared_to);
+}
 
 #ifdef __cplusplus
 }

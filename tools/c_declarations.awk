@@ -133,6 +133,7 @@ in_contract && /^\{/ { finish_function() }
 }
 
 END {
-    found["x64_table"] = 1
+    # x64_space is of the header alone
+    found["x64_table"] = found["x64_space"] = 1
     for (name in declared) if (!(name in found)) print "#error the source lacks what the header declares: " name
 }

@@ -12,7 +12,7 @@
 
 #include "x86_64_paging.h"
 
-enum { TABLES = 16, ROOM = 12, FREE = 3, LISTED = 8, MAPPED = 6, ROOTS = 2, SETTINGS = 8, STATUSES = 24 };
+enum { TABLES = 16, ROOM = 12, FREE = 3, LISTED = 8, MAPPED = 6, ROOTS = 2, SETTINGS = 9, STATUSES = 24, READ = X64_MOST_LEVELS + 1 };
 
 /* Addresses that aren't canonical: the first with four levels, the second with five, too. */
 #define NOT_CANONICAL_4 UINT64_C(0x800000000000)
@@ -28,7 +28,7 @@ struct arguments {
     uint64_t levels, root, root_offset, table_count, null_tables;
     uint64_t capacity, free_count, null_pool;
     uint64_t mark_count, null_marks;
-    uint64_t list_capacity, null_list;
+    uint64_t list_capacity, null_list, entry_capacity, null_entries;
     uint64_t address, start, size, count, frame, flags, parent_flags, level, first_page, last_page;
     uint64_t root_count, null_roots, second_root, shared_from, shared_to;
     uint64_t kind, user, mark, write_protect, no_execute, smep, smap, ac, physical_bits;
@@ -72,6 +72,8 @@ struct world {
     uint64_t roots[ROOTS];
     bool marks[TABLES];
     x64_walked walked;
+    x64_walk_result arrival;
+    x64_entry entries[READ];
     x64_translation translation;
     x64_mapping mappings[LISTED];
     size_t count;
@@ -123,6 +125,8 @@ static void fill(uint64_t levels) {
 
 enum function {
     PAGE_WALK,
+    WALK,
+    ENTRIES,
     TRANSLATE,
     MAPPINGS,
     IS_VALID,
@@ -143,9 +147,10 @@ enum function {
 };
 
 static const char *const names[FUNCTIONS] = {
-    "x64_page_walk",  "x64_translate",    "x64_mappings",    "x64_is_valid",     "x64_pool_fits",       "x64_spaces_fit",
-    "x64_access",     "x64_map",          "x64_unmap",       "x64_update_flags", "x64_set_table_flags", "x64_map_range",
-    "x64_unmap_range", "x64_update_flags_range", "x64_clean_up", "x64_new_space", "x64_give_up_space",
+    "x64_page_walk",   "x64_walk",               "x64_entries",  "x64_translate", "x64_mappings",      "x64_is_valid",
+    "x64_pool_fits",   "x64_spaces_fit",         "x64_access",   "x64_map",       "x64_unmap",         "x64_update_flags",
+    "x64_set_table_flags", "x64_map_range",      "x64_unmap_range", "x64_update_flags_range", "x64_clean_up", "x64_new_space",
+    "x64_give_up_space",
 };
 
 /* Returns the arguments that rows change. */
@@ -158,6 +163,7 @@ static struct arguments usual(uint64_t levels) {
         .free_count = FREE,
         .mark_count = TABLES,
         .list_capacity = LISTED,
+        .entry_capacity = READ,
         .start = 0x4000,
         .size = X64_SIZE_4KIB,
         .count = 1,
@@ -199,6 +205,10 @@ static uint32_t call(enum function function, const struct arguments *a) {
     switch (function) {
     case PAGE_WALK:
         return x64_page_walk(h, tables, n, a->address, &world.walked);
+    case WALK:
+        return x64_walk(h, tables, n, a->address, &world.arrival);
+    case ENTRIES:
+        return x64_entries(h, tables, n, a->address, a->null_entries ? NULL : world.entries, a->entry_capacity, &world.count);
     case TRANSLATE:
         return x64_translate(h, tables, n, a->address, &world.translation);
     case MAPPINGS:
@@ -246,7 +256,7 @@ static const struct row levels_rows[] = {
     ROW("six levels", X64_BAD_LEVELS, SET(levels, 6)),
     ROW("levels beyond 32 bits", X64_BAD_LEVELS, SET(levels, UINT64_C(0x100000004))),
     ROW("bad levels before all others", X64_BAD_LEVELS, SET(levels, 0), SET(root_offset, 1), SET(capacity, 0), SET(mark_count, 0),
-        SET(shared_to, 513)),
+        SET(shared_to, 513), SET(entry_capacity, 0)),
 };
 
 /* Bad arguments of every function that takes a hierarchy. */
@@ -260,7 +270,7 @@ static const struct row hierarchies[] = {
     ROW("no tables", X64_BAD_ROOT, SET(table_count, 0)),
     ROW("no tables, and null", X64_BAD_ROOT, SET(table_count, 0), SET(null_tables, 1)),
     ROW("a bad root before all others", X64_BAD_ROOT, SET(root_offset, 8), SET(capacity, 0), SET(mark_count, 0),
-        SET(address, NOT_CANONICAL), SET(size, 0), SET(first_page, 1), SET(kind, 3), SET(shared_to, 513)),
+        SET(address, NOT_CANONICAL), SET(size, 0), SET(first_page, 1), SET(kind, 3), SET(shared_to, 513), SET(entry_capacity, 0)),
 };
 
 static const struct row page_walk[] = {
@@ -281,6 +291,53 @@ static const struct row page_walk[] = {
     ROW("not canonical", X64_BAD_ADDRESS, SET(address, NOT_CANONICAL)),
     ROW("not canonical with four levels", X64_BAD_ADDRESS, SET(address, NOT_CANONICAL_4), SET(only, 4)),
     ROW("canonical with five levels", X64_NOT_MAPPED, SET(address, NOT_CANONICAL_4), SET(only, 5)),
+};
+
+/* The address, the rights to write and of users, and whether the right to execute is missing. The rows of x64_page_walk are tried, too. */
+static const struct row walk[] = {
+    WRITES("all for users", X64_OK, OUT(0x5000, 1, 1, 0), SET(address, 0x1000), SET(user_pages, 1)),
+    WRITES("the page has NO_EXECUTE", X64_OK, OUT(0x9000, 1, 0, 1), SET(address, 0x9000), SET(word_table, 5), SET(word_index, 9),
+        SET(word_flags, UINT64_C(0x8000000000009003))),
+    WRITES("an entry above has NO_EXECUTE", X64_OK, OUT(0x5000, 1, 0, 1), SET(address, 0x1000), SET(word_table, 4),
+        SET(word_flags, UINT64_C(0x8000000000000003)), SET(word_names, 5)),
+    WRITES("the root's entry has NO_EXECUTE", X64_OK, OUT(0x80123456, 1, 0, 1), SET(address, 0x40123456), SET(word_table, 1),
+        SET(word_flags, UINT64_C(0x8000000000000003)), SET(word_names, 3), SET(only, 4)),
+    WRITES("all 52 bits", X64_OK, OUT(UINT64_C(0xffffffffff123), 0, 0, 0), SET(address, 0x9123), SET(word_table, 5),
+        SET(word_index, 9), SET(word_flags, UINT64_C(0xffffffffff001))),
+};
+
+/* The number of entries with four levels, and the number of the last one's table, its index and its word. */
+static const struct row entries[] = {
+    {"4 KiB", X64_OK, {SET(address, 0x1abc)}, 0, 0, 0, {4, 5, 1, 0x5003}},
+    {"4 KiB with bit 7", X64_OK, {SET(address, 0x3fff)}, 0, 0, 0, {4, 5, 3, 0x7083}},
+    {"2 MiB", X64_OK, {SET(address, 0x234567)}, 0, 0, 0, {3, 4, 1, 0x400083}},
+    {"2 MiB, an address that is no multiple", X64_OK, {SET(address, 0x400123)}, 0, 0, 0, {3, 4, 2, 0x601083}},
+    {"1 GiB", X64_OK, {SET(address, 0x40123456)}, 0, 0, 0, {2, 3, 1, 0x80000083}},
+    {"just enough room, with four levels", X64_OK, {SET(address, 0x1abc), SET(entry_capacity, 4), SET(only, 4)}, 0, 0, 0,
+        {4, 5, 1, 0x5003}},
+    {"just enough room, with five levels", X64_OK, {SET(address, 0x1abc), SET(entry_capacity, 5), SET(only, 5)}, 0, 0, 0,
+        {4, 5, 1, 0x5003}},
+    {"no PRESENT", X64_NOT_MAPPED, {SET(address, 0x2000)}, 0, 0, 0, {4, 5, 2, 0x6002}},
+    {"an unused entry", X64_NOT_MAPPED, {USUAL}, 0, 0, 0, {4, 5, 0, 0}},
+    {"2 MiB without PRESENT", X64_NOT_MAPPED, {SET(address, 0x600000)}, 0, 0, 0, {3, 4, 3, 0x800082}},
+    {"no PRESENT above, and all other flags", X64_NOT_MAPPED, {SET(address, 0x1200000), SET(word_table, 4), SET(word_index, 9),
+        SET(word_flags, UINT64_C(0xfffffffffffffffe))}, 0, 0, 0, {3, 4, 9, UINT64_C(0xfffffffffffffffe)}},
+    {"HUGE_PAGE in the root, with four levels", X64_PARENT_ENTRY_HUGE_PAGE, {SET(word_table, 1), SET(word_flags, 0x83), SET(only, 4)},
+        0, 0, 0, {1, 1, 0, 0x83}},
+    {"HUGE_PAGE in the root, with five levels", X64_PARENT_ENTRY_HUGE_PAGE, {SET(word_table, 1), SET(word_flags, 0x83), SET(only, 5)},
+        0, 0, 0, {0, 1, 0, 0x83}},
+    {"HUGE_PAGE at level four", X64_PARENT_ENTRY_HUGE_PAGE, {SET(word_table, 2), SET(word_flags, 0x83), SET(only, 5)}, 0, 0, 0,
+        {1, 2, 0, 0x83}},
+    {"a table beyond the array", X64_NO_TABLE, {SET(address, 0x1200000), SET(word_table, 4), SET(word_index, 9),
+        SET(word_flags, 0x7fff003)}, 0, 0, 0, {3, 4, 9, 0x7fff003}},
+    {"a table that is its own child", X64_OK, {SET(address, 0x1201000), SET(word_table, 4), SET(word_index, 9), SET(word_flags, 0x3),
+        SET(word_names, 4)}, 0, 0, 0, {4, 4, 1, 0x400083}},
+    ROW("room for one too few, with four levels", X64_BAD_ARRAY, SET(entry_capacity, 3), SET(only, 4)),
+    ROW("room for one too few, with five levels", X64_BAD_ARRAY, SET(entry_capacity, 4), SET(only, 5)),
+    ROW("no array", X64_BAD_ARRAY, SET(entry_capacity, 0), SET(null_entries, 1)),
+    ROW("a bad array before a bad address", X64_BAD_ARRAY, SET(entry_capacity, 0), SET(address, NOT_CANONICAL)),
+    ROW("not canonical", X64_BAD_ADDRESS, SET(address, NOT_CANONICAL)),
+    ROW("not canonical with four levels", X64_BAD_ADDRESS, SET(address, NOT_CANONICAL_4), SET(only, 4)),
 };
 
 static const struct row translate[] = {
@@ -710,6 +767,47 @@ static const struct row clean_up[] = {
     ROW("a last page that isn't canonical", X64_BAD_PAGE, SET(last_page, NOT_CANONICAL)),
 };
 
+#define EXECUTE_TAKEN (X64_PRESENT | X64_NO_EXECUTE)
+
+/* What has to be flushed after calls. */
+static const struct {
+    uint32_t call;
+    uint64_t parent_flags;
+    uint32_t status, flush;
+} flushes[] = {
+    {X64_CALL_MAP, X64_PRESENT | X64_WRITABLE, X64_OK, X64_FLUSH_NOTHING},
+    {X64_CALL_MAP, X64_PRESENT, X64_PAGE_ALREADY_MAPPED, X64_FLUSH_NOTHING},
+    {X64_CALL_MAP, UINT64_MAX >> 1, X64_OK, X64_FLUSH_NOTHING},
+    {X64_CALL_MAP, EXECUTE_TAKEN, X64_OK, X64_FLUSH_EVERYTHING},
+    {X64_CALL_MAP, EXECUTE_TAKEN, X64_FRAME_ALLOCATION_FAILED, X64_FLUSH_EVERYTHING},
+    {X64_CALL_MAP, EXECUTE_TAKEN, X64_PARENT_ENTRY_HUGE_PAGE, X64_FLUSH_EVERYTHING},
+    {X64_CALL_MAP, EXECUTE_TAKEN, X64_PAGE_ALREADY_MAPPED, X64_FLUSH_EVERYTHING},
+    {X64_CALL_MAP, EXECUTE_TAKEN, X64_NOT_ALLOWED, X64_FLUSH_NOTHING},
+    {X64_CALL_MAP, EXECUTE_TAKEN, X64_BAD_LEVELS, X64_FLUSH_NOTHING},
+    {X64_CALL_MAP, EXECUTE_TAKEN, X64_BAD_FRAME, X64_FLUSH_NOTHING},
+    {X64_CALL_UNMAP, EXECUTE_TAKEN, X64_OK, X64_FLUSH_PAGE},
+    {X64_CALL_UNMAP, 0, X64_MORE, X64_FLUSH_PAGE},
+    {X64_CALL_UNMAP, 0, X64_PAGE_NOT_MAPPED, X64_FLUSH_NOTHING},
+    {X64_CALL_UNMAP, 0, X64_PARENT_ENTRY_HUGE_PAGE, X64_FLUSH_NOTHING},
+    {X64_CALL_UNMAP, 0, X64_INVALID_FRAME_ADDRESS, X64_FLUSH_NOTHING},
+    {X64_CALL_UNMAP, 0, X64_BAD_PAGE, X64_FLUSH_NOTHING},
+    {X64_CALL_UPDATE_FLAGS, EXECUTE_TAKEN, X64_OK, X64_FLUSH_PAGE},
+    {X64_CALL_UPDATE_FLAGS, 0, X64_PAGE_NOT_MAPPED, X64_FLUSH_NOTHING},
+    {X64_CALL_UPDATE_FLAGS, 0, X64_PARENT_ENTRY_HUGE_PAGE, X64_FLUSH_NOTHING},
+    {X64_CALL_UPDATE_FLAGS, 0, X64_NOT_ALLOWED, X64_FLUSH_NOTHING},
+    {X64_CALL_UPDATE_FLAGS, 0, X64_BAD_PAGE, X64_FLUSH_NOTHING},
+    {X64_CALL_SET_TABLE_FLAGS, 0, X64_OK, X64_FLUSH_EVERYTHING},
+    {X64_CALL_SET_TABLE_FLAGS, EXECUTE_TAKEN, X64_PAGE_NOT_MAPPED, X64_FLUSH_NOTHING},
+    {X64_CALL_SET_TABLE_FLAGS, 0, X64_PARENT_ENTRY_HUGE_PAGE, X64_FLUSH_NOTHING},
+    {X64_CALL_SET_TABLE_FLAGS, 0, X64_NOT_ALLOWED, X64_FLUSH_NOTHING},
+    {X64_CALL_SET_TABLE_FLAGS, 0, X64_BAD_LEVELS, X64_FLUSH_NOTHING},
+    {X64_CALL_CLEAN_UP, EXECUTE_TAKEN, X64_OK, X64_FLUSH_TABLES},
+    {X64_CALL_CLEAN_UP, 0, X64_BAD_ARRAY, X64_FLUSH_NOTHING},
+    {X64_CALL_CLEAN_UP + 1, 0, X64_OK, X64_FLUSH_EVERYTHING},
+    {UINT32_MAX, 0, X64_OK, X64_FLUSH_EVERYTHING},
+    {UINT32_MAX, 0, X64_BAD_PAGE, X64_FLUSH_NOTHING},
+};
+
 /* ---- the test */
 
 static size_t checked, failed;
@@ -776,13 +874,38 @@ static void check_root(const struct row *row, const struct arguments *a) {
     }
 }
 
+/* Checks that entries lead from the root down, one level after the other, and are those of the memory at the address. */
+static void check_entries(const struct row *row, const struct arguments *a) {
+    uint64_t at = a->root;
+    for (size_t n = 0; n < world.count; n++) {
+        const x64_entry *entry = &world.entries[n];
+        uint64_t index = a->address >> (12 + 9 * (a->levels - n - 1)) & 511;
+        uint64_t word = before.tables[at / 4096 - first].words[index];
+        if (entry->level != a->levels - n || entry->table != at || entry->index != index || entry->word != word)
+            fail(ENTRIES, row, a->levels, "entry %" PRIu64 " of %" PRIu64 " is another one", n, world.count);
+        at = word & UINT64_C(0xffffffffff000);
+    }
+}
+
 /* Reads what a call wrote through its out parameters, as a row has it, and puts back what was there before. */
-static void read_out(enum function function, uint64_t out[4]) {
+static void read_out(enum function function, uint64_t levels, uint64_t out[4]) {
     memset(out, 0, 4 * sizeof *out);
     switch (function) {
     case PAGE_WALK:
         out[0] = world.walked.address, out[1] = world.walked.write, out[2] = world.walked.user;
         world.walked = before.walked;
+        break;
+    case WALK:
+        out[0] = world.arrival.address, out[1] = world.arrival.write;
+        out[2] = world.arrival.user, out[3] = !world.arrival.execute;
+        world.arrival = before.arrival;
+        break;
+    case ENTRIES:
+        out[0] = world.count - (levels - 4);
+        out[1] = world.entries[world.count - 1].table / 4096 - first;
+        out[2] = world.entries[world.count - 1].index, out[3] = world.entries[world.count - 1].word;
+        memcpy(world.entries, before.entries, world.count * sizeof *world.entries);
+        world.count = before.count;
         break;
     case TRANSLATE:
         out[0] = world.translation.frame, out[1] = world.translation.size;
@@ -828,6 +951,8 @@ static void read_out(enum function function, uint64_t out[4]) {
 
 /* Whether a call with this status writes through out parameters. */
 static bool writes(enum function function, uint32_t status) {
+    if (function == ENTRIES)
+        return status < X64_BAD_LEVELS;
     if (function == MAP_RANGE && (status == X64_FRAME_ALLOCATION_FAILED || status == X64_PARENT_ENTRY_HUGE_PAGE ||
         status == X64_PAGE_ALREADY_MAPPED))
         return true;
@@ -909,6 +1034,8 @@ static void try_row(enum function function, const struct row *row, uint64_t leve
     size_t words = row->words + row->words_above * (levels - 3);
     if (changed_words() != words)
         fail(function, row, levels, "%" PRIu64 " words changed, and not %" PRIu64, changed_words(), words);
+    if (function == ENTRIES && status < X64_BAD_LEVELS)
+        check_entries(row, &arguments);
     if (function == ACCESS)
         check_marks(row, levels);
     if (function == NEW_SPACE && status == X64_OK)
@@ -922,7 +1049,7 @@ static void try_row(enum function function, const struct row *row, uint64_t leve
         go_on(row, &arguments);
     if (writes(function, status)) {
         uint64_t out[4];
-        read_out(function, out);
+        read_out(function, levels, out);
         for (size_t n = 0; n < 4 && row->taken >= 0; n++)
             if (out[n] != row->out[n])
                 fail(function, row, levels, "it wrote 0x%" PRIx64 " and not 0x%" PRIx64, out[n], row->out[n]);
@@ -942,6 +1069,19 @@ static void try_rows(enum function function, const struct row *rows, size_t coun
                     first = firsts[k];
                     try_row(function, &rows[n], levels);
                 }
+}
+
+/* Compares what x64_flush_after returns with the table. */
+static void try_flushes(void) {
+    for (size_t n = 0; n < sizeof flushes / sizeof *flushes; n++) {
+        uint32_t flush = x64_flush_after(flushes[n].call, flushes[n].parent_flags, flushes[n].status);
+        checked++;
+        if (flush != flushes[n].flush) {
+            failed++;
+            fprintf(stderr, "x64_flush_after: call %" PRIu32 ", %s: %" PRIu32 " and not %" PRIu32 "\n", flushes[n].call,
+                    x64_status_name(flushes[n].status), flush, flushes[n].flush);
+        }
+    }
 }
 
 #define TRY(function, rows) try_rows(function, rows, sizeof rows / sizeof *rows)
@@ -971,6 +1111,9 @@ int main(void) {
     for (int function = MAP_RANGE; function < CLEAN_UP; function++)
         TRY((enum function)function, ranges);
     TRY(PAGE_WALK, page_walk);
+    TRY(WALK, page_walk);
+    TRY(WALK, walk);
+    TRY(ENTRIES, entries);
     TRY(TRANSLATE, translate);
     TRY(MAPPINGS, mappings);
     TRY(IS_VALID, is_valid);
@@ -991,6 +1134,8 @@ int main(void) {
 
     static const uint32_t statuses[FUNCTIONS][8] = {
         [PAGE_WALK] = {X64_NOT_MAPPED, X64_BAD_ADDRESS},
+        [WALK] = {X64_NOT_MAPPED, X64_BAD_ADDRESS},
+        [ENTRIES] = {X64_NOT_MAPPED, X64_PARENT_ENTRY_HUGE_PAGE, X64_NO_TABLE, X64_BAD_ARRAY, X64_BAD_ADDRESS},
         [TRANSLATE] = {X64_NOT_MAPPED, X64_BAD_ADDRESS},
         [MAPPINGS] = {X64_MORE, X64_BAD_ADDRESS},
         [IS_VALID] = {X64_NOT_VALID, X64_BAD_ARRAY},
@@ -1012,6 +1157,7 @@ int main(void) {
     };
     for (int function = 0; function < FUNCTIONS; function++)
         check_statuses((enum function)function, statuses[function]);
+    try_flushes();
     printf("statuses: %zu calls checked, %zu faults\n", checked, failed);
     return failed == 0 ? EXIT_SUCCESS : EXIT_FAILURE;
 }

@@ -2,9 +2,10 @@
 
 use crate::access::{Access, Controls, Fault};
 use crate::addresses::{PhysAddr, VirtAddr};
+use crate::entries::Entries;
 use crate::error::{Error, MapRangeError};
 use crate::flags::Flags;
-use crate::hierarchy::{Hierarchy, Levels, Translation, Walked, outcome_of};
+use crate::hierarchy::{Arrival, Hierarchy, Levels, Translation, Walked, outcome_of};
 use crate::library::{self, Located, result_of};
 use crate::listing::{Mappings, Regions};
 use crate::page::{Page, PageSize, Table};
@@ -351,6 +352,24 @@ impl<'a> AddressSpace<'a> {
     /// `BadAddress`.
     pub fn page_walk(&self, address: VirtAddr) -> Result<Option<Walked>, Error> {
         self.hierarchy().page_walk(address)
+    }
+
+    /// Returns where a walk from an address arrives, with the right to execute; see [`Hierarchy::walk`].
+    ///
+    /// # Errors
+    ///
+    /// `BadAddress`.
+    pub fn walk(&self, address: VirtAddr) -> Result<Option<Arrival>, Error> {
+        self.hierarchy().walk(address)
+    }
+
+    /// Returns the entries that a walk from an address reads; see [`Hierarchy::entries`].
+    ///
+    /// # Errors
+    ///
+    /// `BadAddress`.
+    pub fn entries(&self, address: VirtAddr) -> Result<Entries, Error> {
+        self.hierarchy().entries(address)
     }
 
     /// Returns where an access arrives, or the fault that it ends in. An access that arrives sets `ACCESSED` in each entry on its way, and

@@ -2,6 +2,7 @@
 
 use crate::access::{Access, Controls, Fault, PageFaultCode};
 use crate::addresses::{PhysAddr, VirtAddr};
+use crate::entries::{Entries, WalkEnd};
 use crate::error::Error;
 use crate::flags::Flags;
 use crate::library::{self, Located, result_of};
@@ -26,6 +27,19 @@ pub struct Walked {
     pub write: bool,
     /// Whether all entries have `USER_ACCESSIBLE`.
     pub user: bool,
+}
+
+/// Where a walk arrives, and all rights that the entries on the way grant.
+#[derive(Clone, Copy, Debug, PartialEq, Eq)]
+pub struct Arrival {
+    /// The physical address.
+    pub address: PhysAddr,
+    /// Whether all entries have `WRITABLE`.
+    pub write: bool,
+    /// Whether all entries have `USER_ACCESSIBLE`.
+    pub user: bool,
+    /// Whether no entry has `NO_EXECUTE`.
+    pub execute: bool,
 }
 
 /// What an address is mapped to.
@@ -107,6 +121,79 @@ impl<'a> Hierarchy<'a> {
             library::NOT_MAPPED => Ok(None),
             _ => result_of(status).map(|()| Some(Walked { address: walked.address, write: walked.write, user: walked.user })),
         }
+    }
+
+    /// Returns where a walk from an address arrives, as [`page_walk`](Self::page_walk) does, with the right to execute.
+    ///
+    /// ```
+    /// use x86_64_paging::{Hierarchy, Levels, PhysAddr, Table, VirtAddr};
+    ///
+    /// // Each index 0 leads to the next table, and the last one to the frame 0x5000. The root's entry has NO_EXECUTE.
+    /// let mut tables = [Table::EMPTY; 4];
+    /// for (table, word) in tables.iter_mut().zip([0x8000_0000_0000_2003, 0x3003, 0x4003, 0x5003]) {
+    ///     table.words[0] = word;
+    /// }
+    /// let hierarchy = Hierarchy::new(&tables, 1, PhysAddr::new(0x1000), Levels::Four)?;
+    /// let arrival = hierarchy.walk(VirtAddr::new(0xabc))?.unwrap();
+    /// assert_eq!((arrival.address, arrival.write, arrival.execute), (PhysAddr::new(0x5abc), true, false));
+    /// # Ok::<(), x86_64_paging::Error>(())
+    /// ```
+    ///
+    /// # Errors
+    ///
+    /// `BadAddress`.
+    pub fn walk(&self, address: VirtAddr) -> Result<Option<Arrival>, Error> {
+        let mut found = library::WalkResult::default();
+        // SAFETY: the slice is borrowed for the call, which only reads it.
+        let status = unsafe { library::x64_walk(&self.located, self.tables.as_ptr(), self.tables.len(), address, &mut found) };
+        let library::WalkResult { address, write, user, execute } = found;
+        match status {
+            library::NOT_MAPPED => Ok(None),
+            _ => result_of(status).map(|()| Some(Arrival { address, write, user, execute })),
+        }
+    }
+
+    /// Returns the entries that a walk from an address reads, from the root's on, and why it ends.
+    ///
+    /// ```
+    /// use x86_64_paging::{Entry, Hierarchy, Levels, PhysAddr, Table, VirtAddr, WalkEnd};
+    ///
+    /// let mut tables = [Table::EMPTY; 2];
+    /// tables[0].words[1] = 0x2003;
+    /// let hierarchy = Hierarchy::new(&tables, 1, PhysAddr::new(0x1000), Levels::Four)?;
+    /// let entries = hierarchy.entries(VirtAddr::new(0x80_4000_0000))?;
+    /// let above = Entry { level: 4, table: PhysAddr::new(0x1000), index: 1, word: 0x2003 };
+    /// let last = Entry { level: 3, table: PhysAddr::new(0x2000), index: 1, word: 0 };
+    /// assert_eq!((&entries[..], entries.end()), (&[above, last][..], WalkEnd::NotPresent));
+    /// # Ok::<(), x86_64_paging::Error>(())
+    /// ```
+    ///
+    /// # Errors
+    ///
+    /// `BadAddress`.
+    pub fn entries(&self, address: VirtAddr) -> Result<Entries, Error> {
+        let mut entries = Entries::NONE;
+        let (room, count) = entries.room();
+        // SAFETY: the slices are borrowed for the call, which only reads the tables.
+        let status = unsafe {
+            library::x64_entries(
+                &self.located,
+                self.tables.as_ptr(),
+                self.tables.len(),
+                address,
+                room.as_mut_ptr(),
+                room.len(),
+                count,
+            )
+        };
+        let end = match status {
+            library::OK => WalkEnd::Page,
+            library::NOT_MAPPED => WalkEnd::NotPresent,
+            library::PARENT_ENTRY_HUGE_PAGE => WalkEnd::HugePage,
+            library::NO_TABLE => WalkEnd::NoTable,
+            _ => return result_of(status).map(|()| entries),
+        };
+        Ok(entries.ended(end))
     }
 
     /// Returns where an access arrives, or the fault that it ends in. No entry is marked.

@@ -4,9 +4,11 @@
 //! calls of them: it needs no other crate, allocates nothing, and keeps no state of its own. A kernel, a hypervisor or a simulator can
 //! use it.
 //!
-//! - [`Hierarchy`] reads tables, whatever words they hold: page walks, accesses of a processor, lists of what is mapped, tests.
+//! - [`Hierarchy`] reads tables, whatever words they hold: page walks and the entries on the way, accesses of a processor, lists of what
+//!   is mapped, tests.
 //! - [`AddressSpace`] borrows tables and a pool of free frames, which it tests once, and changes them: it maps and unmaps pages of 4 KiB,
 //!   2 MiB and 1 GiB, one or a range of them, changes flags, and frees empty tables.
+//! - [`Call::flush`] says what a processor must flush after a call.
 //! - [`Spaces`] are several address spaces that share some entries of their roots and have one pool, as a kernel has for its processes.
 //!
 //! ```
@@ -34,8 +36,10 @@
 mod access;
 mod address_space;
 mod addresses;
+mod entries;
 mod error;
 mod flags;
+mod flush;
 mod hierarchy;
 mod library;
 mod listing;
@@ -45,9 +49,11 @@ mod spaces;
 pub use access::{Access, AccessKind, Controls, Fault, PageFaultCode};
 pub use address_space::{AddressSpace, Memory, Pool, Unmapped};
 pub use addresses::{PhysAddr, VirtAddr};
+pub use entries::{Entries, Entry, WalkEnd};
 pub use error::{Error, MapRangeError};
 pub use flags::Flags;
-pub use hierarchy::{Hierarchy, Levels, Translation, Walked};
+pub use flush::{Call, Flush};
+pub use hierarchy::{Arrival, Hierarchy, Levels, Translation, Walked};
 pub use listing::{Mapping, Mappings, Region, Regions};
 pub use page::{Page, PageSize, Table};
 pub use spaces::{Roots, Spaces};

@@ -1,6 +1,7 @@
 //! The functions of the library, as `include/x86_64_paging.h` declares them. An array of `n` elements is a pointer and a length.
 
 use crate::addresses::{PhysAddr, VirtAddr};
+use crate::entries::Entry;
 use crate::error::Error;
 use crate::flags::Flags;
 use crate::page::{Page, Table};
@@ -19,6 +20,15 @@ pub struct Walked {
     pub address: PhysAddr,
     pub write: bool,
     pub user: bool,
+}
+
+#[derive(Clone, Copy, Default)]
+#[repr(C)]
+pub struct WalkResult {
+    pub address: PhysAddr,
+    pub write: bool,
+    pub user: bool,
+    pub execute: bool,
 }
 
 #[derive(Clone, Copy, Default)]
@@ -78,6 +88,17 @@ pub struct Outcome {
 
 unsafe extern "C" {
     pub fn x64_page_walk(located: &Located, tables: *const Table, n: usize, address: VirtAddr, walked: &mut Walked) -> u32;
+    pub fn x64_walk(located: &Located, tables: *const Table, n: usize, address: VirtAddr, walked: &mut WalkResult) -> u32;
+    pub fn x64_entries(
+        located: &Located,
+        tables: *const Table,
+        n: usize,
+        address: VirtAddr,
+        entries: *mut Entry,
+        capacity: usize,
+        count: &mut usize,
+    ) -> u32;
+    pub fn x64_flush_after(call: u32, parent_flags: Flags, status: u32) -> u32;
     pub fn x64_translate(located: &Located, tables: *const Table, n: usize, address: VirtAddr, found: &mut Translation) -> u32;
     pub fn x64_mappings(
         located: &Located,
@@ -199,9 +220,11 @@ unsafe extern "C" {
     ) -> u32;
 }
 
+pub const OK: u32 = 0;
 pub const NOT_MAPPED: u32 = 1;
 pub const MORE: u32 = 2;
 pub const NOT_VALID: u32 = 3;
+pub const PARENT_ENTRY_HUGE_PAGE: u32 = 6;
 pub const INVALID_FRAME_ADDRESS: u32 = 9;
 pub const PAGE_FAULT: u32 = 10;
 pub const NO_TABLE: u32 = 11;
@@ -227,4 +250,27 @@ pub fn result_of(status: u32) -> Result<(), Error> {
         23 => Error::BadIndices,
         other => Error::Unknown(other),
     })
+}
+
+/// Returns the status that an error stands for. If the package refused a call, it wasn't made: that is as if it weren't allowed.
+pub fn status_of(error: Error) -> u32 {
+    match error {
+        Error::NotValid => NOT_VALID,
+        Error::NotAllowed | Error::SharedEntry => 4,
+        Error::FrameAllocationFailed => 5,
+        Error::ParentEntryHugePage => PARENT_ENTRY_HUGE_PAGE,
+        Error::PageAlreadyMapped => 7,
+        Error::PageNotMapped => 8,
+        Error::InvalidFrameAddress(_) => INVALID_FRAME_ADDRESS,
+        Error::SpaceInUse => 12,
+        Error::BadLevels => 16,
+        Error::BadRoot => 17,
+        Error::BadArray => 18,
+        Error::BadAddress => 19,
+        Error::BadPage => 20,
+        Error::BadFrame => 21,
+        Error::BadAccess => 22,
+        Error::BadIndices => 23,
+        Error::Unknown(status) => status,
+    }
 }

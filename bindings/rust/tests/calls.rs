@@ -1,8 +1,9 @@
 //! Tries each call, with four levels and with five.
 
 use x86_64_paging::{
-    Access, AccessKind, AddressSpace, Controls, Error, Fault, Flags, Hierarchy, Levels, MapRangeError, Mapping, Memory, Page,
-    PageFaultCode, PageSize, PhysAddr, Pool, Region, Roots, Spaces, Table, Translation, Unmapped, VirtAddr, Walked,
+    Access, AccessKind, AddressSpace, Arrival, Call, Controls, Entry, Error, Fault, Flags, Flush, Hierarchy, Levels, MapRangeError,
+    Mapping, Memory, Page, PageFaultCode, PageSize, PhysAddr, Pool, Region, Roots, Spaces, Table, Translation, Unmapped, VirtAddr,
+    WalkEnd, Walked,
 };
 
 /// The frame of table 0, and how many tables there are.
@@ -323,4 +324,53 @@ fn spaces_must_fit_together() {
     assert_eq!(test(3, 2, 1, 256..512, 4), Err(Error::BadArray));
     assert_eq!(test(1, 2, 1, 256..512, 3), Err(Error::BadArray));
     assert_eq!(test(1, 2, 1, 256..513, 4), Err(Error::BadIndices));
+}
+
+#[test]
+fn walks_tell_their_entries() {
+    for levels in [Levels::Four, Levels::Five] {
+        with_space(levels, |space| {
+            map_three(space, upper_half(levels));
+            let arrival = Arrival { address: frame(0x8012_3456), write: true, user: false, execute: true };
+            assert_eq!(space.walk(at(0x4012_3456)), Ok(Some(arrival)));
+            assert_eq!(space.walk(at(0x8000_0000)), Ok(None));
+            assert_eq!(space.walk(at(1 << 56)), Err(Error::BadAddress));
+
+            let entries = space.entries(at(0x4012_3456)).unwrap();
+            let last = Entry { level: 3, table: entries[entries.len() - 1].table, index: 1, word: 0x8000_0083 };
+            assert_eq!((entries.len(), entries.last(), entries.end()), (levels as usize - 2, Some(&last), WalkEnd::Page));
+            assert_eq!((entries[0].table, entries[0].level), (table(0), levels as u64));
+            assert_eq!(space.entries(at(0x8000_0000)).unwrap().end(), WalkEnd::NotPresent);
+            assert!(matches!(space.entries(at(1 << 56)), Err(Error::BadAddress)));
+
+            let mut tables = [Table::EMPTY; 1];
+            for (word, end) in [(0x83, WalkEnd::HugePage), (0x5003, WalkEnd::NoTable), (0x5002, WalkEnd::NotPresent)] {
+                tables[0].words[0] = word;
+                let entries = Hierarchy::new(&tables, FIRST, table(0), levels).unwrap().entries(at(0)).unwrap();
+                assert_eq!((entries.len(), entries.end()), (1, end));
+            }
+        });
+    }
+}
+
+#[test]
+fn calls_tell_their_flushes() {
+    let map = Call::Map { parent_flags: BOTH };
+    let takes = Call::Map { parent_flags: BOTH | Flags::NO_EXECUTE };
+    let refused = |error| Err::<(), Error>(error);
+    for (call, done, not_done) in [
+        (map, Flush::Nothing, Flush::Nothing),
+        (takes, Flush::Everything, Flush::Everything),
+        (Call::Unmap, Flush::Page, Flush::Nothing),
+        (Call::UpdateFlags, Flush::Page, Flush::Nothing),
+        (Call::SetTableFlags, Flush::Everything, Flush::Nothing),
+    ] {
+        assert_eq!(call.flush(&Ok(())), done);
+        assert_eq!(call.flush(&refused(Error::ParentEntryHugePage)), not_done);
+        for error in [Error::NotAllowed, Error::SharedEntry, Error::BadPage] {
+            assert_eq!(call.flush(&refused(error)), Flush::Nothing);
+        }
+    }
+    assert_eq!(Call::CleanUp.flush(&Ok(())), Flush::Tables);
+    assert_eq!(Call::CleanUp.flush(&refused(Error::BadPage)), Flush::Nothing);
 }

@@ -6,6 +6,7 @@ use Rattle.x86_64_tables.specs.LentMemory.{numbered, tables_in_order}
 use Rattle.x86_64_tables.proofs.NumberedTables.{in_order-numbered, len-numbered}
 use Rattle.x86_64_c.specs.Accesses.{bad_access, bad_call}
 use Rattle.x86_64_c.specs.Calls.{bad_on_page, bad_on_table, is_table_level}
+use Rattle.x86_64_c.specs.Entries.{bad_call as bad_entries}
 use Rattle.x86_64_c.specs.Given.{bad_hierarchy, bad_address, bad_page, bad_read, unless}
 use Rattle.x86_64_c.specs.PoolCalls.{bad_pool}
 use Rattle.x86_64_c.specs.Status.{bad_levels, bad_array}
@@ -27,6 +28,12 @@ else_five levels which other = ⊎_elim (λ four. absurd (other four)) (λ five.
 -- for a call that reads at an address, where the hierarchy has L levels
 pub reads_at : (h : Hierarchy) (n a L : ℕ) → bad_hierarchy h n ≡ None → h.levels ≡ L → bad_read h n a ≡ bad_address L a
 reads_at h n a L good levels = ap (λ o. option_or o (bad_address h.levels a)) good ∙ ap (λ l. bad_address l a) levels
+
+-- for a call that writes the entries of a walk, with room for an entry of each level
+pub entries_at : (h : Hierarchy) (n room a L : ℕ) → bad_hierarchy h n ≡ None → L ≤ room → h.levels ≡ L → bad_entries h n room a ≡ bad_address L a
+entries_at h n room a L good enough levels =
+    ap (λ o. option_or o (option_or (unless (nat_le h.levels room) bad_array) (bad_address h.levels a))) good
+    ∙ ap (λ l. option_or (unless (nat_le l room) bad_array) (bad_address l a)) levels ∙ ap (λ b. option_or (unless b bad_array) (bad_address L a)) (le-leb L room enough)
 
 -- for an access
 pub access_at : (h : Hierarchy) (n : ℕ) (c : Controls) (request : AccessRequest) (L : ℕ) → bad_hierarchy h n ≡ None → bad_access c request ≡ None → h.levels ≡ L → bad_call h n c request ≡ bad_address L request.address

@@ -13,3 +13,6 @@ pub mod RangeKeeps
 pub mod RangesSeen
 pub mod FrameArrays
 pub mod SpaceRanges
+pub mod StepsRead
+pub mod FlushCalls
+pub mod WalkBySteps

@@ -2,12 +2,15 @@ pub mod Status
 pub mod Given
 pub mod Reads
 pub mod Validity
+pub mod Entries
+pub mod Walks
 pub mod Listing
 pub mod Accesses
 pub mod Calls
 pub mod PoolCalls
 pub mod AddressSpaces
 pub mod Ranges
+pub mod Flushes
 pub use Rattle.x86_64_model.specs.Mapper
 pub use Rattle.x86_64_model.specs.Translation
 pub use Rattle.x86_64_model.specs.Mappings

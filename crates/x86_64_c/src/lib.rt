@@ -1,12 +1,14 @@
 //! The page tables of x86-64 for C and Rust: a static library over tables in the caller's own memory.
 //!
-//! Each function returns a status, and takes a hierarchy by its root and by an array with a table for each frame of the memory. It keeps
-//! no state and takes no memory. The header is `include/x86_64_paging.h`.
+//! Each function but `x64_flush_after` returns a status, and takes a hierarchy by its root and by an array with a table for each frame of
+//! the memory. It keeps no state and takes no memory. The header is `include/x86_64_paging.h`.
 #![tactic(auto)]
 
 mod accesses;
 mod address_spaces;
 mod changes;
+mod entries;
+mod flush;
 mod given;
 mod listing;
 mod ranges;
@@ -14,3 +16,4 @@ mod reads;
 mod runs;
 mod status;
 mod validity;
+mod walk;

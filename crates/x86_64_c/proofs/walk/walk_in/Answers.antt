@@ -1,0 +1,38 @@
+use Rattle.std.proofs.Common.{◌≡◌, None, sym, ◌∙◌, subst, refl}
+use Rattle.x86_64_model.specs.Memory.{words_of}
+use Rattle.x86_64_model.specs.PageWalk.{page_walk}
+use Rattle.x86_64_c.specs.Given.{at, places_of}
+use Rattle.x86_64_c.specs.Walks.{Tells, may_execute}
+use Rattle.x86_64_c.proofs.WalkBySteps.{tells, tells_nowhere, tells_page, told_at}
+use Rattle.x86_64_c.proofs.walk.walk_in.Goals as goal
+
+pub returns-then-end-ne-OK-clause-told : goal.returns-then-end-ne-OK-clause-told
+returns-then-end-ne-OK-clause-told g c = λ good.
+    let words = words_of (g.T.TableMemory.tables c.args.memory.now) (places_of c.args.located) in
+    let root = c.args.located.root in
+    let nowhere = tells_nowhere c.LEVELS.result words root c.position-position.result _ c.read_entries-count.new.entries c.read_entries-count.result.end c.read_entries-count.result.count
+    c.read_entries-count.ensures.writes c.if-end-ne-OK.true in
+    let none = subst (λ L. page_walk L words root c.position-position.result ≡ None) c.LEVELS.ensures nowhere in
+    let here = subst (λ p. page_walk g.L.LevelCount.LEVELS words root p ≡ None) (c.position-position.ensures.value ∙ c.in-Some.ensures.position) none in
+    let hierarchy = at g.L.LevelCount.LEVELS c.args.located (g.T.TableMemory.tables c.args.memory.now) in
+    subst (λ o. Tells o (may_execute hierarchy c.args.address) 1 c.args.walked.now c.args.walked.now) (sym here) (refl, refl)
+
+pub address_in-requires-clause-low : goal.address_in-requires-clause-low
+address_in-requires-clause-low g c =
+    (tells_page c.LEVELS.result (words_of (g.T.TableMemory.tables c.args.memory.now) (places_of c.args.located)) c.args.located.root c.position-position.result _
+    c.read_entries-count.new.entries c.read_entries-count.result.end c.read_entries-count.result.count _ c.read_entries-count.ensures.writes c.if-end-ne-OK.false).low
+
+pub address_in-requires-clause-high : goal.address_in-requires-clause-high
+address_in-requires-clause-high g c =
+    (tells_page c.LEVELS.result (words_of (g.T.TableMemory.tables c.args.memory.now) (places_of c.args.located)) c.args.located.root c.position-position.result _
+    c.read_entries-count.new.entries c.read_entries-count.result.end c.read_entries-count.result.count _ c.read_entries-count.ensures.writes c.if-end-ne-OK.false).high
+
+pub returns-clause-told : goal.returns-clause-told
+returns-clause-told g c = λ good.
+    let words = words_of (g.T.TableMemory.tables c.args.memory.now) (places_of c.args.located) in
+    let root = c.args.located.root in
+    let page = tells_page c.LEVELS.result words root c.position-position.result _ c.read_entries-count.new.entries c.read_entries-count.result.end c.read_entries-count.result.count _
+    c.read_entries-count.ensures.writes c.if-end-ne-OK.false in
+    let told = tells c.LEVELS.result words root c.position-position.result _ _ c.address_in.result c.read_entries-count.result.rights c.args.walked.now page
+    c.read_entries-count.ensures.rights c.address_in.ensures in
+    told_at _ _ words root _ _ 0 c.args.walked.now _ c.LEVELS.ensures (c.position-position.ensures.value ∙ c.in-Some.ensures.position) told

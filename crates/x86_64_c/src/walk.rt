@@ -1,0 +1,111 @@
+//! The page walk with all rights.
+ghost use Rattle.std.specs.Prelude.{◌≡◌, ◌≤◌, ◌+◌, ◌%◌, ℕ, length, Some, None};
+ghost use Rattle.x86_64_c.specs.Given as given;
+ghost use Rattle.x86_64_c.specs.Walks as walks;
+ghost use Rattle.x86_64_model.specs.PageWalk.{page_start};
+ghost use Rattle.x86_64_model.specs.Position.{span as span_of};
+
+use crate::entries::{Entry, MOST_LEVELS, Read, read_entries};
+use crate::given::{Hierarchy, Located, locate};
+use crate::status;
+use x86_64::structures::paging::PageTable;
+use x86_64::{FiveLevels, FourLevels, LentMemory, LevelCount, TableMemory, VirtAddrIn};
+use x86_64_mappings::span;
+
+/// The bits of an entry that are the address of a frame.
+const ADDRESS: u64 = 0x000f_ffff_ffff_f000;
+
+/// Where a page walk arrives, and what all entries on its way allow.
+#[derive(Clone, Copy)]
+#[repr(C)]
+pub struct WalkResult {
+    /// The physical address.
+    pub address: u64,
+    /// Whether all entries have `WRITABLE`.
+    pub write: bool,
+    /// Whether all entries have `USER_ACCESSIBLE`.
+    pub user: bool,
+    /// Whether no entry has `NO_EXECUTE`.
+    pub execute: bool,
+}
+
+/// Walks to an address as `x64_page_walk` does, whatever words the tables hold, and tells all rights.
+///
+/// Returns `OK` with where the walk arrives, `NOT_MAPPED`, or what is wrong with an argument; then nothing is written.
+#[tactic(auto, using(crate::proofs::Arguments::handed_back))]
+#[unsafe(no_mangle)]
+pub extern "C" fn x64_walk(
+    hierarchy: &Hierarchy,
+    tables: &mut [PageTable],
+    address: u64,
+    walked: &mut WalkResult,
+) -> u32
+    ensures bad { (status : ℕ) → given.bad_read hierarchy.now (length tables.old) address ≡ Some status
+        → (result ≡ status) × (walked.new ≡ walked.old) }
+    ensures told { given.bad_read hierarchy.now (length tables.old) address ≡ None
+        → walks.TellsWalk (given.hierarchy_in hierarchy.now tables.old) address
+        result walked.old walked.new }
+    ensures tables { tables.new ≡ tables.old }
+{
+    let located = match locate(hierarchy, tables.len()) {
+        Ok(located) => located,
+        Err(status) => return status,
+    };
+    let memory = LentMemory::new(tables);
+    if hierarchy.levels == 4 {
+        walk_in::<FourLevels, _>(&memory, located, address, walked)
+    } else {
+        walk_in::<FiveLevels, _>(&memory, located, address, walked)
+    }
+}
+
+/// Walks to an address with `L` levels of tables.
+fn walk_in<L: LevelCount, T: TableMemory>(
+    memory: &T,
+    located: Located,
+    address: u64,
+    walked: &mut WalkResult,
+) -> u32
+    ensures bad { (status : ℕ) → given.bad_address L.LEVELS address ≡ Some status
+        → (result ≡ status) × (walked.new ≡ walked.old) }
+    ensures told { given.bad_address L.LEVELS address ≡ None
+        → walks.TellsWalk (given.at L.LEVELS located (T.tables memory.now)) address
+        result walked.old walked.new }
+{
+    let Some(address) = VirtAddrIn::<L>::checked_new(address) else {
+        return status::BAD_ADDRESS;
+    };
+    let position = address.position();
+    let Located { root, mapping } = located;
+    let mut entries = [Entry::NONE; MOST_LEVELS];
+    let Read { count, rights, end } = read_entries(
+        memory,
+        &mapping,
+        root,
+        L::LEVELS,
+        position,
+        &mut entries,
+    );
+    if end != status::OK {
+        return status::NOT_MAPPED;
+    }
+    let page = entries[count - 1];
+    *walked = WalkResult {
+        address: address_in(page.level, page.word, position),
+        write: rights.write,
+        user: rights.user,
+        execute: rights.execute,
+    };
+    status::OK
+}
+
+/// Returns the address of a position in the page that a word of a level maps.
+#[tactic(auto, unfolding(x86_64_model::specs::Entry::address))]
+fn address_in(level: u64, word: u64, position: u64) -> u64
+    requires low { 1 ≤ level }
+    requires high { level ≤ 3 }
+    ensures { result ≡ page_start level word + position % span_of level }
+{
+    let size = span(level);
+    (word & ADDRESS) / size * size + position % size
+}
