@@ -2,6 +2,8 @@ pub mod Arguments
 pub mod EntryChanges
 pub mod Located
 pub mod Marked
+pub mod PoolSteps
+pub mod Executed
 pub mod LentRuns
 pub mod Filling
 pub mod SpaceArguments

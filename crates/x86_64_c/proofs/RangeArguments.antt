@@ -30,7 +30,7 @@ ends L known p inside = let low = half_within L known in elim (cases_lt p (lower
 ]
 
 -- the size of a page is that of its level
-size_is : (L : ℕ) (page : Page) → bad_page L page ≡ None → page.size ≡ span (level_of page.size)
+pub size_is : (L : ℕ) (page : Page) → bad_page L page ≡ None → page.size ≡ span (level_of page.size)
 size_is L page good = search rules
 
 -- so pages end there if they end in the half of the first one

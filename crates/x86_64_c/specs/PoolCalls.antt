@@ -4,19 +4,15 @@ use Rattle.std.specs.Option.{option_or}
 use Rattle.x86_64_model.specs.Mapper.{Hierarchy}
 use Rattle.x86_64_model.specs.Store.{Store, Fits, put_first, KeepsPool}
 use Rattle.x86_64_tables.specs.LentPool.{is_in, stacked}
-use Rattle.x86_64_tables.specs.PageTableFlags.{bits_of}
 use Rattle.x86_64.specs.Asked as asked
-use Rattle.x86_64.specs.Asked.{MapperCall}
-use Rattle.x86_64.specs.Calls.{asks, no_bits}
+use Rattle.x86_64.specs.Asked.{MapperCall, PageCall}
 use Rattle.x86_64.specs.Replies.{Reply, changes_nothing}
 use Rattle.x86_64.specs.Runs.{LeavesFree, Stepped}
 use Rattle.x86_64_c.specs.Calls.{reply_status}
-use Rattle.x86_64_c.specs.Given.{unless, bad_hierarchy, bad_page, bad_frame, hierarchy_in, starts_page, position_of}
+use Rattle.x86_64_c.specs.Given.{unless, bad_hierarchy, bad_page, bad_frame, hierarchy_in, level_of, starts_page, position_of}
 use Rattle.x86_64_c.specs.Status as status
 use Rattle.x86_64_c.specs.declared.given.Hierarchy.{Hierarchy as Given}
 use Rattle.x86_64_c.specs.declared.given.MapRequest.{MapRequest}
-use Rattle.x86_64_c.specs.declared.runs.AnyCall.{AnyCall}
-use Rattle.x86_64_c.specs.declared.runs.AnyCall.TheVariants.{FourLevels, FiveLevels}
 
 -- ---- what a caller asks for
 
@@ -29,11 +25,14 @@ pub record Request : Type 0 where
 abbrev pub bad_map : (L : ℕ) → MapRequest → Option ℕ
 bad_map L request = option_or (bad_page L request.page) (bad_frame request.page.size request.frame)
 
+-- The call on a page that an entry of the level maps.
+abbrev pub on_page : (level : ℕ) → PageCall → MapperCall
+on_page level call = cond (level == 1) (asked.Of4KiB call) (cond (level == 2) (asked.Of2MiB call) (asked.Of1GiB call))
+
 -- The call of a request to map a page.
 abbrev pub map_call : (L : ℕ) → MapRequest → MapperCall
 map_call L request =
-    let call = asked.MapToWithTableFlags (position_of L request.page.start) request.frame request.flags request.parent_flags in
-    cond (request.page.size == 0x1000) (asked.Of4KiB call) (cond (request.page.size == 0x20_0000) (asked.Of2MiB call) (asked.Of1GiB call))
+    on_page (level_of request.page.size) (asked.MapToWithTableFlags (position_of L request.page.start) request.frame request.flags request.parent_flags)
 
 -- What is wrong with the first and the last 4KiB page of a range.
 abbrev pub bad_range : (L first last : ℕ) → Option ℕ
@@ -49,15 +48,6 @@ to_map request = record { call = λ L. map_call L request; wrong = λ L. bad_map
 
 abbrev pub to_clean_up : (first last : ℕ) → Request
 to_clean_up first last = record { call = λ L. clean_up_call L first last; wrong = λ L. bad_range L first last }
-
--- How many levels a call is for, and what it asks.
-abbrev pub any_levels : AnyCall → ℕ
-any_levels (FourLevels call) = 4
-any_levels (FiveLevels call) = 5
-
-abbrev pub any_asks : AnyCall → MapperCall
-any_asks (FourLevels call) = asks no_bits call
-any_asks (FiveLevels call) = asks (λ flags. bits_of flags) call
 
 -- ---- what a caller lends
 

@@ -69,27 +69,39 @@ pub fn locate(hierarchy: &Hierarchy, table_count: usize) -> Result<Located, u32>
     if hierarchy.levels != 4 && hierarchy.levels != 5 {
         return Err(status::BAD_LEVELS);
     }
-    match root_of(hierarchy, table_count) {
-        Some(root) => Ok(Located {
-            root,
-            mapping: ShiftMapping::new(hierarchy.first),
-        }),
+    match locate_root(hierarchy, table_count) {
+        Some(located) => Ok(located),
         None => Err(status::BAD_ROOT),
     }
 }
 
-/// Returns the frame of a hierarchy's root, if it has one of so many tables.
-fn root_of(hierarchy: &Hierarchy, table_count: usize) -> Option<PhysFrame<Size4KiB>>
-    ensures some { IfSome result (λ root. root ≡ hierarchy.now.root) }
+/// Locates a hierarchy of `L` levels of tables in an array of so many tables, if its root is one of them.
+pub fn locate_in<L: LevelCount>(hierarchy: &Hierarchy, table_count: usize) -> Option<Located>
+    requires { hierarchy.now.levels ≡ L.LEVELS }
+    ensures bad { IfNone result (given.bad_hierarchy hierarchy.now table_count ≡ Some status.bad_root) }
+    ensures good { IfSome result (λ _. given.bad_hierarchy hierarchy.now table_count ≡ None) }
+    ensures root { IfSome result (λ located. located.root ≡ hierarchy.now.root) }
+    ensures places { IfSome result (λ located. given.places_of located ≡ shifted_places hierarchy.now.first) }
+{
+    locate_root(hierarchy, table_count)
+}
+
+/// Locates a hierarchy in an array of so many tables, whatever its number of levels, if its root is one of them.
+fn locate_root(hierarchy: &Hierarchy, table_count: usize) -> Option<Located>
     ensures there { IfSome result (λ _.
         given.has_table hierarchy.now.first table_count hierarchy.now.root ≡ true) }
     ensures none { IfNone result (
         given.has_table hierarchy.now.first table_count hierarchy.now.root ≡ false) }
+    ensures root { IfSome result (λ located. located.root ≡ hierarchy.now.root) }
+    ensures places { IfSome result (λ located. given.places_of located ≡ shifted_places hierarchy.now.first) }
 {
     let root = frame_at::<Size4KiB>(hierarchy.root)?;
-    let number = hierarchy.root / Size4KiB::SIZE;
-    if hierarchy.first <= number && number - hierarchy.first < table_count as u64 {
-        Some(root)
+    let place = root.pfn().checked_sub(hierarchy.first)?;
+    if place < table_count as u64 {
+        Some(Located {
+            root,
+            mapping: ShiftMapping::new(hierarchy.first),
+        })
     } else {
         None
     }

@@ -2,9 +2,9 @@
 ghost use Rattle.std.specs.Prelude.{◌≡◌, ℕ, length, Some, None};
 ghost use Rattle.x86_64_c.specs.Given as given;
 ghost use Rattle.x86_64_c.specs.Reads as reads;
-ghost use Rattle.x86_64_model.specs.Mapper.{Valid};
+ghost use Rattle.x86_64_model.specs.Mapper.{Valid, translation as translation_at};
 
-use crate::given::{Hierarchy, Located, locate};
+use crate::given::{Hierarchy, Located, locate_in};
 use crate::status;
 use bitflags::Flags;
 use x86_64::structures::paging::PageTable;
@@ -40,7 +40,6 @@ pub struct Translation {
 /// Walks to an address as the processor does, whatever words the tables hold.
 ///
 /// Returns `OK` with where the walk arrives, `NOT_MAPPED`, or what is wrong with an argument; then nothing is written.
-#[tactic(auto, using(crate::proofs::Arguments::handed_back))]
 #[unsafe(no_mangle)]
 pub extern "C" fn x64_page_walk(
     hierarchy: &Hierarchy,
@@ -55,35 +54,37 @@ pub extern "C" fn x64_page_walk(
         result walked.old walked.new }
     ensures tables { tables.new ≡ tables.old }
 {
-    let located = match locate(hierarchy, tables.len()) {
-        Ok(located) => located,
-        Err(status) => return status,
-    };
-    let memory = LentMemory::new(tables);
-    if hierarchy.levels == 4 {
-        walk_in::<FourLevels, _>(&memory, located, address, walked)
-    } else {
-        walk_in::<FiveLevels, _>(&memory, located, address, walked)
+    match hierarchy.levels {
+        4 => walk_in::<FourLevels>(hierarchy, tables, address, walked),
+        5 => walk_in::<FiveLevels>(hierarchy, tables, address, walked),
+        _ => status::BAD_LEVELS,
     }
 }
 
 /// Walks to an address with `L` levels of tables.
-fn walk_in<L: LevelCount, T: TableMemory>(
-    memory: &T,
-    located: Located,
+#[tactic(auto, using(crate::proofs::Arguments::handed_back))]
+fn walk_in<L: LevelCount>(
+    hierarchy: &Hierarchy,
+    tables: &mut [PageTable],
     address: u64,
     walked: &mut Walked,
 ) -> u32
-    ensures bad { (status : ℕ) → given.bad_address L.LEVELS address ≡ Some status
+    requires { hierarchy.now.levels ≡ L.LEVELS }
+    ensures bad { (status : ℕ) → given.bad_read hierarchy.now (length tables.old) address ≡ Some status
         → (result ≡ status) × (walked.new ≡ walked.old) }
-    ensures told { given.bad_address L.LEVELS address ≡ None
-        → reads.TellsWalk (reads.walk_to (given.at L.LEVELS located (T.tables memory.now)) address)
+    ensures told { given.bad_read hierarchy.now (length tables.old) address ≡ None
+        → reads.TellsWalk (reads.walk_to (given.hierarchy_in hierarchy.now tables.old) address)
         result walked.old walked.new }
+    ensures tables { tables.new ≡ tables.old }
 {
+    let Some(located) = locate_in::<L>(hierarchy, tables.len()) else {
+        return status::BAD_ROOT;
+    };
     let Some(address) = VirtAddrIn::<L>::checked_new(address) else {
         return status::BAD_ADDRESS;
     };
-    match page_walk(memory, &located.mapping, located.root, address) {
+    let memory = LentMemory::new(tables);
+    match page_walk(&memory, &located.mapping, located.root, address) {
         Some(arrival) => {
             *walked = Walked {
                 address: arrival.address.as_u64(),
@@ -100,7 +101,6 @@ fn walk_in<L: LevelCount, T: TableMemory>(
 ///
 /// Requires that the hierarchy is valid, which `x64_is_valid` tests. Returns `OK` with the translation, `NOT_MAPPED`, or what is wrong
 /// with an argument; then nothing is written.
-#[tactic(auto, using(crate::proofs::Arguments::handed_back))]
 #[unsafe(no_mangle)]
 pub extern "C" fn x64_translate(
     hierarchy: &Hierarchy,
@@ -118,39 +118,56 @@ pub extern "C" fn x64_translate(
         result translation.old translation.new }
     ensures tables { tables.new ≡ tables.old }
 {
-    let located = match locate(hierarchy, tables.len()) {
-        Ok(located) => located,
-        Err(status) => return status,
-    };
-    let mut memory = LentMemory::new(tables);
-    if hierarchy.levels == 4 {
-        translate_in::<FourLevels, _>(&mut memory, located, address, translation)
-    } else {
-        translate_in::<FiveLevels, _>(&mut memory, located, address, translation)
+    match hierarchy.levels {
+        4 => translate_in::<FourLevels>(hierarchy, tables, address, translation),
+        5 => translate_in::<FiveLevels>(hierarchy, tables, address, translation),
+        _ => status::BAD_LEVELS,
     }
 }
 
 /// Returns what an address is mapped to with `L` levels of tables.
-fn translate_in<L: LevelCount, T: TableMemory>(
-    memory: &mut T,
-    located: Located,
+#[tactic(auto, using(crate::proofs::Arguments::handed_back))]
+fn translate_in<L: LevelCount>(
+    hierarchy: &Hierarchy,
+    tables: &mut [PageTable],
     address: u64,
     translation: &mut Translation,
 ) -> u32
-    requires { given.bad_address L.LEVELS address ≡ None
-        → Valid (given.at L.LEVELS located (T.tables memory.old)) }
-    ensures bad { (status : ℕ) → given.bad_address L.LEVELS address ≡ Some status
+    requires levels { hierarchy.now.levels ≡ L.LEVELS }
+    requires valid { given.bad_read hierarchy.now (length tables.old) address ≡ None
+        → Valid (given.hierarchy_in hierarchy.now tables.old) }
+    ensures bad { (status : ℕ) → given.bad_read hierarchy.now (length tables.old) address ≡ Some status
         → (result ≡ status) × (translation.new ≡ translation.old) }
-    ensures told { given.bad_address L.LEVELS address ≡ None
+    ensures told { given.bad_read hierarchy.now (length tables.old) address ≡ None
         → reads.TellsTranslation
-        (reads.translation_of (given.at L.LEVELS located (T.tables memory.old)) address)
+        (reads.translation_of (given.hierarchy_in hierarchy.now tables.old) address)
+        result translation.old translation.new }
+    ensures tables { tables.new ≡ tables.old }
+{
+    let Some(located) = locate_in::<L>(hierarchy, tables.len()) else {
+        return status::BAD_ROOT;
+    };
+    let Some(address) = VirtAddrIn::<L>::checked_new(address) else {
+        return status::BAD_ADDRESS;
+    };
+    let mut memory = LentMemory::new(tables);
+    translate_at(&mut memory, located, address, translation)
+}
+
+/// Returns what a canonical address is mapped to.
+fn translate_at<L: LevelCount, T: TableMemory>(
+    memory: &mut T,
+    located: Located,
+    address: VirtAddrIn<L>,
+    translation: &mut Translation,
+) -> u32
+    requires { Valid (given.at L.LEVELS located (T.tables memory.old)) }
+    ensures told { reads.TellsTranslation
+        (translation_at (given.at L.LEVELS located (T.tables memory.old)) address)
         result translation.old translation.new }
     ensures memory { T.tables memory.new ≡ T.tables memory.old }
     ensures lent { T.lent memory.new ≡ T.lent memory.old }
 {
-    let Some(address) = VirtAddrIn::<L>::checked_new(address) else {
-        return status::BAD_ADDRESS;
-    };
     let mapper = MappedPageTableIn::<_, L, T>::new(memory, located.root, located.mapping);
     match calls::translate(&mapper, address) {
         TranslateResult::Mapped {

@@ -1,11 +1,10 @@
 //! The statuses that calls return.
 ghost use Rattle.std.specs.Prelude.{◌≡◌};
 ghost use Rattle.x86_64_c.specs.Calls as calls;
-ghost use Rattle.x86_64_tables.specs.MapperAnswers.{map_refusal, unmap_refusal, update_refusal, translate_refusal};
+ghost use Rattle.x86_64_tables.specs.MapperAnswers.{map_refusal, update_refusal};
 
 use x86_64::structures::paging::PageSize;
-use x86_64::structures::paging::mapper::{FlagUpdateError, MapToError, TranslateError, UnmapError};
-use x86_64::{LevelCount, MapperReply, PageReply, ReplyIn, SizeReplyIn};
+use x86_64::structures::paging::mapper::{FlagUpdateError, MapToError};
 
 /// Done.
 pub const OK: u32 = 0;
@@ -90,53 +89,5 @@ pub fn map_status<S: PageSize>(error: MapToError<S>) -> u32
         MapToError::FrameAllocationFailed => FRAME_ALLOCATION_FAILED,
         MapToError::ParentEntryHugePage => PARENT_ENTRY_HUGE_PAGE,
         MapToError::PageAlreadyMapped(_) => PAGE_ALREADY_MAPPED,
-    }
-}
-
-/// Returns the status of a refused unmap.
-fn unmap_status(error: UnmapError) -> u32
-    ensures { result ≡ calls.refusal_status (unmap_refusal error) }
-{
-    match error {
-        UnmapError::ParentEntryHugePage => PARENT_ENTRY_HUGE_PAGE,
-        UnmapError::PageNotMapped => PAGE_NOT_MAPPED,
-        UnmapError::InvalidFrameAddress(_) => INVALID_FRAME_ADDRESS,
-    }
-}
-
-/// Returns the status of a refused translation of a page.
-fn translate_status(error: TranslateError) -> u32
-    ensures { result ≡ calls.refusal_status (translate_refusal error) }
-{
-    match error {
-        TranslateError::PageNotMapped => PAGE_NOT_MAPPED,
-        TranslateError::ParentEntryHugePage => PARENT_ENTRY_HUGE_PAGE,
-        TranslateError::InvalidFrameAddress(_) => INVALID_FRAME_ADDRESS,
-    }
-}
-
-/// Returns the status of a reply to a call on a page.
-fn page_status<S: PageSize, L: LevelCount>(reply: SizeReplyIn<S, L>) -> u32
-    ensures { result ≡ calls.page_status reply }
-{
-    match reply {
-        PageReply::Map(Err(error)) => map_status(error),
-        PageReply::Unmap(Err(error)) => unmap_status(error),
-        PageReply::Update(Err(error)) | PageReply::TableFlags(Err(error)) => flags_status(error),
-        PageReply::Frame(Err(error)) => translate_status(error),
-        _ => OK,
-    }
-}
-
-/// Returns the status of a reply.
-pub fn reply_status<L: LevelCount>(reply: ReplyIn<L>) -> u32
-    ensures { result ≡ calls.reply_status reply }
-{
-    match reply {
-        MapperReply::Of4KiB(reply) => page_status(reply),
-        MapperReply::Of2MiB(reply) => page_status(reply),
-        MapperReply::Of1GiB(reply) => page_status(reply),
-        MapperReply::Translate(_) | MapperReply::Address(_) | MapperReply::Cleaned => OK,
-        MapperReply::NotAllowed => NOT_ALLOWED,
     }
 }

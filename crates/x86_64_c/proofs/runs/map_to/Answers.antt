@@ -1,0 +1,32 @@
+use Rattle.std.proofs.Common.{◌≡◌, true, false, refl, sym, ◌∙◌, rules}
+use Rattle.x86_64_model.specs.Mapper.{allows}
+use Rattle.x86_64_model.specs.PageCalls.{page_call}
+use Rattle.x86_64_model.proofs.Lemmas.Machines.Giving.{giving_from}
+use Rattle.x86_64_mappers.specs.Layouts.{direct_at}
+use Rattle.x86_64_tables.specs.MapperAnswers.{map_answer}
+use Rattle.x86_64_tables.specs.PageTableFlags.{bits_of}
+use Rattle.x86_64_tables.specs.Shifted.{shifted_is_mapping}
+use Rattle.x86_64.specs.Asked.{MapToWithTableFlags}
+use Rattle.x86_64_c.specs.Given.{places_of}
+use Rattle.x86_64_c.proofs.EntryChanges.{plain}
+use Rattle.x86_64_c.proofs.PoolSteps.{mapped, map_did, refused, seen_allows}
+use Rattle.x86_64_c.proofs.runs.map_to.Goals as goal
+
+pub returns-then-not-map_allowed-clause-runs : goal.returns-then-not-map_allowed-clause-runs
+returns-then-not-map_allowed-clause-runs g c =
+    let l = direct_at g.L.LevelCount.LEVELS (places_of c.args.located) c.args.located.root in
+    let level = g.S.PageSize.LEVEL in
+    let map = MapToWithTableFlags c.args.page c.args.frame (bits_of c.args.flags) (bits_of c.args.parent_flags) in
+    refused l _ (g.T.TableMemory.tables c.args.memory.now) c.args.page c.args.frame (bits_of c.args.flags) (bits_of c.args.parent_flags) c.requires level g.S.PageSize.low g.S.PageSize.high
+    (sym (seen_allows _ l _ _ c.new-mapper.ensures.layout c.new-mapper.ensures.memory (λ k. page_call k level map)) ∙ sym c.map_allowed.ensures ∙ c.if-not-map_allowed.true) _ (search rules)
+
+pub returns-clause-runs : goal.returns-clause-runs
+returns-clause-runs g c =
+    let l = direct_at g.L.LevelCount.LEVELS (places_of c.args.located) c.args.located.root in
+    let level = g.S.PageSize.LEVEL in
+    let map = MapToWithTableFlags c.args.page c.args.frame (bits_of c.args.flags) (bits_of c.args.parent_flags) in
+    mapped l _ (g.T.TableMemory.tables c.args.memory.now) c.args.page c.args.frame (bits_of c.args.flags) (bits_of c.args.parent_flags) _ _ _ g.L.LevelCount.at_least_four plain
+    (giving_from _ g.met.F.FrameDeallocator.take_back_rearranges) (shifted_is_mapping c.args.located.mapping.first) c.requires c.map_to_with_table_flags-mapped.result c.map_to_with_table_flags-mapped.ensures.page c.mapped_status.ensures
+    level g.S.PageSize.low g.S.PageSize.high
+    (map_did _ _ l _ _ c.new-mapper.ensures.layout c.new-mapper.ensures.memory (search rules) _ (λ k. page_call k level map) _ _ c.map_to_with_table_flags-mapped.ensures.does)
+    (sym (seen_allows _ l _ _ c.new-mapper.ensures.layout c.new-mapper.ensures.memory (λ k. page_call k level map)) ∙ sym c.map_allowed.ensures ∙ c.if-not-map_allowed.false)
