@@ -1,15 +1,15 @@
 //! Calls that change one entry: unmaps and changes of flags.
-ghost use Rattle.std.specs.Prelude.{◌≡◌, ◌≤◌, ℕ, true, false, length, Some, None};
+ghost use Rattle.std.specs.Prelude.{◌≡◌, ◌≤◌, ℕ, List, true, false, length, Option, Some, None};
 ghost use Rattle.x86_64_c.specs.Calls as calls;
 ghost use Rattle.x86_64_c.specs.Given as given;
-ghost use Rattle.x86_64_c.specs.Status as status;
 ghost use Rattle.x86_64_model.specs.Call.{UpdateFlags, SetFlags};
-ghost use Rattle.x86_64_model.specs.Mapper.{Valid, allows, path_of};
+ghost use Rattle.x86_64_model.specs.Mapper.{Hierarchy, Valid, allows, path_of};
 ghost use Rattle.x86_64_model.specs.Path.{path_at};
+ghost use Rattle.x86_64_model.specs.Refusal.{Refused};
 ghost use Rattle.x86_64_tables.specs.MapperAnswers.{unmap_answer, unmap_refusal, flags_answer};
 ghost use Rattle.x86_64_tables.specs.PageTableFlags.{bits_of};
 
-use crate::given::{AnyPage, Hierarchy, Located, Page, locate, page_of};
+use crate::given::{AnyPage, Hierarchy, Located, Page, locate_in, page_of};
 use crate::status::{self, flags_status};
 use bitflags::Flags;
 use x86_64::structures::paging::mapper::calls::{self, TableAccess};
@@ -18,6 +18,105 @@ use x86_64::structures::paging::mapper::{
 };
 use x86_64::structures::paging::{PageIn, PageSize, PageTable, PageTableFlags, PhysFrame};
 use x86_64::{FiveLevels, FourLevels, LentMemory, LevelCount, TableMemory, is_outside_window};
+
+/// What a change of an entry tells.
+#[derive(Clone, Copy)]
+pub struct Told {
+    /// The status.
+    pub status: u32,
+    /// The address that the changed entry names, if the change returns it.
+    pub address: Option<u64>,
+}
+
+impl Told {
+    /// Tells only a status.
+    fn only(status: u32) -> Told
+        ensures status { result.status ≡ status }
+        ensures address { result.address ≡ None }
+    {
+        Told {
+            status,
+            address: None,
+        }
+    }
+}
+
+/// A change of one entry on the path of a page.
+pub trait EntryChange {
+    /// What is wrong with the change, for a number of levels of tables.
+    ghost wrong: { Self → (levels : ℕ) → Option ℕ };
+
+    /// What the change does to a hierarchy, with the path of the page, and what it tells.
+    ghost makes: { Self → Hierarchy (Unit {0}) → (page : List ℕ) → (after : Hierarchy (Unit {0}))
+        → (status : ℕ) → (address : Option ℕ) → Type 0 };
+
+    /// Returns what is wrong with the change, for a number of levels of tables.
+    fn wrong_with(&self, levels: u64) -> Option<u32>
+        ensures { result ≡ wrong self.now levels };
+
+    /// Makes the change.
+    fn make<S: PageSize, L: LevelCount, T: TableMemory>(
+        &self,
+        memory: &mut T,
+        located: Located,
+        page: PageIn<S, L>,
+    ) -> Told
+        requires good { wrong self.now L.LEVELS ≡ None }
+        requires valid { Valid (given.at L.LEVELS located (T.tables memory.old)) }
+        ensures makes { makes self.now (given.at L.LEVELS located (T.tables memory.old))
+            (path_at L.LEVELS S.LEVEL page) (given.at L.LEVELS located (T.tables memory.new))
+            result.status result.address }
+        ensures lent { T.lent memory.new ≡ T.lent memory.old };
+}
+
+/// Makes a change in the caller's tables.
+fn make<C: EntryChange>(
+    hierarchy: &Hierarchy,
+    tables: &mut [PageTable],
+    page: &Page,
+    change: &C,
+) -> Told
+    requires { calls.MayMake (C.wrong change.now) hierarchy.now tables.old page.now }
+    ensures { calls.Makes (C.wrong change.now) (C.makes change.now) hierarchy.now tables.old page.now
+        tables.new result.status result.address }
+{
+    match hierarchy.levels {
+        4 => make_in::<FourLevels, _>(hierarchy, tables, page, change),
+        5 => make_in::<FiveLevels, _>(hierarchy, tables, page, change),
+        _ => Told::only(status::BAD_LEVELS),
+    }
+}
+
+/// Makes a change with `L` levels of tables.
+fn make_in<L: LevelCount, C: EntryChange>(
+    hierarchy: &Hierarchy,
+    tables: &mut [PageTable],
+    page: &Page,
+    change: &C,
+) -> Told
+    requires levels { hierarchy.now.levels ≡ L.LEVELS }
+    requires may { calls.MayMake (C.wrong change.now) hierarchy.now tables.old page.now }
+    ensures { calls.Makes (C.wrong change.now) (C.makes change.now) hierarchy.now tables.old page.now
+        tables.new result.status result.address }
+{
+    let Some(located) = locate_in::<L>(hierarchy, tables.len()) else {
+        return Told::only(status::BAD_ROOT);
+    };
+    if let Some(wrong) = change.wrong_with(L::LEVELS) {
+        return Told::only(wrong);
+    }
+    let Some(page) = page_of::<L>(page) else {
+        return Told::only(status::BAD_PAGE);
+    };
+    let mut memory = LentMemory::new(tables);
+    match page {
+        AnyPage::Of4KiB(page) => change.make(&mut memory, located, page),
+        AnyPage::Of2MiB(page) => change.make(&mut memory, located, page),
+        AnyPage::Of1GiB(page) => change.make(&mut memory, located, page),
+    }
+}
+
+// ---- unmaps
 
 /// Unmaps a page, as the mapper's `unmap` does, and writes the address of the frame that it was mapped to.
 ///
@@ -40,95 +139,76 @@ pub extern "C" fn x64_unmap(
         (given.path_of_page hierarchy.now.levels page.now)
         (given.hierarchy_in hierarchy.now tables.new) result frame.old frame.new }
 {
-    let located = match locate(hierarchy, tables.len()) {
-        Ok(located) => located,
-        Err(status) => return status,
-    };
-    let mut memory = LentMemory::new(tables);
-    if hierarchy.levels == 4 {
-        unmap_in::<FourLevels, _>(&mut memory, located, page, frame)
-    } else {
-        unmap_in::<FiveLevels, _>(&mut memory, located, page, frame)
+    let told = make(hierarchy, tables, page, &Unmap);
+    if let Some(address) = told.address {
+        *frame = address;
+    }
+    told.status
+}
+
+/// The unmap of a page.
+#[derive(Clone, Copy)]
+pub struct Unmap;
+
+impl EntryChange for Unmap {
+    ghost use Rattle.std.specs.Prelude.{None};
+    ghost use Rattle.x86_64_c.specs.Calls as calls;
+
+    ghost wrong = { λ _ levels. None };
+
+    ghost makes = { λ _. calls.TellsUnmap };
+
+    fn wrong_with(&self, _levels: u64) -> Option<u32> {
+        None
+    }
+
+    fn make<S: PageSize, L: LevelCount, T: TableMemory>(
+        &self,
+        memory: &mut T,
+        located: Located,
+        page: PageIn<S, L>,
+    ) -> Told {
+        let mut mapper = MappedPageTableIn::<_, L, T>::new(memory, located.root, located.mapping);
+        let unmapped = calls::unmap(&mut mapper, page);
+        tell_unmapped(unmapped)
     }
 }
 
-/// Unmaps a page with `L` levels of tables.
-fn unmap_in<L: LevelCount, T: TableMemory>(
-    memory: &mut T,
-    located: Located,
-    page: &Page,
-    frame: &mut u64,
-) -> u32
-    requires { given.bad_page L.LEVELS page.now ≡ None
-        → Valid (given.at L.LEVELS located (T.tables memory.old)) }
-    ensures bad { (status : ℕ) → given.bad_page L.LEVELS page.now ≡ Some status
-        → (result ≡ status) × (T.tables memory.new ≡ T.tables memory.old) × (frame.new ≡ frame.old) }
-    ensures unmaps { given.bad_page L.LEVELS page.now ≡ None
-        → calls.Unmaps (given.at L.LEVELS located (T.tables memory.old))
-        (given.path_of_page L.LEVELS page.now)
-        (given.at L.LEVELS located (T.tables memory.new)) result frame.old frame.new }
-    ensures lent { T.lent memory.new ≡ T.lent memory.old }
-{
-    let Some(page) = page_of::<L>(page) else {
-        return status::BAD_PAGE;
-    };
-    match page {
-        AnyPage::Of4KiB(page) => unmap_page(memory, located, page, frame),
-        AnyPage::Of2MiB(page) => unmap_page(memory, located, page, frame),
-        AnyPage::Of1GiB(page) => unmap_page(memory, located, page, frame),
-    }
-}
-
-/// Unmaps a page of a size.
-fn unmap_page<S: PageSize, L: LevelCount, T: TableMemory>(
-    memory: &mut T,
-    located: Located,
-    page: PageIn<S, L>,
-    frame: &mut u64,
-) -> u32
-    requires { Valid (given.at L.LEVELS located (T.tables memory.old)) }
-    ensures unmaps { calls.Unmaps (given.at L.LEVELS located (T.tables memory.old))
-        (path_at L.LEVELS S.LEVEL page)
-        (given.at L.LEVELS located (T.tables memory.new)) result frame.old frame.new }
-    ensures lent { T.lent memory.new ≡ T.lent memory.old }
-{
-    let mut mapper = MappedPageTableIn::<_, L, T>::new(memory, located.root, located.mapping);
-    let unmapped = calls::unmap(&mut mapper, page);
-    tell_unmapped(unmapped, frame)
-}
-
-/// Writes what an unmap returned, and returns its status.
+/// Tells what an unmap returned.
 fn tell_unmapped<S: PageSize, L: LevelCount>(
     unmapped: Result<(PhysFrame<S>, MapperFlushIn<S, L>), UnmapError>,
-    frame: &mut u64,
-) -> u32
-    ensures status { result ≡ calls.answer_status (unmap_answer unmapped) }
-    ensures frame { frame.new ≡ calls.told_frame (unmap_answer unmapped) frame.old }
+) -> Told
+    ensures status { result.status ≡ calls.answer_status (unmap_answer unmapped) }
+    ensures address { result.address ≡ calls.told_by (unmap_answer unmapped) }
 {
     match unmapped {
         Ok(unmapped) => {
             unmapped.1.ignore();
-            *frame = unmapped.0.start_address().as_u64();
-            status::OK
+            Told {
+                status: status::OK,
+                address: Some(unmapped.0.start_address().as_u64()),
+            }
         }
-        Err(error) => tell_refused(error, frame),
+        Err(error) => tell_refused(error),
     }
 }
 
-/// Writes the address that a refused unmap names, if it names one, and returns its status.
-fn tell_refused(error: UnmapError, frame: &mut u64) -> u32
-    ensures status { result ≡ calls.refusal_status (unmap_refusal error) }
-    ensures frame { frame.new ≡ calls.told_by (unmap_refusal error) frame.old }
+/// Tells why an unmap was refused.
+fn tell_refused(error: UnmapError) -> Told
+    ensures status { result.status ≡ calls.refusal_status (unmap_refusal error) }
+    ensures address { result.address ≡ calls.told_by (Refused (unmap_refusal error)) }
 {
     match error {
-        UnmapError::PageNotMapped => status::PAGE_NOT_MAPPED,
-        UnmapError::ParentEntryHugePage => status::PARENT_ENTRY_HUGE_PAGE,
-        UnmapError::InvalidFrameAddress(address) => {
-            *frame = address.as_u64();
-            status::INVALID_FRAME_ADDRESS
-        }
+        UnmapError::PageNotMapped => Told::only(status::PAGE_NOT_MAPPED),
+        UnmapError::ParentEntryHugePage => Told::only(status::PARENT_ENTRY_HUGE_PAGE),
+        UnmapError::InvalidFrameAddress(address) => Told {
+            status: status::INVALID_FRAME_ADDRESS,
+            address: Some(address.as_u64()),
+        },
     }
 }
+
+// ---- flags of pages
 
 /// Sets the flags of a page's own entry, as the mapper's `update_flags` does.
 ///
@@ -151,65 +231,44 @@ pub extern "C" fn x64_update_flags(
         (UpdateFlags (given.path_of_page hierarchy.now.levels page.now) flags)
         (given.hierarchy_in hierarchy.now tables.new) result }
 {
-    let located = match locate(hierarchy, tables.len()) {
-        Ok(located) => located,
-        Err(status) => return status,
-    };
-    let mut memory = LentMemory::new(tables);
     let flags = PageTableFlags::from_bits_retain(flags);
-    if hierarchy.levels == 4 {
-        update_in::<FourLevels, _>(&mut memory, located, page, flags)
-    } else {
-        update_in::<FiveLevels, _>(&mut memory, located, page, flags)
-    }
+    make(hierarchy, tables, page, &FlagsOfPage { flags }).status
 }
 
-/// Sets the flags of a page's own entry with `L` levels of tables.
-fn update_in<L: LevelCount, T: TableMemory>(
-    memory: &mut T,
-    located: Located,
-    page: &Page,
+/// The flags that a page's own entry is to have.
+#[derive(Clone, Copy)]
+pub struct FlagsOfPage {
     flags: PageTableFlags,
-) -> u32
-    requires { given.bad_page L.LEVELS page.now ≡ None
-        → Valid (given.at L.LEVELS located (T.tables memory.old)) }
-    ensures bad { (status : ℕ) → given.bad_page L.LEVELS page.now ≡ Some status
-        → (result ≡ status) × (T.tables memory.new ≡ T.tables memory.old) }
-    ensures updates { given.bad_page L.LEVELS page.now ≡ None
-        → calls.MayChange (given.at L.LEVELS located (T.tables memory.old))
-        (UpdateFlags (given.path_of_page L.LEVELS page.now) (bits_of flags))
-        (given.at L.LEVELS located (T.tables memory.new)) result }
-    ensures lent { T.lent memory.new ≡ T.lent memory.old }
-{
-    let Some(page) = page_of::<L>(page) else {
-        return status::BAD_PAGE;
-    };
-    match page {
-        AnyPage::Of4KiB(page) => update_page(memory, located, page, flags),
-        AnyPage::Of2MiB(page) => update_page(memory, located, page, flags),
-        AnyPage::Of1GiB(page) => update_page(memory, located, page, flags),
-    }
 }
 
-/// Sets the flags of a page's own entry, where the page has a size.
-fn update_page<S: PageSize, L: LevelCount, T: TableMemory>(
-    memory: &mut T,
-    located: Located,
-    page: PageIn<S, L>,
-    flags: PageTableFlags,
-) -> u32
-    requires { Valid (given.at L.LEVELS located (T.tables memory.old)) }
-    ensures updates { calls.MayChange (given.at L.LEVELS located (T.tables memory.old))
-        (UpdateFlags (path_at L.LEVELS S.LEVEL page) (bits_of flags))
-        (given.at L.LEVELS located (T.tables memory.new)) result }
-    ensures lent { T.lent memory.new ≡ T.lent memory.old }
-{
-    if flags.has_address_bits() {
-        return status::NOT_ALLOWED;
+impl EntryChange for FlagsOfPage {
+    ghost use Rattle.std.specs.Prelude.{None};
+    ghost use Rattle.x86_64_c.specs.Calls as calls;
+    ghost use Rattle.x86_64_model.specs.Call.{UpdateFlags};
+    ghost use Rattle.x86_64_tables.specs.PageTableFlags.{bits_of};
+
+    ghost wrong = { λ _ levels. None };
+
+    ghost makes = { λ new h page after status address.
+        calls.MayChange h (UpdateFlags page (bits_of new.flags)) after status };
+
+    fn wrong_with(&self, _levels: u64) -> Option<u32> {
+        None
     }
-    let mut mapper = MappedPageTableIn::<_, L, T>::new(memory, located.root, located.mapping);
-    let updated = calls::update_flags(&mut mapper, page, flags);
-    updated_status(updated)
+
+    fn make<S: PageSize, L: LevelCount, T: TableMemory>(
+        &self,
+        memory: &mut T,
+        located: Located,
+        page: PageIn<S, L>,
+    ) -> Told {
+        if self.flags.has_address_bits() {
+            return Told::only(status::NOT_ALLOWED);
+        }
+        let mut mapper = MappedPageTableIn::<_, L, T>::new(memory, located.root, located.mapping);
+        let updated = calls::update_flags(&mut mapper, page, self.flags);
+        Told::only(updated_status(updated))
+    }
 }
 
 /// Returns the status of a change of a page's flags.
@@ -226,6 +285,8 @@ fn updated_status<S: PageSize, L: LevelCount>(
         Err(error) => flags_status(error),
     }
 }
+
+// ---- flags of tables
 
 /// Sets the flags of the entry of a level from two up on a page's path, as the mapper's `set_flags_p4_entry` and its kin do.
 ///
@@ -250,74 +311,50 @@ pub extern "C" fn x64_set_table_flags(
         (SetFlags level (given.path_of_page hierarchy.now.levels page.now) flags)
         (given.hierarchy_in hierarchy.now tables.new) result }
 {
-    let located = match locate(hierarchy, tables.len()) {
-        Ok(located) => located,
-        Err(status) => return status,
-    };
-    if level < 2 || hierarchy.levels < level {
-        return status::BAD_LEVELS;
-    }
-    let mut memory = LentMemory::new(tables);
     let flags = PageTableFlags::from_bits_retain(flags);
-    if hierarchy.levels == 4 {
-        set_in::<FourLevels, _>(&mut memory, located, page, level, flags)
-    } else {
-        set_in::<FiveLevels, _>(&mut memory, located, page, level, flags)
-    }
+    make(hierarchy, tables, page, &FlagsOfTable { level, flags }).status
 }
 
-/// Sets the flags of the entry of a level on a page's path with `L` levels of tables.
-fn set_in<L: LevelCount, T: TableMemory>(
-    memory: &mut T,
-    located: Located,
-    page: &Page,
+/// The flags that the entry of a level from two up is to have.
+#[derive(Clone, Copy)]
+pub struct FlagsOfTable {
     level: u64,
     flags: PageTableFlags,
-) -> u32
-    requires low { 2 ≤ level }
-    requires high { level ≤ L.LEVELS }
-    requires valid { given.bad_page L.LEVELS page.now ≡ None
-        → Valid (given.at L.LEVELS located (T.tables memory.old)) }
-    ensures bad { (status : ℕ) → given.bad_page L.LEVELS page.now ≡ Some status
-        → (result ≡ status) × (T.tables memory.new ≡ T.tables memory.old) }
-    ensures sets { given.bad_page L.LEVELS page.now ≡ None
-        → calls.MayChange (given.at L.LEVELS located (T.tables memory.old))
-        (SetFlags level (given.path_of_page L.LEVELS page.now) (bits_of flags))
-        (given.at L.LEVELS located (T.tables memory.new)) result }
-    ensures lent { T.lent memory.new ≡ T.lent memory.old }
-{
-    let Some(page) = page_of::<L>(page) else {
-        return status::BAD_PAGE;
-    };
-    match page {
-        AnyPage::Of4KiB(page) => set_page(memory, located, page, level, flags),
-        AnyPage::Of2MiB(page) => set_page(memory, located, page, level, flags),
-        AnyPage::Of1GiB(page) => set_page(memory, located, page, level, flags),
-    }
 }
 
-/// Sets the flags of the entry of a level on a page's path, where the page has a size.
-fn set_page<S: PageSize, L: LevelCount, T: TableMemory>(
-    memory: &mut T,
-    located: Located,
-    page: PageIn<S, L>,
-    level: u64,
-    flags: PageTableFlags,
-) -> u32
-    requires low { 2 ≤ level }
-    requires high { level ≤ L.LEVELS }
-    requires valid { Valid (given.at L.LEVELS located (T.tables memory.old)) }
-    ensures sets { calls.MayChange (given.at L.LEVELS located (T.tables memory.old))
-        (SetFlags level (path_at L.LEVELS S.LEVEL page) (bits_of flags))
-        (given.at L.LEVELS located (T.tables memory.new)) result }
-    ensures lent { T.lent memory.new ≡ T.lent memory.old }
-{
-    let mut mapper = MappedPageTableIn::<_, L, T>::new(memory, located.root, located.mapping);
-    if !may_set(&mapper, page, level, flags) {
-        return status::NOT_ALLOWED;
+impl EntryChange for FlagsOfTable {
+    ghost use Rattle.x86_64_c.specs.Calls as calls;
+    ghost use Rattle.x86_64_c.specs.Given.{unless};
+    ghost use Rattle.x86_64_c.specs.Status.{bad_levels};
+    ghost use Rattle.x86_64_model.specs.Call.{SetFlags};
+    ghost use Rattle.x86_64_tables.specs.PageTableFlags.{bits_of};
+
+    ghost wrong = { λ new levels. unless (calls.is_table_level levels new.level) bad_levels };
+
+    ghost makes = { λ new h page after status address.
+        calls.MayChange h (SetFlags new.level page (bits_of new.flags)) after status };
+
+    fn wrong_with(&self, levels: u64) -> Option<u32> {
+        if self.level < 2 || levels < self.level {
+            Some(status::BAD_LEVELS)
+        } else {
+            None
+        }
     }
-    let set = calls::set_table_flags(&mut mapper, page, level, flags);
-    set_status(set)
+
+    fn make<S: PageSize, L: LevelCount, T: TableMemory>(
+        &self,
+        memory: &mut T,
+        located: Located,
+        page: PageIn<S, L>,
+    ) -> Told {
+        let mut mapper = MappedPageTableIn::<_, L, T>::new(memory, located.root, located.mapping);
+        if !may_set(&mapper, page, self.level, self.flags) {
+            return Told::only(status::NOT_ALLOWED);
+        }
+        let set = calls::set_table_flags(&mut mapper, page, self.level, self.flags);
+        Told::only(set_status(set))
+    }
 }
 
 /// Returns whether the flags of the entry of a level on a page's path may be set to these.

@@ -1,4 +1,4 @@
-use Rattle.std.proofs.Common.{rules}
+use Rattle.std.proofs.Common.{◌∙◌, rules}
 use Rattle.x86_64_model.specs.Call.{SetFlags}
 use Rattle.x86_64_model.specs.Path.{path_at}
 use Rattle.x86_64_mappers.specs.Layouts.{direct_at}
@@ -6,10 +6,10 @@ use Rattle.x86_64_tables.specs.MapperAnswers.{flags_answer}
 use Rattle.x86_64_tables.specs.PageTableFlags.{bits_of}
 use Rattle.x86_64_c.specs.Given.{places_of}
 use Rattle.x86_64_c.proofs.EntryChanges.{changes, plain, is_page}
-use Rattle.x86_64_c.proofs.changes.set_page.Goals as goal
+use Rattle.x86_64_c.proofs.changes.FlagsOfTableEntryChange.make.Goals as goal
 
-pub returns-clause-sets : goal.returns-clause-sets
-returns-clause-sets g c =
+pub returns-clause-makes : goal.returns-clause-makes
+returns-clause-makes g c =
     let L = g.L.LevelCount.LEVELS in
     let layout = direct_at L (places_of c.args.located) c.args.located.root in
     let page = is_page L g.L.LevelCount.at_least_four g.S.PageSize.LEVEL g.S.PageSize.low g.S.PageSize.high c.args.page in (
@@ -17,7 +17,7 @@ returns-clause-sets g c =
       λ may. (
         flags_answer _ c.set_table_flags-set.result,
         changes _ _ layout (g.T.TableMemory.tables c.args.memory.now) _ c.new-mapper.ensures.layout c.new-mapper.ensures.memory (search rules)
-            (SetFlags c.args.level (path_at L g.S.PageSize.LEVEL c.args.page) (bits_of c.args.flags)) _ c.set_status.result plain (c.requires.low, c.requires.high, page) may
-            c.set_table_flags-set.ensures (c.set_status.ensures _),
+            (SetFlags c.args.self.now.level (path_at L g.S.PageSize.LEVEL c.args.page) (bits_of c.args.self.now.flags)) _ c.only-2.result.status plain (search rules, search rules, page) may
+            c.set_table_flags-set.ensures (c.only-2.ensures.status ∙ c.set_status.ensures _),
       ),
     )

@@ -5,16 +5,16 @@ use Rattle.x86_64_mappers.specs.Layouts.{direct_at}
 use Rattle.x86_64_tables.specs.MapperAnswers.{unmap_answer}
 use Rattle.x86_64_c.specs.Given.{places_of}
 use Rattle.x86_64_c.proofs.EntryChanges.{changes, plain, is_page}
-use Rattle.x86_64_c.proofs.changes.unmap_page.Goals as goal
+use Rattle.x86_64_c.proofs.changes.UnmapEntryChange.make.Goals as goal
 
-pub returns-clause-unmaps : goal.returns-clause-unmaps
-returns-clause-unmaps g c =
+pub returns-clause-makes : goal.returns-clause-makes
+returns-clause-makes g c =
     let L = g.L.LevelCount.LEVELS in
     let layout = direct_at L (places_of c.args.located) c.args.located.root in
     let answer = unmap_answer c.unmap-unmapped.result in
     let page = is_page L g.L.LevelCount.at_least_four g.S.PageSize.LEVEL g.S.PageSize.low g.S.PageSize.high c.args.page in (
       answer,
       changes _ _ layout (g.T.TableMemory.tables c.args.memory.now) _ c.new-mapper.ensures.layout c.new-mapper.ensures.memory (search rules)
-          (Unmap (path_at L g.S.PageSize.LEVEL c.args.page)) answer c.tell_unmapped.result plain page refl c.unmap-unmapped.ensures.does c.tell_unmapped.ensures.status,
-      c.tell_unmapped.ensures.frame,
+          (Unmap (path_at L g.S.PageSize.LEVEL c.args.page)) answer c.tell_unmapped.result.status plain page refl c.unmap-unmapped.ensures.does c.tell_unmapped.ensures.status,
+      c.tell_unmapped.ensures.address,
     )
