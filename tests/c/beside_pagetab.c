@@ -5,6 +5,7 @@
  *     beside_pagetab output LEVELS SEED CALLS    makes the same calls by the library, and prints what pagetab has to print
  *
  * LEVELS is 4 or 5. The memory has 64 tables, from frame 0 on, and the root is in the frame 0x1000. At the end every word is shown.
+ * A range is made page by page, as pagetab does it, and by one call on a copy of the tables and the pool, which must end the same.
  */
 #include <inttypes.h>
 #include <stdio.h>
@@ -112,7 +113,7 @@ static void print_done(uint32_t status) {
 
 /* ---- calls, each as a line of the input or as its reply */
 
-static void map(void) {
+static x64_map_request some_map(void) {
     x64_map_request request = {.page = some_page(), .flags = some_flags(), .parent_flags = some_flags()};
     request.frame = below(UINT64_C(1) << 20) * X64_SIZE_1GIB + below(4) * request.page.size;
     request.frame &= (UINT64_C(1) << 52) - request.page.size;
@@ -120,42 +121,145 @@ static void map(void) {
         request.flags &= ~X64_HUGE_PAGE;
     if (!once_in(8))
         request.parent_flags &= ~X64_HUGE_PAGE;
+    return request;
+}
+
+/* Returns what a call returned; X64_OK where only its line is printed. */
+static uint32_t map(x64_map_request request) {
     if (is_input) {
         printf("map-with %s 0x%" PRIx64 " 0x%" PRIx64 " 0x%" PRIx64 " 0x%" PRIx64 "\n", size_name(request.page.size),
                request.page.start, request.frame, request.flags, request.parent_flags);
-        return;
+        return X64_OK;
     }
     uint32_t status = x64_map(&hierarchy, tables, TABLES, pool, TABLES, &free_count, &request);
     if (status == X64_PAGE_ALREADY_MAPPED)
         printf("page already mapped 0x%" PRIx64 "\n", request.frame);
     else
         print_done(status);
+    return status;
 }
 
-static void unmap(void) {
-    x64_page page = some_page();
+static uint32_t unmap(x64_page page, uint64_t *frame) {
     if (is_input) {
         printf("unmap %s 0x%" PRIx64 "\n", size_name(page.size), page.start);
-        return;
+        return X64_OK;
     }
-    uint64_t frame;
-    uint32_t status = x64_unmap(&hierarchy, tables, TABLES, &page, &frame);
+    uint32_t status = x64_unmap(&hierarchy, tables, TABLES, &page, frame);
     if (status == X64_OK)
-        printf("0x%" PRIx64 "\n", frame);
+        printf("0x%" PRIx64 "\n", *frame);
     else if (status == X64_INVALID_FRAME_ADDRESS)
-        printf("invalid frame address 0x%" PRIx64 "\n", frame);
+        printf("invalid frame address 0x%" PRIx64 "\n", *frame);
     else
         print_refusal(status);
+    return status;
 }
 
-static void update_flags(void) {
+static uint32_t update_flags(x64_page page, uint64_t flags) {
+    if (is_input) {
+        printf("update %s 0x%" PRIx64 " 0x%" PRIx64 "\n", size_name(page.size), page.start, flags);
+        return X64_OK;
+    }
+    uint32_t status = x64_update_flags(&hierarchy, tables, TABLES, &page, flags);
+    print_done(status);
+    return status;
+}
+
+static void change_flags(void) {
+    x64_page page = some_page();
+    update_flags(page, some_flags());
+}
+
+/* ---- ranges, also by one call on a copy */
+
+enum { MOST_PAGES = 5 };
+
+static x64_table copy[TABLES];
+static uint64_t copied_pool[TABLES];
+static size_t copied_count;
+
+static void copy_all(void) {
+    memcpy(copy, tables, sizeof tables);
+    memcpy(copied_pool, pool, sizeof pool);
+    copied_count = free_count;
+}
+
+/* Prints a line that pagetab never prints, unless something holds and the copy is as the tables and the pool are. */
+static void check_copy(bool holds) {
+    if (!holds || copied_count != free_count || memcmp(copied_pool, pool, free_count * sizeof *pool) != 0 ||
+        memcmp(copy, tables, sizeof tables) != 0)
+        printf("another range\n");
+}
+
+/* Makes the maps page by page. The range ends where the first one is refused. */
+static void map_range(void) {
+    x64_map_request request = some_map();
+    uint64_t count = below(MOST_PAGES + 1);
+    uint64_t done = count;
+    uint32_t expected = X64_OK;
+    uint32_t status = X64_NOT_ALLOWED;
+    if (!is_input) {
+        copy_all();
+        status = x64_map_range(&hierarchy, copy, TABLES, copied_pool, TABLES, &copied_count, &request, count, &done);
+        if (status == X64_NOT_ALLOWED)
+            check_copy(done == count);
+    }
+    for (uint64_t n = 0; n < count; n++) {
+        bool goes_on = expected == X64_OK;
+        uint32_t single = map(request);
+        if (goes_on && single != X64_OK && status != X64_NOT_ALLOWED) {
+            expected = single;
+            check_copy(status == single && done == n);
+        }
+        request.page.start += request.page.size;
+        request.frame += request.page.size;
+    }
+    if (expected == X64_OK && status != X64_NOT_ALLOWED)
+        check_copy(status == X64_OK && done == count);
+}
+
+static void unmap_range(void) {
+    x64_page page = some_page();
+    uint64_t count = below(MOST_PAGES + 1);
+    uint64_t frames[MOST_PAGES];
+    uint64_t unmapped[MOST_PAGES];
+    size_t frame_count = 0;
+    size_t unmapped_count = 0;
+    uint64_t done = count;
+    uint32_t status = X64_OK;
+    if (!is_input) {
+        copy_all();
+        status = x64_unmap_range(&hierarchy, copy, TABLES, &page, count, frames, MOST_PAGES, &frame_count, &done);
+    }
+    for (uint64_t n = 0; n < count; n++) {
+        if (unmap(page, &unmapped[unmapped_count]) == X64_OK)
+            unmapped_count++;
+        page.start += page.size;
+    }
+    if (!is_input)
+        check_copy(status == X64_OK && done == count && frame_count == unmapped_count &&
+                   memcmp(frames, unmapped, frame_count * sizeof *frames) == 0);
+}
+
+static void update_flags_range(void) {
     x64_page page = some_page();
     uint64_t flags = some_flags();
-    if (is_input)
-        printf("update %s 0x%" PRIx64 " 0x%" PRIx64 "\n", size_name(page.size), page.start, flags);
-    else
-        print_done(x64_update_flags(&hierarchy, tables, TABLES, &page, flags));
+    uint64_t count = below(MOST_PAGES + 1);
+    uint64_t changed = 0;
+    uint64_t expected = 0;
+    uint32_t status = X64_OK;
+    if (!is_input) {
+        copy_all();
+        status = x64_update_flags_range(&hierarchy, copy, TABLES, &page, count, flags, &changed);
+    }
+    for (uint64_t n = 0; n < count; n++) {
+        expected += update_flags(page, flags) == X64_OK;
+        page.start += page.size;
+    }
+    if (!is_input)
+        check_copy(changed == expected && (status == X64_OK || (status == X64_NOT_ALLOWED && changed == 0)));
 }
+
+/* ---- calls on tables and addresses */
 
 static void set_table_flags(void) {
     x64_page page = some_page();
@@ -250,12 +354,13 @@ static void show(size_t table, size_t index) {
 static void do_call(uint64_t number) {
     bool shrinks = number / PHASE % 2 == 1;
     uint64_t choice = below(100);
+    uint64_t frame;
     if (choice < 50 && (shrinks ? choice < 2 : choice < 35))
-        map();
+        once_in(8) ? map_range() : (void)map(some_map());
     else if (choice < 50)
-        unmap();
+        once_in(8) ? unmap_range() : (void)unmap(some_page(), &frame);
     else if (choice < 58)
-        update_flags();
+        once_in(8) ? update_flags_range() : change_flags();
     else if (choice < 64)
         set_table_flags();
     else if (choice < 69)
