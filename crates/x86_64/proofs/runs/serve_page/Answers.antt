@@ -25,12 +25,12 @@ is_served g c =
     let some = g.met.M.Tables.at_least_four mapper in
     elim c.match-call.branch [
       | in-MapTo w ↦ rw (w.in-MapTo.is, w.mapper-is, w.frames-is, w.result-is)
-          (map_to_served (g.M.Tables.hierarchy mapper) start w.in-MapTo.page w.in-MapTo.frame (bits_of w.in-MapTo.flags) w.map_to.result _ _ w.map_to.ensures.does w.map_to.ensures.page w.take.result w.take.ensures.result)
+          (map_to_served (g.M.Tables.hierarchy mapper) start w.in-MapTo.page w.in-MapTo.frame (bits_of w.in-MapTo.flags) w.map_to.result _ _ w.map_to.ensures.does.map w.map_to.ensures.page w.take.result w.take.ensures.result)
       | in-MapToWithTableFlags w ↦ rw (w.in-MapToWithTableFlags.is, w.mapper-is, w.frames-is, w.result-is)
           (map_with_flags_served (g.M.Tables.hierarchy mapper) start w.in-MapToWithTableFlags.page w.in-MapToWithTableFlags.frame (bits_of w.in-MapToWithTableFlags.flags) (bits_of w.in-MapToWithTableFlags.parent_flags) w.map_to_with_table_flags-mapped.result _ _
-          w.map_to_with_table_flags-mapped.ensures.does w.map_to_with_table_flags-mapped.ensures.page w.take-in-MapToWithTableFlags.result w.take-in-MapToWithTableFlags.ensures.result)
+          w.map_to_with_table_flags-mapped.ensures.does.map w.map_to_with_table_flags-mapped.ensures.page w.take-in-MapToWithTableFlags.result w.take-in-MapToWithTableFlags.ensures.result)
       | in-IdentityMap w ↦ rw (w.in-IdentityMap.is, w.mapper-is, w.frames-is, w.result-is)
-          (identity_map_served (g.M.Tables.hierarchy mapper) start w.in-IdentityMap.frame (bits_of w.in-IdentityMap.flags) w.identity_map.result _ _ w.identity_map.ensures.does w.identity_map.ensures.page w.take-in-IdentityMap.result w.take-in-IdentityMap.ensures.result)
+          (identity_map_served (g.M.Tables.hierarchy mapper) start w.in-IdentityMap.frame (bits_of w.in-IdentityMap.flags) w.identity_map.result _ _ w.identity_map.ensures.does.map w.identity_map.ensures.page w.take-in-IdentityMap.result w.take-in-IdentityMap.ensures.result)
       | in-Unmap w ↦ rw (w.in-Unmap.is, w.mapper-is, w.frames-is, w.result-is)
           (unmap_served (g.M.Tables.hierarchy mapper) start w.in-Unmap.page w.unmap.result _ w.unmap.ensures.does w.unmap.ensures.page w.take_unmapped.result w.take_unmapped.ensures.result)
       | in-UpdateFlags w ↦ rw (w.in-UpdateFlags.is, w.mapper-is, w.frames-is, w.result-is)
@@ -57,9 +57,9 @@ kept : (g : Over) (c : goal.Joined-call g) → IsKept (g.M.Tables.hierarchy c.ar
 kept g c =
     let h = g.M.Tables.hierarchy c.args.mapper.now in
     elim c.match-call.branch [
-      | in-MapTo w ↦ rw (w.mapper-is, w.frames-is) (map_kept h w.map_to.ensures.does w.map_to.ensures.serves)
-      | in-MapToWithTableFlags w ↦ rw (w.mapper-is, w.frames-is) (map_kept h w.map_to_with_table_flags-mapped.ensures.does w.map_to_with_table_flags-mapped.ensures.serves)
-      | in-IdentityMap w ↦ rw (w.mapper-is, w.frames-is) (map_kept h w.identity_map.ensures.does w.identity_map.ensures.serves)
+      | in-MapTo w ↦ rw (w.mapper-is, w.frames-is) (map_kept h w.map_to.ensures.does.map w.map_to.ensures.does.serves)
+      | in-MapToWithTableFlags w ↦ rw (w.mapper-is, w.frames-is) (map_kept h w.map_to_with_table_flags-mapped.ensures.does.map w.map_to_with_table_flags-mapped.ensures.does.serves)
+      | in-IdentityMap w ↦ rw (w.mapper-is, w.frames-is) (map_kept h w.identity_map.ensures.does.map w.identity_map.ensures.does.serves)
       | in-Unmap w ↦ rw (w.mapper-is, w.frames-is) (change_kept h w.unmap.ensures.does)
       | in-UpdateFlags w ↦ rw (w.mapper-is, w.frames-is) (change_kept h w.update_flags.ensures.does)
       | in-SetFlagsP5 w ↦ rw (w.mapper-is, w.frames-is) (change_kept h w.set_flags.ensures.sets.2)
