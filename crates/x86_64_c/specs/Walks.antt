@@ -1,7 +1,7 @@
 -- What a page walk tells with all rights.
 use Rattle.std.specs.Prelude.{◌≡◌, ℕ, Bool, map, Option, Some, None}
 use Rattle.x86_64_model.specs.Mapper.{Hierarchy}
-use Rattle.x86_64_model.specs.Mappings.{rights_of}
+use Rattle.x86_64_model.specs.Mappings.{Rights, rights_of}
 use Rattle.x86_64_model.specs.PageWalk.{Walked}
 use Rattle.x86_64_c.specs.Entries.{steps_to}
 use Rattle.x86_64_c.specs.Reads.{walk_to}
@@ -11,6 +11,10 @@ use Rattle.x86_64_c.specs.declared.walk.WalkResult.{WalkResult}
 -- Whether no entry that the walk to an address reads has NO_EXECUTE.
 abbrev pub may_execute : Hierarchy (Unit {0}) → (address : ℕ) → Bool
 may_execute h a = (rights_of (map (λ s. s.word) (steps_to h a))).execute
+
+-- An arrival at an address with these rights, as it is written.
+abbrev pub written : (address : ℕ) → Rights → WalkResult
+written address r = record { address = address; write = r.write; user = r.user; execute = r.execute }
 
 -- Where the walk arrives is written, and the status says that it does.
 abbrev pub Tells : Option Walked → (execute : Bool) → (status : ℕ) → (before after : WalkResult) → Type 0

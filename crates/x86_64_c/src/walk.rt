@@ -11,6 +11,7 @@ use crate::status;
 use x86_64::structures::paging::PageTable;
 use x86_64::{FiveLevels, FourLevels, LentMemory, LevelCount, TableMemory, VirtAddrIn};
 use x86_64_mappings::span;
+use x86_64_tables::page_table::Rights;
 
 /// The bits of an entry that are the address of a frame.
 const ADDRESS: u64 = 0x000f_ffff_ffff_f000;
@@ -27,6 +28,20 @@ pub struct WalkResult {
     pub user: bool,
     /// Whether no entry has `NO_EXECUTE`.
     pub execute: bool,
+}
+
+impl WalkResult {
+    /// Creates the result of a walk that arrives at an address with these rights.
+    fn of(address: u64, rights: Rights) -> WalkResult
+        ensures { result ≡ walks.written address rights }
+    {
+        WalkResult {
+            address,
+            write: rights.write,
+            user: rights.user,
+            execute: rights.execute,
+        }
+    }
 }
 
 /// Walks to an address as `x64_page_walk` does, whatever words the tables hold, and tells all rights.
@@ -90,12 +105,7 @@ fn walk_in<L: LevelCount, T: TableMemory>(
         return status::NOT_MAPPED;
     }
     let page = entries[count - 1];
-    *walked = WalkResult {
-        address: address_in(page.level, page.word, position),
-        write: rights.write,
-        user: rights.user,
-        execute: rights.execute,
-    };
+    *walked = WalkResult::of(address_in(page.level, page.word, position), rights);
     status::OK
 }
 

@@ -35,4 +35,4 @@ returns-clause-told g c = λ good.
     c.read_entries-count.ensures.writes c.if-end-ne-OK.false in
     let told = tells c.LEVELS.result words root c.position-position.result _ _ c.address_in.result c.read_entries-count.result.rights c.args.walked.now page
     c.read_entries-count.ensures.rights c.address_in.ensures in
-    told_at _ _ words root _ _ 0 c.args.walked.now _ c.LEVELS.ensures (c.position-position.ensures.value ∙ c.in-Some.ensures.position) told
+    rw c.of.ensures (told_at _ _ words root _ _ 0 c.args.walked.now _ c.LEVELS.ensures (c.position-position.ensures.value ∙ c.in-Some.ensures.position) told)
