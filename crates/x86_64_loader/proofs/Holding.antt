@@ -1,5 +1,5 @@
 -- Held positions: they come from runs of maps, stay through later maps, and page walks arrive at their addresses.
-use Rattle.std.proofs.Common.{◌≡◌, ◌<◌, ◌≤◌, ◌+◌, ◌-◌, ◌*◌, ◌/◌, ◌%◌, ℕ, false, List, Some, refl, sym, ap, ◌∙◌, subst, arith, pow_pos}
+use Rattle.std.proofs.Common.{◌≡◌, ◌<◌, ◌≤◌, ◌+◌, ◌-◌, ◌*◌, ◌/◌, ◌%◌, ℕ, false, Some, refl, sym, ap, ◌∙◌, subst, arith, pow_pos}
 use Rattle.std.proofs.Math.Nat.{add-mul-mod_self_right, div-lt_iff_lt-mul, div-mul-le_self, lt-div-mul-add}
 use Rattle.x86_64_model.specs.Arrivals.{NoWorse}
 use Rattle.x86_64_model.specs.Entry.{writable, user}
@@ -13,6 +13,7 @@ use Rattle.x86_64_model.proofs.Lemmas.Machines.Effects.{map_may}
 use Rattle.x86_64_model.proofs.Lemmas.Machines.Standing.{arrives_where_stands}
 use Rattle.x86_64_model.specs.MapRule.{parent_part}
 use Rattle.x86_64_model.specs.Mapper.{paths}
+use Rattle.x86_64_mappers.specs.Supplies.{Supply}
 use Rattle.x86_64_loader.specs.private.Held.{IsHeld, AreHeld}
 use Rattle.x86_64_loader.specs.Maps.{Kept}
 use Rattle.x86_64_loader.specs.Pages.{IsFree, Leaves, MayBeMapped, RunStands}
@@ -66,7 +67,7 @@ module _ {Lent : Type 0} (h : Hierarchy Lent) (p to given : ℕ) (held : IsHeld 
       ∙ ap (λ a. Some (record { address = a; write = writable given; user = user given })) there
 
   -- is still held after later maps
-  pub held_still : {supply : List ℕ} (after : Hierarchy Lent) (rest : List ℕ) → Leaves 3 h supply after rest → IsHeld after p to given
+  pub held_still : {supply : Supply} (after : Hierarchy Lent) (rest : Supply) → Leaves 3 h supply after rest → IsHeld after p to given
   held_still after rest left = record {
     level = held.level;
     page = held.page;
@@ -88,6 +89,6 @@ module _ {Lent : Type 0} (h : Hierarchy Lent) (p to given : ℕ) (held : IsHeld 
   held_reached valid = (record { address = to; write = writable given; user = user given }, held_arrives valid, record { same_place = refl; write_kept = λ a. a; user_kept = λ a. a })
 
 -- a page walk that arrived as it should still does after maps
-pub reached_after : {Lent : Type 0} {supply : List ℕ} (h after : Hierarchy Lent) (rest : List ℕ) (s : Segment) (o : ℕ) → Kept h supply after rest → ReachesAt h s o → ReachesAt after s o
+pub reached_after : {Lent : Type 0} {supply : Supply} (h after : Hierarchy Lent) (rest : Supply) (s : Segment) (o : ℕ) → Kept h supply after rest → ReachesAt h s o → ReachesAt after s o
 reached_after h after rest s o kept before =
     let now = kept.walks (s.page + o) before.0 before.1 in (now.0, now.1, no_worse_then _ before.0 now.0 before.2 now.2)

@@ -15,6 +15,7 @@ use Rattle.x86_64_model.specs.Refusal.{Answer, Refusal, Refused}
 use Rattle.x86_64_model.proofs.Lemmas.Runs.Runs.{replies_append, state_append}
 use Rattle.x86_64_tables.specs.MapperAnswers.{map_answer}
 use Rattle.x86_64_tables.specs.declared.mapper.MapToError.{MapToError}
+use Rattle.x86_64_mappers.specs.Supplies.{Supply, DoesMapFrom}
 use Rattle.x86_64.specs.Asked as asked
 use Rattle.x86_64.specs.Pairs.{put_first}
 use Rattle.x86_64.specs.declared.call_values.PageReply.TheVariants as reply
@@ -23,6 +24,10 @@ use Rattle.x86_64.proofs.Keeping.{keeps_nothing}
 use Rattle.x86_64.proofs.PageSteps.{Serves, Start, map_to_served}
 use Rattle.x86_64_loader.specs.Maps.{Accepts, Kept, Made, Refuses}
 use Rattle.x86_64_loader.specs.Segments.{mapping_of}
+
+-- the supply that a value is, by what it can hand out and what it serves
+abbrev pub supplied : {Self : Type 0} → (supply : Self → List ℕ) → (serves : Self → ℕ → Bool) → Self → Supply
+supplied supply serves value = record { frames = supply value; serves = serves value }
 
 -- ---- the machine's steps for them
 
@@ -81,31 +86,33 @@ pub gives_first : TakesBack put_first
 gives_first = record { same_frames = λ held f g. (λ i. i, λ i. i); each_once = λ held f once. once }
 
 -- no map
-pub kept_none : {Lent : Type 0} (h : Hierarchy Lent) (supply : List ℕ) → PoolFits h (λ f. true) supply → Kept h supply h supply
+pub kept_none : {Lent : Type 0} (h : Hierarchy Lent) (supply : Supply) → PoolFits h (λ f. true) supply.frames → Kept h supply h supply
 kept_none h supply fits = record {
   fits = fits;
-  keeps = λ serves fits. keeps_nothing h.layout serves h.memory supply fits;
-  free = nothing_keeps_free h.layout h.memory supply;
+  keeps = λ serves fits. keeps_nothing h.layout serves h.memory supply.frames fits;
+  serves = refl;
+  free = nothing_keeps_free h.layout h.memory supply.frames;
   walks = λ p w is. (w, is, record { same_place = refl; write_kept = λ a. a; user_kept = λ a. a });
   layout = refl;
   lent = refl;
 }
 
 -- one map
-pub kept_one : {Lent : Type 0} {S : Type 0} (h after : Hierarchy Lent) (supply rest : List ℕ) (level page frame given : ℕ) → 1 ≤ level → level ≤ 3 → 3 < h.layout.levels
+pub kept_one : {Lent : Type 0} {S : Type 0} (h after : Hierarchy Lent) (supply rest : Supply) (level page frame given : ℕ) → 1 ≤ level → level ≤ 3 → 3 < h.layout.levels
     → IsParentFlags h.layout.added_flags → IsMapping h.layout.places → (result : Result ℕ (MapToError S)) → IfOk result (λ flush. flush ≡ page)
-    → MayMap h supply (MapTo (path_of h level page) frame given) → DoesMap h supply (MapTo (path_of h level page) frame given) (map_answer frame result) after rest → Kept h supply after rest
+    → MayMap h supply.frames (MapTo (path_of h level page) frame given) → DoesMapFrom h supply (MapTo (path_of h level page) frame given) (map_answer frame result) after rest → Kept h supply after rest
 kept_one {S = S} h after supply rest level page frame given low high some adds mapping result same may does = record {
-  fits = does.fits;
+  fits = does.map.fits;
   keeps = λ serves fits. (served serves fits).keeps;
+  serves = does.serves;
   free = (served (λ f. true) may.fits).free;
-  walks = λ p w is. let v = does.walks (parent_part given) refl p w is in (v.0, v.1, v.2.no_worse);
-  layout = does.layout;
-  lent = does.lent;
+  walks = λ p w is. let v = does.map.walks (parent_part given) refl p w is in (v.0, v.1, v.2.no_worse);
+  layout = does.map.layout;
+  lent = does.map.lent;
 }
   where
-    start : (serves : ℕ → Bool) → PoolFits h serves supply → Start h.layout put_first serves h.memory supply level
+    start : (serves : ℕ → Bool) → PoolFits h serves supply.frames → Start h.layout put_first serves h.memory supply.frames level
     start serves fits = record { at_least_four = some; adds = adds; gives = gives_first; mapping = mapping; fits = fits; low = low; high = high }
 
-    served : (serves : ℕ → Bool) (fits : PoolFits h serves supply) → Serves S h.layout put_first serves h.memory supply level (asked.MapTo page frame given) after.memory rest (reply.Map result)
-    served serves fits = map_to_served h (start serves fits) page frame given result after rest does same result refl may.allowed
+    served : (serves : ℕ → Bool) (fits : PoolFits h serves supply.frames) → Serves S h.layout put_first serves h.memory supply.frames level (asked.MapTo page frame given) after.memory rest.frames (reply.Map result)
+    served serves fits = map_to_served h (start serves fits) page frame given result after rest.frames does.map same result refl may.allowed

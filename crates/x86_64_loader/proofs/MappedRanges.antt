@@ -15,6 +15,7 @@ use Rattle.x86_64_model.proofs.Lemmas.Machines.Owners.{does_map_to}
 use Rattle.x86_64_tables.specs.MapperAnswers.{map_refusal}
 use Rattle.x86_64_tables.specs.declared.mapper.MapToError.{MapToError}
 use Rattle.x86_64_mappers.specs.Ranges.{MapRange, MapsAll, MayMapRange, MapsEach, StopsAt, accepted, frame_at, map_at, range_of}
+use Rattle.x86_64_mappers.specs.Supplies.{Supply, DoesMapFrom}
 use Rattle.x86_64_mappers.proofs.Range.Runs.{accepted_more}
 use Rattle.x86_64_loader.specs.private.Loads.{AreMapped, IsStopped}
 use Rattle.x86_64_loader.specs.Maps.{Accepts, Made, Refuses}
@@ -34,20 +35,24 @@ may_map h four level size page frame given more count spans is may = record {
   allowed = λ k less. subst₂ (λ z m. allows_map h (path_of h level (page + k * z)) given m ≡ true) spans (sym is) (may k less).allowed;
 }
 
-module _ {Lent : Type 0} (h : Hierarchy Lent) (supply : List ℕ) (level page frame given : ℕ) (low : 1 ≤ level) (high : level ≤ 3) (some : 3 < h.layout.levels) (adds : IsParentFlags h.layout.added_flags)
-    (mapping : IsMapping h.layout.places) (is_present : present given ≡ true) (page_aligned : page % span level ≡ 0) (frame_aligned : frame % span level ≡ 0) (fits : SupplyFits h supply) where
+module _ {Lent : Type 0} (h : Hierarchy Lent) (supply : Supply) (level page frame given : ℕ) (low : 1 ≤ level) (high : level ≤ 3) (some : 3 < h.layout.levels) (adds : IsParentFlags h.layout.added_flags)
+    (mapping : IsMapping h.layout.places) (is_present : present given ≡ true) (page_aligned : page % span level ≡ 0) (frame_aligned : frame % span level ≡ 0) (fits : SupplyFits h supply.frames) where
   abbrev r : MapRange
   r = range_of level page frame given (parent_part given)
 
-  abbrev So_far : ℕ → Hierarchy Lent → List ℕ → Type 0
-  So_far k now left = AreMapped h supply level (span level) page frame given k now left
+  -- the supply with these frames left
+  abbrev holding : List ℕ → Supply
+  holding left = record { frames = left; serves = supply.serves }
 
-  start : So_far 0 h supply
+  abbrev So_far : ℕ → Hierarchy Lent → List ℕ → Type 0
+  So_far k now left = AreMapped h supply level (span level) page frame given k now (holding left)
+
+  start : So_far 0 h supply.frames
   start = record {
     stand = λ j before. absurd (omega (arith, before));
     were_free = λ l q f g multiple stands p from to. absurd (omega (arith, from, to));
     leaves = record { kept = kept_none h supply fits; pages = λ l q f g up stands. stands };
-    accepted = accepts_none h supply;
+    accepted = accepts_none h supply.frames;
   }
 
   -- the map of page k
@@ -71,43 +76,46 @@ module _ {Lent : Type 0} (h : Hierarchy Lent) (supply : List ℕ) (level page fr
     mapping_now : IsMapping now.layout.places
     mapping_now = subst (λ (l : Layout). IsMapping l.places) (sym same) mapping
 
-    does_to : DoesMap now left (MapTo (path_of now level p) f given) answer after rest
-    does_to = subst (λ (l : Layout). DoesMap now left (MapTo (path_at l.levels level p) f given) answer after rest) (sym same) (does_map_to now left answer after rest (path_at h.layout.levels level p) f given does)
+    does_to : DoesMapFrom now (holding left) (MapTo (path_of now level p) f given) answer after (holding rest)
+    does_to = record {
+      map = subst (λ (l : Layout). DoesMap now left (MapTo (path_at l.levels level p) f given) answer after rest) (sym same) (does_map_to now left answer after rest (path_at h.layout.levels level p) f given does);
+      serves = refl;
+    }
 
     may_to : MayMap now left (MapTo (path_of now level p) f given)
     may_to = subst (λ (l : Layout). MayMap now left (MapTo (path_at l.levels level p) f given)) (sym same) (record { fits = may.fits; allowed = may.allowed })
 
     made : Made now left (mapping_of level p f given ∷ []) (Answered answer ∷ []) after rest
-    made = made_one now left level p f given answer after rest may_to does_to
+    made = made_one now left level p f given answer after rest may_to does_to.map
 
     -- it was accepted
     done_more : answer ≡ Done f → f < 2 ^ 52 → So_far (suc k) after rest
     done_more accepts there =
-        let to = subst (λ a. DoesMap now left (MapTo (path_of now level p) f given) a after rest) accepts does_to in
+        let to = subst (λ a. DoesMapFrom now (holding left) (MapTo (path_of now level p) f given) a after (holding rest)) accepts does_to in
         let one = subst (λ a. Made now left (mapping_of level p f given ∷ []) (Answered a ∷ []) after rest) accepts made in
-        let stands = makes_stand now after left rest level (span level) p f given refl low high some_now may_to adds_now there (add-mul-mod_self_right frame k (span level) ∙ frame_aligned) is_present to in
-        let free = was_free now after left rest level (span level) p f given refl low high some_now may_to (add-mul-mod_self_right page k (span level) ∙ page_aligned) to in
-        let leave = leaves now after left rest level (span level) p f given refl low high some_now may_to {S = ℕ} (Ok p) 3 refl (inr (done_not_refused f)) adds_now mapping_now to in
+        let stands = makes_stand now after (holding left) (holding rest) level (span level) p f given refl low high some_now may_to adds_now there (add-mul-mod_self_right frame k (span level) ∙ frame_aligned) is_present to in
+        let free = was_free now after (holding left) (holding rest) level (span level) p f given refl low high some_now may_to (add-mul-mod_self_right page k (span level) ∙ page_aligned) to in
+        let leave = leaves now after (holding left) (holding rest) level (span level) p f given refl low high some_now may_to {S = ℕ} (Ok p) 3 refl (inr (done_not_refused f)) adds_now mapping_now to in
         subst (λ j. So_far j after rest) (add-one k) (record {
-          stand = one_more_stands h now after rest level (span level) page frame given k high so_far.stand leave stands;
-          were_free = one_more_free h now after rest level (span level) page frame given k left so_far.were_free so_far.leaves free;
-          leaves = leaves_then h now after left rest 3 3 3 (omega arith) (omega arith) so_far.leaves leave;
-          accepted = subst (λ pages. Accepts h supply pages after rest) (sym (run_more level page frame given k))
-              (accepts_then h now after supply left rest (run_of level page frame given k) (mapping_of level p f given ∷ []) same so_far.accepted one);
+          stand = one_more_stands h now after (holding rest) level (span level) page frame given k high so_far.stand leave stands;
+          were_free = one_more_free h now after (holding rest) level (span level) page frame given k (holding left) so_far.were_free so_far.leaves free;
+          leaves = leaves_then h now after (holding left) (holding rest) 3 3 3 (omega arith) (omega arith) so_far.leaves leave;
+          accepted = subst (λ pages. Accepts h supply.frames pages after rest) (sym (run_more level page frame given k))
+              (accepts_then h now after supply.frames left rest (run_of level page frame given k) (mapping_of level p f given ∷ []) same so_far.accepted one);
         })
 
     -- it was refused
-    refused_more : {S : Type 0} (why : MapToError S) → answer ≡ Refused (map_refusal why) → (count : ℕ) → k < count → IsStopped h supply level (span level) page frame given count k (map_refusal why) after rest
+    refused_more : {S : Type 0} (why : MapToError S) → answer ≡ Refused (map_refusal why) → (count : ℕ) → k < count → IsStopped h supply level (span level) page frame given count k (map_refusal why) after (holding rest)
     refused_more {S} why refuses count less =
-        let to = subst (λ a. DoesMap now left (MapTo (path_of now level p) f given) a after rest) refuses does_to in
+        let to = subst (λ a. DoesMapFrom now (holding left) (MapTo (path_of now level p) f given) a after (holding rest)) refuses does_to in
         let one = subst (λ a. Made now left (mapping_of level p f given ∷ []) (Answered a ∷ []) after rest) refuses made in
-        let leave = leaves now after left rest level (span level) p f given refl low high some_now may_to {S = S} (Err why) level tt (inl (omega arith)) adds_now mapping_now to in
+        let leave = leaves now after (holding left) (holding rest) level (span level) p f given refl low high some_now may_to {S = S} (Err why) level tt (inl (omega arith)) adds_now mapping_now to in
         record {
           within = less;
           stand = λ j before. leave.pages level (page + j * span level) (frame + j * span level) given (omega arith) (so_far.stand j before);
-          leaves = leaves_then h now after left rest 3 level level high (omega arith) so_far.leaves leave;
-          refused = subst (λ pages. Refuses h supply pages (mapping_of level p f given) (map_refusal why) after rest) (append-nil (run_of level page frame given k))
-              (refuses_then h now after supply left rest (run_of level page frame given k) [] same (mapping_of level p f given) (map_refusal why) so_far.accepted one);
+          leaves = leaves_then h now after (holding left) (holding rest) 3 level level high (omega arith) so_far.leaves leave;
+          refused = subst (λ pages. Refuses h supply.frames pages (mapping_of level p f given) (map_refusal why) after rest) (append-nil (run_of level page frame given k))
+              (refuses_then h now after supply.frames left rest (run_of level page frame given k) [] same (mapping_of level p f given) (map_refusal why) so_far.accepted one);
         }
 
   -- ---- all maps
@@ -119,24 +127,29 @@ module _ {Lent : Type 0} (h : Hierarchy Lent) (supply : List ℕ) (level page fr
       let last = parts.1 in
       (parts.0, cc)
 
-  all_so_far : (total : ℕ) → ((k : ℕ) → k < total → frame + k * span level < 2 ^ 52) → (now : Hierarchy Lent) (left : List ℕ) → MapsEach h supply r total (accepted r total) now left → So_far total now left
+  all_so_far : (total : ℕ) → ((k : ℕ) → k < total → frame + k * span level < 2 ^ 52) → (now : Hierarchy Lent) (left : List ℕ) → MapsEach h supply.frames r total (accepted r total) now left → So_far total now left
   all_so_far zero there now left (none, same, rest) = subst₂ (λ now left. So_far 0 now left) (sym same) (sym rest) start
   all_so_far (suc k) there now left (mid, between, before, each, next) =
       let last = last_accepted k before next.answer next.last in
-      let so_far = all_so_far k (λ j less. there j (omega (arith, less))) mid between (subst (λ rs. MapsEach h supply r k rs mid between) last.0 each) in
+      let so_far = all_so_far k (λ j less. there j (omega (arith, less))) mid between (subst (λ rs. MapsEach h supply.frames r k rs mid between) last.0 each) in
       done_more k mid between so_far next.answer next.may now left next.does last.1 (there k (omega arith))
 
-  pub all_mapped : (count : ℕ) → ((k : ℕ) → k < count → frame + k * span level < 2 ^ 52) → (after : Hierarchy Lent) (rest : List ℕ) → MapsAll h supply r count after rest → So_far count after rest
-  all_mapped count there after rest maps = all_so_far count there after rest maps.each
+  pub all_mapped : (count : ℕ) → ((k : ℕ) → k < count → frame + k * span level < 2 ^ 52) → (after : Hierarchy Lent) (rest : Supply) → MapsAll h supply.frames r count after rest.frames → rest.serves ≡ supply.serves
+      → AreMapped h supply level (span level) page frame given count after rest
+  all_mapped count there after rest maps served =
+      subst (λ s. AreMapped h supply level (span level) page frame given count after (record { frames = rest.frames; serves = s })) (sym served) (all_so_far count there after rest.frames maps.each)
 
-  pub some_mapped : {S : Type 0} (count done : ℕ) (why : MapToError S) → ((k : ℕ) → k < count → frame + k * span level < 2 ^ 52) → (after : Hierarchy Lent) (rest : List ℕ) → StopsAt h supply r count done (map_refusal why) after rest
-      → IsStopped h supply level (span level) page frame given count done (map_refusal why) after rest
-  some_mapped count done why there after rest stops = by (subst (λ n. MapsEach h supply r n (accepted r done ++ Answered (Refused (map_refusal why)) ∷ []) after rest) (add-one done) stops.1.each)
+  pub some_mapped : {S : Type 0} (count done : ℕ) (why : MapToError S) → ((k : ℕ) → k < count → frame + k * span level < 2 ^ 52) → (after : Hierarchy Lent) (rest : Supply) → StopsAt h supply.frames r count done (map_refusal why) after rest.frames
+      → rest.serves ≡ supply.serves → IsStopped h supply level (span level) page frame given count done (map_refusal why) after rest
+  some_mapped count done why there after rest stops served =
+      subst (λ s. IsStopped h supply level (span level) page frame given count done (map_refusal why) after (record { frames = rest.frames; serves = s })) (sym served)
+      (by (subst (λ n. MapsEach h supply.frames r n (accepted r done ++ Answered (Refused (map_refusal why)) ∷ []) after rest.frames) (add-one done) stops.1.each))
     where
-      by : MapsEach h supply r (suc done) (accepted r done ++ Answered (Refused (map_refusal why)) ∷ []) after rest → IsStopped h supply level (span level) page frame given count done (map_refusal why) after rest
+      by : MapsEach h supply.frames r (suc done) (accepted r done ++ Answered (Refused (map_refusal why)) ∷ []) after rest.frames
+          → IsStopped h supply level (span level) page frame given count done (map_refusal why) after (holding rest.frames)
       by (mid, between, before, each, next) =
           let parts = same_from_push before (accepted r done) (Answered next.answer) (Answered (Refused (map_refusal why))) (sym next.last) in
           let last = parts.1 in
           let less = stops.0 in
-          let so_far = all_so_far done (λ j before. there j (omega (arith, before, less))) mid between (subst (λ rs. MapsEach h supply r done rs mid between) parts.0 each) in
-          refused_more done mid between so_far next.answer next.may after rest next.does why (cc) count less
+          let so_far = all_so_far done (λ j before. there j (omega (arith, before, less))) mid between (subst (λ rs. MapsEach h supply.frames r done rs mid between) parts.0 each) in
+          refused_more done mid between so_far next.answer next.may after rest.frames next.does why (cc) count less

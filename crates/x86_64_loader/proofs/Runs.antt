@@ -16,6 +16,7 @@ use Rattle.x86_64_model.proofs.Lemmas.Lists.All.{all_mapped}
 use Rattle.x86_64_model.proofs.Lemmas.Machines.PageMappings.{allowed_again}
 use Rattle.x86_64.specs.FreeFrames.{KeepsFree}
 use Rattle.x86_64_model.specs.Store.{KeepsPool}
+use Rattle.x86_64_mappers.specs.Supplies.{Supply}
 use Rattle.x86_64.proofs.FreeFrames as frees
 use Rattle.x86_64.proofs.Keeping.{keeps_then}
 use Rattle.x86_64_loader.specs.Maps.{Kept}
@@ -37,15 +38,16 @@ no_worse_then w v x one two = record {
 }
 
 -- maps after other maps
-pub kept_then : {Lent : Type 0} {supply : List ℕ} (h now after : Hierarchy Lent) (between rest : List ℕ) → Kept h supply now between → Kept now between after rest → Kept h supply after rest
+pub kept_then : {Lent : Type 0} {supply : Supply} (h now after : Hierarchy Lent) (between rest : Supply) → Kept h supply now between → Kept now between after rest → Kept h supply after rest
 kept_then {supply = supply} h now after between rest one two = record {
   fits = two.fits;
   keeps = λ serves fits. let first = one.keeps serves fits in
-      keeps_then h.layout serves h.memory now.memory after.memory supply between rest first
-      (subst (λ (l : Layout). KeepsPool l serves now.memory between after.memory rest) one.layout
-      (two.keeps serves (subst (λ (l : Layout). PoolFits (l laid_in now.memory) serves between) (sym one.layout) first.fits)));
-  free = frees.free_then h.layout h.memory now.memory after.memory supply between rest [] [] one.free
-      (subst (λ (l : Layout). KeepsFree l now.memory between [] after.memory rest) one.layout two.free);
+      keeps_then h.layout serves h.memory now.memory after.memory supply.frames between.frames rest.frames first
+      (subst (λ (l : Layout). KeepsPool l serves now.memory between.frames after.memory rest.frames) one.layout
+      (two.keeps serves (subst (λ (l : Layout). PoolFits (l laid_in now.memory) serves between.frames) (sym one.layout) first.fits)));
+  serves = two.serves ∙ one.serves;
+  free = frees.free_then h.layout h.memory now.memory after.memory supply.frames between.frames rest.frames [] [] one.free
+      (subst (λ (l : Layout). KeepsFree l now.memory between.frames [] after.memory rest.frames) one.layout two.free);
   walks = λ p w is.
       let v = one.walks p w is in let x = two.walks p v.0 v.1 in
       (x.0, x.1, no_worse_then w v.0 x.0 v.2 x.2);
@@ -53,15 +55,15 @@ kept_then {supply = supply} h now after between rest one two = record {
   lent = two.lent ∙ one.lent;
 }
 
-pub leaves_then : {Lent : Type 0} {supply : List ℕ} (h now after : Hierarchy Lent) (between rest : List ℕ) (first second highest : ℕ) → highest ≤ first → highest ≤ second
+pub leaves_then : {Lent : Type 0} {supply : Supply} (h now after : Hierarchy Lent) (between rest : Supply) (first second highest : ℕ) → highest ≤ first → highest ≤ second
     → Leaves first h supply now between → Leaves second now between after rest → Leaves highest h supply after rest
 leaves_then h now after between rest first second highest in_first in_second one two = record {
   kept = kept_then h now after between rest one.kept two.kept;
   pages = λ level page frame given low stands. two.pages level page frame given (omega (arith, low, in_second)) (one.pages level page frame given (omega (arith, low, in_first)) stands);
 }
 
-pub may_now : {Lent : Type 0} {supply : List ℕ} (h now : Hierarchy Lent) (rest : List ℕ) (level size page frame given k : ℕ) → present given ≡ true → Leaves 3 h supply now rest
-    → MayBeMapped h level size page frame given k → MayMap now rest (MapTo (path_of now level (page + k * size)) (frame + k * size) given)
+pub may_now : {Lent : Type 0} {supply : Supply} (h now : Hierarchy Lent) (rest : Supply) (level size page frame given k : ℕ) → present given ≡ true → Leaves 3 h supply now rest
+    → MayBeMapped h level size page frame given k → MayMap now rest.frames (MapTo (path_of now level (page + k * size)) (frame + k * size) given)
 may_now h now rest level size page frame given k is_present left may = record {
   fits = left.kept.fits;
   allowed = subst (λ (l : Layout). map_allowed l.levels l.window (paths now) (path_at l.levels level (page + k * size)) given (parent_part given) ≡ true) (sym left.kept.layout)
@@ -72,24 +74,24 @@ pub one_more_page : (k size : ℕ) → (k + 1) * size ≡ k * size + size
 one_more_page k size = add-mul k 1 size ∙ ap (λ n. k * size + n) (one-mul size)
 
 -- positions that were free, followed by others
-pub free_then : {Lent : Type 0} {supply : List ℕ} (h now : Hierarchy Lent) (between : List ℕ) (a m b n start size : ℕ) → a ≤ start → b ≤ a + m → start + size ≤ b + n
+pub free_then : {Lent : Type 0} {supply : Supply} (h now : Hierarchy Lent) (between : Supply) (a m b n start size : ℕ) → a ≤ start → b ≤ a + m → start + size ≤ b + n
     → IsFree h a m → Leaves 3 h supply now between → IsFree now b n → IsFree h start size
 free_then h now between a m b n start size from meet to free left this l q f g multiple stands p starts ends its_from its_to = elim (cases_lt p (a + m)) [
   | inl before ↦ free l q f g multiple stands p (omega (arith, from, starts)) before its_from its_to
   | inr not_before ↦ this l q f g multiple (left.pages l q f g stands.asks.high stands) p (omega (arith, not_before, meet)) (omega (arith, ends, to)) its_from its_to
 ]
 
-module _ {Lent : Type 0} (h now after : Hierarchy Lent) (rest : List ℕ) (level size page frame given k : ℕ) where
-  pub one_more_stands : {between : List ℕ} → level ≤ 3 → RunStands now level size page frame given k → Leaves 3 now between after rest → Stands after level (page + k * size) (frame + k * size) given
+module _ {Lent : Type 0} (h now after : Hierarchy Lent) (rest : Supply) (level size page frame given k : ℕ) where
+  pub one_more_stands : {between : Supply} → level ≤ 3 → RunStands now level size page frame given k → Leaves 3 now between after rest → Stands after level (page + k * size) (frame + k * size) given
       → RunStands after level size page frame given (k + 1)
   one_more_stands high stand left this = one_more (λ j. Stands after level (page + j * size) (frame + j * size) given) k
       (λ j before. left.pages level (page + j * size) (frame + j * size) given high (stand j before)) this
 
-  pub one_more_free : {supply : List ℕ} (between : List ℕ) → IsFree h page (k * size) → Leaves 3 h supply now between → IsFree now (page + k * size) size → IsFree h page ((k + 1) * size)
+  pub one_more_free : {supply : Supply} (between : Supply) → IsFree h page (k * size) → Leaves 3 h supply now between → IsFree now (page + k * size) size → IsFree h page ((k + 1) * size)
   one_more_free between free left this = let more = one_more_page k size in
       free_then h now between page (k * size) (page + k * size) size page ((k + 1) * size) (omega arith) (omega arith) (omega (arith, more)) free left this
 
 -- pages that stand still do after maps
-pub still_stand : {Lent : Type 0} (h after : Hierarchy Lent) (supply rest : List ℕ) → Leaves 3 h supply after rest → (pages : List PageMapping) → AllStand h pages → AllStand after pages
+pub still_stand : {Lent : Type 0} (h after : Hierarchy Lent) (supply rest : Supply) → Leaves 3 h supply after rest → (pages : List PageMapping) → AllStand h pages → AllStand after pages
 still_stand h after supply rest left pages =
     all_mapped (λ x. Stands h x.level x.page x.frame x.flags) (λ x. Stands after x.level x.page x.frame x.flags) (λ x stands. left.pages x.level x.page x.frame x.flags stands.asks.high stands) pages

@@ -10,6 +10,7 @@ use Rattle.x86_64_model.specs.Mapper.{Hierarchy, Valid}
 use Rattle.x86_64_model.specs.PageMappings.{PageMapping}
 use Rattle.x86_64_tables.specs.MapperAnswers.{map_refusal}
 use Rattle.x86_64_tables.specs.PageTableFlags.{bits_of}
+use Rattle.x86_64_mappers.specs.Supplies.{Supply}
 use Rattle.x86_64_loader.specs.private.Loads.{HoldsSegment, IsHalted}
 use Rattle.x86_64_loader.specs.Maps.{Accepts, Refuses}
 use Rattle.x86_64_loader.specs.Pages.{IsFree, Leaves}
@@ -21,7 +22,7 @@ use Rattle.x86_64_loader.proofs.Made.{refuses_then}
 use Rattle.x86_64_loader.proofs.Runs.{may_now, one_more}
 
 -- a segment that may be loaded still may after maps
-pub still_allowed : {Lent : Type 0} {supply : List ℕ} (h now : Hierarchy Lent) (rest : List ℕ) (s : Segment) → Leaves 3 h supply now rest → IsAllowed h s → IsAllowed now s
+pub still_allowed : {Lent : Type 0} {supply : Supply} (h now : Hierarchy Lent) (rest : Supply) (s : Segment) → Leaves 3 h supply now rest → IsAllowed h s → IsAllowed now s
 still_allowed h now rest s left allowed = record {
   is_present = allowed.is_present;
   each_page = λ k within. let may = allowed.each_page k within in record {
@@ -56,8 +57,8 @@ module _ (segments : List Segment) (i : ℕ) (s : Segment) (here : i < length se
   pub allowed_at : {Lent : Type 0} (h : Hierarchy Lent) → All (IsAllowed h) segments → IsAllowed h s
   allowed_at h all = subst (IsAllowed h) (is_at s) (all i s here)
 
-  module _ {Lent : Type 0} (now after : Hierarchy Lent) (rest : List ℕ) (held : (j : ℕ) (d : Segment) → j < i → HoldsSegment now (get_or segments j d)) where
-    pub held_next : {between : List ℕ} → Leaves 3 now between after rest → HoldsSegment after s → (j : ℕ) (d : Segment) → j < i + 1 → HoldsSegment after (get_or segments j d)
+  module _ {Lent : Type 0} (now after : Hierarchy Lent) (rest : Supply) (held : (j : ℕ) (d : Segment) → j < i → HoldsSegment now (get_or segments j d)) where
+    pub held_next : {between : Supply} → Leaves 3 now between after rest → HoldsSegment after s → (j : ℕ) (d : Segment) → j < i + 1 → HoldsSegment after (get_or segments j d)
     held_next left = next_too (HoldsSegment after)
         (λ j d before o low fits. let t = get_or segments j d in held_still now (t.page + o) (t.frame + o) (bits_of t.flags) (held j d before o low fits) after rest left)
 
@@ -74,8 +75,8 @@ module _ (segments : List Segment) (i : ℕ) (s : Segment) (here : i < length se
           s.page (size_of s) free (let from = in_this.0 in omega (arith, from, at)) (let to = in_this.1 in omega (arith, to, at))
     ]
 
-    pub refused_here : (pages_of : Segment → List PageMapping) (h : Hierarchy Lent) (supply between : List ℕ) (e : LoadError) → Leaves 3 h supply now between → e.segment ≡ i → e.page ≡ s.page + e.mapped * 0x1000
-        → Accepts h supply (flat_map pages_of (take i segments)) now between → IsHalted now between s (pages_of s) 0 e.mapped (map_refusal e.why) after rest → IsRefused pages_of h supply segments e after rest
+    pub refused_here : (pages_of : Segment → List PageMapping) (h : Hierarchy Lent) (supply between : Supply) (e : LoadError) → Leaves 3 h supply now between → e.segment ≡ i → e.page ≡ s.page + e.mapped * 0x1000
+        → Accepts h supply.frames (flat_map pages_of (take i segments)) now between.frames → IsHalted now between s (pages_of s) 0 e.mapped (map_refusal e.why) after rest → IsRefused pages_of h supply.frames segments e after rest.frames
     refused_here pages_of h supply between e left at page accepted halted = (
       s,
       record {
@@ -88,8 +89,8 @@ module _ (segments : List Segment) (i : ℕ) (s : Segment) (here : i < length se
         page = page ∙ sym halted.page;
         mapped = halted.page;
         within = halted.within;
-        refused = subst (λ n. Refuses h supply (flat_map pages_of (take n segments) ++ halted.before) halted.next (map_refusal e.why) after rest) (sym at)
-            (refuses_then h now after supply between rest (flat_map pages_of (take i segments)) halted.before left.kept.layout halted.next (map_refusal e.why) accepted halted.refused);
+        refused = subst (λ n. Refuses h supply.frames (flat_map pages_of (take n segments) ++ halted.before) halted.next (map_refusal e.why) after rest.frames) (sym at)
+            (refuses_then h now after supply.frames between.frames rest.frames (flat_map pages_of (take i segments)) halted.before left.kept.layout halted.next (map_refusal e.why) accepted halted.refused);
         segments_before = λ j d before o within. let t = get_or segments j d in
             reached_after now after rest t o halted.kept
             (held_reached now (t.page + o) (t.frame + o) (bits_of t.flags) (held j d (subst (λ n. j < n) at before) o (omega arith) within) left.kept.fits.valid);

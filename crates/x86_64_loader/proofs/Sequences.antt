@@ -5,6 +5,7 @@ use Rattle.x86_64_model.specs.Mapper.{Hierarchy, Stands}
 use Rattle.x86_64_model.specs.PageMappings.{PageMapping}
 use Rattle.x86_64_model.specs.Refusal.{Refusal}
 use Rattle.x86_64_tables.specs.PageTableFlags.{bits_of}
+use Rattle.x86_64_mappers.specs.Supplies.{Supply}
 use Rattle.x86_64_loader.specs.private.Loads.{IsHalted, IsMapped}
 use Rattle.x86_64_loader.specs.declared.segment.Segment.{Segment}
 use Rattle.x86_64_loader.proofs.Holding.{held_reached, held_still, reached_after}
@@ -12,12 +13,12 @@ use Rattle.x86_64_loader.proofs.Listed.{all_both_lists, cut_before, cut_behind}
 use Rattle.x86_64_loader.proofs.Made.{accepts_then, refuses_then}
 use Rattle.x86_64_loader.proofs.Runs.{free_then, kept_then, leaves_then, still_stand}
 
-pub halted_as : {Lent : Type 0} (h after : Hierarchy Lent) (supply rest : List ℕ) (s : Segment) (pages others : List PageMapping) (low mapped : ℕ) (why : Refusal)
+pub halted_as : {Lent : Type 0} (h after : Hierarchy Lent) (supply rest : Supply) (s : Segment) (pages others : List PageMapping) (low mapped : ℕ) (why : Refusal)
     → pages ≡ others → IsHalted h supply s pages low mapped why after rest → IsHalted h supply s others low mapped why after rest
 halted_as h after supply rest s pages others low mapped why same = subst (λ pages. IsHalted h supply s pages low mapped why after rest) same
 
 -- a load of pages that was refused is also one of more pages after them
-pub halted_behind : {Lent : Type 0} (h after : Hierarchy Lent) (supply rest : List ℕ) (s : Segment) (pages more : List PageMapping) (low mapped : ℕ) (why : Refusal)
+pub halted_behind : {Lent : Type 0} (h after : Hierarchy Lent) (supply rest : Supply) (s : Segment) (pages more : List PageMapping) (low mapped : ℕ) (why : Refusal)
     → IsHalted h supply s pages low mapped why after rest → IsHalted h supply s (pages ++ more) low mapped why after rest
 halted_behind h after supply rest s pages more low mapped why halted = record {
   above = halted.above;
@@ -32,7 +33,7 @@ halted_behind h after supply rest s pages more low mapped why halted = record {
   refused = halted.refused;
 }
 
-module _ {Lent : Type 0} (h now after : Hierarchy Lent) (supply between rest : List ℕ) (s : Segment) (pages others : List PageMapping) (first size next low : ℕ) (meet : next ≤ first + size) (from : first ≤ low)
+module _ {Lent : Type 0} (h now after : Hierarchy Lent) (supply between rest : Supply) (s : Segment) (pages others : List PageMapping) (first size next low : ℕ) (meet : next ≤ first + size) (from : first ≤ low)
     (one : IsMapped h supply s pages first size now between) where
   -- pages that were mapped, followed by others that are
   pub mapped_then : (more total : ℕ) → low + total ≤ next + more → IsMapped now between s others next more after rest → IsMapped h supply s (pages ++ others) low total after rest
@@ -45,7 +46,7 @@ module _ {Lent : Type 0} (h now after : Hierarchy Lent) (supply between rest : L
         one.were_free one.leaves two.were_free;
     leaves = leaves_then h now after between rest 3 3 3 (omega arith) (omega arith) one.leaves two.leaves;
     stand = all_both_lists (λ x. Stands after x.level x.page x.frame x.flags) pages others (still_stand now after between rest two.leaves pages one.stand) two.stand;
-    accepted = accepts_then h now after supply between rest pages others one.leaves.kept.layout one.accepted two.accepted;
+    accepted = accepts_then h now after supply.frames between.frames rest.frames pages others one.leaves.kept.layout one.accepted two.accepted;
   }
 
   -- pages that were mapped, followed by others that were refused
@@ -64,5 +65,5 @@ module _ {Lent : Type 0} (h now after : Hierarchy Lent) (supply between rest : L
     left = halted.left;
     cut = cut_before pages others halted.before halted.left halted.next halted.cut;
     page = halted.page;
-    refused = refuses_then h now after supply between rest pages halted.before one.leaves.kept.layout halted.next why one.accepted halted.refused;
+    refused = refuses_then h now after supply.frames between.frames rest.frames pages halted.before one.leaves.kept.layout halted.next why one.accepted halted.refused;
   }

@@ -15,6 +15,7 @@ use Rattle.x86_64_model.proofs.Lemmas.Machines.Effects.{map_may}
 use Rattle.x86_64_model.proofs.Lemmas.Maps.Arrives.{first_alone}
 use Rattle.x86_64_model.proofs.Lemmas.Paths.Pages.{length_taken}
 use Rattle.x86_64_tables.specs.PageTableFlags.{bits_of}
+use Rattle.x86_64_mappers.specs.Supplies.{Supply}
 use Rattle.x86_64_loader.specs.private.Held.{IsHeld}
 use Rattle.x86_64_loader.specs.private.Loads.{HoldsPart, IsHalted, IsStopped}
 use Rattle.x86_64_loader.specs.Pages.{MayBeMapped, RunStands}
@@ -114,7 +115,7 @@ module _ {Lent : Type 0} (h : Hierarchy Lent) (s : Segment) (level size first co
             (larger_allowed h.layout.levels h.layout.window (paths h) level _ (bits_of s.flags) low levels allowed.is_present may.allowed);
       }
 
-  module _ (after : Hierarchy Lent) (rest : List ℕ) (levels : level ≤ h.layout.levels) (aligned : (s.page + first * 0x1000) % size ≡ 0) where
+  module _ (after : Hierarchy Lent) (rest : Supply) (levels : level ≤ h.layout.levels) (aligned : (s.page + first * 0x1000) % size ≡ 0) where
     -- if the part's first n pages stand, their positions are held
     pub part_held : (n : ℕ) → n ≤ count → after.layout ≡ h.layout → RunStands after level size (s.page + first * 0x1000) (s.frame + first * 0x1000) (bits_of s.flags) n
         → HoldsPart after s (first * 0x1000) (first * 0x1000 + n * size)
@@ -131,7 +132,7 @@ module _ {Lent : Type 0} (h : Hierarchy Lent) (s : Segment) (level size first co
     part_stand n stand = all_in_run level (s.page + first * 0x1000) (s.frame + first * 0x1000) (bits_of s.flags) (λ x. Stands after x.level x.page x.frame x.flags) n
         (λ k below. subst (λ z. Stands after level (s.page + first * 0x1000 + k * z) (s.frame + first * 0x1000 + k * z) (bits_of s.flags)) spans (stand k below))
 
-    pub part_halted : (supply : List ℕ) (mapped : ℕ) (why : Refusal)
+    pub part_halted : (supply : Supply) (mapped : ℕ) (why : Refusal)
         → IsStopped h supply level size (s.page + first * 0x1000) (s.frame + first * 0x1000) (bits_of s.flags) count mapped why after rest
         → IsHalted h supply s (part_of level s first count) (first * 0x1000) (first + mapped * (size / 0x1000)) why after rest
     part_halted supply mapped why stopped =

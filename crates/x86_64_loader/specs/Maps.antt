@@ -7,6 +7,7 @@ use Rattle.x86_64_model.specs.Machine.{replies_of, state_after}
 use Rattle.x86_64_model.specs.Mapper.{Hierarchy, PoolFits, SupplyFits, machine_of, state_of, walk}
 use Rattle.x86_64_model.specs.PageMappings.{PageMapping, accepted, map_calls}
 use Rattle.x86_64_model.specs.Refusal.{Refusal, Refused}
+use Rattle.x86_64_mappers.specs.Supplies.{Supply}
 use Rattle.x86_64.specs.FreeFrames.{KeepsFree}
 use Rattle.x86_64_model.specs.Store.{KeepsPool}
 
@@ -24,12 +25,13 @@ Accepts h supply pages after rest = Made h supply pages (map accepted pages) aft
 abbrev pub Refuses : {Lent : Type 0} → Hierarchy Lent → (supply : List ℕ) → List PageMapping → (next : PageMapping) → Refusal → (after : Hierarchy Lent) → (rest : List ℕ) → Type 0
 Refuses h supply pages next why after rest = Made h supply (pages ++ next ∷ []) (map accepted pages ++ Answered (Refused why) ∷ []) after rest
 
--- What maps keep: all that lists of calls keep of a pool that fits, whatever frames it serves, and the words of free frames. Each
--- page walk that arrived still does, at its address and with no right lost.
-pub record Kept {Lent : Type 0} (h : Hierarchy Lent) (supply : List ℕ) (after : Hierarchy Lent) (rest : List ℕ) : Type 0 where
-  pub fits : SupplyFits after rest
-  pub keeps : (serves : ℕ → Bool) → PoolFits h serves supply → KeepsPool h.layout serves h.memory supply after.memory rest
-  pub free : KeepsFree h.layout h.memory supply [] after.memory rest
+-- What maps keep: all that lists of calls keep of a pool that fits, whatever frames it serves, and the words of free frames. The
+-- supply serves the same frames. Each page walk that arrived still does, at its address and with no right lost.
+pub record Kept {Lent : Type 0} (h : Hierarchy Lent) (supply : Supply) (after : Hierarchy Lent) (rest : Supply) : Type 0 where
+  pub fits : SupplyFits after rest.frames
+  pub keeps : (serves : ℕ → Bool) → PoolFits h serves supply.frames → KeepsPool h.layout serves h.memory supply.frames after.memory rest.frames
+  pub serves : rest.serves ≡ supply.serves
+  pub free : KeepsFree h.layout h.memory supply.frames [] after.memory rest.frames
   pub walks : (p : ℕ) → KeepsArrival (walk h p) (walk after p)
   pub layout : after.layout ≡ h.layout
   pub lent : after.lent ≡ h.lent

@@ -1,9 +1,10 @@
 -- Runs of pages of one size, mapped to a run of frames with equal flags, and the effect of such maps. A page stands if it is
 -- mapped as `map_to` maps it.
-use Rattle.std.specs.Prelude.{◌≡◌, ◌+◌, ◌*◌, ◌^◌, ◌%◌, ◌<◌, ◌≤◌, ℕ, true, List}
+use Rattle.std.specs.Prelude.{◌≡◌, ◌+◌, ◌*◌, ◌^◌, ◌%◌, ◌<◌, ◌≤◌, ℕ, true}
 use Rattle.x86_64_model.specs.Call.{MapTo}
 use Rattle.x86_64_model.specs.Mapper.{Hierarchy, Stands, allows, path_of}
 use Rattle.x86_64_model.specs.Position.{span}
+use Rattle.x86_64_mappers.specs.Supplies.{Supply}
 use Rattle.x86_64_loader.specs.Maps.{Kept}
 
 -- page k of a run may be mapped to its frame: both exist, and `map_to` allows it
@@ -23,6 +24,6 @@ IsFree h start size =
     → (p : ℕ) → start ≤ p → p < start + size → page ≤ p → p < page + span level → ⊥
 
 -- the effect of maps: what they keep, and pages up to a level that stood still stand
-pub record Leaves {Lent : Type 0} (highest : ℕ) (h : Hierarchy Lent) (supply : List ℕ) (after : Hierarchy Lent) (rest : List ℕ) : Type 0 where
+pub record Leaves {Lent : Type 0} (highest : ℕ) (h : Hierarchy Lent) (supply : Supply) (after : Hierarchy Lent) (rest : Supply) : Type 0 where
   pub kept : Kept h supply after rest
   pub pages : (level page frame given : ℕ) → level ≤ highest → Stands h level page frame given → Stands after level page frame given

@@ -4,6 +4,7 @@ ghost use Rattle.std.specs.List.{All};
 ghost use Rattle.x86_64_loader.specs.Loads.{Loads};
 ghost use Rattle.x86_64_loader.specs.Segments.{IsAllowed, large_pages, small_pages};
 ghost use Rattle.x86_64_loader.specs.private.Loads.{LoadsSegment, pages_by};
+ghost use Rattle.x86_64_mappers.specs.Supplies.{supply_of};
 ghost use Rattle.x86_64_model.specs.Mapper.{SupplyFits};
 
 use crate::pages::Stopped;
@@ -48,9 +49,8 @@ pub fn load<M: MapperAllSizes, A: FrameAllocator<Size4KiB>>(
 ) -> Result<(), LoadError>
     requires fits { SupplyFits (M.hierarchy mapper.old) (A.supply frames.old) }
     requires allowed { All (IsAllowed (M.hierarchy mapper.old)) segments.now }
-    ensures loads { Loads small_pages (M.hierarchy mapper.old) (A.supply frames.old)
-        segments.now result (M.hierarchy mapper.new) (A.supply frames.new) }
-    ensures serves { A.serves frames.new ≡ A.serves frames.old }
+    ensures { Loads small_pages (M.hierarchy mapper.old) (supply_of A.FrameAllocator frames.old)
+        segments.now result (M.hierarchy mapper.new) (supply_of A.FrameAllocator frames.new) }
 {
     load_each(mapper, frames, segments, Sizes::Small)
 }
@@ -68,9 +68,8 @@ pub fn load_large<M: MapperAllSizes, A: FrameAllocator<Size4KiB>>(
 ) -> Result<(), LoadError>
     requires fits { SupplyFits (M.hierarchy mapper.old) (A.supply frames.old) }
     requires allowed { All (IsAllowed (M.hierarchy mapper.old)) segments.now }
-    ensures loads { Loads large_pages (M.hierarchy mapper.old) (A.supply frames.old)
-        segments.now result (M.hierarchy mapper.new) (A.supply frames.new) }
-    ensures serves { A.serves frames.new ≡ A.serves frames.old }
+    ensures { Loads large_pages (M.hierarchy mapper.old) (supply_of A.FrameAllocator frames.old)
+        segments.now result (M.hierarchy mapper.new) (supply_of A.FrameAllocator frames.new) }
 {
     load_each(mapper, frames, segments, Sizes::Large)
 }
@@ -93,9 +92,8 @@ fn load_each<M: MapperAllSizes, A: FrameAllocator<Size4KiB>>(
 ) -> Result<(), LoadError>
     requires fits { SupplyFits (M.hierarchy mapper.old) (A.supply frames.old) }
     requires allowed { All (IsAllowed (M.hierarchy mapper.old)) segments.now }
-    ensures loads { Loads (pages_by sizes) (M.hierarchy mapper.old) (A.supply frames.old)
-        segments.now result (M.hierarchy mapper.new) (A.supply frames.new) }
-    ensures serves { A.serves frames.new ≡ A.serves frames.old }
+    ensures { Loads (pages_by sizes) (M.hierarchy mapper.old) (supply_of A.FrameAllocator frames.old)
+        segments.now result (M.hierarchy mapper.new) (supply_of A.FrameAllocator frames.new) }
 {
     for (index, segment) in segments.iter().enumerate() {
         if let Err(stopped) = load_segment(mapper, frames, *segment, sizes) {
@@ -119,9 +117,9 @@ fn load_segment<M: MapperAllSizes, A: FrameAllocator<Size4KiB>>(
 ) -> Result<(), Stopped<Size4KiB>>
     requires fits { SupplyFits (M.hierarchy mapper.old) (A.supply frames.old) }
     requires allowed { IsAllowed (M.hierarchy mapper.old) segment }
-    ensures loads { LoadsSegment (pages_by sizes) (M.hierarchy mapper.old) (A.supply frames.old)
-        segment result (M.hierarchy mapper.new) (A.supply frames.new) }
-    ensures serves { A.serves frames.new ≡ A.serves frames.old }
+    ensures loads { LoadsSegment (pages_by sizes) (M.hierarchy mapper.old)
+        (supply_of A.FrameAllocator frames.old) segment result
+        (M.hierarchy mapper.new) (supply_of A.FrameAllocator frames.new) }
     ensures aligned { segment.page % 0x1000 ≡ 0 }
 {
     match sizes {
@@ -138,9 +136,8 @@ fn load_small_pages<M: MapperAllSizes, A: FrameAllocator<Size4KiB>>(
 ) -> Result<(), Stopped<Size4KiB>>
     requires fits { SupplyFits (M.hierarchy mapper.old) (A.supply frames.old) }
     requires allowed { IsAllowed (M.hierarchy mapper.old) segment.now }
-    ensures loads { LoadsSegment small_pages (M.hierarchy mapper.old) (A.supply frames.old)
-        segment.now result (M.hierarchy mapper.new) (A.supply frames.new) }
-    ensures serves { A.serves frames.new ≡ A.serves frames.old }
+    ensures { LoadsSegment small_pages (M.hierarchy mapper.old) (supply_of A.FrameAllocator frames.old)
+        segment.now result (M.hierarchy mapper.new) (supply_of A.FrameAllocator frames.new) }
 {
     map_part::<Size4KiB, M, A>(mapper, frames, segment, 0, segment.pages)
 }
@@ -153,9 +150,8 @@ fn load_large_pages<M: MapperAllSizes, A: FrameAllocator<Size4KiB>>(
 ) -> Result<(), Stopped<Size4KiB>>
     requires fits { SupplyFits (M.hierarchy mapper.old) (A.supply frames.old) }
     requires allowed { IsAllowed (M.hierarchy mapper.old) segment.now }
-    ensures loads { LoadsSegment large_pages (M.hierarchy mapper.old) (A.supply frames.old)
-        segment.now result (M.hierarchy mapper.new) (A.supply frames.new) }
-    ensures serves { A.serves frames.new ≡ A.serves frames.old }
+    ensures { LoadsSegment large_pages (M.hierarchy mapper.old) (supply_of A.FrameAllocator frames.old)
+        segment.now result (M.hierarchy mapper.new) (supply_of A.FrameAllocator frames.new) }
 {
     let head = pages_before_large(segment);
     let large = (segment.pages - head) / 512;

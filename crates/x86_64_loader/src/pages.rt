@@ -2,6 +2,7 @@
 ghost use Rattle.std.specs.Prelude.{◌≡◌, ◌%◌, ◌<◌, ℕ, true, OnOk, IfErr};
 ghost use Rattle.x86_64_loader.specs.private.Loads.{AreMapped, IsStopped};
 ghost use Rattle.x86_64_loader.specs.Pages.{MayBeMapped};
+ghost use Rattle.x86_64_mappers.specs.Supplies.{supply_of};
 ghost use Rattle.x86_64_model.specs.Entry.{present};
 ghost use Rattle.x86_64_model.specs.Mapper.{SupplyFits};
 ghost use Rattle.x86_64_tables.specs.MapperAnswers.{map_refusal};
@@ -35,12 +36,13 @@ pub(crate) fn map_pages<S: PageSize, M: Mapper<S>, A: FrameAllocator<Size4KiB>>(
     requires is_present { present (bits_of flags) ≡ true }
     requires may { (k : ℕ) → k < count
         → MayBeMapped (M.hierarchy mapper.old) S.LEVEL S.SIZE page frame (bits_of flags) k }
-    ensures mapped { OnOk result (AreMapped (M.hierarchy mapper.old) (A.supply frames.old)
-        S.LEVEL S.SIZE page frame (bits_of flags) count (M.hierarchy mapper.new) (A.supply frames.new)) }
-    ensures stopped { IfErr result (λ stopped. IsStopped (M.hierarchy mapper.old) (A.supply frames.old)
+    ensures mapped { OnOk result (AreMapped (M.hierarchy mapper.old) (supply_of A.FrameAllocator frames.old)
+        S.LEVEL S.SIZE page frame (bits_of flags) count
+        (M.hierarchy mapper.new) (supply_of A.FrameAllocator frames.new)) }
+    ensures stopped { IfErr result (λ stopped. IsStopped (M.hierarchy mapper.old)
+        (supply_of A.FrameAllocator frames.old)
         S.LEVEL S.SIZE page frame (bits_of flags) count stopped.mapped (map_refusal stopped.why)
-        (M.hierarchy mapper.new) (A.supply frames.new)) }
-    ensures serves { A.serves frames.new ≡ A.serves frames.old }
+        (M.hierarchy mapper.new) (supply_of A.FrameAllocator frames.new)) }
     ensures page_aligned { page % S.SIZE ≡ 0 }
     ensures frame_aligned { frame % S.SIZE ≡ 0 }
 {

@@ -1,4 +1,5 @@
 use Rattle.std.proofs.Common.{rules, ◌≡◌, ◌<◌, ◌+◌, ◌*◌, arith}
+use Rattle.x86_64_loader.proofs.Made.{supplied}
 use Rattle.x86_64_loader.proofs.SizedParts.{part_aligned, part_number, part_may, part_held, part_stand, part_halted}
 use Rattle.x86_64_loader.proofs.parts.map_part.Goals as goal
 
@@ -53,13 +54,13 @@ overflow_add-result g c =
     c.requires.allowed c.requires.within c.in-Err.stopped.mapped c.in-Err.ensures.stopped.within in
     rw c.SIZE.ensures (omega (arith, number))
 
-pub returns-in-Ok-clause-loads : goal.returns-in-Ok-clause-loads
-returns-in-Ok-clause-loads g c =
+pub returns-in-Ok : goal.returns-in-Ok
+returns-in-Ok g c =
     let levels = g.met.M.Tables.at_least_four c.args.mapper.now in let high = g.S.PageSize.high in
     let done = c.in-Ok.ensures.mapped in
     let h = g.M.Tables.hierarchy c.args.mapper.now in
     let after = g.M.Tables.hierarchy c.map_pages.new.mapper in
-    let rest = g.A.FrameAllocator.supply c.map_pages.new.frames in
+    let rest = supplied g.A.FrameAllocator.supply g.A.FrameKeeper.serves c.map_pages.new.frames in
     let s = c.args.segment.now in
     let stand = rw (c.from_start_address_unchecked-page.ensures, c.start_address.ensures.value, c.page_after-page.ensures, c.from_start_address_unchecked-frame.ensures, c.start_address-2.ensures.value, c.add-frame.ensures) at done.stand in
     let aligned = rw (c.from_start_address_unchecked-page.ensures, c.start_address.ensures.value, c.page_after-page.ensures) at c.map_pages.ensures.page_aligned in
@@ -73,12 +74,12 @@ returns-in-Ok-clause-loads g c =
       accepted = rw (c.from_start_address_unchecked-page.ensures, c.start_address.ensures.value, c.page_after-page.ensures, c.from_start_address_unchecked-frame.ensures, c.start_address-2.ensures.value, c.add-frame.ensures) at done.accepted;
     }
 
-pub returns-in-Err-clause-loads : goal.returns-in-Err-clause-loads
-returns-in-Err-clause-loads g c =
+pub returns-in-Err : goal.returns-in-Err
+returns-in-Err g c =
     let levels = g.met.M.Tables.at_least_four c.args.mapper.now in let high = g.S.PageSize.high in
     rw (c.SIZE.ensures, c.in_4kib.ensures)
     (part_halted (g.M.Tables.hierarchy c.args.mapper.now) c.args.segment.now g.S.PageSize.LEVEL g.S.PageSize.SIZE c.args.first c.args.count g.S.PageSize.size g.S.PageSize.low high
-    c.requires.allowed c.requires.within (g.M.Tables.hierarchy c.map_pages.new.mapper) (g.A.FrameAllocator.supply c.map_pages.new.frames) (omega (arith, levels, high))
+    c.requires.allowed c.requires.within (g.M.Tables.hierarchy c.map_pages.new.mapper) (supplied g.A.FrameAllocator.supply g.A.FrameKeeper.serves c.map_pages.new.frames) (omega (arith, levels, high))
     (rw (c.from_start_address_unchecked-page.ensures, c.start_address.ensures.value, c.page_after-page.ensures) at c.map_pages.ensures.page_aligned)
-    (g.A.FrameAllocator.supply c.args.frames.now) c.in-Err.stopped.mapped _
+    (supplied g.A.FrameAllocator.supply g.A.FrameKeeper.serves c.args.frames.now) c.in-Err.stopped.mapped _
     (rw (c.from_start_address_unchecked-page.ensures, c.start_address.ensures.value, c.page_after-page.ensures, c.from_start_address_unchecked-frame.ensures, c.start_address-2.ensures.value, c.add-frame.ensures) at c.in-Err.ensures.stopped))
