@@ -6,8 +6,13 @@
     @ 0x100000[0-9] 0x2003                     equal words, from one index to another; [*] is every index
     @ 0x100000[0-9] 0x2003 by 0x1000           words of which each is greater by a step
     @ file dump core                           an ELF core as QEMU writes it: a segment of notes, and the segments below
-    @ processor 0x9000 0x1020                  a note of QEMU's, of a processor with these CR3 and CR4
+    @ processor 0x9000 0x1020                  a note of QEMU's, of a processor with these CR3 and CR4, and CR0 0x80000001
+    @ processor 0x9000 0x1020 0x1              likewise with another CR0
     @ processor 0x9000                         a note that ends before CR4
+    @ info NUMBER(phys_base)=0                 a line of Linux's note VMCOREINFO in the core
+    @ info_end NUMBER(phys_base)=0             its end, without a line feed
+    @ info_line 1000                           a line of so many bytes
+    @ virtualbox                               a note of VirtualBox's in the core
     @ segment 16 frames from 0x100000          memory in the core; the words after it are in it
     @ field class 1                            another value of a field of the ELF header, see FIELDS
     @ file dump elf                            an ELF file of its parts: the header, these program headers and the bytes below
@@ -18,6 +23,7 @@
     @ range 2 frames from 0x1000               memory in the LiME file, from an address on; the words after it are in it
     @ numbers 0 to 511                         words, each a number times 4096: 0x0, 0x1000, 0x2000 ..
     @ note QEMU 100 to 154                     a note of an ELF file with this name, and such words in it
+    @ note QEMU 100 to 154 [49] 0x80000000     likewise with another word at an index
     @ hex 7f 45 4c 46                          bytes
     @ text KDUMP                               bytes of a text
     @ zeros 8192                               bytes that are 0
@@ -34,6 +40,8 @@ FRAME_SIZE = 4096
 LOAD, NOTE = 1, 4
 HEADER_SIZE, ENTRY_SIZE = 64, 56
 WORDS_OF_A_TABLE = 512
+# CR0 of a processor with paging
+PAGING = 0x8000_0001
 # the words at an index, from one to another or at all of them; and words of a table
 WORD = re.compile(r" ?\[(?:(\d+)(?:-(\d+))?|\*)\] (0x[0-9a-f]+)(?: by (0x[0-9a-f]+))?")
 WORDS = re.compile(rf"(0x[0-9a-f]+)((?:{WORD.pattern})+)")
@@ -84,6 +92,8 @@ class File:
     kind: str
     memory: list[Memory] = field(default_factory=list)
     processors: list[list[int]] = field(default_factory=list)
+    info: bytearray = field(default_factory=bytearray)
+    is_of_virtualbox: bool = False
     fields: dict[str, int] = field(default_factory=dict)
     headers: list[bytes] = field(default_factory=list)
     content: bytearray = field(default_factory=bytearray)
@@ -100,7 +110,11 @@ class File:
 
     def core(self) -> bytes:
         """Returns the bytes of an ELF core: its header, the program headers, the notes and the memory."""
-        notes = b"".join(note(*registers) for registers in self.processors)
+        notes = b"".join(processor_note(*registers) for registers in self.processors)
+        if self.info:
+            notes += note("VMCOREINFO", bytes(self.info))
+        if self.is_of_virtualbox:
+            notes += note("VBCPU", bytes(64))
         parts = [(NOTE, 0, notes), *((LOAD, part.address, bytes(part.bytes)) for part in self.memory)]
         offset = HEADER_SIZE + ENTRY_SIZE * len(parts)
         headers, contents = b"", b""
@@ -137,12 +151,23 @@ def header(fields: dict[str, int]) -> bytes:
     return begin + struct.pack("<HHIQQQI", *values) + struct.pack("<HHHHHH", HEADER_SIZE, fields["entry_size"], fields["count"], 0, 0, 0)
 
 
-def note(cr3: int, cr4: int | None = None) -> bytes:
+def padded(content: bytes) -> bytes:
+    """Returns bytes, padded to a multiple of four."""
+    return content + bytes(-len(content) % 4)
+
+
+def note(name: str, content: bytes) -> bytes:
+    """Returns a note. Its name ends with a byte that is 0."""
+    ended = name.encode() + b"\0"
+    return struct.pack("<III", len(ended), len(content), 0) + padded(ended) + padded(content)
+
+
+def processor_note(cr3: int, cr4: int | None = None, cr0: int = PAGING) -> bytes:
     """Returns QEMU's note of a processor, which ends before CR4 if there is none."""
-    registers = bytes(416) + struct.pack("<Q", cr3)
+    registers = bytes(392) + struct.pack("<QQQQ", cr0, 0, 0, cr3)
     if cr4 is not None:
         registers += struct.pack("<Q", cr4) + bytes(8)
-    return struct.pack("<III", 5, len(registers), 0) + b"QEMU\0\0\0\0" + registers
+    return note("QEMU", registers)
 
 
 # ---- the lines
@@ -159,8 +184,8 @@ def add_memory(file: File, text: str) -> None:
 def add_processor(file: File, text: str) -> None:
     """Adds the note of a processor."""
     registers = [int(number, 0) for number in text.split()]
-    if len(registers) not in (1, 2):
-        raise ValueError("a processor has CR3 and CR4")
+    if len(registers) not in (1, 2, 3):
+        raise ValueError("a processor has CR3, CR4 and CR0")
     file.processors.append(registers)
 
 
@@ -199,11 +224,18 @@ def words(text: str) -> bytes:
 
 
 def add_note(file: File, text: str) -> None:
-    """Adds a note: 'QEMU 100 to 154'. Its name ends with a byte that is 0, and is padded."""
-    name, _, numbers = text.partition(" ")
-    content, size = words(numbers), len(name) + 1
-    padded = name.encode() + bytes(1 + -size % 4)
-    file.content.extend(struct.pack("<III", size, len(content), 0) + padded + content)
+    """Adds a note: 'QEMU 100 to 154', with other words behind it, as in a table."""
+    name, _, rest = text.partition(" ")
+    numbers, _, others = rest.partition(" [")
+    content = bytearray(words(numbers))
+    for found in WORD.finditer(f"[{others}" if others else ""):
+        struct.pack_into("<Q", content, 8 * int(found[1]), int(found[3], 16))
+    file.content.extend(note(name, bytes(content)))
+
+
+def mark_virtualbox(file: File, text: str) -> None:
+    """Adds a note of VirtualBox's."""
+    file.is_of_virtualbox = True
 
 
 def set_end(file: File, text: str) -> None:
@@ -215,6 +247,10 @@ COMMANDS: dict[str, Callable[[File, str], None]] = {
     "segment": add_memory,
     "range": add_memory,
     "processor": add_processor,
+    "info": lambda file, text: file.info.extend(f"{text}\n".encode()),
+    "info_end": lambda file, text: file.info.extend(text.encode()),
+    "info_line": lambda file, text: file.info.extend(b"x" * (int(text, 0) - 1) + b"\n"),
+    "virtualbox": mark_virtualbox,
     "field": set_field,
     "header": add_header,
     "numbers": lambda file, text: file.content.extend(words(text)),

@@ -38,12 +38,12 @@ fn subcommand<'a>(alloc: Global, help: &CommandHelp) -> Result<Command<'a>, Erro
             .arg(option(
                 alloc,
                 "cr3",
-                "CR3 [default: as the core's note of the processor says]",
+                "CR3 [default: as the core's notes say]",
             ))?
             .arg(option(
                 alloc,
                 "levels",
-                "Levels of tables, 4 or 5 [default: as that note says, or 4]",
+                "Levels of tables, 4 or 5 [default: as those notes say, or 4]",
             ))?
             .arg(option(
                 alloc,

@@ -31,7 +31,8 @@ FILE is a dump of an x86-64 machine's physical memory:
   `pmemsave` writes it. Say by --base which address that is, if it isn't 0.
 
 Page tables are found by CR3. QEMU's cores have it, and how many levels there
-are; for other files give --cr3 and --levels, as `info registers` in QEMU's
+are. In kdump's cores Linux's note VMCOREINFO says where the kernel's own root
+is. For other files give --cr3 and --levels, as `info registers` in QEMU's
 monitor prints them (bit 12 of CR4 set means five levels).
 
 Numbers are decimal, or hexadecimal after 0x. Rights are four letters, or - for

@@ -14,7 +14,9 @@ pub fails_then : {A B : Type 0} (may : Bool) (failure : Failure) (found : Result
 fails_then may failures.OutOfMemory found next is = tt
 fails_then may failures.Output found next is = absurd (true≢false (sym is))
 fails_then may failures.NoCr3 found next is = ap (λ r. and_then r next) is
+fails_then may failures.VirtualBox found next is = ap (λ r. and_then r next) is
 fails_then may (failures.NoProcessor cpu count) found next is = ap (λ r. and_then r next) is
+fails_then may (failures.WrongMode cpu mode) found next is = ap (λ r. and_then r next) is
 fails_then may (failures.NotCanonical address levels) found next is = ap (λ r. and_then r next) is
 fails_then may (failures.NotPhysical address) found next is = ap (λ r. and_then r next) is
 fails_then may (failures.NoRoot root) found next is = ap (λ r. and_then r next) is
@@ -26,7 +28,9 @@ pub forced_fails : {A : Type 0} (may : Bool) (failure : Failure) (found : Result
 forced_fails may failures.OutOfMemory found is = tt
 forced_fails may failures.Output found is = is
 forced_fails may failures.NoCr3 found is = absurd is
+forced_fails may failures.VirtualBox found is = absurd is
 forced_fails may (failures.NoProcessor cpu count) found is = absurd is
+forced_fails may (failures.WrongMode cpu mode) found is = absurd is
 forced_fails may (failures.NotCanonical address levels) found is = absurd is
 forced_fails may (failures.NotPhysical address) found is = absurd is
 forced_fails may (failures.NoRoot root) found is = absurd is
@@ -38,7 +42,9 @@ forced_more : (a b : Bool) (failure : Failure) → (a ≡ true → b ≡ true) �
 forced_more a b failures.OutOfMemory more is = tt
 forced_more a b failures.Output more is = more is
 forced_more a b failures.NoCr3 more is = absurd is
+forced_more a b failures.VirtualBox more is = absurd is
 forced_more a b (failures.NoProcessor cpu count) more is = absurd is
+forced_more a b (failures.WrongMode cpu mode) more is = absurd is
 forced_more a b (failures.NotCanonical address levels) more is = absurd is
 forced_more a b (failures.NotPhysical address) more is = absurd is
 forced_more a b (failures.NoRoot root) more is = absurd is

@@ -55,6 +55,14 @@ pub put_first : {W : Type 0} (contents : W → Option (List ℕ)) (begun ended :
 put_first contents begun ended text none puts =
     subst (λ k. Appends k (put_in contents ended) text) (ap (append_known (contents begun.writer.now)) none ∙ known_alone (contents begun.writer.now)) puts.appends
 
+-- two texts, one after the other
+pub puts_both : {W : Type 0} (contents : W → Option (List ℕ)) (begun now ended : Output W (String Global)) (front back : List ℕ)
+    → Puts contents begun now front → Puts contents now ended back → Puts contents begun ended (front ++ back)
+puts_both contents begun now ended front back first second = record {
+  writer = second.writer ∙ first.writer;
+  appends = Appends-trans _ _ _ front back first.appends second.appends;
+}
+
 -- likewise from an output in which nothing was collected
 pub written_whole : {W : Type 0} (contents : W → Option (List ℕ)) (begun now ended : Output W (String Global)) (text : List ℕ)
     → string_bytes begun.text ≡ [] → string_bytes ended.text ≡ [] → Puts contents begun now text → Puts contents now ended []

@@ -9,7 +9,9 @@ use Rattle.ptdump_engine.specs.declared.failure.Failure.TheVariants as failures
 -- 2: the request; 3: the file; 4: memory allocation; 5: a failed write
 abbrev pub status_of : Failure → ℕ
 status_of failures.NoCr3 = 2
+status_of failures.VirtualBox = 2
 status_of (failures.NoProcessor cpu count) = 2
+status_of (failures.WrongMode cpu mode) = 2
 status_of (failures.NotCanonical address levels) = 2
 status_of (failures.NotPhysical address) = 2
 status_of (failures.Dump BaseOfElf) = 2

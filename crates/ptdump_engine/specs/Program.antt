@@ -1,5 +1,5 @@
 -- The output of the program for a file, or why it fails.
-use Rattle.std.specs.Prelude.{◌≡◌, ◌⊎◌, ℕ, ◌-◌, ◌^◌, codes, length, ◌&&◌, ◌||◌, nat_le, nat_lt, not, true, false, Bool, if◌then◌else◌, List, [], Option, None, Some, IfSome, is_some, option_map, Result, Ok, Err, ⊤}
+use Rattle.std.specs.Prelude.{◌≡◌, ◌⊎◌, ℕ, ◌-◌, ◌^◌, codes, length, ◌++◌, ◌&&◌, ◌||◌, nat_le, nat_lt, not, true, false, Bool, if◌then◌else◌, List, [], Option, None, Some, IfSome, is_some, option_map, Result, Ok, Err, ⊤}
 use Rattle.std.specs.List.{find}
 use Rattle.std.specs.Io.KnownBytes.{Appends}
 use Rattle.x86_64_dump.specs.Dump.{Contents, is_short, words_of_dump}
@@ -20,6 +20,8 @@ use Rattle.x86_64_addr.specs.declared.level_count.Levels.{Levels}
 use Rattle.x86_64_addr.specs.declared.level_count.Levels.TheVariants.{Four, Five}
 use Rattle.ptdump_engine.specs.declared.request.Outcome.{Outcome}
 use Rattle.ptdump_engine.specs.declared.request.Request.{Request}
+use Rattle.ptdump_engine.specs.declared.start.Origin.{Origin}
+use Rattle.ptdump_engine.specs.declared.start.Origin.TheVariants.{ByKernel}
 use Rattle.ptdump_engine.specs.declared.start.Start.{Start}
 use Rattle.ptdump_engine.specs.declared.totals.Totals.{Totals}
 
@@ -109,6 +111,11 @@ abbrev pub short_text : Contents → List ℕ
 short_text dump = if is_short (length dump.file) dump.segments
     then line (codes "the file is shorter than its headers say: frames behind its end are missing") else []
 
+-- the next line, if the root is the kernel's own
+abbrev pub source_text : Origin → List ℕ
+source_text ByKernel = line (codes "the root is the kernel's own, as the note VMCOREINFO says")
+source_text origin = []
+
 -- whether the report on an image, which isn't specified here, stands on standard error too
 abbrev pub is_image : Command → Bool
 is_image commands.Image = true
@@ -118,9 +125,9 @@ is_image command = false
 abbrev pub EndsByTotals : (L : ℕ) → Words → (root : ℕ) → (before after : Option (List ℕ)) → Type 0
 EndsByTotals L T root before after = (totals : Totals) × AreTotals L T root totals × Appends before after (line (totals_text totals))
 
--- standard error after a run: that the file is short, and the totals
+-- standard error after a run: that the file is short, that the root is the kernel's, and the totals
 abbrev pub Notes : Request → (file : List ℕ) → (before after : Option (List ℕ)) → Type 0
-Notes request file before after = (o : Opened) × (between : Option (List ℕ)) × (opened_for request file ≡ Ok o) × Appends before between (short_text o.dump)
+Notes request file before after = (o : Opened) × (between : Option (List ℕ)) × (opened_for request file ≡ Ok o) × Appends before between (short_text o.dump ++ source_text o.start.origin)
     × EndsByTotals (level_count o.start.levels) (words_of_dump o.dump) o.start.root between after
 
 -- the observer was told of each table that the root leads to, and of the end

@@ -1,16 +1,23 @@
--- Start: the root and the number of levels, from the request and from QEMU's note of a processor.
--- Intel SDM vol. 3A, "Control Registers": bits 12 to 51 of CR3 are the address of the root's table, bit 12 of CR4 is LA57.
-use Rattle.std.specs.Prelude.{ℕ, Bool, ◌||◌, if◌then◌else◌, List, [], ◌∷◌, length, slice_get, Option, None, Some, is_none, Result, Ok, Err}
+-- Start: the root and the number of levels, from the request, QEMU's note of a processor or Linux's note of its kernel.
+-- Intel SDM vol. 3A, "Control Registers": bits 12 to 51 of CR3 are the address of the root's table, bit 31 of CR0 is PG, bits 5
+-- and 12 of CR4 are PAE and LA57.
+use Rattle.std.specs.Prelude.{ℕ, Bool, ◌||◌, not, if◌then◌else◌, List, [], ◌∷◌, length, slice_get, Option, None, Some, is_none, Result, Ok, Err}
 use Rattle.std.specs.Option.{option_map_or, unwrap_or}
 use Rattle.x86_64_dump.specs.Dump.{Contents}
-use Rattle.x86_64_dump.specs.Notes.{processors_of, register_of}
+use Rattle.x86_64_dump.specs.Notes.{is_of_virtualbox, processors_of, register_of}
+use Rattle.x86_64_dump.specs.VmCoreInfo.{kernel_in}
 use Rattle.x86_64_dump.specs.declared.note.Note.{Note}
+use Rattle.x86_64_dump.specs.declared.vmcoreinfo.Kernel.{Kernel}
 use Rattle.x86_64_model.specs.Entry.{address, has}
 use Rattle.ptdump_engine.specs.declared.failure.Failure.{Failure}
 use Rattle.ptdump_engine.specs.declared.failure.Failure.TheVariants as failures
 use Rattle.x86_64_addr.specs.declared.level_count.Levels.{Levels}
 use Rattle.x86_64_addr.specs.declared.level_count.Levels.TheVariants.{Four, Five}
+use Rattle.ptdump_engine.specs.declared.mode.Mode.{Mode}
+use Rattle.ptdump_engine.specs.declared.mode.Mode.TheVariants.{NoPaging, Paging32, Paging64}
 use Rattle.ptdump_engine.specs.declared.request.Request.{Request}
+use Rattle.ptdump_engine.specs.declared.start.Origin.{Origin}
+use Rattle.ptdump_engine.specs.declared.start.Origin.TheVariants.{ByRequest, ByProcessor, ByKernel}
 use Rattle.ptdump_engine.specs.declared.start.Start.{Start}
 use Rattle.ptdump_engine.specs.Steps.{and_then, of_dump}
 
@@ -24,10 +31,19 @@ abbrev pub note_needed : Request → Contents → Result (Option Note) Failure
 note_needed request dump =
     if is_none request.cr3 || is_none request.levels then note_of (unwrap_or request.cpu 0) (processors_of dump) else Ok None
 
-abbrev pub cr3_of : (file : List ℕ) → (given : Option ℕ) → Option Note → Result ℕ Failure
-cr3_of file (Some cr3) _ = Ok cr3
-cr3_of file None None = Err failures.NoCr3
-cr3_of file None (Some note) = of_dump (register_of file note 416)
+abbrev pub mode_of : (cr0 cr4 : ℕ) → Mode
+mode_of cr0 cr4 = if not (has cr0 0x8000_0000) then NoPaging else if not (has cr4 0x20) then Paging32 else Paging64
+
+-- CR3, if the mode is right
+abbrev pub cr3_by : (cpu cr3 : ℕ) → Mode → Result ℕ Failure
+cr3_by cpu cr3 Paging64 = Ok cr3
+cr3_by cpu cr3 mode = Err (failures.WrongMode cpu mode)
+
+-- the CR3 of a processor by its note; the processor must be in 64-bit paging
+unfoldable pub cr3_in : (file : List ℕ) → (cpu : ℕ) → Note → Result ℕ Failure
+cr3_in file cpu note = and_then (of_dump (register_of file note 416)) (λ cr3.
+    and_then (of_dump (register_of file note 392)) (λ cr0.
+    and_then (of_dump (register_of file note 424)) (λ cr4. cr3_by cpu cr3 (mode_of cr0 cr4))))
 
 abbrev pub levels_by : (cr4 : ℕ) → Levels
 levels_by cr4 = if has cr4 0x1000 then Five else Four
@@ -37,7 +53,24 @@ levels_of file (Some levels) _ = Ok levels
 levels_of file None None = Ok Four
 levels_of file None (Some note) = and_then (of_dump (register_of file note 424)) (λ cr4. Ok (levels_by cr4))
 
+-- the start at the root of a CR3, with these levels
+abbrev pub start_at : Origin → (cr3 : ℕ) → Result Levels Failure → Result Start Failure
+start_at origin cr3 levels = and_then levels (λ levels. Ok (record { root = address cr3; levels = levels; origin = origin }))
+
+abbrev pub start_by : Contents → (levels : Option Levels) → Option Kernel → Result Start Failure
+start_by dump levels (Some kernel) = Ok (record { root = kernel.root; levels = unwrap_or levels kernel.levels; origin = ByKernel })
+start_by dump levels None = Err (if is_of_virtualbox dump then failures.VirtualBox else failures.NoCr3)
+
+-- the start at the kernel's root, by Linux's note VMCOREINFO
+unfoldable pub kernel_start : Contents → (levels : Option Levels) → Result Start Failure
+kernel_start dump levels = and_then (of_dump (kernel_in dump)) (start_by dump levels)
+
+-- the start at the CR3 of the request, or else of a processor, or else at the kernel's root
+abbrev pub start_with : Request → Contents → (given : Option ℕ) → Option Note → Result Start Failure
+start_with request dump (Some cr3) note = start_at ByRequest cr3 (levels_of dump.file request.levels note)
+start_with request dump None (Some note) = and_then (cr3_in dump.file (unwrap_or request.cpu 0) note) (λ cr3.
+    start_at ByProcessor cr3 (levels_of dump.file request.levels (Some note)))
+start_with request dump None None = kernel_start dump request.levels
+
 unfoldable pub start_of : Request → Contents → Result Start Failure
-start_of request dump = and_then (note_needed request dump) (λ note.
-    and_then (cr3_of dump.file request.cr3 note) (λ cr3.
-    and_then (levels_of dump.file request.levels note) (λ levels. Ok (record { root = address cr3; levels = levels }))))
+start_of request dump = and_then (note_needed request dump) (start_with request dump request.cr3)

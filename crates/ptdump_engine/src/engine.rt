@@ -23,7 +23,7 @@ use crate::output::{Output, OutputError};
 use crate::picture::write_picture;
 use crate::report::{write_found, write_pages, write_regions, write_walks};
 use crate::request::{Command, Levels, Outcome, Request};
-use crate::start::{Start, start_of};
+use crate::start::{Origin, Start, start_of};
 use crate::totals::Totals;
 use std::alloc::Global;
 use std::marker::PhantomData;
@@ -37,8 +37,8 @@ use x86_64_tables::phys_memory::IdentityMapping;
 /// Runs the program on the bytes of a file: opens it as a dump, reads the tables that a root leads to, and writes the requested
 /// report to `writer`. The request is tested before anything is written there. `progress` is called as the tables are read.
 ///
-/// `errors` receives the rest of the text for standard error: that the file is shorter than its headers say, how an image was
-/// created, and finally the number of tables that were read and how much they map.
+/// `errors` receives the rest of the text for standard error: that the file is shorter than its headers say, that the root is the
+/// kernel's own by Linux's note, how an image was created, and finally the number of tables that were read and how much they map.
 ///
 /// # Errors
 ///
@@ -64,6 +64,7 @@ pub fn run<S: ByteSource, W: Destination, E: Destination, G: Progress>(
     let dump = Dump::open(alloc, source, request.base)?;
     write_short(&dump, &mut notes)?;
     let start = start_for(alloc, &dump, request)?;
+    write_source(start.origin, &mut notes)?;
     let command = &request.command;
     let root = start.root;
     match start.levels {
@@ -93,6 +94,23 @@ fn write_short<S: ByteSource, E: Destination>(
         writeln!(
             notes,
             "the file is shorter than its headers say: frames behind its end are missing"
+        )?;
+        notes.finish()?;
+    }
+    Ok(())
+}
+
+/// Writes immediately if the root is the kernel's own.
+fn write_source<E: Destination>(
+    origin: Origin,
+    notes: &mut Output<'_, E>,
+) -> Result<(), OutputError<E>>
+    ensures { OnOk result (Puts E.contents notes.old notes.new (program.source_text origin)) }
+{
+    if matches!(origin, Origin::ByKernel) {
+        writeln!(
+            notes,
+            "the root is the kernel's own, as the note VMCOREINFO says"
         )?;
         notes.finish()?;
     }

@@ -2,6 +2,7 @@
 ghost use Rattle.std.specs.Prelude.{◌≡◌};
 
 use crate::destination::Destination;
+use crate::mode::Mode;
 use crate::output::OutputError;
 use crate::request::Levels;
 use std::alloc::AllocError;
@@ -15,12 +16,21 @@ use x86_64_dump::{DumpError, Fault};
 pub enum Failure {
     /// Neither the request nor a note of the file has the CR3.
     NoCr3,
+    /// The request has no CR3, and the file is a core of VirtualBox.
+    VirtualBox,
     /// The file has no note of the requested processor.
     NoProcessor {
         /// The processor.
         cpu: u64,
         /// The number of notes of processors.
         count: usize,
+    },
+    /// The CR3 of a processor is needed that isn't in 64-bit paging.
+    WrongMode {
+        /// The processor.
+        cpu: u64,
+        /// Its mode.
+        mode: Mode,
     },
     /// An address to walk to isn't canonical.
     NotCanonical {
@@ -58,7 +68,9 @@ impl Failure {
     {
         match self {
             Failure::NoCr3
+            | Failure::VirtualBox
             | Failure::NoProcessor { .. }
+            | Failure::WrongMode { .. }
             | Failure::NotCanonical { .. }
             | Failure::NotPhysical { .. }
             | Failure::Dump(Fault::BaseOfElf) => 2,
@@ -75,9 +87,16 @@ impl Display for Failure {
             Failure::NoCr3 => f.write_str(
                 "no CR3 in the file: give --cr3, as QEMU's `info registers` prints it",
             ),
+            Failure::VirtualBox => f.write_str(
+                "the file is a core of VirtualBox, of which no CR3 is read: give --cr3",
+            ),
             Failure::NoProcessor { cpu, count } => write!(
                 f,
                 "no note of processor {cpu} in the file, which has {count}: give a smaller --cpu, or --cr3 and --levels"
+            ),
+            Failure::WrongMode { cpu, mode } => write!(
+                f,
+                "processor {cpu} {mode}: give another --cpu, or --cr3 and --levels to go on"
             ),
             Failure::NotCanonical { address, levels } => write_not_canonical(f, *address, *levels),
             Failure::NotPhysical { address } => write!(

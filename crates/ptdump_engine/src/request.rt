@@ -41,10 +41,10 @@ pub enum Command {
 pub struct Request {
     /// The report to write.
     pub command: Command,
-    /// The CR3. If `None`, it is read from a processor's note in the dump.
+    /// The CR3. If `None`, it is read from a processor's note in the dump, or else the kernel's note says where the root is.
     pub cr3: Option<u64>,
-    /// The number of levels of tables. If `None`, the CR4 in a processor's note determines it, or it is four if there is no
-    /// note.
+    /// The number of levels of tables. If `None`, the CR4 in a processor's note determines it, or else the kernel's note if it says
+    /// where the root is, or it is four.
     pub levels: Option<Levels>,
     /// The physical address of the first byte of a raw dump. If `None`, it is 0.
     pub base: Option<u64>,

@@ -7,6 +7,7 @@ ghost use Rattle.ptdump_engine.specs.Start as starts;
 ghost use Rattle.ptdump_engine.specs.Steps.{Finds};
 
 use crate::failure::Failure;
+use crate::mode::Mode;
 use crate::request::{Levels, Request};
 use std::alloc::Global;
 use x86_64_addr::addr::PhysAddr;
@@ -20,6 +21,17 @@ const ROOT_MASK: u64 = 0x000f_ffff_ffff_f000;
 /// The bit of CR4 that enables five levels of tables.
 const LA57: u64 = 0x1000;
 
+/// What says where the root is.
+#[derive(Clone, Copy, Debug, PartialEq, Eq)]
+pub enum Origin {
+    /// The CR3 of the request.
+    ByRequest,
+    /// The CR3 in QEMU's note of a processor.
+    ByProcessor,
+    /// Linux's note VMCOREINFO, for the kernel's own root.
+    ByKernel,
+}
+
 /// The start of page walks.
 #[derive(Clone, Copy)]
 pub struct Start {
@@ -27,14 +39,17 @@ pub struct Start {
     pub root: PhysFrame<Size4KiB>,
     /// The number of levels of tables.
     pub levels: Levels,
+    /// What says where the root is.
+    pub origin: Origin,
 }
 
-/// Determines the start of page walks from the request and a processor's note.
+/// Determines the start of page walks from the request, a processor's note, or the kernel's note.
 ///
 /// # Errors
 ///
-/// `Failure::NoCr3` if neither the request nor a note has the CR3, `Failure::NoProcessor` if a note is needed and the file has
-/// notes but not that of the processor, `Failure::Dump` if the note is too short.
+/// `Failure::NoCr3` or `Failure::VirtualBox` if neither the request nor a note says where the root is, `Failure::NoProcessor` if
+/// the note of a processor is needed and the file has such notes but not this one, `Failure::Dump` if a note is too short or
+/// doesn't say it, `Failure::WrongMode` if the CR3 is needed of a processor that isn't in 64-bit paging.
 #[tactic(auto, unfolding(crate::specs::Start::start_of))]
 pub fn start_of<S: ByteSource>(
     alloc: Global,
@@ -44,12 +59,65 @@ pub fn start_of<S: ByteSource>(
     ensures { S.IsKnown → Finds result (starts.start_of request.now (opened S.bytes dump.now)) }
 {
     let note = needed_note(alloc, dump, request)?;
-    let cr3 = cr3_of(dump, request.cr3, note)?;
-    let levels = levels_of(dump, request.levels, note)?;
-    Ok(Start {
+    start_with(alloc, dump, request, note)
+}
+
+/// Returns the start at the CR3 of the request, or else of a processor, or else at the kernel's root.
+fn start_with<S: ByteSource>(
+    alloc: Global,
+    dump: &Dump<S>,
+    request: &Request,
+    note: Option<Note>,
+) -> Result<Start, Failure>
+    ensures { S.IsKnown → Finds result
+        (starts.start_with request.now (opened S.bytes dump.now) request.now.cr3 note) }
+{
+    match (request.cr3, note) {
+        (Some(cr3), note) => {
+            let levels = levels_of(dump, request.levels, note)?;
+            Ok(start_at(Origin::ByRequest, cr3, levels))
+        }
+        (None, Some(note)) => {
+            let cr3 = cr3_in(dump, request.cpu.unwrap_or(0), &note)?;
+            let levels = levels_of(dump, request.levels, Some(note))?;
+            Ok(start_at(Origin::ByProcessor, cr3, levels))
+        }
+        (None, None) => kernel_start(alloc, dump, request.levels),
+    }
+}
+
+/// Returns the start at the root of a CR3.
+fn start_at(origin: Origin, cr3: u64, levels: Levels) -> Start
+    ensures { Ok result ≡ starts.start_at origin cr3 (Ok levels) }
+{
+    Start {
         root: root_of(cr3),
         levels,
-    })
+        origin,
+    }
+}
+
+/// Returns the start at the kernel's root, by Linux's note VMCOREINFO.
+#[tactic(auto, unfolding(crate::specs::Start::kernel_start))]
+fn kernel_start<S: ByteSource>(
+    alloc: Global,
+    dump: &Dump<S>,
+    levels: Option<Levels>,
+) -> Result<Start, Failure>
+    ensures { S.IsKnown → Finds result (starts.kernel_start (opened S.bytes dump.now) levels) }
+{
+    if let Some(kernel) = dump.kernel(alloc)? {
+        return Ok(Start {
+            root: kernel.root,
+            levels: levels.unwrap_or(kernel.levels),
+            origin: Origin::ByKernel,
+        });
+    }
+    if dump.is_of_virtualbox(alloc)? {
+        Err(Failure::VirtualBox)
+    } else {
+        Err(Failure::NoCr3)
+    }
 }
 
 /// Finds the note of the requested processor, if it is needed.
@@ -81,18 +149,17 @@ fn note_of(notes: &[Note], cpu: u64) -> Result<Option<Note>, Failure>
     }
 }
 
-/// Returns the CR3 of the request, or reads it from a note.
-fn cr3_of<S: ByteSource>(
-    dump: &Dump<S>,
-    given: Option<u64>,
-    note: Option<Note>,
-) -> Result<u64, Failure>
-    ensures { S.IsKnown → Finds result (starts.cr3_of (opened S.bytes dump.now).file given note) }
+/// Reads the CR3 of a processor in 64-bit paging from its note.
+#[tactic(auto, unfolding(crate::specs::Start::cr3_in))]
+fn cr3_in<S: ByteSource>(dump: &Dump<S>, cpu: u64, note: &Note) -> Result<u64, Failure>
+    ensures { S.IsKnown → Finds result (starts.cr3_in (opened S.bytes dump.now).file cpu note.now) }
 {
-    match (given, note) {
-        (Some(cr3), _) => Ok(cr3),
-        (None, Some(note)) => Ok(dump.cr3(&note)?),
-        (None, None) => Err(Failure::NoCr3),
+    let cr3 = dump.cr3(note)?;
+    let cr0 = dump.cr0(note)?;
+    let cr4 = dump.cr4(note)?;
+    match Mode::of(cr0, cr4) {
+        Mode::Paging64 => Ok(cr3),
+        mode => Err(Failure::WrongMode { cpu, mode }),
     }
 }
 

@@ -6,5 +6,5 @@ mod notes;
 mod words;
 
 pub use core_file::{Memory, push_core_file};
-pub use notes::Processor;
+pub use notes::{CR0, Processor};
 pub use words::push_table;

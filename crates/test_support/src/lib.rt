@@ -4,5 +4,5 @@
 mod dump_files;
 mod hoard;
 
-pub use dump_files::{Memory, Processor, push_core_file, push_table};
+pub use dump_files::{CR0, Memory, Processor, push_core_file, push_table};
 pub use hoard::Hoard;

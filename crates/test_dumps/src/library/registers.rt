@@ -1,6 +1,6 @@
 //! Tests of the registers in notes, of which `ptdump` shows a few bits.
 use std::process::Abort;
-use test_support::{Processor, push_core_file};
+use test_support::{CR0, Processor, push_core_file};
 use x86_64_dump::{Dump, DumpError};
 
 /// The processors of a machine.
@@ -35,6 +35,7 @@ fn registers_are_read_whole(rt: HostRuntime) {
     };
     assert_eq!(rt; notes.len(), PROCESSORS.len());
     for (note, processor) in notes.iter().zip(PROCESSORS.iter()) {
+        assert_eq!(rt; value(rt, dump.cr0(note)), CR0);
         assert_eq!(rt; value(rt, dump.cr3(note)), processor.cr3);
         assert_eq!(rt; value(rt, dump.cr4(note)), processor.cr4);
     }

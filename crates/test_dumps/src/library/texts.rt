@@ -2,10 +2,10 @@
 use std::alloc::Global;
 use std::fmt::Display;
 use std::process::Abort;
-use x86_64_dump::{DumpError, Fault};
+use x86_64_dump::{DumpError, Fault, KernelFault, Key};
 
 /// A fault of each kind.
-static FAULTS: [Fault; 11] = [
+static FAULTS: [Fault; 12] = [
     Fault::Compressed,
     Fault::BaseOfElf,
     Fault::HeaderCut { length: 63 },
@@ -28,6 +28,7 @@ static FAULTS: [Fault; 11] = [
         size: 80,
         needed: 424,
     },
+    Fault::VmCoreInfo(KernelFault::Missing(Key::PhysBase)),
 ];
 
 /// Returns the text of a value.

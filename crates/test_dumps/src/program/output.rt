@@ -24,7 +24,7 @@ fn file_with_many_pages(alloc: Global) -> Result<Vec<u8>, AllocError> {
     }];
     let processors = [Processor {
         cr3: 0x1000,
-        cr4: 0,
+        cr4: 0x20,
     }];
     let mut file = Vec::new(alloc);
     push_core_file(&mut file, &processors, &memory)?;

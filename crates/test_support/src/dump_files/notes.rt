@@ -1,12 +1,15 @@
 //! Notes of core files.
 use std::alloc::AllocError;
 
+/// The CR0 of each processor: paging and protection are on.
+pub const CR0: u64 = 0x8000_0001;
+
 /// The registers of a processor that locate its tables.
 #[derive(Clone, Copy, Debug, PartialEq, Eq)]
 pub struct Processor {
     /// The address of the root, with flags.
     pub cr3: u64,
-    /// Bit 12 is set if the tables have five levels.
+    /// Bit 5 is set for entries of 64 bits, bit 12 if the tables have five levels.
     pub cr4: u64,
 }
 
@@ -26,7 +29,9 @@ pub fn push_note(
 /// Adds QEMU's note of a processor, of 460 bytes.
 pub fn push_processor(bytes: &mut Vec<u8>, processor: Processor) -> Result<(), AllocError> {
     push_note(bytes, b"QEMU\0\0\0\0", 5, 440)?;
-    bytes.extend_from_slice(&[0; 416])?;
+    bytes.extend_from_slice(&[0; 392])?;
+    bytes.extend_from_slice(&CR0.to_le_bytes())?;
+    bytes.extend_from_slice(&[0; 16])?;
     bytes.extend_from_slice(&processor.cr3.to_le_bytes())?;
     bytes.extend_from_slice(&processor.cr4.to_le_bytes())?;
     bytes.extend_from_slice(&[0; 8])

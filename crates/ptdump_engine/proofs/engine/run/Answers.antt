@@ -1,12 +1,12 @@
-use Rattle.std.proofs.Common.{rules, ◌≡◌, ◌||◌, OnOk, inr, refl, sym, subst, IfOk, Ok, Err}
+use Rattle.std.proofs.Common.{rules, ◌≡◌, ◌||◌, ◌++◌, OnOk, inr, refl, sym, subst, IfOk, Ok, Err}
 use Rattle.x86_64_dump.specs.Dump.{words_of_dump}
 use Rattle.x86_64_dump.specs.Opened.{opened}
 use Rattle.ptdump_engine.specs.Failure.{failure_of}
-use Rattle.ptdump_engine.specs.Program.{EndsByTotals, Notes, Reports, ToldOfTables, level_count, short_text}
+use Rattle.ptdump_engine.specs.Program.{EndsByTotals, Notes, Reports, ToldOfTables, level_count, short_text, source_text}
 use Rattle.std.specs.Io.KnownBytes.{Appends}
 use Rattle.ptdump_engine.specs.Output.{put_in}
 use Rattle.ptdump_engine.proofs.Results.{on_ok}
-use Rattle.ptdump_engine.proofs.Wholly.{no_dump, no_start, opens, runs_by, put_first}
+use Rattle.ptdump_engine.proofs.Wholly.{no_dump, no_start, opens, puts_both, runs_by, put_first}
 use Rattle.ptdump_engine.proofs.engine.run.Goals as goal
 
 pub returns-in_err-dump-clause-run : goal.returns-in_err-dump-clause-run
@@ -74,16 +74,18 @@ returns-in-Four-clause-notes g c = λ known.
     let dump = opened g.S.ByteSource.bytes c.in_ok-dump.dump in
     let start = c.in_ok-start.start in
     let contents = g.E.Destination.contents in
-    let short = put_first contents c.new-notes.result c.write_short.new.notes (short_text dump) c.new-notes.ensures.empty (c.in_ok-write_short.ensures.text known) in
-    let begun : Appends (contents c.args.errors.now) (put_in contents c.write_short.new.notes) (short_text dump) =
-    subst (λ e. Appends (contents e) (put_in contents c.write_short.new.notes) (short_text dump)) c.new-notes.ensures.now short in
+    let text = short_text dump ++ source_text start.origin in
+    let both = puts_both contents c.new-notes.result c.write_short.new.notes c.write_source.new.notes (short_text dump) (source_text start.origin) (c.in_ok-write_short.ensures.text known) c.in_ok-write_source.ensures in
+    let told = put_first contents c.new-notes.result c.write_source.new.notes text c.new-notes.ensures.empty both in
+    let begun : Appends (contents c.args.errors.now) (put_in contents c.write_source.new.notes) text =
+    subst (λ e. Appends (contents e) (put_in contents c.write_source.new.notes) text) c.new-notes.ensures.now told in
     on_ok c.report.result (λ totals not_image. let ends = totals not_image in let same = ends.0 in
     let result : Notes request file (contents c.args.errors.now) (contents c.report.new.notes.writer.now) = (
       record { dump = dump; start = start },
-      put_in contents c.write_short.new.notes,
+      put_in contents c.write_source.new.notes,
       opens request file dump start (c.in_ok-dump.ensures known) (c.in_ok-start.ensures.start known),
       begun,
-      subst (λ levels. EndsByTotals (level_count levels) (words_of_dump dump) start.root (put_in contents c.write_short.new.notes) (contents c.report.new.notes.writer.now)) (sym c.in-Four.is) ends.1,
+      subst (λ levels. EndsByTotals (level_count levels) (words_of_dump dump) start.root (put_in contents c.write_source.new.notes) (contents c.report.new.notes.writer.now)) (sym c.in-Four.is) ends.1,
     ) in
     search (rules, result))
     (c.report.ensures.totals known)
@@ -95,16 +97,18 @@ returns-clause-notes g c = λ known.
     let dump = opened g.S.ByteSource.bytes c.in_ok-dump.dump in
     let start = c.in_ok-start.start in
     let contents = g.E.Destination.contents in
-    let short = put_first contents c.new-notes.result c.write_short.new.notes (short_text dump) c.new-notes.ensures.empty (c.in_ok-write_short.ensures.text known) in
-    let begun : Appends (contents c.args.errors.now) (put_in contents c.write_short.new.notes) (short_text dump) =
-    subst (λ e. Appends (contents e) (put_in contents c.write_short.new.notes) (short_text dump)) c.new-notes.ensures.now short in
+    let text = short_text dump ++ source_text start.origin in
+    let both = puts_both contents c.new-notes.result c.write_short.new.notes c.write_source.new.notes (short_text dump) (source_text start.origin) (c.in_ok-write_short.ensures.text known) c.in_ok-write_source.ensures in
+    let told = put_first contents c.new-notes.result c.write_source.new.notes text c.new-notes.ensures.empty both in
+    let begun : Appends (contents c.args.errors.now) (put_in contents c.write_source.new.notes) text =
+    subst (λ e. Appends (contents e) (put_in contents c.write_source.new.notes) text) c.new-notes.ensures.now told in
     on_ok c.report-in-Five.result (λ totals not_image. let ends = totals not_image in let same = ends.0 in
     let result : Notes request file (contents c.args.errors.now) (contents c.report-in-Five.new.notes.writer.now) = (
       record { dump = dump; start = start },
-      put_in contents c.write_short.new.notes,
+      put_in contents c.write_source.new.notes,
       opens request file dump start (c.in_ok-dump.ensures known) (c.in_ok-start.ensures.start known),
       begun,
-      subst (λ levels. EndsByTotals (level_count levels) (words_of_dump dump) start.root (put_in contents c.write_short.new.notes) (contents c.report-in-Five.new.notes.writer.now)) (sym c.in-Five.is) ends.1,
+      subst (λ levels. EndsByTotals (level_count levels) (words_of_dump dump) start.root (put_in contents c.write_source.new.notes) (contents c.report-in-Five.new.notes.writer.now)) (sym c.in-Five.is) ends.1,
     ) in
     search (rules, result))
     (c.report-in-Five.ensures.totals known)
