@@ -35,11 +35,7 @@ fn subcommand<'a>(alloc: Global, help: &CommandHelp) -> Result<Command<'a>, Erro
     };
     Ok(
         command
-            .arg(option(
-                alloc,
-                "cr3",
-                "CR3 [default: as the core's notes say]",
-            ))?
+            .arg(option(alloc, "cr3", "CR3 [default: as the core's notes say]"))?
             .arg(option(
                 alloc,
                 "levels",

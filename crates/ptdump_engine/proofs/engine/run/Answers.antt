@@ -79,7 +79,7 @@ returns-in-Four-clause-notes g c = λ known.
     let told = put_first contents c.new-notes.result c.write_source.new.notes text c.new-notes.ensures.empty both in
     let begun : Appends (contents c.args.errors.now) (put_in contents c.write_source.new.notes) text =
     subst (λ e. Appends (contents e) (put_in contents c.write_source.new.notes) text) c.new-notes.ensures.now told in
-    on_ok c.report.result (λ totals not_image. let ends = totals not_image in let same = ends.0 in
+    on_ok c.report.result (λ totals not_image. let ends = totals not_image in let same = ends.0 in let tied = both.writer in
     let result : Notes request file (contents c.args.errors.now) (contents c.report.new.notes.writer.now) = (
       record { dump = dump; start = start },
       put_in contents c.write_source.new.notes,
@@ -102,7 +102,7 @@ returns-clause-notes g c = λ known.
     let told = put_first contents c.new-notes.result c.write_source.new.notes text c.new-notes.ensures.empty both in
     let begun : Appends (contents c.args.errors.now) (put_in contents c.write_source.new.notes) text =
     subst (λ e. Appends (contents e) (put_in contents c.write_source.new.notes) text) c.new-notes.ensures.now told in
-    on_ok c.report-in-Five.result (λ totals not_image. let ends = totals not_image in let same = ends.0 in
+    on_ok c.report-in-Five.result (λ totals not_image. let ends = totals not_image in let same = ends.0 in let tied = both.writer in
     let result : Notes request file (contents c.args.errors.now) (contents c.report-in-Five.new.notes.writer.now) = (
       record { dump = dump; start = start },
       put_in contents c.write_source.new.notes,
