@@ -61,7 +61,7 @@ impl Failure {
             | Failure::NoProcessor { .. }
             | Failure::NotCanonical { .. }
             | Failure::NotPhysical { .. }
-            | Failure::Dump(Fault::BaseOfElf) => 2,
+            | Failure::Dump(Fault::BaseGiven) => 2,
             Failure::NoRoot { .. } | Failure::Dump(_) | Failure::Read(_) => 3,
             Failure::OutOfMemory => 4,
             Failure::Output => 5,

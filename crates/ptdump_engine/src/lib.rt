@@ -13,6 +13,7 @@ mod findings;
 mod image;
 mod lines;
 mod loaded;
+mod opening;
 mod output;
 mod picture;
 mod report;

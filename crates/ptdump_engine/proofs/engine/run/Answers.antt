@@ -2,7 +2,7 @@ use Rattle.std.proofs.Common.{rules, ◌≡◌, ◌||◌, OnOk, inr, refl, sym, 
 use Rattle.x86_64_dump.specs.Dump.{words_of_dump}
 use Rattle.x86_64_dump.specs.Opened.{opened}
 use Rattle.ptdump_engine.specs.Failure.{failure_of}
-use Rattle.ptdump_engine.specs.Program.{EndsByTotals, Notes, Reports, ToldOfTables, level_count, short_text}
+use Rattle.ptdump_engine.specs.Program.{EndsByTotals, Notes, Reports, ToldOfTables, level_count, opening_text}
 use Rattle.std.specs.Io.KnownBytes.{Appends}
 use Rattle.ptdump_engine.specs.Output.{put_in}
 use Rattle.ptdump_engine.proofs.Results.{on_ok}
@@ -74,16 +74,16 @@ returns-in-Four-clause-notes g c = λ known.
     let dump = opened g.S.ByteSource.bytes c.in_ok-dump.dump in
     let start = c.in_ok-start.start in
     let contents = g.E.Destination.contents in
-    let short = put_first contents c.new-notes.result c.write_short.new.notes (short_text dump) c.new-notes.ensures.empty (c.in_ok-write_short.ensures.text known) in
-    let begun : Appends (contents c.args.errors.now) (put_in contents c.write_short.new.notes) (short_text dump) =
-    subst (λ e. Appends (contents e) (put_in contents c.write_short.new.notes) (short_text dump)) c.new-notes.ensures.now short in
+    let short = put_first contents c.new-notes.result c.write_opening.new.notes (opening_text dump) c.new-notes.ensures.empty (c.in_ok-write_opening.ensures.text known) in
+    let begun : Appends (contents c.args.errors.now) (put_in contents c.write_opening.new.notes) (opening_text dump) =
+    subst (λ e. Appends (contents e) (put_in contents c.write_opening.new.notes) (opening_text dump)) c.new-notes.ensures.now short in
     on_ok c.report.result (λ totals not_image. let ends = totals not_image in let same = ends.0 in
     let result : Notes request file (contents c.args.errors.now) (contents c.report.new.notes.writer.now) = (
       record { dump = dump; start = start },
-      put_in contents c.write_short.new.notes,
+      put_in contents c.write_opening.new.notes,
       opens request file dump start (c.in_ok-dump.ensures known) (c.in_ok-start.ensures.start known),
       begun,
-      subst (λ levels. EndsByTotals (level_count levels) (words_of_dump dump) start.root (put_in contents c.write_short.new.notes) (contents c.report.new.notes.writer.now)) (sym c.in-Four.is) ends.1,
+      subst (λ levels. EndsByTotals (level_count levels) (words_of_dump dump) start.root (put_in contents c.write_opening.new.notes) (contents c.report.new.notes.writer.now)) (sym c.in-Four.is) ends.1,
     ) in
     search (rules, result))
     (c.report.ensures.totals known)
@@ -95,16 +95,16 @@ returns-clause-notes g c = λ known.
     let dump = opened g.S.ByteSource.bytes c.in_ok-dump.dump in
     let start = c.in_ok-start.start in
     let contents = g.E.Destination.contents in
-    let short = put_first contents c.new-notes.result c.write_short.new.notes (short_text dump) c.new-notes.ensures.empty (c.in_ok-write_short.ensures.text known) in
-    let begun : Appends (contents c.args.errors.now) (put_in contents c.write_short.new.notes) (short_text dump) =
-    subst (λ e. Appends (contents e) (put_in contents c.write_short.new.notes) (short_text dump)) c.new-notes.ensures.now short in
+    let short = put_first contents c.new-notes.result c.write_opening.new.notes (opening_text dump) c.new-notes.ensures.empty (c.in_ok-write_opening.ensures.text known) in
+    let begun : Appends (contents c.args.errors.now) (put_in contents c.write_opening.new.notes) (opening_text dump) =
+    subst (λ e. Appends (contents e) (put_in contents c.write_opening.new.notes) (opening_text dump)) c.new-notes.ensures.now short in
     on_ok c.report-in-Five.result (λ totals not_image. let ends = totals not_image in let same = ends.0 in
     let result : Notes request file (contents c.args.errors.now) (contents c.report-in-Five.new.notes.writer.now) = (
       record { dump = dump; start = start },
-      put_in contents c.write_short.new.notes,
+      put_in contents c.write_opening.new.notes,
       opens request file dump start (c.in_ok-dump.ensures known) (c.in_ok-start.ensures.start known),
       begun,
-      subst (λ levels. EndsByTotals (level_count levels) (words_of_dump dump) start.root (put_in contents c.write_short.new.notes) (contents c.report-in-Five.new.notes.writer.now)) (sym c.in-Five.is) ends.1,
+      subst (λ levels. EndsByTotals (level_count levels) (words_of_dump dump) start.root (put_in contents c.write_opening.new.notes) (contents c.report-in-Five.new.notes.writer.now)) (sym c.in-Five.is) ends.1,
     ) in
     search (rules, result))
     (c.report-in-Five.ensures.totals known)
