@@ -1,6 +1,6 @@
 -- The requests that the words of a command line describe.
-use Rattle.std.specs.Prelude.{◌≡◌, ◌⊎◌, ℕ, List, [], Option, None, Some, All, codes, map, option_map, unwrap_or}
-use Rattle.clap.specs.Matches.{first_value, matched_of, raw_values}
+use Rattle.std.specs.Prelude.{◌≡◌, ◌⊎◌, ℕ, Bool, true, false, List, [], Option, None, Some, All, codes, map, option_map, unwrap_or}
+use Rattle.clap.specs.Matches.{first_value, matched_of, one_text, raw_values}
 use Rattle.clap.specs.declared.parser.matches.Found.{Found}
 use Rattle.ptdump_engine.specs.declared.request.Command.{Command}
 use Rattle.ptdump_engine.specs.declared.request.Command.TheVariants.{Regions, Pages, Walk, Find, Check, Image, Picture}
@@ -44,12 +44,18 @@ count Five = 5
 abbrev pub IsLevels : (text : Option (List ℕ)) → Option Levels → Type 0
 IsLevels text levels = IsOption text (option_map count levels)
 
+-- a flag is true if its text is "true", as where it is given, and false if its text is "false" or is missing
+abbrev pub IsFlag : (text : Option (List ℕ)) → Bool → Type 0
+IsFlag None flag = flag ≡ false
+IsFlag (Some text) flag = (text ≡ codes "true" → flag ≡ true) × (text ≡ codes "false" → flag ≡ false)
+
 -- the request is that of the command with this name and these arguments
 pub record IsRequest (name : List ℕ) (found : Found) (request : Request) : Type 0 where
   pub command : IsCommand name found request.command
   pub cr3 : IsOption (first_value found (codes "cr3")) request.cr3
   pub levels : IsLevels (first_value found (codes "levels")) request.levels
   pub base : IsOption (first_value found (codes "base")) request.base
+  pub raw : IsFlag (one_text found (codes "raw")) request.is_raw
   pub cpu : IsOption (first_value found (codes "cpu")) request.cpu
 
 -- memory allocation failed, or no value has this property

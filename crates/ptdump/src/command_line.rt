@@ -46,6 +46,12 @@ fn subcommand<'a>(alloc: Global, help: &CommandHelp) -> Result<Command<'a>, Erro
                 "base",
                 "Address of a raw file's first byte [default: 0]",
             ))?
+            .arg(
+                Arg::new(alloc, "raw")
+                    .long("raw")
+                    .action(ArgAction::SetTrue)
+                    .help("Read the file as raw, whatever it begins with"),
+            )?
             .arg(option(
                 alloc,
                 "cpu",
@@ -81,7 +87,7 @@ fn file<'a>(alloc: Global) -> Arg<'a> {
     Arg::new(alloc, "file")
         .value_name("FILE")
         .required(true)
-        .help("The dump: an ELF core, or a raw file of physical memory")
+        .help("The dump: an ELF core, a LiME file, or a raw file of physical memory")
 }
 
 /// Returns the argument for one or more addresses.

@@ -25,10 +25,16 @@ pub struct CommandHelp {
 
 /// The help text of the program after the list of commands.
 pub const MORE: &str = "\
-FILE is a dump of an x86-64 machine's physical memory:
+FILE is a dump of an x86-64 machine's physical memory, or - for standard input:
 - an ELF core, as QEMU's `dump-guest-memory FILE` and Linux's kdump write it,
+- a LiME file of version 1, which has ranges of memory behind headers,
 - or a raw file, which holds the bytes of memory from an address on, as QEMU's
   `pmemsave` writes it. Say by --base which address that is, if it isn't 0.
+
+A file is raw if its first bytes are those of no format, or with --raw, and
+standard error says so. Known and refused are compressed kdumps, makedumpfile's
+flattened dumps, LiME's version 2 (AVML), crash dumps of Windows, states of
+VMware, and what gzip, xz, zstd, lz4, bzip2 and zip have packed.
 
 Page tables are found by CR3. QEMU's cores have it, and how many levels there
 are. In kdump's cores Linux's note VMCOREINFO says where the kernel's own root

@@ -68,10 +68,7 @@ fn path_of<'a>(arguments: &ArgMatches<'a>) -> &'a str {
 
 /// Reports on a dump.
 fn report_on<'a>(rt: &HostRuntime, path: &'a str, request: &Request) -> Result<Outcome, Stop<'a>> {
-    let source = match open(rt, path) {
-        Ok(source) => source,
-        Err(error) => return Err(Stop::Unopened { path, error }),
-    };
+    let source = open(rt, path)?;
     let mut progress = ProgressLine::new(rt, rt.stderr().is_terminal());
     let mut writer = rt.stdout();
     let mut errors = rt.stderr();
@@ -86,9 +83,14 @@ fn report_on<'a>(rt: &HostRuntime, path: &'a str, request: &Request) -> Result<O
     Ok(outcome)
 }
 
-/// Opens a dump.
-fn open(rt: &HostRuntime, path: &str) -> io::Result<FileSource> {
-    FileSource::new(File::open(rt, path)?)
+/// Opens a dump, which is standard input if the path is `-`.
+fn open<'a>(rt: &HostRuntime, path: &'a str) -> Result<FileSource, Stop<'a>> {
+    let name = if path == "-" { "/dev/stdin" } else { path };
+    let file = match File::open(rt, name) {
+        Ok(file) => file,
+        Err(error) => return Err(Stop::Unopened { path, error }),
+    };
+    FileSource::new(file).map_err(|error| Stop::NoLength { path, error })
 }
 
 /// Prints the reason if a run stopped early, and returns the exit code. If printing fails, the exit code is that of a failed

@@ -1,8 +1,8 @@
 //! Requests from the words of a command line.
 ghost use Rattle.std.specs.Prelude.{Option, IfOk, IfErr, codes};
 ghost use Rattle.std.specs.Option.{option_copied};
-ghost use Rattle.clap.specs.Matches.{found_of};
-ghost use Rattle.ptdump.specs.Requests.{AreNumbers, IsCommand, IsLevels, IsRequest, IsUnread, values};
+ghost use Rattle.clap.specs.Matches.{found_of, one_text};
+ghost use Rattle.ptdump.specs.Requests.{AreNumbers, IsCommand, IsFlag, IsLevels, IsRequest, IsUnread, values};
 ghost use Rattle.x86_64_addr.specs.declared.level_count.Levels.{Levels};
 
 use crate::asked::access_of;
@@ -30,8 +30,16 @@ pub fn request_of<'a>(
         cr3: option_of("--cr3", arguments.get_str("cr3"))?,
         levels: levels_of(arguments.get_str("levels"))?,
         base: option_of("--base", arguments.get_str("base"))?,
+        is_raw: is_given(arguments, "raw"),
         cpu: option_of("--cpu", arguments.get_str("cpu"))?,
     })
+}
+
+/// Returns true if a flag is given.
+fn is_given(arguments: &ArgMatches<'_>, name: &str) -> bool
+    ensures { IsFlag (one_text (found_of arguments.now) name.now) result }
+{
+    arguments.get_flag(name)
 }
 
 /// Returns the command with a name and its arguments.

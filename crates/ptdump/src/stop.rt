@@ -42,6 +42,13 @@ pub enum Stop<'a> {
         /// The error of opening it.
         error: io::Error,
     },
+    /// The length of the file can't be found.
+    NoLength {
+        /// The path of the file.
+        path: &'a str,
+        /// The error of finding its end.
+        error: io::Error,
+    },
     /// The run failed, or memory allocation failed before it.
     Failed(Failure),
 }
@@ -62,7 +69,7 @@ impl Stop<'_> {
             | Stop::NoAccess(_)
             | Stop::NoSetting(_)
             | Stop::NoPhysicalBits(_) => 2,
-            Stop::Unopened { .. } => 3,
+            Stop::Unopened { .. } | Stop::NoLength { .. } => 3,
             Stop::Failed(failure) => failure.status(),
         }
     }
@@ -110,6 +117,10 @@ impl Display for Stop<'_> {
                 "--physical-bits {text}: give a number from 32 to 52"
             ),
             Stop::Unopened { path, error } => write!(f, "{path} can't be opened: {error}"),
+            Stop::NoLength { path, error } => write!(
+                f,
+                "the end of {path} can't be seeked, as that of a pipe: write it into a file first ({error})"
+            ),
             Stop::Failed(failure) => write!(f, "{failure}"),
         }
     }

@@ -10,11 +10,11 @@ use Rattle.ptdump_engine.specs.declared.output.Output.{Output}
 use Rattle.ptdump_engine.specs.private.Puts.{puts_both}
 
 -- one more text is put in
-pub puts_more : {W : Type 0} (contents : W → Option (List ℕ)) (text : ℕ → List ℕ) (old now new : Output W (String Global)) (xs : List ℕ) (i : ℕ) → i < length xs
-    → Puts contents old now (flat_map text (take i xs)) → Puts contents now new (text (get_or xs i 0)) → Puts contents old new (flat_map text (take (i + 1) xs))
-puts_more contents text old now new xs i below before next =
-    let more : flat_map text (take (i + 1) xs) ≡ flat_map text (take i xs) ++ text (get_or xs i 0) =
-    ap (flat_map text) (take_more xs i 0 below) ∙ flat_map-append text (take i xs) (get_or xs i 0 ∷ []) ∙ ap (λ t. flat_map text (take i xs) ++ t) (append-nil (text (get_or xs i 0))) in
+pub puts_more : {W X : Type 0} (contents : W → Option (List ℕ)) (text : X → List ℕ) (old now new : Output W (String Global)) (xs : List X) (i : ℕ) (d : X) → i < length xs
+    → Puts contents old now (flat_map text (take i xs)) → Puts contents now new (text (get_or xs i d)) → Puts contents old new (flat_map text (take (i + 1) xs))
+puts_more contents text old now new xs i d below before next =
+    let more : flat_map text (take (i + 1) xs) ≡ flat_map text (take i xs) ++ text (get_or xs i d) =
+    ap (flat_map text) (take_more xs i d below) ∙ flat_map-append text (take i xs) (get_or xs i d ∷ []) ∙ ap (λ t. flat_map text (take i xs) ++ t) (append-nil (text (get_or xs i d))) in
     subst (Puts contents old new) (sym more) (puts_both contents old now new _ _ before next)
 
 all-append : (p : ℕ → Bool) (xs : List ℕ) (y : ℕ) → list_all p (xs ++ y ∷ []) ≡ (list_all p xs && p y)

@@ -6,7 +6,7 @@ use Rattle.std.specs.List.{flat_map, list_all, list_any}
 use Rattle.std.specs.String.{string_bytes}
 use Rattle.std.specs.declared.alloc.Global.{Global}
 use Rattle.x86_64_dump.specs.Dump.{Contents}
-use Rattle.x86_64_dump.specs.Opening.{Fails, contents_of}
+use Rattle.x86_64_dump.specs.Opening.{Fails, contents_as}
 use Rattle.x86_64_dump.specs.declared.error.DumpError.{DumpError}
 use Rattle.x86_64_dump.specs.Reached.{SameBelow}
 use Rattle.x86_64_mappings.specs.Texts.{mapping_text, region_text}
@@ -18,7 +18,7 @@ use Rattle.x86_64_model.specs.Regions.{regions_in}
 use Rattle.x86_64_mappings.specs.Wanted.{leads_to}
 use Rattle.ptdump_engine.specs.Output.{Puts, put_in}
 use Rattle.ptdump_engine.specs.Failure.{failure_of}
-use Rattle.ptdump_engine.specs.Program.{Opened, Reports, ReportsOf, Runs, completeness_of, opened_for, report_of, start_for}
+use Rattle.ptdump_engine.specs.Program.{Opened, Reports, ReportsOf, Runs, completeness_of, format_for, opened_for, report_of, start_for}
 use Rattle.ptdump_engine.specs.Reports.{addresses_text, find_text, found_text, pages_text, regions_text, walks_text}
 use Rattle.ptdump_engine.specs.Steps.{FailsBy, IsForced, and_then, of_dump}
 use Rattle.ptdump_engine.specs.Walks.{line, walk_text}
@@ -104,7 +104,7 @@ same_completeness commands.Picture L T W root same below walks = refl
 -- ---- the run
 
 -- what is opened if the file is a dump and the start of page walks is found
-pub opens : (request : Request) (file : List ℕ) (dump : Contents) (start : Start) → contents_of file request.base ≡ Ok dump → start_for request dump ≡ Ok start
+pub opens : (request : Request) (file : List ℕ) (dump : Contents) (start : Start) → contents_as (format_for request file) file request.base ≡ Ok dump → start_for request dump ≡ Ok start
     → opened_for request file ≡ Ok (record { dump = dump; start = start })
 unfolding opened_for
 opens request file dump start contents starts =
@@ -112,11 +112,11 @@ opens request file dump start contents starts =
     ∙ ap (λ found. and_then found (λ start. Ok (record { dump = dump; start = start }))) starts
 
 -- why nothing is opened
-pub no_dump : (may : Bool) (request : Request) (file : List ℕ) (error : DumpError) → Fails error (contents_of file request.base) → FailsBy may (failure_of error) (opened_for request file)
+pub no_dump : (may : Bool) (request : Request) (file : List ℕ) (error : DumpError) → Fails error (contents_as (format_for request file) file request.base) → FailsBy may (failure_of error) (opened_for request file)
 unfolding opened_for
-no_dump may request file error fails = dump_fails may error (contents_of file request.base) _ fails
+no_dump may request file error fails = dump_fails may error (contents_as (format_for request file) file request.base) _ fails
 
-pub no_start : (may : Bool) (request : Request) (file : List ℕ) (dump : Contents) (failure : Failure) → contents_of file request.base ≡ Ok dump → FailsBy false failure (start_for request dump)
+pub no_start : (may : Bool) (request : Request) (file : List ℕ) (dump : Contents) (failure : Failure) → contents_as (format_for request file) file request.base ≡ Ok dump → FailsBy false failure (start_for request dump)
     → FailsBy may failure (opened_for request file)
 unfolding opened_for
 no_start may request file dump failure contents fails =

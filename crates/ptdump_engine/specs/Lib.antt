@@ -14,6 +14,7 @@ pub mod FindingTexts
 pub mod Colours
 pub mod Links
 pub mod private
+pub use Rattle.x86_64_dump.specs.Formats
 pub use Rattle.x86_64_dump.specs.Opening
 pub use Rattle.x86_64_mappings.specs.Texts
 pub use Rattle.x86_64_tables.specs.Rights

@@ -1,10 +1,15 @@
 -- The output of the program for a file, or why it fails.
-use Rattle.std.specs.Prelude.{◌≡◌, ◌⊎◌, ℕ, ◌-◌, ◌^◌, codes, length, ◌++◌, ◌&&◌, ◌||◌, nat_le, nat_lt, not, true, false, Bool, if◌then◌else◌, List, [], Option, None, Some, IfSome, is_some, option_map, Result, Ok, Err, ⊤}
-use Rattle.std.specs.List.{find}
+use Rattle.std.specs.Prelude.{◌≡◌, ◌⊎◌, ℕ, ◌+◌, ◌-◌, ◌^◌, ◌==◌, ◌++◌, min, codes, length, ◌&&◌, ◌||◌, nat_le, nat_lt, not, true, false, Bool, if◌then◌else◌, List, [], Option, None, Some, IfSome, is_some, option_map, Result, Ok, Err, ⊤}
+use Rattle.std.specs.List.{find, flat_map}
 use Rattle.std.specs.Io.KnownBytes.{Appends}
 use Rattle.x86_64_dump.specs.Dump.{Contents, is_short, words_of_dump}
 use Rattle.x86_64_dump.specs.Loaded.{IsTableCount, up_to}
-use Rattle.x86_64_dump.specs.Opening.{contents_of}
+use Rattle.x86_64_dump.specs.Formats.{format_of, is_raw}
+use Rattle.x86_64_dump.specs.Opening.{contents_as}
+use Rattle.x86_64_dump.specs.declared.formats.Format.{Format}
+use Rattle.x86_64_dump.specs.declared.formats.Format.TheVariants.{Raw}
+use Rattle.x86_64_dump.specs.declared.segment.Segment.{Segment}
+use Rattle.x86_64_mappings.specs.Numbers.{hexadecimal}
 use Rattle.x86_64_model.specs.Memory.{Words}
 use Rattle.x86_64_model.specs.Position.{lower_half}
 use Rattle.ptdump_engine.specs.Reports.{regions_text, pages_text, walks_text, find_text, all_arrive, all_found}
@@ -61,6 +66,10 @@ start_for request dump = and_then (start_of request dump) (λ start.
     and_then (unless (argument_failure start.levels request.command) start) (λ tested.
     unless (root_failure request.command (words_of_dump dump) start.root) start))
 
+-- the format as which a file is read
+abbrev pub format_for : Request → (file : List ℕ) → Format
+format_for request file = if request.is_raw then Raw else format_of file
+
 -- the contents of a dump, and the start of page walks in it
 pub record Opened : Type 0 where
   pub dump : Contents
@@ -68,7 +77,7 @@ pub record Opened : Type 0 where
 
 -- what is opened for a request, or why the request or the file can't be used
 unfoldable pub opened_for : Request → (file : List ℕ) → Result Opened Failure
-opened_for request file = and_then (of_dump (contents_of file request.base)) (λ dump.
+opened_for request file = and_then (of_dump (contents_as (format_for request file) file request.base)) (λ dump.
     and_then (start_for request dump) (λ start. Ok (record { dump = dump; start = start })))
 
 -- ---- the output
@@ -106,10 +115,26 @@ Runs may request file before after (Err failure) = FailsBy may failure (opened_f
 
 -- ---- standard error, and the progress
 
--- the first line, if the file is shorter than its headers say
+-- the last address of a segment that has one: there is none above 2^64 - 1
+abbrev pub last_address : Segment → ℕ
+last_address segment = min (segment.address + (segment.size - 1)) (2 ^ 64 - 1)
+
+abbrev pub raw_range_text : (first last : ℕ) → List ℕ
+raw_range_text first last = codes "the file is read as raw memory: " ++ hexadecimal first ++ codes "-" ++ hexadecimal last
+
+-- where the bytes of a raw file lie in physical memory
+abbrev pub raw_text : Segment → List ℕ
+raw_text segment = if segment.size == 0 then codes "the file is read as raw memory, and is empty"
+    else raw_range_text segment.address (last_address segment)
+
+-- if the file is shorter than its headers say
 abbrev pub short_text : Contents → List ℕ
 short_text dump = if is_short (length dump.file) dump.segments
     then line (codes "the file is shorter than its headers say: frames behind its end are missing") else []
+
+-- the first line, if the file is raw, or shorter than its headers say
+abbrev pub opening_text : Contents → List ℕ
+opening_text dump = if is_raw dump.format then flat_map (λ segment. line (raw_text segment)) dump.segments else short_text dump
 
 -- the next line, if the root is the kernel's own
 abbrev pub source_text : Origin → List ℕ
@@ -125,9 +150,9 @@ is_image command = false
 abbrev pub EndsByTotals : (L : ℕ) → Words → (root : ℕ) → (before after : Option (List ℕ)) → Type 0
 EndsByTotals L T root before after = (totals : Totals) × AreTotals L T root totals × Appends before after (line (totals_text totals))
 
--- standard error after a run: that the file is short, that the root is the kernel's, and the totals
+-- standard error after a run: that the file is raw or short, that the root is the kernel's, and the totals
 abbrev pub Notes : Request → (file : List ℕ) → (before after : Option (List ℕ)) → Type 0
-Notes request file before after = (o : Opened) × (between : Option (List ℕ)) × (opened_for request file ≡ Ok o) × Appends before between (short_text o.dump ++ source_text o.start.origin)
+Notes request file before after = (o : Opened) × (between : Option (List ℕ)) × (opened_for request file ≡ Ok o) × Appends before between (opening_text o.dump ++ source_text o.start.origin)
     × EndsByTotals (level_count o.start.levels) (words_of_dump o.dump) o.start.root between after
 
 -- the observer was told of each table that the root leads to, and of the end

@@ -19,6 +19,7 @@ use crate::destination::Destination;
 use crate::failure::Failure;
 use crate::image::write_image;
 use crate::loaded::Loaded;
+use crate::opening::{open, write_opening};
 use crate::output::{Output, OutputError};
 use crate::picture::write_picture;
 use crate::report::{write_found, write_pages, write_regions, write_walks};
@@ -37,8 +38,8 @@ use x86_64_tables::phys_memory::IdentityMapping;
 /// Runs the program on the bytes of a file: opens it as a dump, reads the tables that a root leads to, and writes the requested
 /// report to `writer`. The request is tested before anything is written there. `progress` is called as the tables are read.
 ///
-/// `errors` receives the rest of the text for standard error: that the file is shorter than its headers say, that the root is the
-/// kernel's own by Linux's note, how an image was created, and finally the number of tables that were read and how much they map.
+/// `errors` receives the rest of the text for standard error: that the file is raw, or shorter than its headers say, that the root is
+/// the kernel's own by Linux's note, how an image was created, and finally the number of tables that were read and how much they map.
 ///
 /// # Errors
 ///
@@ -61,8 +62,8 @@ pub fn run<S: ByteSource, W: Destination, E: Destination, G: Progress>(
         (program.ToldOfRun G.Told G.Ended request.now (S.bytes source) progress.old progress.new) }
 {
     let mut notes = Output::new(alloc, errors);
-    let dump = Dump::open(alloc, source, request.base)?;
-    write_short(&dump, &mut notes)?;
+    let dump = open(alloc, source, request)?;
+    write_opening(&dump, &mut notes)?;
     let start = start_for(alloc, &dump, request)?;
     write_source(start.origin, &mut notes)?;
     let command = &request.command;
@@ -79,25 +80,6 @@ pub fn run<S: ByteSource, W: Destination, E: Destination, G: Progress>(
             )
         }
     }
-}
-
-/// Writes immediately if the file is shorter than its headers say.
-fn write_short<S: ByteSource, E: Destination>(
-    dump: &Dump<S>,
-    notes: &mut Output<'_, E>,
-) -> Result<(), OutputError<E>>
-    ensures text { S.IsKnown → OnOk result
-        (Puts E.contents notes.old notes.new (program.short_text (opened S.bytes dump.now))) }
-    ensures all { OnOk result (string_bytes notes.old.text ≡ [] → string_bytes notes.new.text ≡ []) }
-{
-    if dump.is_short() {
-        writeln!(
-            notes,
-            "the file is shorter than its headers say: frames behind its end are missing"
-        )?;
-        notes.finish()?;
-    }
-    Ok(())
 }
 
 /// Writes immediately if the root is the kernel's own.

@@ -73,7 +73,7 @@ impl Failure {
             | Failure::WrongMode { .. }
             | Failure::NotCanonical { .. }
             | Failure::NotPhysical { .. }
-            | Failure::Dump(Fault::BaseOfElf) => 2,
+            | Failure::Dump(Fault::BaseGiven) => 2,
             Failure::NoRoot { .. } | Failure::Dump(_) | Failure::Read(_) => 3,
             Failure::OutOfMemory => 4,
             Failure::Output => 5,

@@ -14,6 +14,7 @@ mod image;
 mod lines;
 mod loaded;
 mod mode;
+mod opening;
 mod output;
 mod picture;
 mod report;

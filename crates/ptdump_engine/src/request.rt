@@ -48,6 +48,8 @@ pub struct Request {
     pub levels: Option<Levels>,
     /// The physical address of the first byte of a raw dump. If `None`, it is 0.
     pub base: Option<u64>,
+    /// Whether the file is raw, whatever it begins with.
+    pub is_raw: bool,
     /// The processor whose note is read, counted from 0 in the order of the notes. If `None`, it is the first one.
     pub cpu: Option<u64>,
 }

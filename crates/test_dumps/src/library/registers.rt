@@ -1,6 +1,6 @@
 //! Tests of the registers in notes, of which `ptdump` shows a few bits.
 use std::process::Abort;
-use test_support::{CR0, Processor, push_core_file};
+use test_support::{CR0, Memory, Processor, push_core_file};
 use x86_64_dump::{Dump, DumpError};
 
 /// The processors of a machine.
@@ -25,8 +25,12 @@ fn value(rt: impl Abort + Copy, read: Result<u64, DumpError>) -> u64 {
 
 #[test]
 fn registers_are_read_whole(rt: HostRuntime) {
+    let memory = Memory {
+        address: 0,
+        bytes: &[],
+    };
     let mut bytes = Vec::new(rt.alloc());
-    assert!(rt; push_core_file(&mut bytes, &PROCESSORS, &[]).is_ok());
+    assert!(rt; push_core_file(&mut bytes, &PROCESSORS, &[memory]).is_ok());
     let Ok(dump) = Dump::open(rt.alloc(), bytes.as_slice(), None) else {
         panic!(rt; "the file wasn't opened");
     };

@@ -2,12 +2,12 @@
 use std::alloc::Global;
 use std::fmt::Display;
 use std::process::Abort;
-use x86_64_dump::{DumpError, Fault, KernelFault, Key};
+use x86_64_dump::{DumpError, Fault, KernelFault, Key, UnreadFormat};
 
 /// A fault of each kind.
-static FAULTS: [Fault; 12] = [
-    Fault::Compressed,
-    Fault::BaseOfElf,
+static FAULTS: [Fault; 18] = [
+    Fault::Unread(UnreadFormat::Kdump),
+    Fault::BaseGiven,
     Fault::HeaderCut { length: 63 },
     Fault::WrongClass { class: 1 },
     Fault::WrongByteOrder { order: 2 },
@@ -22,6 +22,27 @@ static FAULTS: [Fault; 12] = [
         offset: 64,
         count: 7,
         length: 99,
+    },
+    Fault::NoMemory,
+    Fault::RangeHeaderCut {
+        offset: 4128,
+        length: 4129,
+    },
+    Fault::NoRangeHeader { offset: 4128 },
+    Fault::WrongLimeVersion {
+        offset: 0,
+        version: 2,
+    },
+    Fault::RangeReversed {
+        offset: 0,
+        first: 0x2000,
+        last: 0x1fff,
+    },
+    Fault::RangeCut {
+        offset: 0,
+        first: 0x1000,
+        last: 0x1fff,
+        length: 4127,
     },
     Fault::NoteCut {
         offset: 140,

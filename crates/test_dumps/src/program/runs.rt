@@ -48,6 +48,7 @@ impl Word {
             cr3: None,
             levels: None,
             base: None,
+            is_raw: false,
             cpu: None,
         })
     }

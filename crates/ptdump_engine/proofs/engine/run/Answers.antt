@@ -2,7 +2,7 @@ use Rattle.std.proofs.Common.{rules, ◌≡◌, ◌||◌, ◌++◌, OnOk, inr, r
 use Rattle.x86_64_dump.specs.Dump.{words_of_dump}
 use Rattle.x86_64_dump.specs.Opened.{opened}
 use Rattle.ptdump_engine.specs.Failure.{failure_of}
-use Rattle.ptdump_engine.specs.Program.{EndsByTotals, Notes, Reports, ToldOfTables, level_count, short_text, source_text}
+use Rattle.ptdump_engine.specs.Program.{EndsByTotals, Notes, Reports, ToldOfTables, level_count, opening_text, source_text}
 use Rattle.std.specs.Io.KnownBytes.{Appends}
 use Rattle.ptdump_engine.specs.Output.{put_in}
 use Rattle.ptdump_engine.proofs.Results.{on_ok}
@@ -74,8 +74,8 @@ returns-in-Four-clause-notes g c = λ known.
     let dump = opened g.S.ByteSource.bytes c.in_ok-dump.dump in
     let start = c.in_ok-start.start in
     let contents = g.E.Destination.contents in
-    let text = short_text dump ++ source_text start.origin in
-    let both = puts_both contents c.new-notes.result c.write_short.new.notes c.write_source.new.notes (short_text dump) (source_text start.origin) (c.in_ok-write_short.ensures.text known) c.in_ok-write_source.ensures in
+    let text = opening_text dump ++ source_text start.origin in
+    let both = puts_both contents c.new-notes.result c.write_opening.new.notes c.write_source.new.notes (opening_text dump) (source_text start.origin) (c.in_ok-write_opening.ensures.text known) c.in_ok-write_source.ensures in
     let told = put_first contents c.new-notes.result c.write_source.new.notes text c.new-notes.ensures.empty both in
     let begun : Appends (contents c.args.errors.now) (put_in contents c.write_source.new.notes) text =
     subst (λ e. Appends (contents e) (put_in contents c.write_source.new.notes) text) c.new-notes.ensures.now told in
@@ -97,8 +97,8 @@ returns-clause-notes g c = λ known.
     let dump = opened g.S.ByteSource.bytes c.in_ok-dump.dump in
     let start = c.in_ok-start.start in
     let contents = g.E.Destination.contents in
-    let text = short_text dump ++ source_text start.origin in
-    let both = puts_both contents c.new-notes.result c.write_short.new.notes c.write_source.new.notes (short_text dump) (source_text start.origin) (c.in_ok-write_short.ensures.text known) c.in_ok-write_source.ensures in
+    let text = opening_text dump ++ source_text start.origin in
+    let both = puts_both contents c.new-notes.result c.write_opening.new.notes c.write_source.new.notes (opening_text dump) (source_text start.origin) (c.in_ok-write_opening.ensures.text known) c.in_ok-write_source.ensures in
     let told = put_first contents c.new-notes.result c.write_source.new.notes text c.new-notes.ensures.empty both in
     let begun : Appends (contents c.args.errors.now) (put_in contents c.write_source.new.notes) text =
     subst (λ e. Appends (contents e) (put_in contents c.write_source.new.notes) text) c.new-notes.ensures.now told in

@@ -22,7 +22,7 @@ loop-address-preserved g c =
     let xs = c.args.addresses.now in
     let i = c.loop-address.address-index in
     let at = c.new_truncate-address.ensures in (
-      puts_more g.W.Destination.contents (λ a. walk_and_access_text L T root asked (a % position_count L)) c.args.output.now c.loop-address.output c.write_walk_and_access.new.output xs i
+      puts_more g.W.Destination.contents (λ a. walk_and_access_text L T root asked (a % position_count L)) c.args.output.now c.loop-address.output c.write_walk_and_access.new.output xs i 0
           c.loop-address-test.true c.loop-address.invariant.0
           (subst (λ p. Puts g.W.Destination.contents c.loop-address.output c.write_walk_and_access.new.output (walk_and_access_text L T root asked p)) at c.in_ok-arrives.ensures.text),
       ap₂ (λ b d. b && d) c.loop-address.invariant.1 (c.in_ok-arrives.ensures.arrives ∙ ap (is_there asked L T root) at)
