@@ -159,7 +159,6 @@ fn run_in<L: LevelCount, P5: LevelFiveFlags<L>, T: TableMemory, F: FrameStore>(
         (store_of F.FrameStore frames.old) (asks P5.bits call)
         (given.at L.LEVELS located (T.tables memory.new)) (store_of F.FrameStore frames.new) result }
     ensures lent { T.lent memory.new ≡ T.lent memory.old }
-    ensures serves { F.serves frames.new ≡ F.serves frames.old }
 {
     let mut mapper = MappedPageTableIn::<_, L, T>::new(memory, located.root, located.mapping);
     let reply = run_call(&mut mapper, frames, call);

@@ -1,4 +1,7 @@
+use Rattle.std.proofs.Common.{rules}
 use Rattle.x86_64_c.proofs.runs.run_in.Goals as goal
 
-pub returns-clause-serves : goal.returns-clause-serves
-returns-clause-serves g c = c.run_call-reply.ensures.keeps.serves
+pub returns-clause-runs : goal.returns-clause-runs
+returns-clause-runs g c =
+    let serves = c.run_call-reply.ensures.keeps.serves in
+    search rules

@@ -15,7 +15,7 @@ run_in-requires-in-FiveLevels g c =
 pub returns-in-FourLevels-clause-runs : goal.returns-in-FourLevels-clause-runs
 returns-in-FourLevels-clause-runs g c =
     let after = c.run_in.new.frames in
-    let serves = c.run_in.ensures.serves ∙ c.new-frames.ensures.serves in
+    let serves = c.run_in.ensures.runs.serves ∙ c.new-frames.ensures.serves in
     let array = same_array c.of.result.frames after.own.frames _ _ after.entries.ghost_name after.count.ghost_name serves in
     let count = same_count c.of.result.frames after.own.frames _ _ after.entries.ghost_name after.count.ghost_name serves in
     rw (c.in-FourLevels.is, sym c.of.ensures) (lent_runs c.of.result.frames _ _ _ _ c.new-frames.ensures.serves 4 c.args.located _ _ c.args.tables.now _ _ _ _ _ _ c.run_in.result c.new-memory.ensures.tables (search rules) c.new-frames.ensures.supply (search rules) c.run_in.ensures.runs)
@@ -23,7 +23,7 @@ returns-in-FourLevels-clause-runs g c =
 pub returns-in-FourLevels-clause-in_array : goal.returns-in-FourLevels-clause-in_array
 returns-in-FourLevels-clause-in_array g c =
     let after = c.run_in.new.frames in
-    let serves = c.run_in.ensures.serves ∙ c.new-frames.ensures.serves in
+    let serves = c.run_in.ensures.runs.serves ∙ c.new-frames.ensures.serves in
     let array = same_array c.of.result.frames after.own.frames _ _ after.entries.ghost_name after.count.ghost_name serves in
     let count = same_count c.of.result.frames after.own.frames _ _ after.entries.ghost_name after.count.ghost_name serves in
     search rules
@@ -31,7 +31,7 @@ returns-in-FourLevels-clause-in_array g c =
 pub returns-clause-runs : goal.returns-clause-runs
 returns-clause-runs g c =
     let after = c.run_in-in-FiveLevels.new.frames in
-    let serves = c.run_in-in-FiveLevels.ensures.serves ∙ c.new-frames.ensures.serves in
+    let serves = c.run_in-in-FiveLevels.ensures.runs.serves ∙ c.new-frames.ensures.serves in
     let array = same_array c.of.result.frames after.own.frames _ _ after.entries.ghost_name after.count.ghost_name serves in
     let count = same_count c.of.result.frames after.own.frames _ _ after.entries.ghost_name after.count.ghost_name serves in
     rw (c.in-FiveLevels.is, sym c.of.ensures) (lent_runs c.of.result.frames _ _ _ _ c.new-frames.ensures.serves 5 c.args.located _ _ c.args.tables.now _ _ _ _ _ _ c.run_in-in-FiveLevels.result c.new-memory.ensures.tables (search rules) c.new-frames.ensures.supply (search rules) c.run_in-in-FiveLevels.ensures.runs)
@@ -39,7 +39,7 @@ returns-clause-runs g c =
 pub returns-clause-in_array : goal.returns-clause-in_array
 returns-clause-in_array g c =
     let after = c.run_in-in-FiveLevels.new.frames in
-    let serves = c.run_in-in-FiveLevels.ensures.serves ∙ c.new-frames.ensures.serves in
+    let serves = c.run_in-in-FiveLevels.ensures.runs.serves ∙ c.new-frames.ensures.serves in
     let array = same_array c.of.result.frames after.own.frames _ _ after.entries.ghost_name after.count.ghost_name serves in
     let count = same_count c.of.result.frames after.own.frames _ _ after.entries.ghost_name after.count.ghost_name serves in
     search rules
