@@ -1,5 +1,5 @@
 -- A call in the caller's tables and pool, stated of these.
-use Rattle.std.proofs.Common.{◌≡◌, ℕ, Bool, List, sym, subst}
+use Rattle.std.proofs.Common.{◌≡◌, ℕ, Bool, List, refl, sym, subst}
 use Rattle.std.specs.Borrow.{GName}
 use Rattle.x86_64_model.specs.Mapper.{Hierarchy}
 use Rattle.x86_64_model.specs.Memory.{Memory}
@@ -24,6 +24,7 @@ own_runs own array count serves also same h after pool rest call status runs = r
   step = runs.step;
   status_is = runs.status_is;
   keeps = record { fits = fits_own own array count same runs.keeps.fits; conserved = runs.keeps.conserved; others = runs.keeps.others };
+  serves = refl;
   unchanged = runs.unchanged;
   free = runs.free;
 }

@@ -40,6 +40,7 @@ module _ (own : List ℕ) (array count : GName) (serves also : ℕ → Bool) (sa
     none_used = gone.none_used;
     not_zero = gone.not_zero;
     given_back = gone.given_back;
+    serves = refl;
     cleared = gone.cleared;
     others = gone.others;
     spaces = λ spaces apart are. spaces_own (gone.spaces spaces apart (spaces_served are));
@@ -86,6 +87,11 @@ serves_root own array count serves same L located m pool fits among =
     let there = fits.valid.valid.holds.in_memory [] located.root refl in
     let frame = (shifted_is_mapping located.mapping.first).frames located.root (covered m places located.root there) in
     ap (λ s. s located.root) same ∙ served_frame own array count located.root frame among
+
+-- what holds if a call fails, and if it succeeds
+pub either_way : {X E P Q R : Type 0} → (r : Result X E) → (P → R) → (Q → R) → OnErr r P → OnOk r Q → R
+either_way (Ok x) failed done bad good = done good
+either_way (Err e) failed done bad good = failed bad
 
 -- what holds if a call fails
 pub if_failed : {X E P Q : Type 0} → (r : Result X E) → (P → Q) → OnErr r P → OnErr r Q

@@ -18,7 +18,7 @@ use Rattle.x86_64_model.proofs.Lemmas.Machines.Fitting.{AllCalls, ready_of_fits}
 use Rattle.x86_64_model.proofs.Lemmas.Paths.Pages.{span_pos}
 use Rattle.x86_64_mappers.specs.Layouts.{direct_at}
 use Rattle.x86_64_mappers.specs.RangeChanges.{DoesChanges, IsRange, frames_done, unmaps, updates}
-use Rattle.x86_64_mappers.specs.Ranges.{DoesMaps, IsNextMap, MapRange, MapsEach, MapsRange, StopsAt, accepted, map_at, maps, page_at}
+use Rattle.x86_64_mappers.specs.Ranges.{DoesMaps, IsNextMap, MapRange, MapsByResult, MapsEach, StopsAt, accepted, map_at, maps, page_at}
 use Rattle.x86_64_mappers.specs.declared.access.ranges.MapRangeErrorIn.{MapRangeErrorIn}
 use Rattle.x86_64_tables.specs.FlushRecorder.{FlushRange, flush_range}
 use Rattle.x86_64_tables.specs.LentMemory.{numbered}
@@ -167,7 +167,7 @@ maps_keep l m n serves pool r count answers rest adds are fits does =
 -- what a map of a range returned, and what was told of it
 pub mapped : {Lent S V : Type 0} (h after : Hierarchy Lent) (l : Layout) (m n : Memory) → h.layout ≡ l → h.memory ≡ m → after.memory ≡ n → IsParentFlags l.added_flags
     → (pool rest : Store) (r : MapRange) → ((k : ℕ) → AllCalls l.levels (maps l.levels r k)) → PoolFits (of l m) pool.serves pool.frames
-    → (page count : ℕ) (result : Result FlushRange (MapRangeErrorIn S V)) → MapsRange h pool.frames r count result after rest.frames → IfOk result (λ flush. flush ≡ flush_range page count)
+    → (page count : ℕ) (result : Result FlushRange (MapRangeErrorIn S V)) → MapsByResult h pool.frames r count result after rest.frames → IfOk result (λ flush. flush ≡ flush_range page count)
     → (status done : ℕ) → status ≡ result_status (λ (error : MapRangeErrorIn S V). map_refusal error.why) result → IfOk result (λ flush. done ≡ flush.count) → IfErr result (λ error. done ≡ error.mapped.count)
     → Maps (of l m) pool r count (of l n) rest status done
 mapped h after l m n layout memory left adds pool rest r are fits page count (Ok flush) maps pages status done told all some =

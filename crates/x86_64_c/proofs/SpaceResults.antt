@@ -45,7 +45,7 @@ first_in array free root within some is =
 module _ (own : List ℕ) (h : Given) (lent after : Loan) (few : length own ≤ length lent.array) (long : length after.array ≡ length lent.array) where
   makes : (shared : ℕ → Bool) (root : ℕ) → lent.free ≤ length lent.array → 0 < lent.free
       → Fits (hierarchy_in h lent.tables) (pool_in own lent.array lent.free)
-      → TakesFirst (stacked lent.array lent.free) (Some root) (stacked after.array after.free)
+      → TakesFirst (pool_in own lent.array lent.free) (Some root) (pool_in own after.array after.free)
       → IsMade shared (hierarchy_in h lent.tables) (pool_in own lent.array lent.free) (space_at root) (numbered after.tables) (pool_in own after.array after.free)
       → Makes own shared h lent after root
   makes shared root within some fits taken made = record {
@@ -57,7 +57,7 @@ module _ (own : List ℕ) (h : Given) (lent after : Loan) (few : length own ≤ 
 
   pub makes_space : (from to before root : ℕ) → bad_new h lent from to ≡ None → lent.free ≤ length lent.array → lent.free ≢ 0 → after.free ≤ length after.array
       → Fits (hierarchy_in h lent.tables) (pool_in own lent.array lent.free)
-      → TakesFirst (stacked lent.array lent.free) (Some root) (stacked after.array after.free)
+      → TakesFirst (pool_in own lent.array lent.free) (Some root) (pool_in own after.array after.free)
       → IsMade (shared_in from to) (hierarchy_in h lent.tables) (pool_in own lent.array lent.free) (space_at root) (numbered after.tables) (pool_in own after.array after.free)
       → MakesSpace own h lent from to status.ok before after root
   makes_space from to before root good within some inside fits taken made = record {

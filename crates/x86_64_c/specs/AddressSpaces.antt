@@ -94,7 +94,7 @@ pub record HasPool (own : List ℕ) (h : Given) (lent : Loan) (wrong : Option �
 
 -- The last free frame became the root of a new space, which fits together with all spaces with which the template did.
 pub record Makes (own : List ℕ) (shared : ℕ → Bool) (template : Given) (lent after : Loan) (root : ℕ) : Type 0 where
-  pub taken : TakesFirst (stacked lent.array lent.free) (Some root) (stacked after.array after.free)
+  pub taken : TakesFirst (pool_in own lent.array lent.free) (Some root) (pool_in own after.array after.free)
   pub own_root : is_in own root ≡ true
   pub made : IsMade shared (hierarchy_in template lent.tables) (pool_in own lent.array lent.free) (space_at root) (numbered after.tables)
       (pool_in own after.array after.free)

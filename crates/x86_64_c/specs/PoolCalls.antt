@@ -76,12 +76,13 @@ abbrev pub pool_in : (own entries : List ℕ) → (count : ℕ) → Store
 pool_in own entries count = record { frames = stacked entries count; serves = is_in own; take_back = put_first }
 
 -- A call was executed as the machine does it, with the status of the reply. The hierarchy is valid again, and the rest of the pool
--- fits it. If the reply says that nothing changed, no word did. Free frames keep their words, except those that came back.
+-- fits it. The pool serves the same frames. If the reply says that nothing changed, no word did. Free frames keep their words, except those that came back.
 pub record Runs (h : Hierarchy (Unit {0})) (pool : Store) (call : MapperCall) (after : Hierarchy (Unit {0})) (rest : Store) (status : ℕ) : Type 0 where
   pub reply : Reply
   pub step : Stepped h pool call reply after rest.frames
   pub status_is : status ≡ reply_status reply
   pub keeps : KeepsPool h.layout pool.serves h.memory pool.frames after.memory rest.frames
+  pub serves : rest.serves ≡ pool.serves
   pub unchanged : changes_nothing reply ≡ true → after.memory ≡ h.memory
   pub free : LeavesFree h pool call after rest.frames
 

@@ -11,7 +11,7 @@ ghost use Rattle.x86_64_spaces.specs.Room.{spaces_in, ShareWithRoom};
 ghost use Rattle.x86_64_spaces.specs.SpaceCalls.{IsGivenUp, IsMade, IsReason, TakesFirst};
 ghost use Rattle.x86_64_spaces.specs.SpaceLayouts.{indices_of, spaces_at};
 ghost use Rattle.x86_64_tables.specs.LentMemory.{numbered};
-ghost use Rattle.x86_64_tables.specs.LentPool.{is_in, stacked};
+ghost use Rattle.x86_64_tables.specs.LentPool.{is_in};
 ghost use Rattle.x86_64_tables.specs.Shifted.{shifted_places};
 
 use crate::given::{Hierarchy, Located, locate};
@@ -188,7 +188,8 @@ fn make_lent(
     requires room { length own ≤ length pool.old }
     requires fits { Fits (given.at levels located (numbered tables.old))
         (calls.pool_in own pool.old free_count.old) }
-    ensures taken { TakesFirst (stacked pool.old free_count.old) result (stacked pool.new free_count.new) }
+    ensures taken { TakesFirst (calls.pool_in own pool.old free_count.old) result
+        (calls.pool_in own pool.new free_count.new) }
     ensures made { IfSome result (λ root. IsMade (indices_of shared)
         (given.at levels located (numbered tables.old)) (calls.pool_in own pool.old free_count.old)
         (spaces.space_at root) (numbered tables.new) (calls.pool_in own pool.new free_count.new)) }
@@ -212,12 +213,11 @@ fn make_in<L: LevelCount, T: TableMemory, F: FrameStore>(
     shared: SharedIndices,
 ) -> Option<PhysFrame<Size4KiB>>
     requires { Fits (given.at L.LEVELS located (T.tables memory.old)) (store_of F.FrameStore frames.old) }
-    ensures taken { TakesFirst (F.supply frames.old) result (F.supply frames.new) }
+    ensures taken { TakesFirst (store_of F.FrameStore frames.old) result (store_of F.FrameStore frames.new) }
     ensures made { IfSome result (λ root. IsMade (indices_of shared)
         (given.at L.LEVELS located (T.tables memory.old)) (store_of F.FrameStore frames.old)
         (spaces.space_at root) (T.tables memory.new) (store_of F.FrameStore frames.new)) }
     ensures lent { T.lent memory.new ≡ T.lent memory.old }
-    ensures serves { F.serves frames.new ≡ F.serves frames.old }
 {
     let template = space_of(located);
     new_space::<L, _, _, _>(memory, &located.mapping, &template, shared, None, frames)
@@ -327,7 +327,6 @@ fn give_up_in<L: LevelCount, T: TableMemory, F: FrameStore>(
         (given.at L.LEVELS located (T.tables memory.old)) (store_of F.FrameStore frames.old)
         (T.tables memory.new) (store_of F.FrameStore frames.new)) }
     ensures lent { T.lent memory.new ≡ T.lent memory.old }
-    ensures serves { F.serves frames.new ≡ F.serves frames.old }
 {
     let space = space_of(located);
     give_up_space::<L, _, _, _>(memory, &located.mapping, &space, shared, frames)

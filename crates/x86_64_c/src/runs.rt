@@ -142,7 +142,6 @@ fn map_to<S: PageSize, L: LevelCount, T: TableMemory, F: FrameStore>(
         (asked.MapToWithTableFlags page frame (bits_of flags) (bits_of parent_flags)))
         (given.at L.LEVELS located (T.tables memory.new)) (store_of F.FrameStore frames.new) result }
     ensures lent { T.lent memory.new ≡ T.lent memory.old }
-    ensures serves { F.serves frames.new ≡ F.serves frames.old }
 {
     let mut mapper = MappedPageTableIn::<_, L, T>::new(memory, located.root, located.mapping);
     if !mapper_calls::map_allowed(&mapper, page, flags, parent_flags) {

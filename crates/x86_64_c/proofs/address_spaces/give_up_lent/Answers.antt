@@ -1,12 +1,17 @@
-use Rattle.std.proofs.Common.{◌∙◌, sym, rules}
+use Rattle.std.proofs.Common.{◌∙◌, ℕ, Bool, ap, sym, rules}
 use Rattle.x86_64_spaces.specs.SpaceLayouts.{indices_of}
 use Rattle.x86_64_tables.specs.LentMemory.{numbered}
-use Rattle.x86_64_tables.specs.LentPool.{stacked}
+use Rattle.x86_64_tables.specs.LentPool.{served_by, stacked}
+use Rattle.x86_64_tables.specs.declared.frame_alloc.lent_pool.LentPool.{LentPool}
 use Rattle.x86_64_tables.proofs.LentPools.{fits_served}
 use Rattle.x86_64_tables.proofs.Stacks.{same_array, same_count}
 use Rattle.x86_64_c.proofs.Arguments.{else_five, handed_back}
-use Rattle.x86_64_c.proofs.LentSpaces.{if_failed, lent_given_up_if, serves_root}
+use Rattle.x86_64_c.proofs.LentSpaces.{either_way, if_failed, lent_given_up_if, serves_root}
 use Rattle.x86_64_c.proofs.address_spaces.give_up_lent.Goals as goal
+
+-- what a pool serves
+abbrev served : LentPool → ℕ → Bool
+served pool = served_by pool.own.frames pool.entries.ghost_name pool.count.ghost_name
 
 pub give_up_in-requires-clause-fits : goal.give_up_in-requires-clause-fits
 give_up_in-requires-clause-fits g c =
@@ -19,7 +24,7 @@ give_up_in-requires-clause-served g c =
 pub returns-then-levels-eq4-clause-unchanged : goal.returns-then-levels-eq4-clause-unchanged
 returns-then-levels-eq4-clause-unchanged g c =
     let after = c.give_up_in.new.frames in
-    let serves = c.give_up_in.ensures.serves ∙ c.new-frames.ensures.serves in
+    let serves = either_way c.give_up_in.result (λ kept. ap served kept.1) (λ gone. gone.serves) c.give_up_in.ensures.unchanged c.give_up_in.ensures.given_up ∙ c.new-frames.ensures.serves in
     let array = same_array c.of.result.frames after.own.frames _ _ after.entries.ghost_name after.count.ghost_name serves in
     let count = same_count c.of.result.frames after.own.frames _ _ after.entries.ghost_name after.count.ghost_name serves in
     let back = handed_back c.args.tables.now in
@@ -28,7 +33,7 @@ returns-then-levels-eq4-clause-unchanged g c =
 pub returns-then-levels-eq4-clause-given_up : goal.returns-then-levels-eq4-clause-given_up
 returns-then-levels-eq4-clause-given_up g c =
     let after = c.give_up_in.new.frames in
-    let serves = c.give_up_in.ensures.serves ∙ c.new-frames.ensures.serves in
+    let serves = either_way c.give_up_in.result (λ kept. ap served kept.1) (λ gone. gone.serves) c.give_up_in.ensures.unchanged c.give_up_in.ensures.given_up ∙ c.new-frames.ensures.serves in
     let array = same_array c.of.result.frames after.own.frames _ _ after.entries.ghost_name after.count.ghost_name serves in
     let count = same_count c.of.result.frames after.own.frames _ _ after.entries.ghost_name after.count.ghost_name serves in
     rw (sym c.of.ensures) (lent_given_up_if c.of.result.frames _ _ _ _ c.new-frames.ensures.serves (indices_of c.args.shared) 4 c.args.located _ _ c.args.tables.now _ _ _ _ _
@@ -37,7 +42,7 @@ returns-then-levels-eq4-clause-given_up g c =
 pub returns-then-levels-eq4-clause-in_array : goal.returns-then-levels-eq4-clause-in_array
 returns-then-levels-eq4-clause-in_array g c =
     let after = c.give_up_in.new.frames in
-    let serves = c.give_up_in.ensures.serves ∙ c.new-frames.ensures.serves in
+    let serves = either_way c.give_up_in.result (λ kept. ap served kept.1) (λ gone. gone.serves) c.give_up_in.ensures.unchanged c.give_up_in.ensures.given_up ∙ c.new-frames.ensures.serves in
     let array = same_array c.of.result.frames after.own.frames _ _ after.entries.ghost_name after.count.ghost_name serves in
     let count = same_count c.of.result.frames after.own.frames _ _ after.entries.ghost_name after.count.ghost_name serves in
     search rules
@@ -53,7 +58,7 @@ give_up_in-requires-else-levels-eq4-clause-served g c =
 pub returns-clause-unchanged : goal.returns-clause-unchanged
 returns-clause-unchanged g c =
     let after = c.give_up_in-else-levels-eq4.new.frames in
-    let serves = c.give_up_in-else-levels-eq4.ensures.serves ∙ c.new-frames.ensures.serves in
+    let serves = either_way c.give_up_in-else-levels-eq4.result (λ kept. ap served kept.1) (λ gone. gone.serves) c.give_up_in-else-levels-eq4.ensures.unchanged c.give_up_in-else-levels-eq4.ensures.given_up ∙ c.new-frames.ensures.serves in
     let array = same_array c.of.result.frames after.own.frames _ _ after.entries.ghost_name after.count.ghost_name serves in
     let count = same_count c.of.result.frames after.own.frames _ _ after.entries.ghost_name after.count.ghost_name serves in
     let back = handed_back c.args.tables.now in
@@ -62,7 +67,7 @@ returns-clause-unchanged g c =
 pub returns-clause-given_up : goal.returns-clause-given_up
 returns-clause-given_up g c =
     let after = c.give_up_in-else-levels-eq4.new.frames in
-    let serves = c.give_up_in-else-levels-eq4.ensures.serves ∙ c.new-frames.ensures.serves in
+    let serves = either_way c.give_up_in-else-levels-eq4.result (λ kept. ap served kept.1) (λ gone. gone.serves) c.give_up_in-else-levels-eq4.ensures.unchanged c.give_up_in-else-levels-eq4.ensures.given_up ∙ c.new-frames.ensures.serves in
     let array = same_array c.of.result.frames after.own.frames _ _ after.entries.ghost_name after.count.ghost_name serves in
     let count = same_count c.of.result.frames after.own.frames _ _ after.entries.ghost_name after.count.ghost_name serves in
     rw (sym c.of.ensures) (lent_given_up_if c.of.result.frames _ _ _ _ c.new-frames.ensures.serves (indices_of c.args.shared) 5 c.args.located _ _ c.args.tables.now _ _ _ _ _
@@ -71,7 +76,7 @@ returns-clause-given_up g c =
 pub returns-clause-in_array : goal.returns-clause-in_array
 returns-clause-in_array g c =
     let after = c.give_up_in-else-levels-eq4.new.frames in
-    let serves = c.give_up_in-else-levels-eq4.ensures.serves ∙ c.new-frames.ensures.serves in
+    let serves = either_way c.give_up_in-else-levels-eq4.result (λ kept. ap served kept.1) (λ gone. gone.serves) c.give_up_in-else-levels-eq4.ensures.unchanged c.give_up_in-else-levels-eq4.ensures.given_up ∙ c.new-frames.ensures.serves in
     let array = same_array c.of.result.frames after.own.frames _ _ after.entries.ghost_name after.count.ghost_name serves in
     let count = same_count c.of.result.frames after.own.frames _ _ after.entries.ghost_name after.count.ghost_name serves in
     search rules

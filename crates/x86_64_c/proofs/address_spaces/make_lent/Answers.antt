@@ -13,7 +13,7 @@ make_in-requires g c =
 pub returns-then-levels-eq4-clause-taken : goal.returns-then-levels-eq4-clause-taken
 returns-then-levels-eq4-clause-taken g c =
     let after = c.make_in.new.frames in
-    let serves = c.make_in.ensures.serves ∙ c.new-frames.ensures.serves in
+    let serves = c.make_in.ensures.taken.2 ∙ c.new-frames.ensures.serves in
     let array = same_array c.of.result.frames after.own.frames _ _ after.entries.ghost_name after.count.ghost_name serves in
     let count = same_count c.of.result.frames after.own.frames _ _ after.entries.ghost_name after.count.ghost_name serves in
     search rules
@@ -21,7 +21,7 @@ returns-then-levels-eq4-clause-taken g c =
 pub returns-then-levels-eq4-clause-made : goal.returns-then-levels-eq4-clause-made
 returns-then-levels-eq4-clause-made g c =
     let after = c.make_in.new.frames in
-    let serves = c.make_in.ensures.serves ∙ c.new-frames.ensures.serves in
+    let serves = c.make_in.ensures.taken.2 ∙ c.new-frames.ensures.serves in
     let array = same_array c.of.result.frames after.own.frames _ _ after.entries.ghost_name after.count.ghost_name serves in
     let count = same_count c.of.result.frames after.own.frames _ _ after.entries.ghost_name after.count.ghost_name serves in
     rw (sym c.of.ensures) (lent_made_if c.of.result.frames _ _ _ _ c.new-frames.ensures.serves (indices_of c.args.shared) 4 c.args.located _ _ c.args.tables.now _ _ _ _ _
@@ -30,7 +30,7 @@ returns-then-levels-eq4-clause-made g c =
 pub returns-then-levels-eq4-clause-in_array : goal.returns-then-levels-eq4-clause-in_array
 returns-then-levels-eq4-clause-in_array g c =
     let after = c.make_in.new.frames in
-    let serves = c.make_in.ensures.serves ∙ c.new-frames.ensures.serves in
+    let serves = c.make_in.ensures.taken.2 ∙ c.new-frames.ensures.serves in
     let array = same_array c.of.result.frames after.own.frames _ _ after.entries.ghost_name after.count.ghost_name serves in
     let count = same_count c.of.result.frames after.own.frames _ _ after.entries.ghost_name after.count.ghost_name serves in
     search rules
@@ -42,7 +42,7 @@ make_in-requires-else-levels-eq4 g c =
 pub returns-clause-taken : goal.returns-clause-taken
 returns-clause-taken g c =
     let after = c.make_in-else-levels-eq4.new.frames in
-    let serves = c.make_in-else-levels-eq4.ensures.serves ∙ c.new-frames.ensures.serves in
+    let serves = c.make_in-else-levels-eq4.ensures.taken.2 ∙ c.new-frames.ensures.serves in
     let array = same_array c.of.result.frames after.own.frames _ _ after.entries.ghost_name after.count.ghost_name serves in
     let count = same_count c.of.result.frames after.own.frames _ _ after.entries.ghost_name after.count.ghost_name serves in
     search rules
@@ -50,7 +50,7 @@ returns-clause-taken g c =
 pub returns-clause-made : goal.returns-clause-made
 returns-clause-made g c =
     let after = c.make_in-else-levels-eq4.new.frames in
-    let serves = c.make_in-else-levels-eq4.ensures.serves ∙ c.new-frames.ensures.serves in
+    let serves = c.make_in-else-levels-eq4.ensures.taken.2 ∙ c.new-frames.ensures.serves in
     let array = same_array c.of.result.frames after.own.frames _ _ after.entries.ghost_name after.count.ghost_name serves in
     let count = same_count c.of.result.frames after.own.frames _ _ after.entries.ghost_name after.count.ghost_name serves in
     rw (sym c.of.ensures) (lent_made_if c.of.result.frames _ _ _ _ c.new-frames.ensures.serves (indices_of c.args.shared) 5 c.args.located _ _ c.args.tables.now _ _ _ _ _
@@ -59,7 +59,7 @@ returns-clause-made g c =
 pub returns-clause-in_array : goal.returns-clause-in_array
 returns-clause-in_array g c =
     let after = c.make_in-else-levels-eq4.new.frames in
-    let serves = c.make_in-else-levels-eq4.ensures.serves ∙ c.new-frames.ensures.serves in
+    let serves = c.make_in-else-levels-eq4.ensures.taken.2 ∙ c.new-frames.ensures.serves in
     let array = same_array c.of.result.frames after.own.frames _ _ after.entries.ghost_name after.count.ghost_name serves in
     let count = same_count c.of.result.frames after.own.frames _ _ after.entries.ghost_name after.count.ghost_name serves in
     search rules

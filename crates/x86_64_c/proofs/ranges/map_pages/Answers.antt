@@ -13,5 +13,5 @@ returns-clause-maps g c = λ may.
     mapped _ _ (direct_at L (places_of c.args.located) c.args.located.root) (g.T.TableMemory.tables c.args.memory.now) _ c.new-mapper.ensures.layout c.new-mapper.ensures.memory (search rules) plain
     _ _ range
     (maps_are L g.S.PageSize.LEVEL g.S.PageSize.low g.S.PageSize.high g.L.LevelCount.at_least_four range refl) c.requires
-    c.args.map.page c.args.map.count c.map_range-mapped.result c.map_range-mapped.ensures.maps c.map_range-mapped.ensures.pages
+    c.args.map.page c.args.map.count c.map_range-mapped.result c.map_range-mapped.ensures.maps.maps c.map_range-mapped.ensures.pages
     c.tell_mapped.result _ c.tell_mapped.ensures.status c.tell_mapped.ensures.all c.tell_mapped.ensures.some
