@@ -782,9 +782,9 @@ static inline const char *x64_status_name(uint32_t status) {
 /*
  * A CONTEXT
  *
- * An x64_space is all that the calls above are passed again and again, and for each call there is
- * one on it. It passes its arguments on and returns what that call returns, so conditions, statuses
- * and what is written are the same. A page is passed by its start and its size.
+ * An x64_space is all that the calls above are passed again and again, and for each call on one
+ * hierarchy there is one on it. It passes its arguments on and returns what that call returns, so
+ * conditions, statuses and what is written are the same. A page is passed as its start and size.
  *
  * Address spaces that have one pool have one free_count. So use one x64_space for all of them, and
  * set its root to that of the address space which a call is about.

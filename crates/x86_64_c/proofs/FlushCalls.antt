@@ -1,20 +1,20 @@
 -- What is due after each call is what the rule of flushes says by the status.
-use Rattle.std.proofs.Common.{◌≡◌, ◌≤◌, ◌==◌, ◌||◌, ◌&&◌, ℕ, Bool, true, false, true≢false, not, nat_le, nat_lt, cond, Option, Some, None, List, [], ◌∷◌, refl, sym, ap, ◌∙◌, subst, arith}
+use Rattle.std.proofs.Common.{◌≡◌, ◌≤◌, ◌==◌, ◌||◌, ◌&&◌, ℕ, Bool, true, false, true≢false, not, nat_le, nat_lt, cond, Some, List, [], ◌∷◌, refl, sym, ap, ◌∙◌, subst, arith}
 use Rattle.std.proofs.lemmas.Bool.{eqb-true}
 use Rattle.std.proofs.lemmas.Bool.Decides.{nat_tests}
 use Rattle.x86_64_model.specs.Call.{Call, MapTo, MapToWithTableFlags, IdentityMap, Unmap, UpdateFlags, SetFlags, TranslatePage, Translate, TranslateAddress, CleanUp, Reply, NotAllowed, Answered, Position, Address, Cleaned}
 use Rattle.x86_64_model.specs.Entry.{no_execute}
-use Rattle.x86_64_model.specs.Flushing.{Due, PageDue, TablesDue, AllDue, flush_after, if_accepted, if_allowed}
-use Rattle.x86_64_model.specs.Machine.{Machine, State, AfterCall, do_call, step}
+use Rattle.x86_64_model.specs.Flushing.{PageDue, AllDue, if_accepted, if_allowed}
+use Rattle.x86_64_model.specs.Machine.{Machine, State, do_call, step}
 use Rattle.x86_64_model.specs.MapRule.{map_call}
 use Rattle.x86_64_model.specs.PageRules.{unmap, update_flags, set_flags}
 use Rattle.x86_64_model.specs.Path.{is_small}
-use Rattle.x86_64_model.specs.Refusal.{Answer, Done, Refused, Refusal, PageNotMapped, ParentEntryHugePage, InvalidFrameAddress, PageAlreadyMapped, FrameAllocationFailed}
+use Rattle.x86_64_model.specs.Refusal.{Answer, Done, Refused, PageNotMapped, ParentEntryHugePage, InvalidFrameAddress, PageAlreadyMapped, FrameAllocationFailed}
 use Rattle.x86_64_model.specs.Window.{entry_at}
 use Rattle.x86_64_model.proofs.Lemmas.Machines.Effects.{step_cases}
 use Rattle.x86_64.specs.FlushesDue.{rank, told}
 use Rattle.x86_64_c.specs.Calls.{answer_status}
-use Rattle.x86_64_c.specs.Flushes.{IsAsked, TellsFlush, TellsFlushes, after_map, by_kind, flush_by, flush_number, if_done, is_made, kind_of, status_of}
+use Rattle.x86_64_c.specs.Flushes.{IsAsked, TellsFlush, TellsFlushes, after_map, flush_by, flush_number, is_made, status_of}
 
 -- ---- by the reply
 

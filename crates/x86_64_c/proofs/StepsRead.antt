@@ -1,5 +1,5 @@
 -- The words that a walk reads, one below the other, and what an array holds of them.
-use Rattle.std.proofs.Common.{rules, zero, suc, ◌≡◌, ◌<◌, ◌≤◌, ◌++◌, ◌+◌, ◌-◌, ◌^◌, ℕ, ◌==◌, ◌&&◌, ◌||◌, Bool, true, false, true≢false, not, nat_le, bit_and, cond, List, [], ◌∷◌, map, take, drop, Some, None, Option, option_map, unwrap_or, length, slice_set, refl, sym, ap, subst, ◌∙◌, le-leb, arith}
+use Rattle.std.proofs.Common.{zero, suc, ◌≡◌, ◌<◌, ◌≤◌, ◌++◌, ◌+◌, ◌-◌, ◌^◌, ℕ, ◌==◌, ◌&&◌, ◌||◌, Bool, true, false, true≢false, not, nat_le, bit_and, cond, List, [], ◌∷◌, map, take, drop, Some, None, Option, option_map, unwrap_or, length, slice_set, refl, sym, ap, subst, ◌∙◌, le-leb, arith}
 use Rattle.std.proofs.lemmas.Bool.Decides.{nat_tests}
 use Rattle.std.proofs.Math.Bool.{and-true, and_assoc}
 use Rattle.std.specs.List.{last_or, list_all}
@@ -10,7 +10,6 @@ use Rattle.x86_64_model.specs.Memory.{Words}
 use Rattle.x86_64_model.specs.PageWalk.{read}
 use Rattle.x86_64_model.specs.Position.{index}
 use Rattle.x86_64_model.proofs.Lemmas.Entries.Words.{address_within}
-use Rattle.std.proofs.lemmas.List.{take_all}
 use native.Mathlib.Numerals.{unary_clauses}
 use Rattle.x86_64_c.specs.Entries.{no_limits, written, end_at, end_by, Writes}
 use Rattle.x86_64_c.specs.Status.{no_table}

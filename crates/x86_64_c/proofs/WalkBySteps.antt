@@ -1,5 +1,5 @@
 -- Where the page walk arrives, by the words that it reads.
-use Rattle.std.proofs.Common.{zero, suc, ◌≡◌, ◌⊎◌, ⊎_elim, inl, inr, ◌<◌, ◌≤◌, ◌+◌, ◌-◌, ◌*◌, ◌/◌, ◌%◌, ◌==◌, ℕ, ◌&&◌, ◌||◌, Bool, true, false, true≢false, not, cond, List, [], ◌∷◌, ◌++◌, map, drop, length, slice_index_or, Some, None, Option, option_map, option_and_then, unwrap_or, refl, sym, ap, subst, ◌∙◌, arith}
+use Rattle.std.proofs.Common.{zero, suc, ◌≡◌, ◌⊎◌, ⊎_elim, inl, inr, ◌≤◌, ◌+◌, ◌-◌, ◌%◌, ◌==◌, ℕ, ◌&&◌, ◌||◌, Bool, true, false, true≢false, not, cond, List, [], ◌∷◌, ◌++◌, map, drop, length, slice_index_or, Some, None, Option, option_map, option_and_then, unwrap_or, refl, sym, ap, subst, ◌∙◌, arith}
 use Rattle.std.proofs.Math.Bool.{and-true, and_assoc}
 use Rattle.std.proofs.lemmas.Bool.{eqb-true}
 use Rattle.std.proofs.Math.Nat.{mod-eq-sub-div-mul}
@@ -14,7 +14,7 @@ use Rattle.x86_64_model.specs.Position.{index, span}
 use Rattle.x86_64_model.specs.private.Found.{found, found_on, page_at}
 use Rattle.x86_64_model.proofs.Lemmas.Mappings.Walked.{walk_finds}
 use Rattle.x86_64_tables.specs.Rights.{both}
-use Rattle.x86_64_c.specs.Entries.{no_limits, end_at, end_by, written, Writes}
+use Rattle.x86_64_c.specs.Entries.{no_limits, end_by, written, Writes}
 use Rattle.x86_64_c.specs.Status.{ok, not_mapped, parent_entry_huge_page, no_table}
 use Rattle.x86_64_c.specs.Walks.{Tells}
 use Rattle.x86_64_c.specs.declared.entries.Entry.{Entry}

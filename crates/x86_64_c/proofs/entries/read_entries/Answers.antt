@@ -1,13 +1,12 @@
-use Rattle.std.proofs.Common.{rules, ◌≡◌, ◌≤◌, ◌<◌, ◌-◌, ◌+◌, ◌∙◌, [], ◌∷◌, List, None, Some, true, false, cond, length, sym, ap, refl, subst, arith}
+use Rattle.std.proofs.Common.{rules, ◌≡◌, ◌<◌, ◌-◌, ◌+◌, ◌∙◌, [], ◌∷◌, None, Some, true, false, cond, length, ap, arith}
 use Rattle.x86_64_model.proofs.Lemmas.Entries.Words.{address_aligned}
-use Rattle.x86_64_model.specs.Access.{Step, reads_on, steps_from}
+use Rattle.x86_64_model.specs.Access.{steps_from}
 use Rattle.x86_64_model.specs.Entry.{address}
-use Rattle.x86_64_model.specs.Memory.{Words, words_of}
+use Rattle.x86_64_model.specs.Memory.{words_of}
 use Rattle.x86_64_model.specs.PageWalk.{read}
 use Rattle.x86_64_model.specs.Position.{index}
-use Rattle.x86_64_c.specs.Entries.{no_limits, written, end_at}
-use Rattle.x86_64_c.specs.Status.{no_table}
-use Rattle.x86_64_c.proofs.StepsRead.{HasRead, read_more, read_all, rights_read, read_rest, read_why, counted, step, steps_none, steps_some, steps_done, nothing_read}
+use Rattle.x86_64_c.specs.Entries.{no_limits}
+use Rattle.x86_64_c.proofs.StepsRead.{read_more, read_all, rights_read, read_rest, read_why, counted, step, steps_none, steps_some, steps_done, nothing_read}
 use Rattle.x86_64_c.proofs.entries.read_entries.Goals as goal
 
 pub loop-above-init : goal.loop-above-init
