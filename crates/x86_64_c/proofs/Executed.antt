@@ -1,5 +1,5 @@
 -- A request with a number of levels, stated of what the caller handed in.
-use Rattle.std.proofs.Common.{◌≡◌, ◌≤◌, ℕ, List, length, Option, Some, None, refl, sym, ap, ap₂, ◌∙◌}
+use Rattle.std.proofs.Common.{◌≡◌, ◌≤◌, ℕ, List, length, Some, None, refl, sym, ap, ap₂, ◌∙◌}
 use Rattle.std.specs.Option.{option_or}
 use Rattle.x86_64_model.specs.Position.{span}
 use Rattle.x86_64_tables.specs.LentMemory.{numbered}

@@ -1,5 +1,5 @@
 -- What a mapper did with a pool is the machine's step, stated of the words in the caller's memory.
-use Rattle.std.proofs.Common.{zero, suc, ◌≡◌, ◌<◌, ◌≤◌, ℕ, Bool, true, false, cond, List, [], Option, Some, option_map, Result, Ok, Err, refl, sym, ap, ◌∙◌, subst, lit≤, arith}
+use Rattle.std.proofs.Common.{zero, suc, ◌≡◌, ◌<◌, ◌≤◌, ℕ, true, false, cond, List, [], Option, Some, option_map, Result, Ok, Err, refl, sym, ap, ◌∙◌, subst, lit≤, arith}
 use Rattle.std.specs.Result.{IfOk}
 use Rattle.x86_64_model.specs.Call as machine
 use Rattle.x86_64_model.specs.Call.{Call}

@@ -33,9 +33,9 @@ all_below : (P : ℕ → Type 0) → ((k : ℕ) → P k ⊎ (P k → ⊥)) → (
 all_below P each zero = inl (λ k less. absurd (omega (arith, less)))
 all_below P each (suc n) = ⊎_elim
     (λ some. ⊎_elim
-        (λ last. inl (λ k less. ⊎_elim (λ here. subst P here last) (λ before. some k before) (last_or_before k n less)))
-        (λ none. inr (λ all. none (all n (omega arith))))
-        (each n))
+    (λ last. inl (λ k less. ⊎_elim (λ here. subst P here last) (λ before. some k before) (last_or_before k n less)))
+    (λ none. inr (λ all. none (all n (omega arith))))
+    (each n))
     (λ none. inr (λ all. none (λ k less. all k (omega (arith, less)))))
     (all_below P each n)
   where
@@ -60,16 +60,16 @@ is_less m n = by (nat_lt m n) refl
 may_map : (h : Hierarchy (Unit {0})) (r : MapRange) (count : ℕ) → MayMap h r count ⊎ (MayMap h r count → ⊥)
 may_map h r count = ⊎_elim
     (λ here. ⊎_elim
-        (λ pages. ⊎_elim
-            (λ frames. ⊎_elim
-                (λ allowed. inl (here, record { pages = pages; frames = frames; allowed = allowed }))
-                (λ none. inr (λ may. none may.1.allowed))
-                (all_below (λ k. allows_map h (path_of h r.level (page_at r k)) r.flags r.parent_flags ≡ true)
-                (λ k. is_true (allows_map h (path_of h r.level (page_at r k)) r.flags r.parent_flags)) count))
-            (λ none. inr (λ may. none may.1.frames))
-            (all_below (λ k. frame_at r k < 2 ^ 52) (λ k. is_less (frame_at r k) (2 ^ 52)) count))
-        (λ none. inr (λ may. none may.1.pages))
-        (all_below (λ k. page_at r k < position_count h.layout.levels) (λ k. is_less (page_at r k) (position_count h.layout.levels)) count))
+    (λ pages. ⊎_elim
+    (λ frames. ⊎_elim
+    (λ allowed. inl (here, record { pages = pages; frames = frames; allowed = allowed }))
+    (λ none. inr (λ may. none may.1.allowed))
+    (all_below (λ k. allows_map h (path_of h r.level (page_at r k)) r.flags r.parent_flags ≡ true)
+    (λ k. is_true (allows_map h (path_of h r.level (page_at r k)) r.flags r.parent_flags)) count))
+    (λ none. inr (λ may. none may.1.frames))
+    (all_below (λ k. frame_at r k < 2 ^ 52) (λ k. is_less (frame_at r k) (2 ^ 52)) count))
+    (λ none. inr (λ may. none may.1.pages))
+    (all_below (λ k. page_at r k < position_count h.layout.levels) (λ k. is_less (page_at r k) (position_count h.layout.levels)) count))
     (λ none. inr (λ may. none may.0))
     (is_true (present r.parent_flags))
 
@@ -103,8 +103,8 @@ module _ (stay : SpacesStay) (own : List ℕ) (shared : ℕ → Bool) (spaces : 
     -- what holds if nothing changed, and if maps were made, holds
     by_maps : (P : Loan → Type 0) → P lent
         → (bad_map_range h lent request count ≡ None → 0 < h.levels
-            → Maps (hierarchy_in h lent.tables) (pool_in own lent.array lent.free) (range_asked h.levels request) count (hierarchy_in h after.tables) (pool_in own after.array after.free) status done
-            → P after) → P after
+        → Maps (hierarchy_in h lent.tables) (pool_in own lent.array lent.free) (range_asked h.levels request) count (hierarchy_in h after.tables) (pool_in own after.array after.free) status done
+        → P after) → P after
     by_maps P none some = by (bad_map_range h lent request count) refl
       where
         by : (wrong : Option ℕ) → bad_map_range h lent request count ≡ wrong → P after
@@ -137,8 +137,7 @@ module _ (stay : SpacesStay) (halves : SharedHalvesStay) (below : CallsKeepBelow
       → KeepsBelow shared (layout_given h) (numbered lent.tables) (numbered after.tables)
       → FitTogether own shared spaces after × OthersStay spaces h.root (numbered lent.tables) (numbered after.tables)
   others lent after fit some long keeps kept_below =
-      let one = layout_given h in
-      (
+      let one = layout_given h in (
         kept stay own shared spaces h member lent after fit some long keeps (λ i s. kept_below (i ∷ []) s),
         λ other i apart. (halves shared one other (shifted_is_mapping h.first) some (is_in own) (numbered lent.tables) (numbered after.tables) _ _ (fit.are_spaces.fits one member) keeps kept_below
             (fit.are_spaces.share one other member i apart)).1,

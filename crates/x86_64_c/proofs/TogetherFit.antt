@@ -99,8 +99,7 @@ has_levels h n good = ⊎_elim (λ four. omega (arith, four)) (λ five. omega (a
 
 pub each_may_be_used : EachMayBeUsed
 each_may_be_used own shared spaces lent fit h member =
-    let fits = fit.are_spaces.fits (layout_given h) member in
-    (
+    let fits = fit.are_spaces.fits (layout_given h) member in (
       λ request. record { room = fit.room; fits = λ good. fits },
       λ request count. record { room = fit.room; fits = λ good. fits },
       λ wrong. record { room = fit.room; fits = λ good. fits },

@@ -12,7 +12,6 @@ use Rattle.x86_64_model.specs.Mapper.{◌laid_in◌, paths}
 use Rattle.x86_64_model.specs.Memory.{Memory}
 use Rattle.x86_64_model.specs.Refusal.{Answer}
 use Rattle.x86_64_model.specs.Spaces.{AreSpaces, Avoids}
-use Rattle.x86_64_model.specs.Store.{Fits}
 use Rattle.x86_64_mappers.specs.Layouts.{direct_at}
 use Rattle.x86_64_mappers.specs.Ranges.{map_at}
 use Rattle.x86_64_spaces.specs.declared.space.Space.{Space}
@@ -25,6 +24,7 @@ use Rattle.x86_64.specs.Asked.{machine_call}
 use Rattle.x86_64_c.specs.Calls.{Changes}
 use Rattle.x86_64_c.specs.Given.{unless, bad_hierarchy, hierarchy_in}
 use Rattle.x86_64_c.specs.PoolCalls.{Loan, loan, Request, MayExecute, Executes, bad_pool, pool_in}
+pub use Rattle.x86_64_c.specs.PoolCalls.{HasPool}
 use Rattle.x86_64_c.specs.Ranges as range
 use Rattle.x86_64_c.specs.Ranges.{MapsWith, MayMapWith, range_asked}
 use Rattle.x86_64_c.specs.Status as status
@@ -84,13 +84,6 @@ pub record SpacesFit (shared : ℕ → Bool) (first levels : ℕ) (roots : List 
   pub fit : FitTogether own shared (layouts_given first levels roots) lent
 
 -- ---- spaces that are made and given up
-
--- A space may be the template of a new one, or may be given up, with a pool that has these frames as its own.
-pub record HasPool (own : List ℕ) (h : Given) (lent : Loan) (wrong : Option ℕ) : Type 0 where
-  -- The array has room for all of its own frames.
-  pub room : length own ≤ length lent.array
-  -- If no argument is wrong, the hierarchy is valid, and the pool fits it.
-  pub fits : wrong ≡ None → Fits (hierarchy_in h lent.tables) (pool_in own lent.array lent.free)
 
 -- The last free frame became the root of a new space, which fits together with all spaces with which the template did.
 pub record Makes (own : List ℕ) (shared : ℕ → Bool) (template : Given) (lent after : Loan) (root : ℕ) : Type 0 where

@@ -86,12 +86,16 @@ pub record Runs (h : Hierarchy (Unit {0})) (pool : Store) (call : MapperCall) (a
   pub unchanged : changes_nothing reply ≡ true → after.memory ≡ h.memory
   pub free : LeavesFree h pool call after rest.frames
 
--- A request may be made, with a pool that has these frames as its own.
-pub record MayExecute (own : List ℕ) (h : Given) (lent : Loan) (request : Request) : Type 0 where
+-- A call on a hierarchy may be made, with a pool that has these frames as its own.
+pub record HasPool (own : List ℕ) (h : Given) (lent : Loan) (wrong : Option ℕ) : Type 0 where
   -- The array has room for all of its own frames.
   pub room : length own ≤ length lent.array
   -- If no argument is wrong, the hierarchy is valid, and the pool fits it.
-  pub fits : bad_call h lent request ≡ None → Fits (hierarchy_in h lent.tables) (pool_in own lent.array lent.free)
+  pub fits : wrong ≡ None → Fits (hierarchy_in h lent.tables) (pool_in own lent.array lent.free)
+
+-- A request may be made, with a pool that has these frames as its own.
+abbrev pub MayExecute : (own : List ℕ) (h : Given) (lent : Loan) (request : Request) → Type 0
+MayExecute own h lent request = HasPool own h lent (bad_call h lent request)
 
 -- A request returned this status, and left this of what the caller lent.
 pub record Executes (own : List ℕ) (h : Given) (lent : Loan) (request : Request) (status : ℕ) (after : Loan) : Type 0 where

@@ -6,12 +6,12 @@ use Rattle.x86_64_model.specs.Entry.{present, no_address}
 use Rattle.x86_64_model.specs.Mapper.{Hierarchy, PoolFits}
 use Rattle.x86_64_model.specs.Position.{lower_half, position_count}
 use Rattle.x86_64_model.specs.Refusal.{Refusal}
-use Rattle.x86_64_model.specs.Store.{Store, Fits, KeepsPool}
+use Rattle.x86_64_model.specs.Store.{Store, KeepsPool}
 use Rattle.x86_64_mappers.specs.RangeChanges.{DoesChanges, frames_done, unmaps, updates}
 use Rattle.x86_64_mappers.specs.Ranges.{MapRange, MayMapRange, MapsAll, StopsAt, range_of}
 use Rattle.x86_64_c.specs.Calls.{refusal_status}
 use Rattle.x86_64_c.specs.Given.{unless, bad_hierarchy, bad_page, bad_frame, hierarchy_in, level_of, position_of}
-use Rattle.x86_64_c.specs.PoolCalls.{Loan, bad_pool, pool_in}
+use Rattle.x86_64_c.specs.PoolCalls.{HasPool, Loan, bad_pool, pool_in}
 use Rattle.x86_64_c.specs.Status as status
 use Rattle.x86_64_c.specs.Status.{ok, more, not_allowed}
 use Rattle.x86_64_c.specs.declared.given.Hierarchy.{Hierarchy as Given}
@@ -98,11 +98,8 @@ pub record Maps (h : Hierarchy (Unit {0})) (pool : Store) (r : MapRange) (count 
   pub keeps : KeepsPool h.layout pool.serves h.memory pool.frames after.memory rest.frames
 
 -- A map of a range may be made, with a pool that has these frames as its own.
-pub record MayMapWith (own : List ℕ) (h : Given) (lent : Loan) (request : MapRequest) (count : ℕ) : Type 0 where
-  -- The array has room for all of its own frames.
-  pub room : length own ≤ length lent.array
-  -- If no argument is wrong, the hierarchy is valid, and the pool fits it.
-  pub fits : bad_map_range h lent request count ≡ None → Fits (hierarchy_in h lent.tables) (pool_in own lent.array lent.free)
+abbrev pub MayMapWith : (own : List ℕ) (h : Given) (lent : Loan) (request : MapRequest) (count : ℕ) → Type 0
+MayMapWith own h lent request count = HasPool own h lent (bad_map_range h lent request count)
 
 -- A map of a range returned this status, left this of what the caller lent, and wrote how many pages it mapped.
 pub record MapsWith (own : List ℕ) (h : Given) (lent : Loan) (request : MapRequest) (count was status : ℕ) (after : Loan) (done : ℕ) : Type 0 where

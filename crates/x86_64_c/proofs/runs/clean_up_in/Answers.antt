@@ -12,7 +12,7 @@ clean_up_pages-requires g c κs inside =
     let h = c.args.hierarchy.now in
     let within : c.args.free_count.now ≤ length c.args.pool.now = omega (arith, c.if-pool-free_count.false) in
     let right = with_pool h _ (length c.args.pool.now) c.args.free_count.now g.L.LevelCount.LEVELS (λ L. bad_range L c.args.first_page c.args.last_page) c.in-Some.ensures.good within c.requires.1.0
-        ∙ ap₂ (λ a b. unless (a && b) bad_page) c.in-Some-page_at.ensures.good c.in-Some-page_at-2.ensures.good in
+    ∙ ap₂ (λ a b. unless (a && b) bad_page) c.in-Some-page_at.ensures.good c.in-Some-page_at-2.ensures.good in
     (search rules, (within, (c.requires.1.1.room, fits h c.in-Some.located g.L.LevelCount.LEVELS c.requires.1.0 c.in-Some.ensures.root c.in-Some.ensures.places c.args.tables.now _ _ (c.requires.1.1.fits right))))
 
 pub returns : goal.returns

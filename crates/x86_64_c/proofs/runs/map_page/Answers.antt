@@ -10,13 +10,13 @@ use Rattle.x86_64_c.proofs.runs.map_page.Goals as goal
 pub map_to-requires : goal.map_to-requires
 map_to-requires g c =
     let right = only_frame g.L.LevelCount.LEVELS c.args.request.now g.S.PageSize.LEVEL c.args.page g.S.PageSize.SIZE c.requires.1.1.1.1.0 c.requires.1.1.1.1.1.0 g.S.PageSize.size
-        ∙ ap (λ b. unless b status.bad_frame) c.in-Some.ensures.there in
+    ∙ ap (λ b. unless b status.bad_frame) c.in-Some.ensures.there in
     rw c.new-memory.ensures.tables (fits_served c.of.result.frames _ _ c.new-frames.ensures.serves (rw (c.new-frames.ensures.supply, c.of.ensures) (c.requires.1.1.1.1.1.1 right)))
 
 pub returns-clause-bad : goal.returns-clause-bad
 returns-clause-bad g c = λ why is.
     let right = only_frame g.L.LevelCount.LEVELS c.args.request.now g.S.PageSize.LEVEL c.args.page g.S.PageSize.SIZE c.requires.1.1.1.1.0 c.requires.1.1.1.1.1.0 g.S.PageSize.size
-        ∙ ap (λ b. unless b status.bad_frame) c.in-Some.ensures.there in
+    ∙ ap (λ b. unless b status.bad_frame) c.in-Some.ensures.there in
     absurd (let e : None ≡ Some why = sym right ∙ is in cc)
 
 pub returns-clause-runs : goal.returns-clause-runs
