@@ -120,6 +120,7 @@ module _ (l : Layout) (store : Store) (m : Memory) (page frame given more : ℕ)
         ∙ ap (λ (r : Option Reply). let after : AfterStep Reply = record { state = before; reply = r } in after) replies;
     status_is = refl;
     keeps = keeps_nothing l store.serves m store.frames fits;
+    serves = refl;
     unchanged = λ same. refl;
     free = subst (λ back. KeepsFree l m store.frames back m store.frames) (sym none) (nothing_keeps_free l m store.frames);
   }
@@ -135,7 +136,7 @@ module _ (l : Layout) (store : Store) (m : Memory) (page frame given more : ℕ)
   wrapped wrap a = record { state = a.state; reply = option_map (sized wrap) a.reply }
 
   -- a map that a mapper did
-  module _ (rest : Store) (n : Memory) (status : ℕ) (some : 3 < l.levels) (adds : IsParentFlags l.added_flags) (gives : TakesBack store.take_back) (mapping : IsMapping l.places) (fits : Fits (of l m) store) where
+  module _ (rest : Store) (same_serves : rest.serves ≡ store.serves) (n : Memory) (status : ℕ) (some : 3 < l.levels) (adds : IsParentFlags l.added_flags) (gives : TakesBack store.take_back) (mapping : IsMapping l.places) (fits : Fits (of l m) store) where
     mapped_on : {S : Type 0} (R : Type 0) (level : ℕ) → 1 ≤ level → level ≤ 3 → (on : MapperCall) (wrap : SizeReply R → Reply)
         → step_by the_machine before on ≡ wrapped wrap (size_step the_machine level before map) → back_by the_machine before (machine_call l.levels on) ≡ []
         → ((r : Result ℕ (MapToError R)) → reply_status (wrap (Map r)) ≡ result_status map_refusal r) → ((r : Result ℕ (MapToError R)) → changes_nothing (wrap (Map r)) ≡ false)
@@ -152,6 +153,7 @@ module _ (l : Layout) (store : Store) (m : Memory) (page frame given more : ℕ)
           step = stepped ∙ ap (wrapped wrap) serves.step;
           status_is = told ∙ same_status R r ∙ sym (tells other);
           keeps = serves.keeps;
+          serves = same_serves;
           unchanged = λ still. let none : true ≡ false = sym still ∙ changes other in cc;
           free = subst (λ back. KeepsFree l m store.frames back n rest.frames) (sym none) serves.free;
         }
@@ -187,9 +189,9 @@ clean_up_did h after l m n layout memory gone take_back held low high left clean
     (subst (λ k. CleansUp (of h.layout h.memory) take_back held low high (of k after.memory) left) cleans.layout (clean_up_seen h after take_back held low high left cleans))))
 
 -- a clean up of a pool whose free frames are those that it holds
-pub cleaned : (l : Layout) (store rest : Store) (m n : Memory) (low high : ℕ) (held left : List ℕ) → store.frames ≡ held → rest.frames ≡ left → IsParentFlags l.added_flags → TakesBack store.take_back
+pub cleaned : (l : Layout) (store rest : Store) → rest.serves ≡ store.serves → (m n : Memory) (low high : ℕ) (held left : List ℕ) → store.frames ≡ held → rest.frames ≡ left → IsParentFlags l.added_flags → TakesBack store.take_back
     → IsMapping l.places → Fits (of l m) store → CleansUp (of l m) store.take_back held low high (of l n) left → Runs (of l m) store (CleanUpRange low high) (of l n) rest ok
-cleaned l store rest m n low high held left same last adds gives mapping fits cleans =
+cleaned l store rest same_serves m n low high held left same last adds gives mapping fits cleans =
     let the_machine = machine_of l store.take_back in
     let one : step the_machine (state_in l m store.frames) (machine.CleanUp low high) ≡ record { state = state_in l n rest.frames; reply = machine.Cleaned } =
     ap (λ fs. do_call the_machine (state_in l m fs) (machine.CleanUp low high)) same ∙ cleans.outcome
@@ -199,6 +201,7 @@ cleaned l store rest m n low high held left same last adds gives mapping fits cl
       step = ap (replied_to (CleanUpRange low high)) one;
       status_is = refl;
       keeps = (kept_cleaned (of l m) store.serves store.frames held same fits store.take_back low high (of l n) rest.frames left last cleans adds gives store.serves refl).keeps;
+      serves = same_serves;
       unchanged = λ still. cc;
       free = free_cleaned (of l m) store.serves store.frames held same fits store.take_back low high (of l n) rest.frames left last cleans mapping gives;
     }

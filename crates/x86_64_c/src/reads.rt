@@ -37,7 +37,7 @@ pub struct Translation {
     pub flags: u64,
 }
 
-/// Walks to an address as the processor does, whatever words the tables hold.
+/// Walks to an address through the entries with `PRESENT`, whatever words the tables hold. Reserved bits don't end it.
 ///
 /// Returns `OK` with where the walk arrives, `NOT_MAPPED`, or what is wrong with an argument; then nothing is written.
 #[unsafe(no_mangle)]

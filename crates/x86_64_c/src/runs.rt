@@ -272,7 +272,6 @@ fn clean_up<L: LevelCount, T: TableMemory, F: FrameStore>(
         (store_of F.FrameStore frames.old) (asked.CleanUpRange first (last + 0xfff))
         (given.at L.LEVELS located (T.tables memory.new)) (store_of F.FrameStore frames.new) result }
     ensures lent { T.lent memory.new ≡ T.lent memory.old }
-    ensures serves { F.serves frames.new ≡ F.serves frames.old }
 {
     let mut mapper = MappedPageTableIn::<_, L, T>::new(memory, located.root, located.mapping);
     mapper_calls::clean_up_range(&mut mapper, PageIn::range_inclusive(first, last), frames);

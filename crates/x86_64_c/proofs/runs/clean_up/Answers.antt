@@ -18,6 +18,6 @@ clean_up_range-requires g c =
 pub returns-clause-runs : goal.returns-clause-runs
 returns-clause-runs g c =
     let l = direct_at g.L.LevelCount.LEVELS (places_of c.args.located) c.args.located.root in
-    cleaned l _ _ (g.T.TableMemory.tables c.args.memory.now) _ c.args.first (c.args.last + 0xfff) _ _ (g.met.F.FrameStore.one_list _) (g.met.F.FrameStore.one_list _) plain
+    cleaned l _ _ c.clean_up_range.ensures.serves (g.T.TableMemory.tables c.args.memory.now) _ c.args.first (c.args.last + 0xfff) _ _ (g.met.F.FrameStore.one_list _) (g.met.F.FrameStore.one_list _) plain
     (giving_from _ g.met.F.FrameDeallocator.take_back_rearranges) (shifted_is_mapping c.args.located.mapping.first) c.requires
     (clean_up_did _ _ l _ _ c.new-mapper.ensures.layout c.new-mapper.ensures.memory (search rules) _ _ _ _ _ (rw (c.range_inclusive.ensures.start, c.range_inclusive.ensures.end) at c.clean_up_range.ensures.cleans))

@@ -10,7 +10,7 @@ clean_up-requires g c = rw c.new-memory.ensures.tables (fits_served c.of.result.
 pub returns-clause-runs : goal.returns-clause-runs
 returns-clause-runs g c =
     let after = c.clean_up.new.frames in
-    let serves = c.clean_up.ensures.serves ∙ c.new-frames.ensures.serves in
+    let serves = c.clean_up.ensures.runs.serves ∙ c.new-frames.ensures.serves in
     let array = same_array c.of.result.frames after.own.frames _ _ after.entries.ghost_name after.count.ghost_name serves in
     let count = same_count c.of.result.frames after.own.frames _ _ after.entries.ghost_name after.count.ghost_name serves in
     rw (sym c.of.ensures) (lent_runs c.of.result.frames _ _ _ _ c.new-frames.ensures.serves g.L.LevelCount.LEVELS c.args.located _ _ c.args.tables.now _ _ _ _ _ _ c.clean_up.result
@@ -19,7 +19,7 @@ returns-clause-runs g c =
 pub returns-clause-in_array : goal.returns-clause-in_array
 returns-clause-in_array g c =
     let after = c.clean_up.new.frames in
-    let serves = c.clean_up.ensures.serves ∙ c.new-frames.ensures.serves in
+    let serves = c.clean_up.ensures.runs.serves ∙ c.new-frames.ensures.serves in
     let array = same_array c.of.result.frames after.own.frames _ _ after.entries.ghost_name after.count.ghost_name serves in
     let count = same_count c.of.result.frames after.own.frames _ _ after.entries.ghost_name after.count.ghost_name serves in
     search rules

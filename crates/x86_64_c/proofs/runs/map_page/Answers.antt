@@ -23,7 +23,7 @@ pub returns-clause-runs : goal.returns-clause-runs
 returns-clause-runs g c = λ good.
     let L = g.L.LevelCount.LEVELS in
     let after = c.map_to.new.frames in
-    let serves = c.map_to.ensures.serves ∙ c.new-frames.ensures.serves in
+    let serves = c.map_to.ensures.runs.serves ∙ c.new-frames.ensures.serves in
     let array = same_array c.of.result.frames after.own.frames _ _ after.entries.ghost_name after.count.ghost_name serves in
     let count = same_count c.of.result.frames after.own.frames _ _ after.entries.ghost_name after.count.ghost_name serves in
     rw (sym c.of.ensures) (lent_runs c.of.result.frames _ _ _ _ c.new-frames.ensures.serves L c.args.located _ _ c.args.tables.now _ _ _ _ _ _ c.map_to.result
@@ -33,7 +33,7 @@ returns-clause-runs g c = λ good.
 pub returns-clause-in_array : goal.returns-clause-in_array
 returns-clause-in_array g c =
     let after = c.map_to.new.frames in
-    let serves = c.map_to.ensures.serves ∙ c.new-frames.ensures.serves in
+    let serves = c.map_to.ensures.runs.serves ∙ c.new-frames.ensures.serves in
     let array = same_array c.of.result.frames after.own.frames _ _ after.entries.ghost_name after.count.ghost_name serves in
     let count = same_count c.of.result.frames after.own.frames _ _ after.entries.ghost_name after.count.ghost_name serves in
     search rules

@@ -23,8 +23,8 @@ returns-clause-runs g c =
     let l = direct_at g.L.LevelCount.LEVELS (places_of c.args.located) c.args.located.root in
     let level = g.S.PageSize.LEVEL in
     let map = MapToWithTableFlags c.args.page c.args.frame (bits_of c.args.flags) (bits_of c.args.parent_flags) in
-    mapped l _ (g.T.TableMemory.tables c.args.memory.now) c.args.page c.args.frame (bits_of c.args.flags) (bits_of c.args.parent_flags) _ _ _ g.L.LevelCount.at_least_four plain
+    mapped l _ (g.T.TableMemory.tables c.args.memory.now) c.args.page c.args.frame (bits_of c.args.flags) (bits_of c.args.parent_flags) _ c.map_to_with_table_flags-mapped.ensures.does.serves _ _ g.L.LevelCount.at_least_four plain
     (giving_from _ g.met.F.FrameDeallocator.take_back_rearranges) (shifted_is_mapping c.args.located.mapping.first) c.requires c.map_to_with_table_flags-mapped.result c.map_to_with_table_flags-mapped.ensures.page c.mapped_status.ensures
     level g.S.PageSize.low g.S.PageSize.high
-    (map_did _ _ l _ _ c.new-mapper.ensures.layout c.new-mapper.ensures.memory (search rules) _ (λ k. page_call k level map) _ _ c.map_to_with_table_flags-mapped.ensures.does)
+    (map_did _ _ l _ _ c.new-mapper.ensures.layout c.new-mapper.ensures.memory (search rules) _ (λ k. page_call k level map) _ _ c.map_to_with_table_flags-mapped.ensures.does.map)
     (sym (seen_allows _ l _ _ c.new-mapper.ensures.layout c.new-mapper.ensures.memory (λ k. page_call k level map)) ∙ sym c.map_allowed.ensures ∙ c.if-not-map_allowed.false)
