@@ -65,7 +65,10 @@ static ROWS: [Row; 3] = [
                 cr3: 0x4000,
                 cr4: 0x20,
             },
-            tables: &[],
+            tables: &[Table {
+                address: 0x1000,
+                words: &[],
+            }],
         },
         text: "tables 0, ",
     },
