@@ -7,6 +7,7 @@ pub mod NotesTold
 pub mod SameMappings
 pub mod Closed
 pub mod Listing
+mod Placed
 pub mod Places
 pub mod Failing
 mod Rows

@@ -2,6 +2,7 @@ pub mod Numbers
 pub mod Dump
 pub mod Formats
 pub mod Lime
+pub mod Placement
 pub mod Opening
 pub mod Opened
 pub mod Notes

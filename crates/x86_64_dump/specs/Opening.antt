@@ -1,9 +1,11 @@
 -- Opening: which files are dumps, and their segments. System V ABI, "ELF Header"; a core file has the header of any ELF file.
-use Rattle.std.specs.Prelude.{◌≡◌, ℕ, ◌+◌, ◌*◌, ◌==◌, ◌&&◌, Bool, not, cond, if◌then◌else◌, List, [], ◌∷◌, length, nat_lt, Option, None, Some, Result, Ok, Err, ⊤}
+use Rattle.std.specs.Prelude.{◌≡◌, ℕ, ◌+◌, ◌*◌, ◌==◌, ◌&&◌, Bool, not, cond, if◌then◌else◌, List, length, nat_lt, Option, None, Some, Result, Ok, Err, ⊤}
 use Rattle.std.specs.List.{list_any}
-use Rattle.std.specs.Option.{unwrap_or}
 use Rattle.x86_64_dump.specs.Formats.{format_of}
 use Rattle.x86_64_dump.specs.Lime.{after, lime_segments}
+use Rattle.x86_64_dump.specs.Placement.{placed_by, raw_segments, unless}
+use Rattle.x86_64_dump.specs.declared.placement.Placement.{Placement}
+use Rattle.x86_64_dump.specs.declared.placement.Placement.TheVariants.{Unstated}
 use Rattle.x86_64_dump.specs.Numbers.{byte_at, u16_at, u32_at, u64_at}
 use Rattle.x86_64_dump.specs.Dump.{Contents, segments_at}
 use Rattle.x86_64_dump.specs.declared.formats.Format.{Format}
@@ -49,11 +51,6 @@ unfoldable pub table_fault : (file_length count : ℕ) → Header → Option Fau
 table_fault file_length count header =
     if nat_lt file_length (header.headers + 56 * count) then Some (faults.HeadersOutside header.headers count file_length) else None
 
--- the fault, or if there is none, the result
-abbrev pub unless : {A : Type 0} → Option Fault → Result A Fault → Result A Fault
-unless None found = found
-unless (Some fault) found = Err fault
-
 abbrev pub has_memory : List Segment → Bool
 has_memory segments = list_any (λ segment. segment.kind == 1) segments
 
@@ -68,26 +65,22 @@ elf_segments file header =
     (unless (table_fault (length file) (count_of file header) header)
     (with_memory (segments_at file header.headers (count_of file header))))
 
--- the one segment of a raw file: all of its bytes are memory from a base address on
-abbrev pub raw_segments : (file : List ℕ) → (base : ℕ) → List Segment
-raw_segments file base = record { kind = 1; offset = 0; address = base; size = length file } ∷ []
-
--- the segments of a file of a format, or why it isn't a dump. A base is for raw files
-abbrev pub segments_of : Format → (file : List ℕ) → (base : Option ℕ) → Result (List Segment) Fault
-segments_of formats.Raw file base = Ok (raw_segments file (unwrap_or base 0))
-segments_of formats.Elf file None = elf_segments file (header_of file)
-segments_of formats.Lime file None = lime_segments file
-segments_of formats.Elf file (Some base) = Err faults.BaseGiven
-segments_of formats.Lime file (Some base) = Err faults.BaseGiven
-segments_of (formats.Unread format) file base = Err (faults.Unread format)
+-- the segments of a file of a format, or why it isn't a dump. A placement is stated for raw files alone
+abbrev pub segments_of : Format → (file : List ℕ) → Placement → Result (List Segment) Fault
+segments_of formats.Raw file placement = raw_segments (length file) placement
+segments_of formats.Elf file Unstated = elf_segments file (header_of file)
+segments_of formats.Lime file Unstated = lime_segments file
+segments_of formats.Elf file placement = Err faults.PlacementGiven
+segments_of formats.Lime file placement = Err faults.PlacementGiven
+segments_of (formats.Unread format) file placement = Err (faults.Unread format)
 
 -- the contents of a file of a format, or why it isn't a dump
-abbrev pub contents_as : Format → (file : List ℕ) → (base : Option ℕ) → Result Contents Fault
-contents_as format file base = after (segments_of format file base) (λ segments. Ok (record { file = file; format = format; segments = segments }))
+abbrev pub contents_as : Format → (file : List ℕ) → Placement → Result Contents Fault
+contents_as format file placement = after (segments_of format file placement) (λ segments. Ok (record { file = file; format = format; segments = segments }))
 
--- likewise for the format that the file's beginning has
+-- likewise for the format that the file's beginning has, and a base
 abbrev pub contents_of : (file : List ℕ) → (base : Option ℕ) → Result Contents Fault
-contents_of file base = contents_as (format_of file) file base
+contents_of file base = contents_as (format_of file) file (placed_by base)
 
 -- an error agrees with the expected result: a fault is the expected one, no read fails, and memory allocation may always fail
 abbrev pub Fails : {Y : Type 0} → DumpError → Result Y Fault → Type 0

@@ -7,6 +7,7 @@ use crate::frame::{frame_offset, is_cut_off, words_in};
 use crate::note::{Note, NoteKind};
 use crate::notes::{read_notes, read_register, read_text};
 use crate::opening::read_segments;
+use crate::placement::Placement;
 use crate::segment::Segment;
 use crate::source::ByteSource;
 use crate::vmcoreinfo::Kernel;
@@ -50,23 +51,27 @@ impl<S: ByteSource> Dump<S> {
         ensures { S.IsKnown → Gives (opened S.bytes) result (contents_of (S.bytes source) base) }
     {
         let format = read_format(&source)?;
-        Dump::open_as(alloc, source, format, base)
+        let placement = base.map_or(Placement::Unstated, Placement::Base);
+        Dump::open_as(alloc, source, format, &placement)
     }
 
-    /// Opens a dump as `open` does, but as a file of this format, whatever it begins with. So any file can be opened as raw.
+    /// Opens a dump as `open` does, but as a file of this format, whatever it begins with, of which a raw one is placed as stated.
+    /// So any file can be opened as raw.
     ///
     /// # Errors
     ///
-    /// As those of `open`.
+    /// As those of `open`, and `DumpError::Fault` if the file is raw and a range has no bytes, ends after the file, or has addresses
+    /// of 2^64 or more.
     pub fn open_as(
         alloc: Global,
         source: S,
         format: Format,
-        base: Option<u64>,
+        placement: &Placement,
     ) -> Result<Dump<S>, DumpError>
-        ensures { S.IsKnown → Gives (opened S.bytes) result (contents_as format (S.bytes source) base) }
+        ensures { S.IsKnown →
+            Gives (opened S.bytes) result (contents_as format (S.bytes source) placement.now) }
     {
-        let segments = read_segments(alloc, &source, format, base)?;
+        let segments = read_segments(alloc, &source, format, placement)?;
         Ok(Dump {
             source,
             format,

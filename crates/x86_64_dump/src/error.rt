@@ -14,8 +14,31 @@ use std::io;
 pub enum Fault {
     /// The file is of a format that isn't read.
     Unread(UnreadFormat),
-    /// A base was given for a file whose headers already have its addresses.
-    BaseGiven,
+    /// A placement was stated for a file whose headers already have its addresses.
+    PlacementGiven,
+    /// A range of a raw file has no bytes.
+    RangeEmpty {
+        /// The offset of the range in the file.
+        offset: u64,
+        /// Its address.
+        address: u64,
+    },
+    /// A range of a raw file ends after the file.
+    RangeOutside {
+        /// The offset of the range in the file.
+        offset: u64,
+        /// The number of its bytes.
+        size: u64,
+        /// The number of bytes in the file.
+        length: u64,
+    },
+    /// The addresses of a range of a raw file end above 2^64.
+    RangeTooHigh {
+        /// The first address.
+        address: u64,
+        /// The number of bytes.
+        size: u64,
+    },
     /// The file is shorter than an ELF header.
     HeaderCut {
         /// The number of bytes in the file.
@@ -131,8 +154,8 @@ impl Display for Fault {
     fn fmt<W: Write>(&self, f: &mut Formatter<W>) -> FmtResult {
         match self {
             Fault::Unread(format) => write!(f, "{format}"),
-            Fault::BaseGiven => f.write_str(
-                "the file has headers, which say its addresses: leave the base out",
+            Fault::PlacementGiven => f.write_str(
+                "the file has headers, which say its addresses: leave the base or the ranges out",
             ),
             Fault::HeaderCut { length } => write!(
                 f,
@@ -162,12 +185,38 @@ impl Display for Fault {
                 "QEMU's note at byte {offset} has {size} bytes, and the register ends at its byte {needed}, or the file ends before: give the register's value, or another processor"
             ),
             Fault::VmCoreInfo(fault) => write!(f, "{fault}"),
+            Fault::RangeEmpty { .. } | Fault::RangeOutside { .. } | Fault::RangeTooHigh { .. } => {
+                self.write_wrong_placement(f)
+            }
             _ => self.write_wrong_field(f),
         }
     }
 }
 
 impl Fault {
+    /// Writes which range of a raw file can't be taken. Writes nothing for other faults.
+    fn write_wrong_placement<W: Write>(&self, f: &mut Formatter<W>) -> FmtResult {
+        match self {
+            Fault::RangeEmpty { offset, address } => write!(
+                f,
+                "the range from byte {offset} to the address 0x{address:x} has 0 bytes: give the number of its bytes"
+            ),
+            Fault::RangeOutside {
+                offset,
+                size,
+                length,
+            } => write!(
+                f,
+                "the range of {size} bytes begins at byte {offset}, and the file has {length} bytes: give a range within the file"
+            ),
+            Fault::RangeTooHigh { address, size } => write!(
+                f,
+                "the range of {size} bytes begins at the address 0x{address:x}, and ends above 2^64: give a lower address or fewer bytes"
+            ),
+            _ => Ok(()),
+        }
+    }
+
     /// Writes which field of the ELF header has a value with which the file isn't read. Writes nothing for other faults.
     fn write_wrong_field<W: Write>(&self, f: &mut Formatter<W>) -> FmtResult {
         match self {

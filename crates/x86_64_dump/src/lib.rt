@@ -12,6 +12,7 @@ mod note;
 mod notes;
 mod numbers;
 mod opening;
+mod placement;
 mod segment;
 mod source;
 mod tables;
@@ -19,8 +20,9 @@ mod vmcoreinfo;
 
 pub use dump::Dump;
 pub use error::{DumpError, Fault};
-pub use formats::{Format, UnreadFormat};
+pub use formats::{Format, UnreadFormat, read_format};
 pub use note::{Note, NoteKind};
+pub use placement::{Placement, RawRange};
 pub use segment::Segment;
 pub use source::{ByteSource, FileSource};
 pub use tables::{DumpTables, NoProgress, Progress, TablesByLevel, read_tables};

@@ -1,0 +1,45 @@
+-- Placement: where the bytes of a raw file lie in physical memory.
+use Rattle.std.specs.Prelude.{ℕ, ◌+◌, ◌^◌, ◌==◌, if◌then◌else◌, List, [], ◌∷◌, map, nat_lt, Option, None, Some, Result, Ok, Err}
+use Rattle.std.specs.List.{filter_map, slice_get}
+use Rattle.x86_64_dump.specs.declared.placement.Placement.{Placement}
+use Rattle.x86_64_dump.specs.declared.placement.Placement.TheVariants.{Unstated, Base, Ranges}
+use Rattle.x86_64_dump.specs.declared.placement.RawRange.{RawRange}
+use Rattle.x86_64_dump.specs.declared.segment.Segment.{Segment}
+use Rattle.x86_64_dump.specs.declared.error.Fault.{Fault}
+use Rattle.x86_64_dump.specs.declared.error.Fault.TheVariants as faults
+
+-- the fault, or if there is none, the result
+abbrev pub unless : {A : Type 0} → Option Fault → Result A Fault → Result A Fault
+unless None found = found
+unless (Some fault) found = Err fault
+
+-- why a range can't be one of a file of this length: it is empty, its bytes end after the file, or its addresses above 2^64
+unfoldable pub range_fault : (file_length : ℕ) → RawRange → Option Fault
+range_fault file_length range =
+    if range.size == 0 then Some (faults.RangeEmpty range.offset range.address)
+    else if nat_lt file_length (range.offset + range.size) then Some (faults.RangeOutside range.offset range.size file_length)
+    else if nat_lt (2 ^ 64) (range.address + range.size) then Some (faults.RangeTooHigh range.address range.size)
+    else None
+
+-- likewise for the first of the ranges that can't
+abbrev pub first_fault : (file_length : ℕ) → List RawRange → Option Fault
+first_fault file_length ranges = slice_get (filter_map (range_fault file_length) ranges) 0
+
+-- the segment of memory of a range
+abbrev pub range_segment : RawRange → Segment
+range_segment range = record { kind = 1; offset = range.offset; address = range.address; size = range.size }
+
+-- all bytes of a raw file, from an address on
+abbrev pub whole_file : (file_length address : ℕ) → List Segment
+whole_file file_length address = record { kind = 1; offset = 0; address = address; size = file_length } ∷ []
+
+-- the segments of a raw file, or why it has none
+abbrev pub raw_segments : (file_length : ℕ) → Placement → Result (List Segment) Fault
+raw_segments file_length Unstated = Ok (whole_file file_length 0)
+raw_segments file_length (Base base) = Ok (whole_file file_length base)
+raw_segments file_length (Ranges ranges) = unless (first_fault file_length ranges.items) (Ok (map range_segment ranges.items))
+
+-- the placement by a base, which may be missing
+abbrev pub placed_by : (base : Option ℕ) → Placement
+placed_by None = Unstated
+placed_by (Some base) = Base base
