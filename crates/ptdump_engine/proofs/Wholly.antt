@@ -104,7 +104,7 @@ same_completeness commands.Picture L T W root same below walks = refl
 -- ---- the run
 
 -- what is opened if the file is a dump and the start of page walks is found
-pub opens : (request : Request) (file : List ℕ) (dump : Contents) (start : Start) → contents_as (format_for request file) file request.base ≡ Ok dump → start_for request dump ≡ Ok start
+pub opens : (request : Request) (file : List ℕ) (dump : Contents) (start : Start) → contents_as (format_for request file) file request.placement ≡ Ok dump → start_for request dump ≡ Ok start
     → opened_for request file ≡ Ok (record { dump = dump; start = start })
 unfolding opened_for
 opens request file dump start contents starts =
@@ -112,11 +112,11 @@ opens request file dump start contents starts =
     ∙ ap (λ found. and_then found (λ start. Ok (record { dump = dump; start = start }))) starts
 
 -- why nothing is opened
-pub no_dump : (may : Bool) (request : Request) (file : List ℕ) (error : DumpError) → Fails error (contents_as (format_for request file) file request.base) → FailsBy may (failure_of error) (opened_for request file)
+pub no_dump : (may : Bool) (request : Request) (file : List ℕ) (error : DumpError) → Fails error (contents_as (format_for request file) file request.placement) → FailsBy may (failure_of error) (opened_for request file)
 unfolding opened_for
-no_dump may request file error fails = dump_fails may error (contents_as (format_for request file) file request.base) _ fails
+no_dump may request file error fails = dump_fails may error (contents_as (format_for request file) file request.placement) _ fails
 
-pub no_start : (may : Bool) (request : Request) (file : List ℕ) (dump : Contents) (failure : Failure) → contents_as (format_for request file) file request.base ≡ Ok dump → FailsBy false failure (start_for request dump)
+pub no_start : (may : Bool) (request : Request) (file : List ℕ) (dump : Contents) (failure : Failure) → contents_as (format_for request file) file request.placement ≡ Ok dump → FailsBy false failure (start_for request dump)
     → FailsBy may failure (opened_for request file)
 unfolding opened_for
 no_start may request file dump failure contents fails =

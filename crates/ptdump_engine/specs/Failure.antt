@@ -2,7 +2,7 @@
 use Rattle.std.specs.Prelude.{ℕ}
 use Rattle.x86_64_dump.specs.declared.error.DumpError.{DumpError}
 use Rattle.x86_64_dump.specs.declared.error.DumpError.TheVariants as dump
-use Rattle.x86_64_dump.specs.declared.error.Fault.TheVariants.{BaseGiven}
+use Rattle.x86_64_dump.specs.declared.error.Fault.TheVariants.{PlacementGiven, RangeEmpty, RangeOutside, RangeTooHigh}
 use Rattle.ptdump_engine.specs.declared.failure.Failure.{Failure}
 use Rattle.ptdump_engine.specs.declared.failure.Failure.TheVariants as failures
 
@@ -14,7 +14,10 @@ status_of (failures.NoProcessor cpu count) = 2
 status_of (failures.WrongMode cpu mode) = 2
 status_of (failures.NotCanonical address levels) = 2
 status_of (failures.NotPhysical address) = 2
-status_of (failures.Dump BaseGiven) = 2
+status_of (failures.Dump PlacementGiven) = 2
+status_of (failures.Dump (RangeEmpty offset address)) = 2
+status_of (failures.Dump (RangeOutside offset size length)) = 2
+status_of (failures.Dump (RangeTooHigh address size)) = 2
 status_of (failures.Dump fault) = 3
 status_of (failures.NoRoot root) = 3
 status_of (failures.Read error) = 3

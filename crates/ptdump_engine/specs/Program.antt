@@ -77,7 +77,7 @@ pub record Opened : Type 0 where
 
 -- what is opened for a request, or why the request or the file can't be used
 unfoldable pub opened_for : Request → (file : List ℕ) → Result Opened Failure
-opened_for request file = and_then (of_dump (contents_as (format_for request file) file request.base)) (λ dump.
+opened_for request file = and_then (of_dump (contents_as (format_for request file) file request.placement)) (λ dump.
     and_then (start_for request dump) (λ start. Ok (record { dump = dump; start = start })))
 
 -- ---- the output

@@ -73,7 +73,12 @@ impl Failure {
             | Failure::WrongMode { .. }
             | Failure::NotCanonical { .. }
             | Failure::NotPhysical { .. }
-            | Failure::Dump(Fault::BaseGiven) => 2,
+            | Failure::Dump(
+                Fault::PlacementGiven
+                | Fault::RangeEmpty { .. }
+                | Fault::RangeOutside { .. }
+                | Fault::RangeTooHigh { .. },
+            ) => 2,
             Failure::NoRoot { .. } | Failure::Dump(_) | Failure::Read(_) => 3,
             Failure::OutOfMemory => 4,
             Failure::Output => 5,
@@ -105,7 +110,7 @@ impl Display for Failure {
             ),
             Failure::NoRoot { root } => write!(
                 f,
-                "the table 0x{root:x} that CR3 names is not in the dump: give another --cr3, or the --base of a raw file"
+                "the root's table 0x{root:x} is not in the dump: give another --cr3, or --base or --range for a raw file"
             ),
             Failure::Dump(fault) => write!(f, "{fault}"),
             Failure::Read(error) => write!(f, "the file can't be read: {error}"),

@@ -12,16 +12,16 @@ use crate::output::{Output, OutputError};
 use crate::request::Request;
 use std::alloc::Global;
 use std::fmt::{Display, Formatter, Result as FmtResult, Write};
-use x86_64_dump::{ByteSource, Dump, DumpError, Format, Segment};
+use x86_64_dump::{ByteSource, Dump, DumpError, Format, Segment, read_format};
 
-/// The first and the last address of the bytes of a raw file.
+/// The first and the last address of bytes of a raw file.
 #[derive(Clone, Copy)]
-struct RawRange {
+struct AddressRange {
     first: u64,
     last: u64,
 }
 
-impl Display for RawRange {
+impl Display for AddressRange {
     ghost use Rattle.ptdump_engine.specs.Program.{raw_range_text};
 
     ghost output = { λ range. Some (raw_range_text range.first range.last) };
@@ -44,13 +44,14 @@ pub fn open<S: ByteSource>(
     request: &Request,
 ) -> Result<Dump<S>, DumpError>
     ensures { S.IsKnown → Gives (opened S.bytes) result
-        (contents_as (program.format_for request.now (S.bytes source)) (S.bytes source) request.now.base) }
+        (contents_as (program.format_for request.now (S.bytes source)) (S.bytes source) request.now.placement) }
 {
-    if request.is_raw {
-        Dump::open_as(alloc, source, Format::Raw, request.base)
+    let format = if request.is_raw {
+        Format::Raw
     } else {
-        Dump::open(alloc, source, request.base)
-    }
+        read_format(&source)?
+    };
+    Dump::open_as(alloc, source, format, &request.placement)
 }
 
 /// Writes immediately if the file is raw, or shorter than its headers say.
@@ -102,7 +103,7 @@ fn write_range<E: Destination>(
     write_addresses(segment.address, last, notes)
 }
 
-/// Writes the first and the last address of the bytes of a raw file.
+/// Writes the first and the last address of bytes of a raw file.
 fn write_addresses<E: Destination>(
     first: u64,
     last: u64,
@@ -110,7 +111,7 @@ fn write_addresses<E: Destination>(
 ) -> Result<(), OutputError<E>>
     ensures { OnOk result (Puts E.contents notes.old notes.new (line (program.raw_range_text first last))) }
 {
-    let range = RawRange { first, last };
+    let range = AddressRange { first, last };
     writeln!(notes, "{range}")
 }
 

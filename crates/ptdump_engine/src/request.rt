@@ -2,6 +2,7 @@
 
 use x86_64_access::{Access, Controls};
 pub use x86_64_addr::level_count::Levels;
+use x86_64_dump::Placement;
 
 /// An access, and what the processor that makes it is set to.
 #[derive(Clone, Copy, Debug, PartialEq, Eq)]
@@ -46,8 +47,8 @@ pub struct Request {
     /// The number of levels of tables. If `None`, the CR4 in a processor's note determines it, or else the kernel's note if it says
     /// where the root is, or it is four.
     pub levels: Option<Levels>,
-    /// The physical address of the first byte of a raw dump. If `None`, it is 0.
-    pub base: Option<u64>,
+    /// Where the bytes of a raw dump lie in physical memory.
+    pub placement: Placement,
     /// Whether the file is raw, whatever it begins with.
     pub is_raw: bool,
     /// The processor whose note is read, counted from 0 in the order of the notes. If `None`, it is the first one.
