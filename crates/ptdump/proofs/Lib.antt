@@ -1,5 +1,6 @@
 pub mod Commands
 pub mod Names
 mod NumberTexts
+mod RangeTexts
 mod Refusals
 pub mod Settings

@@ -1,3 +1,4 @@
 pub mod Asked
 pub mod Exit
+pub mod Placements
 pub mod Requests

@@ -9,6 +9,7 @@ use Rattle.x86_64_addr.specs.declared.level_count.Levels.TheVariants.{Four, Five
 use Rattle.ptdump_engine.specs.declared.request.Request.{Request}
 use Rattle.ptdump_engine.specs.declared.failure.Failure.TheVariants.{OutOfMemory}
 use Rattle.ptdump.specs.Asked.{IsAccess}
+use Rattle.ptdump.specs.Placements.{IsPlacement}
 use Rattle.ptdump.specs.declared.stop.Stop.{Stop}
 use Rattle.ptdump.specs.declared.stop.Stop.TheVariants.{Failed}
 use Rattle.x86_64_mappings.specs.Numbers.{IsNumber, number_of}
@@ -54,7 +55,7 @@ pub record IsRequest (name : List ℕ) (found : Found) (request : Request) : Typ
   pub command : IsCommand name found request.command
   pub cr3 : IsOption (first_value found (codes "cr3")) request.cr3
   pub levels : IsLevels (first_value found (codes "levels")) request.levels
-  pub base : IsOption (first_value found (codes "base")) request.base
+  pub placement : IsPlacement (first_value found (codes "base")) (values found (codes "range")) request.placement
   pub raw : IsFlag (one_text found (codes "raw")) request.is_raw
   pub cpu : IsOption (first_value found (codes "cpu")) request.cpu
 

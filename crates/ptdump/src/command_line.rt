@@ -47,6 +47,15 @@ fn subcommand<'a>(alloc: Global, help: &CommandHelp) -> Result<Command<'a>, Erro
                 "Address of a raw file's first byte [default: 0]",
             ))?
             .arg(
+                option(
+                    alloc,
+                    "range",
+                    "Bytes of a raw file, as OFFSET:ADDRESS:SIZE; repeatable",
+                )
+                .value_name("RANGE")
+                .action(ArgAction::Append),
+            )?
+            .arg(
                 Arg::new(alloc, "raw")
                     .long("raw")
                     .action(ArgAction::SetTrue)

@@ -30,6 +30,10 @@ FILE is a dump of an x86-64 machine's physical memory, or - for standard input:
 - a LiME file of version 1, which has ranges of memory behind headers,
 - or a raw file, which holds the bytes of memory from an address on, as QEMU's
   `pmemsave` writes it. Say by --base which address that is, if it isn't 0.
+  If memory has a hole, say by --range OFFSET:ADDRESS:SIZE, for each part, from
+  which byte of the file it is, where it lies and how many bytes it has. So 4GiB
+  with a hole from 3GiB to 4GiB are
+  --range 0:0:0xc0000000 --range 0xc0000000:0x100000000:0x40000000
 
 A file is raw if its first bytes are those of no format, or with --raw, and
 standard error says so. Known and refused are compressed kdumps, makedumpfile's

@@ -11,6 +11,7 @@ mod asked;
 mod command_line;
 mod help;
 mod numbers;
+mod placement;
 mod progress;
 mod request;
 mod stop;

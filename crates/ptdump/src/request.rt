@@ -7,6 +7,7 @@ ghost use Rattle.x86_64_addr.specs.declared.level_count.Levels.{Levels};
 
 use crate::asked::access_of;
 use crate::numbers::{number_of, numbers_of, option_of};
+use crate::placement::placement_of;
 use crate::stop::Stop;
 use clap::ArgMatches;
 use ptdump_engine::{Command, Levels, Request};
@@ -29,7 +30,7 @@ pub fn request_of<'a>(
         command: command_of(alloc, name, arguments)?,
         cr3: option_of("--cr3", arguments.get_str("cr3"))?,
         levels: levels_of(arguments.get_str("levels"))?,
-        base: option_of("--base", arguments.get_str("base"))?,
+        placement: placement_of(alloc, arguments)?,
         is_raw: is_given(arguments, "raw"),
         cpu: option_of("--cpu", arguments.get_str("cpu"))?,
     })

@@ -4,7 +4,7 @@ ghost use Rattle.ptdump.specs.Exit.{stop_status};
 
 use clap::error::ErrorKind;
 use ptdump_engine::Failure;
-use std::alloc::AllocFailed;
+use std::alloc::{AllocError, AllocFailed};
 use std::error::Error;
 use std::fmt::{Display, Formatter, Result as FmtResult, Write};
 use std::io;
@@ -29,6 +29,10 @@ pub enum Stop<'a> {
     },
     /// There are no page tables with this number of levels.
     NoLevels(&'a str),
+    /// The value of `--range` isn't a range.
+    NoRange(&'a str),
+    /// Both a base and ranges are given.
+    BaseAndRanges,
     /// There is no access with this name.
     NoAccess(&'a str),
     /// A processor has no setting with this name.
@@ -66,6 +70,8 @@ impl Stop<'_> {
             | Stop::NoCommand(_)
             | Stop::NoNumber { .. }
             | Stop::NoLevels(_)
+            | Stop::NoRange(_)
+            | Stop::BaseAndRanges
             | Stop::NoAccess(_)
             | Stop::NoSetting(_)
             | Stop::NoPhysicalBits(_) => 2,
@@ -104,6 +110,13 @@ impl Display for Stop<'_> {
                 f,
                 "--levels {text}: give 4 or 5, which page tables have"
             ),
+            Stop::NoRange(text) => write!(
+                f,
+                "--range {text} is no range: give OFFSET:ADDRESS:SIZE, three numbers below 2^64 with colons between, decimal or hexadecimal after 0x"
+            ),
+            Stop::BaseAndRanges => f.write_str(
+                "--base and --range both say where the file's bytes lie: give one of them",
+            ),
             Stop::NoAccess(name) => write!(
                 f,
                 "--as {name}: give user or supervisor, and then -read, -write or -fetch, as in user-write"
@@ -127,6 +140,17 @@ impl Display for Stop<'_> {
 }
 
 impl Error for Stop<'_> {}
+
+impl From<AllocError> for Stop<'_> {
+    ghost use Rattle.ptdump_engine.specs.declared.failure.Failure.TheVariants.{OutOfMemory};
+    ghost use Rattle.ptdump.specs.declared.stop.Stop.TheVariants.{Failed};
+
+    ghost from_gives = { λ _ stop. stop ≡ Failed OutOfMemory };
+
+    fn from(_error: AllocError) -> Self {
+        Stop::Failed(Failure::OutOfMemory)
+    }
+}
 
 impl<T: Drop> From<AllocFailed<T>> for Stop<'_> {
     ghost use Rattle.ptdump_engine.specs.declared.failure.Failure.TheVariants.{OutOfMemory};

@@ -5,9 +5,22 @@ use std::process::Abort;
 use x86_64_dump::{DumpError, Fault, KernelFault, Key, UnreadFormat};
 
 /// A fault of each kind.
-static FAULTS: [Fault; 18] = [
+static FAULTS: [Fault; 21] = [
     Fault::Unread(UnreadFormat::Kdump),
-    Fault::BaseGiven,
+    Fault::PlacementGiven,
+    Fault::RangeEmpty {
+        offset: 4096,
+        address: 0x2000,
+    },
+    Fault::RangeOutside {
+        offset: 4096,
+        size: 4097,
+        length: 8192,
+    },
+    Fault::RangeTooHigh {
+        address: 0xffff_ffff_ffff_f001,
+        size: 4096,
+    },
     Fault::HeaderCut { length: 63 },
     Fault::WrongClass { class: 1 },
     Fault::WrongByteOrder { order: 2 },

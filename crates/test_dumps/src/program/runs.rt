@@ -3,7 +3,7 @@ use ptdump_engine::{Command, Destination, Failure, Outcome, Progress, Request, r
 use std::alloc::{AllocError, Global};
 use std::io::{self, ErrorKind, Write};
 use std::process::Abort;
-use x86_64_dump::ByteSource;
+use x86_64_dump::{ByteSource, Placement};
 
 /// The word of a command.
 #[derive(Clone, Copy, Debug)]
@@ -47,7 +47,7 @@ impl Word {
             command,
             cr3: None,
             levels: None,
-            base: None,
+            placement: Placement::Unstated,
             is_raw: false,
             cpu: None,
         })

@@ -12,3 +12,12 @@ returns-in_err-command_of-clause-err c =
       | inr none ↦ inr (λ (request : Request) is. none request.command is.command)
     ] in
     search (rules, unread)
+
+pub returns-in_err-placement_of-clause-err : goal.returns-in_err-placement_of-clause-err
+returns-in_err-placement_of-clause-err c =
+    let unread : IsUnread (IsRequest c.args.name.now (found_of c.args.arguments.now)) c.in_err-placement_of.field-0.0 =
+    elim c.in_err-placement_of.ensures.err [
+      | inl memory ↦ inl memory
+      | inr none ↦ inr (λ (request : Request) is. none request.placement is.placement)
+    ] in
+    search (rules, unread)

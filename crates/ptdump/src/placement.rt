@@ -1,0 +1,100 @@
+//! Where the bytes of a raw file lie in physical memory, as the command line says it.
+ghost use Rattle.std.specs.Prelude.{◌≡◌, ◌==◌, List, IfOk, IfErr, IfSome, IfNone, codes, map};
+ghost use Rattle.std.specs.List.{slice_split};
+ghost use Rattle.std.specs.Option.{option_copied};
+ghost use Rattle.clap.specs.Matches.{first_value, found_of};
+ghost use Rattle.ptdump.specs.Placements.{AreParts, AreRanges, IsPlacement, IsRange};
+ghost use Rattle.ptdump.specs.Requests.{IsUnread, values};
+ghost use Rattle.x86_64_dump.specs.declared.placement.RawRange.{RawRange};
+
+use crate::numbers::number_of;
+use crate::stop::Stop;
+use clap::ArgMatches;
+use std::alloc::{AllocError, Global};
+use x86_64_dump::{Placement, RawRange};
+use x86_64_mappings::text::parse_number;
+
+/// Returns the placement that the options for a raw file describe.
+///
+/// # Errors
+///
+/// `Failure::OutOfMemory` if memory allocation fails, otherwise what is wrong with the words.
+pub fn placement_of<'a>(alloc: Global, arguments: &ArgMatches<'a>) -> Result<Placement, Stop<'a>>
+    ensures ok { IfOk result (IsPlacement
+        (first_value (found_of arguments.now) (codes "base")) (values (found_of arguments.now) (codes "range"))) }
+    ensures err { IfErr result (IsUnread (IsPlacement
+        (first_value (found_of arguments.now) (codes "base")) (values (found_of arguments.now) (codes "range")))) }
+{
+    placed(
+        alloc,
+        arguments.get_str("base"),
+        arguments.get_strs("range").unwrap_or(&[]),
+    )
+}
+
+/// Returns the placement that a base describes, if there is one, or ranges.
+fn placed<'a>(
+    alloc: Global,
+    base: Option<&'a str>,
+    ranges: &[&'a str],
+) -> Result<Placement, Stop<'a>>
+    ensures ok { IfOk result
+        (IsPlacement (option_copied base.entry) (map (λ text. text.now) ranges.now)) }
+    ensures err { IfErr result
+        (IsUnread (IsPlacement (option_copied base.entry) (map (λ text. text.now) ranges.now))) }
+{
+    match (base, ranges) {
+        (None, []) => Ok(Placement::Unstated),
+        (Some(text), []) => Ok(Placement::Base(number_of("--base", text)?)),
+        (None, texts) => Ok(Placement::Ranges(ranges_of(alloc, texts)?)),
+        (Some(_), _) => Err(Stop::BaseAndRanges),
+    }
+}
+
+/// Reads ranges.
+fn ranges_of<'a>(alloc: Global, texts: &[&'a str]) -> Result<Vec<RawRange>, Stop<'a>>
+    ensures ok { IfOk result (λ ranges. AreRanges (map (λ text. text.now) texts.now) ranges.items) }
+    ensures err { IfErr result (IsUnread (AreRanges (map (λ text. text.now) texts.now))) }
+{
+    let mut ranges = Vec::new(alloc);
+    for text in texts {
+        ranges.push(range_of(alloc, text)?)?;
+    }
+    Ok(ranges)
+}
+
+/// Reads a range: the offset of its first byte in the file, its address, and the number of its bytes.
+fn range_of<'a>(alloc: Global, text: &'a str) -> Result<RawRange, Stop<'a>>
+    ensures ok { IfOk result (IsRange text.now) }
+    ensures err { IfErr result (IsUnread (IsRange text.now)) }
+{
+    let parts = parts_of(alloc, text)?;
+    match range_in(&parts) {
+        Some(range) => Ok(range),
+        None => Err(Stop::NoRange(text)),
+    }
+}
+
+/// Returns the parts of a text between its colons.
+fn parts_of<'a>(alloc: Global, text: &'a str) -> Result<Vec<&'a str>, AllocError>
+    ensures { IfOk result (λ parts.
+        map (λ part. part.now) parts.items ≡ slice_split (λ c. c == 0x3a) text.now) }
+{
+    text.split(':').collect(alloc)
+}
+
+/// Returns the range with an offset, an address and a size.
+fn range_in(parts: &[&str]) -> Option<RawRange>
+    ensures some { IfSome result (AreParts (map (λ part. part.now) parts.now)) }
+    ensures none { IfNone result ((range : RawRange) →
+        ¬ (AreParts (map (λ part. part.now) parts.now) range)) }
+{
+    let [offset, address, size] = parts else {
+        return None;
+    };
+    Some(RawRange {
+        offset: parse_number(offset)?,
+        address: parse_number(address)?,
+        size: parse_number(size)?,
+    })
+}
