@@ -1,3 +1,4 @@
 pub mod NotesLeft
 pub mod FrameNumbers
+pub mod TablesRead
 pub mod Magics

@@ -1,9 +1,9 @@
 //! Dump files.
-ghost use Rattle.std.specs.Prelude.{◌≡◌, ◌+◌, ◌≤◌, true, IsOk, IfOk, IfSome, is_some, Ok, length};
+ghost use Rattle.std.specs.Prelude.{◌≡◌, ◌+◌, ◌≤◌, true, false, if◌then◌else◌, IsOk, IfOk, IfSome, is_some, Ok, Some, None, length};
 
 use crate::error::{DumpError, Fault};
 use crate::formats::{Format, read_format};
-use crate::frame::{frame_offset, is_cut_off, words_in};
+use crate::frame::{frame_offset, is_cut_off, set_words, words_in};
 use crate::note::{Note, NoteKind};
 use crate::notes::{read_notes, read_register, read_text};
 use crate::opening::read_segments;
@@ -14,6 +14,7 @@ use std::alloc::Global;
 use std::io;
 use x86_64_page::frame::PhysFrame;
 use x86_64_page::page::Size4KiB;
+use x86_64_tables::page_table::PageTable;
 
 /// The physical memory in a dump file, read frame by frame.
 ///
@@ -122,6 +123,27 @@ impl<S: ByteSource> Dump<S> {
         let mut bytes = [0; 4096];
         self.source.read_exact_at(&mut bytes, offset)?;
         Ok(Some(words_in(&bytes)))
+    }
+
+    /// Reads the words of a frame into a table and returns true, or returns false if the dump lacks the frame.
+    ///
+    /// # Errors
+    ///
+    /// As those of `read_frame`. The words of the table are then unspecified.
+    pub fn read_table(&self, frame: PhysFrame<Size4KiB>, table: &mut PageTable) -> io::Result<bool>
+        ensures words { S.IsKnown → IfOk result (λ is_there. (if is_there then Some table.new else None)
+            ≡ words_of_dump (opened S.bytes self.now) frame) }
+        ensures lacks { IfOk result (λ is_there. is_there ≡ false → table.new ≡ table.old) }
+        ensures held { IfOk result (λ is_there. is_there ≡ holds S.size self.now frame) }
+        ensures succeeds { S.IsKnown → IsOk result }
+    {
+        let Some(offset) = self.offset_of(frame) else {
+            return Ok(false);
+        };
+        let mut bytes = [0; 4096];
+        self.source.read_exact_at(&mut bytes, offset)?;
+        set_words(table, &bytes);
+        Ok(true)
     }
 
     /// Returns the offset of a frame in the file, or `None` if the dump lacks it.

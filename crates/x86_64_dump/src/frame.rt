@@ -5,6 +5,7 @@ ghost use Rattle.x86_64_dump.specs.Dump.{has_frame, frame_offset, words_at, is_s
 use crate::elf::ends_after;
 use crate::numbers::read_u64;
 use crate::segment::Segment;
+use x86_64_tables::page_table::PageTable;
 
 /// The size of a frame.
 const FRAME_SIZE: u64 = 4096;
@@ -52,4 +53,14 @@ pub fn words_in(bytes: &[u8]) -> [u64; 512]
         words[i] = read_u64(bytes, 8 * i);
     }
     words
+}
+
+/// Sets the words of a table to those of the 4096 bytes of a frame.
+pub fn set_words(table: &mut PageTable, bytes: &[u8])
+    requires { length bytes.now ≡ 4096 }
+    ensures { table.new ≡ words_at bytes.now 0 }
+{
+    for i in 0..512 {
+        table[i].set_word(read_u64(bytes, 8 * i));
+    }
 }
