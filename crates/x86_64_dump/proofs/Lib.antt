@@ -13,3 +13,5 @@ mod Rows
 mod Ranges
 pub mod Lines
 pub mod Digits
+pub mod Merging
+pub mod Stretches

@@ -1,12 +1,16 @@
 //! Dump files.
-ghost use Rattle.std.specs.Prelude.{◌≡◌, ◌+◌, ◌≤◌, true, false, if◌then◌else◌, IsOk, IfOk, IfSome, is_some, Ok, Some, None, length};
+ghost use Rattle.std.specs.Prelude.{◌≡◌, ◌+◌, ◌≤◌, ◌<◌, ◌^◌, ℕ, true, false, if◌then◌else◌, IsOk, IfOk, IfSome, is_some, Ok, Some, None, length};
+ghost use Rattle.std.proofs.Props.{props};
+ghost use Rattle.x86_64_dump.specs.Dump.{frame_offset};
+ghost use Rattle.x86_64_dump.specs.private.Search.{AreSorted, offset_at};
 
 use crate::error::{DumpError, Fault};
 use crate::formats::{Format, read_format};
-use crate::frame::{frame_offset, is_cut_off, set_words, words_in};
+use crate::frame::{is_cut_off, set_words, words_in};
 use crate::note::{Note, NoteKind};
 use crate::notes::{read_notes, read_register, read_text};
 use crate::opening::read_segments;
+use crate::search::{Stretch, offset_at, sorted_stretches};
 use crate::segment::Segment;
 use crate::source::ByteSource;
 use crate::vmcoreinfo::Kernel;
@@ -18,17 +22,22 @@ use x86_64_tables::page_table::PageTable;
 
 /// The physical memory in a dump file, read frame by frame.
 ///
-/// Contracts see it as its file, its format and its segments. Only the segments are kept in memory.
+/// Contracts see it as its file, its format and its segments. Only the segments are kept in memory, with what finds the one that
+/// has a frame.
 #[derive(Drop)]
 pub struct Dump<S: ByteSource> {
     source: S,
     format: Format,
     segments: Vec<Segment>,
+    stretches: Vec<Stretch>,
+    ghost order: { AreSorted stretches.items },
+    ghost finds: { (frame : ℕ) → frame < 2 ^ 52 → offset_at stretches.items frame
+        ≡ frame_offset (S.size source) segments.items frame } by { Prim.hlevel props },
 }
 
 impl<S: ByteSource> Dump<S> {
     ghost use Rattle.x86_64_model.specs.Entry.{is_frame};
-    ghost use Rattle.x86_64_dump.specs.Dump.{words_of_dump, frame_offset, is_short};
+    ghost use Rattle.x86_64_dump.specs.Dump.{words_of_dump, is_short};
     ghost use Rattle.x86_64_dump.specs.Formats.{is_raw};
     ghost use Rattle.x86_64_dump.specs.Opening.{contents_of, contents_as, Gives, GivesAtOnce};
     ghost use Rattle.x86_64_dump.specs.Opened.{opened, holds};
@@ -68,10 +77,12 @@ impl<S: ByteSource> Dump<S> {
         ensures { S.IsKnown → Gives (opened S.bytes) result (contents_as format (S.bytes source) base) }
     {
         let segments = read_segments(alloc, &source, format, base)?;
+        let stretches = sorted_stretches(alloc, &segments, source.len())?;
         Ok(Dump {
             source,
             format,
             segments,
+            stretches,
         })
     }
 
@@ -152,8 +163,9 @@ impl<S: ByteSource> Dump<S> {
         ensures offset { result ≡ frame_offset (S.size self.now.source) self.now.segments.items frame }
         ensures inside { IfSome result (λ offset. offset + 4096 ≤ S.size self.now.source) }
     {
+        let _length = self.source.len();
         let address = frame.start_address().as_u64();
-        frame_offset(&self.segments, address, self.source.len())
+        offset_at(&self.stretches, address)
     }
 
     /// Finds QEMU's notes of the processors, and returns them in order.

@@ -12,6 +12,7 @@ mod note;
 mod notes;
 mod numbers;
 mod opening;
+mod search;
 mod segment;
 mod source;
 mod tables;
