@@ -13,11 +13,11 @@ pub fails_as : {T : Type 0} (r : Result T DumpError) (P Q : DumpError → Type 0
 fails_as (Ok x) P Q h f = tt
 fails_as (Err e) P Q h f = f e h
 
--- an error that is possible with further knowledge is possible without it, if the further knowledge follows
-pub fails_knowing : (known more : Type 0) → (known → more) → (e : DumpError) → MayFail (known × more) e → MayFail known e
-fails_knowing known more follows errors.OutOfMemory h = tt
-fails_knowing known more follows (errors.Read error) h = λ k. h (k, follows k)
-fails_knowing known more follows (errors.Fault fault) h = h
+-- an error that is possible where one thing is known is possible where another is, from which it follows
+pub fails_knowing : (less more : Type 0) → (more → less) → (e : DumpError) → MayFail less e → MayFail more e
+fails_knowing less more follows errors.OutOfMemory h = tt
+fails_knowing less more follows (errors.Read error) h = λ known. h (follows known)
+fails_knowing less more follows (errors.Fault fault) h = h
 
 -- a dump has only words of frames
 pub no_frame : (dump : Contents) (f : ℕ) → is_frame f ≡ false → words_of_dump dump f ≡ None

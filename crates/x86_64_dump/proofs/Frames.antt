@@ -1,5 +1,5 @@
--- Frames: the search for the segment that has a frame, one segment at a time, and the words of a part of a file.
-use Rattle.std.proofs.Common.{◌≡◌, ℕ, ◌+◌, ◌*◌, ◌≤◌, ◌<◌, Bool, true, false, cond, List, [], ◌∷◌, Option, Some, None, is_some, map, take, eq-eqb, ◌%◌, ◌^◌, length, refl, ap, sym, ◌∙◌, arith}
+-- Frames: their offsets, and the words of a part of a file.
+use Rattle.std.proofs.Common.{◌≡◌, ℕ, ◌+◌, ◌*◌, ◌≤◌, ◌<◌, Bool, true, false, cond, List, [], ◌∷◌, Option, Some, None, is_some, map, take, eq-eqb, ◌%◌, ◌^◌, length, refl, ap, sym, subst, ◌∙◌, arith, leb-true, nat_le, IfSome, ◌==◌, ◌&&◌, true≢false}
 use Rattle.std.specs.List.{find, range_with_len}
 use Rattle.std.specs.Option.{option_map}
 use Rattle.x86_64_model.specs.Entry.{is_frame, address}
@@ -10,18 +10,6 @@ use Rattle.std.proofs.lemmas.List.{take_all}
 use Rattle.x86_64_dump.specs.Source.{part_of}
 use Rattle.x86_64_model.proofs.Lemmas.Entries.Words.{address-multiple}
 use Rattle.x86_64_dump.proofs.Parts.{Shows, part_shows, u64_shown, map_range_same}
-
-pub frame_offset_here : (size frame : ℕ) (segment : Segment) (segments : List Segment) → has_frame size frame segment ≡ true → frame_offset size (segment ∷ segments) frame ≡ Some (offset_in segment frame)
-unfolding frame_offset
-frame_offset_here size frame segment segments has = ap (λ b. option_map (λ s. offset_in s frame) (cond b (Some segment) (find (has_frame size frame) segments))) has
-
-pub frame_offset_later : (size frame : ℕ) (segment : Segment) (segments : List Segment) → has_frame size frame segment ≡ false → frame_offset size (segment ∷ segments) frame ≡ frame_offset size segments frame
-unfolding frame_offset
-frame_offset_later size frame segment segments lacks = ap (λ b. option_map (λ s. offset_in s frame) (cond b (Some segment) (find (has_frame size frame) segments))) lacks
-
-pub frame_offset_nowhere : (size frame : ℕ) → frame_offset size [] frame ≡ None
-unfolding frame_offset
-frame_offset_nowhere size frame = refl
 
 words_map_shown : (part file : List ℕ) (offset size n : ℕ) → Shows part file offset size → 8 * n ≤ size → map (λ i. u64_at part (0 + 8 * i)) (range_with_len 0 n) ≡ map (λ i. u64_at file (offset + 8 * i)) (range_with_len 0 n)
 words_map_shown part file offset size n shows fits = map_range_same _ _ 0 n (λ i low high. ap (u64_at part) (omega arith) ∙ u64_shown part file (8 * i) offset size shows (omega arith))
@@ -70,3 +58,28 @@ frame_there dump frame size long is =
 
 pub aligned_frame : (frame : ℕ) → frame % 4096 ≡ 0 → frame < 2 ^ 52 → is_frame frame ≡ true
 aligned_frame frame aligned below = eq-eqb (address frame) frame (address-multiple frame aligned below)
+
+both : (a b : Bool) → (a && b) ≡ true → (a ≡ true) × (b ≡ true)
+both true b is = (refl, is)
+both false b is = absurd (true≢false (sym is))
+
+-- the offset of a frame leaves room for its bytes
+pub offset_inside : (file_length : ℕ) (segments : List Segment) (frame : ℕ) → IfSome (frame_offset file_length segments frame) (λ offset. offset + 4096 ≤ file_length)
+unfolding frame_offset
+offset_inside file_length [] frame = tt
+offset_inside file_length (s ∷ l) frame = by (has_frame file_length frame s) refl (offset_inside file_length l frame)
+  where
+    by : (b : Bool) → has_frame file_length frame s ≡ b
+        → IfSome (option_map (λ segment. offset_in segment frame) (find (has_frame file_length frame) l)) (λ offset. offset + 4096 ≤ file_length)
+        → IfSome (option_map (λ segment. offset_in segment frame) (cond b (Some s) (find (has_frame file_length frame) l))) (λ offset. offset + 4096 ≤ file_length)
+    by true has later = leb-true _ _ (both (s.kind == 1 && nat_le s.address frame && nat_le (frame + 4096) (s.address + s.size)) (nat_le (offset_in s frame + 4096) file_length) has).1
+    by false lacks later = later
+
+-- so it is below 2^64, by the stretches too
+pub offset_below : (file_length : ℕ) (segments : List Segment) (frame : ℕ) (found : Option ℕ) → found ≡ frame_offset file_length segments frame → file_length < 2 ^ 64
+    → IfSome found (λ offset. offset < 2 ^ 64)
+offset_below file_length segments frame found is short = below found (let P : Option ℕ → Type 0 = λ o. IfSome o (λ offset. offset + 4096 ≤ file_length) in subst P (sym is) (offset_inside file_length segments frame))
+  where
+    below : (o : Option ℕ) → IfSome o (λ offset. offset + 4096 ≤ file_length) → IfSome o (λ offset. offset < 2 ^ 64)
+    below None inside = tt
+    below (Some offset) inside = omega (arith, inside, short)

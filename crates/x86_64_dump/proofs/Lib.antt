@@ -14,3 +14,5 @@ mod Rows
 mod Ranges
 pub mod Lines
 pub mod Digits
+pub mod Merging
+pub mod Stretches

@@ -3,15 +3,16 @@ use Rattle.std.specs.Prelude.{ℕ, Bool, is_some, List}
 use Rattle.x86_64_dump.specs.Dump.{Contents, frame_offset, words_of_dump}
 use Rattle.x86_64_model.specs.Memory.{Words}
 use Rattle.x86_64_dump.specs.declared.dump.Dump.{Dump}
+use Rattle.x86_64_dump.specs.declared.source.ByteSource.{Ghosts}
 
 -- the bytes of its source, its format and its segments
-abbrev pub opened : {S : Type 0} → (S → List ℕ) → Dump S → Contents
+abbrev pub opened : {S : Type 0} → {G : Ghosts S} → (S → List ℕ) → Dump S G → Contents
 opened bytes dump = record { file = bytes dump.source; format = dump.format; segments = dump.segments.items }
 
 -- the words of its frames
-abbrev pub words_opened : {S : Type 0} → (S → List ℕ) → Dump S → Words
+abbrev pub words_opened : {S : Type 0} → {G : Ghosts S} → (S → List ℕ) → Dump S G → Words
 words_opened bytes dump = words_of_dump (opened bytes dump)
 
 -- whether a segment has the frame, in a file of the length that the source reports
-abbrev pub holds : {S : Type 0} → (size : S → ℕ) → Dump S → (frame : ℕ) → Bool
+abbrev pub holds : {S : Type 0} → {G : Ghosts S} → (size : S → ℕ) → Dump S G → (frame : ℕ) → Bool
 holds size dump frame = is_some (frame_offset (size dump.source) dump.segments.items frame)

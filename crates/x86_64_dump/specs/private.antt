@@ -1,3 +1,6 @@
 pub mod NotesLeft
 pub mod FrameNumbers
+pub mod TablesRead
+pub mod Search
+pub mod Merging
 pub mod Magics

@@ -1,13 +1,17 @@
 //! Dump files.
-ghost use Rattle.std.specs.Prelude.{◌≡◌, ◌+◌, ◌≤◌, true, IsOk, IfOk, IfSome, is_some, Ok, length};
+ghost use Rattle.std.specs.Prelude.{◌≡◌, ◌+◌, ◌≤◌, ◌<◌, ◌^◌, ℕ, true, false, if◌then◌else◌, IsOk, IfOk, IfSome, is_some, Ok, Some, None, length};
+ghost use Rattle.std.proofs.Props.{props};
+ghost use Rattle.x86_64_dump.specs.Dump.{frame_offset};
+ghost use Rattle.x86_64_dump.specs.private.Search.{AreSorted, offset_at};
 
 use crate::error::{DumpError, Fault};
 use crate::formats::{Format, read_format};
-use crate::frame::{frame_offset, is_cut_off, words_in};
+use crate::frame::{is_cut_off, set_words, words_in};
 use crate::note::{Note, NoteKind};
 use crate::notes::{read_notes, read_register, read_text};
 use crate::opening::read_segments;
 use crate::placement::Placement;
+use crate::search::{Stretch, offset_at, sorted_stretches};
 use crate::segment::Segment;
 use crate::source::ByteSource;
 use crate::vmcoreinfo::Kernel;
@@ -15,20 +19,26 @@ use std::alloc::Global;
 use std::io;
 use x86_64_page::frame::PhysFrame;
 use x86_64_page::page::Size4KiB;
+use x86_64_tables::page_table::PageTable;
 
 /// The physical memory in a dump file, read frame by frame.
 ///
-/// Contracts see it as its file, its format and its segments. Only the segments are kept in memory.
+/// Contracts see it as its file, its format and its segments. Only the segments are kept in memory, with what finds the one that
+/// has a frame.
 #[derive(Drop)]
 pub struct Dump<S: ByteSource> {
     source: S,
     format: Format,
     segments: Vec<Segment>,
+    stretches: Vec<Stretch>,
+    ghost order: { AreSorted stretches.items },
+    ghost finds: { (frame : ℕ) → frame < 2 ^ 52 → offset_at stretches.items frame
+        ≡ frame_offset (S.size source) segments.items frame } by { Prim.hlevel props },
 }
 
 impl<S: ByteSource> Dump<S> {
     ghost use Rattle.x86_64_model.specs.Entry.{is_frame};
-    ghost use Rattle.x86_64_dump.specs.Dump.{words_of_dump, frame_offset, is_short};
+    ghost use Rattle.x86_64_dump.specs.Dump.{words_of_dump, is_short};
     ghost use Rattle.x86_64_dump.specs.Formats.{is_raw};
     ghost use Rattle.x86_64_dump.specs.Opening.{contents_of, contents_as, Gives, GivesAtOnce};
     ghost use Rattle.x86_64_dump.specs.Opened.{opened, holds};
@@ -72,10 +82,12 @@ impl<S: ByteSource> Dump<S> {
             Gives (opened S.bytes) result (contents_as format (S.bytes source) placement.now) }
     {
         let segments = read_segments(alloc, &source, format, placement)?;
+        let stretches = sorted_stretches(alloc, &segments, source.len())?;
         Ok(Dump {
             source,
             format,
             segments,
+            stretches,
         })
     }
 
@@ -129,14 +141,36 @@ impl<S: ByteSource> Dump<S> {
         Ok(Some(words_in(&bytes)))
     }
 
+    /// Reads the words of a frame into a table and returns true, or returns false if the dump lacks the frame.
+    ///
+    /// # Errors
+    ///
+    /// As those of `read_frame`. The words of the table are then unspecified.
+    pub fn read_table(&self, frame: PhysFrame<Size4KiB>, table: &mut PageTable) -> io::Result<bool>
+        ensures words { S.IsKnown → IfOk result (λ is_there. (if is_there then Some table.new else None)
+            ≡ words_of_dump (opened S.bytes self.now) frame) }
+        ensures lacks { IfOk result (λ is_there. is_there ≡ false → table.new ≡ table.old) }
+        ensures held { IfOk result (λ is_there. is_there ≡ holds S.size self.now frame) }
+        ensures succeeds { S.IsKnown → IsOk result }
+    {
+        let Some(offset) = self.offset_of(frame) else {
+            return Ok(false);
+        };
+        let mut bytes = [0; 4096];
+        self.source.read_exact_at(&mut bytes, offset)?;
+        set_words(table, &bytes);
+        Ok(true)
+    }
+
     /// Returns the offset of a frame in the file, or `None` if the dump lacks it.
     fn offset_of(&self, frame: PhysFrame<Size4KiB>) -> Option<u64>
         ensures frame { is_frame frame ≡ true }
         ensures offset { result ≡ frame_offset (S.size self.now.source) self.now.segments.items frame }
         ensures inside { IfSome result (λ offset. offset + 4096 ≤ S.size self.now.source) }
     {
+        let _length = self.source.len();
         let address = frame.start_address().as_u64();
-        frame_offset(&self.segments, address, self.source.len())
+        offset_at(&self.stretches, address)
     }
 
     /// Finds QEMU's notes of the processors, and returns them in order.

@@ -13,6 +13,7 @@ mod notes;
 mod numbers;
 mod opening;
 mod placement;
+mod search;
 mod segment;
 mod source;
 mod tables;

@@ -5,7 +5,7 @@ mod frame_set;
 mod levels;
 mod loading;
 mod progress;
-mod words;
+mod tables_read;
 
 pub use dump_tables::{DumpTables, TablesByLevel, read_tables};
 pub use progress::{NoProgress, Progress};

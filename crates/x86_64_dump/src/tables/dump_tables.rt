@@ -9,6 +9,7 @@ ghost use Rattle.x86_64_dump.specs.Loaded.{words_in, up_to, AreTables, HasCount,
 use crate::tables::levels::read_levels;
 use crate::tables::loading::read_memory;
 use crate::tables::progress::Progress;
+use crate::tables::tables_read::TablesRead;
 use crate::{ByteSource, Dump, DumpError};
 use std::alloc::Global;
 use x86_64_addr::level_count::LevelCount;
@@ -57,7 +58,7 @@ impl DumpTables {
     }
 }
 
-/// Reads the tables that a root leads to, as far as the dump has them, and reports each to `progress`: first 1, then 2, and so on.
+/// Reads the tables that a root leads to, each once, as far as the dump has them, and reports each to `progress`: first 1, then 2, and so on.
 ///
 /// A page walk from the root finds the words that the dump has, so the mappings are those of the dump. The memory holds each
 /// table once, however many entries name it.
@@ -82,7 +83,8 @@ pub fn read_tables<L: LevelCount, S: ByteSource, G: Progress>(
     ensures told { IfOk result (λ read. G.Told progress.old progress.new (up_to (finite.len read.memory))) }
     ensures errors { IfErr result (MayFail S.IsKnown) }
 {
-    let frames = read_levels(alloc, dump, root, L::LEVELS)?;
-    let memory = read_memory(alloc, dump, &frames, progress)?;
+    let mut read = TablesRead::new(alloc);
+    let frames = read_levels(alloc, dump, root, L::LEVELS, &mut read)?;
+    let memory = read_memory(alloc, dump, &frames, &read, progress)?;
     Ok(DumpTables { memory, frames })
 }

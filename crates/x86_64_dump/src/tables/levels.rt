@@ -4,9 +4,11 @@ ghost use Rattle.std.specs.List.{filter_map, flat_map, fold};
 ghost use Rattle.x86_64_dump.specs.Dump.{words_of_dump};
 ghost use Rattle.x86_64_dump.specs.Opened.{opened};
 ghost use Rattle.x86_64_dump.specs.Loaded.{MayFail, frames_of};
+ghost use Rattle.x86_64_dump.specs.private.TablesRead.{AreOf};
 ghost use Rattle.x86_64_dump.specs.Tables.{table_named, tables_named, met, each_once, tables_by_level, if_there};
 
 use crate::tables::frame_set::FrameSet;
+use crate::tables::tables_read::TablesRead;
 use crate::{ByteSource, Dump, DumpError};
 use std::alloc::{AllocError, Global};
 use x86_64_page::frame::PhysFrame;
@@ -14,14 +16,17 @@ use x86_64_page::page::Size4KiB;
 use x86_64_tables::page_table::PageTableEntry;
 
 /// Finds the tables that a root leads to, and returns their frames by level, level one first. Those of a level are in the order
-/// in which they are found.
+/// in which they are found. The tables above level one are added to those that were read.
 pub fn read_levels<S: ByteSource>(
     alloc: Global,
     dump: &Dump<S>,
     root: PhysFrame<Size4KiB>,
     levels: u64,
+    read: &mut TablesRead,
 ) -> Result<Vec<Vec<PhysFrame<Size4KiB>>>, DumpError>
-    requires { 0 < levels }
+    requires some { 0 < levels }
+    requires read { S.IsKnown → AreOf (words_of_dump (opened S.bytes dump.now)) read.old }
+    ensures read { S.IsKnown → OnOk result (AreOf (words_of_dump (opened S.bytes dump.now)) read.new) }
     ensures frames { S.IsKnown → IfOk result (λ frames. frames_of frames.items
         ≡ tables_by_level levels (words_of_dump (opened S.bytes dump.now)) root) }
     ensures errors { IfErr result (MayFail S.IsKnown) }
@@ -29,7 +34,7 @@ pub fn read_levels<S: ByteSource>(
     let mut frames = Vec::new(alloc);
     let mut level = root_level(alloc, dump, root)?;
     for _ in 1..levels {
-        let below = read_below(alloc, dump, &level)?;
+        let below = read_below(alloc, dump, &level, read)?;
         frames.push(level)?;
         level = below;
     }
@@ -59,45 +64,35 @@ fn read_below<S: ByteSource>(
     alloc: Global,
     dump: &Dump<S>,
     frames: &[PhysFrame<Size4KiB>],
+    read: &mut TablesRead,
 ) -> Result<Vec<PhysFrame<Size4KiB>>, DumpError>
+    requires { S.IsKnown → AreOf (words_of_dump (opened S.bytes dump.now)) read.old }
+    ensures read { S.IsKnown → OnOk result (AreOf (words_of_dump (opened S.bytes dump.now)) read.new) }
     ensures frames { S.IsKnown → IfOk result (λ below. below.items
         ≡ each_once (flat_map (tables_named (words_of_dump (opened S.bytes dump.now))) frames.now)) }
     ensures errors { IfErr result (MayFail S.IsKnown) }
 {
     let mut below = FrameSet::new(alloc);
     for frame in frames {
-        read_named(dump, *frame, &mut below)?;
+        read.read(alloc, dump, *frame)?;
+        if let Some(table) = read.table(*frame) {
+            add_named(dump, table.as_slice(), &mut below)?;
+        }
     }
     Ok(below.into_frames())
-}
-
-/// Adds the frames of the tables that the words of a frame name.
-fn read_named<S: ByteSource>(
-    dump: &Dump<S>,
-    frame: PhysFrame<Size4KiB>,
-    below: &mut FrameSet,
-) -> Result<(), DumpError>
-    ensures frames { S.IsKnown → OnOk result (below.new
-        ≡ fold met below.old (tables_named (words_of_dump (opened S.bytes dump.now)) frame)) }
-    ensures errors { IfErr result (MayFail S.IsKnown) }
-{
-    if let Some(words) = dump.read_frame(frame)? {
-        add_named(dump, &words, below)?;
-    }
-    Ok(())
 }
 
 /// Adds the frames of the tables that some words name.
 fn add_named<S: ByteSource>(
     dump: &Dump<S>,
-    words: &[u64],
+    words: &[PageTableEntry],
     below: &mut FrameSet,
 ) -> Result<(), AllocError>
     ensures { S.IsKnown → OnOk result (below.new ≡ fold met below.old
         (filter_map (table_named (words_of_dump (opened S.bytes dump.now))) words.now)) }
 {
     for word in words {
-        if let Some(named) = table_named(dump, *word) {
+        if let Some(named) = table_named(dump, word) {
             below.insert(named)?;
         }
     }
@@ -105,10 +100,10 @@ fn add_named<S: ByteSource>(
 }
 
 /// Returns the frame of the table that a word above level one names, if the dump has it.
-fn table_named<S: ByteSource>(dump: &Dump<S>, word: u64) -> Option<PhysFrame<Size4KiB>>
-    ensures { S.IsKnown → result ≡ table_named (words_of_dump (opened S.bytes dump.now)) word }
+fn table_named<S: ByteSource>(dump: &Dump<S>, word: &PageTableEntry) -> Option<PhysFrame<Size4KiB>>
+    ensures { S.IsKnown → result ≡ table_named (words_of_dump (opened S.bytes dump.now)) word.now }
 {
-    let frame = PageTableEntry::from_word(word).frame().ok()?;
+    let frame = word.frame().ok()?;
     if dump.has_frame(frame) {
         Some(frame)
     } else {

@@ -1,5 +1,5 @@
 //! Memories that hold the tables in some frames.
-ghost use Rattle.std.specs.Prelude.{◌≡◌, ◌||◌, ℕ, true, Some, IsSome, IfOk, IfErr, IsOk, OnOk};
+ghost use Rattle.std.specs.Prelude.{◌≡◌, ◌||◌, ℕ, true, Some, IsSome, IfOk, IfErr, OnOk};
 ghost use Rattle.std.specs.FinMap as finite;
 ghost use Rattle.std.specs.List.Sorted.{IsStrictlyIncreasing};
 ghost use Rattle.x86_64_dump.specs.Dump.{words_of_dump};
@@ -8,26 +8,30 @@ ghost use Rattle.x86_64_model.specs.Entry.{is_frame};
 ghost use Rattle.x86_64_tables.specs.PageTable.{zero_words};
 ghost use Rattle.x86_64_dump.specs.Loaded.{HoldsTables, MayFail, frames_of, up_to};
 ghost use Rattle.x86_64_dump.specs.Tables.{is_among, is_in, AreThere};
+ghost use Rattle.x86_64_dump.specs.private.TablesRead.{AreOf};
 ghost use Rattle.x86_64_dump.specs.private.FrameNumbers.{has_number, AreNumbers, HoldsFor};
 
 use crate::tables::dump_tables::TablesByLevel;
 use crate::tables::progress::Progress;
-use crate::tables::words::table_of;
+use crate::tables::tables_read::TablesRead;
 use crate::{ByteSource, Dump, DumpError};
 use std::alloc::{AllocError, Global};
 use std::io::{self, ErrorKind};
 use x86_64_page::frame::PhysFrame;
 use x86_64_page::page::{PageSize, Size4KiB};
+use x86_64_tables::page_table::PageTable;
 use x86_64_tables::phys_memory::{FramePlace, PhysMemory, PlacesRefusal};
 
-/// Reads the tables in the frames, and reports each to `progress`. Each table's place, its index in memory, is the number of its
-/// frame.
+/// Collects the tables in the frames, reading those that weren't read before, and reports each to `progress`. Each table's place,
+/// its index in memory, is the number of its frame.
 pub fn read_memory<S: ByteSource, G: Progress>(
     alloc: Global,
     dump: &Dump<S>,
     frames: TablesByLevel<'_>,
+    read: &TablesRead,
     progress: &mut G,
 ) -> Result<PhysMemory, DumpError>
+    requires { S.IsKnown → AreOf (words_of_dump (opened S.bytes dump.now)) read.now }
     ensures tables { S.IsKnown → IfOk result
         (HoldsTables (frames_of frames.now) (words_of_dump (opened S.bytes dump.now))) }
     ensures told { IfOk result (λ memory.
@@ -38,8 +42,8 @@ pub fn read_memory<S: ByteSource, G: Progress>(
     let numbers = numbers_of(alloc, frames)?;
     let mut memory = empty_memory(alloc, &numbers)?;
     for (i, number) in numbers.iter().enumerate() {
-        let words = read_words(dump, PhysFrame::from_pfn(*number))?;
-        memory[FramePlace::new(*number)] = table_of(&words);
+        let frame = PhysFrame::from_pfn(*number);
+        fill_table(dump, read, frame, &mut memory[FramePlace::new(*number)])?;
         progress.tables(i + 1);
     }
     Ok(memory)
@@ -86,18 +90,39 @@ fn empty_memory(alloc: Global, places: &[u64]) -> Result<PhysMemory, AllocError>
     }
 }
 
-/// Reads the words of a frame that the dump has.
+/// Fills a table with the words of a frame that the dump has. They are copied if they were read before.
 ///
 /// # Errors
 ///
-/// The error of the read, or an error of the kind `UnexpectedEof` if the dump lacks the frame.
-fn read_words<S: ByteSource>(dump: &Dump<S>, frame: PhysFrame<Size4KiB>) -> io::Result<[u64; 512]>
-    ensures words { S.IsKnown → IfOk result (λ words.
-        Some words ≡ words_of_dump (opened S.bytes dump.now) frame) }
-    ensures succeeds { S.IsKnown → IsSome (words_of_dump (opened S.bytes dump.now) frame) → IsOk result }
+/// `DumpError::OutOfMemory` if memory allocation fails, else `DumpError::Read` with the error of the read, or of the kind
+/// `UnexpectedEof` if the dump lacks the frame.
+fn fill_table<S: ByteSource>(
+    dump: &Dump<S>,
+    read: &TablesRead,
+    frame: PhysFrame<Size4KiB>,
+    table: &mut PageTable,
+) -> Result<(), DumpError>
+    requires { S.IsKnown → AreOf (words_of_dump (opened S.bytes dump.now)) read.now }
+    ensures words { S.IsKnown → OnOk result (
+        Some table.new ≡ words_of_dump (opened S.bytes dump.now) frame) }
+    ensures errors { IfErr result (MayFail
+        (S.IsKnown × IsSome (words_of_dump (opened S.bytes dump.now) frame))) }
 {
-    match dump.read_frame(frame)? {
-        Some(words) => Ok(words),
-        None => Err(io::Error::from(ErrorKind::UnexpectedEof)),
+    if let Some(before) = read.table(frame) {
+        copy(before, table)?;
+        return Ok(());
     }
+    if dump.read_table(frame, table)? {
+        Ok(())
+    } else {
+        Err(DumpError::Read(io::Error::from(ErrorKind::UnexpectedEof)))
+    }
+}
+
+/// Copies a table into another.
+fn copy(from: &PageTable, to: &mut PageTable) -> Result<(), AllocError>
+    ensures { OnOk result (to.new ≡ from.now) }
+{
+    *to = from.clone()?;
+    Ok(())
 }

@@ -24,8 +24,8 @@ returns-in_err-memory-clause-errors g c =
     let Fails : DumpError → Type 0 = MayFail g.S.ByteSource.IsKnown in
     let There : List (List ℕ) → Type 0 = AreThere W in
     fails_as c.from_residual-in_err-memory.result _ Fails c.from_residual-in_err-memory.ensures.1 (λ e is. subst Fails (sym is)
-    (fails_knowing g.S.ByteSource.IsKnown (AreThere W (frames_of c.deref.result.now))
-    (λ known. subst There (sym (levels g (goal.at.returns-in_err-memory-clause-errors g c).After-read_memory known)) (levels_are_there g.L.LevelCount.LEVELS W c.args.root))
+    (fails_knowing (g.S.ByteSource.IsKnown × AreThere W (frames_of c.deref.result.now)) _
+    (λ known. (known, subst There (sym (levels g (goal.at.returns-in_err-memory-clause-errors g c).After-read_memory known)) (levels_are_there g.L.LevelCount.LEVELS W c.args.root)))
     c.in_err-memory.field-0.0 c.in_err-memory.ensures.errors))
 
 pub returns-clause-same : goal.returns-clause-same

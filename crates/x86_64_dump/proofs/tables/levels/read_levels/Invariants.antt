@@ -2,10 +2,14 @@ use Rattle.std.proofs.Common.{◌≡◌, ◌+◌, ◌-◌, ◌++◌}
 use Rattle.x86_64_dump.specs.Dump.{words_of_dump}
 use Rattle.x86_64_dump.specs.Opened.{opened}
 use Rattle.x86_64_dump.specs.Loaded.{frames_of}
+use Rattle.x86_64_dump.specs.private.TablesRead.{AreOf}
 use Rattle.x86_64_dump.specs.Tables.{tables_from, if_there}
 use Rattle.x86_64_dump.proofs.tables.levels.read_levels.Given as goal
 
 -- the levels so far, followed by those from this one down, are all levels
 abbrev pub invariant-loop : goal.invariant-loop
-invariant-loop g l = g.S.ByteSource.IsKnown → let words = words_of_dump (opened g.S.ByteSource.bytes l.dump) in
-    frames_of l.frames.items ++ tables_from (l.levels + 1 - l.counter) words l.level.items ≡ tables_from l.levels words (if_there words l.fn.root)
+invariant-loop g l = let W = words_of_dump (opened g.S.ByteSource.bytes l.dump) in record {
+  read : g.S.ByteSource.IsKnown → AreOf W l.read;
+  frames : g.S.ByteSource.IsKnown →
+      frames_of l.frames.items ++ tables_from (l.levels + 1 - l.counter) W l.level.items ≡ tables_from l.levels W (if_there W l.fn.root);
+}

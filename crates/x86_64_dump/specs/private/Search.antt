@@ -1,0 +1,51 @@
+-- Search: which segment has a frame, by stretches of frames in order of their addresses.
+use Rattle.std.specs.Prelude.{◌≡◌, ℕ, ◌≤◌, ◌<◌, ◌^◌, ◌+◌, ◌-◌, cond, List, [], ◌∷◌, nat_le, Option, None, ⊤}
+use Rattle.std.specs.List.{find, fold}
+use Rattle.std.specs.List.Sorted.{IsNonDecreasingBy}
+use Rattle.std.specs.Option.{option_map, option_or}
+use Rattle.x86_64_dump.specs.Dump.{has_frame}
+use Rattle.x86_64_dump.specs.declared.search.Place.{Place}
+use Rattle.x86_64_dump.specs.declared.search.Stretch.{Stretch}
+use Rattle.x86_64_dump.specs.declared.segment.Segment.{Segment}
+
+-- where a segment begins
+abbrev pub place_of : Segment → Place
+place_of segment = record { address = segment.address; offset = segment.offset }
+
+-- the offset in the file of an address in the segment that begins at a place
+abbrev pub offset_from : (address : ℕ) → Place → ℕ
+offset_from address place = place.offset + (address - place.address)
+
+-- the place of an address by a stretch, if the stretches before it say another
+abbrev pub place_after : (address : ℕ) → (before : Option Place) → Stretch → Option Place
+place_after address before stretch = cond (nat_le stretch.from address) stretch.place before
+
+-- the place of an address by the last of the stretches that doesn't begin after it
+abbrev pub place_at : List Stretch → (address : ℕ) → Option Place
+place_at stretches address = fold (place_after address) None stretches
+
+-- the offset in the file of an address by the stretches
+abbrev pub offset_at : List Stretch → (address : ℕ) → Option ℕ
+offset_at stretches address = option_map (offset_from address) (place_at stretches address)
+
+-- the stretches are in order, and none begins before an address
+abbrev pub BeginFrom : (address : ℕ) → List Stretch → Type 0
+BeginFrom address [] = ⊤
+BeginFrom address (stretch ∷ stretches) = (address ≤ stretch.from) × BeginFrom stretch.from stretches
+
+-- the stretches are in order
+abbrev pub AreInOrder : List Stretch → Type 0
+AreInOrder stretches = BeginFrom 0 stretches
+
+-- likewise, by index
+abbrev pub AreSorted : List Stretch → Type 0
+AreSorted stretches = IsNonDecreasingBy (λ stretch. stretch.from) stretches
+
+-- by the stretches the first of the segments that has a frame counts
+abbrev pub FindFirst : (file_length : ℕ) → List Segment → List Stretch → Type 0
+FindFirst file_length segments stretches = (frame : ℕ) → frame < 2 ^ 52 →
+    place_at stretches frame ≡ option_map place_of (find (has_frame file_length frame) segments)
+
+-- by the merged stretches those in front count, and those in the back where they have no place
+abbrev pub AreMerged : (front back merged : List Stretch) → Type 0
+AreMerged front back merged = (address : ℕ) → place_at merged address ≡ option_or (place_at front address) (place_at back address)
