@@ -2,7 +2,7 @@
 use Rattle.std.proofs.Common.{◌≡◌, ◌∙◌, ℕ, List, Option, codes, false, true, Result, IfOk, IfErr, refl, sym, subst}
 use Rattle.clap.specs.declared.parser.matches.Found.{Found}
 use Rattle.ptdump_engine.specs.declared.request.Command.{Command}
-use Rattle.ptdump_engine.specs.declared.request.Command.TheVariants.{Regions, Pages, Walk, Find, Check, Image, Picture}
+use Rattle.ptdump_engine.specs.declared.request.Command.TheVariants.{Regions, Pages, Walk, Find, Check, Image, Picture, Info}
 use Rattle.ptdump_engine.specs.declared.request.ProcessorAccess.{ProcessorAccess}
 use Rattle.ptdump.specs.Asked.{IsAccess}
 use Rattle.ptdump.specs.Requests.{AreNumbers, IsCommand, IsUnread, values}
@@ -24,6 +24,7 @@ no_walk name found walk none (Find numbers) is = differ name (codes "walk") (cod
 no_walk name found walk none Check is = differ name (codes "walk") (codes "check") refl walk is
 no_walk name found walk none Image is = differ name (codes "walk") (codes "image") refl walk is
 no_walk name found walk none Picture is = differ name (codes "walk") (codes "picture") refl walk is
+no_walk name found walk none Info is = differ name (codes "walk") (codes "info") refl walk is
 
 -- no search can be described
 pub no_find : (name : List ℕ) (found : Found) → name ≡ codes "find" → ((numbers : List ℕ) → AreNumbers (values found (codes "addresses")) numbers → ⊥)
@@ -35,18 +36,20 @@ no_find name found find none (Find numbers) is = none numbers.items is.1
 no_find name found find none Check is = differ name (codes "find") (codes "check") refl find is
 no_find name found find none Image is = differ name (codes "find") (codes "image") refl find is
 no_find name found find none Picture is = differ name (codes "find") (codes "picture") refl find is
+no_find name found find none Info is = differ name (codes "find") (codes "info") refl find is
 
 -- no command has the name
 pub no_name : (name : List ℕ) (found : Found) → bytes_eq name (codes "regions") ≡ false → bytes_eq name (codes "pages") ≡ false → bytes_eq name (codes "walk") ≡ false
     → bytes_eq name (codes "find") ≡ false → bytes_eq name (codes "check") ≡ false → bytes_eq name (codes "image") ≡ false → bytes_eq name (codes "picture") ≡ false
-    → (command : Command) → IsCommand name found command → ⊥
-no_name name found a b c d e f g Regions is = other_name name (codes "regions") a is
-no_name name found a b c d e f g Pages is = other_name name (codes "pages") b is
-no_name name found a b c d e f g (Walk numbers asked) is = other_name name (codes "walk") c is.0
-no_name name found a b c d e f g (Find numbers) is = other_name name (codes "find") d is.0
-no_name name found a b c d e f g Check is = other_name name (codes "check") e is
-no_name name found a b c d e f g Image is = other_name name (codes "image") f is
-no_name name found a b c d e f g Picture is = other_name name (codes "picture") g is
+    → bytes_eq name (codes "info") ≡ false → (command : Command) → IsCommand name found command → ⊥
+no_name name found a b c d e f g h Regions is = other_name name (codes "regions") a is
+no_name name found a b c d e f g h Pages is = other_name name (codes "pages") b is
+no_name name found a b c d e f g h (Walk numbers asked) is = other_name name (codes "walk") c is.0
+no_name name found a b c d e f g h (Find numbers) is = other_name name (codes "find") d is.0
+no_name name found a b c d e f g h Check is = other_name name (codes "check") e is
+no_name name found a b c d e f g h Image is = other_name name (codes "image") f is
+no_name name found a b c d e f g h Picture is = other_name name (codes "picture") g is
+no_name name found a b c d e f g h Info is = other_name name (codes "info") h is
 
 -- the command and the refusal are those of an equal name
 pub same_command : (name word : List ℕ) (found : Found) (result : Result Command Stop) → bytes_eq name word ≡ true → IfOk result (IsCommand word found)

@@ -3,7 +3,7 @@ use Rattle.std.specs.Prelude.{◌≡◌, ◌⊎◌, ℕ, Bool, true, false, List
 use Rattle.clap.specs.Matches.{first_value, matched_of, one_text, raw_values}
 use Rattle.clap.specs.declared.parser.matches.Found.{Found}
 use Rattle.ptdump_engine.specs.declared.request.Command.{Command}
-use Rattle.ptdump_engine.specs.declared.request.Command.TheVariants.{Regions, Pages, Walk, Find, Check, Image, Picture}
+use Rattle.ptdump_engine.specs.declared.request.Command.TheVariants.{Regions, Pages, Walk, Find, Check, Image, Picture, Info}
 use Rattle.x86_64_addr.specs.declared.level_count.Levels.{Levels}
 use Rattle.x86_64_addr.specs.declared.level_count.Levels.TheVariants.{Four, Five}
 use Rattle.ptdump_engine.specs.declared.request.Request.{Request}
@@ -31,6 +31,7 @@ IsCommand name found (Find numbers) = (name ≡ codes "find") × AreNumbers (val
 IsCommand name found Check = name ≡ codes "check"
 IsCommand name found Image = name ≡ codes "image"
 IsCommand name found Picture = name ≡ codes "picture"
+IsCommand name found Info = name ≡ codes "info"
 
 -- an option is None if its text is missing, and is the number of its text otherwise
 abbrev pub IsOption : (text : Option (List ℕ)) → Option ℕ → Type 0

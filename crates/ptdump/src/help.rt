@@ -72,7 +72,7 @@ Example, of a dump that the source of ptdump has in the folder examples:
 `ptdump COMMAND --help` has an example of each command.";
 
 /// The commands, in the order of the help text.
-pub static COMMANDS: [CommandHelp; 7] = [
+pub static COMMANDS: [CommandHelp; 8] = [
     CommandHelp {
         name: "regions",
         about: "List what is mapped, region by region",
@@ -249,5 +249,23 @@ Example:
 
   $ ptdump picture machine.elf > machine.svg
   tables 13, mappings 18, mapped 1054776KiB",
+    },
+    CommandHelp {
+        name: "info",
+        about: "Tell what the dump says of its machine, and which root is taken",
+        operands: Operands::None,
+        more: "\
+The lines are: the format of the file, the ranges of physical memory with their
+sizes, the control registers of each processor with its mode of paging, what the
+note VMCOREINFO says of the kernel, and the root with which the other commands
+begin if they have the same options, or why they find none. No tables are read.
+
+Example:
+
+  $ ptdump info machine.elf
+  format: ELF core
+  memory 0x100000-0x10dfff 56KiB
+  processor 0: CR0 0x80010011, CR3 0x101000, CR4 0x20, 64-bit paging, 4 levels
+  root: 0x101000, 4 levels, of processor 0",
     },
 ];

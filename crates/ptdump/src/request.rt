@@ -67,6 +67,8 @@ fn command_of<'a>(
         Ok(Command::Image)
     } else if name == "picture" {
         Ok(Command::Picture)
+    } else if name == "info" {
+        Ok(Command::Info)
     } else {
         Err(Stop::NoCommand(name))
     }

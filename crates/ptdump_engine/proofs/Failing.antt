@@ -66,3 +66,8 @@ pub dump_fails : {A B : Type 0} (may : Bool) (error : DumpError) (found : Result
 dump_fails may errors.OutOfMemory found next is = tt
 dump_fails may (errors.Read error) found next is = absurd is
 dump_fails may (errors.Fault fault) found next is = ap (λ r. and_then (of_dump r) next) is
+
+pub dump_unread : {A : Type 0} (may : Bool) (error : DumpError) (found : Result A Fault) → Fails error found → FailsBy may (failure_of error) (of_dump found)
+dump_unread may errors.OutOfMemory found fails = tt
+dump_unread may (errors.Read error) found fails = absurd fails
+dump_unread may (errors.Fault fault) found fails = ap of_dump fails

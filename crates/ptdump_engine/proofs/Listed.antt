@@ -1,9 +1,10 @@
 -- Lists that are visited element by element.
-use Rattle.std.proofs.Common.{◌≡◌, ◌∙◌, ◌+◌, ◌<◌, ◌++◌, ◌&&◌, ℕ, Bool, List, [], ◌∷◌, Option, None, Some, String, take, get_or, length, refl, sym, ap, subst, append-nil, zero, suc, true, false, cond, arith}
+use Rattle.std.proofs.Common.{◌≡◌, ◌∙◌, ◌+◌, ◌<◌, ◌≤◌, ◌++◌, ◌&&◌, ℕ, Bool, List, [], ◌∷◌, Option, None, Some, String, take, get_or, length, refl, sym, ap, subst, append-nil, zero, suc, true, false, cond, zero-add, arith}
 use Rattle.std.proofs.Math.Bool.{and_assoc, and-true}
 use Rattle.std.proofs.lemmas.Grind.{flat_map-append}
-use Rattle.std.proofs.lemmas.List.{take_more}
-use Rattle.std.specs.List.{flat_map, list_all, find}
+use Rattle.std.proofs.lemmas.List.{take_all, take_more}
+use Rattle.std.proofs.lemmas.List.FromFn.{get_or-enumerate_from, length-enumerate_from}
+use Rattle.std.specs.List.{enumerate_from, flat_map, list_all, find}
 use Rattle.std.specs.declared.alloc.Global.{Global}
 use Rattle.ptdump_engine.specs.Output.{Puts}
 use Rattle.ptdump_engine.specs.declared.output.Output.{Output}
@@ -16,6 +17,18 @@ puts_more contents text old now new xs i d below before next =
     let more : flat_map text (take (i + 1) xs) ≡ flat_map text (take i xs) ++ text (get_or xs i d) =
     ap (flat_map text) (take_more xs i d below) ∙ flat_map-append text (take i xs) (get_or xs i d ∷ []) ∙ ap (λ t. flat_map text (take i xs) ++ t) (append-nil (text (get_or xs i d))) in
     subst (Puts contents old new) (sym more) (puts_both contents old now new _ _ before next)
+
+-- likewise of a list with places
+pub puts_placed : {W X : Type 0} (contents : W → Option (List ℕ)) (text : (ℕ × X) → List ℕ) (old now new : Output W (String Global)) (xs : List X) (i : ℕ) (d : X) → i < length xs
+    → Puts contents old now (flat_map text (take i (enumerate_from 0 xs))) → Puts contents now new (text (i, get_or xs i d)) → Puts contents old new (flat_map text (take (i + 1) (enumerate_from 0 xs)))
+puts_placed contents text old now new xs i d below before next =
+    let at : get_or (enumerate_from 0 xs) i (0, d) ≡ (i, get_or xs i d) = get_or-enumerate_from 0 xs i (0, d) below ∙ ap (λ n. (n, get_or xs i d)) (zero-add i) in
+    let placed : i < length (enumerate_from 0 xs) = subst (λ n. i < n) (sym (length-enumerate_from 0 xs)) below in
+    puts_more contents text old now new (enumerate_from 0 xs) i (0, d) placed before (subst (λ p. Puts contents now new (text p)) (sym at) next)
+
+-- all places
+pub all_placed : {X : Type 0} (xs : List X) (i : ℕ) → length xs ≤ i → take i (enumerate_from 0 xs) ≡ enumerate_from 0 xs
+all_placed xs i all = take_all i (enumerate_from 0 xs) (subst (λ n. n ≤ i) (sym (length-enumerate_from 0 xs)) all)
 
 all-append : (p : ℕ → Bool) (xs : List ℕ) (y : ℕ) → list_all p (xs ++ y ∷ []) ≡ (list_all p xs && p y)
 all-append p [] y = and-true (p y)

@@ -1,5 +1,5 @@
 -- Whole reports: the writer receives all that was put in, and words with equal mappings have equal reports.
-use Rattle.std.proofs.Common.{◌≡◌, ◌∙◌, ◌%◌, ◌++◌, ℕ, Bool, false, List, [], Option, None, Some, String, IfSome, IfOk, IfErr, Result, Ok, Err, is_some, filter, inl, refl, sym, ap, subst, append-nil}
+use Rattle.std.proofs.Common.{◌≡◌, ◌∙◌, ◌%◌, ◌++◌, ◌||◌, ℕ, Bool, true, false, List, [], Option, None, Some, String, IfSome, IfOk, IfErr, OnOk, Result, Ok, Err, is_some, filter, inl, inr, refl, sym, ap, subst, append-nil}
 use Rattle.std.proofs.KnownBytes.{Appends-trans}
 use Rattle.std.specs.Io.KnownBytes.{Appends, append_known}
 use Rattle.std.specs.List.{flat_map, list_all, list_any}
@@ -18,7 +18,7 @@ use Rattle.x86_64_model.specs.Regions.{regions_in}
 use Rattle.x86_64_mappings.specs.Wanted.{leads_to}
 use Rattle.ptdump_engine.specs.Output.{Puts, put_in}
 use Rattle.ptdump_engine.specs.Failure.{failure_of}
-use Rattle.ptdump_engine.specs.Program.{Opened, Reports, ReportsOf, Runs, completeness_of, format_for, opened_for, report_of, start_for}
+use Rattle.ptdump_engine.specs.Program.{Opened, Reports, ReportsOf, RunsAs, RunsOnDump, RunsOnTables, completeness_of, dump_for, format_for, info_of, opened_for, report_of, start_for}
 use Rattle.ptdump_engine.specs.Reports.{addresses_text, find_text, found_text, pages_text, regions_text, walks_text}
 use Rattle.ptdump_engine.specs.Steps.{FailsBy, IsForced, and_then, of_dump}
 use Rattle.ptdump_engine.specs.Walks.{line, walk_text}
@@ -30,7 +30,7 @@ use Rattle.ptdump_engine.specs.declared.request.Outcome.{Outcome}
 use Rattle.ptdump_engine.specs.declared.request.Request.{Request}
 use Rattle.ptdump_engine.specs.declared.start.Start.{Start}
 use Rattle.ptdump_engine.proofs.AccessLaws.{same_asked, same_there}
-use Rattle.ptdump_engine.proofs.Failing.{dump_fails, fails_then, forced_fails}
+use Rattle.ptdump_engine.proofs.Failing.{dump_fails, dump_unread, fails_then, forced_fails, forced_first}
 use Rattle.ptdump_engine.proofs.WalkLaws.{same_walk}
 
 -- a consequence of a fact about the value of an option
@@ -64,6 +64,13 @@ puts_both contents begun now ended front back first second = record {
 }
 
 -- likewise from an output in which nothing was collected
+pub written_at_once : {W : Type 0} (contents : W → Option (List ℕ)) (begun ended : Output W (String Global)) (text : List ℕ)
+    → string_bytes begun.text ≡ [] → string_bytes ended.text ≡ [] → Puts contents begun ended text → Appends (contents begun.writer.now) (contents ended.writer.now) text
+written_at_once contents begun ended text none all puts =
+    subst (λ k. Appends k (contents ended.writer.now) text) (ap (append_known (contents begun.writer.now)) none ∙ known_alone (contents begun.writer.now))
+    (written_rest contents begun ended text all puts)
+
+-- likewise in two steps
 pub written_whole : {W : Type 0} (contents : W → Option (List ℕ)) (begun now ended : Output W (String Global)) (text : List ℕ)
     → string_bytes begun.text ≡ [] → string_bytes ended.text ≡ [] → Puts contents begun now text → Puts contents now ended []
     → Appends (contents begun.writer.now) (contents ended.writer.now) text
@@ -89,6 +96,7 @@ same_report (commands.Find addresses) L T W root same below =
 same_report commands.Check L T W root same below = refl
 same_report commands.Image L T W root same below = refl
 same_report commands.Picture L T W root same below = refl
+same_report commands.Info L T W root same below = refl
 
 pub same_completeness : (command : Command) (L : ℕ) (T W : Words) (root : ℕ) → mappings_of L T root ≡ mappings_of L W root
     → SameBelow L T W root → ((p : ℕ) → page_walk L T root p ≡ page_walk L W root p) → completeness_of command L T root ≡ completeness_of command L W root
@@ -100,6 +108,7 @@ same_completeness (commands.Find addresses) L T W root same below walks = ap (λ
 same_completeness commands.Check L T W root same below walks = refl
 same_completeness commands.Image L T W root same below walks = refl
 same_completeness commands.Picture L T W root same below walks = refl
+same_completeness commands.Info L T W root same below walks = refl
 
 -- ---- the run
 
@@ -125,6 +134,26 @@ no_start may request file dump failure contents fails =
 
 -- a run that opened what was asked for reports on it, or fails because of memory or a write
 pub runs_by : (may : Bool) (request : Request) (file : List ℕ) (before after : Option (List ℕ)) (o : Opened) (result : Result Outcome Failure) → opened_for request file ≡ Ok o
-    → IfOk result (λ outcome. ReportsOf request before after outcome o) → IfErr result (IsForced may) → Runs may request file before after result
+    → IfOk result (λ outcome. ReportsOf request before after outcome o) → IfErr result (IsForced may) → RunsOnTables may request file before after result
 runs_by may request file before after o (Ok outcome) opened reports forced = (o, opened, reports)
 runs_by may request file before after o (Err failure) opened reports forced = (forced_fails may failure (opened_for request file) forced, inl forced)
+
+-- likewise if what was asked for is about the dump alone
+pub tells_of : (a b : Bool) (request : Request) (file : List ℕ) (before after : Option (List ℕ)) (dump : Contents) (result : Result Outcome Failure)
+    → dump_for request file ≡ Ok dump → OnOk result (Appends before after (info_of request dump)) → IfOk result (λ outcome. outcome.is_complete ≡ true)
+    → IfErr result (IsForced a) → RunsOnDump (a || b) request file before after result
+tells_of a b request file before after dump (Ok outcome) opened written complete forced = (dump, opened, written, complete)
+tells_of a b request file before after dump (Err failure) opened written complete forced =
+    let either = forced_first a b failure forced in
+    (forced_fails (a || b) failure (dump_for request file) either, inl either)
+
+-- a run fails because of memory or a write, whatever was asked for
+pub forced_run : (info may : Bool) (request : Request) (file : List ℕ) (before after : Option (List ℕ)) (failure : Failure) → IsForced may failure → RunsAs info may request file before after (Err failure)
+forced_run true may request file before after failure forced = (forced_fails may failure (dump_for request file) forced, inl forced)
+forced_run false may request file before after failure forced = (forced_fails may failure (opened_for request file) forced, inl forced)
+
+-- or because the file is no dump
+pub unopened : (info may : Bool) (request : Request) (file : List ℕ) (contents : Option (List ℕ)) (error : DumpError) → Fails error (contents_as (format_for request file) file request.base)
+    → RunsAs info may request file contents contents (Err (failure_of error))
+unopened true may request file contents error fails = (dump_unread may error (contents_as (format_for request file) file request.base) fails, inr refl)
+unopened false may request file contents error fails = (no_dump may request file error fails, inr refl)

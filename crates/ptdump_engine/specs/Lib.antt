@@ -1,7 +1,10 @@
 pub mod Accesses
 pub mod Failure
+pub mod FailureTexts
+pub mod Info
 pub mod Laws
 pub mod Loaded
+pub mod MemoryRanges
 pub mod Output
 pub mod Program
 pub mod Reports

@@ -1,5 +1,5 @@
 -- The output of the program for a file, or why it fails.
-use Rattle.std.specs.Prelude.{◌≡◌, ◌⊎◌, ℕ, ◌+◌, ◌-◌, ◌^◌, ◌==◌, ◌++◌, min, codes, length, ◌&&◌, ◌||◌, nat_le, nat_lt, not, true, false, Bool, if◌then◌else◌, List, [], Option, None, Some, IfSome, is_some, option_map, Result, Ok, Err, ⊤}
+use Rattle.std.specs.Prelude.{◌≡◌, ◌⊎◌, ℕ, ◌-◌, ◌^◌, ◌==◌, ◌++◌, codes, length, ◌&&◌, ◌||◌, nat_le, nat_lt, not, true, false, Bool, if◌then◌else◌, List, [], Option, None, Some, IfSome, is_some, option_map, unwrap_or, Result, Ok, Err, ⊤}
 use Rattle.std.specs.List.{find, flat_map}
 use Rattle.std.specs.Io.KnownBytes.{Appends}
 use Rattle.x86_64_dump.specs.Dump.{Contents, is_short, words_of_dump}
@@ -12,6 +12,8 @@ use Rattle.x86_64_dump.specs.declared.segment.Segment.{Segment}
 use Rattle.x86_64_mappings.specs.Numbers.{hexadecimal}
 use Rattle.x86_64_model.specs.Memory.{Words}
 use Rattle.x86_64_model.specs.Position.{lower_half}
+use Rattle.ptdump_engine.specs.Info.{info_text}
+pub use Rattle.ptdump_engine.specs.MemoryRanges.{last_address}
 use Rattle.ptdump_engine.specs.Reports.{regions_text, pages_text, walks_text, find_text, all_arrive, all_found}
 use Rattle.ptdump_engine.specs.Start.{start_of}
 use Rattle.ptdump_engine.specs.Steps.{FailsBy, IsForced, and_then, of_dump, unless}
@@ -70,6 +72,15 @@ start_for request dump = and_then (start_of request dump) (λ start.
 abbrev pub format_for : Request → (file : List ℕ) → Format
 format_for request file = if request.is_raw then Raw else format_of file
 
+-- whether a command is about the dump alone, so that no tables are read
+abbrev pub is_info : Command → Bool
+is_info commands.Info = true
+is_info command = false
+
+-- the dump that a file is, or why it is none
+abbrev pub dump_for : Request → (file : List ℕ) → Result Contents Failure
+dump_for request file = of_dump (contents_as (format_for request file) file request.placement)
+
 -- the contents of a dump, and the start of page walks in it
 pub record Opened : Type 0 where
   pub dump : Contents
@@ -77,7 +88,7 @@ pub record Opened : Type 0 where
 
 -- what is opened for a request, or why the request or the file can't be used
 unfoldable pub opened_for : Request → (file : List ℕ) → Result Opened Failure
-opened_for request file = and_then (of_dump (contents_as (format_for request file) file request.placement)) (λ dump.
+opened_for request file = and_then (dump_for request file) (λ dump.
     and_then (start_for request dump) (λ start. Ok (record { dump = dump; start = start })))
 
 -- ---- the output
@@ -88,6 +99,7 @@ report_of commands.Regions L T root = Some (regions_text L T root)
 report_of commands.Pages L T root = Some (pages_text L T root)
 report_of (commands.Walk addresses asked) L T root = Some (walks_text L T root asked addresses.items)
 report_of (commands.Find addresses) L T root = Some (find_text L T root addresses.items)
+report_of commands.Info L T root = Some []
 report_of command L T root = None
 
 -- whether the request is fulfilled: each walk or its access arrives, each physical address is found. None for a check, which isn't
@@ -107,17 +119,32 @@ abbrev pub ReportsOf : Request → (before after : Option (List ℕ)) → Outcom
 ReportsOf request before after outcome o =
     Reports request.command (level_count o.start.levels) (words_of_dump o.dump) o.start.root before after outcome
 
--- The result and the output of a run on a file. A run that fails because of its request or its file has written nothing. It
--- fails because of a write only if its writers may refuse one.
+-- The result and the output of a run that reports on tables. It fails for its request or its file without writing anything, and
+-- for a write only if its writers may refuse one.
+abbrev pub RunsOnTables : (may_refuse : Bool) → Request → (file : List ℕ) → (before after : Option (List ℕ)) → Result Outcome Failure → Type 0
+RunsOnTables may request file before after (Ok outcome) = (o : Opened) × (opened_for request file ≡ Ok o) × ReportsOf request before after outcome o
+RunsOnTables may request file before after (Err failure) = FailsBy may failure (opened_for request file) × (IsForced may failure ⊎ (after ≡ before))
+
+-- what a dump says of its machine, and of the root that other commands take
+abbrev pub info_of : Request → Contents → List ℕ
+info_of request dump = info_text (unwrap_or request.cpu 0) dump (start_for request dump)
+
+-- the result and the output of a run that tells what a file says
+abbrev pub RunsOnDump : (may_refuse : Bool) → Request → (file : List ℕ) → (before after : Option (List ℕ)) → Result Outcome Failure → Type 0
+RunsOnDump may request file before after (Ok outcome) =
+    (dump : Contents) × (dump_for request file ≡ Ok dump) × Appends before after (info_of request dump) × (outcome.is_complete ≡ true)
+RunsOnDump may request file before after (Err failure) = FailsBy may failure (dump_for request file) × (IsForced may failure ⊎ (after ≡ before))
+
+-- either, for a command that is about the dump alone or isn't
+abbrev pub RunsAs : (info may_refuse : Bool) → Request → (file : List ℕ) → (before after : Option (List ℕ)) → Result Outcome Failure → Type 0
+RunsAs true = RunsOnDump
+RunsAs false = RunsOnTables
+
+-- the result and the output of a run on a file
 abbrev pub Runs : (may_refuse : Bool) → Request → (file : List ℕ) → (before after : Option (List ℕ)) → Result Outcome Failure → Type 0
-Runs may request file before after (Ok outcome) = (o : Opened) × (opened_for request file ≡ Ok o) × ReportsOf request before after outcome o
-Runs may request file before after (Err failure) = FailsBy may failure (opened_for request file) × (IsForced may failure ⊎ (after ≡ before))
+Runs may request = RunsAs (is_info request.command) may request
 
 -- ---- standard error, and the progress
-
--- the last address of a segment that has one: there is none above 2^64 - 1
-abbrev pub last_address : Segment → ℕ
-last_address segment = min (segment.address + (segment.size - 1)) (2 ^ 64 - 1)
 
 abbrev pub raw_range_text : (first last : ℕ) → List ℕ
 raw_range_text first last = codes "the file is read as raw memory: " ++ hexadecimal first ++ codes "-" ++ hexadecimal last
@@ -150,16 +177,28 @@ is_image command = false
 abbrev pub EndsByTotals : (L : ℕ) → Words → (root : ℕ) → (before after : Option (List ℕ)) → Type 0
 EndsByTotals L T root before after = (totals : Totals) × AreTotals L T root totals × Appends before after (line (totals_text totals))
 
--- standard error after a run: that the file is raw or short, that the root is the kernel's, and the totals
-abbrev pub Notes : Request → (file : List ℕ) → (before after : Option (List ℕ)) → Type 0
-Notes request file before after = (o : Opened) × (between : Option (List ℕ)) × (opened_for request file ≡ Ok o) × Appends before between (opening_text o.dump ++ source_text o.start.origin)
+-- standard error after a run on tables: that the file is raw or short, that the root is the kernel's, and the totals
+abbrev pub NotesOnTables : Request → (file : List ℕ) → (before after : Option (List ℕ)) → Type 0
+NotesOnTables request file before after = (o : Opened) × (between : Option (List ℕ)) × (opened_for request file ≡ Ok o) × Appends before between (opening_text o.dump ++ source_text o.start.origin)
     × EndsByTotals (level_count o.start.levels) (words_of_dump o.dump) o.start.root between after
+
+-- standard error after a run: for a command that is about the dump alone, that the file is raw or short
+abbrev pub NotesAs : (info : Bool) → Request → (file : List ℕ) → (before after : Option (List ℕ)) → Type 0
+NotesAs true request file before after = (dump : Contents) × (dump_for request file ≡ Ok dump) × Appends before after (opening_text dump)
+NotesAs false request file before after = NotesOnTables request file before after
+
+abbrev pub Notes : Request → (file : List ℕ) → (before after : Option (List ℕ)) → Type 0
+Notes request = NotesAs (is_info request.command) request
 
 -- the observer was told of each table that the root leads to, and of the end
 abbrev pub ToldOfTables : {G : Type 0} (Told : G → G → List ℕ → Type 0) (Ended : G → G → Type 0) → (L : ℕ) → Words → (root : ℕ) → (before after : G) → Type 0
 ToldOfTables {G} Told Ended L T root before after = (count : ℕ) × (between : G) × IsTableCount L T root count × Told before between (up_to count) × Ended between after
 
--- likewise for the tables of a run
-abbrev pub ToldOfRun : {G : Type 0} (Told : G → G → List ℕ → Type 0) (Ended : G → G → Type 0) → Request → (file : List ℕ) → (before after : G) → Type 0
-ToldOfRun Told Ended request file before after = (o : Opened) × (opened_for request file ≡ Ok o)
+-- likewise for the tables of a run, of which there are none if the command is about the dump alone
+abbrev pub ToldAs : {G : Type 0} (info : Bool) (Told : G → G → List ℕ → Type 0) (Ended : G → G → Type 0) → Request → (file : List ℕ) → (before after : G) → Type 0
+ToldAs true Told Ended request file before after = after ≡ before
+ToldAs false Told Ended request file before after = (o : Opened) × (opened_for request file ≡ Ok o)
     × ToldOfTables Told Ended (level_count o.start.levels) (words_of_dump o.dump) o.start.root before after
+
+abbrev pub ToldOfRun : {G : Type 0} (Told : G → G → List ℕ → Type 0) (Ended : G → G → Type 0) → Request → (file : List ℕ) → (before after : G) → Type 0
+ToldOfRun Told Ended request = ToldAs (is_info request.command) Told Ended request

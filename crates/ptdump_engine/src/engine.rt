@@ -18,6 +18,7 @@ use crate::check::write_findings;
 use crate::destination::Destination;
 use crate::failure::Failure;
 use crate::image::write_image;
+use crate::info::write_info;
 use crate::loaded::Loaded;
 use crate::opening::{open, write_opening};
 use crate::output::{Output, OutputError};
@@ -46,6 +47,7 @@ use x86_64_tables::phys_memory::IdentityMapping;
 /// A failure if the file isn't a dump, the start of page walks can't be determined, an address is invalid, or the root isn't in
 /// the dump, all before anything is written to `writer`. A walk reports a missing root itself. A failure if memory allocation,
 /// a read or a write fails.
+#[tactic(auto, using(crate::proofs::Wholly::forced_run, crate::proofs::Failing::forced_first, crate::proofs::Failing::forced_second))]
 pub fn run<S: ByteSource, W: Destination, E: Destination, G: Progress>(
     alloc: Global,
     source: S,
@@ -64,22 +66,20 @@ pub fn run<S: ByteSource, W: Destination, E: Destination, G: Progress>(
     let mut notes = Output::new(alloc, errors);
     let dump = open(alloc, source, request)?;
     write_opening(&dump, &mut notes)?;
+    if request.command.is_info() {
+        return write_info(alloc, &dump, request, writer);
+    }
     let start = start_for(alloc, &dump, request)?;
     write_source(start.origin, &mut notes)?;
-    let command = &request.command;
-    let root = start.root;
-    match start.levels {
-        Levels::Four => {
-            report::<FourLevels, S, W, E, G>(
-                alloc, &dump, root, command, writer, &mut notes, progress,
-            )
-        }
-        Levels::Five => {
-            report::<FiveLevels, S, W, E, G>(
-                alloc, &dump, root, command, writer, &mut notes, progress,
-            )
-        }
-    }
+    report_from(
+        alloc,
+        &dump,
+        &start,
+        &request.command,
+        writer,
+        &mut notes,
+        progress,
+    )
 }
 
 /// Writes immediately if the root is the kernel's own.
@@ -100,8 +100,12 @@ fn write_source<E: Destination>(
 }
 
 /// Determines the start of page walks, and tests the request.
+///
+/// # Errors
+///
+/// Why the start can't be determined, an address is invalid, or the root isn't in the dump.
 #[tactic(auto, unfolding(crate::specs::Program::start_for))]
-fn start_for<S: ByteSource>(
+pub fn start_for<S: ByteSource>(
     alloc: Global,
     dump: &Dump<S>,
     request: &Request,
@@ -118,6 +122,38 @@ fn start_for<S: ByteSource>(
         return Err(failure);
     }
     Ok(start)
+}
+
+/// Reads the tables at the start of page walks, and writes a command's report on them, and the totals.
+fn report_from<S: ByteSource, W: Destination, E: Destination, G: Progress>(
+    alloc: Global,
+    dump: &Dump<S>,
+    start: &Start,
+    command: &Command,
+    writer: &mut W,
+    notes: &mut Output<'_, E>,
+    progress: &mut G,
+) -> Result<Outcome, Failure>
+    requires { program.IsTested command.now }
+    ensures written { S.IsKnown → IfOk result (program.Reports command.now (program.level_count start.now.levels)
+        (words_of_dump (opened S.bytes dump.now)) start.now.root (W.contents writer.old) (W.contents writer.new)) }
+    ensures totals { S.IsKnown → OnOk result (program.is_image command.now ≡ false →
+        (notes.new.writer.ghost_name ≡ notes.old.writer.ghost_name)
+        × program.EndsByTotals (program.level_count start.now.levels) (words_of_dump (opened S.bytes dump.now))
+        start.now.root (put_in E.contents notes.old) (E.contents notes.new.writer.now)) }
+    ensures told { S.IsKnown → OnOk result (program.ToldOfTables G.Told G.Ended
+        (program.level_count start.now.levels) (words_of_dump (opened S.bytes dump.now)) start.now.root
+        progress.old progress.new) }
+    ensures errors { S.IsKnown → IfErr result (IsForced (W.may_refuse || E.may_refuse)) }
+{
+    match start.levels {
+        Levels::Four => report::<FourLevels, S, W, E, G>(
+            alloc, dump, start.root, command, writer, notes, progress,
+        ),
+        Levels::Five => report::<FiveLevels, S, W, E, G>(
+            alloc, dump, start.root, command, writer, notes, progress,
+        ),
+    }
 }
 
 /// Reads the tables that a root leads to, and writes a command's report on them, and the totals.
@@ -226,6 +262,7 @@ fn write_report<L: LevelCount, S: ByteSource, W: Destination, E: Destination>(
             write_picture(alloc, loaded, output)?;
             Ok(true)
         }
+        Command::Info => Ok(true),
     }
 }
 

@@ -1,5 +1,7 @@
 //! Why runs fail.
 ghost use Rattle.std.specs.Prelude.{◌≡◌};
+ghost use Rattle.std.specs.Fmt.{WritesOnOk};
+ghost use Rattle.ptdump_engine.specs.FailureTexts as texts;
 
 use crate::destination::Destination;
 use crate::mode::Mode;
@@ -60,7 +62,9 @@ pub enum Failure {
 }
 
 impl Failure {
+    ghost use Rattle.std.specs.Prelude.{is_some};
     ghost use Rattle.ptdump_engine.specs.Failure.{status_of};
+    ghost use Rattle.ptdump_engine.specs.FailureTexts.{failure_text};
 
     /// Returns the exit status: 2 for the request, 3 for the file, 4 for a failed memory allocation, 5 for a failed write.
     pub fn status(&self) -> u8
@@ -84,9 +88,28 @@ impl Failure {
             Failure::Output => 5,
         }
     }
+
+    /// Returns true if it says why no root is found in a dump.
+    pub fn is_of_start(&self) -> bool
+        ensures { result ≡ is_some (failure_text self.now) }
+    {
+        matches!(
+            self,
+            Failure::NoCr3
+                | Failure::VirtualBox
+                | Failure::NoProcessor { .. }
+                | Failure::WrongMode { .. }
+                | Failure::NoRoot { .. }
+                | Failure::Dump(Fault::NoteCut { .. } | Fault::VmCoreInfo(_))
+        )
+    }
 }
 
 impl Display for Failure {
+    ghost use Rattle.ptdump_engine.specs.FailureTexts.{failure_text};
+
+    ghost output = { failure_text };
+
     fn fmt<W: Write>(&self, f: &mut Formatter<W>) -> FmtResult {
         match self {
             Failure::NoCr3 => f.write_str(
@@ -95,14 +118,8 @@ impl Display for Failure {
             Failure::VirtualBox => f.write_str(
                 "the file is a core of VirtualBox, of which no CR3 is read: give --cr3",
             ),
-            Failure::NoProcessor { cpu, count } => write!(
-                f,
-                "no note of processor {cpu} in the file, which has {count}: give a smaller --cpu, or --cr3 and --levels"
-            ),
-            Failure::WrongMode { cpu, mode } => write!(
-                f,
-                "processor {cpu} {mode}: give another --cpu, or --cr3 and --levels to go on"
-            ),
+            Failure::NoProcessor { cpu, count } => write_no_processor(f, *cpu, *count),
+            Failure::WrongMode { cpu, mode } => write_wrong_mode(f, *cpu, *mode),
             Failure::NotCanonical { address, levels } => write_not_canonical(f, *address, *levels),
             Failure::NotPhysical { address } => write!(
                 f,
@@ -118,6 +135,27 @@ impl Display for Failure {
             Failure::Output => f.write_str("the output can't be written"),
         }
     }
+}
+
+/// Writes that the file has no note of a processor.
+#[tactic(auto, unfolding(crate::specs::FailureTexts::no_processor_text))]
+fn write_no_processor<W: Write>(f: &mut Formatter<W>, cpu: u64, count: usize) -> FmtResult
+    ensures { WritesOnOk W.write_str_gives f.old result (texts.no_processor_text cpu count) f.new }
+{
+    write!(f, "no note of processor {cpu} in the file")?;
+    write!(
+        f,
+        ", which has {count}: give a smaller --cpu, or --cr3 and --levels"
+    )
+}
+
+/// Writes that a processor isn't in 64-bit paging.
+#[tactic(auto, unfolding(crate::specs::FailureTexts::wrong_mode_text))]
+fn write_wrong_mode<W: Write>(f: &mut Formatter<W>, cpu: u64, mode: Mode) -> FmtResult
+    ensures { WritesOnOk W.write_str_gives f.old result (texts.wrong_mode_text cpu mode) f.new }
+{
+    write!(f, "processor {cpu} {mode}")?;
+    f.write_str(": give another --cpu, or --cr3 and --levels to go on")
 }
 
 /// Writes that an address isn't canonical.

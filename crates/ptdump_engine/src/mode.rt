@@ -38,6 +38,11 @@ impl Mode {
 }
 
 impl Display for Mode {
+    ghost use Rattle.std.specs.Prelude.{Some};
+    ghost use Rattle.ptdump_engine.specs.FailureTexts.{mode_told};
+
+    ghost output = { λ mode. Some (mode_told mode) };
+
     fn fmt<W: Write>(&self, f: &mut Formatter<W>) -> FmtResult {
         f.write_str(match self {
             Mode::NoPaging => "has no paging, as bit 31 of its CR0 is 0",

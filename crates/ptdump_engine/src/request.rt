@@ -1,5 +1,8 @@
 //! The request to a run, and its outcome.
 
+ghost use Rattle.std.specs.Prelude.{◌≡◌};
+ghost use Rattle.ptdump_engine.specs.Program.{is_info};
+
 use x86_64_access::{Access, Controls};
 pub use x86_64_addr::level_count::Levels;
 use x86_64_dump::Placement;
@@ -35,6 +38,17 @@ pub enum Command {
     Image,
     /// A picture of the regions and the tables.
     Picture,
+    /// What the dump says of its machine, without tables.
+    Info,
+}
+
+impl Command {
+    /// Returns true if the report is about the dump alone, so that no tables are read.
+    pub fn is_info(&self) -> bool
+        ensures { result ≡ is_info self.now }
+    {
+        matches!(self, Command::Info)
+    }
 }
 
 /// A request for a report on a dump.

@@ -180,7 +180,7 @@ fn levels_of<S: ByteSource>(
 
 /// Returns the number of levels for a CR4.
 #[tactic(auto, unfolding(x86_64_model::specs::Entry::has))]
-fn levels_by(cr4: u64) -> Levels
+pub fn levels_by(cr4: u64) -> Levels
     ensures { result ≡ starts.levels_by cr4 }
 {
     if cr4 & LA57 == LA57 {

@@ -1,6 +1,6 @@
 -- VMCOREINFO: what Linux's note of this name says of its kernel. Its descriptor is text, whose lines are KEY=VALUE.
 -- Linux, "VMCOREINFO" in the documentation of kdump.
-use Rattle.std.specs.Prelude.{ℕ, ◌+◌, ◌-◌, ◌%◌, ◌^◌, ◌==◌, ◌&&◌, Bool, not, codes, if◌then◌else◌, min, List, [], ◌∷◌, drop, length, nat_lt, Option, None, Some, option_map, slice_get, take, Result, Ok, Err}
+use Rattle.std.specs.Prelude.{ℕ, ◌+◌, ◌-◌, ◌%◌, ◌^◌, ◌++◌, ◌==◌, ◌&&◌, Bool, not, codes, if◌then◌else◌, min, List, [], ◌∷◌, drop, length, nat_lt, Option, None, Some, option_map, slice_get, take, Result, Ok, Err}
 use Rattle.std.specs.Char.{is_digit}
 use Rattle.std.specs.List.{find, list_all, slice_split}
 use Rattle.std.specs.Option.{ok_or, option_and_then, option_map_or, unwrap_or}
@@ -37,12 +37,15 @@ all_but_last (part ∷ next ∷ parts) = part ∷ all_but_last (next ∷ parts)
 abbrev pub lines_of : (text : List ℕ) → List (List ℕ)
 lines_of text = all_but_last (slice_split (λ byte. byte == 10) text)
 
--- the keys, each with `=` behind it
+abbrev pub key_name : Key → List ℕ
+key_name SwapperPgDir = codes "SYMBOL(swapper_pg_dir)"
+key_name PhysBase = codes "NUMBER(phys_base)"
+key_name FiveLevels = codes "NUMBER(pgtable_l5_enabled)"
+key_name SmeMask = codes "NUMBER(sme_mask)"
+
+-- a key with `=` behind it
 abbrev pub key_text : Key → List ℕ
-key_text SwapperPgDir = codes "SYMBOL(swapper_pg_dir)="
-key_text PhysBase = codes "NUMBER(phys_base)="
-key_text FiveLevels = codes "NUMBER(pgtable_l5_enabled)="
-key_text SmeMask = codes "NUMBER(sme_mask)="
+key_text key = key_name key ++ codes "="
 
 abbrev pub begins_with : (line prefix : List ℕ) → Bool
 begins_with line prefix = bytes_eq (take (length prefix) line) prefix

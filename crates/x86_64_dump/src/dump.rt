@@ -91,6 +91,13 @@ impl<S: ByteSource> Dump<S> {
         })
     }
 
+    /// Returns the format as which the file is read.
+    pub fn format(&self) -> Format
+        ensures { result ≡ (opened S.bytes self.now).format }
+    {
+        self.format
+    }
+
     /// Returns true if the file is raw.
     pub fn is_raw(&self) -> bool
         ensures { result ≡ is_raw (opened S.bytes self.now).format }

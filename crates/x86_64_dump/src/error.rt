@@ -1,5 +1,7 @@
 //! Why a file can't be read as a dump.
 ghost use Rattle.std.specs.Prelude.{◌≡◌};
+ghost use Rattle.std.specs.Fmt.{WritesOnOk};
+ghost use Rattle.x86_64_dump.specs.FaultTexts as texts;
 ghost use Rattle.x86_64_dump.specs.declared.error.DumpError.TheVariants as errors;
 
 use crate::formats::UnreadFormat;
@@ -151,6 +153,10 @@ pub enum DumpError {
 }
 
 impl Display for Fault {
+    ghost use Rattle.x86_64_dump.specs.FaultTexts.{fault_text};
+
+    ghost output = { fault_text };
+
     fn fmt<W: Write>(&self, f: &mut Formatter<W>) -> FmtResult {
         match self {
             Fault::Unread(format) => write!(f, "{format}"),
@@ -180,17 +186,50 @@ impl Display for Fault {
                 offset,
                 size,
                 needed,
-            } => write!(
-                f,
-                "QEMU's note at byte {offset} has {size} bytes, and the register ends at its byte {needed}, or the file ends before: give the register's value, or another processor"
-            ),
+            } => write_note_cut(f, *offset, *size, *needed),
             Fault::VmCoreInfo(fault) => write!(f, "{fault}"),
             Fault::RangeEmpty { .. } | Fault::RangeOutside { .. } | Fault::RangeTooHigh { .. } => {
                 self.write_wrong_placement(f)
             }
-            _ => self.write_wrong_field(f),
+            Fault::WrongClass { .. }
+            | Fault::WrongByteOrder { .. }
+            | Fault::WrongType { .. }
+            | Fault::WrongMachine { .. }
+            | Fault::WrongEntrySize { .. } => self.write_wrong_field(f),
+            Fault::RangeHeaderCut { .. }
+            | Fault::NoRangeHeader { .. }
+            | Fault::WrongLimeVersion { .. }
+            | Fault::RangeReversed { .. }
+            | Fault::RangeCut { .. } => self.write_wrong_range(f),
         }
     }
+}
+
+/// Writes that a note, whose descriptor of so many bytes begins at an offset, ends before a register does.
+fn write_note_cut<W: Write>(f: &mut Formatter<W>, offset: u64, size: u64, needed: u64) -> FmtResult
+    ensures { WritesOnOk W.write_str_gives f.old result (texts.note_cut_text offset size needed) f.new }
+{
+    write_note(f, offset, size)?;
+    write_needed(f, needed)
+}
+
+/// Writes where the descriptor of a note begins, and how long it is.
+#[tactic(auto, unfolding(crate::specs::FaultTexts::note_text))]
+fn write_note<W: Write>(f: &mut Formatter<W>, offset: u64, size: u64) -> FmtResult
+    ensures { WritesOnOk W.write_str_gives f.old result (texts.note_text offset size) f.new }
+{
+    write!(f, "QEMU's note at byte {offset} has {size} bytes")
+}
+
+/// Writes how long the descriptor of a note should be.
+#[tactic(auto, unfolding(crate::specs::FaultTexts::needed_text))]
+fn write_needed<W: Write>(f: &mut Formatter<W>, needed: u64) -> FmtResult
+    ensures { WritesOnOk W.write_str_gives f.old result (texts.needed_text needed) f.new }
+{
+    write!(
+        f,
+        ", and the register ends at its byte {needed}, or the file ends before: give the register's value, or another processor"
+    )
 }
 
 impl Fault {
@@ -240,7 +279,7 @@ impl Fault {
                 f,
                 "e_phentsize at byte 54 is {size}, not 56: the program headers can't be read"
             ),
-            _ => self.write_wrong_range(f),
+            _ => Ok(()),
         }
     }
 

@@ -213,6 +213,11 @@ fn levels_by(five: u64) -> Levels
 }
 
 impl Display for Key {
+    ghost use Rattle.std.specs.Prelude.{Some};
+    ghost use Rattle.x86_64_dump.specs.VmCoreInfo.{key_name};
+
+    ghost output = { λ key. Some (key_name key) };
+
     fn fmt<W: Write>(&self, f: &mut Formatter<W>) -> FmtResult {
         f.write_str(match self {
             Key::SwapperPgDir => "SYMBOL(swapper_pg_dir)",
@@ -224,6 +229,11 @@ impl Display for Key {
 }
 
 impl Display for KernelFault {
+    ghost use Rattle.std.specs.Prelude.{Some};
+    ghost use Rattle.x86_64_dump.specs.FaultTexts.{kernel_fault_text};
+
+    ghost output = { λ fault. Some (kernel_fault_text fault) };
+
     fn fmt<W: Write>(&self, f: &mut Formatter<W>) -> FmtResult {
         match self {
             KernelFault::Missing(key) => write!(

@@ -1,0 +1,33 @@
+-- Texts: why no root is found.
+use Rattle.std.specs.Prelude.{ℕ, ◌++◌, List, Option, None, Some, codes, decimal}
+use Rattle.x86_64_dump.specs.FaultTexts.{fault_text}
+use Rattle.x86_64_mappings.specs.Numbers.{hexadecimal}
+use Rattle.ptdump_engine.specs.declared.failure.Failure.{Failure}
+use Rattle.ptdump_engine.specs.declared.failure.Failure.TheVariants.{NoCr3, VirtualBox, NoProcessor, WrongMode, NoRoot, Dump}
+use Rattle.ptdump_engine.specs.declared.mode.Mode.{Mode}
+use Rattle.ptdump_engine.specs.declared.mode.Mode.TheVariants.{NoPaging, Paging32, Paging64}
+
+-- a mode of paging, and how registers say it
+abbrev pub mode_told : Mode → List ℕ
+mode_told NoPaging = codes "has no paging, as bit 31 of its CR0 is 0"
+mode_told Paging32 = codes "has 32-bit paging, as bit 5 of its CR4 is 0"
+mode_told Paging64 = codes "has 64-bit paging"
+
+unfoldable pub no_processor_text : (cpu count : ℕ) → List ℕ
+no_processor_text cpu count = codes "no note of processor " ++ decimal cpu ++ codes " in the file"
+    ++ (codes ", which has " ++ decimal count ++ codes ": give a smaller --cpu, or --cr3 and --levels")
+
+unfoldable pub wrong_mode_text : (cpu : ℕ) → Mode → List ℕ
+wrong_mode_text cpu mode = codes "processor " ++ decimal cpu ++ codes " " ++ mode_told mode
+    ++ codes ": give another --cpu, or --cr3 and --levels to go on"
+
+-- the text of a failure to find the root; None for other failures, whose texts aren't specified
+abbrev pub failure_text : Failure → Option (List ℕ)
+failure_text NoCr3 = Some (codes "no CR3 in the file: give --cr3, as QEMU's `info registers` prints it")
+failure_text VirtualBox = Some (codes "the file is a core of VirtualBox, of which no CR3 is read: give --cr3")
+failure_text (NoProcessor cpu count) = Some (no_processor_text cpu count)
+failure_text (WrongMode cpu mode) = Some (wrong_mode_text cpu mode)
+failure_text (NoRoot root) = Some (codes "the table " ++ hexadecimal root
+    ++ codes " that CR3 names is not in the dump: give another --cr3, or the --base of a raw file")
+failure_text (Dump fault) = fault_text fault
+failure_text failure = None

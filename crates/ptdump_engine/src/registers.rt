@@ -1,0 +1,99 @@
+//! The control registers of processors.
+ghost use Rattle.std.specs.Prelude.{◌≡◌, Some};
+ghost use Rattle.std.specs.Fmt.{WritesOnOk};
+ghost use Rattle.x86_64_dump.specs.Opened.{opened};
+ghost use Rattle.x86_64_dump.specs.Opening.{GivesAtOnce};
+ghost use Rattle.ptdump_engine.specs.Info as info;
+
+use crate::mode::Mode;
+use crate::start::levels_by;
+use std::fmt::{Display, Formatter, Result as FmtResult, Write};
+use x86_64_addr::level_count::Levels;
+use x86_64_dump::{ByteSource, Dump, DumpError, Note};
+use x86_64_mappings::text::write_hexadecimal;
+
+/// The control registers of a processor that say how it pages.
+#[derive(Clone, Copy, Debug, PartialEq, Eq)]
+pub struct Registers {
+    /// CR0.
+    pub cr0: u64,
+    /// CR3.
+    pub cr3: u64,
+    /// CR4.
+    pub cr4: u64,
+}
+
+impl Registers {
+    /// Reads the control registers of a processor from its note.
+    ///
+    /// # Errors
+    ///
+    /// `Fault::NoteCut` if and only if the note lacks one of them, `DumpError::Read` if the source can't be read.
+    #[tactic(auto, unfolding(crate::specs::Info::registers_of))]
+    pub fn read<S: ByteSource>(dump: &Dump<S>, note: &Note) -> Result<Registers, DumpError>
+        ensures { S.IsKnown → GivesAtOnce (λ registers. registers) result
+            (info.registers_of (opened S.bytes dump.now).file note.now) }
+    {
+        Ok(Registers {
+            cr0: dump.cr0(note)?,
+            cr3: dump.cr3(note)?,
+            cr4: dump.cr4(note)?,
+        })
+    }
+}
+
+impl Display for Registers {
+    ghost output = { λ registers. Some (info.registers_text registers) };
+
+    #[tactic(auto, unfolding(crate::specs::Info::registers_text))]
+    fn fmt<W: Write>(&self, f: &mut Formatter<W>) -> FmtResult {
+        write_values(f, *self)?;
+        f.write_str(", ")?;
+        write_paging(f, Mode::of(self.cr0, self.cr4), self.cr4)
+    }
+}
+
+/// Writes the names and the values of registers.
+#[tactic(auto, unfolding(crate::specs::Info::values_text))]
+fn write_values<W: Write>(f: &mut Formatter<W>, registers: Registers) -> FmtResult
+    ensures { WritesOnOk W.write_str_gives f.old result (info.values_text registers) f.new }
+{
+    write_register(f, "CR0", registers.cr0)?;
+    f.write_str(", ")?;
+    write_register(f, "CR3", registers.cr3)?;
+    f.write_str(", ")?;
+    write_register(f, "CR4", registers.cr4)
+}
+
+/// Writes the name and the value of a register.
+#[tactic(auto, unfolding(crate::specs::Info::register_text))]
+fn write_register<W: Write>(f: &mut Formatter<W>, name: &'static str, value: u64) -> FmtResult
+    ensures { WritesOnOk W.write_str_gives f.old result (info.register_text name.now value) f.new }
+{
+    write!(f, "{name} ")?;
+    write_hexadecimal(f, value)
+}
+
+/// Writes a mode of paging, and for 64 bits how many levels CR4 says.
+fn write_paging<W: Write>(f: &mut Formatter<W>, mode: Mode, cr4: u64) -> FmtResult
+    ensures { WritesOnOk W.write_str_gives f.old result (info.paging_text cr4 mode) f.new }
+{
+    match mode {
+        Mode::NoPaging => f.write_str("no paging"),
+        Mode::Paging32 => f.write_str("32-bit paging"),
+        Mode::Paging64 => {
+            let levels = levels_name(levels_by(cr4));
+            write!(f, "64-bit paging, {levels}")
+        }
+    }
+}
+
+/// Returns a number of levels as text.
+pub fn levels_name(levels: Levels) -> &'static str
+    ensures { result.now ≡ info.levels_text levels }
+{
+    match levels {
+        Levels::Four => "4 levels",
+        Levels::Five => "5 levels",
+    }
+}

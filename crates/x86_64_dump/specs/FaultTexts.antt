@@ -1,0 +1,33 @@
+-- Texts: why notes don't say what is needed of them.
+use Rattle.std.specs.Prelude.{ℕ, ◌++◌, List, Option, None, Some, codes, decimal}
+use Rattle.x86_64_dump.specs.VmCoreInfo.{key_name}
+use Rattle.x86_64_dump.specs.declared.error.Fault.{Fault}
+use Rattle.x86_64_dump.specs.declared.error.Fault.TheVariants as faults
+use Rattle.x86_64_dump.specs.declared.vmcoreinfo.KernelFault.{KernelFault}
+use Rattle.x86_64_dump.specs.declared.vmcoreinfo.KernelFault.TheVariants.{Missing, NoNumber, NoFrame, Encrypted}
+
+abbrev pub kernel_fault_text : KernelFault → List ℕ
+kernel_fault_text (Missing key) = codes "the note VMCOREINFO has no line " ++ key_name key ++ codes ": give --cr3"
+kernel_fault_text (NoNumber key) = codes "the note VMCOREINFO has no number below 2^64 behind " ++ key_name key ++ codes ": give --cr3"
+kernel_fault_text NoFrame =
+    codes "SYMBOL(swapper_pg_dir) - 0xffffffff80000000 + NUMBER(phys_base) of the note VMCOREINFO is no frame's address: give --cr3"
+kernel_fault_text Encrypted =
+    codes "the memory is encrypted, as NUMBER(sme_mask) of the note VMCOREINFO isn't 0: give --cr3 to go on"
+
+-- where the descriptor of a note begins, and how long it is
+unfoldable pub note_text : (offset size : ℕ) → List ℕ
+note_text offset size = codes "QEMU's note at byte " ++ decimal offset ++ codes " has " ++ decimal size ++ codes " bytes"
+
+-- how long the descriptor should be
+unfoldable pub needed_text : (needed : ℕ) → List ℕ
+needed_text needed = codes ", and the register ends at its byte " ++ decimal needed
+    ++ codes ", or the file ends before: give the register's value, or another processor"
+
+abbrev pub note_cut_text : (offset size needed : ℕ) → List ℕ
+note_cut_text offset size needed = note_text offset size ++ needed_text needed
+
+-- the text of a fault of a note; None for a file that isn't opened, whose text isn't specified
+abbrev pub fault_text : Fault → Option (List ℕ)
+fault_text (faults.NoteCut offset size needed) = Some (note_cut_text offset size needed)
+fault_text (faults.VmCoreInfo fault) = Some (kernel_fault_text fault)
+fault_text fault = None
