@@ -70,8 +70,8 @@ impl<S: ByteSource> Dump<S> {
     ///
     /// # Errors
     ///
-    /// As those of `open`, and `DumpError::Fault` if the file is raw and a range has no bytes, ends after the file, or has addresses
-    /// of 2^64 or more.
+    /// As those of `open`, where ranges are refused as a base is, and `DumpError::Fault` if the file is raw and a range has no
+    /// bytes, ends after the file, or has addresses of 2^64 or more.
     pub fn open_as(
         alloc: Global,
         source: S,

@@ -238,7 +238,7 @@ impl Fault {
         match self {
             Fault::RangeEmpty { offset, address } => write!(
                 f,
-                "the range from byte {offset} to the address 0x{address:x} has 0 bytes: give the number of its bytes"
+                "the range that begins at byte {offset}, for the address 0x{address:x}, has 0 bytes: give a greater size"
             ),
             Fault::RangeOutside {
                 offset,

@@ -11,11 +11,13 @@ use std::alloc::{AllocError, Global};
 /// Where the bytes of a raw file lie in physical memory.
 #[derive(Debug, Drop)]
 pub enum Placement {
-    /// Nobody says it. All bytes of a raw file lie one after the other from address 0 on, and a file with headers says it itself.
+    /// It isn't said. All bytes of a raw file lie one after the other from address 0 on, and the headers of other files say where
+    /// memory lies.
     Unstated,
-    /// All bytes lie one after the other from this address on.
+    /// All bytes lie one after the other from this physical address on.
     Base(u64),
-    /// The bytes of these ranges are memory, and no others. The first range that has all 4096 bytes of a frame counts.
+    /// The bytes of these ranges are memory, and no others. Ranges may overlap: the first one that has all 4096 bytes of a frame
+    /// counts.
     Ranges(Vec<RawRange>),
 }
 
