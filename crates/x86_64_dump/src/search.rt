@@ -38,8 +38,7 @@ pub fn sorted_stretches(
     segments: &[Segment],
     length: u64,
 ) -> Result<Vec<Stretch>, AllocError>
-    ensures order { IfOk result (λ stretches.
-        AreSorted stretches.items) }
+    ensures order { IfOk result (λ stretches. AreSorted stretches.items) }
     ensures offsets { IfOk result (λ stretches. (frame : ℕ) → frame < 2 ^ 52 →
         offset_at stretches.items frame ≡ frame_offset length segments.now frame) }
 {

@@ -54,8 +54,7 @@ pub fn merge(alloc: Global, front: &[Stretch], back: &[Stretch]) -> Result<Vec<S
     ensures order { IfOk result (λ merged. AreInOrder merged.items) }
     ensures merged { IfOk result (λ merged. AreMerged front.now back.now merged.items) }
 {
-    let mut merged = Vec::new(alloc);
-    merged.reserve(front.len())?;
+    let mut merged = Vec::with_capacity(alloc, front.len() + back.len())?;
     let mut front = Side {
         rest: front,
         place: None,
