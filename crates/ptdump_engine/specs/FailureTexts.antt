@@ -27,7 +27,7 @@ failure_text NoCr3 = Some (codes "no CR3 in the file: give --cr3, as QEMU's `inf
 failure_text VirtualBox = Some (codes "the file is a core of VirtualBox, of which no CR3 is read: give --cr3")
 failure_text (NoProcessor cpu count) = Some (no_processor_text cpu count)
 failure_text (WrongMode cpu mode) = Some (wrong_mode_text cpu mode)
-failure_text (NoRoot root) = Some (codes "the table " ++ hexadecimal root
-    ++ codes " that CR3 names is not in the dump: give another --cr3, or the --base of a raw file")
+failure_text (NoRoot root) = Some (codes "the root's table " ++ hexadecimal root
+    ++ codes " is not in the dump: give another --cr3, or --base or --range for a raw file")
 failure_text (Dump fault) = fault_text fault
 failure_text failure = None
