@@ -12,9 +12,9 @@ use Rattle.ptdump_engine.proofs.engine.run.Goals as goal
 
 pub returns-in_err-dump-clause-run : goal.returns-in_err-dump-clause-run
 returns-in_err-dump-clause-run g c = λ known.
-    let is : c.from_residual.result ≡ Err (failure_of c.in_err-dump.field-0) = search rules in
+    let is : c.from_residual.result ≡ Err (failure_of c.in_err-dump.field-0.0) = search rules in
     rw is (unopened (is_info c.args.request.now.command) (g.W.Destination.may_refuse || g.E.Destination.may_refuse) c.args.request.now (g.S.ByteSource.bytes c.args.source)
-    (g.W.Destination.contents c.args.writer.now) c.in_err-dump.field-0 (c.in_err-dump.ensures known))
+    (g.W.Destination.contents c.args.writer.now) c.in_err-dump.field-0.0 (c.in_err-dump.ensures known))
 
 -- ---- a command that is about the dump alone
 
@@ -62,10 +62,10 @@ returns-in_err-start-clause-run g c = λ known.
     let may = g.W.Destination.may_refuse || g.E.Destination.may_refuse in
     let contents = g.W.Destination.contents in
     let not : is_info request.command ≡ false = sym c.is_info.ensures ∙ c.if-is_info.false in
-    let is : c.from_residual-in_err-start.result ≡ Err c.in_err-start.field-0 = search rules in
+    let is : c.from_residual-in_err-start.result ≡ Err c.in_err-start.field-0.0 = search rules in
     subst (λ info. RunsAs info may request file (contents c.args.writer.now) (contents c.args.writer.now) c.from_residual-in_err-start.result) (sym not)
     (rw is (
-      no_start may request file (opened g.S.ByteSource.bytes c.in_ok-dump.dump) c.in_err-start.field-0 (c.in_ok-dump.ensures known) (c.in_err-start.ensures.start known),
+      no_start may request file (opened g.S.ByteSource.bytes c.in_ok-dump.dump) c.in_err-start.field-0.0 (c.in_ok-dump.ensures known) (c.in_err-start.ensures.start known),
       inr refl,
     ))
 
