@@ -30,6 +30,7 @@ fn subcommand<'a>(alloc: Global, help: &CommandHelp) -> Result<Command<'a>, Erro
         .arg(file(alloc))?;
     let command = match help.operands {
         Operands::None => command,
+        Operands::Selection => with_selection(alloc, command)?,
         Operands::Addresses(text) => command.arg(addresses(alloc, text))?,
         Operands::Accesses(text) => with_access(alloc, command.arg(addresses(alloc, text))?)?,
     };
@@ -58,6 +59,18 @@ fn subcommand<'a>(alloc: Global, help: &CommandHelp) -> Result<Command<'a>, Erro
                 "Processor whose note counts, from 0 on [default: 0]",
             ))?,
     )
+}
+
+/// Adds the options of a selection to the command line of a command.
+fn with_selection<'a>(alloc: Global, command: Command<'a>) -> Result<Command<'a>, Error> {
+    let from = option(alloc, "from", "First address to list [default: the first]").value_name(
+        "ADDRESS",
+    );
+    let to = option(alloc, "to", "Last address to list [default: the last]").value_name("ADDRESS");
+    let rights = option(alloc, "rights", "Rights to list, as in wx [default: any]").value_name(
+        "RIGHTS",
+    );
+    Ok(command.arg(from)?.arg(to)?.arg(rights)?)
 }
 
 /// Adds the options of an access to the command line of a command.

@@ -13,6 +13,7 @@ mod help;
 mod numbers;
 mod progress;
 mod request;
+mod selection;
 mod stop;
 
 use clap::ArgMatches;

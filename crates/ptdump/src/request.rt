@@ -7,6 +7,7 @@ ghost use Rattle.x86_64_addr.specs.declared.level_count.Levels.{Levels};
 
 use crate::asked::access_of;
 use crate::numbers::{number_of, numbers_of, option_of};
+use crate::selection::selection_of;
 use crate::stop::Stop;
 use clap::ArgMatches;
 use ptdump_engine::{Command, Levels, Request};
@@ -53,9 +54,9 @@ fn command_of<'a>(
     ensures err { IfErr result (IsUnread (IsCommand name.now (found_of arguments.now))) }
 {
     if name == "regions" {
-        Ok(Command::Regions)
+        regions_of(arguments)
     } else if name == "pages" {
-        Ok(Command::Pages)
+        pages_of(arguments)
     } else if name == "walk" {
         walk_of(alloc, arguments)
     } else if name == "find" {
@@ -69,6 +70,23 @@ fn command_of<'a>(
     } else {
         Err(Stop::NoCommand(name))
     }
+}
+
+/// Returns the list of regions that the arguments describe.
+fn regions_of<'a>(arguments: &ArgMatches<'a>) -> Result<Command, Stop<'a>>
+    ensures ok { IfOk result (IsCommand (codes "regions") (found_of arguments.now)) }
+    ensures err { IfErr result (IsUnread (IsCommand (codes "regions") (found_of arguments.now))) }
+{
+    Ok(Command::Regions(selection_of(arguments)?))
+}
+
+/// Returns the list of mappings that the arguments describe.
+fn pages_of<'a>(arguments: &ArgMatches<'a>) -> Result<Command, Stop<'a>>
+    ensures ok { IfOk result (IsCommand (codes "pages") (found_of arguments.now)) }
+    ensures err { IfErr result (IsUnread (IsCommand (codes "pages") (found_of arguments.now))) }
+{
+    let selection = selection_of(arguments)?;
+    Ok(Command::Pages { selection })
 }
 
 /// Returns the walk that the arguments describe.

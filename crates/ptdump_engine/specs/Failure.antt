@@ -14,6 +14,7 @@ status_of (failures.NoProcessor cpu count) = 2
 status_of (failures.WrongMode cpu mode) = 2
 status_of (failures.NotCanonical address levels) = 2
 status_of (failures.NotPhysical address) = 2
+status_of (failures.FromAboveTo from to) = 2
 status_of (failures.Dump BaseGiven) = 2
 status_of (failures.Dump fault) = 3
 status_of (failures.NoRoot root) = 3

@@ -5,6 +5,7 @@ pub mod Loaded
 pub mod Output
 pub mod Program
 pub mod Reports
+pub mod Selections
 pub mod Start
 pub mod Steps
 pub mod Totals
