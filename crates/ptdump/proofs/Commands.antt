@@ -18,7 +18,7 @@ differ name a b apart is other = other_name a b apart (sym is ∙ other)
 -- the name of a command
 abbrev name_of : Command → List ℕ
 name_of (Regions selection) = codes "regions"
-name_of (Pages selection) = codes "pages"
+name_of (Pages selection names) = codes "pages"
 name_of (Walk numbers asked) = codes "walk"
 name_of (Find numbers) = codes "find"
 name_of Check = codes "check"
@@ -27,7 +27,7 @@ name_of Picture = codes "picture"
 
 named : (name : List ℕ) (found : Found) (command : Command) → IsCommand name found command → name ≡ name_of command
 named name found (Regions selection) is = is.0
-named name found (Pages selection) is = is.0
+named name found (Pages selection names) is = is.0
 named name found (Walk numbers asked) is = is.0
 named name found (Find numbers) is = is.0
 named name found Check is = is
@@ -43,7 +43,7 @@ no_regions name found regions none command is = differ name (codes "regions") (n
 -- no list of mappings can be described
 pub no_pages : (name : List ℕ) (found : Found) → name ≡ codes "pages" → ((selection : Selection) → IsSelection found selection → ⊥)
     → (command : Command) → IsCommand name found command → ⊥
-no_pages name found pages none (Pages selection) is = none selection is.1
+no_pages name found pages none (Pages selection names) is = none selection is.1
 no_pages name found pages none command is = differ name (codes "pages") (name_of command) refl pages (named name found command is)
 
 -- no walk can be described
@@ -64,7 +64,7 @@ pub no_name : (name : List ℕ) (found : Found) → bytes_eq name (codes "region
     → bytes_eq name (codes "find") ≡ false → bytes_eq name (codes "check") ≡ false → bytes_eq name (codes "image") ≡ false → bytes_eq name (codes "picture") ≡ false
     → (command : Command) → IsCommand name found command → ⊥
 no_name name found a b c d e f g (Regions selection) is = other_name name (codes "regions") a is.0
-no_name name found a b c d e f g (Pages selection) is = other_name name (codes "pages") b is.0
+no_name name found a b c d e f g (Pages selection names) is = other_name name (codes "pages") b is.0
 no_name name found a b c d e f g (Walk numbers asked) is = other_name name (codes "walk") c is.0
 no_name name found a b c d e f g (Find numbers) is = other_name name (codes "find") d is.0
 no_name name found a b c d e f g Check is = other_name name (codes "check") e is

@@ -31,6 +31,7 @@ fn subcommand<'a>(alloc: Global, help: &CommandHelp) -> Result<Command<'a>, Erro
     let command = match help.operands {
         Operands::None => command,
         Operands::Selection => with_selection(alloc, command)?,
+        Operands::Names => with_names(alloc, with_selection(alloc, command)?)?,
         Operands::Addresses(text) => command.arg(addresses(alloc, text))?,
         Operands::Accesses(text) => with_access(alloc, command.arg(addresses(alloc, text))?)?,
     };
@@ -47,12 +48,11 @@ fn subcommand<'a>(alloc: Global, help: &CommandHelp) -> Result<Command<'a>, Erro
                 "base",
                 "Address of a raw file's first byte [default: 0]",
             ))?
-            .arg(
-                Arg::new(alloc, "raw")
-                    .long("raw")
-                    .action(ArgAction::SetTrue)
-                    .help("Read the file as raw, whatever it begins with"),
-            )?
+            .arg(flag(
+                alloc,
+                "raw",
+                "Read the file as raw, whatever it begins with",
+            ))?
             .arg(option(
                 alloc,
                 "cpu",
@@ -71,6 +71,16 @@ fn with_selection<'a>(alloc: Global, command: Command<'a>) -> Result<Command<'a>
         "RIGHTS",
     );
     Ok(command.arg(from)?.arg(to)?.arg(rights)?)
+}
+
+/// Adds the option of names to the command line of a command.
+fn with_names<'a>(alloc: Global, command: Command<'a>) -> Result<Command<'a>, Error> {
+    let names = flag(
+        alloc,
+        "names",
+        "Show the names of the flags that are set, too",
+    );
+    Ok(command.arg(names)?)
 }
 
 /// Adds the options of an access to the command line of a command.
@@ -110,6 +120,14 @@ fn addresses<'a>(alloc: Global, help: &'static str) -> Arg<'a> {
         .required(true)
         .num_args(1..)
         .action(ArgAction::Append)
+        .help(help)
+}
+
+/// Returns an option without a value.
+fn flag<'a>(alloc: Global, name: &'static str, help: &'static str) -> Arg<'a> {
+    Arg::new(alloc, name)
+        .long(name)
+        .action(ArgAction::SetTrue)
         .help(help)
 }
 

@@ -7,6 +7,8 @@ pub enum Operands {
     None,
     /// The options of a selection.
     Selection,
+    /// The options of a selection, and that of names.
+    Names,
     /// Addresses, with their help text.
     Addresses(&'static str),
     /// Addresses, with their help text, and the options of an access.
@@ -108,7 +110,7 @@ Examples:
     CommandHelp {
         name: "pages",
         about: "List all mappings, page by page",
-        operands: Operands::Selection,
+        operands: Operands::Names,
         more: "\
 Each line is START SIZE FRAME RIGHTS FLAGS: the page's first address, its size,
 the physical address to which it leads, what may be done there (r read, w write,
@@ -118,8 +120,19 @@ the page's own entry, bits 0 to 11 and 52 to 63.
 --from and --to list only pages that reach into these addresses, the last one
 included; --rights only those with at least these of the letters r, w, x and u.
 
+--names adds the names of the flags that are set: P (present), W (writable), U
+(user), A (accessed), D (dirty), G (global), PS (large page), NX (no execute),
+PWT, PCD and PAT (kind of memory), KEY=5 (protection key, if it isn't 0), and
+SW=0x200 (the bits 9 to 11 and 52 to 58, which are software's). PAT is shown for
+4KiB pages alone, since bit 12, where larger ones have it, isn't in this list.
+
 Examples:
 
+  $ ptdump pages machine.elf --names --from 0x405000 --to 0x10000000
+  0x405000 4KiB 0x204000 rw-u 0x8000000000000067 P,W,U,A,D,NX
+  0x406000 4KiB 0x207000 rw-u 0x8000000000000007 P,W,U,NX
+  0x10000000 2MiB 0x400000 rw-u 0x8000000000000087 P,W,U,PS,NX
+  tables 13, mappings 18, mapped 1054776KiB
   $ ptdump pages machine.elf --from 0x402fff --to 0x10200000 --rights wu
   0x405000 4KiB 0x204000 rw-u 0x8000000000000067
   0x406000 4KiB 0x207000 rw-u 0x8000000000000007

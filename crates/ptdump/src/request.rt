@@ -2,7 +2,8 @@
 ghost use Rattle.std.specs.Prelude.{Option, IfOk, IfErr, codes};
 ghost use Rattle.std.specs.Option.{option_copied};
 ghost use Rattle.clap.specs.Matches.{found_of, one_text};
-ghost use Rattle.ptdump.specs.Requests.{AreNumbers, IsCommand, IsFlag, IsLevels, IsRequest, IsUnread, values};
+ghost use Rattle.ptdump.specs.Options.{IsFlag};
+ghost use Rattle.ptdump.specs.Requests.{AreNumbers, IsCommand, IsLevels, IsRequest, IsUnread, values};
 ghost use Rattle.x86_64_addr.specs.declared.level_count.Levels.{Levels};
 
 use crate::asked::access_of;
@@ -85,8 +86,10 @@ fn pages_of<'a>(arguments: &ArgMatches<'a>) -> Result<Command, Stop<'a>>
     ensures ok { IfOk result (IsCommand (codes "pages") (found_of arguments.now)) }
     ensures err { IfErr result (IsUnread (IsCommand (codes "pages") (found_of arguments.now))) }
 {
-    let selection = selection_of(arguments)?;
-    Ok(Command::Pages { selection })
+    Ok(Command::Pages {
+        selection: selection_of(arguments)?,
+        has_names: is_given(arguments, "names"),
+    })
 }
 
 /// Returns the walk that the arguments describe.

@@ -7,5 +7,6 @@ pub mod WalkLaws
 pub mod WalkLines
 pub mod Walking
 pub mod Wholly
+pub mod Named
 pub mod Renamed
 pub mod Counted

@@ -2,6 +2,7 @@ pub mod Accesses
 pub mod Failure
 pub mod Laws
 pub mod Loaded
+pub mod Names
 pub mod Output
 pub mod Program
 pub mod Reports

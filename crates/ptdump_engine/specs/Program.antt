@@ -63,7 +63,7 @@ argument_failure levels (commands.Walk addresses asked) =
     option_map (λ a. failures.NotCanonical a levels) (find (λ a. not (is_canonical (level_count levels) a)) addresses.items)
 argument_failure levels (commands.Find addresses) = option_map (λ a. failures.NotPhysical a) (find (λ a. nat_le (2 ^ 52) a) addresses.items)
 argument_failure levels (commands.Regions selection) = selection_failure levels selection
-argument_failure levels (commands.Pages selection) = selection_failure levels selection
+argument_failure levels (commands.Pages selection has_names) = selection_failure levels selection
 argument_failure levels command = None
 
 -- the physical addresses of a search are below 2^52
@@ -104,7 +104,7 @@ opened_for request file = and_then (of_dump (contents_as (format_for request fil
 -- the report of a command, or None if it isn't specified here
 abbrev pub report_of : Command → (L : ℕ) → Words → (root : ℕ) → Option (List ℕ)
 report_of (commands.Regions selection) L T root = Some (regions_text selection L T root)
-report_of (commands.Pages selection) L T root = Some (pages_text selection L T root)
+report_of (commands.Pages selection has_names) L T root = Some (pages_text selection has_names L T root)
 report_of (commands.Walk addresses asked) L T root = Some (walks_text L T root asked addresses.items)
 report_of (commands.Find addresses) L T root = Some (find_text L T root addresses.items)
 report_of command L T root = None

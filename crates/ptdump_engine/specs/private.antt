@@ -1,5 +1,7 @@
 pub mod Asked
 pub mod Finding
+pub mod Flags
+pub mod Naming
 pub mod Passed
 pub mod Passing
 pub mod Puts

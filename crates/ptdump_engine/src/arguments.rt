@@ -28,7 +28,7 @@ pub fn argument_failure(command: &Command, levels: Levels) -> Option<Failure>
             let address = first_not_physical(addresses)?;
             Some(Failure::NotPhysical { address })
         }
-        Command::Regions(selection) | Command::Pages { selection } => {
+        Command::Regions(selection) | Command::Pages { selection, .. } => {
             selection_failure(*selection, levels)
         }
         _ => None,

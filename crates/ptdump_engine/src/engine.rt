@@ -211,8 +211,11 @@ fn write_report<L: LevelCount, S: ByteSource, W: Destination, E: Destination>(
             write_regions(loaded, *selection, output)?;
             Ok(true)
         }
-        Command::Pages { selection } => {
-            write_pages(loaded, *selection, output)?;
+        Command::Pages {
+            selection,
+            has_names,
+        } => {
+            write_pages(loaded, *selection, *has_names, output)?;
             Ok(true)
         }
         Command::Walk { addresses, access } => Ok(write_walks(loaded, addresses, *access, output)?),

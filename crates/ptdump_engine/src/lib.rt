@@ -14,6 +14,8 @@ mod image;
 mod lines;
 mod loaded;
 mod mode;
+mod names;
+mod naming;
 mod opening;
 mod output;
 mod picture;

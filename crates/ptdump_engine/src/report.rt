@@ -14,6 +14,7 @@ use crate::access_line::write_access;
 use crate::destination::Destination;
 use crate::finder::{Finder, FoundLines};
 use crate::loaded::Loaded;
+use crate::naming::visit_named_mappings;
 use crate::output::{Output, OutputError};
 use crate::request::{ProcessorAccess, Selection};
 use crate::selected::{visit_selected_mappings, visit_selected_regions};
@@ -42,7 +43,7 @@ pub fn write_regions<L: LevelCount, W: Destination>(
     visit_selected_regions::<L, Output<'_, W>>(loaded.summaries, loaded.root, selection, output)
 }
 
-/// Writes a line for each mapping that is selected.
+/// Writes a line for each mapping that is selected, with the names of its flags if they are asked for.
 ///
 /// # Errors
 ///
@@ -51,13 +52,23 @@ pub fn write_regions<L: LevelCount, W: Destination>(
 pub fn write_pages<L: LevelCount, W: Destination>(
     loaded: &Loaded<'_, L>,
     selection: Selection,
+    has_names: bool,
     output: &mut Output<'_, W>,
 ) -> Result<(), OutputError<W>>
     requires { IsLoaded loaded.now }
     ensures { OnOk result (Puts W.contents output.old output.new
-        (reports.pages_text selection L.LEVELS (words_loaded loaded.now) loaded.now.root)) }
+        (reports.pages_text selection has_names L.LEVELS (words_loaded loaded.now) loaded.now.root)) }
 {
-    visit_selected_mappings::<L, Output<'_, W>>(loaded.summaries, loaded.root, selection, output)
+    if has_names {
+        visit_named_mappings::<L, Output<'_, W>>(loaded.summaries, loaded.root, selection, output)
+    } else {
+        visit_selected_mappings::<L, Output<'_, W>>(
+            loaded.summaries,
+            loaded.root,
+            selection,
+            output,
+        )
+    }
 }
 
 /// Writes the walks to addresses, and what a processor does with an access there, if one is asked for. Returns true if each

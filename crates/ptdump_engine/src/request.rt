@@ -42,6 +42,8 @@ pub enum Command {
     Pages {
         /// Which of them.
         selection: Selection,
+        /// Whether the names of their flags are listed too.
+        has_names: bool,
     },
     /// The walks to virtual addresses.
     Walk {

@@ -35,6 +35,7 @@ impl Word {
             Word::Regions => Command::Regions(Selection::ALL),
             Word::Pages => Command::Pages {
                 selection: Selection::ALL,
+                has_names: false,
             },
             Word::Walk => Command::Walk {
                 addresses: Vec::from_slice(alloc, &[0, 0x2abc])?,

@@ -4,9 +4,9 @@ use Rattle.ptdump.specs.Requests.{IsCommand, IsUnread}
 use Rattle.ptdump.proofs.Commands.{no_pages}
 use Rattle.ptdump.proofs.request.pages_of.Goals as goal
 
-pub returns-in_err-selection-clause-err : goal.returns-in_err-selection-clause-err
-returns-in_err-selection-clause-err c =
+pub returns-in_err-selection_of-clause-err : goal.returns-in_err-selection_of-clause-err
+returns-in_err-selection_of-clause-err c =
     let found = found_of c.args.arguments.now in
-    let unread : IsUnread (IsCommand (codes "pages") found) c.in_err-selection.field-0.0 =
-    inr (no_pages (codes "pages") found refl (λ selection is. c.in_err-selection.ensures.err selection is)) in
+    let unread : IsUnread (IsCommand (codes "pages") found) c.in_err-selection_of.field-0.0 =
+    inr (no_pages (codes "pages") found refl (λ selection is. c.in_err-selection_of.ensures.err selection is)) in
     search (rules, unread)
