@@ -4,7 +4,9 @@ use Rattle.clap.specs.declared.parser.matches.Found.{Found}
 use Rattle.ptdump_engine.specs.declared.request.Command.{Command}
 use Rattle.ptdump_engine.specs.declared.request.Command.TheVariants.{Regions, Pages, Walk, Find, Check, Image, Picture, Info}
 use Rattle.ptdump_engine.specs.declared.request.ProcessorAccess.{ProcessorAccess}
+use Rattle.ptdump_engine.specs.declared.request.Selection.{Selection}
 use Rattle.ptdump.specs.Asked.{IsAccess}
+use Rattle.ptdump.specs.Selections.{IsSelection}
 use Rattle.ptdump.specs.Requests.{AreNumbers, IsCommand, IsUnread, values}
 use Rattle.ptdump.specs.declared.stop.Stop.{Stop}
 use Rattle.ptdump.proofs.Names.{other_name, same_name}
@@ -13,37 +15,58 @@ use Rattle.std.specs.Str.{bytes_eq}
 differ : (name a b : List ℕ) → bytes_eq a b ≡ false → name ≡ a → name ≡ b → ⊥
 differ name a b apart is other = other_name a b apart (sym is ∙ other)
 
+-- the name of a command
+abbrev name_of : Command → List ℕ
+name_of (Regions selection) = codes "regions"
+name_of (Pages selection names) = codes "pages"
+name_of (Walk numbers asked) = codes "walk"
+name_of (Find numbers) = codes "find"
+name_of Check = codes "check"
+name_of Image = codes "image"
+name_of Picture = codes "picture"
+name_of Info = codes "info"
+
+named : (name : List ℕ) (found : Found) (command : Command) → IsCommand name found command → name ≡ name_of command
+named name found (Regions selection) is = is.0
+named name found (Pages selection names) is = is.0
+named name found (Walk numbers asked) is = is.0
+named name found (Find numbers) is = is.0
+named name found Check is = is
+named name found Image is = is
+named name found Picture is = is
+named name found Info is = is
+
+-- no list of regions can be described
+pub no_regions : (name : List ℕ) (found : Found) → name ≡ codes "regions" → ((selection : Selection) → IsSelection found selection → ⊥)
+    → (command : Command) → IsCommand name found command → ⊥
+no_regions name found regions none (Regions selection) is = none selection is.1
+no_regions name found regions none command is = differ name (codes "regions") (name_of command) refl regions (named name found command is)
+
+-- no list of mappings can be described
+pub no_pages : (name : List ℕ) (found : Found) → name ≡ codes "pages" → ((selection : Selection) → IsSelection found selection → ⊥)
+    → (command : Command) → IsCommand name found command → ⊥
+no_pages name found pages none (Pages selection names) is = none selection is.1
+no_pages name found pages none command is = differ name (codes "pages") (name_of command) refl pages (named name found command is)
+
 -- no walk can be described
 pub no_walk : (name : List ℕ) (found : Found) → name ≡ codes "walk"
     → ((numbers : List ℕ) → (asked : Option ProcessorAccess) → AreNumbers (values found (codes "addresses")) numbers → IsAccess found asked → ⊥)
     → (command : Command) → IsCommand name found command → ⊥
-no_walk name found walk none Regions is = differ name (codes "walk") (codes "regions") refl walk is
-no_walk name found walk none Pages is = differ name (codes "walk") (codes "pages") refl walk is
 no_walk name found walk none (Walk numbers asked) is = none numbers.items asked is.1 is.2
-no_walk name found walk none (Find numbers) is = differ name (codes "walk") (codes "find") refl walk is.0
-no_walk name found walk none Check is = differ name (codes "walk") (codes "check") refl walk is
-no_walk name found walk none Image is = differ name (codes "walk") (codes "image") refl walk is
-no_walk name found walk none Picture is = differ name (codes "walk") (codes "picture") refl walk is
-no_walk name found walk none Info is = differ name (codes "walk") (codes "info") refl walk is
+no_walk name found walk none command is = differ name (codes "walk") (name_of command) refl walk (named name found command is)
 
 -- no search can be described
 pub no_find : (name : List ℕ) (found : Found) → name ≡ codes "find" → ((numbers : List ℕ) → AreNumbers (values found (codes "addresses")) numbers → ⊥)
     → (command : Command) → IsCommand name found command → ⊥
-no_find name found find none Regions is = differ name (codes "find") (codes "regions") refl find is
-no_find name found find none Pages is = differ name (codes "find") (codes "pages") refl find is
-no_find name found find none (Walk numbers asked) is = differ name (codes "find") (codes "walk") refl find is.0
 no_find name found find none (Find numbers) is = none numbers.items is.1
-no_find name found find none Check is = differ name (codes "find") (codes "check") refl find is
-no_find name found find none Image is = differ name (codes "find") (codes "image") refl find is
-no_find name found find none Picture is = differ name (codes "find") (codes "picture") refl find is
-no_find name found find none Info is = differ name (codes "find") (codes "info") refl find is
+no_find name found find none command is = differ name (codes "find") (name_of command) refl find (named name found command is)
 
 -- no command has the name
 pub no_name : (name : List ℕ) (found : Found) → bytes_eq name (codes "regions") ≡ false → bytes_eq name (codes "pages") ≡ false → bytes_eq name (codes "walk") ≡ false
     → bytes_eq name (codes "find") ≡ false → bytes_eq name (codes "check") ≡ false → bytes_eq name (codes "image") ≡ false → bytes_eq name (codes "picture") ≡ false
     → bytes_eq name (codes "info") ≡ false → (command : Command) → IsCommand name found command → ⊥
-no_name name found a b c d e f g h Regions is = other_name name (codes "regions") a is
-no_name name found a b c d e f g h Pages is = other_name name (codes "pages") b is
+no_name name found a b c d e f g h (Regions selection) is = other_name name (codes "regions") a is.0
+no_name name found a b c d e f g h (Pages selection names) is = other_name name (codes "pages") b is.0
 no_name name found a b c d e f g h (Walk numbers asked) is = other_name name (codes "walk") c is.0
 no_name name found a b c d e f g h (Find numbers) is = other_name name (codes "find") d is.0
 no_name name found a b c d e f g h Check is = other_name name (codes "check") e is

@@ -1,4 +1,5 @@
 pub mod Commands
+pub mod Letters
 pub mod Names
 mod NumberTexts
 mod RangeTexts

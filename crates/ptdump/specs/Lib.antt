@@ -1,4 +1,6 @@
 pub mod Asked
 pub mod Exit
+pub mod Options
 pub mod Placements
 pub mod Requests
+pub mod Selections

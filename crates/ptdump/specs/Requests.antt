@@ -9,7 +9,9 @@ use Rattle.x86_64_addr.specs.declared.level_count.Levels.TheVariants.{Four, Five
 use Rattle.ptdump_engine.specs.declared.request.Request.{Request}
 use Rattle.ptdump_engine.specs.declared.failure.Failure.TheVariants.{OutOfMemory}
 use Rattle.ptdump.specs.Asked.{IsAccess}
+use Rattle.ptdump.specs.Options.{IsFlag, IsOption}
 use Rattle.ptdump.specs.Placements.{IsPlacement}
+use Rattle.ptdump.specs.Selections.{IsSelection}
 use Rattle.ptdump.specs.declared.stop.Stop.{Stop}
 use Rattle.ptdump.specs.declared.stop.Stop.TheVariants.{Failed}
 use Rattle.x86_64_mappings.specs.Numbers.{IsNumber, number_of}
@@ -24,8 +26,8 @@ values found name = unwrap_or (option_map raw_values (matched_of found name)) []
 
 -- the command has this name, and what it takes from these arguments
 abbrev pub IsCommand : (name : List ℕ) → Found → Command → Type 0
-IsCommand name found Regions = name ≡ codes "regions"
-IsCommand name found Pages = name ≡ codes "pages"
+IsCommand name found (Regions selection) = (name ≡ codes "regions") × IsSelection found selection
+IsCommand name found (Pages selection names) = (name ≡ codes "pages") × IsSelection found selection × IsFlag (one_text found (codes "names")) names
 IsCommand name found (Walk numbers asked) = (name ≡ codes "walk") × AreNumbers (values found (codes "addresses")) numbers.items × IsAccess found asked
 IsCommand name found (Find numbers) = (name ≡ codes "find") × AreNumbers (values found (codes "addresses")) numbers.items
 IsCommand name found Check = name ≡ codes "check"
@@ -33,23 +35,13 @@ IsCommand name found Image = name ≡ codes "image"
 IsCommand name found Picture = name ≡ codes "picture"
 IsCommand name found Info = name ≡ codes "info"
 
--- an option is None if its text is missing, and is the number of its text otherwise
-abbrev pub IsOption : (text : Option (List ℕ)) → Option ℕ → Type 0
-IsOption None number = number ≡ None
-IsOption (Some text) number = IsNumber text × (number ≡ Some (number_of text))
-
 abbrev pub count : Levels → ℕ
 count Four = 4
 count Five = 5
 
--- likewise for the number of levels
+-- the number of levels is None if its text is missing, and is the number of its text otherwise
 abbrev pub IsLevels : (text : Option (List ℕ)) → Option Levels → Type 0
 IsLevels text levels = IsOption text (option_map count levels)
-
--- a flag is true if its text is "true", as where it is given, and false if its text is "false" or is missing
-abbrev pub IsFlag : (text : Option (List ℕ)) → Bool → Type 0
-IsFlag None flag = flag ≡ false
-IsFlag (Some text) flag = (text ≡ codes "true" → flag ≡ true) × (text ≡ codes "false" → flag ≡ false)
 
 -- the request is that of the command with this name and these arguments
 pub record IsRequest (name : List ℕ) (found : Found) (request : Request) : Type 0 where

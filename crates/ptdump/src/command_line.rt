@@ -30,6 +30,8 @@ fn subcommand<'a>(alloc: Global, help: &CommandHelp) -> Result<Command<'a>, Erro
         .arg(file(alloc))?;
     let command = match help.operands {
         Operands::None => command,
+        Operands::Selection => with_selection(alloc, command)?,
+        Operands::Names => with_names(alloc, with_selection(alloc, command)?)?,
         Operands::Addresses(text) => command.arg(addresses(alloc, text))?,
         Operands::Accesses(text) => with_access(alloc, command.arg(addresses(alloc, text))?)?,
     };
@@ -55,18 +57,39 @@ fn subcommand<'a>(alloc: Global, help: &CommandHelp) -> Result<Command<'a>, Erro
                 .value_name("RANGE")
                 .action(ArgAction::Append),
             )?
-            .arg(
-                Arg::new(alloc, "raw")
-                    .long("raw")
-                    .action(ArgAction::SetTrue)
-                    .help("Read the file as raw, whatever it begins with"),
-            )?
+            .arg(flag(
+                alloc,
+                "raw",
+                "Read the file as raw, whatever it begins with",
+            ))?
             .arg(option(
                 alloc,
                 "cpu",
                 "Processor whose note counts, from 0 on [default: 0]",
             ))?,
     )
+}
+
+/// Adds the options of a selection to the command line of a command.
+fn with_selection<'a>(alloc: Global, command: Command<'a>) -> Result<Command<'a>, Error> {
+    let from = option(alloc, "from", "First address to list [default: the first]").value_name(
+        "ADDRESS",
+    );
+    let to = option(alloc, "to", "Last address to list [default: the last]").value_name("ADDRESS");
+    let rights = option(alloc, "rights", "Rights to list, as in wx [default: any]").value_name(
+        "RIGHTS",
+    );
+    Ok(command.arg(from)?.arg(to)?.arg(rights)?)
+}
+
+/// Adds the option of names to the command line of a command.
+fn with_names<'a>(alloc: Global, command: Command<'a>) -> Result<Command<'a>, Error> {
+    let names = flag(
+        alloc,
+        "names",
+        "Show the names of the flags that are set, too",
+    );
+    Ok(command.arg(names)?)
 }
 
 /// Adds the options of an access to the command line of a command.
@@ -106,6 +129,14 @@ fn addresses<'a>(alloc: Global, help: &'static str) -> Arg<'a> {
         .required(true)
         .num_args(1..)
         .action(ArgAction::Append)
+        .help(help)
+}
+
+/// Returns an option without a value.
+fn flag<'a>(alloc: Global, name: &'static str, help: &'static str) -> Arg<'a> {
+    Arg::new(alloc, name)
+        .long(name)
+        .action(ArgAction::SetTrue)
         .help(help)
 }
 

@@ -5,6 +5,10 @@
 pub enum Operands {
     /// No arguments.
     None,
+    /// The options of a selection.
+    Selection,
+    /// The options of a selection, and that of names.
+    Names,
     /// Addresses, with their help text.
     Addresses(&'static str),
     /// Addresses, with their help text, and the options of an access.
@@ -76,14 +80,23 @@ pub static COMMANDS: [CommandHelp; 8] = [
     CommandHelp {
         name: "regions",
         about: "List what is mapped, region by region",
-        operands: Operands::None,
+        operands: Operands::Selection,
         more: "\
 A region is as long as addresses go on without a gap and with the same rights.
 Each line is FIRST-LAST SIZE RIGHTS: its first and last address, how long it is,
 and what may be done there: r read, w write, x execute, u by user code.
 
-Example:
+--from and --to list only regions that reach into these addresses, the last one
+included, as they are; --rights only those with at least these of the letters
+r, w, x and u. The last line counts all that is mapped.
 
+Examples:
+
+  $ ptdump regions machine.elf --from 0x402000 --to 0x405000
+  0x400000-0x402fff 12KiB r-xu
+  0x403000-0x403fff 4KiB r--u
+  0x405000-0x406fff 8KiB rw-u
+  tables 13, mappings 18, mapped 1054776KiB
   $ ptdump regions machine.elf
   0x0-0x1fffff 2MiB rwx-
   0x400000-0x402fff 12KiB r-xu
@@ -101,15 +114,35 @@ Example:
     CommandHelp {
         name: "pages",
         about: "List all mappings, page by page",
-        operands: Operands::None,
+        operands: Operands::Names,
         more: "\
 Each line is START SIZE FRAME RIGHTS FLAGS: the page's first address, its size,
 the physical address to which it leads, what may be done there (r read, w write,
 x execute, u by user code; what all entries on the way allow), and the flags of
 the page's own entry, bits 0 to 11 and 52 to 63.
 
-Example:
+--from and --to list only pages that reach into these addresses, the last one
+included; --rights only those with at least these of the letters r, w, x and u.
 
+--names adds the names of the flags that are set: P (present), W (writable), U
+(user), A (accessed), D (dirty), G (global), PS (large page), NX (no execute),
+PWT, PCD and PAT (kind of memory), KEY=5 (protection key, if it isn't 0), and
+SW=0x200 (the bits 9 to 11 and 52 to 58, which are software's). PAT is shown for
+4KiB pages alone, since bit 12, where larger ones have it, isn't in this list.
+
+Examples:
+
+  $ ptdump pages machine.elf --names --from 0x405000 --to 0x10000000
+  0x405000 4KiB 0x204000 rw-u 0x8000000000000067 P,W,U,A,D,NX
+  0x406000 4KiB 0x207000 rw-u 0x8000000000000007 P,W,U,NX
+  0x10000000 2MiB 0x400000 rw-u 0x8000000000000087 P,W,U,PS,NX
+  tables 13, mappings 18, mapped 1054776KiB
+  $ ptdump pages machine.elf --from 0x402fff --to 0x10200000 --rights wu
+  0x405000 4KiB 0x204000 rw-u 0x8000000000000067
+  0x406000 4KiB 0x207000 rw-u 0x8000000000000007
+  0x10000000 2MiB 0x400000 rw-u 0x8000000000000087
+  0x10200000 2MiB 0x600000 rw-u 0x8000000000000087
+  tables 13, mappings 18, mapped 1054776KiB
   $ ptdump pages machine.elf
   0x0 2MiB 0x0 rwx- 0xa3
   0x400000 4KiB 0x200000 r-xu 0x5

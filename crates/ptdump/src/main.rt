@@ -14,6 +14,7 @@ mod numbers;
 mod placement;
 mod progress;
 mod request;
+mod selection;
 mod stop;
 
 use clap::ArgMatches;

@@ -3,7 +3,8 @@ ghost use Rattle.std.specs.Prelude.{ℕ, Option, IfOk, IfErr, map};
 ghost use Rattle.std.specs.Option.{option_copied};
 ghost use Rattle.std.specs.Result.{OkIff};
 ghost use Rattle.x86_64_mappings.specs.Numbers.{IsNumber, number_of};
-ghost use Rattle.ptdump.specs.Requests.{AreNumbers, IsOption, IsUnread};
+ghost use Rattle.ptdump.specs.Options.{IsOption};
+ghost use Rattle.ptdump.specs.Requests.{AreNumbers, IsUnread};
 
 use crate::stop::Stop;
 use std::alloc::Global;

@@ -2,12 +2,14 @@
 ghost use Rattle.std.specs.Prelude.{Option, IfOk, IfErr, codes};
 ghost use Rattle.std.specs.Option.{option_copied};
 ghost use Rattle.clap.specs.Matches.{found_of, one_text};
-ghost use Rattle.ptdump.specs.Requests.{AreNumbers, IsCommand, IsFlag, IsLevels, IsRequest, IsUnread, values};
+ghost use Rattle.ptdump.specs.Options.{IsFlag};
+ghost use Rattle.ptdump.specs.Requests.{AreNumbers, IsCommand, IsLevels, IsRequest, IsUnread, values};
 ghost use Rattle.x86_64_addr.specs.declared.level_count.Levels.{Levels};
 
 use crate::asked::access_of;
 use crate::numbers::{number_of, numbers_of, option_of};
 use crate::placement::placement_of;
+use crate::selection::selection_of;
 use crate::stop::Stop;
 use clap::ArgMatches;
 use ptdump_engine::{Command, Levels, Request};
@@ -54,9 +56,9 @@ fn command_of<'a>(
     ensures err { IfErr result (IsUnread (IsCommand name.now (found_of arguments.now))) }
 {
     if name == "regions" {
-        Ok(Command::Regions)
+        regions_of(arguments)
     } else if name == "pages" {
-        Ok(Command::Pages)
+        pages_of(arguments)
     } else if name == "walk" {
         walk_of(alloc, arguments)
     } else if name == "find" {
@@ -72,6 +74,25 @@ fn command_of<'a>(
     } else {
         Err(Stop::NoCommand(name))
     }
+}
+
+/// Returns the list of regions that the arguments describe.
+fn regions_of<'a>(arguments: &ArgMatches<'a>) -> Result<Command, Stop<'a>>
+    ensures ok { IfOk result (IsCommand (codes "regions") (found_of arguments.now)) }
+    ensures err { IfErr result (IsUnread (IsCommand (codes "regions") (found_of arguments.now))) }
+{
+    Ok(Command::Regions(selection_of(arguments)?))
+}
+
+/// Returns the list of mappings that the arguments describe.
+fn pages_of<'a>(arguments: &ArgMatches<'a>) -> Result<Command, Stop<'a>>
+    ensures ok { IfOk result (IsCommand (codes "pages") (found_of arguments.now)) }
+    ensures err { IfErr result (IsUnread (IsCommand (codes "pages") (found_of arguments.now))) }
+{
+    Ok(Command::Pages {
+        selection: selection_of(arguments)?,
+        has_names: is_given(arguments, "names"),
+    })
 }
 
 /// Returns the walk that the arguments describe.

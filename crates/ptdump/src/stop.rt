@@ -39,6 +39,8 @@ pub enum Stop<'a> {
     NoSetting(&'a str),
     /// No processor has this number of bits of physical addresses.
     NoPhysicalBits(&'a str),
+    /// The text isn't one of letters of rights, each once.
+    NoRights(&'a str),
     /// The file can't be opened.
     Unopened {
         /// The path of the file.
@@ -74,7 +76,8 @@ impl Stop<'_> {
             | Stop::BaseAndRanges
             | Stop::NoAccess(_)
             | Stop::NoSetting(_)
-            | Stop::NoPhysicalBits(_) => 2,
+            | Stop::NoPhysicalBits(_)
+            | Stop::NoRights(_) => 2,
             Stop::Unopened { .. } | Stop::NoLength { .. } => 3,
             Stop::Failed(failure) => failure.status(),
         }
@@ -128,6 +131,10 @@ impl Display for Stop<'_> {
             Stop::NoPhysicalBits(text) => write!(
                 f,
                 "--physical-bits {text}: give a number from 32 to 52"
+            ),
+            Stop::NoRights(text) => write!(
+                f,
+                "--rights {text}: give one or more of the letters r, w, x and u, each once, as in wx"
             ),
             Stop::Unopened { path, error } => write!(f, "{path} can't be opened: {error}"),
             Stop::NoLength { path, error } => write!(

@@ -7,6 +7,7 @@ pub mod WalkLaws
 pub mod WalkLines
 pub mod Walking
 pub mod Wholly
+pub mod Named
 pub mod Untold
 pub mod Renamed
 pub mod Counted

@@ -66,7 +66,6 @@ kernel_has_text dump = by (slice_get (notes_of VmCoreInfo dump) 0)
     of : (found : Result Kernel KernelFault) → FaultHasText (result_map_both Some faults.VmCoreInfo found)
     of (Ok kernel) = tt
     of (Err fault) = refl
-
     by : (note : Option Note) → FaultHasText (kernel_by dump.file note)
     by None = tt
     by (Some note) = of (kernel_of (text_of dump.file note))
@@ -78,7 +77,6 @@ kernel_start_text dump levels = text_then (of_dump (kernel_in dump)) (start_by d
     box : (b : Bool) → IsSome (failure_text (if b then failures.VirtualBox else failures.NoCr3))
     box true = refl
     box false = refl
-
     each : (kernel : Option Kernel) → HasText (start_by dump levels kernel)
     each (Some kernel) = tt
     each None = box (is_of_virtualbox dump)
@@ -135,8 +133,8 @@ start_text request dump = text_then (note_needed request dump) (start_with reque
 
 no_argument : (levels : Levels) (command : Command) → is_info command ≡ true → argument_failure levels command ≡ None
 no_argument levels commands.Info is = refl
-no_argument levels commands.Regions is = absurd (true≢false (sym is))
-no_argument levels commands.Pages is = absurd (true≢false (sym is))
+no_argument levels (commands.Regions selection) is = absurd (true≢false (sym is))
+no_argument levels (commands.Pages selection has_names) is = absurd (true≢false (sym is))
 no_argument levels (commands.Walk addresses asked) is = absurd (true≢false (sym is))
 no_argument levels (commands.Find addresses) is = absurd (true≢false (sym is))
 no_argument levels commands.Check is = absurd (true≢false (sym is))
@@ -169,6 +167,7 @@ shown (failures.NoProcessor cpu count) found is has = is
 shown (failures.WrongMode cpu mode) found is has = is
 shown (failures.NotCanonical address levels) found is has = is
 shown (failures.NotPhysical address) found is has = is
+shown (failures.FromAboveTo from to) found is has = is
 shown (failures.NoRoot root) found is has = is
 shown (failures.Dump fault) found is has = is
 shown (failures.Read error) found is has = is
@@ -188,6 +187,7 @@ unshown may (failures.NoProcessor cpu count) found is has none = absurd (untold 
 unshown may (failures.WrongMode cpu mode) found is has none = absurd (untold (failures.WrongMode cpu mode) found has none is)
 unshown may (failures.NotCanonical address levels) found is has none = absurd (untold (failures.NotCanonical address levels) found has none is)
 unshown may (failures.NotPhysical address) found is has none = absurd (untold (failures.NotPhysical address) found has none is)
+unshown may (failures.FromAboveTo from to) found is has none = absurd (untold (failures.FromAboveTo from to) found has none is)
 unshown may (failures.NoRoot root) found is has none = absurd (untold (failures.NoRoot root) found has none is)
 unshown may (failures.Dump fault) found is has none = absurd (untold (failures.Dump fault) found has none is)
 unshown may (failures.Read error) found is has none = absurd (untold (failures.Read error) found has none is)

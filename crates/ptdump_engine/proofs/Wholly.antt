@@ -19,7 +19,8 @@ use Rattle.x86_64_mappings.specs.Wanted.{leads_to}
 use Rattle.ptdump_engine.specs.Output.{Puts, put_in}
 use Rattle.ptdump_engine.specs.Failure.{failure_of}
 use Rattle.ptdump_engine.specs.Program.{Opened, Reports, ReportsOf, RunsAs, RunsOnDump, RunsOnTables, completeness_of, dump_for, format_for, info_of, opened_for, report_of, start_for}
-use Rattle.ptdump_engine.specs.Reports.{addresses_text, find_text, found_text, pages_text, regions_text, walks_text}
+use Rattle.ptdump_engine.specs.Reports.{addresses_text, find_text, found_text, page_text, pages_text, regions_text, walks_text}
+use Rattle.ptdump_engine.specs.Selections.{is_mapping_selected, is_selected}
 use Rattle.ptdump_engine.specs.Steps.{FailsBy, IsForced, and_then, of_dump}
 use Rattle.ptdump_engine.specs.Walks.{line, walk_text}
 use Rattle.ptdump_engine.specs.declared.failure.Failure.{Failure}
@@ -87,8 +88,8 @@ written_whole contents begun now ended text none all puts rest =
 pub same_report : (command : Command) (L : ℕ) (T W : Words) (root : ℕ) → mappings_of L T root ≡ mappings_of L W root → SameBelow L T W root
     → report_of command L T root ≡ report_of command L W root
 unfolding regions_text pages_text walks_text find_text addresses_text
-same_report commands.Regions L T W root same below = ap (λ ms. Some (flat_map (λ r. line (region_text L r)) (regions_in L ms))) same
-same_report commands.Pages L T W root same below = ap (λ ms. Some (flat_map (λ m. line (mapping_text L m)) ms)) same
+same_report (commands.Regions s) L T W root same below = ap (λ ms. Some (flat_map (λ r. line (region_text L r)) (filter (is_selected L s) (regions_in L ms)))) same
+same_report (commands.Pages s has_names) L T W root same below = ap (λ ms. Some (flat_map (λ m. line (page_text has_names L m)) (filter (is_mapping_selected L s) ms))) same
 same_report (commands.Walk addresses asked) L T W root same below =
     λ i. Some (flat_map (λ a. walk_text (same_walk T W (a % position_count L) L root below i) ++ same_asked asked L T W root (a % position_count L) below i) addresses.items)
 same_report (commands.Find addresses) L T W root same below =
@@ -100,8 +101,8 @@ same_report commands.Info L T W root same below = refl
 
 pub same_completeness : (command : Command) (L : ℕ) (T W : Words) (root : ℕ) → mappings_of L T root ≡ mappings_of L W root
     → SameBelow L T W root → ((p : ℕ) → page_walk L T root p ≡ page_walk L W root p) → completeness_of command L T root ≡ completeness_of command L W root
-same_completeness commands.Regions L T W root same below walks = refl
-same_completeness commands.Pages L T W root same below walks = refl
+same_completeness (commands.Regions s) L T W root same below walks = refl
+same_completeness (commands.Pages s has_names) L T W root same below walks = refl
 same_completeness (commands.Walk addresses asked) L T W root same below walks =
     λ i. Some (list_all (λ a. same_there asked L T W root (a % position_count L) (walks (a % position_count L)) below i) addresses.items)
 same_completeness (commands.Find addresses) L T W root same below walks = ap (λ ms. Some (list_all (λ a. list_any (leads_to a) ms) addresses.items)) same

@@ -5,9 +5,11 @@ pub mod Info
 pub mod Laws
 pub mod Loaded
 pub mod MemoryRanges
+pub mod Names
 pub mod Output
 pub mod Program
 pub mod Reports
+pub mod Selections
 pub mod Start
 pub mod Steps
 pub mod Totals

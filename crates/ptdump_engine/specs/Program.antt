@@ -1,6 +1,7 @@
 -- The output of the program for a file, or why it fails.
 use Rattle.std.specs.Prelude.{◌≡◌, ◌⊎◌, ℕ, ◌-◌, ◌^◌, ◌==◌, ◌++◌, codes, length, ◌&&◌, ◌||◌, nat_le, nat_lt, not, true, false, Bool, if◌then◌else◌, List, [], Option, None, Some, IfSome, is_some, option_map, unwrap_or, Result, Ok, Err, ⊤}
 use Rattle.std.specs.List.{find, flat_map}
+use Rattle.std.specs.Option.{option_or}
 use Rattle.std.specs.Io.KnownBytes.{Appends}
 use Rattle.x86_64_dump.specs.Dump.{Contents, is_short, words_of_dump}
 use Rattle.x86_64_dump.specs.Loaded.{IsTableCount, up_to}
@@ -27,6 +28,7 @@ use Rattle.x86_64_addr.specs.declared.level_count.Levels.{Levels}
 use Rattle.x86_64_addr.specs.declared.level_count.Levels.TheVariants.{Four, Five}
 use Rattle.ptdump_engine.specs.declared.request.Outcome.{Outcome}
 use Rattle.ptdump_engine.specs.declared.request.Request.{Request}
+use Rattle.ptdump_engine.specs.declared.request.Selection.{Selection}
 use Rattle.ptdump_engine.specs.declared.start.Origin.{Origin}
 use Rattle.ptdump_engine.specs.declared.start.Origin.TheVariants.{ByKernel}
 use Rattle.ptdump_engine.specs.declared.start.Start.{Start}
@@ -42,11 +44,28 @@ level_count Five = 5
 abbrev pub is_canonical : (L address : ℕ) → Bool
 is_canonical L a = nat_lt a (lower_half L) || (nat_le (2 ^ 64 - lower_half L) a && nat_lt a (2 ^ 64))
 
+-- an address that isn't canonical, as a failure
+abbrev pub address_failure : Levels → Option ℕ → Option Failure
+address_failure levels None = None
+address_failure levels (Some a) = if is_canonical (level_count levels) a then None else Some (failures.NotCanonical a levels)
+
+-- a first address above the last one, as a failure
+abbrev pub order_failure : (from to : Option ℕ) → Option Failure
+order_failure (Some from) (Some to) = if nat_lt to from then Some (failures.FromAboveTo from to) else None
+order_failure from to = None
+
+-- why a selection can't be used: one of its addresses isn't canonical, or the first is above the last
+abbrev pub selection_failure : Levels → Selection → Option Failure
+selection_failure levels s =
+    option_or (address_failure levels s.from) (option_or (address_failure levels s.to) (order_failure s.from s.to))
+
 -- the first invalid address of a command, as a failure
 abbrev pub argument_failure : Levels → Command → Option Failure
 argument_failure levels (commands.Walk addresses asked) =
     option_map (λ a. failures.NotCanonical a levels) (find (λ a. not (is_canonical (level_count levels) a)) addresses.items)
 argument_failure levels (commands.Find addresses) = option_map (λ a. failures.NotPhysical a) (find (λ a. nat_le (2 ^ 52) a) addresses.items)
+argument_failure levels (commands.Regions selection) = selection_failure levels selection
+argument_failure levels (commands.Pages selection has_names) = selection_failure levels selection
 argument_failure levels command = None
 
 -- the physical addresses of a search are below 2^52
@@ -95,8 +114,8 @@ opened_for request file = and_then (dump_for request file) (λ dump.
 
 -- the report of a command, or None if it isn't specified here
 abbrev pub report_of : Command → (L : ℕ) → Words → (root : ℕ) → Option (List ℕ)
-report_of commands.Regions L T root = Some (regions_text L T root)
-report_of commands.Pages L T root = Some (pages_text L T root)
+report_of (commands.Regions selection) L T root = Some (regions_text selection L T root)
+report_of (commands.Pages selection has_names) L T root = Some (pages_text selection has_names L T root)
 report_of (commands.Walk addresses asked) L T root = Some (walks_text L T root asked addresses.items)
 report_of (commands.Find addresses) L T root = Some (find_text L T root addresses.items)
 report_of commands.Info L T root = Some []

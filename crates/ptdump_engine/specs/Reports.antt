@@ -1,5 +1,5 @@
 -- Reports: the texts of the program for words, with L levels of tables below a root.
-use Rattle.std.specs.Prelude.{ℕ, ◌+◌, ◌-◌, ◌%◌, ◌++◌, Bool, List, Option, filter}
+use Rattle.std.specs.Prelude.{ℕ, ◌+◌, ◌-◌, ◌%◌, ◌++◌, Bool, true, false, List, Option, filter}
 use Rattle.std.specs.List.{flat_map, list_all, list_any}
 use Rattle.x86_64_model.specs.Mappings.{Mapping, mappings_of}
 use Rattle.x86_64_model.specs.Memory.{Words}
@@ -8,16 +8,24 @@ use Rattle.x86_64_model.specs.Regions.{regions_of}
 use Rattle.x86_64_mappings.specs.Texts.{mapping_text, region_text}
 use Rattle.x86_64_mappings.specs.Wanted.{leads_to}
 use Rattle.ptdump_engine.specs.Accesses.{asked_text, is_there}
+use Rattle.ptdump_engine.specs.Names.{named_text}
+use Rattle.ptdump_engine.specs.Selections.{is_mapping_selected, is_selected}
 use Rattle.ptdump_engine.specs.Walks.{line, rights_at_text, walk_of, walk_text}
 use Rattle.ptdump_engine.specs.declared.request.ProcessorAccess.{ProcessorAccess}
+use Rattle.ptdump_engine.specs.declared.request.Selection.{Selection}
 
--- a line for each region
-unfoldable pub regions_text : (L : ℕ) → Words → (root : ℕ) → List ℕ
-regions_text L T root = flat_map (λ r. line (region_text L r)) (regions_of L T root)
+-- a line for each region that is selected
+unfoldable pub regions_text : Selection → (L : ℕ) → Words → (root : ℕ) → List ℕ
+regions_text s L T root = flat_map (λ r. line (region_text L r)) (filter (is_selected L s) (regions_of L T root))
 
--- a line for each mapping
-unfoldable pub pages_text : (L : ℕ) → Words → (root : ℕ) → List ℕ
-pages_text L T root = flat_map (λ m. line (mapping_text L m)) (mappings_of L T root)
+-- a mapping as text, with the names of its flags if they are asked for
+abbrev pub page_text : (has_names : Bool) → (L : ℕ) → Mapping → List ℕ
+page_text true L m = named_text L m
+page_text false L m = mapping_text L m
+
+-- a line for each mapping that is selected
+unfoldable pub pages_text : Selection → (has_names : Bool) → (L : ℕ) → Words → (root : ℕ) → List ℕ
+pages_text s has_names L T root = flat_map (λ m. line (page_text has_names L m)) (filter (is_mapping_selected L s) (mappings_of L T root))
 
 -- the walk to position p, and the line of the access that is asked for
 abbrev pub walk_and_access_text : (L : ℕ) → Words → (root : ℕ) → Option ProcessorAccess → (p : ℕ) → List ℕ

@@ -1,5 +1,9 @@
 pub mod Asked
 pub mod Finding
+pub mod Flags
+pub mod Naming
+pub mod Passed
+pub mod Passing
 pub mod Puts
 pub mod Searched
 pub mod WalkLines

@@ -6,7 +6,7 @@ ghost use Rattle.x86_64_dump.specs.Opened.{opened};
 ghost use Rattle.ptdump_engine.specs.Program as program;
 
 use crate::failure::Failure;
-use crate::request::{Command, Levels};
+use crate::request::{Command, Levels, Selection};
 use x86_64_addr::addr::{VirtAddr, VirtAddr57};
 use x86_64_dump::{ByteSource, Dump};
 use x86_64_page::frame::PhysFrame;
@@ -28,6 +28,40 @@ pub fn argument_failure(command: &Command, levels: Levels) -> Option<Failure>
             let address = first_not_physical(addresses)?;
             Some(Failure::NotPhysical { address })
         }
+        Command::Regions(selection) | Command::Pages { selection, .. } => {
+            selection_failure(*selection, levels)
+        }
+        _ => None,
+    }
+}
+
+/// Returns a failure if an address of a selection isn't canonical, or the first is above the last, and `None` otherwise.
+fn selection_failure(selection: Selection, levels: Levels) -> Option<Failure>
+    ensures { result ≡ program.selection_failure levels selection }
+{
+    address_failure(selection.from, levels)
+        .or(address_failure(selection.to, levels))
+        .or(order_failure(selection.from, selection.to))
+}
+
+/// Returns a failure if there is an address, and it isn't canonical, and `None` otherwise.
+fn address_failure(address: Option<u64>, levels: Levels) -> Option<Failure>
+    ensures { result ≡ program.address_failure levels address }
+{
+    match address {
+        Some(address) if !is_canonical(address, levels) => {
+            Some(Failure::NotCanonical { address, levels })
+        }
+        _ => None,
+    }
+}
+
+/// Returns a failure if the first address is above the last, and `None` otherwise.
+fn order_failure(from: Option<u64>, to: Option<u64>) -> Option<Failure>
+    ensures { result ≡ program.order_failure from to }
+{
+    match (from, to) {
+        (Some(from), Some(to)) if to < from => Some(Failure::FromAboveTo { from, to }),
         _ => None,
     }
 }

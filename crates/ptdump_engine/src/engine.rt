@@ -243,12 +243,15 @@ fn write_report<L: LevelCount, S: ByteSource, W: Destination, E: Destination>(
     ensures errors { S.IsKnown → IfErr result (IsForced (W.may_refuse || E.may_refuse)) }
 {
     match command {
-        Command::Regions => {
-            write_regions(loaded, output)?;
+        Command::Regions(selection) => {
+            write_regions(loaded, *selection, output)?;
             Ok(true)
         }
-        Command::Pages => {
-            write_pages(loaded, output)?;
+        Command::Pages {
+            selection,
+            has_names,
+        } => {
+            write_pages(loaded, *selection, *has_names, output)?;
             Ok(true)
         }
         Command::Walk { addresses, access } => Ok(write_walks(loaded, addresses, *access, output)?),

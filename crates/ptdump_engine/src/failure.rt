@@ -34,7 +34,7 @@ pub enum Failure {
         /// Its mode.
         mode: Mode,
     },
-    /// An address to walk to isn't canonical.
+    /// An address isn't canonical.
     NotCanonical {
         /// The address.
         address: u64,
@@ -45,6 +45,13 @@ pub enum Failure {
     NotPhysical {
         /// The address.
         address: u64,
+    },
+    /// The first of the addresses to report on is above the last one.
+    FromAboveTo {
+        /// The first address.
+        from: u64,
+        /// The last address.
+        to: u64,
     },
     /// The root's table isn't in the dump.
     NoRoot {
@@ -77,6 +84,7 @@ impl Failure {
             | Failure::WrongMode { .. }
             | Failure::NotCanonical { .. }
             | Failure::NotPhysical { .. }
+            | Failure::FromAboveTo { .. }
             | Failure::Dump(
                 Fault::PlacementGiven
                 | Fault::RangeEmpty { .. }
@@ -124,6 +132,10 @@ impl Display for Failure {
             Failure::NotPhysical { address } => write!(
                 f,
                 "0x{address:x} is no physical address: give one below 0x10000000000000"
+            ),
+            Failure::FromAboveTo { from, to } => write!(
+                f,
+                "--from 0x{from:x} is above --to 0x{to:x}: give the lower address first"
             ),
             Failure::NoRoot { root } => write!(
                 f,

@@ -14,16 +14,18 @@ use crate::access_line::write_access;
 use crate::destination::Destination;
 use crate::finder::{Finder, FoundLines};
 use crate::loaded::Loaded;
+use crate::naming::visit_named_mappings;
 use crate::output::{Output, OutputError};
-use crate::request::ProcessorAccess;
+use crate::request::{ProcessorAccess, Selection};
+use crate::selected::{visit_selected_mappings, visit_selected_regions};
 use crate::walk::write_walk;
 use std::alloc::Global;
 use x86_64_addr::addr::{PhysAddr, VirtAddrIn};
 use x86_64_addr::level_count::LevelCount;
-use x86_64_mappings::{Summaries, visit_mappings, visit_regions};
+use x86_64_mappings::{Summaries, visit_mappings};
 use x86_64_tables::phys_memory::{IdentityMapping, PhysMemory};
 
-/// Writes a line for each region.
+/// Writes a line for each region that is selected.
 ///
 /// # Errors
 ///
@@ -31,20 +33,17 @@ use x86_64_tables::phys_memory::{IdentityMapping, PhysMemory};
 #[tactic(auto, unfolding(crate::specs::Reports::regions_text))]
 pub fn write_regions<L: LevelCount, W: Destination>(
     loaded: &Loaded<'_, L>,
+    selection: Selection,
     output: &mut Output<'_, W>,
 ) -> Result<(), OutputError<W>>
     requires { IsLoaded loaded.now }
     ensures { OnOk result (Puts W.contents output.old output.new
-        (reports.regions_text L.LEVELS (words_loaded loaded.now) loaded.now.root)) }
+        (reports.regions_text selection L.LEVELS (words_loaded loaded.now) loaded.now.root)) }
 {
-    visit_regions::<L, PhysMemory, IdentityMapping, Output<'_, W>>(
-        loaded.summaries,
-        loaded.root,
-        output,
-    )
+    visit_selected_regions::<L, Output<'_, W>>(loaded.summaries, loaded.root, selection, output)
 }
 
-/// Writes a line for each mapping.
+/// Writes a line for each mapping that is selected, with the names of its flags if they are asked for.
 ///
 /// # Errors
 ///
@@ -52,17 +51,24 @@ pub fn write_regions<L: LevelCount, W: Destination>(
 #[tactic(auto, unfolding(crate::specs::Reports::pages_text))]
 pub fn write_pages<L: LevelCount, W: Destination>(
     loaded: &Loaded<'_, L>,
+    selection: Selection,
+    has_names: bool,
     output: &mut Output<'_, W>,
 ) -> Result<(), OutputError<W>>
     requires { IsLoaded loaded.now }
     ensures { OnOk result (Puts W.contents output.old output.new
-        (reports.pages_text L.LEVELS (words_loaded loaded.now) loaded.now.root)) }
+        (reports.pages_text selection has_names L.LEVELS (words_loaded loaded.now) loaded.now.root)) }
 {
-    visit_mappings::<L, PhysMemory, IdentityMapping, Output<'_, W>>(
-        loaded.summaries,
-        loaded.root,
-        output,
-    )
+    if has_names {
+        visit_named_mappings::<L, Output<'_, W>>(loaded.summaries, loaded.root, selection, output)
+    } else {
+        visit_selected_mappings::<L, Output<'_, W>>(
+            loaded.summaries,
+            loaded.root,
+            selection,
+            output,
+        )
+    }
 }
 
 /// Writes the walks to addresses, and what a processor does with an access there, if one is asked for. Returns true if each

@@ -6,6 +6,7 @@ ghost use Rattle.ptdump_engine.specs.Program.{is_info};
 use x86_64_access::{Access, Controls};
 pub use x86_64_addr::level_count::Levels;
 use x86_64_dump::Placement;
+use x86_64_tables::page_table::Rights;
 
 /// An access, and what the processor that makes it is set to.
 #[derive(Clone, Copy, Debug, PartialEq, Eq)]
@@ -16,13 +17,38 @@ pub struct ProcessorAccess {
     pub controls: Controls,
 }
 
+/// Which mappings or regions to report: those that reach into the addresses from one to another, and have at least some rights.
+#[derive(Clone, Copy, Debug, PartialEq, Eq)]
+pub struct Selection {
+    /// The first of the addresses. If `None`, it is the first of all.
+    pub from: Option<u64>,
+    /// The last of the addresses. If `None`, it is the last of all.
+    pub to: Option<u64>,
+    /// The rights that each of them has, perhaps with others.
+    pub rights: Rights,
+}
+
+impl Selection {
+    /// Everything that is mapped.
+    pub const ALL: Selection = Selection {
+        from: None,
+        to: None,
+        rights: Rights::NONE,
+    };
+}
+
 /// The report to write.
 #[derive(Debug, Drop)]
 pub enum Command {
-    /// The regions.
-    Regions,
+    /// The regions that are selected.
+    Regions(Selection),
     /// The mappings.
-    Pages,
+    Pages {
+        /// Which of them.
+        selection: Selection,
+        /// Whether the names of their flags are listed too.
+        has_names: bool,
+    },
     /// The walks to virtual addresses.
     Walk {
         /// The addresses.

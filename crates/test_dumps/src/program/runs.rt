@@ -1,5 +1,5 @@
 //! Runs of the program, and how they end.
-use ptdump_engine::{Command, Destination, Failure, Outcome, Progress, Request, run};
+use ptdump_engine::{Command, Destination, Failure, Outcome, Progress, Request, Selection, run};
 use std::alloc::{AllocError, Global};
 use std::io::{self, ErrorKind, Write};
 use std::process::Abort;
@@ -32,8 +32,11 @@ impl Word {
     /// Creates the request, with addresses of the machine `MIXED` for the commands that need some, and without options.
     pub fn request(self, alloc: Global) -> Result<Request, AllocError> {
         let command = match self {
-            Word::Regions => Command::Regions,
-            Word::Pages => Command::Pages,
+            Word::Regions => Command::Regions(Selection::ALL),
+            Word::Pages => Command::Pages {
+                selection: Selection::ALL,
+                has_names: false,
+            },
             Word::Walk => Command::Walk {
                 addresses: Vec::from_slice(alloc, &[0, 0x2abc])?,
                 access: None,

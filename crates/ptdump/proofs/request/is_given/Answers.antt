@@ -1,6 +1,6 @@
 use Rattle.std.proofs.Common.{◌≡◌, ℕ, Bool, true, false, List, Option, None, Some, codes, ap, refl, sym}
 use Rattle.clap.specs.Matches.{found_of, one_text}
-use Rattle.ptdump.specs.Requests.{IsFlag}
+use Rattle.ptdump.specs.Options.{IsFlag}
 use Rattle.ptdump.proofs.request.is_given.Goals as goal
 
 flag_as : (text : Option (List ℕ)) (flag : Bool) → (text ≡ None → flag ≡ false) → (text ≡ Some (codes "true") → flag ≡ true) → (text ≡ Some (codes "false") → flag ≡ false) → IsFlag text flag

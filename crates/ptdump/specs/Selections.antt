@@ -1,0 +1,35 @@
+-- The selections that options describe.
+use Rattle.std.specs.Prelude.{◌≡◌, ℕ, ◌==◌, ◌&&◌, nat_eq, not, Bool, true, List, [], length, Option, None, Some, codes}
+use Rattle.std.specs.List.{count_by, list_all, list_any}
+use Rattle.clap.specs.Matches.{first_value}
+use Rattle.clap.specs.declared.parser.matches.Found.{Found}
+use Rattle.x86_64_model.specs.Mappings.{Rights}
+use Rattle.ptdump_engine.specs.declared.request.Selection.{Selection}
+use Rattle.ptdump.specs.Options.{IsOption}
+
+-- whether a letter is in a text
+abbrev pub has : (text : List ℕ) → (letter : ℕ) → Bool
+has text letter = list_any (λ c. nat_eq c letter) text
+
+-- whether a letter is one of r, w, x and u, and stands once in a text
+unfoldable pub is_once : (text : List ℕ) → (letter : ℕ) → Bool
+is_once text letter = has (codes "rwxu") letter && (count_by (λ c. nat_eq c letter) text == 1)
+
+-- whether a text has one or more of these letters, each once, and nothing else
+unfoldable pub are_letters : (text : List ℕ) → Bool
+are_letters text = not (length text == 0) && list_all (is_once text) text
+
+-- the rights whose letters w, u and x are in a text
+abbrev pub rights_named : (text : List ℕ) → Rights
+rights_named text = record { write = has text 0x77; user = has text 0x75; execute = has text 0x78 }
+
+-- the rights that the letters of a text name, or none if the text is missing
+abbrev pub AreRights : (text : Option (List ℕ)) → Rights → Type 0
+AreRights None rights = rights ≡ rights_named []
+AreRights (Some text) rights = (are_letters text ≡ true) × (rights ≡ rights_named text)
+
+-- the selection of --from, --to and --rights
+pub record IsSelection (found : Found) (selection : Selection) : Type 0 where
+  pub from : IsOption (first_value found (codes "from")) selection.from
+  pub to : IsOption (first_value found (codes "to")) selection.to
+  pub rights : AreRights (first_value found (codes "rights")) selection.rights

@@ -1,0 +1,42 @@
+-- Names: the flags of a mapping by the names that the processor manuals give them.
+-- Intel SDM vol. 3A, "4-Level Paging and 5-Level Paging"; AMD APM vol. 2, "Page-Translation-Table Entry Fields".
+use Rattle.std.specs.Prelude.{ℕ, ◌++◌, ◌+◌, ◌==◌, ◌/◌, ◌%◌, ◌^◌, bit_and, not, Bool, cond, if◌then◌else◌, List, [], ◌∷◌, codes, decimal, filter}
+use Rattle.std.specs.List.{join_by}
+use Rattle.x86_64_mappings.specs.Numbers.{hexadecimal}
+use Rattle.x86_64_mappings.specs.Texts.{mapping_text}
+use Rattle.x86_64_model.specs.Mappings.{Mapping}
+
+-- a flag: its bit, and its name
+pub record Flag : Type 0 where
+  pub bit : ℕ
+  pub name : List ℕ
+
+abbrev pub flag : (bit : ℕ) → (name : List ℕ) → Flag
+flag bit name = record { bit = bit; name = name }
+
+-- the flags that a page's entry may have, in the order of their names. Bit 7 of a 4KiB page's entry is PAT, and of a larger one's PS
+unfoldable pub flags_of : (is_large : Bool) → List Flag
+flags_of is_large =
+    flag 0x1 (codes "P") ∷ flag 0x2 (codes "W") ∷ flag 0x4 (codes "U") ∷ flag 0x20 (codes "A") ∷ flag 0x40 (codes "D")
+    ∷ flag 0x100 (codes "G") ∷ flag (cond is_large 0x80 0) (codes "PS") ∷ flag (2 ^ 63) (codes "NX")
+    ∷ flag 0x8 (codes "PWT") ∷ flag 0x10 (codes "PCD") ∷ flag (cond is_large 0 0x80) (codes "PAT") ∷ []
+
+-- the names of those that are set, with commas between them
+abbrev pub set_text : (word : ℕ) → List Flag → List ℕ
+set_text word flags = join_by (λ f. f.name) (codes ",") (filter (λ f. not (bit_and word f.bit == 0)) flags)
+
+-- the protection key, bits 59 to 62, if it isn't 0
+abbrev pub key_text : (word : ℕ) → List ℕ
+key_text word = let key = word / 2 ^ 59 % 16 in if key == 0 then [] else codes ",KEY=" ++ decimal key
+
+-- the bits 9 to 11 and 52 to 58, which are software's, if any is set
+abbrev pub software_text : (word : ℕ) → List ℕ
+software_text word = let bits = bit_and word 0x07f0_0000_0000_0e00 in if bits == 0 then [] else codes ",SW=" ++ hexadecimal bits
+
+-- the names of what is set in the word of a page of this size. The first is P, since a page is present
+unfoldable pub names_text : (size word : ℕ) → List ℕ
+names_text size word = set_text word (flags_of (not (size == 0x1000))) ++ key_text word ++ software_text word
+
+-- the line of a mapping with these names, without its line feed
+abbrev pub named_text : (L : ℕ) → Mapping → List ℕ
+named_text L m = mapping_text L m ++ codes " " ++ names_text m.size m.flags

@@ -1,0 +1,16 @@
+-- Flags as code represents them, and the text between the names of those that are set.
+use Rattle.std.specs.Prelude.{ℕ, ◌==◌, bit_and, not, List, [], ◌∷◌, codes, filter}
+use Rattle.ptdump_engine.specs.Names.{Flag}
+use Rattle.ptdump_engine.specs.declared.names.Flag.{Flag as Listed}
+
+abbrev pub named : Listed → Flag
+named f = record { bit = f.bit; name = f.name.now }
+
+-- the flags that are set in a word
+abbrev pub set_in : (word : ℕ) → List Flag → List Flag
+set_in word flags = filter (λ f. not (bit_and word f.bit == 0)) flags
+
+-- what comes before the next name, after those of these flags
+abbrev pub separator_after : List Flag → List ℕ
+separator_after [] = []
+separator_after (f ∷ fs) = codes ","
