@@ -21,9 +21,11 @@ use x86_64_mappings::text::parse_number;
 /// `Failure::OutOfMemory` if memory allocation fails, otherwise what is wrong with the words.
 pub fn placement_of<'a>(alloc: Global, arguments: &ArgMatches<'a>) -> Result<Placement, Stop<'a>>
     ensures ok { IfOk result (IsPlacement
-        (first_value (found_of arguments.now) (codes "base")) (values (found_of arguments.now) (codes "range"))) }
+        (first_value (found_of arguments.now) (codes "base"))
+        (values (found_of arguments.now) (codes "range"))) }
     ensures err { IfErr result (IsUnread (IsPlacement
-        (first_value (found_of arguments.now) (codes "base")) (values (found_of arguments.now) (codes "range")))) }
+        (first_value (found_of arguments.now) (codes "base"))
+        (values (found_of arguments.now) (codes "range")))) }
 {
     placed(
         alloc,
