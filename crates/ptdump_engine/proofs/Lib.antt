@@ -1,5 +1,7 @@
 pub mod AccessLaws
+pub mod Alikes
 pub mod Asked
+pub mod Counting
 pub mod Failing
 pub mod Listed
 pub mod Results
@@ -9,3 +11,7 @@ pub mod Walking
 pub mod Wholly
 pub mod Renamed
 pub mod Counted
+pub mod Found
+pub mod Grouped
+pub mod InOrder
+pub mod SameTables

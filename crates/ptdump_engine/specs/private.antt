@@ -1,5 +1,12 @@
+pub mod Alike
+pub mod Ascending
 pub mod Asked
+pub mod Checked
+pub mod Counting
+pub mod CountingLaws
 pub mod Finding
+pub mod Flawed
+pub mod FlawedLaws
 pub mod Puts
 pub mod Searched
 pub mod WalkLines

@@ -4,6 +4,7 @@
 mod access_line;
 mod arguments;
 mod check;
+mod counted_lines;
 mod destination;
 mod drawing;
 mod engine;
@@ -11,6 +12,7 @@ mod failure;
 mod finder;
 mod findings;
 mod image;
+mod line_output;
 mod lines;
 mod loaded;
 mod mode;
