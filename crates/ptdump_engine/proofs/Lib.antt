@@ -1,5 +1,7 @@
 pub mod AccessLaws
+pub mod Alikes
 pub mod Asked
+pub mod Counting
 pub mod Failing
 pub mod Listed
 pub mod Results
@@ -11,3 +13,7 @@ pub mod Named
 pub mod Untold
 pub mod Renamed
 pub mod Counted
+pub mod Found
+pub mod Grouped
+pub mod InOrder
+pub mod SameTables

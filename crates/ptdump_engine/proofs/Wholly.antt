@@ -1,5 +1,5 @@
 -- Whole reports: the writer receives all that was put in, and words with equal mappings have equal reports.
-use Rattle.std.proofs.Common.{◌≡◌, ◌∙◌, ◌%◌, ◌++◌, ◌||◌, ℕ, Bool, true, false, List, [], Option, None, Some, String, IfSome, IfOk, IfErr, OnOk, Result, Ok, Err, is_some, filter, inl, inr, refl, sym, ap, subst, append-nil}
+use Rattle.std.proofs.Common.{◌≡◌, ◌∙◌, ◌%◌, ◌==◌, ◌++◌, ◌||◌, ℕ, Bool, true, false, List, [], Option, None, Some, String, IfSome, IfOk, IfErr, OnOk, Result, Ok, Err, is_some, filter, length, inl, inr, refl, sym, ap, subst, append-nil}
 use Rattle.std.proofs.KnownBytes.{Appends-trans}
 use Rattle.std.specs.Io.KnownBytes.{Appends, append_known}
 use Rattle.std.specs.List.{flat_map, list_all, list_any}
@@ -18,6 +18,7 @@ use Rattle.x86_64_model.specs.Regions.{regions_in}
 use Rattle.x86_64_mappings.specs.Wanted.{leads_to}
 use Rattle.ptdump_engine.specs.Output.{Puts, put_in}
 use Rattle.ptdump_engine.specs.Failure.{failure_of}
+use Rattle.ptdump_engine.specs.Findings.{check_text, count_text, line_count}
 use Rattle.ptdump_engine.specs.Program.{Opened, Reports, ReportsOf, RunsAs, RunsOnDump, RunsOnTables, completeness_of, dump_for, format_for, info_of, opened_for, report_of, start_for}
 use Rattle.ptdump_engine.specs.Reports.{addresses_text, find_text, found_text, page_text, pages_text, regions_text, walks_text}
 use Rattle.ptdump_engine.specs.Selections.{is_mapping_selected, is_selected}
@@ -32,6 +33,7 @@ use Rattle.ptdump_engine.specs.declared.request.Request.{Request}
 use Rattle.ptdump_engine.specs.declared.start.Start.{Start}
 use Rattle.ptdump_engine.proofs.AccessLaws.{same_asked, same_there}
 use Rattle.ptdump_engine.proofs.Failing.{dump_fails, dump_unread, fails_then, forced_fails, forced_first}
+use Rattle.ptdump_engine.proofs.SameTables.{same_lines}
 use Rattle.ptdump_engine.proofs.WalkLaws.{same_walk}
 
 -- a consequence of a fact about the value of an option
@@ -87,14 +89,15 @@ written_whole contents begun now ended text none all puts rest =
 
 pub same_report : (command : Command) (L : ℕ) (T W : Words) (root : ℕ) → mappings_of L T root ≡ mappings_of L W root → SameBelow L T W root
     → report_of command L T root ≡ report_of command L W root
-unfolding regions_text pages_text walks_text find_text addresses_text
+unfolding regions_text pages_text walks_text find_text addresses_text check_text
 same_report (commands.Regions s) L T W root same below = ap (λ ms. Some (flat_map (λ r. line (region_text L r)) (filter (is_selected L s) (regions_in L ms)))) same
 same_report (commands.Pages s has_names) L T W root same below = ap (λ ms. Some (flat_map (λ m. line (page_text has_names L m)) (filter (is_mapping_selected L s) ms))) same
 same_report (commands.Walk addresses asked) L T W root same below =
     λ i. Some (flat_map (λ a. walk_text (same_walk T W (a % position_count L) L root below i) ++ same_asked asked L T W root (a % position_count L) below i) addresses.items)
 same_report (commands.Find addresses) L T W root same below =
     ap (λ ms. Some (flat_map (λ a. flat_map (λ m. line (found_text L a m)) (filter (leads_to a) ms)) addresses.items)) same
-same_report commands.Check L T W root same below = refl
+same_report commands.Check L T W root same below =
+    ap (λ lines. Some (flat_map line lines ++ line (count_text (line_count lines)))) (same_lines T W L root same below)
 same_report commands.Image L T W root same below = refl
 same_report commands.Picture L T W root same below = refl
 same_report commands.Info L T W root same below = refl
@@ -106,7 +109,7 @@ same_completeness (commands.Pages s has_names) L T W root same below walks = ref
 same_completeness (commands.Walk addresses asked) L T W root same below walks =
     λ i. Some (list_all (λ a. same_there asked L T W root (a % position_count L) (walks (a % position_count L)) below i) addresses.items)
 same_completeness (commands.Find addresses) L T W root same below walks = ap (λ ms. Some (list_all (λ a. list_any (leads_to a) ms) addresses.items)) same
-same_completeness commands.Check L T W root same below walks = refl
+same_completeness commands.Check L T W root same below walks = ap (λ lines. Some (length lines == 0)) (same_lines T W L root same below)
 same_completeness commands.Image L T W root same below walks = refl
 same_completeness commands.Picture L T W root same below walks = refl
 same_completeness commands.Info L T W root same below walks = refl

@@ -16,6 +16,8 @@ pub mod Totals
 pub mod Walks
 pub mod Entries
 pub mod FindingTexts
+pub mod Findings
+pub mod InOrder
 pub mod Colours
 pub mod Links
 pub mod private

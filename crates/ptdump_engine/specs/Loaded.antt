@@ -1,6 +1,7 @@
 -- Loaded: the data for reports.
 use Rattle.std.specs.Prelude.{◌≡◌, ℕ, None}
-use Rattle.x86_64_dump.specs.Loaded.{words_in}
+use Rattle.x86_64_dump.specs.Loaded.{frames_in, words_in}
+use Rattle.x86_64_dump.specs.Tables.{tables_by_level}
 use Rattle.x86_64_model.specs.Memory.{Words}
 use Rattle.ptdump_engine.specs.declared.loaded.Loaded.{Loaded}
 
@@ -12,3 +13,7 @@ words_loaded loaded = words_in loaded.tables.now
 pub record IsLoaded {L : Type 0} (loaded : Loaded L) : Type 0 where
   pub memory : loaded.summaries.now.memory ≡ loaded.tables.now.memory
   pub all : loaded.summaries.now.wanted ≡ None
+
+-- its tables are all that the root leads to in their words
+abbrev pub HasAllTables : {L : Type 0} → (levels : ℕ) → Loaded L → Type 0
+HasAllTables levels loaded = frames_in loaded.tables.now ≡ tables_by_level levels (words_loaded loaded) loaded.root

@@ -13,6 +13,7 @@ use Rattle.x86_64_dump.specs.declared.segment.Segment.{Segment}
 use Rattle.x86_64_mappings.specs.Numbers.{hexadecimal}
 use Rattle.x86_64_model.specs.Memory.{Words}
 use Rattle.x86_64_model.specs.Position.{lower_half}
+use Rattle.ptdump_engine.specs.Findings.{check_text, finds_nothing}
 use Rattle.ptdump_engine.specs.Info.{info_text}
 pub use Rattle.ptdump_engine.specs.MemoryRanges.{last_address}
 use Rattle.ptdump_engine.specs.Reports.{regions_text, pages_text, walks_text, find_text, all_arrive, all_found}
@@ -118,15 +119,15 @@ report_of (commands.Regions selection) L T root = Some (regions_text selection L
 report_of (commands.Pages selection has_names) L T root = Some (pages_text selection has_names L T root)
 report_of (commands.Walk addresses asked) L T root = Some (walks_text L T root asked addresses.items)
 report_of (commands.Find addresses) L T root = Some (find_text L T root addresses.items)
+report_of commands.Check L T root = Some (check_text L T root)
 report_of commands.Info L T root = Some []
 report_of command L T root = None
 
--- whether the request is fulfilled: each walk or its access arrives, each physical address is found. None for a check, which isn't
--- specified here
+-- whether the request is fulfilled: each walk or its access arrives, each physical address is found, a check finds nothing
 abbrev pub completeness_of : Command → (L : ℕ) → Words → (root : ℕ) → Option Bool
 completeness_of (commands.Walk addresses asked) L T root = Some (all_arrive L T root asked addresses.items)
 completeness_of (commands.Find addresses) L T root = Some (all_found L T root addresses.items)
-completeness_of commands.Check L T root = None
+completeness_of commands.Check L T root = Some (finds_nothing L T root)
 completeness_of command L T root = Some true
 
 -- the report of a command on words was written, and the outcome is as specified

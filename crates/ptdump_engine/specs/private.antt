@@ -1,9 +1,16 @@
+pub mod Alike
+pub mod Ascending
 pub mod Asked
+pub mod Checked
+pub mod Counting
+pub mod CountingLaws
 pub mod Finding
 pub mod Flags
 pub mod Naming
 pub mod Passed
 pub mod Passing
+pub mod Flawed
+pub mod FlawedLaws
 pub mod Puts
 pub mod Searched
 pub mod WalkLines

@@ -1,71 +1,29 @@
 //! The report of a check.
-ghost use Rattle.std.specs.Prelude.{⊤};
+ghost use Rattle.std.specs.Prelude.{◌≡◌, OnOk, IfOk};
+ghost use Rattle.ptdump_engine.specs.Findings as findings;
+ghost use Rattle.ptdump_engine.specs.Loaded.{HasAllTables, IsLoaded, words_loaded};
+ghost use Rattle.ptdump_engine.specs.Output.{Puts};
+ghost use Rattle.ptdump_engine.specs.private.Ascending.{Ascend};
+ghost use Rattle.ptdump_engine.specs.private.Checked.{finding_lines_by};
 
+mod regions;
+mod subject;
+mod tables;
+
+use crate::check::regions::write_flawed;
+use crate::check::subject::Subject;
+use crate::check::tables::write_table_findings;
+use crate::counted_lines::CountedLines;
 use crate::destination::Destination;
-use crate::findings::table_findings;
+use crate::findings::{Flaw, names_in_order, tables_in_order};
+use crate::line_output::LineOutput;
 use crate::loaded::Loaded;
 use crate::output::{Output, OutputError};
 use std::alloc::Global;
 use x86_64_addr::level_count::LevelCount;
-use x86_64_mappings::{RegionIn, Visitor, visit_regions};
 
-/// A flaw of a region.
-#[derive(Clone, Copy)]
-enum Flaw {
-    /// Writable memory is also executable.
-    WritableAndExecutable,
-    /// User code can access the upper half.
-    UserInUpperHalf,
-}
-
-impl Flaw {
-    /// Returns true if a region has the flaw.
-    fn is_in<L: LevelCount>(self, region: &RegionIn<L>) -> bool {
-        match self {
-            Flaw::WritableAndExecutable => region.rights.write && region.rights.execute,
-            Flaw::UserInUpperHalf => {
-                region.rights.user && region.first.position() >= L::POSITION_COUNT / 2
-            }
-        }
-    }
-
-    /// Returns the text before a region.
-    fn text(self) -> &'static str {
-        match self {
-            Flaw::WritableAndExecutable => "writable and executable",
-            Flaw::UserInUpperHalf => "user reaches upper half",
-        }
-    }
-}
-
-/// A visitor that writes a line for each region with a flaw, and counts them.
-#[derive(Drop)]
-struct FlawedRegions<'a, 'b, W: Destination> {
-    flaw: Flaw,
-    output: &'a mut Output<'b, W>,
-    count: u64,
-}
-
-impl<L: LevelCount, W: Destination> Visitor<RegionIn<L>> for FlawedRegions<'_, '_, W> {
-    type Error = OutputError<W>;
-
-    ghost Visits = { λ _ _ _. ⊤ };
-
-    fn visit(&mut self, region: RegionIn<L>) -> Result<(), OutputError<W>> {
-        if self.flaw.is_in(&region) {
-            let text = self.flaw.text();
-            writeln!(self.output, "{text} {region}")?;
-            self.count = self.count.saturating_add(1);
-        }
-        Ok(())
-    }
-
-    ghost none = { λ _. tt };
-
-    ghost both = { λ _ _ _ _ _ _ _. tt };
-}
-
-/// Writes a line for each finding and a line with their number, and returns the number.
+/// Writes a line for each finding and a line with their number, and returns true if there is none. The number is 2^64 - 1 if
+/// there are more.
 ///
 /// # Errors
 ///
@@ -74,40 +32,57 @@ pub fn write_findings<L: LevelCount, W: Destination>(
     alloc: Global,
     loaded: &Loaded<'_, L>,
     output: &mut Output<'_, W>,
-) -> Result<u64, OutputError<W>> {
-    let executable = write_regions(loaded, Flaw::WritableAndExecutable, output)?;
-    let upper = write_regions(loaded, Flaw::UserInUpperHalf, output)?;
-    let tables = write_tables(alloc, loaded, output)?;
-    let count = executable.saturating_add(upper).saturating_add(tables);
-    writeln!(output, "findings: {count}")?;
-    Ok(count)
-}
-
-/// Writes a line for each region with a flaw, and returns the number of lines.
-fn write_regions<L: LevelCount, W: Destination>(
-    loaded: &Loaded<'_, L>,
-    flaw: Flaw,
-    output: &mut Output<'_, W>,
-) -> Result<u64, OutputError<W>> {
-    let mut regions = FlawedRegions {
-        flaw,
-        output,
-        count: 0,
+) -> Result<bool, OutputError<W>>
+    requires { IsLoaded loaded.now }
+    ensures text { HasAllTables L.LEVELS loaded.now → OnOk result (Puts W.contents output.old output.new
+        (findings.check_text L.LEVELS (words_loaded loaded.now) loaded.now.root)) }
+    ensures nothing { HasAllTables L.LEVELS loaded.now → IfOk result (λ nothing.
+        nothing ≡ findings.finds_nothing L.LEVELS (words_loaded loaded.now) loaded.now.root) }
+{
+    let memory = loaded.tables.memory();
+    let tables = tables_in_order(alloc, loaded.tables.frames())?;
+    let names = names_in_order(alloc, memory, &tables)?;
+    let subject = Subject {
+        memory,
+        root: loaded.root,
+        tables: &tables,
+        names: &names,
     };
-    visit_regions::<L, _, _, _>(loaded.summaries, loaded.root, &mut regions)?;
-    Ok(regions.count)
+    let count = write_counted::<L, Output<'_, W>>(loaded, &subject, output)?;
+    writeln!(output, "findings: {count}")?;
+    Ok(count == 0)
 }
 
-/// Writes a line for each finding in the tables, and returns the number of lines.
-fn write_tables<L: LevelCount, W: Destination>(
-    alloc: Global,
+/// Writes a line for each finding, and returns their number, or 2^64 - 1 if there are more.
+fn write_counted<L: LevelCount, O: LineOutput>(
     loaded: &Loaded<'_, L>,
-    output: &mut Output<'_, W>,
-) -> Result<u64, OutputError<W>> {
-    let tables = loaded.tables;
-    let findings = table_findings(alloc, tables.memory(), tables.frames(), loaded.root)?;
-    for finding in &findings {
-        writeln!(output, "{finding}")?;
-    }
-    Ok(findings.len() as u64)
+    subject: &Subject<'_>,
+    output: &mut O,
+) -> Result<u64, O::Error>
+    requires loaded { IsLoaded loaded.now }
+    requires names { Ascend (λ name. name.frame) subject.now.names.now }
+    ensures lines { OnOk result (O.Lines output.old output.new
+        (finding_lines_by L.LEVELS loaded.now subject.now)) }
+    ensures count { IfOk result (λ count. count
+        ≡ findings.line_count (finding_lines_by L.LEVELS loaded.now subject.now)) }
+{
+    let mut lines = CountedLines::new(output);
+    write_lines::<L, CountedLines<'_, O>>(loaded, subject, &mut lines)?;
+    Ok(lines.count())
+}
+
+/// Writes a line for each finding.
+fn write_lines<L: LevelCount, O: LineOutput>(
+    loaded: &Loaded<'_, L>,
+    subject: &Subject<'_>,
+    output: &mut O,
+) -> Result<(), O::Error>
+    requires loaded { IsLoaded loaded.now }
+    requires names { Ascend (λ name. name.frame) subject.now.names.now }
+    ensures { OnOk result (O.Lines output.old output.new
+        (finding_lines_by L.LEVELS loaded.now subject.now)) }
+{
+    write_flawed::<L, O>(loaded, Flaw::WritableAndExecutable, output)?;
+    write_flawed::<L, O>(loaded, Flaw::UserInUpperHalf, output)?;
+    write_table_findings::<O>(subject, output)
 }

@@ -5,7 +5,7 @@ ghost use Rattle.std.specs.Io.KnownBytes.{Appends};
 ghost use Rattle.x86_64_dump.specs.Dump.{words_of_dump};
 ghost use Rattle.x86_64_dump.specs.Opened.{opened};
 ghost use Rattle.x86_64_model.specs.Mappings.{mappings_of};
-ghost use Rattle.ptdump_engine.specs.Loaded.{IsLoaded, words_loaded};
+ghost use Rattle.ptdump_engine.specs.Loaded.{HasAllTables, IsLoaded, words_loaded};
 ghost use Rattle.ptdump_engine.specs.Output.{Puts, put_in};
 ghost use Rattle.ptdump_engine.specs.Program as program;
 ghost use Rattle.ptdump_engine.specs.Steps.{Finds, IsForced};
@@ -205,11 +205,12 @@ fn write_whole<L: LevelCount, S: ByteSource, W: Destination, E: Destination>(
     notes: &mut Output<'_, E>,
 ) -> Result<bool, Failure>
     requires loaded { IsLoaded loaded.now }
+    requires tables { S.IsKnown → HasAllTables L.LEVELS loaded.now }
     requires tested { program.IsTested command.now }
-    ensures text { OnOk result (
+    ensures text { S.IsKnown → OnOk result (
         IfSome (program.report_of command.now L.LEVELS (words_loaded loaded.now) loaded.now.root)
         (Appends (W.contents writer.old) (W.contents writer.new))) }
-    ensures complete { IfOk result (λ is.
+    ensures complete { S.IsKnown → IfOk result (λ is.
         IfSome (program.completeness_of command.now L.LEVELS (words_loaded loaded.now) loaded.now.root)
         (λ all. is ≡ all)) }
     ensures notes { OnOk result (program.is_image command.now ≡ false → notes.new ≡ notes.old) }
@@ -232,11 +233,12 @@ fn write_report<L: LevelCount, S: ByteSource, W: Destination, E: Destination>(
     notes: &mut Output<'_, E>,
 ) -> Result<bool, Failure>
     requires loaded { IsLoaded loaded.now }
+    requires tables { S.IsKnown → HasAllTables L.LEVELS loaded.now }
     requires tested { program.IsTested command.now }
-    ensures text { OnOk result (
+    ensures text { S.IsKnown → OnOk result (
         IfSome (program.report_of command.now L.LEVELS (words_loaded loaded.now) loaded.now.root)
         (Puts W.contents output.old output.new)) }
-    ensures complete { IfOk result (λ is.
+    ensures complete { S.IsKnown → IfOk result (λ is.
         IfSome (program.completeness_of command.now L.LEVELS (words_loaded loaded.now) loaded.now.root)
         (λ all. is ≡ all)) }
     ensures notes { OnOk result (program.is_image command.now ≡ false → notes.new ≡ notes.old) }
@@ -256,7 +258,7 @@ fn write_report<L: LevelCount, S: ByteSource, W: Destination, E: Destination>(
         }
         Command::Walk { addresses, access } => Ok(write_walks(loaded, addresses, *access, output)?),
         Command::Find(addresses) => Ok(write_found(alloc, loaded, addresses, output)?),
-        Command::Check => Ok(write_findings(alloc, loaded, output)? == 0),
+        Command::Check => Ok(write_findings(alloc, loaded, output)?),
         Command::Image => {
             write_image(alloc, dump, loaded, output, notes)?;
             Ok(true)

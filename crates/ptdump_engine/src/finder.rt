@@ -1,50 +1,11 @@
 //! The search for a physical address.
-ghost use Rattle.std.specs.Prelude.{◌≡◌, ◌++◌, ℕ, List, [], false, OnOk};
-ghost use Rattle.ptdump_engine.specs.Walks.{line, rights_at_text};
+ghost use Rattle.std.specs.Prelude.{◌≡◌, false};
 
-use crate::destination::Destination;
-use crate::output::{Output, OutputError};
+use crate::line_output::LineOutput;
 use crate::rights_at::RightsAt;
 use x86_64_addr::addr::{PhysAddr, VirtAddrIn};
 use x86_64_addr::level_count::LevelCount;
 use x86_64_mappings::{MappingIn, Visitor};
-
-/// A destination for lines with the addresses that are found, and the rights there.
-pub trait FoundLines {
-    /// The reason why a line isn't put in.
-    type Error: Drop;
-
-    /// That a text was put in.
-    ghost puts: { Self → Self → List ℕ → Type 0 };
-
-    ghost nothing: { (output : Self) → puts output output [] };
-
-    ghost parts: { (before between after : Self) (front back : List ℕ) →
-        puts before between front → puts between after back → puts before after (front ++ back) };
-
-    /// Puts a line in.
-    fn write_found(&mut self, found: RightsAt) -> Result<(), Self::Error>
-        ensures { OnOk result (puts self.old self.new
-            (line (rights_at_text found.address found.rights))) };
-}
-
-impl<W: Destination> FoundLines for Output<'_, W> {
-    type Error = OutputError<W>;
-
-    ghost use Rattle.ptdump_engine.specs.Output.{Puts};
-    ghost use Rattle.ptdump_engine.specs.private.Puts.{puts_nothing, puts_both};
-
-    ghost puts = { λ old new text. Puts W.contents old new text };
-
-    ghost nothing = { λ output. puts_nothing W.contents output };
-
-    ghost parts = { λ before between after front back.
-        puts_both W.contents before between after front back };
-
-    fn write_found(&mut self, found: RightsAt) -> Result<(), OutputError<W>> {
-        writeln!(self, "{found}")
-    }
-}
 
 /// A visitor that writes a line for each virtual address that leads to a physical address, from the mappings that it visits.
 ///
@@ -70,7 +31,7 @@ impl<O> Drop for Finder<'_, O> {
     }
 }
 
-impl<'a, O: FoundLines> Finder<'a, O> {
+impl<'a, O: LineOutput> Finder<'a, O> {
     /// Begins the search for a physical address.
     pub fn new(output: &'a mut O, physical: PhysAddr) -> Self
         ensures name { result.output.ghost_name ≡ output.entry.ghost_name }
@@ -86,13 +47,13 @@ impl<'a, O: FoundLines> Finder<'a, O> {
     }
 }
 
-impl<L: LevelCount, O: FoundLines> Visitor<MappingIn<L>> for Finder<'_, O> {
+impl<L: LevelCount, O: LineOutput> Visitor<MappingIn<L>> for Finder<'_, O> {
     type Error = O::Error;
 
     ghost use Rattle.ptdump_engine.specs.private.Finding.{IsSearched};
     ghost use Rattle.ptdump_engine.specs.private.Searched.{searched_nothing, searched_both};
 
-    ghost Visits = { λ old new mappings. IsSearched O.puts L.LEVELS old new mappings };
+    ghost Visits = { λ old new mappings. IsSearched O.Lines L.LEVELS old new mappings };
 
     /// Writes the virtual address in a mapping that leads to the physical address.
     fn visit(&mut self, mapping: MappingIn<L>) -> Result<(), O::Error> {
@@ -104,10 +65,10 @@ impl<L: LevelCount, O: FoundLines> Visitor<MappingIn<L>> for Finder<'_, O> {
             rights: mapping.rights,
         };
         self.is_found = true;
-        self.output.write_found(found)
+        self.output.write_line(found)
     }
 
-    ghost none = { λ finder. searched_nothing O.puts O.nothing L.LEVELS finder };
+    ghost none = { λ finder. searched_nothing O.Lines O.nothing L.LEVELS finder };
 
-    ghost both = { searched_both O.puts O.parts L.LEVELS };
+    ghost both = { searched_both O.Lines O.parts L.LEVELS };
 }

@@ -2,8 +2,14 @@
 
 mod entry;
 mod finding;
+mod flaw;
 mod image;
+mod names;
+mod tables;
 
 pub use entry::{Entry, Slot, Table};
-pub use finding::{Finding, table_findings};
+pub use finding::Finding;
+pub use flaw::{Flaw, FlawedRegion};
 pub use image::{Image, Refusals, ReportEnd, Row, WordLines};
+pub use names::{Name, names_in_order};
+pub use tables::tables_in_order;

@@ -4,6 +4,7 @@
 mod access_line;
 mod arguments;
 mod check;
+mod counted_lines;
 mod destination;
 mod drawing;
 mod engine;
@@ -12,6 +13,7 @@ mod finder;
 mod findings;
 mod image;
 mod info;
+mod line_output;
 mod lines;
 mod loaded;
 mod mode;

@@ -8,11 +8,12 @@ ghost use Rattle.ptdump_engine.specs.Loaded.{IsLoaded, words_loaded};
 ghost use Rattle.ptdump_engine.specs.Output.{Puts};
 ghost use Rattle.ptdump_engine.specs.Reports as reports;
 ghost use Rattle.ptdump_engine.specs.private.Asked.{mappings_asked};
-ghost use Rattle.ptdump_engine.specs.private.Finding.{some_there, visited_text};
+ghost use Rattle.ptdump_engine.specs.private.Finding.{some_there, visited_lines};
 
 use crate::access_line::write_access;
 use crate::destination::Destination;
-use crate::finder::{Finder, FoundLines};
+use crate::finder::Finder;
+use crate::line_output::LineOutput;
 use crate::loaded::Loaded;
 use crate::naming::visit_named_mappings;
 use crate::output::{Output, OutputError};
@@ -163,14 +164,14 @@ fn write_addresses_to<L: LevelCount, W: Destination>(
 
 /// Visits the mappings of the summaries that lead to a physical address, writes the virtual addresses, and returns true if
 /// there are any.
-fn write_addresses_by<L: LevelCount, O: FoundLines>(
+fn write_addresses_by<L: LevelCount, O: LineOutput>(
     summaries: &Summaries<'_, PhysMemory, IdentityMapping>,
     loaded: &Loaded<'_, L>,
     physical: PhysAddr,
     output: &mut O,
 ) -> Result<bool, O::Error>
-    ensures text { OnOk result (O.puts output.old output.new
-        (visited_text L.LEVELS physical (mappings_asked summaries.now L.LEVELS loaded.now.root))) }
+    ensures lines { OnOk result (O.Lines output.old output.new
+        (visited_lines L.LEVELS physical (mappings_asked summaries.now L.LEVELS loaded.now.root))) }
     ensures found { IfOk result (λ found.
         found ≡ some_there (mappings_asked summaries.now L.LEVELS loaded.now.root)) }
 {

@@ -10,6 +10,7 @@ use Rattle.ptdump_engine.specs.Output.{put_in}
 use Rattle.ptdump_engine.specs.Totals.{IsMapped, totals_text}
 use Rattle.ptdump_engine.specs.Walks.{line}
 use Rattle.ptdump_engine.specs.declared.output.Output.{Output}
+use Rattle.ptdump_engine.proofs.SameTables.{same_tables}
 use Rattle.ptdump_engine.proofs.Wholly.{same_report, same_completeness, written_rest}
 use Rattle.ptdump_engine.proofs.engine.report.Goals as goal
 
@@ -21,9 +22,10 @@ returns-clause-written g c = λ known.
     let contents = g.W.Destination.contents in
     record {
       text = subst (λ text. IfSome text (Appends (contents c.args.writer.now) (contents c.write_whole.new.writer)))
-          (same_report c.args.command.now L T W c.args.root (c.in_ok-tables.ensures.mappings known) (c.in_ok-tables.ensures.same known)) c.in_ok-is_complete.ensures.text;
+          (same_report c.args.command.now L T W c.args.root (c.in_ok-tables.ensures.mappings known) (c.in_ok-tables.ensures.same known)) (c.in_ok-is_complete.ensures.text known);
       complete = subst (λ complete. IfSome complete (λ all. c.in_ok-is_complete.is_complete ≡ all))
-          (same_completeness c.args.command.now L T W c.args.root (c.in_ok-tables.ensures.mappings known) (c.in_ok-tables.ensures.same known) (c.in_ok-tables.ensures.walks known)) c.in_ok-is_complete.ensures.complete;
+          (same_completeness c.args.command.now L T W c.args.root (c.in_ok-tables.ensures.mappings known) (c.in_ok-tables.ensures.same known) (c.in_ok-tables.ensures.walks known))
+          (c.in_ok-is_complete.ensures.complete known);
     }
 
 pub returns-clause-totals : goal.returns-clause-totals
@@ -48,3 +50,10 @@ returns-clause-totals g c = λ known not_image.
 
 pub returns-clause-told : goal.returns-clause-told
 returns-clause-told g c = λ known. (len c.in_ok-tables.tables.memory, c.read_tables-tables.new.progress, c.in_ok-tables.ensures.count known, c.in_ok-tables.ensures.told, c.end.ensures)
+
+pub write_whole-requires-clause-tables : goal.write_whole-requires-clause-tables
+write_whole-requires-clause-tables g c = λ known.
+    let L = g.L.LevelCount.LEVELS in
+    let T = words_in c.in_ok-tables.tables in
+    let W = words_of_dump (opened g.S.ByteSource.bytes c.args.dump.now) in
+    (c.in_ok-tables.ensures.tables known).frames ∙ sym (same_tables T W L c.args.root (c.in_ok-tables.ensures.same known))

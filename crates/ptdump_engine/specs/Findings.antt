@@ -1,0 +1,132 @@
+-- Findings: what a check reports of words, with L levels of tables below a root, and in which order.
+use Rattle.std.specs.Prelude.{ℕ, ◌+◌, ◌-◌, ◌^◌, ◌==◌, ◌++◌, ◌&&◌, Bool, not, cond, if◌then◌else◌, min, nat_le, nat_lt, List, [], ◌∷◌, filter, map, length, Option, Some, None, is_some, option_map, option_and_then, codes, decimal}
+use Rattle.std.specs.List.{dedup, filter_map, flat_map}
+use Rattle.x86_64_dump.specs.Tables.{tables_by_level}
+use Rattle.x86_64_mappings.specs.Texts.{region_text}
+use Rattle.x86_64_model.specs.Entry.{present, huge, address}
+use Rattle.x86_64_model.specs.Memory.{Words}
+use Rattle.x86_64_model.specs.PageWalk.{read}
+use Rattle.x86_64_model.specs.Path.{indices}
+use Rattle.x86_64_model.specs.Position.{lower_half}
+use Rattle.x86_64_model.specs.Regions.{Region, regions_of}
+use Rattle.ptdump_engine.specs.FindingTexts.{finding_text}
+use Rattle.ptdump_engine.specs.InOrder.{in_order}
+use Rattle.ptdump_engine.specs.Walks.{line}
+use Rattle.ptdump_engine.specs.declared.findings.entry.Entry.{Entry}
+use Rattle.ptdump_engine.specs.declared.findings.entry.Slot.{Slot}
+use Rattle.ptdump_engine.specs.declared.findings.entry.Table.{Table}
+use Rattle.ptdump_engine.specs.declared.findings.finding.Finding.{Finding}
+use Rattle.ptdump_engine.specs.declared.findings.finding.Finding.TheVariants.{NamedOften, NotInDump, HugePage}
+use Rattle.ptdump_engine.specs.declared.findings.flaw.Flaw.{Flaw}
+use Rattle.ptdump_engine.specs.declared.findings.flaw.Flaw.TheVariants.{WritableAndExecutable, UserInUpperHalf}
+use Rattle.ptdump_engine.specs.declared.findings.names.Name.{Name}
+
+-- ---- regions
+
+-- whether memory that may be written may also be executed, or user code reaches the upper half
+abbrev pub has_flaw : (L : ℕ) → Flaw → Region → Bool
+has_flaw L WritableAndExecutable r = r.rights.write && r.rights.execute
+has_flaw L UserInUpperHalf r = r.rights.user && nat_le (lower_half L) r.first
+
+abbrev pub flaw_text : Flaw → List ℕ
+flaw_text WritableAndExecutable = codes "writable and executable"
+flaw_text UserInUpperHalf = codes "user reaches upper half"
+
+abbrev pub flawed_text : (L : ℕ) → Flaw → Region → List ℕ
+flawed_text L flaw r = flaw_text flaw ++ codes " " ++ region_text L r
+
+-- a line for each region with a flaw
+abbrev pub flawed_lines : (L : ℕ) → Flaw → List Region → List (List ℕ)
+flawed_lines L flaw rs = map (flawed_text L flaw) (filter (has_flaw L flaw) rs)
+
+-- ---- tables and entries
+
+-- the tables in these frames, by level: first those of a level, then those of the levels above
+abbrev pub tables_from : (level : ℕ) → List (List ℕ) → List Table
+tables_from level [] = []
+tables_from level (frames ∷ above) = map (λ f. record { frame = f; level = level }) frames ++ tables_from (level + 1) above
+
+-- these tables by address; a frame that has tables of several levels comes once for each of them, the lowest first
+unfoldable pub tables_in_order : List (List ℕ) → List Table
+tables_in_order levels = in_order (λ t. t.frame) (tables_from 1 levels)
+
+-- the entry at an index of a table
+abbrev pub entry_at : Words → Table → (index : ℕ) → Option Entry
+entry_at T t i = option_map (λ e. record { slot = record { table = t.frame; index = i }; level = t.level; word = e }) (read T t.frame i)
+
+-- the entries of a table, in order
+unfoldable pub entries_in : Words → Table → List Entry
+entries_in T t = filter_map (entry_at T t) indices
+
+-- ---- tables that are named
+
+-- an entry with PRESENT and without HUGE_PAGE names the table in a frame
+abbrev pub name_by : Slot → (word : ℕ) → Option Name
+name_by slot e = cond (present e && not (huge e)) (Some (record { frame = address e; by = slot })) None
+
+-- the names in the table in a frame above level one
+unfoldable pub names_in : Words → (frame : ℕ) → List Name
+names_in T f = filter_map (λ i. option_and_then (name_by (record { table = f; index = i })) (read T f i)) indices
+
+-- the frames of the tables above level one, each once
+abbrev pub frames_above : List Table → List ℕ
+frames_above tables = dedup (λ f g. f == g) (map (λ t. t.frame) (filter (λ t. nat_lt 1 t.level) tables))
+
+-- the names in these tables, by the frames that they name, and those of one frame in the order of their slots
+unfoldable pub names_in_order : Words → List Table → List Name
+names_in_order T tables = in_order (λ n. n.frame) (flat_map (names_in T) (frames_above tables))
+
+-- how often a frame is named as a table: by so many entries, and once more as the root
+abbrev pub times : List Name → (root frame : ℕ) → ℕ
+times names root f = length (filter (λ n. n.frame == f) names) + (if f == root then 1 else 0)
+
+-- a frame that is named more than once
+abbrev pub often : (frame count : ℕ) → Option Finding
+often f count = cond (nat_lt 1 count) (Some (NamedOften f count)) None
+
+-- the frames that are named more than once
+unfoldable pub all_named_often : List Name → (root : ℕ) → List Finding
+all_named_often names root = filter_map (λ f. often f (times names root f)) (dedup (λ f g. f == g) (map (λ n. n.frame) names))
+
+-- a named table that isn't in the dump
+abbrev pub missing : Words → Name → Option Finding
+missing T name = cond (is_some (T name.frame)) None (Some (NotInDump name.frame name.by))
+
+-- ---- entries that are wrong by themselves
+
+-- an entry with PRESENT and HUGE_PAGE above level three, where no entry maps a page
+abbrev pub huge_page : Entry → Option Finding
+huge_page e = cond (present e.word && (nat_lt 3 e.level && huge e.word)) (Some (HugePage e.slot e.level)) None
+
+abbrev pub huge_pages : Words → List Table → List Finding
+huge_pages T tables = flat_map (λ t. filter_map huge_page (entries_in T t)) tables
+
+-- ---- the report
+
+-- the findings in tables, by their names
+abbrev pub findings_by : Words → (root : ℕ) → List Table → List Name → List Finding
+findings_by T root tables names = all_named_often names root ++ filter_map (missing T) names ++ huge_pages T tables
+
+-- the findings in the tables that a root leads to
+unfoldable pub table_findings : (L : ℕ) → Words → (root : ℕ) → List Finding
+table_findings L T root = let tables = tables_in_order (tables_by_level L T root) in findings_by T root tables (names_in_order T tables)
+
+-- a line for each finding
+unfoldable pub finding_lines : (L : ℕ) → Words → (root : ℕ) → List (List ℕ)
+finding_lines L T root = let regions = regions_of L T root in
+    flawed_lines L WritableAndExecutable regions ++ flawed_lines L UserInUpperHalf regions ++ map finding_text (table_findings L T root)
+
+-- the number of lines, if it is less than 2^64
+abbrev pub line_count : List (List ℕ) → ℕ
+line_count lines = min (length lines) (2 ^ 64 - 1)
+
+abbrev pub count_text : (count : ℕ) → List ℕ
+count_text count = codes "findings: " ++ decimal count
+
+-- a line for each finding, and a line with their number
+unfoldable pub check_text : (L : ℕ) → Words → (root : ℕ) → List ℕ
+check_text L T root = flat_map line (finding_lines L T root) ++ line (count_text (line_count (finding_lines L T root)))
+
+-- whether nothing is found
+abbrev pub finds_nothing : (L : ℕ) → Words → (root : ℕ) → Bool
+finds_nothing L T root = length (finding_lines L T root) == 0

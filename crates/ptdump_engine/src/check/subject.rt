@@ -1,0 +1,19 @@
+//! The tables that a check looks at.
+
+use crate::findings::{Name, Table};
+use x86_64_page::frame::PhysFrame;
+use x86_64_page::page::Size4KiB;
+use x86_64_tables::phys_memory::PhysMemory;
+
+/// The tables below a root, and the names in them.
+#[derive(Clone, Copy)]
+pub struct Subject<'a> {
+    /// The memory that holds the tables.
+    pub memory: &'a PhysMemory,
+    /// The frame of the root.
+    pub root: PhysFrame<Size4KiB>,
+    /// The tables, in order.
+    pub tables: &'a [Table],
+    /// The names of tables in their entries, in order.
+    pub names: &'a [Name],
+}

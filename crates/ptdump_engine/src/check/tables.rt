@@ -1,0 +1,127 @@
+//! Findings in tables.
+ghost use Rattle.std.specs.Prelude.{◌≡◌, ◌≤◌, [], OnOk, map, length};
+ghost use Rattle.std.specs.List.{cons_option, filter_map};
+ghost use Rattle.x86_64_model.specs.Memory.{identity_places, words_of};
+ghost use Rattle.ptdump_engine.specs.FindingTexts.{finding_text};
+ghost use Rattle.ptdump_engine.specs.Findings as findings;
+ghost use Rattle.ptdump_engine.specs.private.Alike.{alike};
+ghost use Rattle.ptdump_engine.specs.private.Ascending.{Ascend};
+
+use crate::check::subject::Subject;
+use crate::findings::{Entry, Finding, Name, Table};
+use crate::line_output::LineOutput;
+use x86_64_page::frame::PhysFrame;
+use x86_64_page::page::Size4KiB;
+use x86_64_tables::phys_memory::{IdentityMapping, PhysMemory, table_in};
+
+/// Writes a line for each finding in the tables.
+pub fn write_table_findings<O: LineOutput>(
+    subject: &Subject<'_>,
+    output: &mut O,
+) -> Result<(), O::Error>
+    requires { Ascend (λ name. name.frame) subject.now.names.now }
+    ensures { OnOk result (O.Lines output.old output.new (map finding_text
+        (findings.findings_by (words_of subject.now.memory.now identity_places)
+        subject.now.root subject.now.tables.now subject.now.names.now))) }
+{
+    write_named_often::<O>(subject.names, subject.root, output)?;
+    write_missing::<O>(subject.memory, subject.names, output)?;
+    write_huge_pages::<O>(subject.memory, subject.tables, output)
+}
+
+/// Writes a line for a finding, if there is one.
+fn write_finding<O: LineOutput>(finding: Option<Finding>, output: &mut O) -> Result<(), O::Error>
+    ensures { OnOk result (O.Lines output.old output.new (map finding_text (cons_option finding []))) }
+{
+    match finding {
+        Some(finding) => output.write_line(finding),
+        None => Ok(()),
+    }
+}
+
+/// Writes a line for each frame that is named more than once, as which the root counts once more.
+fn write_named_often<O: LineOutput>(
+    names: &[Name],
+    root: PhysFrame<Size4KiB>,
+    output: &mut O,
+) -> Result<(), O::Error>
+    requires { Ascend (λ name. name.frame) names.now }
+    ensures { OnOk result (O.Lines output.old output.new
+        (map finding_text (findings.all_named_often names.now root))) }
+{
+    let mut start = 0;
+    while start < names.len() {
+        let frame = names[start].frame;
+        let count = count_alike(&names[start..], frame);
+        let times = count + usize::from(frame == root);
+        write_finding::<O>(Finding::of_frame(frame, times), output)?;
+        start += count;
+    }
+    Ok(())
+}
+
+/// Returns how many of the first names are of a frame.
+#[tactic(auto, using(crate::proofs::Alikes::alike_more, crate::proofs::Alikes::alike_end, crate::proofs::Alikes::alike_all))]
+fn count_alike(names: &[Name], frame: PhysFrame<Size4KiB>) -> usize
+    ensures count { result ≡ alike (λ name. name.frame) frame names.now }
+    ensures bound { result ≤ length names.now }
+{
+    let mut count = 0;
+    for name in names {
+        if name.frame != frame {
+            return count;
+        }
+        count += 1;
+    }
+    count
+}
+
+/// Writes a line for each name of a table that isn't in the memory.
+fn write_missing<O: LineOutput>(
+    memory: &PhysMemory,
+    names: &[Name],
+    output: &mut O,
+) -> Result<(), O::Error>
+    ensures { OnOk result (O.Lines output.old output.new (map finding_text
+        (filter_map (findings.missing (words_of memory.now identity_places)) names.now))) }
+{
+    for name in names {
+        write_finding::<O>(Finding::of_name(memory, name), output)?;
+    }
+    Ok(())
+}
+
+/// Writes a line for each entry above level three that has `PRESENT` and `HUGE_PAGE`.
+fn write_huge_pages<O: LineOutput>(
+    memory: &PhysMemory,
+    tables: &[Table],
+    output: &mut O,
+) -> Result<(), O::Error>
+    ensures { OnOk result (O.Lines output.old output.new (map finding_text
+        (findings.huge_pages (words_of memory.now identity_places) tables.now))) }
+{
+    for table in tables {
+        write_huge_pages_in::<O>(memory, table, output)?;
+    }
+    Ok(())
+}
+
+/// Writes a line for each entry of a table that has `PRESENT` and `HUGE_PAGE`, if the table is above level three.
+#[tactic(auto, unfolding(crate::specs::Findings::entries_in))]
+fn write_huge_pages_in<O: LineOutput>(
+    memory: &PhysMemory,
+    table: &Table,
+    output: &mut O,
+) -> Result<(), O::Error>
+    ensures { OnOk result (O.Lines output.old output.new (map finding_text (filter_map findings.huge_page
+        (findings.entries_in (words_of memory.now identity_places) table.now)))) }
+{
+    let Some(words) = table_in(memory, &IdentityMapping, table.frame) else {
+        return Ok(());
+    };
+    for index in 0..512 {
+        let entry = Entry::new(table, index, words[index].word());
+        write_finding::<O>(Finding::of_huge_page(&entry), output)?;
+    }
+    Ok(())
+}
