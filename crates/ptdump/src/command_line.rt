@@ -33,6 +33,11 @@ fn subcommand<'a>(alloc: Global, help: &CommandHelp) -> Result<Command<'a>, Erro
         Operands::Addresses(text) => command.arg(addresses(alloc, text))?,
         Operands::Accesses(text) => with_access(alloc, command.arg(addresses(alloc, text))?)?,
     };
+    let command = if help.has_json {
+        command.arg(json(alloc))?
+    } else {
+        command
+    };
     Ok(
         command
             .arg(option(alloc, "cr3", "CR3 [default: as the core's notes say]"))?
@@ -58,6 +63,14 @@ fn subcommand<'a>(alloc: Global, help: &CommandHelp) -> Result<Command<'a>, Erro
                 "Processor whose note counts, from 0 on [default: 0]",
             ))?,
     )
+}
+
+/// Returns the flag for reports in JSON.
+fn json<'a>(alloc: Global) -> Arg<'a> {
+    Arg::new(alloc, "json")
+        .long("json")
+        .action(ArgAction::SetTrue)
+        .help("Write JSON objects, one a line")
 }
 
 /// Adds the options of an access to the command line of a command.

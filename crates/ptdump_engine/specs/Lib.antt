@@ -1,6 +1,8 @@
 pub mod Accesses
 pub mod Failure
+pub mod Json
 pub mod Laws
+pub mod Lines
 pub mod Loaded
 pub mod Output
 pub mod Program

@@ -1,5 +1,9 @@
 pub mod Asked
 pub mod Finding
+pub mod JsonLines
+pub mod NoFloats
 pub mod Puts
+pub mod Reported
 pub mod Searched
 pub mod WalkLines
+pub mod Walked

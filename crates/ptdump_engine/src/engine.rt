@@ -66,17 +66,16 @@ pub fn run<S: ByteSource, W: Destination, E: Destination, G: Progress>(
     write_opening(&dump, &mut notes)?;
     let start = start_for(alloc, &dump, request)?;
     write_source(start.origin, &mut notes)?;
-    let command = &request.command;
     let root = start.root;
     match start.levels {
         Levels::Four => {
             report::<FourLevels, S, W, E, G>(
-                alloc, &dump, root, command, writer, &mut notes, progress,
+                alloc, &dump, root, request, writer, &mut notes, progress,
             )
         }
         Levels::Five => {
             report::<FiveLevels, S, W, E, G>(
-                alloc, &dump, root, command, writer, &mut notes, progress,
+                alloc, &dump, root, request, writer, &mut notes, progress,
             )
         }
     }
@@ -126,15 +125,15 @@ fn report<L: LevelCount, S: ByteSource, W: Destination, E: Destination, G: Progr
     alloc: Global,
     dump: &Dump<S>,
     root: PhysFrame<Size4KiB>,
-    command: &Command,
+    request: &Request,
     writer: &mut W,
     notes: &mut Output<'_, E>,
     progress: &mut G,
 ) -> Result<Outcome, Failure>
-    requires { program.IsTested command.now }
-    ensures written { S.IsKnown → IfOk result (program.Reports command.now L.LEVELS
+    requires { program.IsTested request.now.command }
+    ensures written { S.IsKnown → IfOk result (program.Reports request.now L.LEVELS
         (words_of_dump (opened S.bytes dump.now)) root (W.contents writer.old) (W.contents writer.new)) }
-    ensures totals { S.IsKnown → OnOk result (program.is_image command.now ≡ false →
+    ensures totals { S.IsKnown → OnOk result (program.is_image request.now.command ≡ false →
         (notes.new.writer.ghost_name ≡ notes.old.writer.ghost_name)
         × program.EndsByTotals L.LEVELS (words_of_dump (opened S.bytes dump.now)) root
         (put_in E.contents notes.old) (E.contents notes.new.writer.now)) }
@@ -153,7 +152,7 @@ fn report<L: LevelCount, S: ByteSource, W: Destination, E: Destination, G: Progr
         summaries: &summaries,
         levels: PhantomData,
     };
-    let is_complete = write_whole(alloc, dump, &loaded, command, writer, notes)?;
+    let is_complete = write_whole(alloc, dump, &loaded, request, writer, notes)?;
     write_totals(&loaded, notes)?;
     Ok(Outcome { is_complete })
 }
@@ -164,23 +163,23 @@ fn write_whole<L: LevelCount, S: ByteSource, W: Destination, E: Destination>(
     alloc: Global,
     dump: &Dump<S>,
     loaded: &Loaded<'_, L>,
-    command: &Command,
+    request: &Request,
     writer: &mut W,
     notes: &mut Output<'_, E>,
 ) -> Result<bool, Failure>
     requires loaded { IsLoaded loaded.now }
-    requires tested { program.IsTested command.now }
+    requires tested { program.IsTested request.now.command }
     ensures text { OnOk result (
-        IfSome (program.report_of command.now L.LEVELS (words_loaded loaded.now) loaded.now.root)
+        IfSome (program.report_of request.now L.LEVELS (words_loaded loaded.now) loaded.now.root)
         (Appends (W.contents writer.old) (W.contents writer.new))) }
     ensures complete { IfOk result (λ is.
-        IfSome (program.completeness_of command.now L.LEVELS (words_loaded loaded.now) loaded.now.root)
+        IfSome (program.completeness_of request.now.command L.LEVELS (words_loaded loaded.now) loaded.now.root)
         (λ all. is ≡ all)) }
-    ensures notes { OnOk result (program.is_image command.now ≡ false → notes.new ≡ notes.old) }
+    ensures notes { OnOk result (program.is_image request.now.command ≡ false → notes.new ≡ notes.old) }
     ensures errors { S.IsKnown → IfErr result (IsForced (W.may_refuse || E.may_refuse)) }
 {
     let mut output = Output::new(alloc, writer);
-    let is_complete = write_report(alloc, dump, loaded, command, &mut output, notes)?;
+    let is_complete = write_report(alloc, dump, loaded, request, &mut output, notes)?;
     output.finish()?;
     Ok(is_complete)
 }
@@ -191,32 +190,35 @@ fn write_report<L: LevelCount, S: ByteSource, W: Destination, E: Destination>(
     alloc: Global,
     dump: &Dump<S>,
     loaded: &Loaded<'_, L>,
-    command: &Command,
+    request: &Request,
     output: &mut Output<'_, W>,
     notes: &mut Output<'_, E>,
 ) -> Result<bool, Failure>
     requires loaded { IsLoaded loaded.now }
-    requires tested { program.IsTested command.now }
+    requires tested { program.IsTested request.now.command }
     ensures text { OnOk result (
-        IfSome (program.report_of command.now L.LEVELS (words_loaded loaded.now) loaded.now.root)
+        IfSome (program.report_of request.now L.LEVELS (words_loaded loaded.now) loaded.now.root)
         (Puts W.contents output.old output.new)) }
     ensures complete { IfOk result (λ is.
-        IfSome (program.completeness_of command.now L.LEVELS (words_loaded loaded.now) loaded.now.root)
+        IfSome (program.completeness_of request.now.command L.LEVELS (words_loaded loaded.now) loaded.now.root)
         (λ all. is ≡ all)) }
-    ensures notes { OnOk result (program.is_image command.now ≡ false → notes.new ≡ notes.old) }
+    ensures notes { OnOk result (program.is_image request.now.command ≡ false → notes.new ≡ notes.old) }
     ensures errors { S.IsKnown → IfErr result (IsForced (W.may_refuse || E.may_refuse)) }
 {
-    match command {
+    let form = request.form;
+    match &request.command {
         Command::Regions => {
-            write_regions(loaded, output)?;
+            write_regions(alloc, loaded, form, output)?;
             Ok(true)
         }
         Command::Pages => {
-            write_pages(loaded, output)?;
+            write_pages(alloc, loaded, form, output)?;
             Ok(true)
         }
-        Command::Walk { addresses, access } => Ok(write_walks(loaded, addresses, *access, output)?),
-        Command::Find(addresses) => Ok(write_found(alloc, loaded, addresses, output)?),
+        Command::Walk { addresses, access } => {
+            Ok(write_walks(alloc, loaded, addresses, *access, form, output)?)
+        }
+        Command::Find(addresses) => Ok(write_found(alloc, loaded, addresses, form, output)?),
         Command::Check => Ok(write_findings(alloc, loaded, output)? == 0),
         Command::Image => {
             write_image(alloc, dump, loaded, output, notes)?;

@@ -1,50 +1,15 @@
 //! The search for a physical address.
-ghost use Rattle.std.specs.Prelude.{◌≡◌, ◌++◌, ℕ, List, [], false, OnOk};
-ghost use Rattle.ptdump_engine.specs.Walks.{line, rights_at_text};
+ghost use Rattle.std.specs.Prelude.{◌≡◌, false, OnOk};
+ghost use Rattle.ptdump_engine.specs.Lines.{found_line};
 
-use crate::destination::Destination;
-use crate::output::{Output, OutputError};
+use crate::json_lines::{Found, write_json};
+use crate::lines::Lines;
+use crate::request::Form;
 use crate::rights_at::RightsAt;
+use std::alloc::Global;
 use x86_64_addr::addr::{PhysAddr, VirtAddrIn};
 use x86_64_addr::level_count::LevelCount;
 use x86_64_mappings::{MappingIn, Visitor};
-
-/// A destination for lines with the addresses that are found, and the rights there.
-pub trait FoundLines {
-    /// The reason why a line isn't put in.
-    type Error: Drop;
-
-    /// That a text was put in.
-    ghost puts: { Self → Self → List ℕ → Type 0 };
-
-    ghost nothing: { (output : Self) → puts output output [] };
-
-    ghost parts: { (before between after : Self) (front back : List ℕ) →
-        puts before between front → puts between after back → puts before after (front ++ back) };
-
-    /// Puts a line in.
-    fn write_found(&mut self, found: RightsAt) -> Result<(), Self::Error>
-        ensures { OnOk result (puts self.old self.new
-            (line (rights_at_text found.address found.rights))) };
-}
-
-impl<W: Destination> FoundLines for Output<'_, W> {
-    type Error = OutputError<W>;
-
-    ghost use Rattle.ptdump_engine.specs.Output.{Puts};
-    ghost use Rattle.ptdump_engine.specs.private.Puts.{puts_nothing, puts_both};
-
-    ghost puts = { λ old new text. Puts W.contents old new text };
-
-    ghost nothing = { λ output. puts_nothing W.contents output };
-
-    ghost parts = { λ before between after front back.
-        puts_both W.contents before between after front back };
-
-    fn write_found(&mut self, found: RightsAt) -> Result<(), OutputError<W>> {
-        writeln!(self, "{found}")
-    }
-}
 
 /// A visitor that writes a line for each virtual address that leads to a physical address, from the mappings that it visits.
 ///
@@ -52,6 +17,10 @@ impl<W: Destination> FoundLines for Output<'_, W> {
 pub struct Finder<'a, O> {
     /// The destination of the lines.
     output: &'a mut O,
+    /// The allocator.
+    alloc: Global,
+    /// The form of the lines.
+    form: Form,
     /// The physical address.
     physical: PhysAddr,
     /// Whether a mapping was visited.
@@ -64,29 +33,34 @@ impl<O> Drop for Finder<'_, O> {
     {
         let Finder {
             output: _output,
+            alloc: _,
+            form: _,
             physical: _,
             is_found: _,
         } = self;
     }
 }
 
-impl<'a, O: FoundLines> Finder<'a, O> {
+impl<'a, O: Lines> Finder<'a, O> {
     /// Begins the search for a physical address.
-    pub fn new(output: &'a mut O, physical: PhysAddr) -> Self
+    pub fn new(alloc: Global, form: Form, physical: PhysAddr, output: &'a mut O) -> Self
         ensures name { result.output.ghost_name ≡ output.entry.ghost_name }
         ensures now { result.output.now ≡ output.old }
+        ensures form { result.form ≡ form }
         ensures physical { result.physical ≡ physical }
         ensures found { result.is_found ≡ false }
     {
         Finder {
             output,
+            alloc,
+            form,
             physical,
             is_found: false,
         }
     }
 }
 
-impl<L: LevelCount, O: FoundLines> Visitor<MappingIn<L>> for Finder<'_, O> {
+impl<L: LevelCount, O: Lines> Visitor<MappingIn<L>> for Finder<'_, O> {
     type Error = O::Error;
 
     ghost use Rattle.ptdump_engine.specs.private.Finding.{IsSearched};
@@ -104,10 +78,34 @@ impl<L: LevelCount, O: FoundLines> Visitor<MappingIn<L>> for Finder<'_, O> {
             rights: mapping.rights,
         };
         self.is_found = true;
-        self.output.write_found(found)
+        write_found(self.alloc, self.form, self.physical, found, self.output)
     }
 
     ghost none = { λ finder. searched_nothing O.puts O.nothing L.LEVELS finder };
 
     ghost both = { searched_both O.puts O.parts L.LEVELS };
+}
+
+/// Writes the line for an address that leads to a physical address.
+fn write_found<O: Lines>(
+    alloc: Global,
+    form: Form,
+    physical: PhysAddr,
+    found: RightsAt,
+    output: &mut O,
+) -> Result<(), O::Error>
+    ensures { OnOk result (O.puts output.old output.new
+        (found_line form physical found.address found.rights)) }
+{
+    match form {
+        Form::Text => output.write_line(found),
+        Form::Json => write_json(
+            alloc,
+            &Found {
+                physical,
+                at: found,
+            },
+            output,
+        ),
+    }
 }

@@ -1,5 +1,5 @@
 //! Runs of the program, and how they end.
-use ptdump_engine::{Command, Destination, Failure, Outcome, Progress, Request, run};
+use ptdump_engine::{Command, Destination, Failure, Form, Outcome, Progress, Request, run};
 use std::alloc::{AllocError, Global};
 use std::io::{self, ErrorKind, Write};
 use std::process::Abort;
@@ -45,6 +45,7 @@ impl Word {
         };
         Ok(Request {
             command,
+            form: Form::Text,
             cr3: None,
             levels: None,
             base: None,

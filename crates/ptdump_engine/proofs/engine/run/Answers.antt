@@ -32,7 +32,7 @@ returns-in-Four-clause-run g c = λ known.
     runs_by (g.W.Destination.may_refuse || g.E.Destination.may_refuse) request (g.S.ByteSource.bytes c.args.source) (contents c.args.writer.now) (contents c.report.new.writer) (record { dump = dump; start = start }) c.report.result
     (opens request (g.S.ByteSource.bytes c.args.source) dump start (c.in_ok-dump.ensures known) (c.in_ok-start.ensures.start known))
     (subst (λ levels. IfOk c.report.result (λ outcome.
-    Reports request.command (level_count levels) (words_of_dump dump) start.root (contents c.args.writer.now) (contents c.report.new.writer) outcome)) (sym c.in-Four.is) (c.report.ensures.written known))
+    Reports request (level_count levels) (words_of_dump dump) start.root (contents c.args.writer.now) (contents c.report.new.writer) outcome)) (sym c.in-Four.is) (c.report.ensures.written known))
     (c.report.ensures.errors known)
 
 pub returns-clause-run : goal.returns-clause-run
@@ -44,7 +44,7 @@ returns-clause-run g c = λ known.
     runs_by (g.W.Destination.may_refuse || g.E.Destination.may_refuse) request (g.S.ByteSource.bytes c.args.source) (contents c.args.writer.now) (contents c.report-in-Five.new.writer) (record { dump = dump; start = start }) c.report-in-Five.result
     (opens request (g.S.ByteSource.bytes c.args.source) dump start (c.in_ok-dump.ensures known) (c.in_ok-start.ensures.start known))
     (subst (λ levels. IfOk c.report-in-Five.result (λ outcome.
-    Reports request.command (level_count levels) (words_of_dump dump) start.root (contents c.args.writer.now) (contents c.report-in-Five.new.writer) outcome)) (sym c.in-Five.is) (c.report-in-Five.ensures.written known))
+    Reports request (level_count levels) (words_of_dump dump) start.root (contents c.args.writer.now) (contents c.report-in-Five.new.writer) outcome)) (sym c.in-Five.is) (c.report-in-Five.ensures.written known))
     (c.report-in-Five.ensures.errors known)
 
 pub returns-in-Four-clause-told : goal.returns-in-Four-clause-told

@@ -1,16 +1,22 @@
 use Rattle.std.proofs.Common.{subst}
 use Rattle.std.specs.List.{flat_map}
-use Rattle.x86_64_mappings.specs.Texts.{mapping_text}
+use Rattle.ptdump_engine.specs.Lines.{mapping_line}
 use Rattle.ptdump_engine.specs.Output.{Puts}
 use Rattle.ptdump_engine.specs.Reports.{pages_text}
-use Rattle.ptdump_engine.specs.Walks.{line}
 use Rattle.ptdump_engine.proofs.Asked.{all_asked}
 use Rattle.ptdump_engine.proofs.Results.{on_ok}
 use Rattle.ptdump_engine.proofs.report.write_pages.Goals as goal
 
-pub returns : goal.returns
+pub returns-in-Text : goal.returns-in-Text
 unfolding pages_text
-returns g c =
+returns-in-Text g c =
     let L = g.L.LevelCount.LEVELS in
-    on_ok c.visit_mappings.result (subst (λ ms. Puts g.W.Destination.contents c.args.output.now c.visit_mappings.new.visitor (flat_map (λ m. line (mapping_text L m)) ms))
-    (all_asked c.args.loaded.now c.requires L c.args.loaded.now.root)) c.visit_mappings.ensures
+    on_ok c.visit_mappings.result (subst (λ ms. Puts g.W.Destination.contents c.args.output.now c.visit_mappings.new.visitor (flat_map (mapping_line c.args.form L) ms))
+    (all_asked c.args.loaded.now c.requires L c.args.loaded.now.root)) (rw c.in-Text.is c.visit_mappings.ensures)
+
+pub returns-in-Json : goal.returns-in-Json
+unfolding pages_text
+returns-in-Json g c =
+    let L = g.L.LevelCount.LEVELS in
+    on_ok c.write_json_pages.result (subst (λ ms. Puts g.W.Destination.contents c.args.output.now c.write_json_pages.new.output (flat_map (mapping_line c.args.form L) ms))
+    (all_asked c.args.loaded.now c.requires L c.args.loaded.now.root)) (rw c.in-Json.is c.write_json_pages.ensures)
