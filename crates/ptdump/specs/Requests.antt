@@ -4,6 +4,8 @@ use Rattle.clap.specs.Matches.{first_value, matched_of, one_text, raw_values}
 use Rattle.clap.specs.declared.parser.matches.Found.{Found}
 use Rattle.ptdump_engine.specs.declared.request.Command.{Command}
 use Rattle.ptdump_engine.specs.declared.request.Command.TheVariants.{Regions, Pages, Walk, Find, Check, Image, Picture, Info}
+use Rattle.ptdump_engine.specs.declared.request.Form.{Form}
+use Rattle.ptdump_engine.specs.declared.request.Form.TheVariants.{Text, Json}
 use Rattle.x86_64_addr.specs.declared.level_count.Levels.{Levels}
 use Rattle.x86_64_addr.specs.declared.level_count.Levels.TheVariants.{Four, Five}
 use Rattle.ptdump_engine.specs.declared.request.Request.{Request}
@@ -43,9 +45,14 @@ count Five = 5
 abbrev pub IsLevels : (text : Option (List ℕ)) → Option Levels → Type 0
 IsLevels text levels = IsOption text (option_map count levels)
 
+abbrev pub is_json : Form → Bool
+is_json Text = false
+is_json Json = true
+
 -- the request is that of the command with this name and these arguments
 pub record IsRequest (name : List ℕ) (found : Found) (request : Request) : Type 0 where
   pub command : IsCommand name found request.command
+  pub form : IsFlag (one_text found (codes "json")) (is_json request.form)
   pub cr3 : IsOption (first_value found (codes "cr3")) request.cr3
   pub levels : IsLevels (first_value found (codes "levels")) request.levels
   pub placement : IsPlacement (first_value found (codes "base")) (values found (codes "range")) request.placement

@@ -35,6 +35,11 @@ fn subcommand<'a>(alloc: Global, help: &CommandHelp) -> Result<Command<'a>, Erro
         Operands::Addresses(text) => command.arg(addresses(alloc, text))?,
         Operands::Accesses(text) => with_access(alloc, command.arg(addresses(alloc, text))?)?,
     };
+    let command = if help.has_json {
+        command.arg(flag(alloc, "json", "Write JSON objects, one a line"))?
+    } else {
+        command
+    };
     Ok(
         command
             .arg(option(alloc, "cr3", "CR3 [default: as the core's notes say]"))?
@@ -87,7 +92,7 @@ fn with_names<'a>(alloc: Global, command: Command<'a>) -> Result<Command<'a>, Er
     let names = flag(
         alloc,
         "names",
-        "Show the names of the flags that are set, too",
+        "Show the names of the flags that are set, too; not in JSON",
     );
     Ok(command.arg(names)?)
 }

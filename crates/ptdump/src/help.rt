@@ -23,6 +23,8 @@ pub struct CommandHelp {
     pub about: &'static str,
     /// The arguments after the file.
     pub operands: Operands,
+    /// Whether it can write JSON.
+    pub has_json: bool,
     /// What it prints, and an example.
     pub more: &'static str,
 }
@@ -81,6 +83,7 @@ pub static COMMANDS: [CommandHelp; 8] = [
         name: "regions",
         about: "List what is mapped, region by region",
         operands: Operands::Selection,
+        has_json: true,
         more: "\
 A region is as long as addresses go on without a gap and with the same rights.
 Each line is FIRST-LAST SIZE RIGHTS: its first and last address, how long it is,
@@ -89,6 +92,9 @@ and what may be done there: r read, w write, x execute, u by user code.
 --from and --to list only regions that reach into these addresses, the last one
 included, as they are; --rights only those with at least these of the letters
 r, w, x and u. The last line counts all that is mapped.
+
+With --json a line is an object with first and last (strings in hexadecimal),
+bytes (a number), and the rights write, execute and user (true or false).
 
 Examples:
 
@@ -115,6 +121,7 @@ Examples:
         name: "pages",
         about: "List all mappings, page by page",
         operands: Operands::Names,
+        has_json: true,
         more: "\
 Each line is START SIZE FRAME RIGHTS FLAGS: the page's first address, its size,
 the physical address to which it leads, what may be done there (r read, w write,
@@ -129,6 +136,10 @@ included; --rights only those with at least these of the letters r, w, x and u.
 PWT, PCD and PAT (kind of memory), KEY=5 (protection key, if it isn't 0), and
 SW=0x200 (the bits 9 to 11 and 52 to 58, which are software's). PAT is shown for
 4KiB pages alone, since bit 12, where larger ones have it, isn't in this list.
+
+With --json a line is an object with start, frame and flags (strings in
+hexadecimal), bytes (a number), and write, execute and user (true or false).
+It has no names of flags, also with --names.
 
 Examples:
 
@@ -168,6 +179,7 @@ Examples:
         name: "walk",
         about: "Show how the processor finds an address, word by word",
         operands: Operands::Accesses("The addresses to walk to"),
+        has_json: true,
         more: "\
 For each address a line for each word that is read on the way,
 level L 0xTABLE[INDEX] 0xWORD, and then the physical address with what may be
@@ -180,6 +192,13 @@ is user-read, user-write, user-fetch, supervisor-read, supervisor-write or
 supervisor-fetch. LIST names the settings of the processor that are on, with
 commas between, or is none: wp (CR0.WP), nxe (EFER.NXE), smep (CR4.SMEP), smap
 (CR4.SMAP), ac (EFLAGS.AC). The exit status is 1 if an access doesn't arrive.
+
+With --json a line is the object of an address. Its words have level, index
+(numbers), table and word (strings in hexadecimal, as all addresses). Its end is
+\"arrives\", with physical, write, execute and user, or \"not present\", or \"missing
+table\", with table, or \"huge page\", with level. With --as its access is an
+object with name and end: \"arrives\", with physical, \"fault\", with level and
+code, or \"missing table\", with table.
 
 Examples:
 
@@ -208,21 +227,30 @@ Examples:
         name: "find",
         about: "Find the addresses that lead to a physical address",
         operands: Operands::Addresses("The physical addresses to look for"),
+        has_json: true,
         more: "\
 For each physical address a line for each address that leads to it, with what
 may be done there: r read, w write, x execute, u by user code.
 
-Example:
+With --json a line is an object with physical and address (strings in
+hexadecimal), and the rights write, execute and user (true or false).
+
+Examples:
 
   $ ptdump find machine.elf 0x204123
   0x405123 rw-u
   0xffff800000204123 rw--
+  tables 13, mappings 18, mapped 1054776KiB
+  $ ptdump find machine.elf 0x204123 --json
+  {\"address\":\"0x405123\",\"execute\":false,\"physical\":\"0x204123\",\"user\":true,\"write\":true}
+  {\"address\":\"0xffff800000204123\",\"execute\":false,\"physical\":\"0x204123\",\"user\":false,\"write\":true}
   tables 13, mappings 18, mapped 1054776KiB",
     },
     CommandHelp {
         name: "check",
         about: "Find what is seldom meant, as memory that may be written and executed",
         operands: Operands::None,
+        has_json: false,
         more: "\
 Findings are: regions that may be written and executed, regions of the upper
 half that user code reaches, tables that several words name, tables that aren't
@@ -241,6 +269,7 @@ Example:
         name: "image",
         about: "Write the tables as an image that pagetab reads",
         operands: Operands::None,
+        has_json: false,
         more: "\
 pagetab maps, unmaps and translates pages on an image of page tables. Tables get
 new addresses, from 0x1000 on. Standard error says which, which words were left
@@ -274,6 +303,7 @@ Example:
         name: "picture",
         about: "Draw the regions and the tables, as an SVG picture",
         operands: Operands::None,
+        has_json: false,
         more: "\
 The picture shows the regions of each half of the addresses, coloured by their
 rights, and the tables as a tree. A browser shows it.
@@ -287,6 +317,7 @@ Example:
         name: "info",
         about: "Tell what the dump says of its machine, and which root is taken",
         operands: Operands::None,
+        has_json: false,
         more: "\
 The lines are: the format of the file, the ranges of physical memory with their
 sizes, the control registers of each processor with its mode of paging, what the

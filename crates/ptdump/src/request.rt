@@ -3,7 +3,7 @@ ghost use Rattle.std.specs.Prelude.{Option, IfOk, IfErr, codes};
 ghost use Rattle.std.specs.Option.{option_copied};
 ghost use Rattle.clap.specs.Matches.{found_of, one_text};
 ghost use Rattle.ptdump.specs.Options.{IsFlag};
-ghost use Rattle.ptdump.specs.Requests.{AreNumbers, IsCommand, IsLevels, IsRequest, IsUnread, values};
+ghost use Rattle.ptdump.specs.Requests.{AreNumbers, IsCommand, IsLevels, IsRequest, IsUnread, is_json, values};
 ghost use Rattle.x86_64_addr.specs.declared.level_count.Levels.{Levels};
 
 use crate::asked::access_of;
@@ -12,7 +12,7 @@ use crate::placement::placement_of;
 use crate::selection::selection_of;
 use crate::stop::Stop;
 use clap::ArgMatches;
-use ptdump_engine::{Command, Levels, Request};
+use ptdump_engine::{Command, Form, Levels, Request};
 use std::alloc::Global;
 
 /// Returns the request for a command and its arguments.
@@ -30,12 +30,24 @@ pub fn request_of<'a>(
 {
     Ok(Request {
         command: command_of(alloc, name, arguments)?,
+        form: form_of(arguments),
         cr3: option_of("--cr3", arguments.get_str("cr3"))?,
         levels: levels_of(arguments.get_str("levels"))?,
         placement: placement_of(alloc, arguments)?,
         is_raw: is_given(arguments, "raw"),
         cpu: option_of("--cpu", arguments.get_str("cpu"))?,
     })
+}
+
+/// Returns the form that the arguments ask for.
+fn form_of(arguments: &ArgMatches<'_>) -> Form
+    ensures { IsFlag (one_text (found_of arguments.now) (codes "json")) (is_json result) }
+{
+    if is_given(arguments, "json") {
+        Form::Json
+    } else {
+        Form::Text
+    }
 }
 
 /// Returns true if a flag is given.

@@ -87,7 +87,7 @@ same_steps c d T W p (suc n) f alike same =
     by (Some e) there below = ap (λ steps. record { level = suc n; frame = f; index = index (suc n) p; word = e } ∷ steps)
         (each _ _ (reads_on c (suc n) e) (below e there) ∙ ap (λ b. cond b (steps_from d W p n (address e)) []) (on e))
 
-same_outcome : (asked : ProcessorAccess) (L : ℕ) (T W : Words) (root p : ℕ) → SameBelow L T W root → outcome_in L T root p asked ≡ outcome_in L W root p asked
+pub same_outcome : (asked : ProcessorAccess) (L : ℕ) (T W : Words) (root p : ℕ) → SameBelow L T W root → outcome_in L T root p asked ≡ outcome_in L W root p asked
 unfolding access
 same_outcome asked L T W root p same =
     let c = controls_of asked.controls in

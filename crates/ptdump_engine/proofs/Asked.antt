@@ -9,10 +9,11 @@ use Rattle.x86_64_model.specs.Position.{position_count, raw}
 use Rattle.x86_64_model.proofs.Lemmas.Mappings.Placed.{mappings_fit}
 use Rattle.x86_64_mappings.specs.Wanted.{asked_mappings, asked_of, is_wanted, leads_to}
 use Rattle.ptdump_engine.specs.Loaded.{IsLoaded, words_loaded}
-use Rattle.ptdump_engine.specs.Reports.{addresses_text, found_text}
-use Rattle.ptdump_engine.specs.Walks.{line, rights_at_text}
+use Rattle.ptdump_engine.specs.Reports.{address_line as line_of, addresses_text}
+use Rattle.ptdump_engine.specs.Lines.{found_line}
 use Rattle.ptdump_engine.specs.declared.loaded.Loaded.{Loaded}
-use Rattle.ptdump_engine.specs.private.Finding.{address_text, some_there}
+use Rattle.ptdump_engine.specs.declared.request.Form.{Form}
+use Rattle.ptdump_engine.specs.private.Finding.{address_line, some_there}
 
 -- all mappings are wanted
 all_wanted : (ms : List Mapping) → filter (is_wanted None) ms ≡ ms
@@ -37,24 +38,24 @@ inside a m count leads fits =
     let high : a < m.frame + m.size = ltb-true a (m.frame + m.size) parts.1 in
     omega arith
 
-same_lines : (L a : ℕ) (ms : List Mapping) → AllByRecursion (λ m. m.start + m.size ≤ position_count L) ms
-    → flat_map (λ m. line (address_text L a m)) (filter (leads_to a) ms) ≡ flat_map (λ m. line (found_text L a m)) (filter (leads_to a) ms)
-same_lines L a [] fit = refl
-same_lines L a (m ∷ ms) fit = by (leads_to a m) refl (same_lines L a ms fit.1)
+same_lines : (form : Form) (L a : ℕ) (ms : List Mapping) → AllByRecursion (λ m. m.start + m.size ≤ position_count L) ms
+    → flat_map (address_line form L a) (filter (leads_to a) ms) ≡ flat_map (line_of form L a) (filter (leads_to a) ms)
+same_lines form L a [] fit = refl
+same_lines form L a (m ∷ ms) fit = by (leads_to a m) refl (same_lines form L a ms fit.1)
   where
     by : (b : Bool) → leads_to a m ≡ b
-        → flat_map (λ m. line (address_text L a m)) (filter (leads_to a) ms) ≡ flat_map (λ m. line (found_text L a m)) (filter (leads_to a) ms)
-        → flat_map (λ m. line (address_text L a m)) (cond b (m ∷ filter (leads_to a) ms) (filter (leads_to a) ms))
-        ≡ flat_map (λ m. line (found_text L a m)) (cond b (m ∷ filter (leads_to a) ms) (filter (leads_to a) ms))
-    by true leads rest = ap (λ p. line (rights_at_text (raw L p) m.rights) ++ flat_map (λ m. line (address_text L a m)) (filter (leads_to a) ms))
+        → flat_map (address_line form L a) (filter (leads_to a) ms) ≡ flat_map (line_of form L a) (filter (leads_to a) ms)
+        → flat_map (address_line form L a) (cond b (m ∷ filter (leads_to a) ms) (filter (leads_to a) ms))
+        ≡ flat_map (line_of form L a) (cond b (m ∷ filter (leads_to a) ms) (filter (leads_to a) ms))
+    by true leads rest = ap (λ p. found_line form a (raw L p) m.rights ++ flat_map (address_line form L a) (filter (leads_to a) ms))
         (mod-eq_of_lt (inside a m (position_count L) leads fit.0))
-        ∙ ap (λ lines. line (found_text L a m) ++ lines) rest
+        ∙ ap (λ lines. line_of form L a m ++ lines) rest
     by false leads rest = rest
 
-pub lines_found : (L : ℕ) (T : Words) (root a : ℕ)
-    → flat_map (λ m. line (address_text L a m)) (filter (leads_to a) (mappings_of L T root)) ≡ addresses_text L T root a
+pub lines_found : (form : Form) (L : ℕ) (T : Words) (root a : ℕ)
+    → flat_map (address_line form L a) (filter (leads_to a) (mappings_of L T root)) ≡ addresses_text form L T root a
 unfolding addresses_text
-lines_found L T root a = same_lines L a (mappings_of L T root) (mappings_fit L T root)
+lines_found form L T root a = same_lines form L a (mappings_of L T root) (mappings_fit L T root)
 
 -- a mapping is found if and only if one leads to the address
 pub some_found : (a : ℕ) (ms : List Mapping) → some_there (filter (leads_to a) ms) ≡ list_any (leads_to a) ms

@@ -6,6 +6,8 @@ pub mod Failing
 pub mod Listed
 pub mod Results
 pub mod WalkLaws
+pub mod WalkObjects
+pub mod WordByWord
 pub mod WalkLines
 pub mod Walking
 pub mod Wholly

@@ -66,6 +66,7 @@ kernel_has_text dump = by (slice_get (notes_of VmCoreInfo dump) 0)
     of : (found : Result Kernel KernelFault) → FaultHasText (result_map_both Some faults.VmCoreInfo found)
     of (Ok kernel) = tt
     of (Err fault) = refl
+
     by : (note : Option Note) → FaultHasText (kernel_by dump.file note)
     by None = tt
     by (Some note) = of (kernel_of (text_of dump.file note))
@@ -77,6 +78,7 @@ kernel_start_text dump levels = text_then (of_dump (kernel_in dump)) (start_by d
     box : (b : Bool) → IsSome (failure_text (if b then failures.VirtualBox else failures.NoCr3))
     box true = refl
     box false = refl
+
     each : (kernel : Option Kernel) → HasText (start_by dump levels kernel)
     each (Some kernel) = tt
     each None = box (is_of_virtualbox dump)

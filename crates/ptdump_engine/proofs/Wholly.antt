@@ -9,18 +9,19 @@ use Rattle.x86_64_dump.specs.Dump.{Contents}
 use Rattle.x86_64_dump.specs.Opening.{Fails, contents_as}
 use Rattle.x86_64_dump.specs.declared.error.DumpError.{DumpError}
 use Rattle.x86_64_dump.specs.Reached.{SameBelow}
-use Rattle.x86_64_mappings.specs.Texts.{mapping_text, region_text}
 use Rattle.x86_64_model.specs.Mappings.{mappings_of}
 use Rattle.x86_64_model.specs.Memory.{Words}
 use Rattle.x86_64_model.specs.PageWalk.{page_walk}
-use Rattle.x86_64_model.specs.Position.{position_count}
+use Rattle.x86_64_model.specs.Position.{position_count, raw}
 use Rattle.x86_64_model.specs.Regions.{regions_in}
 use Rattle.x86_64_mappings.specs.Wanted.{leads_to}
 use Rattle.ptdump_engine.specs.Output.{Puts, put_in}
 use Rattle.ptdump_engine.specs.Failure.{failure_of}
 use Rattle.ptdump_engine.specs.Findings.{check_text, count_text, line_count}
-use Rattle.ptdump_engine.specs.Program.{Opened, Reports, ReportsOf, RunsAs, RunsOnDump, RunsOnTables, completeness_of, dump_for, format_for, info_of, opened_for, report_of, start_for}
-use Rattle.ptdump_engine.specs.Reports.{addresses_text, find_text, found_text, page_text, pages_text, regions_text, walks_text}
+use Rattle.ptdump_engine.specs.Json.{json_line, json_of_access, json_of_asked, json_of_walk}
+use Rattle.ptdump_engine.specs.Lines.{mapping_line, region_line, walk_lines}
+use Rattle.ptdump_engine.specs.Program.{Opened, Reports, ReportsOf, RunsAs, RunsOnDump, RunsOnTables, completeness_of, dump_for, format_for, info_of, opened_for, report_in, report_of, start_for}
+use Rattle.ptdump_engine.specs.Reports.{address_line, addresses_text, find_text, pages_text, regions_text, walks_text}
 use Rattle.ptdump_engine.specs.Selections.{is_mapping_selected, is_selected}
 use Rattle.ptdump_engine.specs.Steps.{FailsBy, IsForced, and_then, of_dump}
 use Rattle.ptdump_engine.specs.Walks.{line, walk_text}
@@ -28,10 +29,13 @@ use Rattle.ptdump_engine.specs.declared.failure.Failure.{Failure}
 use Rattle.ptdump_engine.specs.declared.output.Output.{Output}
 use Rattle.ptdump_engine.specs.declared.request.Command.{Command}
 use Rattle.ptdump_engine.specs.declared.request.Command.TheVariants as commands
+use Rattle.ptdump_engine.specs.declared.request.Form.{Form}
+use Rattle.ptdump_engine.specs.declared.request.Form.TheVariants.{Text, Json}
 use Rattle.ptdump_engine.specs.declared.request.Outcome.{Outcome}
+use Rattle.ptdump_engine.specs.declared.request.ProcessorAccess.{ProcessorAccess}
 use Rattle.ptdump_engine.specs.declared.request.Request.{Request}
 use Rattle.ptdump_engine.specs.declared.start.Start.{Start}
-use Rattle.ptdump_engine.proofs.AccessLaws.{same_asked, same_there}
+use Rattle.ptdump_engine.proofs.AccessLaws.{same_asked, same_outcome, same_there}
 use Rattle.ptdump_engine.proofs.Failing.{dump_fails, dump_unread, fails_then, forced_fails, forced_first}
 use Rattle.ptdump_engine.proofs.SameTables.{same_lines}
 use Rattle.ptdump_engine.proofs.WalkLaws.{same_walk}
@@ -87,20 +91,32 @@ written_whole contents begun now ended text none all puts rest =
 
 -- ---- words with equal mappings
 
-pub same_report : (command : Command) (L : ℕ) (T W : Words) (root : ℕ) → mappings_of L T root ≡ mappings_of L W root → SameBelow L T W root
-    → report_of command L T root ≡ report_of command L W root
+same_json : (asked : Option ProcessorAccess) (L : ℕ) (T W : Words) (root p : ℕ) → SameBelow L T W root → json_of_asked asked L T root p ≡ json_of_asked asked L W root p
+same_json None L T W root p below = refl
+same_json (Some asked) L T W root p below = ap (λ o. Some (json_of_access asked.access o)) (same_outcome asked L T W root p below)
+
+same_walks : (form : Form) (L : ℕ) (T W : Words) (root : ℕ) (asked : Option ProcessorAccess) (p : ℕ) → SameBelow L T W root → walk_lines form L T root asked p ≡ walk_lines form L W root asked p
+same_walks Text L T W root asked p below = λ i. walk_text (same_walk T W p L root below i) ++ same_asked asked L T W root p below i
+same_walks Json L T W root asked p below = λ i. json_line (json_of_walk (raw L p) (same_walk T W p L root below i) (same_json asked L T W root p below i))
+
+same_of : (form : Form) (command : Command) (L : ℕ) (T W : Words) (root : ℕ) → mappings_of L T root ≡ mappings_of L W root → SameBelow L T W root
+    → report_in form command L T root ≡ report_in form command L W root
 unfolding regions_text pages_text walks_text find_text addresses_text check_text
-same_report (commands.Regions s) L T W root same below = ap (λ ms. Some (flat_map (λ r. line (region_text L r)) (filter (is_selected L s) (regions_in L ms)))) same
-same_report (commands.Pages s has_names) L T W root same below = ap (λ ms. Some (flat_map (λ m. line (page_text has_names L m)) (filter (is_mapping_selected L s) ms))) same
-same_report (commands.Walk addresses asked) L T W root same below =
-    λ i. Some (flat_map (λ a. walk_text (same_walk T W (a % position_count L) L root below i) ++ same_asked asked L T W root (a % position_count L) below i) addresses.items)
-same_report (commands.Find addresses) L T W root same below =
-    ap (λ ms. Some (flat_map (λ a. flat_map (λ m. line (found_text L a m)) (filter (leads_to a) ms)) addresses.items)) same
-same_report commands.Check L T W root same below =
+same_of form (commands.Regions s) L T W root same below = ap (λ ms. Some (flat_map (region_line form L) (filter (is_selected L s) (regions_in L ms)))) same
+same_of form (commands.Pages s has_names) L T W root same below = ap (λ ms. Some (flat_map (mapping_line form has_names L) (filter (is_mapping_selected L s) ms))) same
+same_of form (commands.Walk addresses asked) L T W root same below =
+    λ i. Some (flat_map (λ a. same_walks form L T W root asked (a % position_count L) below i) addresses.items)
+same_of form (commands.Find addresses) L T W root same below =
+    ap (λ ms. Some (flat_map (λ a. flat_map (address_line form L a) (filter (leads_to a) ms)) addresses.items)) same
+same_of form commands.Check L T W root same below =
     ap (λ lines. Some (flat_map line lines ++ line (count_text (line_count lines)))) (same_lines T W L root same below)
-same_report commands.Image L T W root same below = refl
-same_report commands.Picture L T W root same below = refl
-same_report commands.Info L T W root same below = refl
+same_of form commands.Image L T W root same below = refl
+same_of form commands.Picture L T W root same below = refl
+same_of form commands.Info L T W root same below = refl
+
+pub same_report : (request : Request) (L : ℕ) (T W : Words) (root : ℕ) → mappings_of L T root ≡ mappings_of L W root → SameBelow L T W root
+    → report_of request L T root ≡ report_of request L W root
+same_report request = same_of request.form request.command
 
 pub same_completeness : (command : Command) (L : ℕ) (T W : Words) (root : ℕ) → mappings_of L T root ≡ mappings_of L W root
     → SameBelow L T W root → ((p : ℕ) → page_walk L T root p ≡ page_walk L W root p) → completeness_of command L T root ≡ completeness_of command L W root
@@ -157,7 +173,7 @@ forced_run true may request file before after failure forced = (forced_fails may
 forced_run false may request file before after failure forced = (forced_fails may failure (opened_for request file) forced, inl forced)
 
 -- or because the file is no dump
-pub unopened : (info may : Bool) (request : Request) (file : List ℕ) (contents : Option (List ℕ)) (error : DumpError) → Fails error (contents_as (format_for request file) file request.base)
+pub unopened : (info may : Bool) (request : Request) (file : List ℕ) (contents : Option (List ℕ)) (error : DumpError) → Fails error (contents_as (format_for request file) file request.placement)
     → RunsAs info may request file contents contents (Err (failure_of error))
-unopened true may request file contents error fails = (dump_unread may error (contents_as (format_for request file) file request.base) fails, inr refl)
+unopened true may request file contents error fails = (dump_unread may error (contents_as (format_for request file) file request.placement) fails, inr refl)
 unopened false may request file contents error fails = (no_dump may request file error fails, inr refl)

@@ -2,7 +2,9 @@ pub mod Accesses
 pub mod Failure
 pub mod FailureTexts
 pub mod Info
+pub mod Json
 pub mod Laws
+pub mod Lines
 pub mod Loaded
 pub mod MemoryRanges
 pub mod Names

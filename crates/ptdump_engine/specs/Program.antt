@@ -27,6 +27,7 @@ use Rattle.ptdump_engine.specs.declared.request.Command.{Command}
 use Rattle.ptdump_engine.specs.declared.request.Command.TheVariants as commands
 use Rattle.x86_64_addr.specs.declared.level_count.Levels.{Levels}
 use Rattle.x86_64_addr.specs.declared.level_count.Levels.TheVariants.{Four, Five}
+use Rattle.ptdump_engine.specs.declared.request.Form.{Form}
 use Rattle.ptdump_engine.specs.declared.request.Outcome.{Outcome}
 use Rattle.ptdump_engine.specs.declared.request.Request.{Request}
 use Rattle.ptdump_engine.specs.declared.request.Selection.{Selection}
@@ -113,15 +114,18 @@ opened_for request file = and_then (dump_for request file) (λ dump.
 
 -- ---- the output
 
--- the report of a command, or None if it isn't specified here
-abbrev pub report_of : Command → (L : ℕ) → Words → (root : ℕ) → Option (List ℕ)
-report_of (commands.Regions selection) L T root = Some (regions_text selection L T root)
-report_of (commands.Pages selection has_names) L T root = Some (pages_text selection has_names L T root)
-report_of (commands.Walk addresses asked) L T root = Some (walks_text L T root asked addresses.items)
-report_of (commands.Find addresses) L T root = Some (find_text L T root addresses.items)
-report_of commands.Check L T root = Some (check_text L T root)
-report_of commands.Info L T root = Some []
-report_of command L T root = None
+-- the report of a command in a form, or None if it isn't specified here
+abbrev pub report_in : Form → Command → (L : ℕ) → Words → (root : ℕ) → Option (List ℕ)
+report_in form (commands.Regions selection) L T root = Some (regions_text selection form L T root)
+report_in form (commands.Pages selection has_names) L T root = Some (pages_text selection has_names form L T root)
+report_in form (commands.Walk addresses asked) L T root = Some (walks_text form L T root asked addresses.items)
+report_in form (commands.Find addresses) L T root = Some (find_text form L T root addresses.items)
+report_in form commands.Check L T root = Some (check_text L T root)
+report_in form commands.Info L T root = Some []
+report_in form command L T root = None
+
+abbrev pub report_of : Request → (L : ℕ) → Words → (root : ℕ) → Option (List ℕ)
+report_of request = report_in request.form request.command
 
 -- whether the request is fulfilled: each walk or its access arrives, each physical address is found, a check finds nothing
 abbrev pub completeness_of : Command → (L : ℕ) → Words → (root : ℕ) → Option Bool
@@ -130,14 +134,14 @@ completeness_of (commands.Find addresses) L T root = Some (all_found L T root ad
 completeness_of commands.Check L T root = Some (finds_nothing L T root)
 completeness_of command L T root = Some true
 
--- the report of a command on words was written, and the outcome is as specified
-pub record Reports (command : Command) (L : ℕ) (T : Words) (root : ℕ) (before after : Option (List ℕ)) (outcome : Outcome) : Type 0 where
-  pub text : IfSome (report_of command L T root) (Appends before after)
-  pub complete : IfSome (completeness_of command L T root) (λ b. outcome.is_complete ≡ b)
+-- the report of a request on words was written, and the outcome is as specified
+pub record Reports (request : Request) (L : ℕ) (T : Words) (root : ℕ) (before after : Option (List ℕ)) (outcome : Outcome) : Type 0 where
+  pub text : IfSome (report_of request L T root) (Appends before after)
+  pub complete : IfSome (completeness_of request.command L T root) (λ b. outcome.is_complete ≡ b)
 
 abbrev pub ReportsOf : Request → (before after : Option (List ℕ)) → Outcome → Opened → Type 0
 ReportsOf request before after outcome o =
-    Reports request.command (level_count o.start.levels) (words_of_dump o.dump) o.start.root before after outcome
+    Reports request (level_count o.start.levels) (words_of_dump o.dump) o.start.root before after outcome
 
 -- The result and the output of a run that reports on tables. It fails for its request or its file without writing anything, and
 -- for a write only if its writers may refuse one.

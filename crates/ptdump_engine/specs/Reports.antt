@@ -1,51 +1,41 @@
--- Reports: the texts of the program for words, with L levels of tables below a root.
-use Rattle.std.specs.Prelude.{ℕ, ◌+◌, ◌-◌, ◌%◌, ◌++◌, Bool, true, false, List, Option, filter}
+-- Reports: the texts of the program for words in a form, with L levels of tables below a root.
+use Rattle.std.specs.Prelude.{ℕ, ◌+◌, ◌-◌, ◌%◌, Bool, List, Option, filter}
 use Rattle.std.specs.List.{flat_map, list_all, list_any}
 use Rattle.x86_64_model.specs.Mappings.{Mapping, mappings_of}
 use Rattle.x86_64_model.specs.Memory.{Words}
 use Rattle.x86_64_model.specs.Position.{position_count, raw}
 use Rattle.x86_64_model.specs.Regions.{regions_of}
-use Rattle.x86_64_mappings.specs.Texts.{mapping_text, region_text}
 use Rattle.x86_64_mappings.specs.Wanted.{leads_to}
-use Rattle.ptdump_engine.specs.Accesses.{asked_text, is_there}
-use Rattle.ptdump_engine.specs.Names.{named_text}
+use Rattle.ptdump_engine.specs.Accesses.{is_there}
+use Rattle.ptdump_engine.specs.Lines.{found_line, mapping_line, region_line, walk_lines}
 use Rattle.ptdump_engine.specs.Selections.{is_mapping_selected, is_selected}
-use Rattle.ptdump_engine.specs.Walks.{line, rights_at_text, walk_of, walk_text}
+use Rattle.ptdump_engine.specs.declared.request.Form.{Form}
 use Rattle.ptdump_engine.specs.declared.request.ProcessorAccess.{ProcessorAccess}
 use Rattle.ptdump_engine.specs.declared.request.Selection.{Selection}
 
 -- a line for each region that is selected
-unfoldable pub regions_text : Selection → (L : ℕ) → Words → (root : ℕ) → List ℕ
-regions_text s L T root = flat_map (λ r. line (region_text L r)) (filter (is_selected L s) (regions_of L T root))
-
--- a mapping as text, with the names of its flags if they are asked for
-abbrev pub page_text : (has_names : Bool) → (L : ℕ) → Mapping → List ℕ
-page_text true L m = named_text L m
-page_text false L m = mapping_text L m
+unfoldable pub regions_text : Selection → Form → (L : ℕ) → Words → (root : ℕ) → List ℕ
+regions_text s form L T root = flat_map (region_line form L) (filter (is_selected L s) (regions_of L T root))
 
 -- a line for each mapping that is selected
-unfoldable pub pages_text : Selection → (has_names : Bool) → (L : ℕ) → Words → (root : ℕ) → List ℕ
-pages_text s has_names L T root = flat_map (λ m. line (page_text has_names L m)) (filter (is_mapping_selected L s) (mappings_of L T root))
-
--- the walk to position p, and the line of the access that is asked for
-abbrev pub walk_and_access_text : (L : ℕ) → Words → (root : ℕ) → Option ProcessorAccess → (p : ℕ) → List ℕ
-walk_and_access_text L T root asked p = walk_text (walk_of L T root p) ++ asked_text asked L T root p
+unfoldable pub pages_text : Selection → (has_names : Bool) → Form → (L : ℕ) → Words → (root : ℕ) → List ℕ
+pages_text s has_names form L T root = flat_map (mapping_line form has_names L) (filter (is_mapping_selected L s) (mappings_of L T root))
 
 -- the walks to virtual addresses
-unfoldable pub walks_text : (L : ℕ) → Words → (root : ℕ) → Option ProcessorAccess → (addresses : List ℕ) → List ℕ
-walks_text L T root asked addresses = flat_map (λ a. walk_and_access_text L T root asked (a % position_count L)) addresses
+unfoldable pub walks_text : Form → (L : ℕ) → Words → (root : ℕ) → Option ProcessorAccess → (addresses : List ℕ) → List ℕ
+walks_text form L T root asked addresses = flat_map (λ a. walk_lines form L T root asked (a % position_count L)) addresses
 
 -- the line for the virtual address in a mapping that leads to a physical address
-abbrev pub found_text : (L physical : ℕ) → Mapping → List ℕ
-found_text L a m = rights_at_text (raw L (m.start + (a - m.frame))) m.rights
+abbrev pub address_line : Form → (L physical : ℕ) → Mapping → List ℕ
+address_line form L a m = found_line form a (raw L (m.start + (a - m.frame))) m.rights
 
 -- a line for each virtual address that leads to a physical address, in order
-unfoldable pub addresses_text : (L : ℕ) → Words → (root physical : ℕ) → List ℕ
-addresses_text L T root a = flat_map (λ m. line (found_text L a m)) (filter (leads_to a) (mappings_of L T root))
+unfoldable pub addresses_text : Form → (L : ℕ) → Words → (root physical : ℕ) → List ℕ
+addresses_text form L T root a = flat_map (address_line form L a) (filter (leads_to a) (mappings_of L T root))
 
 -- likewise for each of several physical addresses
-unfoldable pub find_text : (L : ℕ) → Words → (root : ℕ) → (physical : List ℕ) → List ℕ
-find_text L T root physical = flat_map (addresses_text L T root) physical
+unfoldable pub find_text : Form → (L : ℕ) → Words → (root : ℕ) → (physical : List ℕ) → List ℕ
+find_text form L T root physical = flat_map (addresses_text form L T root) physical
 
 -- ---- whether the request is fulfilled
 

@@ -41,13 +41,26 @@ pub fn write_access<L: LevelCount, W: Destination>(
     ensures arrives { IfOk result (λ arrives. arrives ≡ accesses.is_arrived
         (accesses.outcome_in L.LEVELS (words_loaded loaded.now) loaded.now.root address asked)) }
 {
+    let line = access_end(loaded, address, asked);
+    writeln!(output, "{line}")?;
+    Ok(line.end.is_ok())
+}
+
+/// Returns what a processor does with an access at an address.
+pub fn access_end<L: LevelCount>(
+    loaded: &Loaded<'_, L>,
+    address: VirtAddrIn<L>,
+    asked: ProcessorAccess,
+) -> AccessLine
+    ensures access { result.access ≡ asked.access }
+    ensures end { outcome_of result.end
+        ≡ accesses.outcome_in L.LEVELS (words_loaded loaded.now) loaded.now.root address asked }
+{
     let end = end_of(loaded.tables.memory(), loaded.root, address, asked);
-    let line = AccessLine {
+    AccessLine {
         access: asked.access,
         end,
-    };
-    writeln!(output, "{line}")?;
-    Ok(end.is_ok())
+    }
 }
 
 /// Returns what a processor does with an access at an address: the physical address at which it arrives, or the fault.
@@ -83,11 +96,11 @@ fn limited(controls: Controls) -> Controls
 
 /// An access, and what a processor does with it, as text.
 #[derive(Clone, Copy)]
-struct AccessLine {
+pub struct AccessLine {
     /// The access.
-    access: Access,
+    pub access: Access,
     /// The physical address at which it arrives, or the fault.
-    end: Result<PhysAddr, Fault>,
+    pub end: Result<PhysAddr, Fault>,
 }
 
 impl Display for AccessLine {
@@ -100,7 +113,7 @@ impl Display for AccessLine {
 }
 
 /// Returns the name of an access.
-fn access_name(access: Access) -> &'static str
+pub fn access_name(access: Access) -> &'static str
     ensures { result.now ≡ accesses.access_name access }
 {
     match (access.user, access.kind) {

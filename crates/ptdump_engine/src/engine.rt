@@ -71,15 +71,7 @@ pub fn run<S: ByteSource, W: Destination, E: Destination, G: Progress>(
     }
     let start = start_for(alloc, &dump, request)?;
     write_source(start.origin, &mut notes)?;
-    report_from(
-        alloc,
-        &dump,
-        &start,
-        &request.command,
-        writer,
-        &mut notes,
-        progress,
-    )
+    report_from(alloc, &dump, &start, request, writer, &mut notes, progress)
 }
 
 /// Writes immediately if the root is the kernel's own.
@@ -129,15 +121,15 @@ fn report_from<S: ByteSource, W: Destination, E: Destination, G: Progress>(
     alloc: Global,
     dump: &Dump<S>,
     start: &Start,
-    command: &Command,
+    request: &Request,
     writer: &mut W,
     notes: &mut Output<'_, E>,
     progress: &mut G,
 ) -> Result<Outcome, Failure>
-    requires { program.IsTested command.now }
-    ensures written { S.IsKnown → IfOk result (program.Reports command.now (program.level_count start.now.levels)
+    requires { program.IsTested request.now.command }
+    ensures written { S.IsKnown → IfOk result (program.Reports request.now (program.level_count start.now.levels)
         (words_of_dump (opened S.bytes dump.now)) start.now.root (W.contents writer.old) (W.contents writer.new)) }
-    ensures totals { S.IsKnown → OnOk result (program.is_image command.now ≡ false →
+    ensures totals { S.IsKnown → OnOk result (program.is_image request.now.command ≡ false →
         (notes.new.writer.ghost_name ≡ notes.old.writer.ghost_name)
         × program.EndsByTotals (program.level_count start.now.levels) (words_of_dump (opened S.bytes dump.now))
         start.now.root (put_in E.contents notes.old) (E.contents notes.new.writer.now)) }
@@ -148,10 +140,10 @@ fn report_from<S: ByteSource, W: Destination, E: Destination, G: Progress>(
 {
     match start.levels {
         Levels::Four => report::<FourLevels, S, W, E, G>(
-            alloc, dump, start.root, command, writer, notes, progress,
+            alloc, dump, start.root, request, writer, notes, progress,
         ),
         Levels::Five => report::<FiveLevels, S, W, E, G>(
-            alloc, dump, start.root, command, writer, notes, progress,
+            alloc, dump, start.root, request, writer, notes, progress,
         ),
     }
 }
@@ -162,15 +154,15 @@ fn report<L: LevelCount, S: ByteSource, W: Destination, E: Destination, G: Progr
     alloc: Global,
     dump: &Dump<S>,
     root: PhysFrame<Size4KiB>,
-    command: &Command,
+    request: &Request,
     writer: &mut W,
     notes: &mut Output<'_, E>,
     progress: &mut G,
 ) -> Result<Outcome, Failure>
-    requires { program.IsTested command.now }
-    ensures written { S.IsKnown → IfOk result (program.Reports command.now L.LEVELS
+    requires { program.IsTested request.now.command }
+    ensures written { S.IsKnown → IfOk result (program.Reports request.now L.LEVELS
         (words_of_dump (opened S.bytes dump.now)) root (W.contents writer.old) (W.contents writer.new)) }
-    ensures totals { S.IsKnown → OnOk result (program.is_image command.now ≡ false →
+    ensures totals { S.IsKnown → OnOk result (program.is_image request.now.command ≡ false →
         (notes.new.writer.ghost_name ≡ notes.old.writer.ghost_name)
         × program.EndsByTotals L.LEVELS (words_of_dump (opened S.bytes dump.now)) root
         (put_in E.contents notes.old) (E.contents notes.new.writer.now)) }
@@ -189,7 +181,7 @@ fn report<L: LevelCount, S: ByteSource, W: Destination, E: Destination, G: Progr
         summaries: &summaries,
         levels: PhantomData,
     };
-    let is_complete = write_whole(alloc, dump, &loaded, command, writer, notes)?;
+    let is_complete = write_whole(alloc, dump, &loaded, request, writer, notes)?;
     write_totals(&loaded, notes)?;
     Ok(Outcome { is_complete })
 }
@@ -200,24 +192,24 @@ fn write_whole<L: LevelCount, S: ByteSource, W: Destination, E: Destination>(
     alloc: Global,
     dump: &Dump<S>,
     loaded: &Loaded<'_, L>,
-    command: &Command,
+    request: &Request,
     writer: &mut W,
     notes: &mut Output<'_, E>,
 ) -> Result<bool, Failure>
     requires loaded { IsLoaded loaded.now }
     requires tables { S.IsKnown → HasAllTables L.LEVELS loaded.now }
-    requires tested { program.IsTested command.now }
+    requires tested { program.IsTested request.now.command }
     ensures text { S.IsKnown → OnOk result (
-        IfSome (program.report_of command.now L.LEVELS (words_loaded loaded.now) loaded.now.root)
+        IfSome (program.report_of request.now L.LEVELS (words_loaded loaded.now) loaded.now.root)
         (Appends (W.contents writer.old) (W.contents writer.new))) }
     ensures complete { S.IsKnown → IfOk result (λ is.
-        IfSome (program.completeness_of command.now L.LEVELS (words_loaded loaded.now) loaded.now.root)
+        IfSome (program.completeness_of request.now.command L.LEVELS (words_loaded loaded.now) loaded.now.root)
         (λ all. is ≡ all)) }
-    ensures notes { OnOk result (program.is_image command.now ≡ false → notes.new ≡ notes.old) }
+    ensures notes { OnOk result (program.is_image request.now.command ≡ false → notes.new ≡ notes.old) }
     ensures errors { S.IsKnown → IfErr result (IsForced (W.may_refuse || E.may_refuse)) }
 {
     let mut output = Output::new(alloc, writer);
-    let is_complete = write_report(alloc, dump, loaded, command, &mut output, notes)?;
+    let is_complete = write_report(alloc, dump, loaded, request, &mut output, notes)?;
     output.finish()?;
     Ok(is_complete)
 }
@@ -228,36 +220,39 @@ fn write_report<L: LevelCount, S: ByteSource, W: Destination, E: Destination>(
     alloc: Global,
     dump: &Dump<S>,
     loaded: &Loaded<'_, L>,
-    command: &Command,
+    request: &Request,
     output: &mut Output<'_, W>,
     notes: &mut Output<'_, E>,
 ) -> Result<bool, Failure>
     requires loaded { IsLoaded loaded.now }
     requires tables { S.IsKnown → HasAllTables L.LEVELS loaded.now }
-    requires tested { program.IsTested command.now }
+    requires tested { program.IsTested request.now.command }
     ensures text { S.IsKnown → OnOk result (
-        IfSome (program.report_of command.now L.LEVELS (words_loaded loaded.now) loaded.now.root)
+        IfSome (program.report_of request.now L.LEVELS (words_loaded loaded.now) loaded.now.root)
         (Puts W.contents output.old output.new)) }
     ensures complete { S.IsKnown → IfOk result (λ is.
-        IfSome (program.completeness_of command.now L.LEVELS (words_loaded loaded.now) loaded.now.root)
+        IfSome (program.completeness_of request.now.command L.LEVELS (words_loaded loaded.now) loaded.now.root)
         (λ all. is ≡ all)) }
-    ensures notes { OnOk result (program.is_image command.now ≡ false → notes.new ≡ notes.old) }
+    ensures notes { OnOk result (program.is_image request.now.command ≡ false → notes.new ≡ notes.old) }
     ensures errors { S.IsKnown → IfErr result (IsForced (W.may_refuse || E.may_refuse)) }
 {
-    match command {
+    let form = request.form;
+    match &request.command {
         Command::Regions(selection) => {
-            write_regions(loaded, *selection, output)?;
+            write_regions(alloc, loaded, *selection, form, output)?;
             Ok(true)
         }
         Command::Pages {
             selection,
             has_names,
         } => {
-            write_pages(loaded, *selection, *has_names, output)?;
+            write_pages(alloc, loaded, *selection, *has_names, form, output)?;
             Ok(true)
         }
-        Command::Walk { addresses, access } => Ok(write_walks(loaded, addresses, *access, output)?),
-        Command::Find(addresses) => Ok(write_found(alloc, loaded, addresses, output)?),
+        Command::Walk { addresses, access } => {
+            Ok(write_walks(alloc, loaded, addresses, *access, form, output)?)
+        }
+        Command::Find(addresses) => Ok(write_found(alloc, loaded, addresses, form, output)?),
         Command::Check => Ok(write_findings(alloc, loaded, output)?),
         Command::Image => {
             write_image(alloc, dump, loaded, output, notes)?;

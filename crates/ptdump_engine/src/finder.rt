@@ -1,8 +1,12 @@
 //! The search for a physical address.
-ghost use Rattle.std.specs.Prelude.{◌≡◌, false};
+ghost use Rattle.std.specs.Prelude.{◌≡◌, false, OnOk};
+ghost use Rattle.ptdump_engine.specs.Lines.{found_line};
 
-use crate::line_output::LineOutput;
+use crate::json_lines::{Found, write_json};
+use crate::lines::Lines;
+use crate::request::Form;
 use crate::rights_at::RightsAt;
+use std::alloc::Global;
 use x86_64_addr::addr::{PhysAddr, VirtAddrIn};
 use x86_64_addr::level_count::LevelCount;
 use x86_64_mappings::{MappingIn, Visitor};
@@ -13,6 +17,10 @@ use x86_64_mappings::{MappingIn, Visitor};
 pub struct Finder<'a, O> {
     /// The destination of the lines.
     output: &'a mut O,
+    /// The allocator.
+    alloc: Global,
+    /// The form of the lines.
+    form: Form,
     /// The physical address.
     physical: PhysAddr,
     /// Whether a mapping was visited.
@@ -25,35 +33,40 @@ impl<O> Drop for Finder<'_, O> {
     {
         let Finder {
             output: _output,
+            alloc: _,
+            form: _,
             physical: _,
             is_found: _,
         } = self;
     }
 }
 
-impl<'a, O: LineOutput> Finder<'a, O> {
+impl<'a, O: Lines> Finder<'a, O> {
     /// Begins the search for a physical address.
-    pub fn new(output: &'a mut O, physical: PhysAddr) -> Self
+    pub fn new(alloc: Global, form: Form, physical: PhysAddr, output: &'a mut O) -> Self
         ensures name { result.output.ghost_name ≡ output.entry.ghost_name }
         ensures now { result.output.now ≡ output.old }
+        ensures form { result.form ≡ form }
         ensures physical { result.physical ≡ physical }
         ensures found { result.is_found ≡ false }
     {
         Finder {
             output,
+            alloc,
+            form,
             physical,
             is_found: false,
         }
     }
 }
 
-impl<L: LevelCount, O: LineOutput> Visitor<MappingIn<L>> for Finder<'_, O> {
+impl<L: LevelCount, O: Lines> Visitor<MappingIn<L>> for Finder<'_, O> {
     type Error = O::Error;
 
     ghost use Rattle.ptdump_engine.specs.private.Finding.{IsSearched};
     ghost use Rattle.ptdump_engine.specs.private.Searched.{searched_nothing, searched_both};
 
-    ghost Visits = { λ old new mappings. IsSearched O.Lines L.LEVELS old new mappings };
+    ghost Visits = { λ old new mappings. IsSearched O.puts L.LEVELS old new mappings };
 
     /// Writes the virtual address in a mapping that leads to the physical address.
     fn visit(&mut self, mapping: MappingIn<L>) -> Result<(), O::Error> {
@@ -65,10 +78,34 @@ impl<L: LevelCount, O: LineOutput> Visitor<MappingIn<L>> for Finder<'_, O> {
             rights: mapping.rights,
         };
         self.is_found = true;
-        self.output.write_line(found)
+        write_found(self.alloc, self.form, self.physical, found, self.output)
     }
 
-    ghost none = { λ finder. searched_nothing O.Lines O.nothing L.LEVELS finder };
+    ghost none = { λ finder. searched_nothing O.puts O.nothing L.LEVELS finder };
 
-    ghost both = { searched_both O.Lines O.parts L.LEVELS };
+    ghost both = { searched_both O.puts O.parts L.LEVELS };
+}
+
+/// Writes the line for an address that leads to a physical address.
+fn write_found<O: Lines>(
+    alloc: Global,
+    form: Form,
+    physical: PhysAddr,
+    found: RightsAt,
+    output: &mut O,
+) -> Result<(), O::Error>
+    ensures { OnOk result (O.puts output.old output.new
+        (found_line form physical found.address found.rights)) }
+{
+    match form {
+        Form::Text => output.write_line(found),
+        Form::Json => write_json(
+            alloc,
+            &Found {
+                physical,
+                at: found,
+            },
+            output,
+        ),
+    }
 }

@@ -1,15 +1,52 @@
-//! Mappings and regions as lines of an output.
+//! Lines of an output, of mappings and regions too.
+ghost use Rattle.std.specs.Prelude.{◌++◌, ℕ, List, [], IfSome, OnOk};
 ghost use Rattle.std.specs.List.{flat_map};
 ghost use Rattle.x86_64_mappings.specs.Texts.{mapping_text, region_text};
 ghost use Rattle.ptdump_engine.specs.Output.{Puts};
 ghost use Rattle.ptdump_engine.specs.Walks.{line};
-ghost use Rattle.ptdump_engine.specs.private.Puts.{puts_nothing, puts_each};
+ghost use Rattle.ptdump_engine.specs.private.Puts.{puts_nothing, puts_both, puts_each};
 
 use crate::destination::Destination;
 use crate::names::NamedMapping;
 use crate::output::{Output, OutputError};
+use std::alloc::AllocError;
+use std::fmt::Display;
 use x86_64_addr::level_count::LevelCount;
 use x86_64_mappings::{MappingIn, RegionIn, Visitor};
+
+/// A destination for lines of text. It is a trait so that contracts can identify an [`Output`] that a struct has borrowed, once
+/// it is returned.
+pub trait Lines {
+    /// The reason why a line isn't put in.
+    type Error: Drop + From<AllocError>;
+
+    /// That a text was put in.
+    ghost puts: { Self → Self → List ℕ → Type 0 };
+
+    ghost nothing: { (output : Self) → puts output output [] };
+
+    ghost parts: { (before between after : Self) (front back : List ℕ) →
+        puts before between front → puts between after back → puts before after (front ++ back) };
+
+    /// Puts a text in as a line.
+    fn write_line<D: Display + Drop>(&mut self, text: D) -> Result<(), Self::Error>
+        ensures { OnOk result (IfSome (D.output text) (λ text. puts self.old self.new (line text))) };
+}
+
+impl<W: Destination> Lines for Output<'_, W> {
+    type Error = OutputError<W>;
+
+    ghost puts = { λ old new text. Puts W.contents old new text };
+
+    ghost nothing = { λ output. puts_nothing W.contents output };
+
+    ghost parts = { λ before between after front back.
+        puts_both W.contents before between after front back };
+
+    fn write_line<D: Display + Drop>(&mut self, text: D) -> Result<(), OutputError<W>> {
+        writeln!(self, "{text}")
+    }
+}
 
 impl<L: LevelCount, W: Destination> Visitor<MappingIn<L>> for Output<'_, W> {
     type Error = OutputError<W>;

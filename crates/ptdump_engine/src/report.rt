@@ -4,20 +4,23 @@ ghost use Rattle.std.specs.List.{find, list_any};
 ghost use Rattle.x86_64_model.specs.Mappings.{mappings_of};
 ghost use Rattle.x86_64_mappings.specs.Wanted.{leads_to};
 ghost use Rattle.ptdump_engine.specs.Accesses.{is_there};
+ghost use Rattle.ptdump_engine.specs.Lines.{walk_lines};
 ghost use Rattle.ptdump_engine.specs.Loaded.{IsLoaded, words_loaded};
 ghost use Rattle.ptdump_engine.specs.Output.{Puts};
 ghost use Rattle.ptdump_engine.specs.Reports as reports;
+ghost use Rattle.ptdump_engine.specs.declared.request.Form.TheVariants.{Text};
 ghost use Rattle.ptdump_engine.specs.private.Asked.{mappings_asked};
 ghost use Rattle.ptdump_engine.specs.private.Finding.{some_there, visited_lines};
 
 use crate::access_line::write_access;
 use crate::destination::Destination;
 use crate::finder::Finder;
-use crate::line_output::LineOutput;
+use crate::json_lines::{write_json_pages, write_json_regions, write_json_walk};
+use crate::lines::Lines;
 use crate::loaded::Loaded;
 use crate::naming::visit_named_mappings;
 use crate::output::{Output, OutputError};
-use crate::request::{ProcessorAccess, Selection};
+use crate::request::{Form, ProcessorAccess, Selection};
 use crate::selected::{visit_selected_mappings, visit_selected_regions};
 use crate::walk::write_walk;
 use std::alloc::Global;
@@ -26,31 +29,61 @@ use x86_64_addr::level_count::LevelCount;
 use x86_64_mappings::{Summaries, visit_mappings};
 use x86_64_tables::phys_memory::{IdentityMapping, PhysMemory};
 
-/// Writes a line for each region that is selected.
+/// Writes a line in a form for each region that is selected.
 ///
 /// # Errors
 ///
 /// `OutputError::OutOfMemory` if memory allocation fails, `OutputError::Write` if a write fails.
 #[tactic(auto, unfolding(crate::specs::Reports::regions_text))]
 pub fn write_regions<L: LevelCount, W: Destination>(
+    alloc: Global,
     loaded: &Loaded<'_, L>,
     selection: Selection,
+    form: Form,
     output: &mut Output<'_, W>,
 ) -> Result<(), OutputError<W>>
     requires { IsLoaded loaded.now }
     ensures { OnOk result (Puts W.contents output.old output.new
-        (reports.regions_text selection L.LEVELS (words_loaded loaded.now) loaded.now.root)) }
+        (reports.regions_text selection form L.LEVELS (words_loaded loaded.now) loaded.now.root)) }
 {
-    visit_selected_regions::<L, Output<'_, W>>(loaded.summaries, loaded.root, selection, output)
+    match form {
+        Form::Text => visit_selected_regions::<L, Output<'_, W>>(
+            loaded.summaries,
+            loaded.root,
+            selection,
+            output,
+        ),
+        Form::Json => write_json_regions::<L, Output<'_, W>>(alloc, loaded, selection, output),
+    }
 }
 
-/// Writes a line for each mapping that is selected, with the names of its flags if they are asked for.
+/// Writes a line in a form for each mapping that is selected. A line of text has the names of its flags too if they are asked for.
 ///
 /// # Errors
 ///
 /// `OutputError::OutOfMemory` if memory allocation fails, `OutputError::Write` if a write fails.
 #[tactic(auto, unfolding(crate::specs::Reports::pages_text))]
 pub fn write_pages<L: LevelCount, W: Destination>(
+    alloc: Global,
+    loaded: &Loaded<'_, L>,
+    selection: Selection,
+    has_names: bool,
+    form: Form,
+    output: &mut Output<'_, W>,
+) -> Result<(), OutputError<W>>
+    requires { IsLoaded loaded.now }
+    ensures { OnOk result (Puts W.contents output.old output.new
+        (reports.pages_text selection has_names form L.LEVELS (words_loaded loaded.now) loaded.now.root)) }
+{
+    match form {
+        Form::Text => write_pages_as_text(loaded, selection, has_names, output),
+        Form::Json => write_json_pages::<L, Output<'_, W>>(alloc, loaded, selection, output),
+    }
+}
+
+/// Writes a line of text for each mapping that is selected, with the names of its flags if they are asked for.
+#[tactic(auto, unfolding(crate::specs::Reports::pages_text))]
+fn write_pages_as_text<L: LevelCount, W: Destination>(
     loaded: &Loaded<'_, L>,
     selection: Selection,
     has_names: bool,
@@ -58,7 +91,7 @@ pub fn write_pages<L: LevelCount, W: Destination>(
 ) -> Result<(), OutputError<W>>
     requires { IsLoaded loaded.now }
     ensures { OnOk result (Puts W.contents output.old output.new
-        (reports.pages_text selection has_names L.LEVELS (words_loaded loaded.now) loaded.now.root)) }
+        (reports.pages_text selection has_names Text L.LEVELS (words_loaded loaded.now) loaded.now.root)) }
 {
     if has_names {
         visit_named_mappings::<L, Output<'_, W>>(loaded.summaries, loaded.root, selection, output)
@@ -79,27 +112,50 @@ pub fn write_pages<L: LevelCount, W: Destination>(
 ///
 /// `OutputError::OutOfMemory` if memory allocation fails, `OutputError::Write` if a write fails.
 pub fn write_walks<L: LevelCount, W: Destination>(
+    alloc: Global,
     loaded: &Loaded<'_, L>,
     addresses: &[u64],
     access: Option<ProcessorAccess>,
+    form: Form,
     output: &mut Output<'_, W>,
 ) -> Result<bool, OutputError<W>>
     ensures text { OnOk result (Puts W.contents output.old output.new
-        (reports.walks_text L.LEVELS (words_loaded loaded.now) loaded.now.root access addresses.now)) }
+        (reports.walks_text form L.LEVELS (words_loaded loaded.now) loaded.now.root access addresses.now)) }
     ensures complete { IfOk result (λ all.
         all ≡ reports.all_arrive L.LEVELS (words_loaded loaded.now) loaded.now.root access addresses.now) }
 {
     let mut is_complete = true;
     for address in addresses {
         let address = VirtAddrIn::<L>::new_truncate(*address);
-        let arrives = write_walk_and_access(loaded, address, access, output)?;
+        let arrives = write_walk_as(alloc, loaded, address, access, form, output)?;
         is_complete &= arrives;
     }
     Ok(is_complete)
 }
 
-/// Writes the walk to an address, and what a processor does with an access there, if one is asked for. Returns true if the access
-/// arrives, or if none is asked for, the walk.
+/// Writes the walk to an address in a form, and what a processor does with an access there, if one is asked for. Returns true if
+/// the access arrives, or if none is asked for, the walk.
+fn write_walk_as<L: LevelCount, W: Destination>(
+    alloc: Global,
+    loaded: &Loaded<'_, L>,
+    address: VirtAddrIn<L>,
+    access: Option<ProcessorAccess>,
+    form: Form,
+    output: &mut Output<'_, W>,
+) -> Result<bool, OutputError<W>>
+    ensures text { OnOk result (Puts W.contents output.old output.new
+        (walk_lines form L.LEVELS (words_loaded loaded.now) loaded.now.root access address)) }
+    ensures arrives { IfOk result (λ arrives.
+        arrives ≡ is_there access L.LEVELS (words_loaded loaded.now) loaded.now.root address) }
+{
+    match form {
+        Form::Text => write_walk_and_access(loaded, address, access, output),
+        Form::Json => write_json_walk::<L, Output<'_, W>>(alloc, loaded, address, access, output),
+    }
+}
+
+/// Writes the walk to an address as text, and what a processor does with an access there, if one is asked for. Returns true if the
+/// access arrives, or if none is asked for, the walk.
 fn write_walk_and_access<L: LevelCount, W: Destination>(
     loaded: &Loaded<'_, L>,
     address: VirtAddrIn<L>,
@@ -107,7 +163,7 @@ fn write_walk_and_access<L: LevelCount, W: Destination>(
     output: &mut Output<'_, W>,
 ) -> Result<bool, OutputError<W>>
     ensures text { OnOk result (Puts W.contents output.old output.new
-        (reports.walk_and_access_text L.LEVELS (words_loaded loaded.now) loaded.now.root access address)) }
+        (walk_lines Text L.LEVELS (words_loaded loaded.now) loaded.now.root access address)) }
     ensures arrives { IfOk result (λ arrives.
         arrives ≡ is_there access L.LEVELS (words_loaded loaded.now) loaded.now.root address) }
 {
@@ -127,18 +183,19 @@ pub fn write_found<L: LevelCount, W: Destination>(
     alloc: Global,
     loaded: &Loaded<'_, L>,
     addresses: &[u64],
+    form: Form,
     output: &mut Output<'_, W>,
 ) -> Result<bool, OutputError<W>>
     requires { find (λ a. nat_le (2 ^ 52) a) addresses.now ≡ None }
     ensures text { OnOk result (Puts W.contents output.old output.new
-        (reports.find_text L.LEVELS (words_loaded loaded.now) loaded.now.root addresses.now)) }
+        (reports.find_text form L.LEVELS (words_loaded loaded.now) loaded.now.root addresses.now)) }
     ensures complete { IfOk result (λ all.
         all ≡ reports.all_found L.LEVELS (words_loaded loaded.now) loaded.now.root addresses.now) }
 {
     let mut is_complete = true;
     for address in addresses {
         let physical = PhysAddr::new(*address);
-        let is_found = write_addresses_to(alloc, loaded, physical, output)?;
+        let is_found = write_addresses_to(alloc, loaded, physical, form, output)?;
         is_complete &= is_found;
     }
     Ok(is_complete)
@@ -149,33 +206,36 @@ fn write_addresses_to<L: LevelCount, W: Destination>(
     alloc: Global,
     loaded: &Loaded<'_, L>,
     physical: PhysAddr,
+    form: Form,
     output: &mut Output<'_, W>,
 ) -> Result<bool, OutputError<W>>
     ensures text { OnOk result (Puts W.contents output.old output.new
-        (reports.addresses_text L.LEVELS (words_loaded loaded.now) loaded.now.root physical)) }
+        (reports.addresses_text form L.LEVELS (words_loaded loaded.now) loaded.now.root physical)) }
     ensures found { IfOk result (λ found. found
         ≡ list_any (leads_to physical) (mappings_of L.LEVELS (words_loaded loaded.now) loaded.now.root)) }
 {
     let memory = loaded.tables.memory();
     let frames = loaded.tables.frames();
     let summaries = Summaries::new(alloc, memory, &IdentityMapping, frames, Some(physical))?;
-    write_addresses_by::<L, Output<'_, W>>(&summaries, loaded, physical, output)
+    write_addresses_by::<L, Output<'_, W>>(alloc, &summaries, loaded, physical, form, output)
 }
 
 /// Visits the mappings of the summaries that lead to a physical address, writes the virtual addresses, and returns true if
 /// there are any.
-fn write_addresses_by<L: LevelCount, O: LineOutput>(
+fn write_addresses_by<L: LevelCount, O: Lines>(
+    alloc: Global,
     summaries: &Summaries<'_, PhysMemory, IdentityMapping>,
     loaded: &Loaded<'_, L>,
     physical: PhysAddr,
+    form: Form,
     output: &mut O,
 ) -> Result<bool, O::Error>
-    ensures lines { OnOk result (O.Lines output.old output.new
-        (visited_lines L.LEVELS physical (mappings_asked summaries.now L.LEVELS loaded.now.root))) }
+    ensures text { OnOk result (O.puts output.old output.new
+        (visited_lines form L.LEVELS physical (mappings_asked summaries.now L.LEVELS loaded.now.root))) }
     ensures found { IfOk result (λ found.
         found ≡ some_there (mappings_asked summaries.now L.LEVELS loaded.now.root)) }
 {
-    let mut finder = Finder::new(output, physical);
+    let mut finder = Finder::new(alloc, form, physical, output);
     visit_mappings::<L, PhysMemory, IdentityMapping, Finder<'_, O>>(
         summaries,
         loaded.root,

@@ -77,11 +77,22 @@ impl Command {
     }
 }
 
+/// The form of a report.
+#[derive(Clone, Copy, Debug, PartialEq, Eq)]
+pub enum Form {
+    /// Lines of text.
+    Text,
+    /// A JSON object for each region, mapping, walk or address that is found, one a line.
+    Json,
+}
+
 /// A request for a report on a dump.
 #[derive(Debug, Drop)]
 pub struct Request {
     /// The report to write.
     pub command: Command,
+    /// The form of a report of regions, mappings, walks or a search. Other reports have one form.
+    pub form: Form,
     /// The CR3. If `None`, it is read from a processor's note in the dump, or else the kernel's note says where the root is.
     pub cr3: Option<u64>,
     /// The number of levels of tables. If `None`, the CR4 in a processor's note determines it, or else the kernel's note if it says

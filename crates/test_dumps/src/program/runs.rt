@@ -1,5 +1,7 @@
 //! Runs of the program, and how they end.
-use ptdump_engine::{Command, Destination, Failure, Outcome, Progress, Request, Selection, run};
+use ptdump_engine::{
+    Command, Destination, Failure, Form, Outcome, Progress, Request, Selection, run,
+};
 use std::alloc::{AllocError, Global};
 use std::io::{self, ErrorKind, Write};
 use std::process::Abort;
@@ -48,6 +50,7 @@ impl Word {
         };
         Ok(Request {
             command,
+            form: Form::Text,
             cr3: None,
             levels: None,
             placement: Placement::Unstated,

@@ -1,13 +1,10 @@
 use Rattle.std.proofs.Common.{◌≡◌, ◌∙◌, Some, IfOk, filter, ap, subst}
-use Rattle.std.proofs.lemmas.List.Folds.{flat_map-map}
-use Rattle.std.specs.List.{flat_map}
 use Rattle.x86_64_model.specs.Mappings.{mappings_of}
 use Rattle.x86_64_mappings.specs.Wanted.{leads_to}
 use Rattle.ptdump_engine.specs.Loaded.{words_loaded}
 use Rattle.ptdump_engine.specs.Output.{Puts}
-use Rattle.ptdump_engine.specs.Walks.{line}
 use Rattle.ptdump_engine.specs.private.Asked.{mappings_asked}
-use Rattle.ptdump_engine.specs.private.Finding.{address_text, some_there, visited_lines}
+use Rattle.ptdump_engine.specs.private.Finding.{some_there, visited_lines}
 use Rattle.ptdump_engine.proofs.Asked.{lines_found, some_found}
 use Rattle.ptdump_engine.proofs.Results.{on_ok}
 use Rattle.ptdump_engine.proofs.report.write_addresses_to.Goals as goal
@@ -18,9 +15,8 @@ returns-clause-text g c =
     let root = c.args.loaded.now.root in
     let asked = c.in_ok-summaries.ensures ∙ ap (λ m. record { memory = m; mapping = record {}; wanted = Some c.args.physical }) c.memory-memory.ensures in
     on_ok c.write_addresses_by.result (subst (Puts g.W.Destination.contents c.args.output.now c.write_addresses_by.new.output)
-    (ap (λ s. flat_map line (visited_lines L c.args.physical (mappings_asked s L root))) asked
-    ∙ flat_map-map line (address_text L c.args.physical) _ ∙ lines_found L (words_loaded c.args.loaded.now) root c.args.physical))
-    c.write_addresses_by.ensures.lines
+    (ap (λ s. visited_lines c.args.form L c.args.physical (mappings_asked s L root)) asked ∙ lines_found c.args.form L (words_loaded c.args.loaded.now) root c.args.physical))
+    c.write_addresses_by.ensures.text
 
 pub returns-clause-found : goal.returns-clause-found
 returns-clause-found g c =

@@ -29,9 +29,9 @@ loop-address-preserved g c =
     let xs = c.args.addresses.now in
     let i = c.loop-address.address-index in
     let at = c.new-physical.ensures in (
-      puts_more g.W.Destination.contents (addresses_text L T root) c.args.output.now c.loop-address.output c.write_addresses_to.new.output xs i 0 c.loop-address-test.true
+      puts_more g.W.Destination.contents (addresses_text c.args.form L T root) c.args.output.now c.loop-address.output c.write_addresses_to.new.output xs i 0 c.loop-address-test.true
           c.loop-address.invariant.0
-          (subst (λ a. Puts g.W.Destination.contents c.loop-address.output c.write_addresses_to.new.output (addresses_text L T root a)) at c.in_ok-is_found.ensures.text),
+          (subst (λ a. Puts g.W.Destination.contents c.loop-address.output c.write_addresses_to.new.output (addresses_text c.args.form L T root a)) at c.in_ok-is_found.ensures.text),
       ap₂ (λ b d. b && d) c.loop-address.invariant.1 (c.in_ok-is_found.ensures.found ∙ ap (λ a. list_any (leads_to a) (mappings_of L T root)) at)
           ∙ sym (all_more (λ a. list_any (leads_to a) (mappings_of L T root)) xs i c.loop-address-test.true),
     )

@@ -1,32 +1,17 @@
-use Rattle.std.proofs.Common.{Bool, filter, subst, sym}
+use Rattle.std.proofs.Common.{filter, subst}
 use Rattle.std.specs.List.{flat_map}
-use Rattle.x86_64_mappings.specs.Texts.{mapping_text}
-use Rattle.ptdump_engine.specs.Loaded.{words_loaded}
-use Rattle.ptdump_engine.specs.Names.{named_text}
+use Rattle.ptdump_engine.specs.Lines.{mapping_line}
 use Rattle.ptdump_engine.specs.Output.{Puts}
 use Rattle.ptdump_engine.specs.Reports.{pages_text}
 use Rattle.ptdump_engine.specs.Selections.{is_mapping_selected}
-use Rattle.ptdump_engine.specs.Walks.{line}
 use Rattle.ptdump_engine.proofs.Asked.{all_asked}
 use Rattle.ptdump_engine.proofs.Results.{on_ok}
 use Rattle.ptdump_engine.proofs.report.write_pages.Goals as goal
 
-pub returns-then-has_names : goal.returns-then-has_names
+pub returns-in-Json : goal.returns-in-Json
 unfolding pages_text
-returns-then-has_names g c =
+returns-in-Json g c =
     let L = g.L.LevelCount.LEVELS in
-    let root = c.args.loaded.now.root in
-    let put = Puts g.W.Destination.contents c.args.output.now c.visit_named_mappings.new.visitor in
-    on_ok c.visit_named_mappings.result (λ puts. subst (λ (has : Bool). put (pages_text c.args.selection has L (words_loaded c.args.loaded.now) root)) (sym c.if-has_names.true)
-    (subst (λ ms. put (flat_map (λ m. line (named_text L m)) (filter (is_mapping_selected L c.args.selection) ms))) (all_asked c.args.loaded.now c.requires L root) puts))
-    c.visit_named_mappings.ensures
-
-pub returns-else-has_names : goal.returns-else-has_names
-unfolding pages_text
-returns-else-has_names g c =
-    let L = g.L.LevelCount.LEVELS in
-    let root = c.args.loaded.now.root in
-    let put = Puts g.W.Destination.contents c.args.output.now c.visit_selected_mappings.new.visitor in
-    on_ok c.visit_selected_mappings.result (λ puts. subst (λ (has : Bool). put (pages_text c.args.selection has L (words_loaded c.args.loaded.now) root)) (sym c.if-has_names.false)
-    (subst (λ ms. put (flat_map (λ m. line (mapping_text L m)) (filter (is_mapping_selected L c.args.selection) ms))) (all_asked c.args.loaded.now c.requires L root) puts))
-    c.visit_selected_mappings.ensures
+    on_ok c.write_json_pages.result (subst (λ ms. Puts g.W.Destination.contents c.args.output.now c.write_json_pages.new.output
+    (flat_map (mapping_line c.args.form c.args.has_names L) (filter (is_mapping_selected L c.args.selection) ms)))
+    (all_asked c.args.loaded.now c.requires L c.args.loaded.now.root)) (rw c.in-Json.is c.write_json_pages.ensures)

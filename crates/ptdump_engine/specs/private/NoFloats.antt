@@ -1,0 +1,36 @@
+-- Objects of walks have no floats.
+use Rattle.std.proofs.Common.{◌≡◌, ℕ, List, [], ◌∷◌, Option, None, Some, option_map, map, false, refl}
+use Rattle.serde_json.specs.View.{items_of}
+use Rattle.serde_json.specs.Written.{has_float, items_have_float}
+use Rattle.x86_64_access.specs.Accesses.{outcome_of}
+use Rattle.x86_64_access.specs.declared.request.Access.{Access}
+use Rattle.x86_64_model.specs.Access.{Outcome, Arrives, Faults, NoMemory}
+use Rattle.ptdump_engine.specs.Json.{json_of_access, json_of_word}
+use Rattle.ptdump_engine.specs.private.Walked.{json_of_line, json_of_value}
+use Rattle.ptdump_engine.specs.declared.access_line.AccessLine.{AccessLine}
+use Rattle.ptdump_engine.specs.declared.walked.Walk.{Walk as WalkValue}
+use Rattle.ptdump_engine.specs.declared.walked.WalkEnd.{WalkEnd}
+use Rattle.ptdump_engine.specs.declared.walked.WalkEnd.TheVariants as ends
+use Rattle.ptdump_engine.specs.declared.word_read.WordRead.{WordRead}
+
+pub no_float_access : (a : Access) (outcome : Outcome) → has_float (json_of_access a outcome) ≡ false
+no_float_access a (Arrives to) = refl
+no_float_access a (Faults code level) = refl
+no_float_access a (NoMemory frame) = refl
+
+words_have_none : (words : List WordRead) → items_have_float (items_of (map json_of_word words)) ≡ false
+words_have_none [] = refl
+words_have_none (w ∷ words) = words_have_none words
+
+without : (address : ℕ) (value : WalkValue) → has_float (json_of_value address value None) ≡ false
+without address value = by value.end
+  where
+    by : (end : WalkEnd) → has_float (json_of_value address (record value { end = end }) None) ≡ false
+    by (ends.Arrives at) = rw (words_have_none value.words.items) refl
+    by ends.NotPresent = rw (words_have_none value.words.items) refl
+    by (ends.MissingTable frame) = rw (words_have_none value.words.items) refl
+    by (ends.HugePage level) = rw (words_have_none value.words.items) refl
+
+pub no_float_walk : (address : ℕ) (value : WalkValue) (access : Option AccessLine) → has_float (json_of_value address value (option_map json_of_line access)) ≡ false
+no_float_walk address value None = without address value
+no_float_walk address value (Some line) = rw (no_float_access line.access (outcome_of line.end)) (without address value)

@@ -1,0 +1,128 @@
+//! Regions, mappings and addresses that are found, as JSON.
+ghost use Rattle.std.specs.Prelude.{filter, OnOk};
+ghost use Rattle.std.specs.List.{flat_map};
+ghost use Rattle.std.proofs.Common.{refl};
+ghost use Rattle.ptdump_engine.specs.Json as json;
+ghost use Rattle.ptdump_engine.specs.Selections.{is_mapping_selected, is_selected};
+ghost use Rattle.ptdump_engine.specs.private.Asked.{mappings_asked, regions_asked};
+
+use super::{JsonLines, ToJson, hexadecimal};
+use crate::lines::Lines;
+use crate::loaded::Loaded;
+use crate::request::Selection;
+use crate::rights_at::RightsAt;
+use crate::selected::{visit_selected_mappings, visit_selected_regions};
+use bitflags::Flags;
+use serde_json::{Value, json};
+use std::alloc::{AllocError, Global};
+use x86_64_addr::addr::PhysAddr;
+use x86_64_addr::level_count::LevelCount;
+use x86_64_mappings::{MappingIn, RegionIn};
+
+impl<L: LevelCount> ToJson for RegionIn<L> {
+    ghost json = { λ region. json.json_of_region L.LEVELS region };
+
+    ghost no_float = { λ region. refl };
+
+    fn to_json(&self, alloc: Global) -> Result<Value, AllocError> {
+        json!(in alloc; {
+            "first": hexadecimal(alloc, self.first.as_u64())?,
+            "last": hexadecimal(alloc, self.last.as_u64())?,
+            "bytes": self.size(),
+            "write": self.rights.write,
+            "execute": self.rights.execute,
+            "user": self.rights.user,
+        })
+    }
+}
+
+impl<L: LevelCount> ToJson for MappingIn<L> {
+    ghost json = { λ mapping. json.json_of_mapping L.LEVELS mapping };
+
+    ghost no_float = { λ mapping. refl };
+
+    fn to_json(&self, alloc: Global) -> Result<Value, AllocError> {
+        json!(in alloc; {
+            "start": hexadecimal(alloc, self.start.as_u64())?,
+            "bytes": self.size(),
+            "frame": hexadecimal(alloc, self.frame.start_address().as_u64())?,
+            "write": self.rights.write,
+            "execute": self.rights.execute,
+            "user": self.rights.user,
+            "flags": hexadecimal(alloc, self.flags.bits())?,
+        })
+    }
+}
+
+/// An address that leads to a physical address.
+#[derive(Clone, Copy)]
+pub struct Found {
+    /// The physical address.
+    pub physical: PhysAddr,
+    /// The address that leads to it, with the rights there.
+    pub at: RightsAt,
+}
+
+impl ToJson for Found {
+    ghost json = { λ found. json.json_of_found found.physical found.at.address found.at.rights };
+
+    ghost no_float = { λ found. refl };
+
+    fn to_json(&self, alloc: Global) -> Result<Value, AllocError> {
+        json!(in alloc; {
+            "physical": hexadecimal(alloc, self.physical.as_u64())?,
+            "address": hexadecimal(alloc, self.at.address)?,
+            "write": self.at.rights.write,
+            "execute": self.at.rights.execute,
+            "user": self.at.rights.user,
+        })
+    }
+}
+
+/// Writes a line of JSON for each region that is selected.
+///
+/// # Errors
+///
+/// The error of the destination, or of memory allocation.
+pub fn write_json_regions<L: LevelCount, O: Lines>(
+    alloc: Global,
+    loaded: &Loaded<'_, L>,
+    selection: Selection,
+    output: &mut O,
+) -> Result<(), O::Error>
+    ensures { OnOk result (O.puts output.old output.new (
+        flat_map (λ r. json.json_line (json.json_of_region L.LEVELS r)) (filter (is_selected L.LEVELS selection)
+        (regions_asked loaded.now.summaries.now L.LEVELS loaded.now.root)))) }
+{
+    let mut lines = JsonLines::new(alloc, output);
+    visit_selected_regions::<L, JsonLines<'_, O>>(
+        loaded.summaries,
+        loaded.root,
+        selection,
+        &mut lines,
+    )
+}
+
+/// Writes a line of JSON for each mapping that is selected.
+///
+/// # Errors
+///
+/// The error of the destination, or of memory allocation.
+pub fn write_json_pages<L: LevelCount, O: Lines>(
+    alloc: Global,
+    loaded: &Loaded<'_, L>,
+    selection: Selection,
+    output: &mut O,
+) -> Result<(), O::Error>
+    ensures { OnOk result (O.puts output.old output.new (
+        flat_map (λ m. json.json_line (json.json_of_mapping L.LEVELS m)) (filter
+        (is_mapping_selected L.LEVELS selection) (mappings_asked loaded.now.summaries.now L.LEVELS loaded.now.root)))) }
+{
+    let mut lines = JsonLines::new(alloc, output);
+    visit_selected_mappings::<L, JsonLines<'_, O>>(
+        loaded.summaries,
+        loaded.root,
+        selection,
+        &mut lines,
+    )
+}

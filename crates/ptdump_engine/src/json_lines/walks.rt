@@ -1,0 +1,254 @@
+//! Walks as JSON, with what a processor does with an access.
+ghost use Rattle.std.specs.Prelude.{◌≡◌, IfOk, OnOk, codes, map, option_map};
+ghost use Rattle.serde_json.specs.Data.{Members, array, object, put};
+ghost use Rattle.serde_json.specs.View.{items_of, view};
+ghost use Rattle.x86_64_access.specs.Accesses.{outcome_of};
+ghost use Rattle.ptdump_engine.specs.Accesses.{is_arrived, is_there, outcome_in};
+ghost use Rattle.ptdump_engine.specs.Json as json;
+ghost use Rattle.ptdump_engine.specs.Loaded.{words_loaded};
+ghost use Rattle.x86_64_model.specs.Position.{raw};
+ghost use Rattle.ptdump_engine.specs.Walks.{walk_of};
+ghost use Rattle.ptdump_engine.specs.Lines.{walk_lines};
+ghost use Rattle.ptdump_engine.specs.declared.request.Form.TheVariants.{Json};
+ghost use Rattle.ptdump_engine.specs.private.Reported.{json_of_report, report_arrives};
+ghost use Rattle.ptdump_engine.specs.private.Walked.{json_of_line, value_members};
+
+use super::{ToJson, hexadecimal, write_json};
+use crate::access_line::{AccessLine, access_end, access_name};
+use crate::lines::Lines;
+use crate::loaded::Loaded;
+use crate::request::ProcessorAccess;
+use crate::walked::{Walk, WalkEnd, walk_to};
+use crate::word_read::WordRead;
+use bitflags::Flags;
+use serde_json::{Value, json};
+use std::alloc::{AllocError, Global};
+use x86_64_access::Fault;
+use x86_64_addr::addr::VirtAddrIn;
+use x86_64_addr::level_count::LevelCount;
+
+/// A walk to an address, and what a processor does with an access there, if one is asked for.
+#[derive(Drop)]
+struct WalkReport {
+    /// The address.
+    address: u64,
+    /// The walk.
+    walk: Walk,
+    /// The access, and what a processor does with it.
+    access: Option<AccessLine>,
+}
+
+impl WalkReport {
+    /// Returns true if the access arrives, or if there is none, the walk.
+    fn arrives(&self) -> bool
+        ensures { result ≡ report_arrives self.now }
+    {
+        match &self.access {
+            Some(line) => line.end.is_ok(),
+            None => matches!(self.walk.end, WalkEnd::Arrives(_)),
+        }
+    }
+}
+
+impl ToJson for WordRead {
+    ghost use Rattle.std.proofs.Common.{refl};
+
+    ghost json = { λ read. json.json_of_word read };
+
+    ghost no_float = { λ read. refl };
+
+    fn to_json(&self, alloc: Global) -> Result<Value, AllocError> {
+        json!(in alloc; {
+            "level": self.level,
+            "table": hexadecimal(alloc, self.table.start_address().as_u64())?,
+            "index": self.index,
+            "word": hexadecimal(alloc, self.word)?,
+        })
+    }
+}
+
+impl ToJson for AccessLine {
+    ghost use Rattle.ptdump_engine.specs.private.NoFloats.{no_float_access};
+
+    ghost json = { λ line. json.json_of_access line.access (outcome_of line.end) };
+
+    ghost no_float = { λ line. no_float_access line.access (outcome_of line.end) };
+
+    fn to_json(&self, alloc: Global) -> Result<Value, AllocError> {
+        let name = access_name(self.access);
+        match self.end {
+            Ok(address) => {
+                json!(in alloc; {
+                    "name": name,
+                    "end": "arrives",
+                    "physical": hexadecimal(alloc, address.as_u64())?,
+                })
+            }
+            Err(Fault::PageFault { code, level }) => {
+                json!(in alloc; {
+                    "name": name,
+                    "end": "fault",
+                    "level": level,
+                    "code": hexadecimal(alloc, code.bits())?,
+                })
+            }
+            Err(Fault::NoMemory { frame }) => {
+                json!(in alloc; {
+                    "name": name,
+                    "end": "missing table",
+                    "table": hexadecimal(alloc, frame.start_address().as_u64())?,
+                })
+            }
+        }
+    }
+}
+
+impl ToJson for WalkReport {
+    ghost use Rattle.ptdump_engine.specs.private.NoFloats.{no_float_walk};
+
+    ghost json = { λ report. json_of_report report };
+
+    ghost no_float = { λ report. no_float_walk report.address report.walk report.access };
+
+    fn to_json(&self, alloc: Global) -> Result<Value, AllocError> {
+        let words = words_to_json(alloc, self.walk.words.as_slice())?;
+        let walk = walk_to_json(alloc, self.address, words, self.walk.end)?;
+        match &self.access {
+            Some(access) => with_access(alloc, walk, access.to_json(alloc)?),
+            None => Ok(walk),
+        }
+    }
+}
+
+/// Returns the words that a walk reads.
+fn words_to_json(alloc: Global, words: &[WordRead]) -> Result<Value, AllocError>
+    ensures { IfOk result (λ value. view value ≡ array (items_of (map json.json_of_word words.now))) }
+{
+    let mut values = Vec::new(alloc);
+    for word in words {
+        values.push(word.to_json(alloc)?)?;
+    }
+    Ok(Value::Array(values))
+}
+
+/// Returns the object of a walk to an address, with the words that it reads.
+fn walk_to_json(
+    alloc: Global,
+    address: u64,
+    words: Value,
+    end: WalkEnd,
+) -> Result<Value, AllocError>
+    ensures { IfOk result (λ value. view value
+        ≡ object (value_members (json.hexadecimal_string address) (view words) end)) }
+{
+    let address = hexadecimal(alloc, address)?;
+    match end {
+        WalkEnd::Arrives(at) => {
+            json!(in alloc; {
+                "address": address,
+                "words": words,
+                "end": "arrives",
+                "physical": hexadecimal(alloc, at.address)?,
+                "write": at.rights.write,
+                "execute": at.rights.execute,
+                "user": at.rights.user,
+            })
+        }
+        WalkEnd::NotPresent => {
+            json!(in alloc; {"address": address, "words": words, "end": "not present"})
+        }
+        WalkEnd::MissingTable(frame) => {
+            json!(in alloc; {
+                "address": address,
+                "words": words,
+                "end": "missing table",
+                "table": hexadecimal(alloc, frame.start_address().as_u64())?,
+            })
+        }
+        WalkEnd::HugePage(level) => {
+            json!(in alloc; {
+                "address": address,
+                "words": words,
+                "end": "huge page",
+                "level": level,
+            })
+        }
+    }
+}
+
+/// Adds an access to the object of a walk.
+fn with_access(alloc: Global, walk: Value, access: Value) -> Result<Value, AllocError>
+    ensures { (members : Members) → view walk ≡ object members → IfOk result (λ value.
+        view value ≡ object (put (codes "access") (view access) members)) }
+{
+    match walk {
+        Value::Object(mut members) => {
+            serde_json::put(&mut members, alloc, "access", access)?;
+            Ok(Value::Object(members))
+        }
+        other => Ok(other),
+    }
+}
+
+/// Writes the walk to an address as a line of JSON, with what a processor does with an access there, if one is asked for.
+/// Returns true if the access arrives, or if none is asked for, the walk.
+///
+/// # Errors
+///
+/// The error of the destination, or of memory allocation.
+pub fn write_json_walk<L: LevelCount, O: Lines>(
+    alloc: Global,
+    loaded: &Loaded<'_, L>,
+    address: VirtAddrIn<L>,
+    access: Option<ProcessorAccess>,
+    output: &mut O,
+) -> Result<bool, O::Error>
+    ensures text { OnOk result (O.puts output.old output.new (
+        walk_lines Json L.LEVELS (words_loaded loaded.now) loaded.now.root access address)) }
+    ensures arrives { IfOk result (λ arrives.
+        arrives ≡ is_there access L.LEVELS (words_loaded loaded.now) loaded.now.root address) }
+{
+    let report = report_on(alloc, loaded, address, access)?;
+    write_json(alloc, &report, output)?;
+    Ok(report.arrives())
+}
+
+/// Walks to an address, and determines what a processor does with an access there, if one is asked for.
+fn report_on<L: LevelCount>(
+    alloc: Global,
+    loaded: &Loaded<'_, L>,
+    address: VirtAddrIn<L>,
+    access: Option<ProcessorAccess>,
+) -> Result<WalkReport, AllocError>
+    ensures json { IfOk result (λ report. json_of_report report
+        ≡ json.json_of_walk (raw L.LEVELS address)
+        (walk_of L.LEVELS (words_loaded loaded.now) loaded.now.root address)
+        (json.json_of_asked access L.LEVELS (words_loaded loaded.now) loaded.now.root address)) }
+    ensures arrives { IfOk result (λ report. report_arrives report
+        ≡ is_there access L.LEVELS (words_loaded loaded.now) loaded.now.root address) }
+{
+    let walk = walk_to(alloc, loaded, address)?;
+    Ok(WalkReport {
+        address: address.as_u64(),
+        walk,
+        access: end_asked(loaded, address, access),
+    })
+}
+
+/// Returns what a processor does with an access at an address, if one is asked for.
+fn end_asked<L: LevelCount>(
+    loaded: &Loaded<'_, L>,
+    address: VirtAddrIn<L>,
+    access: Option<ProcessorAccess>,
+) -> Option<AccessLine>
+    ensures json { option_map json_of_line result
+        ≡ json.json_of_asked access L.LEVELS (words_loaded loaded.now) loaded.now.root address }
+    ensures arrives { option_map (λ line. is_arrived (outcome_of line.end)) result
+        ≡ option_map (λ asked. is_arrived (
+        outcome_in L.LEVELS (words_loaded loaded.now) loaded.now.root address asked)) access }
+{
+    match access {
+        Some(asked) => Some(access_end(loaded, address, asked)),
+        None => None,
+    }
+}
