@@ -1,12 +1,12 @@
 //! Requests from the words of a command line.
 ghost use Rattle.std.specs.Prelude.{Option, IfOk, IfErr, codes};
 ghost use Rattle.std.specs.Option.{option_copied};
-ghost use Rattle.clap.specs.Matches.{found_of, one_text};
-ghost use Rattle.ptdump.specs.Options.{IsFlag};
+ghost use Rattle.clap.specs.Matches.{found_of};
 ghost use Rattle.ptdump.specs.Requests.{AreNumbers, IsCommand, IsLevels, IsRequest, IsUnread, values};
 ghost use Rattle.x86_64_addr.specs.declared.level_count.Levels.{Levels};
 
-use crate::asked::access_of;
+use crate::asked::options_of;
+use crate::flags::is_given;
 use crate::numbers::{number_of, numbers_of, option_of};
 use crate::selection::selection_of;
 use crate::stop::Stop;
@@ -35,13 +35,6 @@ pub fn request_of<'a>(
         is_raw: is_given(arguments, "raw"),
         cpu: option_of("--cpu", arguments.get_str("cpu"))?,
     })
-}
-
-/// Returns true if a flag is given.
-fn is_given(arguments: &ArgMatches<'_>, name: &str) -> bool
-    ensures { IsFlag (one_text (found_of arguments.now) name.now) result }
-{
-    arguments.get_flag(name)
 }
 
 /// Returns the command with a name and its arguments.
@@ -98,8 +91,8 @@ fn walk_of<'a>(alloc: Global, arguments: &ArgMatches<'a>) -> Result<Command, Sto
     ensures err { IfErr result (IsUnread (IsCommand (codes "walk") (found_of arguments.now))) }
 {
     let addresses = addresses_of(alloc, arguments)?;
-    let access = access_of(arguments)?;
-    Ok(Command::Walk { addresses, access })
+    let options = options_of(arguments)?;
+    Ok(Command::Walk { addresses, options })
 }
 
 /// Returns the search that the arguments describe.

@@ -1,5 +1,6 @@
 pub mod AccessLaws
 pub mod Asked
+pub mod Explaining
 pub mod Failing
 pub mod Listed
 pub mod Results

@@ -1,5 +1,5 @@
 -- Whole reports: the writer receives all that was put in, and words with equal mappings have equal reports.
-use Rattle.std.proofs.Common.{◌≡◌, ◌∙◌, ◌%◌, ◌++◌, ℕ, Bool, false, List, [], Option, None, Some, String, IfSome, IfOk, IfErr, Result, Ok, Err, is_some, filter, inl, refl, sym, ap, subst, append-nil}
+use Rattle.std.proofs.Common.{◌≡◌, ◌∙◌, ◌%◌, ◌++◌, ℕ, Bool, false, List, [], Option, None, Some, String, IfSome, IfOk, IfErr, Result, Ok, Err, is_some, if◌then◌else◌, filter, inl, refl, sym, ap, subst, append-nil}
 use Rattle.std.proofs.KnownBytes.{Appends-trans}
 use Rattle.std.specs.Io.KnownBytes.{Appends, append_known}
 use Rattle.std.specs.List.{flat_map, list_all, list_any}
@@ -16,6 +16,7 @@ use Rattle.x86_64_model.specs.PageWalk.{page_walk}
 use Rattle.x86_64_model.specs.Position.{position_count}
 use Rattle.x86_64_model.specs.Regions.{regions_in}
 use Rattle.x86_64_mappings.specs.Wanted.{leads_to}
+use Rattle.ptdump_engine.specs.Explanations.{explanation_text}
 use Rattle.ptdump_engine.specs.Output.{Puts, put_in}
 use Rattle.ptdump_engine.specs.Failure.{failure_of}
 use Rattle.ptdump_engine.specs.Program.{Opened, Reports, ReportsOf, Runs, completeness_of, format_for, opened_for, report_of, start_for}
@@ -84,7 +85,8 @@ unfolding regions_text pages_text walks_text find_text addresses_text
 same_report (commands.Regions s) L T W root same below = ap (λ ms. Some (flat_map (λ r. line (region_text L r)) (filter (is_selected L s) (regions_in L ms)))) same
 same_report (commands.Pages s has_names) L T W root same below = ap (λ ms. Some (flat_map (λ m. line (page_text has_names L m)) (filter (is_mapping_selected L s) ms))) same
 same_report (commands.Walk addresses asked) L T W root same below =
-    λ i. Some (flat_map (λ a. walk_text (same_walk T W (a % position_count L) L root below i) ++ same_asked asked L T W root (a % position_count L) below i) addresses.items)
+    λ i. Some (flat_map (λ a. let walk = same_walk T W (a % position_count L) L root below i in walk_text asked.controls walk
+    ++ (if asked.explains then explanation_text walk else []) ++ same_asked asked.controls asked.access L T W root (a % position_count L) below i) addresses.items)
 same_report (commands.Find addresses) L T W root same below =
     ap (λ ms. Some (flat_map (λ a. flat_map (λ m. line (found_text L a m)) (filter (leads_to a) ms)) addresses.items)) same
 same_report commands.Check L T W root same below = refl
@@ -96,7 +98,7 @@ pub same_completeness : (command : Command) (L : ℕ) (T W : Words) (root : ℕ)
 same_completeness (commands.Regions s) L T W root same below walks = refl
 same_completeness (commands.Pages s has_names) L T W root same below walks = refl
 same_completeness (commands.Walk addresses asked) L T W root same below walks =
-    λ i. Some (list_all (λ a. same_there asked L T W root (a % position_count L) (walks (a % position_count L)) below i) addresses.items)
+    λ i. Some (list_all (λ a. same_there asked.controls asked.access L T W root (a % position_count L) (walks (a % position_count L)) below i) addresses.items)
 same_completeness (commands.Find addresses) L T W root same below walks = ap (λ ms. Some (list_all (λ a. list_any (leads_to a) ms) addresses.items)) same
 same_completeness commands.Check L T W root same below walks = refl
 same_completeness commands.Image L T W root same below walks = refl

@@ -11,7 +11,6 @@ ghost use Rattle.ptdump_engine.specs.Walks.{line};
 use crate::destination::Destination;
 use crate::loaded::Loaded;
 use crate::output::{Output, OutputError};
-use crate::request::ProcessorAccess;
 use bitflags::Flags;
 use std::fmt::{Display, Formatter, Result as FmtResult, Write};
 use x86_64_access::{Access, AccessKind, Controls, Fault, PageFaultCode, access};
@@ -33,19 +32,18 @@ const PHYSICAL_BITS: u8 = 52;
 pub fn write_access<L: LevelCount, W: Destination>(
     loaded: &Loaded<'_, L>,
     address: VirtAddrIn<L>,
-    asked: ProcessorAccess,
+    controls: Controls,
+    asked: Access,
     output: &mut Output<'_, W>,
 ) -> Result<bool, OutputError<W>>
-    ensures text { OnOk result (Puts W.contents output.old output.new (line (accesses.access_text asked.access
-        (accesses.outcome_in L.LEVELS (words_loaded loaded.now) loaded.now.root address asked)))) }
+    ensures text { OnOk result (Puts W.contents output.old output.new (line (accesses.access_text asked
+        (accesses.outcome_in L.LEVELS (words_loaded loaded.now) loaded.now.root address controls asked)))) }
     ensures arrives { IfOk result (λ arrives. arrives ≡ accesses.is_arrived
-        (accesses.outcome_in L.LEVELS (words_loaded loaded.now) loaded.now.root address asked)) }
+        (accesses.outcome_in L.LEVELS (words_loaded loaded.now) loaded.now.root address controls asked)) }
 {
-    let end = end_of(loaded.tables.memory(), loaded.root, address, asked);
-    let line = AccessLine {
-        access: asked.access,
-        end,
-    };
+    let memory = loaded.tables.memory();
+    let end = end_of(memory, loaded.root, address, controls, asked);
+    let line = AccessLine { access: asked, end };
     writeln!(output, "{line}")?;
     Ok(end.is_ok())
 }
@@ -55,24 +53,18 @@ fn end_of<L: LevelCount>(
     memory: &PhysMemory,
     root: PhysFrame<Size4KiB>,
     address: VirtAddrIn<L>,
-    asked: ProcessorAccess,
+    controls: Controls,
+    asked: Access,
 ) -> Result<PhysAddr, Fault>
     ensures { outcome_of result
-        ≡ accesses.outcome_in L.LEVELS (words_of memory.now identity_places) root address asked }
+        ≡ accesses.outcome_in L.LEVELS (words_of memory.now identity_places) root address controls asked }
 {
-    let controls = limited(asked.controls);
-    access(
-        memory,
-        &IdentityMapping,
-        root,
-        address,
-        asked.access,
-        &controls,
-    )
+    let limits = limited(controls);
+    access(memory, &IdentityMapping, root, address, asked, &limits)
 }
 
 /// Returns settings with at most 52 bits of physical addresses. Entries have no higher address bits, so accesses are the same.
-fn limited(controls: Controls) -> Controls
+pub fn limited(controls: Controls) -> Controls
     ensures { result ≡ accesses.limited controls }
 {
     Controls {

@@ -218,7 +218,9 @@ fn write_report<L: LevelCount, S: ByteSource, W: Destination, E: Destination>(
             write_pages(loaded, *selection, *has_names, output)?;
             Ok(true)
         }
-        Command::Walk { addresses, access } => Ok(write_walks(loaded, addresses, *access, output)?),
+        Command::Walk { addresses, options } => {
+            Ok(write_walks(loaded, addresses, *options, output)?)
+        }
         Command::Find(addresses) => Ok(write_found(alloc, loaded, addresses, output)?),
         Command::Check => Ok(write_findings(alloc, loaded, output)? == 0),
         Command::Image => {

@@ -19,10 +19,10 @@ loop-flag-preserved g c =
     let is : not (bit_and w flag.bit == 0) ≡ true = is_set (bit_and w flag.bit) c.if-word-flag-eq0.false in (
       search rules,
       λ plain.
-        let before = c.loop-flag.invariant.1 plain in
-        let one = c.in_ok-write_str.ensures.writes before.plain (refl {a = true}) in
-        let two = c.in_ok-write_str-2.ensures.writes one.plain (refl {a = true}) in
-        put_three g.W.Write.write_str_gives _ _ _ _ _ _ _ _ before one two
-        (ap (λ s. set_text w (map named (take i fs)) ++ (s ++ flag.name.now)) c.loop-flag.invariant.2 ∙ sym (text_set w fs i nothing below is)),
+          let before = c.loop-flag.invariant.1 plain in
+          let one = c.in_ok-write_str.ensures.writes before.plain (refl {a = true}) in
+          let two = c.in_ok-write_str-2.ensures.writes one.plain (refl {a = true}) in
+          put_three g.W.Write.write_str_gives _ _ _ _ _ _ _ _ before one two
+          (ap (λ s. set_text w (map named (take i fs)) ++ (s ++ flag.name.now)) c.loop-flag.invariant.2 ∙ sym (text_set w fs i nothing below is)),
       sym (separator_set w fs i nothing below is),
     )

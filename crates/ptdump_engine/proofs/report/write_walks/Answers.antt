@@ -3,7 +3,7 @@ use Rattle.x86_64_model.specs.Position.{position_count}
 use Rattle.ptdump_engine.specs.Accesses.{is_there}
 use Rattle.ptdump_engine.specs.Loaded.{words_loaded}
 use Rattle.ptdump_engine.specs.Output.{Puts}
-use Rattle.ptdump_engine.specs.Reports.{walk_and_access_text, walks_text}
+use Rattle.ptdump_engine.specs.Reports.{walk_by, walks_text}
 use Rattle.ptdump_engine.specs.private.Puts.{puts_nothing}
 use Rattle.ptdump_engine.proofs.Listed.{puts_more, all_more}
 use Rattle.ptdump_engine.proofs.report.write_walks.Goals as goal
@@ -18,13 +18,13 @@ loop-address-preserved g c =
     let L = g.L.LevelCount.LEVELS in
     let T = words_loaded c.args.loaded.now in
     let root = c.args.loaded.now.root in
-    let asked = c.args.access in
+    let asked = c.args.options in
     let xs = c.args.addresses.now in
     let i = c.loop-address.address-index in
     let at = c.new_truncate-address.ensures in (
-      puts_more g.W.Destination.contents (λ a. walk_and_access_text L T root asked (a % position_count L)) c.args.output.now c.loop-address.output c.write_walk_and_access.new.output xs i 0
+      puts_more g.W.Destination.contents (λ a. walk_by L T root asked (a % position_count L)) c.args.output.now c.loop-address.output c.write_walk_by.new.output xs i 0
           c.loop-address-test.true c.loop-address.invariant.0
-          (subst (λ p. Puts g.W.Destination.contents c.loop-address.output c.write_walk_and_access.new.output (walk_and_access_text L T root asked p)) at c.in_ok-arrives.ensures.text),
-      ap₂ (λ b d. b && d) c.loop-address.invariant.1 (c.in_ok-arrives.ensures.arrives ∙ ap (is_there asked L T root) at)
-          ∙ sym (all_more (λ a. is_there asked L T root (a % position_count L)) xs i c.loop-address-test.true),
+          (subst (λ p. Puts g.W.Destination.contents c.loop-address.output c.write_walk_by.new.output (walk_by L T root asked p)) at c.in_ok-arrives.ensures.text),
+      ap₂ (λ b d. b && d) c.loop-address.invariant.1 (c.in_ok-arrives.ensures.arrives ∙ ap (is_there asked.controls asked.access L T root) at)
+          ∙ sym (all_more (λ a. is_there asked.controls asked.access L T root (a % position_count L)) xs i c.loop-address-test.true),
     )
