@@ -3,9 +3,9 @@ use Rattle.std.proofs.Common.{◌≡◌, ◌∙◌, ℕ, List, Option, codes, fa
 use Rattle.clap.specs.declared.parser.matches.Found.{Found}
 use Rattle.ptdump_engine.specs.declared.request.Command.{Command}
 use Rattle.ptdump_engine.specs.declared.request.Command.TheVariants.{Regions, Pages, Walk, Find, Check, Image, Picture, Info}
-use Rattle.ptdump_engine.specs.declared.request.ProcessorAccess.{ProcessorAccess}
+use Rattle.ptdump_engine.specs.declared.request.WalkOptions.{WalkOptions}
 use Rattle.ptdump_engine.specs.declared.request.Selection.{Selection}
-use Rattle.ptdump.specs.Asked.{IsAccess}
+use Rattle.ptdump.specs.Asked.{AreAsked}
 use Rattle.ptdump.specs.Selections.{IsSelection}
 use Rattle.ptdump.specs.Requests.{AreNumbers, IsCommand, IsUnread, values}
 use Rattle.ptdump.specs.declared.stop.Stop.{Stop}
@@ -19,7 +19,7 @@ differ name a b apart is other = other_name a b apart (sym is ∙ other)
 abbrev name_of : Command → List ℕ
 name_of (Regions selection) = codes "regions"
 name_of (Pages selection names) = codes "pages"
-name_of (Walk numbers asked) = codes "walk"
+name_of (Walk numbers options) = codes "walk"
 name_of (Find numbers) = codes "find"
 name_of Check = codes "check"
 name_of Image = codes "image"
@@ -29,7 +29,7 @@ name_of Info = codes "info"
 named : (name : List ℕ) (found : Found) (command : Command) → IsCommand name found command → name ≡ name_of command
 named name found (Regions selection) is = is.0
 named name found (Pages selection names) is = is.0
-named name found (Walk numbers asked) is = is.0
+named name found (Walk numbers options) is = is.0
 named name found (Find numbers) is = is.0
 named name found Check is = is
 named name found Image is = is
@@ -50,9 +50,9 @@ no_pages name found pages none command is = differ name (codes "pages") (name_of
 
 -- no walk can be described
 pub no_walk : (name : List ℕ) (found : Found) → name ≡ codes "walk"
-    → ((numbers : List ℕ) → (asked : Option ProcessorAccess) → AreNumbers (values found (codes "addresses")) numbers → IsAccess found asked → ⊥)
+    → ((numbers : List ℕ) → (options : WalkOptions) → AreNumbers (values found (codes "addresses")) numbers → AreAsked found options → ⊥)
     → (command : Command) → IsCommand name found command → ⊥
-no_walk name found walk none (Walk numbers asked) is = none numbers.items asked is.1 is.2
+no_walk name found walk none (Walk numbers options) is = none numbers.items options is.1 is.2
 no_walk name found walk none command is = differ name (codes "walk") (name_of command) refl walk (named name found command is)
 
 -- no search can be described
@@ -67,7 +67,7 @@ pub no_name : (name : List ℕ) (found : Found) → bytes_eq name (codes "region
     → bytes_eq name (codes "info") ≡ false → (command : Command) → IsCommand name found command → ⊥
 no_name name found a b c d e f g h (Regions selection) is = other_name name (codes "regions") a is.0
 no_name name found a b c d e f g h (Pages selection names) is = other_name name (codes "pages") b is.0
-no_name name found a b c d e f g h (Walk numbers asked) is = other_name name (codes "walk") c is.0
+no_name name found a b c d e f g h (Walk numbers options) is = other_name name (codes "walk") c is.0
 no_name name found a b c d e f g h (Find numbers) is = other_name name (codes "find") d is.0
 no_name name found a b c d e f g h Check is = other_name name (codes "check") e is
 no_name name found a b c d e f g h Image is = other_name name (codes "image") f is

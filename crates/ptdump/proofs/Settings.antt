@@ -1,11 +1,10 @@
 -- Settings that borrowed words name, and refusals of them.
-use Rattle.std.proofs.Common.{◌≡◌, ◌∙◌, ◌||◌, ℕ, List, [], ◌∷◌, Bool, true, false, not, cond, Option, None, Some, map, unwrap_or, sym, ap, refl, subst}
+use Rattle.std.proofs.Common.{◌≡◌, ◌∙◌, ◌||◌, ℕ, List, [], ◌∷◌, Bool, true, false, not, cond, Option, None, Some, map, sym, ap, refl, subst}
 use Rattle.std.specs.Borrow.{Bor}
 use Rattle.std.specs.List.{find, list_any}
 use Rattle.std.specs.Str.{bytes_eq}
 use Rattle.x86_64_access.specs.declared.controls.Controls.{Controls}
-use Rattle.ptdump_engine.specs.declared.request.ProcessorAccess.{ProcessorAccess}
-use Rattle.ptdump.specs.Asked.{AreControls, AreSettings, IsAsked, is_listed, setting_names, usual_names}
+use Rattle.ptdump.specs.Asked.{AreControls, AreSettings, is_listed, setting_names}
 
 pub listed_texts : (words : List (Bor (List ℕ))) (word : List ℕ) → list_any (λ other. bytes_eq other.now word) words ≡ is_listed (map (λ other. other.now) words) word
 listed_texts [] word = refl
@@ -34,10 +33,3 @@ unknown_texts words w some c are = each words some are.known
             → (find (λ word. not (is_listed setting_names word.now)) words ≡ Some w → AreSettings (map (λ word. word.now) words) → ⊥) → ⊥
         by true some none rest = cc
         by false some none rest = rest some none
-
--- no access can be described if the settings can't
-pub no_settings : (access : Option (List ℕ)) (name : List ℕ) (words : Option (List (List ℕ))) (bits : Option (List ℕ)) → access ≡ Some name
-    → ((c : Controls) → AreControls (unwrap_or words usual_names) c → ⊥) → (asked : Option ProcessorAccess) → IsAsked access words bits asked → ⊥
-no_settings None name words bits is none asked are = cc
-no_settings (Some text) name words bits is none None are = are
-no_settings (Some text) name words bits is none (Some asked) are = none asked.controls are.1

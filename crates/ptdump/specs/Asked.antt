@@ -1,13 +1,15 @@
--- The access that the options of a walk describe.
+-- What the options of a walk ask for.
 use Rattle.std.specs.Prelude.{◌≡◌, ◌≤◌, ℕ, Bool, not, List, [], ◌∷◌, Option, None, Some, codes, map, option_map, unwrap_or}
 use Rattle.std.specs.Borrow.{Bor}
 use Rattle.std.specs.List.{find, list_any}
 use Rattle.std.specs.Str.{bytes_eq}
-use Rattle.clap.specs.Matches.{first_value, matched_of, raw_values}
+use Rattle.clap.specs.Matches.{first_value, matched_of, one_text, raw_values}
 use Rattle.clap.specs.declared.parser.matches.Found.{Found}
 use Rattle.ptdump_engine.specs.Accesses.{access_name}
-use Rattle.ptdump_engine.specs.declared.request.ProcessorAccess.{ProcessorAccess}
+use Rattle.ptdump_engine.specs.declared.request.WalkOptions.{WalkOptions}
+use Rattle.ptdump.specs.Options.{IsFlag}
 use Rattle.x86_64_access.specs.declared.controls.Controls.{Controls}
+use Rattle.x86_64_access.specs.declared.request.Access.{Access}
 use Rattle.x86_64_mappings.specs.Numbers.{IsNumber, number_of}
 
 -- the texts of borrowed words
@@ -44,13 +46,15 @@ IsBits (Some text) bits = IsNumber text × (32 ≤ number_of text) × (number_of
 abbrev pub usual_names : List (List ℕ)
 usual_names = codes "wp" ∷ codes "nxe" ∷ codes "smep" ∷ codes "smap" ∷ []
 
--- the access with this name, and what the words and the text say of the processor; or None if the name is missing
-abbrev pub IsAsked : (name : Option (List ℕ)) → (words : Option (List (List ℕ))) → (bits : Option (List ℕ)) → Option ProcessorAccess → Type 0
-IsAsked None words bits asked = asked ≡ None
-IsAsked (Some name) words bits None = ⊥
-IsAsked (Some name) words bits (Some asked) =
-    (name ≡ access_name asked.access) × AreControls (unwrap_or words usual_names) asked.controls × IsBits bits asked.controls.physical_bits
+-- the access with this name, or None if the name is missing
+abbrev pub IsAccess : (name : Option (List ℕ)) → Option Access → Type 0
+IsAccess None access = access ≡ None
+IsAccess (Some name) None = ⊥
+IsAccess (Some name) (Some access) = name ≡ access_name access
 
--- the access of --as, --controls and --physical-bits
-abbrev pub IsAccess : Found → Option ProcessorAccess → Type 0
-IsAccess found = IsAsked (first_value found (codes "as")) (option_map raw_values (matched_of found (codes "controls"))) (first_value found (codes "physical-bits"))
+-- what --as, --controls, --maxphyaddr and --explain ask for
+pub record AreAsked (found : Found) (options : WalkOptions) : Type 0 where
+  pub access : IsAccess (first_value found (codes "as")) options.access
+  pub controls : AreControls (unwrap_or (option_map raw_values (matched_of found (codes "controls"))) usual_names) options.controls
+  pub bits : IsBits (first_value found (codes "maxphyaddr")) options.controls.physical_bits
+  pub explains : IsFlag (one_text found (codes "explain")) options.explains

@@ -10,7 +10,7 @@ use Rattle.x86_64_addr.specs.declared.level_count.Levels.{Levels}
 use Rattle.x86_64_addr.specs.declared.level_count.Levels.TheVariants.{Four, Five}
 use Rattle.ptdump_engine.specs.declared.request.Request.{Request}
 use Rattle.ptdump_engine.specs.declared.failure.Failure.TheVariants.{OutOfMemory}
-use Rattle.ptdump.specs.Asked.{IsAccess}
+use Rattle.ptdump.specs.Asked.{AreAsked}
 use Rattle.ptdump.specs.Options.{IsFlag, IsOption}
 use Rattle.ptdump.specs.Placements.{IsPlacement}
 use Rattle.ptdump.specs.Selections.{IsSelection}
@@ -30,7 +30,7 @@ values found name = unwrap_or (option_map raw_values (matched_of found name)) []
 abbrev pub IsCommand : (name : List ℕ) → Found → Command → Type 0
 IsCommand name found (Regions selection) = (name ≡ codes "regions") × IsSelection found selection
 IsCommand name found (Pages selection names) = (name ≡ codes "pages") × IsSelection found selection × IsFlag (one_text found (codes "names")) names
-IsCommand name found (Walk numbers asked) = (name ≡ codes "walk") × AreNumbers (values found (codes "addresses")) numbers.items × IsAccess found asked
+IsCommand name found (Walk numbers options) = (name ≡ codes "walk") × AreNumbers (values found (codes "addresses")) numbers.items × AreAsked found options
 IsCommand name found (Find numbers) = (name ≡ codes "find") × AreNumbers (values found (codes "addresses")) numbers.items
 IsCommand name found Check = name ≡ codes "check"
 IsCommand name found Image = name ≡ codes "image"

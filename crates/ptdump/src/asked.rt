@@ -1,48 +1,61 @@
-//! The access that the options of a walk describe.
+//! What the options of a walk ask for.
 ghost use Rattle.std.specs.Prelude.{◌≡◌, ◌≤◌, List, ℕ, Option, IfOk, IfErr, map, not, option_map, unwrap_or};
 ghost use Rattle.std.specs.List.{find, list_any};
 ghost use Rattle.std.specs.Option.{option_copied};
 ghost use Rattle.std.specs.Str.{bytes_eq};
 ghost use Rattle.clap.specs.Matches.{found_of};
-ghost use Rattle.ptdump.specs.Asked.{AreControls, IsAccess, IsBits, is_listed, setting_names, texts_of, usual_names};
+ghost use Rattle.ptdump.specs.Asked.{AreAsked, AreControls, IsAccess, IsBits, is_listed, setting_names, texts_of, usual_names};
 ghost use Rattle.ptdump_engine.specs.Accesses.{access_name};
-ghost use Rattle.ptdump_engine.specs.declared.request.ProcessorAccess.{ProcessorAccess};
+ghost use Rattle.ptdump_engine.specs.declared.request.WalkOptions.{WalkOptions};
 ghost use Rattle.x86_64_access.specs.declared.controls.Controls.{Controls};
-ghost use Rattle.x86_64_access.specs.declared.request.Access.{Access};
+ghost use Rattle.x86_64_access.specs.declared.request.Access.{Access as Asked};
 
+use crate::flags::is_given;
 use crate::numbers::number_of;
 use crate::stop::Stop;
 use clap::ArgMatches;
-use ptdump_engine::ProcessorAccess;
+use ptdump_engine::WalkOptions;
 use x86_64_access::{Access, AccessKind, Controls};
 
 /// The number of bits of physical addresses if none is given.
 const PHYSICAL_BITS: u8 = 52;
 
-/// Returns the access that the arguments of a walk describe, or `None` if they ask for none.
+/// Returns what the arguments of a walk ask for beside its words and its end.
 ///
 /// # Errors
 ///
 /// What is wrong with the words.
-pub fn access_of<'a>(arguments: &ArgMatches<'a>) -> Result<Option<ProcessorAccess>, Stop<'a>>
-    ensures ok { IfOk result (IsAccess (found_of arguments.now)) }
-    ensures err { IfErr result (λ _. (asked : Option ProcessorAccess) →
-        ¬ (IsAccess (found_of arguments.now) asked)) }
+pub fn options_of<'a>(arguments: &ArgMatches<'a>) -> Result<WalkOptions, Stop<'a>>
+    ensures ok { IfOk result (AreAsked (found_of arguments.now)) }
+    ensures err { IfErr result (λ _. (options : WalkOptions) →
+        ¬ (AreAsked (found_of arguments.now) options)) }
 {
-    let Some(name) = arguments.get_str("as") else {
-        return Ok(None);
-    };
-    let access = access_named(name)?;
-    let physical_bits = bits_of(arguments.get_str("physical-bits"))?;
+    let access = access_of(arguments.get_str("as"))?;
+    let physical_bits = bits_of(arguments.get_str("maxphyaddr"))?;
     let controls = controls_of(arguments.get_strs("controls"), physical_bits)?;
-    Ok(Some(ProcessorAccess { access, controls }))
+    Ok(WalkOptions {
+        controls,
+        explains: is_given(arguments, "explain"),
+        access,
+    })
+}
+
+/// Returns the access with a name, if it is given.
+fn access_of<'a>(name: Option<&'a str>) -> Result<Option<Access>, Stop<'a>>
+    ensures ok { IfOk result (IsAccess (option_copied name.entry)) }
+    ensures err { IfErr result (λ _. (access : Option Asked) → ¬ (IsAccess (option_copied name.entry) access)) }
+{
+    match name {
+        Some(name) => Ok(Some(access_named(name)?)),
+        None => Ok(None),
+    }
 }
 
 /// Returns the access with a name.
 #[tactic(auto, using(crate::proofs::Names::same_name, crate::proofs::Names::no_access))]
 fn access_named<'a>(name: &'a str) -> Result<Access, Stop<'a>>
     ensures ok { IfOk result (λ access. name.now ≡ access_name access) }
-    ensures err { IfErr result (λ _. (access : Access) → ¬ (name.now ≡ access_name access)) }
+    ensures err { IfErr result (λ _. (access : Asked) → ¬ (name.now ≡ access_name access)) }
 {
     if name == "user-read" {
         Ok(Access {
@@ -87,7 +100,7 @@ fn bits_of<'a>(text: Option<&'a str>) -> Result<u8, Stop<'a>>
     let Some(text) = text else {
         return Ok(PHYSICAL_BITS);
     };
-    match number_of("--physical-bits", text)? {
+    match number_of("--maxphyaddr", text)? {
         bits @ 32..=52 => Ok(bits as u8),
         _ => Err(Stop::NoPhysicalBits(text)),
     }

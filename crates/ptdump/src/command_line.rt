@@ -97,7 +97,7 @@ fn with_names<'a>(alloc: Global, command: Command<'a>) -> Result<Command<'a>, Er
     Ok(command.arg(names)?)
 }
 
-/// Adds the options of an access to the command line of a command.
+/// Adds the options of walks and of an access to the command line of a command.
 fn with_access<'a>(alloc: Global, command: Command<'a>) -> Result<Command<'a>, Error> {
     let access = option(alloc, "as", "Access of which to say what a processor does").value_name(
         "ACCESS",
@@ -112,11 +112,15 @@ fn with_access<'a>(alloc: Global, command: Command<'a>) -> Result<Command<'a>, E
     .requires_arg("as")?;
     let bits = option(
         alloc,
-        "physical-bits",
+        "maxphyaddr",
         "Bits of physical addresses, 32 to 52 [default: 52]",
-    )
-    .requires_arg("as")?;
-    Ok(command.arg(access)?.arg(controls)?.arg(bits)?)
+    );
+    let explain = flag(
+        alloc,
+        "explain",
+        "Show how large pages are, and which words take rights away",
+    );
+    Ok(command.arg(explain)?.arg(access)?.arg(controls)?.arg(bits)?)
 }
 
 /// Returns the argument for the dump.

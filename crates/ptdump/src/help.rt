@@ -184,6 +184,12 @@ Examples:
 For each address a line for each word that is read on the way,
 level L 0xTABLE[INDEX] 0xWORD, and then the physical address with what may be
 done there (r read, w write, x execute, u by user code), or why there is none.
+A word that is present and has a reserved bit has one more line, since a
+processor faults there. Reserved are address bits from --maxphyaddr on, those
+below the address of a large page, and HUGE_PAGE at a level without pages.
+
+--explain adds the size of the page, and a line for each right (write, user or
+execute) that a word takes away, if the walk arrives.
 
 With --as a further line says what a processor does with such an access: it
 arrives at a physical address, or faults at a word, of which the level is shown
@@ -202,12 +208,14 @@ code, or \"missing table\", with table.
 
 Examples:
 
-  $ ptdump walk machine.elf 0x401123 --as user-write
+  $ ptdump walk machine.elf 0x401123 --explain --as user-write
   level 4 0x101000[0] 0x102027
   level 3 0x102000[0] 0x103027
   level 2 0x103000[2] 0x104027
   level 1 0x104000[1] 0x201005
   0x201123 r-xu
+  page of 4KiB
+  level 1 0x104000[1] has no write
   user-write faults at level 1, code 0x7, present, write, user
   tables 13, mappings 18, mapped 1054776KiB
   $ ptdump walk machine.elf 0x405123 0x404000

@@ -6,7 +6,8 @@ ghost use Rattle.ptdump.specs.Options.{IsFlag};
 ghost use Rattle.ptdump.specs.Requests.{AreNumbers, IsCommand, IsLevels, IsRequest, IsUnread, is_json, values};
 ghost use Rattle.x86_64_addr.specs.declared.level_count.Levels.{Levels};
 
-use crate::asked::access_of;
+use crate::asked::options_of;
+use crate::flags::is_given;
 use crate::numbers::{number_of, numbers_of, option_of};
 use crate::placement::placement_of;
 use crate::selection::selection_of;
@@ -48,13 +49,6 @@ fn form_of(arguments: &ArgMatches<'_>) -> Form
     } else {
         Form::Text
     }
-}
-
-/// Returns true if a flag is given.
-fn is_given(arguments: &ArgMatches<'_>, name: &str) -> bool
-    ensures { IsFlag (one_text (found_of arguments.now) name.now) result }
-{
-    arguments.get_flag(name)
 }
 
 /// Returns the command with a name and its arguments.
@@ -113,8 +107,8 @@ fn walk_of<'a>(alloc: Global, arguments: &ArgMatches<'a>) -> Result<Command, Sto
     ensures err { IfErr result (IsUnread (IsCommand (codes "walk") (found_of arguments.now))) }
 {
     let addresses = addresses_of(alloc, arguments)?;
-    let access = access_of(arguments)?;
-    Ok(Command::Walk { addresses, access })
+    let options = options_of(arguments)?;
+    Ok(Command::Walk { addresses, options })
 }
 
 /// Returns the search that the arguments describe.

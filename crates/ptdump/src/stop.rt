@@ -130,7 +130,7 @@ impl Display for Stop<'_> {
             ),
             Stop::NoPhysicalBits(text) => write!(
                 f,
-                "--physical-bits {text}: give a number from 32 to 52"
+                "--maxphyaddr {text}: give a number from 32 to 52"
             ),
             Stop::NoRights(text) => write!(
                 f,

@@ -7,6 +7,7 @@ use Rattle.std.proofs.lemmas.Bool.Decides.{nat_tests}
 use Rattle.std.specs.List.{last_or}
 use Rattle.x86_64_access.specs.Accesses.{access_of, controls_of}
 use Rattle.x86_64_access.specs.declared.controls.Controls.{Controls as Settings}
+use Rattle.x86_64_access.specs.declared.request.Access.{Access as Asked}
 use Rattle.x86_64_dump.specs.Reached.{SameBelow}
 use Rattle.x86_64_model.specs.Access.{Access, Arrives, Controls, Faults, NoMemory, Outcome, Step, access, allowed, code, ends_by, low_bits, outcome, reads_on, reserved, steps_from}
 use Rattle.x86_64_model.specs.Entry.{present, huge, no_execute, address}
@@ -17,7 +18,6 @@ use Rattle.x86_64_model.specs.Position.{index, span}
 use Rattle.x86_64_model.proofs.Lemmas.Entries.Words.{address_within}
 use Rattle.ptdump_engine.specs.Accesses.{access_text, asked_text, is_arrived, is_there, limited, outcome_in}
 use Rattle.ptdump_engine.specs.Walks.{line}
-use Rattle.ptdump_engine.specs.declared.request.ProcessorAccess.{ProcessorAccess}
 
 -- ---- words that agree on the way
 
@@ -87,20 +87,20 @@ same_steps c d T W p (suc n) f alike same =
     by (Some e) there below = ap (λ steps. record { level = suc n; frame = f; index = index (suc n) p; word = e } ∷ steps)
         (each _ _ (reads_on c (suc n) e) (below e there) ∙ ap (λ b. cond b (steps_from d W p n (address e)) []) (on e))
 
-pub same_outcome : (asked : ProcessorAccess) (L : ℕ) (T W : Words) (root p : ℕ) → SameBelow L T W root → outcome_in L T root p asked ≡ outcome_in L W root p asked
+pub same_outcome : (c : Settings) (a : Asked) (L : ℕ) (T W : Words) (root p : ℕ) → SameBelow L T W root → outcome_in L T root p c a ≡ outcome_in L W root p c a
 unfolding access
-same_outcome asked L T W root p same =
-    let c = controls_of asked.controls in
-    ap (outcome c (access_of asked.access) p root) (same_steps c c T W p L root (λ level e. refl) same)
+same_outcome c a L T W root p same =
+    let settings = controls_of c in
+    ap (outcome settings (access_of a) p root) (same_steps settings settings T W p L root (λ level e. refl) same)
 
-pub same_asked : (asked : Option ProcessorAccess) (L : ℕ) (T W : Words) (root p : ℕ) → SameBelow L T W root → asked_text asked L T root p ≡ asked_text asked L W root p
-same_asked None L T W root p same = refl
-same_asked (Some asked) L T W root p same = ap (λ o. line (access_text asked.access o)) (same_outcome asked L T W root p same)
+pub same_asked : (c : Settings) (asked : Option Asked) (L : ℕ) (T W : Words) (root p : ℕ) → SameBelow L T W root → asked_text c asked L T root p ≡ asked_text c asked L W root p
+same_asked c None L T W root p same = refl
+same_asked c (Some a) L T W root p same = ap (λ o. line (access_text a o)) (same_outcome c a L T W root p same)
 
-pub same_there : (asked : Option ProcessorAccess) (L : ℕ) (T W : Words) (root p : ℕ) → page_walk L T root p ≡ page_walk L W root p → SameBelow L T W root
-    → is_there asked L T root p ≡ is_there asked L W root p
-same_there None L T W root p walks same = ap is_some walks
-same_there (Some asked) L T W root p walks same = ap is_arrived (same_outcome asked L T W root p same)
+pub same_there : (c : Settings) (asked : Option Asked) (L : ℕ) (T W : Words) (root p : ℕ) → page_walk L T root p ≡ page_walk L W root p → SameBelow L T W root
+    → is_there c asked L T root p ≡ is_there c asked L W root p
+same_there c None L T W root p walks same = ap is_some walks
+same_there c (Some a) L T W root p walks same = ap is_arrived (same_outcome c a L T W root p same)
 
 -- ---- at most 52 bits of physical addresses
 
@@ -120,7 +120,7 @@ same_bits bits a low = by (nat_le bits 52) refl
         let either : nat_le (2 ^ bits) a ≡ false = grind (arith, nat_tests) in
         ap (λ m. nat_le (2 ^ m) a) (min-eq_right more) ∙ neither ∙ sym either
 
-limited_reserved : (c : Settings) (level e : ℕ) → reserved (controls_of (limited c)) level e ≡ reserved (controls_of c) level e
+pub limited_reserved : (c : Settings) (level e : ℕ) → reserved (controls_of (limited c)) level e ≡ reserved (controls_of c) level e
 unfolding reserved
 limited_reserved c level e =
     ap (λ b. b || (huge e && (nat_le 4 level || not (bit_and e (low_bits level) == 0))) || (no_execute e && not c.no_execute))

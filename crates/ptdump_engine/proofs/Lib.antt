@@ -2,6 +2,7 @@ pub mod AccessLaws
 pub mod Alikes
 pub mod Asked
 pub mod Counting
+pub mod Explaining
 pub mod Failing
 pub mod Listed
 pub mod Results

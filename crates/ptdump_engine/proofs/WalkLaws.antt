@@ -15,7 +15,7 @@ use Rattle.ptdump_engine.specs.Laws.{WrittenWalksArrive}
 use Rattle.ptdump_engine.specs.Walks.{End, Walk, arrives_at, not_present, huge_page, no_table, after, behind, ends, arrival_with, arrival_of, walk_from, walk_of, walk_rights}
 use Rattle.ptdump_engine.specs.declared.word_read.WordRead.{WordRead}
 use Rattle.x86_64_tables.specs.Rights.{both}
-use Rattle.ptdump_engine.specs.private.WalkLines.{is_arrival}
+use Rattle.ptdump_engine.specs.private.WalkLines.{page_size}
 use Rattle.ptdump_engine.proofs.WalkLines.{narrowed_first, rights_kept, word_read}
 
 -- the arrival of a walk, below words that allow these rights
@@ -38,9 +38,9 @@ behind_found : (p level e : ℕ) (r : Rights) (below : Walk) (mapping : Option M
     → arrival_below (granted r e) (behind p level e below) ≡ option_map (arrival_in p) (found_by p level r e mapping)
 behind_found p level e r below mapping same = each (present e) (maps_page level e) (huge e)
   where
-    each : (b m h : Bool) → arrival_below (granted r e) (cond b (cond m (ends (arrives_at (page_start level e + p % span level))) (cond h (ends (huge_page level)) below)) (ends not_present))
+    each : (b m h : Bool) → arrival_below (granted r e) (cond b (cond m (ends (arrives_at (page_start level e + p % span level) (span level))) (cond h (ends (huge_page level)) below)) (ends not_present))
         ≡ option_map (arrival_in p) (cond b (cond m (Some (page_at p level r e)) (cond h None mapping)) None)
-    each true true h = arrival-ends (granted r e) (arrives_at (page_start level e + p % span level))
+    each true true h = arrival-ends (granted r e) (arrives_at (page_start level e + p % span level) (span level))
         ∙ ap (λ o. arrives (page_start level e + o) (granted r e).write (granted r e).user) (mod-eq-sub-div-mul p (span level))
     each true false true = refl
     each true false false = same
@@ -61,17 +61,17 @@ pub written_walks_arrive : WrittenWalksArrive
 unfolding found
 written_walks_arrive L T root p = walked T p L every_right root ∙ sym (walk_finds L T root p)
 
--- a walk arrives if and only if the page walk does
-pub is_arrival-walk : (L : ℕ) (T : Words) (root p : ℕ) → is_arrival (walk_of L T root p).end ≡ is_some (page_walk L T root p)
-is_arrival-walk L T root p = by (walk_of L T root p) ∙ ap is_some (written_walks_arrive L T root p)
+-- a walk arrives in a page if and only if the page walk does
+pub page-walk : (L : ℕ) (T : Words) (root p : ℕ) → is_some (page_size (walk_of L T root p).end) ≡ is_some (page_walk L T root p)
+page-walk L T root p = by (walk_of L T root p) ∙ ap is_some (written_walks_arrive L T root p)
   where
-    each : (r : Rights) (end : End) → is_arrival end ≡ is_some (arrival_with r end)
-    each r (arrives_at to) = refl
+    each : (r : Rights) (end : End) → is_some (page_size end) ≡ is_some (arrival_with r end)
+    each r (arrives_at to size) = refl
     each r not_present = refl
     each r (no_table frame) = refl
     each r (huge_page level) = refl
 
-    by : (walk : Walk) → is_arrival walk.end ≡ is_some (arrival_of walk)
+    by : (walk : Walk) → is_some (page_size walk.end) ≡ is_some (arrival_of walk)
     by walk = each (walk_rights walk) walk.end
 
 -- walks are equal in words that agree on the way
@@ -85,10 +85,10 @@ same_walk T W p (suc n) f same = by (read T f (index (suc n) p)) refl (λ e ther
     go V o = option_map_or (λ e. after (word_read p (suc n) f e) (behind p (suc n) e (walk_from V p n (address e)))) o (ends (no_table f))
 
     each : (e : ℕ) (x y : Walk) (b m h : Bool) → (b ≡ true → h ≡ false → x ≡ y)
-        → cond b (cond m (ends (arrives_at (page_start (suc n) e + p % span (suc n)))) (cond h (ends (huge_page (suc n))) x)) (ends not_present)
-        ≡ cond b (cond m (ends (arrives_at (page_start (suc n) e + p % span (suc n)))) (cond h (ends (huge_page (suc n))) y)) (ends not_present)
+        → cond b (cond m (ends (arrives_at (page_start (suc n) e + p % span (suc n)) (span (suc n)))) (cond h (ends (huge_page (suc n))) x)) (ends not_present)
+        ≡ cond b (cond m (ends (arrives_at (page_start (suc n) e + p % span (suc n)) (span (suc n)))) (cond h (ends (huge_page (suc n))) y)) (ends not_present)
     each e x y true m true alike = refl
-    each e x y true m false alike = ap (λ z. cond m (ends (arrives_at (page_start (suc n) e + p % span (suc n)))) z) (alike refl refl)
+    each e x y true m false alike = ap (λ z. cond m (ends (arrives_at (page_start (suc n) e + p % span (suc n)) (span (suc n)))) z) (alike refl refl)
     each e x y false m h alike = refl
 
     by : (o : Option ℕ) → read T f (index (suc n) p) ≡ o

@@ -2,12 +2,13 @@
 use Rattle.std.proofs.Common.{◌≡◌, ◌∙◌, ◌≤◌, ◌-◌, ◌++◌, ◌&&◌, ℕ, zero, suc, Bool, true, false, not, List, [], Option, Some, None, refl, sym, ap, append_assoc, arith, map}
 use Rattle.std.specs.List.{flat_map}
 use Rattle.std.proofs.Math.Bool.{and_assoc, and-true}
+use Rattle.x86_64_access.specs.declared.controls.Controls.{Controls}
 use Rattle.x86_64_model.specs.Entry.{address, writable, user, no_execute, present, huge}
 use Rattle.x86_64_model.specs.Mappings.{Rights, every_right, granted}
 use Rattle.x86_64_model.specs.Memory.{Words}
 use Rattle.x86_64_model.specs.PageWalk.{read}
 use Rattle.x86_64_model.specs.Position.{index}
-use Rattle.ptdump_engine.specs.Walks.{Walk, End, no_table, after, behind, ends, end_text, line, walk_from, walk_rights, walk_text, word_text}
+use Rattle.ptdump_engine.specs.Walks.{Walk, End, no_table, after, behind, ends, end_text, line, walk_from, walk_rights, walk_text, word_lines}
 use Rattle.ptdump_engine.specs.declared.word_read.WordRead.{WordRead}
 use Rattle.x86_64_tables.specs.Rights.{both}
 use Rattle.ptdump_engine.specs.private.WalkLines.{lines_below}
@@ -32,20 +33,20 @@ rights_kept r end = λ i. record { write = and-true r.write i; user = and-true r
 
 -- ---- lines
 
-pub lines-after : (r : Rights) (w : WordRead) (walk : Walk) → lines_below r (after w walk) ≡ line (word_text w) ++ lines_below (granted r w.word) walk
+pub lines-after : (c : Controls) (r : Rights) (w : WordRead) (walk : Walk) → lines_below c r (after w walk) ≡ word_lines c w ++ lines_below c (granted r w.word) walk
 unfolding lines_below
-lines-after r w walk =
-    let lines = flat_map (λ v. line (word_text v)) walk.words in
-    append_assoc (line (word_text w)) lines (line (end_text (both r (walk_rights (after w walk))) walk.end))
-    ∙ ap (λ s. line (word_text w) ++ (lines ++ line (end_text s walk.end))) (narrowed_first r w walk)
+lines-after c r w walk =
+    let lines = flat_map (word_lines c) walk.words in
+    append_assoc (word_lines c w) lines (line (end_text (both r (walk_rights (after w walk))) walk.end))
+    ∙ ap (λ s. word_lines c w ++ (lines ++ line (end_text s walk.end))) (narrowed_first r w walk)
 
-pub lines-ends : (r : Rights) (end : End) → lines_below r (ends end) ≡ line (end_text r end)
+pub lines-ends : (c : Controls) (r : Rights) (end : End) → lines_below c r (ends end) ≡ line (end_text r end)
 unfolding lines_below
-lines-ends r end = ap (λ s. line (end_text s end)) (rights_kept r end)
+lines-ends c r end = ap (λ s. line (end_text s end)) (rights_kept r end)
 
-pub lines-whole : (walk : Walk) → lines_below every_right walk ≡ walk_text walk
+pub lines-whole : (c : Controls) (walk : Walk) → lines_below c every_right walk ≡ walk_text c walk
 unfolding lines_below walk_text
-lines-whole walk = refl
+lines-whole c walk = refl
 
 -- ---- steps
 

@@ -7,7 +7,8 @@ use Rattle.x86_64_model.specs.PageWalk.{page_walk}
 use Rattle.ptdump_engine.specs.Accesses.{is_arrived, is_there, outcome_in}
 use Rattle.ptdump_engine.specs.Json.{end_members, hexadecimal_string, json_of_walk, json_of_word, with_access}
 use Rattle.ptdump_engine.specs.Walks.{End, arrives_at, not_present, no_table, huge_page, Walk, walk_of, walk_rights}
-use Rattle.ptdump_engine.specs.declared.request.ProcessorAccess.{ProcessorAccess}
+use Rattle.x86_64_access.specs.declared.controls.Controls.{Controls}
+use Rattle.x86_64_access.specs.declared.request.Access.{Access}
 use Rattle.ptdump_engine.specs.declared.walked.Walk.{Walk as WalkValue}
 use Rattle.ptdump_engine.specs.private.WalkLines.{is_arrival}
 use Rattle.ptdump_engine.specs.private.Walked.{IsWalk, end_at, end_of, json_of_value, value_members}
@@ -37,7 +38,7 @@ value_arrives L T root p value is = ap (λ end. is_arrival (end_of end)) is.end 
     by (huge_page level) = refl
 
 -- the access that is asked for, or else the walk
-pub asked_there : (asked : Option ProcessorAccess) (L : ℕ) (T : Words) (root p : ℕ)
-    → unwrap_or (option_map (λ asked. is_arrived (outcome_in L T root p asked)) asked) (is_some (page_walk L T root p)) ≡ is_there asked L T root p
-asked_there None L T root p = refl
-asked_there (Some asked) L T root p = refl
+pub asked_there : (c : Controls) (asked : Option Access) (L : ℕ) (T : Words) (root p : ℕ)
+    → unwrap_or (option_map (λ a. is_arrived (outcome_in L T root p c a)) asked) (is_some (page_walk L T root p)) ≡ is_there c asked L T root p
+asked_there c None L T root p = refl
+asked_there c (Some a) L T root p = refl

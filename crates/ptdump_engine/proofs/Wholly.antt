@@ -1,5 +1,5 @@
 -- Whole reports: the writer receives all that was put in, and words with equal mappings have equal reports.
-use Rattle.std.proofs.Common.{◌≡◌, ◌∙◌, ◌%◌, ◌==◌, ◌++◌, ◌||◌, ℕ, Bool, true, false, List, [], Option, None, Some, String, IfSome, IfOk, IfErr, OnOk, Result, Ok, Err, is_some, filter, length, inl, inr, refl, sym, ap, subst, append-nil}
+use Rattle.std.proofs.Common.{◌≡◌, ◌∙◌, ◌%◌, ◌==◌, ◌++◌, ◌||◌, ℕ, Bool, true, false, List, [], Option, None, Some, String, IfSome, IfOk, IfErr, OnOk, Result, Ok, Err, is_some, if◌then◌else◌, filter, length, inl, inr, refl, sym, ap, subst, append-nil}
 use Rattle.std.proofs.KnownBytes.{Appends-trans}
 use Rattle.std.specs.Io.KnownBytes.{Appends, append_known}
 use Rattle.std.specs.List.{flat_map, list_all, list_any}
@@ -15,6 +15,7 @@ use Rattle.x86_64_model.specs.PageWalk.{page_walk}
 use Rattle.x86_64_model.specs.Position.{position_count, raw}
 use Rattle.x86_64_model.specs.Regions.{regions_in}
 use Rattle.x86_64_mappings.specs.Wanted.{leads_to}
+use Rattle.ptdump_engine.specs.Explanations.{explanation_text}
 use Rattle.ptdump_engine.specs.Output.{Puts, put_in}
 use Rattle.ptdump_engine.specs.Failure.{failure_of}
 use Rattle.ptdump_engine.specs.Findings.{check_text, count_text, line_count}
@@ -32,7 +33,9 @@ use Rattle.ptdump_engine.specs.declared.request.Command.TheVariants as commands
 use Rattle.ptdump_engine.specs.declared.request.Form.{Form}
 use Rattle.ptdump_engine.specs.declared.request.Form.TheVariants.{Text, Json}
 use Rattle.ptdump_engine.specs.declared.request.Outcome.{Outcome}
-use Rattle.ptdump_engine.specs.declared.request.ProcessorAccess.{ProcessorAccess}
+use Rattle.ptdump_engine.specs.declared.request.WalkOptions.{WalkOptions}
+use Rattle.x86_64_access.specs.declared.controls.Controls.{Controls}
+use Rattle.x86_64_access.specs.declared.request.Access.{Access}
 use Rattle.ptdump_engine.specs.declared.request.Request.{Request}
 use Rattle.ptdump_engine.specs.declared.start.Start.{Start}
 use Rattle.ptdump_engine.proofs.AccessLaws.{same_asked, same_outcome, same_there}
@@ -91,13 +94,14 @@ written_whole contents begun now ended text none all puts rest =
 
 -- ---- words with equal mappings
 
-same_json : (asked : Option ProcessorAccess) (L : ℕ) (T W : Words) (root p : ℕ) → SameBelow L T W root → json_of_asked asked L T root p ≡ json_of_asked asked L W root p
-same_json None L T W root p below = refl
-same_json (Some asked) L T W root p below = ap (λ o. Some (json_of_access asked.access o)) (same_outcome asked L T W root p below)
+same_json : (c : Controls) (asked : Option Access) (L : ℕ) (T W : Words) (root p : ℕ) → SameBelow L T W root → json_of_asked c asked L T root p ≡ json_of_asked c asked L W root p
+same_json c None L T W root p below = refl
+same_json c (Some a) L T W root p below = ap (λ o. Some (json_of_access a o)) (same_outcome c a L T W root p below)
 
-same_walks : (form : Form) (L : ℕ) (T W : Words) (root : ℕ) (asked : Option ProcessorAccess) (p : ℕ) → SameBelow L T W root → walk_lines form L T root asked p ≡ walk_lines form L W root asked p
-same_walks Text L T W root asked p below = λ i. walk_text (same_walk T W p L root below i) ++ same_asked asked L T W root p below i
-same_walks Json L T W root asked p below = λ i. json_line (json_of_walk (raw L p) (same_walk T W p L root below i) (same_json asked L T W root p below i))
+same_walks : (form : Form) (L : ℕ) (T W : Words) (root : ℕ) (asked : WalkOptions) (p : ℕ) → SameBelow L T W root → walk_lines form L T root asked p ≡ walk_lines form L W root asked p
+same_walks Text L T W root asked p below = λ i. let walk = same_walk T W p L root below i in walk_text asked.controls walk
+    ++ (if asked.explains then explanation_text walk else []) ++ same_asked asked.controls asked.access L T W root p below i
+same_walks Json L T W root asked p below = λ i. json_line (json_of_walk (raw L p) (same_walk T W p L root below i) (same_json asked.controls asked.access L T W root p below i))
 
 same_of : (form : Form) (command : Command) (L : ℕ) (T W : Words) (root : ℕ) → mappings_of L T root ≡ mappings_of L W root → SameBelow L T W root
     → report_in form command L T root ≡ report_in form command L W root
@@ -123,7 +127,7 @@ pub same_completeness : (command : Command) (L : ℕ) (T W : Words) (root : ℕ)
 same_completeness (commands.Regions s) L T W root same below walks = refl
 same_completeness (commands.Pages s has_names) L T W root same below walks = refl
 same_completeness (commands.Walk addresses asked) L T W root same below walks =
-    λ i. Some (list_all (λ a. same_there asked L T W root (a % position_count L) (walks (a % position_count L)) below i) addresses.items)
+    λ i. Some (list_all (λ a. same_there asked.controls asked.access L T W root (a % position_count L) (walks (a % position_count L)) below i) addresses.items)
 same_completeness (commands.Find addresses) L T W root same below walks = ap (λ ms. Some (list_all (λ a. list_any (leads_to a) ms) addresses.items)) same
 same_completeness commands.Check L T W root same below walks = ap (λ lines. Some (length lines == 0)) (same_lines T W L root same below)
 same_completeness commands.Image L T W root same below walks = refl

@@ -10,11 +10,10 @@ use Rattle.x86_64_model.specs.Access.{Outcome, Arrives, Faults, NoMemory, access
 use Rattle.x86_64_model.specs.Memory.{Words}
 use Rattle.x86_64_model.specs.PageWalk.{page_walk}
 use Rattle.ptdump_engine.specs.Walks.{line}
-use Rattle.ptdump_engine.specs.declared.request.ProcessorAccess.{ProcessorAccess}
 
 -- what the processor does with the access at position p, by the words of the tables below a root
-abbrev pub outcome_in : (L : ℕ) → Words → (root p : ℕ) → ProcessorAccess → Outcome
-outcome_in L T root p asked = access L (controls_of asked.controls) T root p (access_of asked.access)
+abbrev pub outcome_in : (L : ℕ) → Words → (root p : ℕ) → Controls → Access → Outcome
+outcome_in L T root p c a = access L (controls_of c) T root p (access_of a)
 
 abbrev pub is_arrived : Outcome → Bool
 is_arrived (Arrives address) = true
@@ -56,11 +55,11 @@ access_text a outcome = access_name a ++ outcome_text outcome
 -- ---- walks
 
 -- the line of the access that is asked for, if one is
-abbrev pub asked_text : Option ProcessorAccess → (L : ℕ) → Words → (root p : ℕ) → List ℕ
-asked_text None L T root p = []
-asked_text (Some asked) L T root p = line (access_text asked.access (outcome_in L T root p asked))
+abbrev pub asked_text : Controls → Option Access → (L : ℕ) → Words → (root p : ℕ) → List ℕ
+asked_text c None L T root p = []
+asked_text c (Some a) L T root p = line (access_text a (outcome_in L T root p c a))
 
 -- whether the access that is asked for arrives, or if none is, the page walk
-abbrev pub is_there : Option ProcessorAccess → (L : ℕ) → Words → (root p : ℕ) → Bool
-is_there None L T root p = is_some (page_walk L T root p)
-is_there (Some asked) L T root p = is_arrived (outcome_in L T root p asked)
+abbrev pub is_there : Controls → Option Access → (L : ℕ) → Words → (root p : ℕ) → Bool
+is_there c None L T root p = is_some (page_walk L T root p)
+is_there c (Some a) L T root p = is_arrived (outcome_in L T root p c a)

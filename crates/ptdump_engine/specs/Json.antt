@@ -4,6 +4,7 @@ use Rattle.std.specs.Prelude.{ℕ, ◌+◌, ◌-◌, List, Option, None, Some, c
 use Rattle.serde_json.specs.Data.{Data, boolean, number, string, array, object, unsigned, Members, member, no_members}
 use Rattle.serde_json.specs.View.{items_of}
 use Rattle.serde_json.specs.Written.{compact_text}
+use Rattle.x86_64_access.specs.declared.controls.Controls.{Controls}
 use Rattle.x86_64_access.specs.declared.request.Access.{Access}
 use Rattle.x86_64_mappings.specs.Numbers.{hexadecimal}
 use Rattle.x86_64_model.specs.Access.{Outcome, Arrives, Faults, NoMemory}
@@ -13,7 +14,6 @@ use Rattle.x86_64_model.specs.Regions.{Region}
 use Rattle.x86_64_model.specs.Memory.{Words}
 use Rattle.ptdump_engine.specs.Accesses.{access_name, outcome_in}
 use Rattle.ptdump_engine.specs.Walks.{End, arrives_at, not_present, no_table, huge_page, Walk, line, walk_rights}
-use Rattle.ptdump_engine.specs.declared.request.ProcessorAccess.{ProcessorAccess}
 use Rattle.ptdump_engine.specs.declared.word_read.WordRead.{WordRead}
 
 -- the line of a value: its text without spaces
@@ -104,9 +104,9 @@ json_of_access a (NoMemory frame) = object (
     (member (codes "table") (hexadecimal_string frame) no_members)))
 
 -- the access that is asked for, if one is
-abbrev pub json_of_asked : Option ProcessorAccess → (L : ℕ) → Words → (root p : ℕ) → Option Data
-json_of_asked None L T root p = None
-json_of_asked (Some asked) L T root p = Some (json_of_access asked.access (outcome_in L T root p asked))
+abbrev pub json_of_asked : Controls → Option Access → (L : ℕ) → Words → (root p : ℕ) → Option Data
+json_of_asked c None L T root p = None
+json_of_asked c (Some a) L T root p = Some (json_of_access a (outcome_in L T root p c a))
 
 abbrev pub with_access : Option Data → Members → Members
 with_access None members = members

@@ -1,17 +1,18 @@
 -- Lines: what reports say of regions, mappings, searches and walks in each form, as lines of text or of JSON.
-use Rattle.std.specs.Prelude.{ℕ, ◌++◌, Bool, true, false, List, Option}
+use Rattle.std.specs.Prelude.{ℕ, ◌++◌, Bool, true, false, if◌then◌else◌, List, []}
 use Rattle.x86_64_mappings.specs.Texts.{mapping_text, region_text}
 use Rattle.x86_64_model.specs.Mappings.{Mapping, Rights}
 use Rattle.x86_64_model.specs.Memory.{Words}
 use Rattle.x86_64_model.specs.Position.{raw}
 use Rattle.x86_64_model.specs.Regions.{Region}
 use Rattle.ptdump_engine.specs.Accesses.{asked_text}
+use Rattle.ptdump_engine.specs.Explanations.{explanation_text}
 use Rattle.ptdump_engine.specs.Json.{json_line, json_of_asked, json_of_found, json_of_mapping, json_of_region, json_of_walk}
 use Rattle.ptdump_engine.specs.Names.{named_text}
 use Rattle.ptdump_engine.specs.Walks.{line, rights_at_text, walk_of, walk_text}
 use Rattle.ptdump_engine.specs.declared.request.Form.{Form}
 use Rattle.ptdump_engine.specs.declared.request.Form.TheVariants.{Text, Json}
-use Rattle.ptdump_engine.specs.declared.request.ProcessorAccess.{ProcessorAccess}
+use Rattle.ptdump_engine.specs.declared.request.WalkOptions.{WalkOptions}
 
 abbrev pub region_line : Form → (L : ℕ) → Region → List ℕ
 region_line Text L r = line (region_text L r)
@@ -28,7 +29,8 @@ abbrev pub found_line : Form → (physical address : ℕ) → Rights → List �
 found_line Text a at rights = line (rights_at_text at rights)
 found_line Json a at rights = json_line (json_of_found a at rights)
 
--- the walk to position p, and the access that is asked for
-abbrev pub walk_lines : Form → (L : ℕ) → Words → (root : ℕ) → Option ProcessorAccess → (p : ℕ) → List ℕ
-walk_lines Text L T root asked p = walk_text (walk_of L T root p) ++ asked_text asked L T root p
-walk_lines Json L T root asked p = json_line (json_of_walk (raw L p) (walk_of L T root p) (json_of_asked asked L T root p))
+-- the walk to position p, its explanation and the access if they are asked for
+abbrev pub walk_lines : Form → (L : ℕ) → Words → (root : ℕ) → WalkOptions → (p : ℕ) → List ℕ
+walk_lines Text L T root asked p = walk_text asked.controls (walk_of L T root p)
+    ++ (if asked.explains then explanation_text (walk_of L T root p) else []) ++ asked_text asked.controls asked.access L T root p
+walk_lines Json L T root asked p = json_line (json_of_walk (raw L p) (walk_of L T root p) (json_of_asked asked.controls asked.access L T root p))

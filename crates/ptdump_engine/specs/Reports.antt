@@ -10,8 +10,8 @@ use Rattle.ptdump_engine.specs.Accesses.{is_there}
 use Rattle.ptdump_engine.specs.Lines.{found_line, mapping_line, region_line, walk_lines}
 use Rattle.ptdump_engine.specs.Selections.{is_mapping_selected, is_selected}
 use Rattle.ptdump_engine.specs.declared.request.Form.{Form}
-use Rattle.ptdump_engine.specs.declared.request.ProcessorAccess.{ProcessorAccess}
 use Rattle.ptdump_engine.specs.declared.request.Selection.{Selection}
+use Rattle.ptdump_engine.specs.declared.request.WalkOptions.{WalkOptions}
 
 -- a line for each region that is selected
 unfoldable pub regions_text : Selection → Form → (L : ℕ) → Words → (root : ℕ) → List ℕ
@@ -22,7 +22,7 @@ unfoldable pub pages_text : Selection → (has_names : Bool) → Form → (L : �
 pages_text s has_names form L T root = flat_map (mapping_line form has_names L) (filter (is_mapping_selected L s) (mappings_of L T root))
 
 -- the walks to virtual addresses
-unfoldable pub walks_text : Form → (L : ℕ) → Words → (root : ℕ) → Option ProcessorAccess → (addresses : List ℕ) → List ℕ
+unfoldable pub walks_text : Form → (L : ℕ) → Words → (root : ℕ) → WalkOptions → (addresses : List ℕ) → List ℕ
 walks_text form L T root asked addresses = flat_map (λ a. walk_lines form L T root asked (a % position_count L)) addresses
 
 -- the line for the virtual address in a mapping that leads to a physical address
@@ -40,8 +40,8 @@ find_text form L T root physical = flat_map (addresses_text form L T root) physi
 -- ---- whether the request is fulfilled
 
 -- whether the accesses at virtual addresses all arrive, or if none is asked for, the page walks
-abbrev pub all_arrive : (L : ℕ) → Words → (root : ℕ) → Option ProcessorAccess → (addresses : List ℕ) → Bool
-all_arrive L T root asked addresses = list_all (λ a. is_there asked L T root (a % position_count L)) addresses
+abbrev pub all_arrive : (L : ℕ) → Words → (root : ℕ) → WalkOptions → (addresses : List ℕ) → Bool
+all_arrive L T root asked addresses = list_all (λ a. is_there asked.controls asked.access L T root (a % position_count L)) addresses
 
 -- whether a virtual address leads to each of these physical addresses
 abbrev pub all_found : (L : ℕ) → Words → (root : ℕ) → (physical : List ℕ) → Bool

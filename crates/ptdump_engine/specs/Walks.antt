@@ -1,10 +1,13 @@
 -- Walks: the words that the page walk to a position reads, one below the other, and how it ends. The position of an address is
 -- its number counted without the gap of non-canonical addresses. Intel SDM vol. 3A, "Linear-Address Translation with 4-Level
 -- Paging and 5-Level Paging"; AMD APM vol. 2, "Long-Mode Page Translation".
-use Rattle.std.specs.Prelude.{zero, suc, ℕ, ◌+◌, ◌%◌, ◌++◌, Bool, true, false, cond, List, [], ◌∷◌, map, Option, Some, None, codes, decimal}
+use Rattle.std.specs.Prelude.{zero, suc, ℕ, ◌+◌, ◌%◌, ◌++◌, ◌&&◌, Bool, true, false, cond, if◌then◌else◌, List, [], ◌∷◌, map, Option, Some, None, codes, decimal}
 use Rattle.std.specs.List.{flat_map}
 use Rattle.std.specs.Option.{option_map_or}
+use Rattle.x86_64_access.specs.Accesses.{controls_of}
+use Rattle.x86_64_access.specs.declared.controls.Controls.{Controls}
 use Rattle.x86_64_mappings.specs.Numbers.{hexadecimal}
+use Rattle.x86_64_model.specs.Access.{reserved}
 use Rattle.x86_64_model.specs.Entry.{present, huge, address}
 use Rattle.x86_64_model.specs.Mappings.{Rights, maps_page, rights_of}
 use Rattle.x86_64_model.specs.Memory.{Words}
@@ -13,10 +16,10 @@ use Rattle.x86_64_model.specs.Position.{index, span}
 use Rattle.x86_64_tables.specs.Rights.{rights_text}
 use Rattle.ptdump_engine.specs.declared.word_read.WordRead.{WordRead}
 
--- the end of a walk: it arrives at a physical address, a word lacks PRESENT, a table is missing, or a word has HUGE_PAGE at a
--- level at which no entry maps a page
+-- the end of a walk: it arrives at a physical address in a page of some size, a word lacks PRESENT, a table is missing, or a word
+-- has HUGE_PAGE at a level at which no entry maps a page
 pub data End : Type 0 where
-  arrives_at : (address : ℕ) → End
+  arrives_at : (address size : ℕ) → End
   not_present : End
   no_table : (frame : ℕ) → End
   huge_page : (level : ℕ) → End
@@ -36,7 +39,7 @@ after word walk = record { words = word ∷ walk.words; end = walk.end }
 -- the rest of a walk to position p after a word of a level, if `below` is the walk in the table that the word names
 abbrev pub behind : (p level word : ℕ) → (below : Walk) → Walk
 behind p level e below = cond (present e)
-    (cond (maps_page level e) (ends (arrives_at (page_start level e + p % span level)))
+    (cond (maps_page level e) (ends (arrives_at (page_start level e + p % span level) (span level)))
     (cond (huge e) (ends (huge_page level)) below))
     (ends not_present)
 
@@ -57,7 +60,7 @@ walk_rights walk = rights_of (map (λ w. w.word) walk.words)
 
 -- the arrival of a walk, in the form of the page walk's result
 abbrev pub arrival_with : Rights → End → Option Walked
-arrival_with rights (arrives_at to) = arrives to rights.write rights.user
+arrival_with rights (arrives_at to size) = arrives to rights.write rights.user
 arrival_with rights end = None
 
 abbrev pub arrival_of : Walk → Option Walked
@@ -68,9 +71,21 @@ arrival_of walk = arrival_with (walk_rights walk) walk.end
 abbrev pub line : (text : List ℕ) → List ℕ
 line text = text ++ 10 ∷ []
 
+-- the text "level L 0xTABLE[INDEX]"
+unfoldable pub place_text : WordRead → List ℕ
+place_text w = codes "level " ++ decimal w.level ++ codes " " ++ hexadecimal w.table ++ codes "[" ++ decimal w.index ++ codes "]"
+
 -- the text "level L 0xTABLE[INDEX] 0xWORD"
 abbrev pub word_text : WordRead → List ℕ
-word_text w = codes "level " ++ decimal w.level ++ codes " " ++ hexadecimal w.table ++ codes "[" ++ decimal w.index ++ codes "] " ++ hexadecimal w.word
+word_text w = place_text w ++ codes " " ++ hexadecimal w.word
+
+-- whether a processor with these settings faults at a word, since it is present and has a reserved bit
+abbrev pub faults_at : Controls → WordRead → Bool
+faults_at c w = present w.word && reserved (controls_of c) w.level w.word
+
+-- the line of a word, and another one if a processor faults there
+unfoldable pub word_lines : Controls → WordRead → List ℕ
+word_lines c w = line (word_text w) ++ (if faults_at c w then line (codes "reserved bits: a processor faults here") else [])
 
 -- the text "table 0xFRAME is not in the dump"
 abbrev pub missing_text : (frame : ℕ) → List ℕ
@@ -82,11 +97,11 @@ rights_at_text address rights = hexadecimal address ++ codes " " ++ rights_text 
 
 -- the address at which the walk arrives, or why it doesn't arrive
 abbrev pub end_text : Rights → End → List ℕ
-end_text rights (arrives_at to) = rights_at_text to rights
+end_text rights (arrives_at to size) = rights_at_text to rights
 end_text rights not_present = codes "not present"
 end_text rights (no_table frame) = missing_text frame
 end_text rights (huge_page level) = codes "HUGE_PAGE at level " ++ decimal level
 
--- a line for each word, and a line for the end
-unfoldable pub walk_text : Walk → List ℕ
-walk_text walk = flat_map (λ w. line (word_text w)) walk.words ++ line (end_text (walk_rights walk) walk.end)
+-- the lines of the words, and a line for the end
+unfoldable pub walk_text : Controls → Walk → List ℕ
+walk_text c walk = flat_map (word_lines c) walk.words ++ line (end_text (walk_rights walk) walk.end)

@@ -11,7 +11,6 @@ ghost use Rattle.ptdump_engine.specs.Walks.{line};
 use crate::destination::Destination;
 use crate::loaded::Loaded;
 use crate::output::{Output, OutputError};
-use crate::request::ProcessorAccess;
 use bitflags::Flags;
 use std::fmt::{Display, Formatter, Result as FmtResult, Write};
 use x86_64_access::{Access, AccessKind, Controls, Fault, PageFaultCode, access};
@@ -33,15 +32,16 @@ const PHYSICAL_BITS: u8 = 52;
 pub fn write_access<L: LevelCount, W: Destination>(
     loaded: &Loaded<'_, L>,
     address: VirtAddrIn<L>,
-    asked: ProcessorAccess,
+    controls: Controls,
+    asked: Access,
     output: &mut Output<'_, W>,
 ) -> Result<bool, OutputError<W>>
-    ensures text { OnOk result (Puts W.contents output.old output.new (line (accesses.access_text asked.access
-        (accesses.outcome_in L.LEVELS (words_loaded loaded.now) loaded.now.root address asked)))) }
+    ensures text { OnOk result (Puts W.contents output.old output.new (line (accesses.access_text asked
+        (accesses.outcome_in L.LEVELS (words_loaded loaded.now) loaded.now.root address controls asked)))) }
     ensures arrives { IfOk result (λ arrives. arrives ≡ accesses.is_arrived
-        (accesses.outcome_in L.LEVELS (words_loaded loaded.now) loaded.now.root address asked)) }
+        (accesses.outcome_in L.LEVELS (words_loaded loaded.now) loaded.now.root address controls asked)) }
 {
-    let line = access_end(loaded, address, asked);
+    let line = access_end(loaded, address, controls, asked);
     writeln!(output, "{line}")?;
     Ok(line.end.is_ok())
 }
@@ -50,17 +50,15 @@ pub fn write_access<L: LevelCount, W: Destination>(
 pub fn access_end<L: LevelCount>(
     loaded: &Loaded<'_, L>,
     address: VirtAddrIn<L>,
-    asked: ProcessorAccess,
+    controls: Controls,
+    asked: Access,
 ) -> AccessLine
-    ensures access { result.access ≡ asked.access }
+    ensures access { result.access ≡ asked }
     ensures end { outcome_of result.end
-        ≡ accesses.outcome_in L.LEVELS (words_loaded loaded.now) loaded.now.root address asked }
+        ≡ accesses.outcome_in L.LEVELS (words_loaded loaded.now) loaded.now.root address controls asked }
 {
-    let end = end_of(loaded.tables.memory(), loaded.root, address, asked);
-    AccessLine {
-        access: asked.access,
-        end,
-    }
+    let end = end_of(loaded.tables.memory(), loaded.root, address, controls, asked);
+    AccessLine { access: asked, end }
 }
 
 /// Returns what a processor does with an access at an address: the physical address at which it arrives, or the fault.
@@ -68,24 +66,18 @@ fn end_of<L: LevelCount>(
     memory: &PhysMemory,
     root: PhysFrame<Size4KiB>,
     address: VirtAddrIn<L>,
-    asked: ProcessorAccess,
+    controls: Controls,
+    asked: Access,
 ) -> Result<PhysAddr, Fault>
     ensures { outcome_of result
-        ≡ accesses.outcome_in L.LEVELS (words_of memory.now identity_places) root address asked }
+        ≡ accesses.outcome_in L.LEVELS (words_of memory.now identity_places) root address controls asked }
 {
-    let controls = limited(asked.controls);
-    access(
-        memory,
-        &IdentityMapping,
-        root,
-        address,
-        asked.access,
-        &controls,
-    )
+    let limits = limited(controls);
+    access(memory, &IdentityMapping, root, address, asked, &limits)
 }
 
 /// Returns settings with at most 52 bits of physical addresses. Entries have no higher address bits, so accesses are the same.
-fn limited(controls: Controls) -> Controls
+pub fn limited(controls: Controls) -> Controls
     ensures { result ≡ accesses.limited controls }
 {
     Controls {

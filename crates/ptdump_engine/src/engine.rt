@@ -249,8 +249,8 @@ fn write_report<L: LevelCount, S: ByteSource, W: Destination, E: Destination>(
             write_pages(alloc, loaded, *selection, *has_names, form, output)?;
             Ok(true)
         }
-        Command::Walk { addresses, access } => {
-            Ok(write_walks(alloc, loaded, addresses, *access, form, output)?)
+        Command::Walk { addresses, options } => {
+            Ok(write_walks(alloc, loaded, addresses, *options, form, output)?)
         }
         Command::Find(addresses) => Ok(write_found(alloc, loaded, addresses, form, output)?),
         Command::Check => Ok(write_findings(alloc, loaded, output)?),

@@ -14,13 +14,14 @@ ghost use Rattle.ptdump_engine.specs.private.Finding.{some_there, visited_lines}
 
 use crate::access_line::write_access;
 use crate::destination::Destination;
+use crate::explanation::write_explanation;
 use crate::finder::Finder;
 use crate::json_lines::{write_json_pages, write_json_regions, write_json_walk};
 use crate::lines::Lines;
 use crate::loaded::Loaded;
 use crate::naming::visit_named_mappings;
 use crate::output::{Output, OutputError};
-use crate::request::{Form, ProcessorAccess, Selection};
+use crate::request::{Form, Selection, WalkOptions};
 use crate::selected::{visit_selected_mappings, visit_selected_regions};
 use crate::walk::write_walk;
 use std::alloc::Global;
@@ -105,8 +106,8 @@ fn write_pages_as_text<L: LevelCount, W: Destination>(
     }
 }
 
-/// Writes the walks to addresses, and what a processor does with an access there, if one is asked for. Returns true if each
-/// access arrives, or if none is asked for, each walk.
+/// Writes the walks to addresses, and what else is asked of each. Returns true if each access arrives, or if none is asked for, each
+/// walk.
 ///
 /// # Errors
 ///
@@ -115,62 +116,66 @@ pub fn write_walks<L: LevelCount, W: Destination>(
     alloc: Global,
     loaded: &Loaded<'_, L>,
     addresses: &[u64],
-    access: Option<ProcessorAccess>,
+    options: WalkOptions,
     form: Form,
     output: &mut Output<'_, W>,
 ) -> Result<bool, OutputError<W>>
     ensures text { OnOk result (Puts W.contents output.old output.new
-        (reports.walks_text form L.LEVELS (words_loaded loaded.now) loaded.now.root access addresses.now)) }
+        (reports.walks_text form L.LEVELS (words_loaded loaded.now) loaded.now.root options addresses.now)) }
     ensures complete { IfOk result (λ all.
-        all ≡ reports.all_arrive L.LEVELS (words_loaded loaded.now) loaded.now.root access addresses.now) }
+        all ≡ reports.all_arrive L.LEVELS (words_loaded loaded.now) loaded.now.root options addresses.now) }
 {
     let mut is_complete = true;
     for address in addresses {
         let address = VirtAddrIn::<L>::new_truncate(*address);
-        let arrives = write_walk_as(alloc, loaded, address, access, form, output)?;
+        let arrives = write_walk_as(alloc, loaded, address, options, form, output)?;
         is_complete &= arrives;
     }
     Ok(is_complete)
 }
 
-/// Writes the walk to an address in a form, and what a processor does with an access there, if one is asked for. Returns true if
-/// the access arrives, or if none is asked for, the walk.
+/// Writes the walk to an address in a form, and what else is asked of it. Returns true if the access arrives, or if none is asked
+/// for, the walk.
 fn write_walk_as<L: LevelCount, W: Destination>(
     alloc: Global,
     loaded: &Loaded<'_, L>,
     address: VirtAddrIn<L>,
-    access: Option<ProcessorAccess>,
+    options: WalkOptions,
     form: Form,
     output: &mut Output<'_, W>,
 ) -> Result<bool, OutputError<W>>
     ensures text { OnOk result (Puts W.contents output.old output.new
-        (walk_lines form L.LEVELS (words_loaded loaded.now) loaded.now.root access address)) }
+        (walk_lines form L.LEVELS (words_loaded loaded.now) loaded.now.root options address)) }
     ensures arrives { IfOk result (λ arrives.
-        arrives ≡ is_there access L.LEVELS (words_loaded loaded.now) loaded.now.root address) }
+        arrives ≡ is_there options.controls options.access
+        L.LEVELS (words_loaded loaded.now) loaded.now.root address) }
 {
     match form {
-        Form::Text => write_walk_and_access(loaded, address, access, output),
-        Form::Json => write_json_walk::<L, Output<'_, W>>(alloc, loaded, address, access, output),
+        Form::Text => write_walk_by(loaded, address, options, output),
+        Form::Json => write_json_walk::<L, Output<'_, W>>(alloc, loaded, address, options, output),
     }
 }
 
-/// Writes the walk to an address as text, and what a processor does with an access there, if one is asked for. Returns true if the
-/// access arrives, or if none is asked for, the walk.
-fn write_walk_and_access<L: LevelCount, W: Destination>(
+/// Writes the walk to an address as text, and what else is asked of it. Returns true if the access arrives, or if none is asked for,
+/// the walk.
+fn write_walk_by<L: LevelCount, W: Destination>(
     loaded: &Loaded<'_, L>,
     address: VirtAddrIn<L>,
-    access: Option<ProcessorAccess>,
+    options: WalkOptions,
     output: &mut Output<'_, W>,
 ) -> Result<bool, OutputError<W>>
     ensures text { OnOk result (Puts W.contents output.old output.new
-        (walk_lines Text L.LEVELS (words_loaded loaded.now) loaded.now.root access address)) }
+        (walk_lines Text L.LEVELS (words_loaded loaded.now) loaded.now.root options address)) }
     ensures arrives { IfOk result (λ arrives.
-        arrives ≡ is_there access L.LEVELS (words_loaded loaded.now) loaded.now.root address) }
+        arrives ≡ is_there options.controls options.access
+        L.LEVELS (words_loaded loaded.now) loaded.now.root address) }
 {
-    let arrives = write_walk(loaded, address, output)?;
-    match access {
-        None => Ok(arrives),
-        Some(asked) => write_access(loaded, address, asked, output),
+    let controls = options.controls;
+    let size = write_walk(loaded, controls, address, output)?;
+    write_explanation(loaded, address, options.explains, size, output)?;
+    match options.access {
+        None => Ok(size.is_some()),
+        Some(asked) => write_access(loaded, address, controls, asked, output),
     }
 }
 

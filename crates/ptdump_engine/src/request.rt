@@ -8,13 +8,15 @@ pub use x86_64_addr::level_count::Levels;
 use x86_64_dump::Placement;
 use x86_64_tables::page_table::Rights;
 
-/// An access, and what the processor that makes it is set to.
+/// What is asked of the walk to each address, beside its words and its end.
 #[derive(Clone, Copy, Debug, PartialEq, Eq)]
-pub struct ProcessorAccess {
-    /// The access.
-    pub access: Access,
-    /// What the processor is set to. More than 52 bits of physical addresses count as 52.
+pub struct WalkOptions {
+    /// What the processor is set to, which says at which words it faults. More than 52 bits of physical addresses count as 52.
     pub controls: Controls,
+    /// Whether the report also says how large the page is, and which words take rights away.
+    pub explains: bool,
+    /// The access of which the report also says what the processor does with it, if there is one.
+    pub access: Option<Access>,
 }
 
 /// Which mappings or regions to report: those that reach into the addresses from one to another, and have at least some rights.
@@ -53,8 +55,8 @@ pub enum Command {
     Walk {
         /// The addresses.
         addresses: Vec<u64>,
-        /// The access of which the report also says what a processor does with it at each address, if there is one.
-        access: Option<ProcessorAccess>,
+        /// What else is asked of them.
+        options: WalkOptions,
     },
     /// The virtual addresses that lead to each of these physical addresses.
     Find(Vec<u64>),

@@ -8,13 +8,15 @@ ghost use Rattle.x86_64_model.specs.Position.{span as span_of};
 ghost use Rattle.ptdump_engine.specs.Loaded.{words_loaded};
 ghost use Rattle.ptdump_engine.specs.Output.{Puts};
 ghost use Rattle.ptdump_engine.specs.Walks as walks;
-ghost use Rattle.ptdump_engine.specs.private.WalkLines.{lines_below, is_arrival};
+ghost use Rattle.ptdump_engine.specs.private.WalkLines.{lines_below, page_size};
 
+use crate::access_line::limited;
 use crate::destination::Destination;
 use crate::loaded::Loaded;
 use crate::output::{Output, OutputError};
 use crate::rights_at::RightsAt;
 use crate::word_read::{MissingTable, WordRead};
+use x86_64_access::Controls;
 use x86_64_addr::addr::VirtAddrIn;
 use x86_64_addr::level_count::LevelCount;
 use x86_64_mappings::span;
@@ -23,7 +25,8 @@ use x86_64_page::page::Size4KiB;
 use x86_64_tables::page_table::{PageTableEntry, PageTableFlags, Rights, has_flag};
 use x86_64_tables::phys_memory::{IdentityMapping, PhysMemory, index_of, table_in};
 
-/// Writes the walk to an address, with a line for each word that it reads and one for its end, and returns true if it arrives.
+/// Writes the walk to an address, with a line for each word that it reads and one for its end, and returns the size of the page if
+/// it arrives. A further line says that a processor with these settings faults at a word.
 ///
 /// # Errors
 ///
@@ -31,18 +34,20 @@ use x86_64_tables::phys_memory::{IdentityMapping, PhysMemory, index_of, table_in
 #[tactic(auto, unfolding(crate::specs::Walks::walk_text, crate::specs::private::WalkLines::lines_below))]
 pub fn write_walk<L: LevelCount, W: Destination>(
     loaded: &Loaded<'_, L>,
+    controls: Controls,
     address: VirtAddrIn<L>,
     output: &mut Output<'_, W>,
-) -> Result<bool, OutputError<W>>
+) -> Result<Option<u64>, OutputError<W>>
     ensures text { OnOk result (Puts W.contents output.old output.new (
-        walks.walk_text (walks.walk_of L.LEVELS (words_loaded loaded.now) loaded.now.root address))) }
-    ensures arrives { IfOk result (λ arrives. arrives
-        ≡ is_arrival (walks.walk_of L.LEVELS (words_loaded loaded.now) loaded.now.root address).end) }
+        walks.walk_text controls (walks.walk_of L.LEVELS (words_loaded loaded.now) loaded.now.root address))) }
+    ensures size { IfOk result (λ size. size
+        ≡ page_size (walks.walk_of L.LEVELS (words_loaded loaded.now) loaded.now.root address).end) }
 {
     let memory = loaded.tables.memory();
     let position = address.position();
     walk_on(
         memory,
+        controls,
         position,
         L::LEVELS,
         loaded.root,
@@ -55,22 +60,23 @@ pub fn write_walk<L: LevelCount, W: Destination>(
 /// frame. `above` are the rights that the words above allow.
 fn walk_on<W: Destination>(
     memory: &PhysMemory,
+    controls: Controls,
     position: u64,
     level: u64,
     frame: PhysFrame<Size4KiB>,
     above: Rights,
     output: &mut Output<'_, W>,
-) -> Result<bool, OutputError<W>>
+) -> Result<Option<u64>, OutputError<W>>
     requires low { 1 ≤ level }
     requires high { level ≤ 5 }
-    ensures text { OnOk result (Puts W.contents output.old output.new (lines_below above
+    ensures text { OnOk result (Puts W.contents output.old output.new (lines_below controls above
         (walks.walk_from (words_of memory.now identity_places) position level frame))) }
-    ensures arrives { IfOk result (λ arrives. arrives
-        ≡ is_arrival (walks.walk_from (words_of memory.now identity_places) position level frame).end) }
+    ensures size { IfOk result (λ size. size
+        ≡ page_size (walks.walk_from (words_of memory.now identity_places) position level frame).end) }
 {
     let Some(table) = table_in(memory, &IdentityMapping, frame) else {
         write_missing(frame, output)?;
-        return Ok(false);
+        return Ok(None);
     };
     let index = index_of(position, level);
     let entry = &table[index];
@@ -80,22 +86,22 @@ fn walk_on<W: Destination>(
         index,
         word: entry.word(),
     };
-    write_word(read, output)?;
+    write_word(read, controls, output)?;
     let rights = above.below(entry);
     if !has_flag(entry, PageTableFlags::PRESENT) {
         writeln!(output, "not present")?;
-        return Ok(false);
+        return Ok(None);
     }
     if entry.maps_page(level) {
         write_arrival(position, level, entry, rights, output)?;
-        return Ok(true);
+        return Ok(Some(span(level)));
     }
     if has_flag(entry, PageTableFlags::HUGE_PAGE) {
         write_huge(level, output)?;
-        return Ok(false);
+        return Ok(None);
     }
     let below = PhysFrame::from_start_address_unchecked(entry.addr());
-    walk_on(memory, position, level - 1, below, rights, output)
+    walk_on(memory, controls, position, level - 1, below, rights, output)
 }
 
 /// Writes that the table in a frame is missing.
@@ -109,14 +115,30 @@ fn write_missing<W: Destination>(
     writeln!(output, "{missing}")
 }
 
-/// Writes a word that a walk reads.
+/// Writes a word that a walk reads, and if a processor with these settings faults there, that it does.
+#[tactic(auto, unfolding(crate::specs::Walks::word_lines))]
 fn write_word<W: Destination>(
     read: WordRead,
+    controls: Controls,
     output: &mut Output<'_, W>,
 ) -> Result<(), OutputError<W>>
-    ensures { OnOk result (Puts W.contents output.old output.new (walks.line (walks.word_text read))) }
+    ensures { OnOk result (Puts W.contents output.old output.new (walks.word_lines controls read)) }
 {
-    writeln!(output, "{read}")
+    writeln!(output, "{read}")?;
+    if !faults_at(controls, read) {
+        return Ok(());
+    }
+    writeln!(output, "reserved bits: a processor faults here")
+}
+
+/// Returns true if a processor with these settings faults at a word, since it is present and has a reserved bit.
+#[tactic(auto, using(crate::proofs::AccessLaws::limited_reserved))]
+fn faults_at(controls: Controls, read: WordRead) -> bool
+    ensures { result ≡ walks.faults_at controls read }
+{
+    let entry = PageTableEntry::from_word(read.word);
+    let limits = limited(controls);
+    has_flag(&entry, PageTableFlags::PRESENT) && limits.is_reserved(read.level, &entry)
 }
 
 /// Writes that a word has `HUGE_PAGE` at a level at which no entry maps a page.

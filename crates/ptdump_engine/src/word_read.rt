@@ -25,12 +25,28 @@ impl Display for WordRead {
     ghost output = { λ read. Some (word_text read) };
 
     fn fmt<W: Write>(&self, f: &mut Formatter<W>) -> FmtResult {
-        let level = self.level;
-        let index = self.index;
-        write!(f, "level {level} ")?;
-        write_hexadecimal(f, self.table.start_address().as_u64())?;
-        write!(f, "[{index}] ")?;
+        let place = Place(*self);
+        write!(f, "{place} ")?;
         write_hexadecimal(f, self.word)
+    }
+}
+
+/// The place of a word that a walk reads.
+#[derive(Clone, Copy)]
+pub struct Place(pub WordRead);
+
+impl Display for Place {
+    ghost use Rattle.ptdump_engine.specs.Walks.{place_text};
+
+    ghost output = { λ place. Some (place_text place.0) };
+
+    #[tactic(auto, unfolding(crate::specs::Walks::place_text))]
+    fn fmt<W: Write>(&self, f: &mut Formatter<W>) -> FmtResult {
+        let level = self.0.level;
+        let index = self.0.index;
+        write!(f, "level {level} ")?;
+        write_hexadecimal(f, self.0.table.start_address().as_u64())?;
+        write!(f, "[{index}]")
     }
 }
 

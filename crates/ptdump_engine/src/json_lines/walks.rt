@@ -17,7 +17,7 @@ use super::{ToJson, hexadecimal, write_json};
 use crate::access_line::{AccessLine, access_end, access_name};
 use crate::lines::Lines;
 use crate::loaded::Loaded;
-use crate::request::ProcessorAccess;
+use crate::request::WalkOptions;
 use crate::walked::{Walk, WalkEnd, walk_to};
 use crate::word_read::WordRead;
 use bitflags::Flags;
@@ -200,15 +200,16 @@ pub fn write_json_walk<L: LevelCount, O: Lines>(
     alloc: Global,
     loaded: &Loaded<'_, L>,
     address: VirtAddrIn<L>,
-    access: Option<ProcessorAccess>,
+    options: WalkOptions,
     output: &mut O,
 ) -> Result<bool, O::Error>
     ensures text { OnOk result (O.puts output.old output.new (
-        walk_lines Json L.LEVELS (words_loaded loaded.now) loaded.now.root access address)) }
+        walk_lines Json L.LEVELS (words_loaded loaded.now) loaded.now.root options address)) }
     ensures arrives { IfOk result (λ arrives.
-        arrives ≡ is_there access L.LEVELS (words_loaded loaded.now) loaded.now.root address) }
+        arrives ≡ is_there options.controls options.access
+        L.LEVELS (words_loaded loaded.now) loaded.now.root address) }
 {
-    let report = report_on(alloc, loaded, address, access)?;
+    let report = report_on(alloc, loaded, address, options)?;
     write_json(alloc, &report, output)?;
     Ok(report.arrives())
 }
@@ -218,20 +219,22 @@ fn report_on<L: LevelCount>(
     alloc: Global,
     loaded: &Loaded<'_, L>,
     address: VirtAddrIn<L>,
-    access: Option<ProcessorAccess>,
+    options: WalkOptions,
 ) -> Result<WalkReport, AllocError>
     ensures json { IfOk result (λ report. json_of_report report
         ≡ json.json_of_walk (raw L.LEVELS address)
         (walk_of L.LEVELS (words_loaded loaded.now) loaded.now.root address)
-        (json.json_of_asked access L.LEVELS (words_loaded loaded.now) loaded.now.root address)) }
+        (json.json_of_asked options.controls options.access
+        L.LEVELS (words_loaded loaded.now) loaded.now.root address)) }
     ensures arrives { IfOk result (λ report. report_arrives report
-        ≡ is_there access L.LEVELS (words_loaded loaded.now) loaded.now.root address) }
+        ≡ is_there options.controls options.access
+        L.LEVELS (words_loaded loaded.now) loaded.now.root address) }
 {
     let walk = walk_to(alloc, loaded, address)?;
     Ok(WalkReport {
         address: address.as_u64(),
         walk,
-        access: end_asked(loaded, address, access),
+        access: end_asked(loaded, address, options),
     })
 }
 
@@ -239,16 +242,18 @@ fn report_on<L: LevelCount>(
 fn end_asked<L: LevelCount>(
     loaded: &Loaded<'_, L>,
     address: VirtAddrIn<L>,
-    access: Option<ProcessorAccess>,
+    options: WalkOptions,
 ) -> Option<AccessLine>
     ensures json { option_map json_of_line result
-        ≡ json.json_of_asked access L.LEVELS (words_loaded loaded.now) loaded.now.root address }
+        ≡ json.json_of_asked options.controls options.access
+        L.LEVELS (words_loaded loaded.now) loaded.now.root address }
     ensures arrives { option_map (λ line. is_arrived (outcome_of line.end)) result
-        ≡ option_map (λ asked. is_arrived (
-        outcome_in L.LEVELS (words_loaded loaded.now) loaded.now.root address asked)) access }
+        ≡ option_map (λ a. is_arrived (
+        outcome_in L.LEVELS (words_loaded loaded.now) loaded.now.root address options.controls a))
+        options.access }
 {
-    match access {
-        Some(asked) => Some(access_end(loaded, address, asked)),
+    match options.access {
+        Some(asked) => Some(access_end(loaded, address, options.controls, asked)),
         None => None,
     }
 }

@@ -1,11 +1,12 @@
 //! Runs of the program, and how they end.
 use ptdump_engine::{
-    Command, Destination, Failure, Form, Outcome, Progress, Request, Selection, run,
+    Command, Destination, Failure, Form, Outcome, Progress, Request, Selection, WalkOptions, run,
 };
 use std::alloc::{AllocError, Global};
 use std::io::{self, ErrorKind, Write};
 use std::process::Abort;
 use x86_64_dump::{ByteSource, Placement};
+use x86_64_access::Controls;
 
 /// The word of a command.
 #[derive(Clone, Copy, Debug)]
@@ -18,6 +19,16 @@ pub enum Word {
     Image,
     Picture,
 }
+
+/// A processor with all of its protections on.
+const CONTROLS: Controls = Controls {
+    write_protect: true,
+    no_execute: true,
+    smep: true,
+    smap: true,
+    ac: false,
+    physical_bits: 52,
+};
 
 /// The words of all commands.
 pub const EACH: [Word; 7] = [
@@ -41,7 +52,11 @@ impl Word {
             },
             Word::Walk => Command::Walk {
                 addresses: Vec::from_slice(alloc, &[0, 0x2abc])?,
-                access: None,
+                options: WalkOptions {
+                    controls: CONTROLS,
+                    explains: true,
+                    access: None,
+                },
             },
             Word::Find => Command::Find(Vec::from_slice(alloc, &[0x8000_0123, 0x3abc])?),
             Word::Check => Command::Check,

@@ -10,13 +10,13 @@ returns-in_err-addresses-clause-err c =
     let unread : IsUnread (IsCommand (codes "walk") found) c.in_err-addresses.field-0.0 =
     elim c.in_err-addresses.ensures.err [
       | inl memory ↦ inl memory
-      | inr none ↦ inr (no_walk (codes "walk") found refl (λ numbers asked are is. none numbers are))
+      | inr none ↦ inr (no_walk (codes "walk") found refl (λ numbers options are is. none numbers are))
     ] in
     search (rules, unread)
 
-pub returns-in_err-access-clause-err : goal.returns-in_err-access-clause-err
-returns-in_err-access-clause-err c =
+pub returns-in_err-options-clause-err : goal.returns-in_err-options-clause-err
+returns-in_err-options-clause-err c =
     let found = found_of c.args.arguments.now in
-    let unread : IsUnread (IsCommand (codes "walk") found) c.in_err-access.field-0.0 =
-    inr (no_walk (codes "walk") found refl (λ numbers asked are is. c.in_err-access.ensures.err asked is)) in
+    let unread : IsUnread (IsCommand (codes "walk") found) c.in_err-options.field-0.0 =
+    inr (no_walk (codes "walk") found refl (λ numbers options are is. c.in_err-options.ensures.err options is)) in
     search (rules, unread)

@@ -9,6 +9,6 @@ pub returns : goal.returns
 returns g c =
     let L = g.L.LevelCount.LEVELS in
     let T = words_of c.args.memory.now identity_places in
-    let a = access_of c.args.asked.access in
-    c.access.ensures ∙ ap (λ settings. access L (controls_of settings) T c.args.root c.args.address a) c.limited-controls.ensures
-    ∙ limited_access c.args.asked.controls L T c.args.root c.args.address a
+    let a = access_of c.args.asked in
+    c.access.ensures ∙ ap (λ settings. access L (controls_of settings) T c.args.root c.args.address a) c.limited-limits.ensures
+    ∙ limited_access c.args.controls L T c.args.root c.args.address a

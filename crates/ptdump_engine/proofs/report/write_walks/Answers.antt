@@ -19,13 +19,13 @@ loop-address-preserved g c =
     let L = g.L.LevelCount.LEVELS in
     let T = words_loaded c.args.loaded.now in
     let root = c.args.loaded.now.root in
-    let asked = c.args.access in
+    let asked = c.args.options in
     let xs = c.args.addresses.now in
     let i = c.loop-address.address-index in
     let at = c.new_truncate-address.ensures in (
       puts_more g.W.Destination.contents (λ a. walk_lines c.args.form L T root asked (a % position_count L)) c.args.output.now c.loop-address.output c.write_walk_as.new.output xs i 0
           c.loop-address-test.true c.loop-address.invariant.0
           (subst (λ p. Puts g.W.Destination.contents c.loop-address.output c.write_walk_as.new.output (walk_lines c.args.form L T root asked p)) at c.in_ok-arrives.ensures.text),
-      ap₂ (λ b d. b && d) c.loop-address.invariant.1 (c.in_ok-arrives.ensures.arrives ∙ ap (is_there asked L T root) at)
-          ∙ sym (all_more (λ a. is_there asked L T root (a % position_count L)) xs i c.loop-address-test.true),
+      ap₂ (λ b d. b && d) c.loop-address.invariant.1 (c.in_ok-arrives.ensures.arrives ∙ ap (is_there asked.controls asked.access L T root) at)
+          ∙ sym (all_more (λ a. is_there asked.controls asked.access L T root (a % position_count L)) xs i c.loop-address-test.true),
     )

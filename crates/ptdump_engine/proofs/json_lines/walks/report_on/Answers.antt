@@ -23,4 +23,4 @@ returns-clause-arrives g c =
     let root = c.args.loaded.now.root in
     let p = c.args.address in
     ap₂ (λ access walk. unwrap_or access walk) c.end_asked.ensures.arrives (value_arrives L T root p c.in_ok-walk.walk c.in_ok-walk.ensures)
-    ∙ asked_there c.args.access L T root p
+    ∙ asked_there c.args.options.controls c.args.options.access L T root p

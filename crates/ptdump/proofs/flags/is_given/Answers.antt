@@ -1,7 +1,7 @@
 use Rattle.std.proofs.Common.{◌≡◌, ℕ, Bool, true, false, List, Option, None, Some, codes, ap, refl, sym}
 use Rattle.clap.specs.Matches.{found_of, one_text}
 use Rattle.ptdump.specs.Options.{IsFlag}
-use Rattle.ptdump.proofs.request.is_given.Goals as goal
+use Rattle.ptdump.proofs.flags.is_given.Goals as goal
 
 flag_as : (text : Option (List ℕ)) (flag : Bool) → (text ≡ None → flag ≡ false) → (text ≡ Some (codes "true") → flag ≡ true) → (text ≡ Some (codes "false") → flag ≡ false) → IsFlag text flag
 flag_as None flag none on off = none refl

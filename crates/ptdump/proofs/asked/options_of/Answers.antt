@@ -1,0 +1,13 @@
+use Rattle.std.proofs.Common.{List, ℕ, Option, codes, option_map, unwrap_or, sym, subst}
+use Rattle.clap.specs.Matches.{found_of, matched_of, raw_values}
+use Rattle.ptdump_engine.specs.declared.request.WalkOptions.{WalkOptions}
+use Rattle.ptdump.specs.Asked.{AreAsked, AreControls, usual_names}
+use Rattle.ptdump.proofs.Refusals.{of_any_error}
+use Rattle.ptdump.proofs.asked.options_of.Goals as goal
+
+pub returns-in_err-controls-clause-err : goal.returns-in_err-controls-clause-err
+returns-in_err-controls-clause-err c =
+    let found = found_of c.args.arguments.now in
+    of_any_error c.from_residual-in_err-controls.result (λ stop. (options : WalkOptions) → AreAsked found options → ⊥)
+    (λ stop options are. c.in_err-controls.ensures.err options.controls
+    (subst (λ (o : Option (List (List ℕ))). AreControls (unwrap_or o usual_names) options.controls) (sym c.get_strs.ensures) are.controls))

@@ -1,0 +1,28 @@
+-- Explanations of walks that arrive: how large the page is, and which words take rights away.
+use Rattle.std.specs.Prelude.{ℕ, ◌++◌, Bool, not, if◌then◌else◌, List, [], codes}
+use Rattle.std.specs.List.{flat_map}
+use Rattle.x86_64_mappings.specs.Texts.{size_text}
+use Rattle.x86_64_model.specs.Entry.{writable, user, no_execute}
+use Rattle.ptdump_engine.specs.Walks.{End, Walk, arrives_at, line, place_text}
+use Rattle.ptdump_engine.specs.declared.word_read.WordRead.{WordRead}
+
+-- the line that a word has no right with this name, unless it has
+abbrev pub loss_text : WordRead → (has_right : Bool) → (right : List ℕ) → List ℕ
+loss_text w has_right right = if has_right then [] else line (place_text w ++ codes " has no " ++ right)
+
+-- a line for each right that a word takes away
+unfoldable pub losses_text : WordRead → List ℕ
+losses_text w = loss_text w (writable w.word) (codes "write") ++ loss_text w (user w.word) (codes "user")
+    ++ loss_text w (not (no_execute w.word)) (codes "execute")
+
+-- a line for the size of the page, and the lines of the words
+abbrev pub explained_by : (size : ℕ) → List WordRead → List ℕ
+explained_by size words = line (codes "page of " ++ size_text size) ++ flat_map losses_text words
+
+-- likewise if the walk with this end arrives, else nothing
+abbrev pub explained : End → List WordRead → List ℕ
+explained (arrives_at to size) words = explained_by size words
+explained end words = []
+
+abbrev pub explanation_text : Walk → List ℕ
+explanation_text walk = explained walk.end walk.words
