@@ -51,6 +51,6 @@ IsAsked (Some name) words bits None = ⊥
 IsAsked (Some name) words bits (Some asked) =
     (name ≡ access_name asked.access) × AreControls (unwrap_or words usual_names) asked.controls × IsBits bits asked.controls.physical_bits
 
--- the access of --as, --controls and --physical-bits
+-- the access of --as, --controls and --maxphyaddr
 abbrev pub IsAccess : Found → Option ProcessorAccess → Type 0
-IsAccess found = IsAsked (first_value found (codes "as")) (option_map raw_values (matched_of found (codes "controls"))) (first_value found (codes "physical-bits"))
+IsAccess found = IsAsked (first_value found (codes "as")) (option_map raw_values (matched_of found (codes "controls"))) (first_value found (codes "maxphyaddr"))

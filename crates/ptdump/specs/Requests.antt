@@ -2,13 +2,14 @@
 use Rattle.std.specs.Prelude.{◌≡◌, ◌⊎◌, ℕ, Bool, true, false, List, [], Option, None, Some, All, codes, map, option_map, unwrap_or}
 use Rattle.clap.specs.Matches.{first_value, matched_of, one_text, raw_values}
 use Rattle.clap.specs.declared.parser.matches.Found.{Found}
+use Rattle.ptdump_engine.specs.declared.request.Checking.{Checking}
 use Rattle.ptdump_engine.specs.declared.request.Command.{Command}
 use Rattle.ptdump_engine.specs.declared.request.Command.TheVariants.{Regions, Pages, Walk, Find, Check, Image, Picture}
 use Rattle.x86_64_addr.specs.declared.level_count.Levels.{Levels}
 use Rattle.x86_64_addr.specs.declared.level_count.Levels.TheVariants.{Four, Five}
 use Rattle.ptdump_engine.specs.declared.request.Request.{Request}
 use Rattle.ptdump_engine.specs.declared.failure.Failure.TheVariants.{OutOfMemory}
-use Rattle.ptdump.specs.Asked.{IsAccess}
+use Rattle.ptdump.specs.Asked.{IsAccess, IsBits}
 use Rattle.ptdump.specs.declared.stop.Stop.{Stop}
 use Rattle.ptdump.specs.declared.stop.Stop.TheVariants.{Failed}
 use Rattle.x86_64_mappings.specs.Numbers.{IsNumber, number_of}
@@ -21,13 +22,17 @@ AreNumbers texts numbers = All IsNumber texts × (numbers ≡ map number_of text
 abbrev pub values : Found → (name : List ℕ) → List (List ℕ)
 values found name = unwrap_or (option_map raw_values (matched_of found name)) []
 
+-- the number of bits of physical addresses is that of --maxphyaddr
+abbrev pub IsChecking : Found → Checking → Type 0
+IsChecking found checking = IsBits (first_value found (codes "maxphyaddr")) checking.physical_bits
+
 -- the command has this name, and what it takes from these arguments
 abbrev pub IsCommand : (name : List ℕ) → Found → Command → Type 0
 IsCommand name found Regions = name ≡ codes "regions"
 IsCommand name found Pages = name ≡ codes "pages"
 IsCommand name found (Walk numbers asked) = (name ≡ codes "walk") × AreNumbers (values found (codes "addresses")) numbers.items × IsAccess found asked
 IsCommand name found (Find numbers) = (name ≡ codes "find") × AreNumbers (values found (codes "addresses")) numbers.items
-IsCommand name found Check = name ≡ codes "check"
+IsCommand name found (Check checking) = (name ≡ codes "check") × IsChecking found checking
 IsCommand name found Image = name ≡ codes "image"
 IsCommand name found Picture = name ≡ codes "picture"
 

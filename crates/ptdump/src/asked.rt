@@ -33,7 +33,7 @@ pub fn access_of<'a>(arguments: &ArgMatches<'a>) -> Result<Option<ProcessorAcces
         return Ok(None);
     };
     let access = access_named(name)?;
-    let physical_bits = bits_of(arguments.get_str("physical-bits"))?;
+    let physical_bits = bits_of(arguments.get_str("maxphyaddr"))?;
     let controls = controls_of(arguments.get_strs("controls"), physical_bits)?;
     Ok(Some(ProcessorAccess { access, controls }))
 }
@@ -80,14 +80,18 @@ fn access_named<'a>(name: &'a str) -> Result<Access, Stop<'a>>
 }
 
 /// Reads the number of bits of physical addresses, if it is given.
-fn bits_of<'a>(text: Option<&'a str>) -> Result<u8, Stop<'a>>
+///
+/// # Errors
+///
+/// What is wrong with the number.
+pub fn bits_of<'a>(text: Option<&'a str>) -> Result<u8, Stop<'a>>
     ensures ok { IfOk result (IsBits (option_copied text.entry)) }
     ensures err { IfErr result (λ _. (bits : ℕ) → ¬ (IsBits (option_copied text.entry) bits)) }
 {
     let Some(text) = text else {
         return Ok(PHYSICAL_BITS);
     };
-    match number_of("--physical-bits", text)? {
+    match number_of("--maxphyaddr", text)? {
         bits @ 32..=52 => Ok(bits as u8),
         _ => Err(Stop::NoPhysicalBits(text)),
     }

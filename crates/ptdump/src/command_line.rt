@@ -30,6 +30,7 @@ fn subcommand<'a>(alloc: Global, help: &CommandHelp) -> Result<Command<'a>, Erro
         .arg(file(alloc))?;
     let command = match help.operands {
         Operands::None => command,
+        Operands::Checks => command.arg(maxphyaddr(alloc))?,
         Operands::Addresses(text) => command.arg(addresses(alloc, text))?,
         Operands::Accesses(text) => with_access(alloc, command.arg(addresses(alloc, text))?)?,
     };
@@ -73,13 +74,17 @@ fn with_access<'a>(alloc: Global, command: Command<'a>) -> Result<Command<'a>, E
     .value_name("LIST")
     .value_delimiter(',')
     .requires_arg("as")?;
-    let bits = option(
+    let bits = maxphyaddr(alloc).requires_arg("as")?;
+    Ok(command.arg(access)?.arg(controls)?.arg(bits)?)
+}
+
+/// Returns the option for the number of bits of physical addresses.
+fn maxphyaddr<'a>(alloc: Global) -> Arg<'a> {
+    option(
         alloc,
-        "physical-bits",
+        "maxphyaddr",
         "Bits of physical addresses, 32 to 52 [default: 52]",
     )
-    .requires_arg("as")?;
-    Ok(command.arg(access)?.arg(controls)?.arg(bits)?)
 }
 
 /// Returns the argument for the dump.

@@ -5,6 +5,8 @@
 pub enum Operands {
     /// No arguments.
     None,
+    /// No arguments, but the options of a check.
+    Checks,
     /// Addresses, with their help text.
     Addresses(&'static str),
     /// Addresses, with their help text, and the options of an access.
@@ -185,12 +187,13 @@ Example:
     CommandHelp {
         name: "check",
         about: "Find what is seldom meant, as memory that may be written and executed",
-        operands: Operands::None,
+        operands: Operands::Checks,
         more: "\
 Findings are: regions that may be written and executed, regions of the upper
 half that user code reaches, tables that several words name, tables that aren't
-in the dump, and HUGE_PAGE at a level that has no pages. The exit status is 1 if
-there are any.
+in the dump, HUGE_PAGE at a level that has no pages, and other reserved bits:
+address bits that the processor lacks, which are those from --maxphyaddr on, and
+low address bits of large pages. The exit status is 1 if there are any.
 
 Example:
 

@@ -5,11 +5,11 @@ ghost use Rattle.clap.specs.Matches.{found_of, one_text};
 ghost use Rattle.ptdump.specs.Requests.{AreNumbers, IsCommand, IsFlag, IsLevels, IsRequest, IsUnread, values};
 ghost use Rattle.x86_64_addr.specs.declared.level_count.Levels.{Levels};
 
-use crate::asked::access_of;
+use crate::asked::{access_of, bits_of};
 use crate::numbers::{number_of, numbers_of, option_of};
 use crate::stop::Stop;
 use clap::ArgMatches;
-use ptdump_engine::{Command, Levels, Request};
+use ptdump_engine::{Checking, Command, Levels, Request};
 use std::alloc::Global;
 
 /// Returns the request for a command and its arguments.
@@ -61,7 +61,7 @@ fn command_of<'a>(
     } else if name == "find" {
         search_of(alloc, arguments)
     } else if name == "check" {
-        Ok(Command::Check)
+        check_of(arguments)
     } else if name == "image" {
         Ok(Command::Image)
     } else if name == "picture" {
@@ -87,6 +87,15 @@ fn search_of<'a>(alloc: Global, arguments: &ArgMatches<'a>) -> Result<Command, S
     ensures err { IfErr result (IsUnread (IsCommand (codes "find") (found_of arguments.now))) }
 {
     Ok(Command::Find(addresses_of(alloc, arguments)?))
+}
+
+/// Returns the check that the arguments describe.
+fn check_of<'a>(arguments: &ArgMatches<'a>) -> Result<Command, Stop<'a>>
+    ensures ok { IfOk result (IsCommand (codes "check") (found_of arguments.now)) }
+    ensures err { IfErr result (IsUnread (IsCommand (codes "check") (found_of arguments.now))) }
+{
+    let physical_bits = bits_of(arguments.get_str("maxphyaddr"))?;
+    Ok(Command::Check(Checking { physical_bits }))
 }
 
 /// Reads the addresses of a command.

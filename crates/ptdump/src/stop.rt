@@ -114,7 +114,7 @@ impl Display for Stop<'_> {
             ),
             Stop::NoPhysicalBits(text) => write!(
                 f,
-                "--physical-bits {text}: give a number from 32 to 52"
+                "--maxphyaddr {text}: give a number from 32 to 52"
             ),
             Stop::Unopened { path, error } => write!(f, "{path} can't be opened: {error}"),
             Stop::NoLength { path, error } => write!(

@@ -88,8 +88,8 @@ same_report (commands.Walk addresses asked) L T W root same below =
     λ i. Some (flat_map (λ a. walk_text (same_walk T W (a % position_count L) L root below i) ++ same_asked asked L T W root (a % position_count L) below i) addresses.items)
 same_report (commands.Find addresses) L T W root same below =
     ap (λ ms. Some (flat_map (λ a. flat_map (λ m. line (found_text L a m)) (filter (leads_to a) ms)) addresses.items)) same
-same_report commands.Check L T W root same below =
-    ap (λ lines. Some (flat_map line lines ++ line (count_text (line_count lines)))) (same_lines T W L root same below)
+same_report (commands.Check checking) L T W root same below =
+    ap (λ lines. Some (flat_map line lines ++ line (count_text (line_count lines)))) (same_lines T W checking L root same below)
 same_report commands.Image L T W root same below = refl
 same_report commands.Picture L T W root same below = refl
 
@@ -100,7 +100,7 @@ same_completeness commands.Pages L T W root same below walks = refl
 same_completeness (commands.Walk addresses asked) L T W root same below walks =
     λ i. Some (list_all (λ a. same_there asked L T W root (a % position_count L) (walks (a % position_count L)) below i) addresses.items)
 same_completeness (commands.Find addresses) L T W root same below walks = ap (λ ms. Some (list_all (λ a. list_any (leads_to a) ms) addresses.items)) same
-same_completeness commands.Check L T W root same below walks = ap (λ lines. Some (length lines == 0)) (same_lines T W L root same below)
+same_completeness (commands.Check checking) L T W root same below walks = ap (λ lines. Some (length lines == 0)) (same_lines T W checking L root same below)
 same_completeness commands.Image L T W root same below walks = refl
 same_completeness commands.Picture L T W root same below walks = refl
 

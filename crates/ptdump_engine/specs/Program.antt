@@ -89,14 +89,14 @@ report_of commands.Regions L T root = Some (regions_text L T root)
 report_of commands.Pages L T root = Some (pages_text L T root)
 report_of (commands.Walk addresses asked) L T root = Some (walks_text L T root asked addresses.items)
 report_of (commands.Find addresses) L T root = Some (find_text L T root addresses.items)
-report_of commands.Check L T root = Some (check_text L T root)
+report_of (commands.Check checking) L T root = Some (check_text checking L T root)
 report_of command L T root = None
 
 -- whether the request is fulfilled: each walk or its access arrives, each physical address is found, a check finds nothing
 abbrev pub completeness_of : Command → (L : ℕ) → Words → (root : ℕ) → Option Bool
 completeness_of (commands.Walk addresses asked) L T root = Some (all_arrive L T root asked addresses.items)
 completeness_of (commands.Find addresses) L T root = Some (all_found L T root addresses.items)
-completeness_of commands.Check L T root = Some (finds_nothing L T root)
+completeness_of (commands.Check checking) L T root = Some (finds_nothing checking L T root)
 completeness_of command L T root = Some true
 
 -- the report of a command on words was written, and the outcome is as specified

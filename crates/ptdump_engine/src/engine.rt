@@ -219,7 +219,7 @@ fn write_report<L: LevelCount, S: ByteSource, W: Destination, E: Destination>(
         }
         Command::Walk { addresses, access } => Ok(write_walks(loaded, addresses, *access, output)?),
         Command::Find(addresses) => Ok(write_found(alloc, loaded, addresses, output)?),
-        Command::Check => Ok(write_findings(alloc, loaded, output)?),
+        Command::Check(checking) => Ok(write_findings(alloc, loaded, *checking, output)?),
         Command::Image => {
             write_image(alloc, dump, loaded, output, notes)?;
             Ok(true)

@@ -32,5 +32,5 @@ pub use engine::run;
 pub use failure::Failure;
 pub use loaded::Loaded;
 pub use output::{Output, OutputError};
-pub use request::{Command, Levels, Outcome, ProcessorAccess, Request};
+pub use request::{Checking, Command, Levels, Outcome, ProcessorAccess, Request};
 pub use x86_64_dump::{NoProgress, Progress};

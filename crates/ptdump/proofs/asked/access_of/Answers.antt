@@ -14,6 +14,6 @@ returns-in_err-controls-clause-err c =
     sym c.get_str.ensures ∙ ap (λ (o : Option (Bor (List ℕ))). option_map (λ (s : Bor (List ℕ)). s.now) o) c.in-Some.is in
     of_any_error c.from_residual-in_err-controls.result (λ stop. (asked : Option ProcessorAccess) → IsAccess found asked → ⊥)
     (λ stop asked is. no_settings (first_value found (codes "as")) c.in-Some.name.now (option_map raw_values (matched_of found (codes "controls")))
-    (first_value found (codes "physical-bits")) named
+    (first_value found (codes "maxphyaddr")) named
     (λ controls are. c.in_err-controls.ensures.err controls
     (subst (λ (o : Option (List (List ℕ))). AreControls (unwrap_or o usual_names) controls) (sym c.get_strs.ensures) are)) asked is)
