@@ -5,8 +5,9 @@ use Rattle.ptdump_engine.specs.declared.request.Command.{Command}
 use Rattle.ptdump_engine.specs.declared.request.Command.TheVariants.{Regions, Pages, Walk, Find, Check, Image, Picture, Info}
 use Rattle.ptdump_engine.specs.declared.request.WalkOptions.{WalkOptions}
 use Rattle.ptdump_engine.specs.declared.request.Selection.{Selection}
-use Rattle.ptdump.specs.Asked.{AreAsked}
+use Rattle.ptdump.specs.Asked.{AreAsked, IsBits}
 use Rattle.ptdump.specs.Selections.{IsSelection}
+use Rattle.clap.specs.Matches.{first_value}
 use Rattle.ptdump.specs.Requests.{AreNumbers, IsCommand, IsUnread, values}
 use Rattle.ptdump.specs.declared.stop.Stop.{Stop}
 use Rattle.ptdump.proofs.Names.{other_name, same_name}
@@ -21,7 +22,7 @@ name_of (Regions selection) = codes "regions"
 name_of (Pages selection names) = codes "pages"
 name_of (Walk numbers options) = codes "walk"
 name_of (Find numbers) = codes "find"
-name_of Check = codes "check"
+name_of (Check checking) = codes "check"
 name_of Image = codes "image"
 name_of Picture = codes "picture"
 name_of Info = codes "info"
@@ -31,7 +32,7 @@ named name found (Regions selection) is = is.0
 named name found (Pages selection names) is = is.0
 named name found (Walk numbers options) is = is.0
 named name found (Find numbers) is = is.0
-named name found Check is = is
+named name found (Check checking) is = is.0
 named name found Image is = is
 named name found Picture is = is
 named name found Info is = is
@@ -69,10 +70,21 @@ no_name name found a b c d e f g h (Regions selection) is = other_name name (cod
 no_name name found a b c d e f g h (Pages selection names) is = other_name name (codes "pages") b is.0
 no_name name found a b c d e f g h (Walk numbers options) is = other_name name (codes "walk") c is.0
 no_name name found a b c d e f g h (Find numbers) is = other_name name (codes "find") d is.0
-no_name name found a b c d e f g h Check is = other_name name (codes "check") e is
+no_name name found a b c d e f g h (Check checking) is = other_name name (codes "check") e is.0
 no_name name found a b c d e f g h Image is = other_name name (codes "image") f is
 no_name name found a b c d e f g h Picture is = other_name name (codes "picture") g is
 no_name name found a b c d e f g h Info is = other_name name (codes "info") h is
+
+-- no check can be described
+pub no_check : (name : List ℕ) (found : Found) → name ≡ codes "check" → ((bits : ℕ) → IsBits (first_value found (codes "maxphyaddr")) bits → ⊥)
+    → (command : Command) → IsCommand name found command → ⊥
+no_check name found check none Regions is = differ name (codes "check") (codes "regions") refl check is
+no_check name found check none Pages is = differ name (codes "check") (codes "pages") refl check is
+no_check name found check none (Walk numbers asked) is = differ name (codes "check") (codes "walk") refl check is.0
+no_check name found check none (Find numbers) is = differ name (codes "check") (codes "find") refl check is.0
+no_check name found check none (Check checking) is = none checking.physical_bits is.1
+no_check name found check none Image is = differ name (codes "check") (codes "image") refl check is
+no_check name found check none Picture is = differ name (codes "check") (codes "picture") refl check is
 
 -- the command and the refusal are those of an equal name
 pub same_command : (name word : List ℕ) (found : Found) (result : Result Command Stop) → bytes_eq name word ≡ true → IfOk result (IsCommand word found)

@@ -2,6 +2,7 @@
 use Rattle.std.specs.Prelude.{◌≡◌, ◌⊎◌, ℕ, Bool, true, false, List, [], Option, None, Some, All, codes, map, option_map, unwrap_or}
 use Rattle.clap.specs.Matches.{first_value, matched_of, one_text, raw_values}
 use Rattle.clap.specs.declared.parser.matches.Found.{Found}
+use Rattle.ptdump_engine.specs.declared.request.Checking.{Checking}
 use Rattle.ptdump_engine.specs.declared.request.Command.{Command}
 use Rattle.ptdump_engine.specs.declared.request.Command.TheVariants.{Regions, Pages, Walk, Find, Check, Image, Picture, Info}
 use Rattle.ptdump_engine.specs.declared.request.Form.{Form}
@@ -10,7 +11,7 @@ use Rattle.x86_64_addr.specs.declared.level_count.Levels.{Levels}
 use Rattle.x86_64_addr.specs.declared.level_count.Levels.TheVariants.{Four, Five}
 use Rattle.ptdump_engine.specs.declared.request.Request.{Request}
 use Rattle.ptdump_engine.specs.declared.failure.Failure.TheVariants.{OutOfMemory}
-use Rattle.ptdump.specs.Asked.{AreAsked}
+use Rattle.ptdump.specs.Asked.{AreAsked, IsBits}
 use Rattle.ptdump.specs.Options.{IsFlag, IsOption}
 use Rattle.ptdump.specs.Placements.{IsPlacement}
 use Rattle.ptdump.specs.Selections.{IsSelection}
@@ -26,13 +27,17 @@ AreNumbers texts numbers = All IsNumber texts × (numbers ≡ map number_of text
 abbrev pub values : Found → (name : List ℕ) → List (List ℕ)
 values found name = unwrap_or (option_map raw_values (matched_of found name)) []
 
+-- the number of bits of physical addresses is that of --maxphyaddr
+abbrev pub IsChecking : Found → Checking → Type 0
+IsChecking found checking = IsBits (first_value found (codes "maxphyaddr")) checking.physical_bits
+
 -- the command has this name, and what it takes from these arguments
 abbrev pub IsCommand : (name : List ℕ) → Found → Command → Type 0
 IsCommand name found (Regions selection) = (name ≡ codes "regions") × IsSelection found selection
 IsCommand name found (Pages selection names) = (name ≡ codes "pages") × IsSelection found selection × IsFlag (one_text found (codes "names")) names
 IsCommand name found (Walk numbers options) = (name ≡ codes "walk") × AreNumbers (values found (codes "addresses")) numbers.items × AreAsked found options
 IsCommand name found (Find numbers) = (name ≡ codes "find") × AreNumbers (values found (codes "addresses")) numbers.items
-IsCommand name found Check = name ≡ codes "check"
+IsCommand name found (Check checking) = (name ≡ codes "check") × IsChecking found checking
 IsCommand name found Image = name ≡ codes "image"
 IsCommand name found Picture = name ≡ codes "picture"
 IsCommand name found Info = name ≡ codes "info"

@@ -93,7 +93,11 @@ fn access_named<'a>(name: &'a str) -> Result<Access, Stop<'a>>
 }
 
 /// Reads the number of bits of physical addresses, if it is given.
-fn bits_of<'a>(text: Option<&'a str>) -> Result<u8, Stop<'a>>
+///
+/// # Errors
+///
+/// What is wrong with the number.
+pub fn bits_of<'a>(text: Option<&'a str>) -> Result<u8, Stop<'a>>
     ensures ok { IfOk result (IsBits (option_copied text.entry)) }
     ensures err { IfErr result (λ _. (bits : ℕ) → ¬ (IsBits (option_copied text.entry) bits)) }
 {

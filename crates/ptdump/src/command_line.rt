@@ -32,6 +32,7 @@ fn subcommand<'a>(alloc: Global, help: &CommandHelp) -> Result<Command<'a>, Erro
         Operands::None => command,
         Operands::Selection => with_selection(alloc, command)?,
         Operands::Names => with_names(alloc, with_selection(alloc, command)?)?,
+        Operands::Checks => command.arg(maxphyaddr(alloc))?,
         Operands::Addresses(text) => command.arg(addresses(alloc, text))?,
         Operands::Accesses(text) => with_access(alloc, command.arg(addresses(alloc, text))?)?,
     };
@@ -110,17 +111,22 @@ fn with_access<'a>(alloc: Global, command: Command<'a>) -> Result<Command<'a>, E
     .value_name("LIST")
     .value_delimiter(',')
     .requires_arg("as")?;
-    let bits = option(
-        alloc,
-        "maxphyaddr",
-        "Bits of physical addresses, 32 to 52 [default: 52]",
-    );
+    let bits = maxphyaddr(alloc);
     let explain = flag(
         alloc,
         "explain",
         "Show how large pages are, and which words take rights away",
     );
     Ok(command.arg(explain)?.arg(access)?.arg(controls)?.arg(bits)?)
+}
+
+/// Returns the option for the number of bits of physical addresses.
+fn maxphyaddr<'a>(alloc: Global) -> Arg<'a> {
+    option(
+        alloc,
+        "maxphyaddr",
+        "Bits of physical addresses, 32 to 52 [default: 52]",
+    )
 }
 
 /// Returns the argument for the dump.

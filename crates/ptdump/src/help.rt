@@ -9,6 +9,8 @@ pub enum Operands {
     Selection,
     /// The options of a selection, and that of names.
     Names,
+    /// No arguments, but the options of a check.
+    Checks,
     /// Addresses, with their help text.
     Addresses(&'static str),
     /// Addresses, with their help text, and the options of an access.
@@ -257,13 +259,14 @@ Examples:
     CommandHelp {
         name: "check",
         about: "Find what is seldom meant, as memory that may be written and executed",
-        operands: Operands::None,
+        operands: Operands::Checks,
         has_json: false,
         more: "\
 Findings are: regions that may be written and executed, regions of the upper
 half that user code reaches, tables that several words name, tables that aren't
-in the dump, and HUGE_PAGE at a level that has no pages. The exit status is 1 if
-there are any.
+in the dump, HUGE_PAGE at a level that has no pages, and other reserved bits:
+address bits that the processor lacks, which are those from --maxphyaddr on, and
+low address bits of large pages. The exit status is 1 if there are any.
 
 Example:
 

@@ -6,14 +6,14 @@ ghost use Rattle.ptdump.specs.Options.{IsFlag};
 ghost use Rattle.ptdump.specs.Requests.{AreNumbers, IsCommand, IsLevels, IsRequest, IsUnread, is_json, values};
 ghost use Rattle.x86_64_addr.specs.declared.level_count.Levels.{Levels};
 
-use crate::asked::options_of;
+use crate::asked::{bits_of, options_of};
 use crate::flags::is_given;
 use crate::numbers::{number_of, numbers_of, option_of};
 use crate::placement::placement_of;
 use crate::selection::selection_of;
 use crate::stop::Stop;
 use clap::ArgMatches;
-use ptdump_engine::{Command, Form, Levels, Request};
+use ptdump_engine::{Checking, Command, Form, Levels, Request};
 use std::alloc::Global;
 
 /// Returns the request for a command and its arguments.
@@ -70,7 +70,7 @@ fn command_of<'a>(
     } else if name == "find" {
         search_of(alloc, arguments)
     } else if name == "check" {
-        Ok(Command::Check)
+        check_of(arguments)
     } else if name == "image" {
         Ok(Command::Image)
     } else if name == "picture" {
@@ -117,6 +117,15 @@ fn search_of<'a>(alloc: Global, arguments: &ArgMatches<'a>) -> Result<Command, S
     ensures err { IfErr result (IsUnread (IsCommand (codes "find") (found_of arguments.now))) }
 {
     Ok(Command::Find(addresses_of(alloc, arguments)?))
+}
+
+/// Returns the check that the arguments describe.
+fn check_of<'a>(arguments: &ArgMatches<'a>) -> Result<Command, Stop<'a>>
+    ensures ok { IfOk result (IsCommand (codes "check") (found_of arguments.now)) }
+    ensures err { IfErr result (IsUnread (IsCommand (codes "check") (found_of arguments.now))) }
+{
+    let physical_bits = bits_of(arguments.get_str("maxphyaddr"))?;
+    Ok(Command::Check(Checking { physical_bits }))
 }
 
 /// Reads the addresses of a command.

@@ -14,11 +14,14 @@ use Rattle.x86_64_model.specs.Path.{indices}
 use Rattle.x86_64_model.specs.Regions.{regions_in}
 use Rattle.ptdump_engine.specs.FindingTexts.{finding_text}
 use Rattle.ptdump_engine.specs.Findings as findings
-use Rattle.ptdump_engine.specs.Findings.{all_named_often, check_text, entries_in, finding_lines, finds_nothing, flawed_lines, frames_above, huge_page, huge_pages, missing, name_by, names_in, names_in_order, table_findings, tables_in_order}
+use Rattle.ptdump_engine.specs.Findings.{all_named_often, check_text, entries_in, finding_lines, finds_nothing, flawed_lines, frames_above, flaw_in, flawed_entries, missing, name_by, names_in, names_in_order, processor_of, table_findings, tables_in_order}
 use Rattle.ptdump_engine.specs.InOrder.{placed, in_order}
 use Rattle.ptdump_engine.specs.declared.findings.entry.Entry.{Entry}
 use Rattle.ptdump_engine.specs.declared.findings.entry.Table.{Table}
+use Rattle.ptdump_engine.specs.declared.findings.finding.EntryFlaw.{EntryFlaw}
+use Rattle.ptdump_engine.specs.declared.findings.finding.EntryFlaw.TheVariants as flaws
 use Rattle.ptdump_engine.specs.declared.findings.finding.Finding.TheVariants.{NotInDump}
+use Rattle.ptdump_engine.specs.declared.request.Checking.{Checking}
 use Rattle.ptdump_engine.specs.declared.findings.flaw.Flaw.TheVariants.{WritableAndExecutable, UserInUpperHalf}
 use Rattle.ptdump_engine.specs.declared.findings.names.Name.{Name}
 
@@ -236,24 +239,28 @@ module _ (T W : Words) where
 
   -- ---- findings
 
-  abbrev EntriesSame : Table → Type 0
-  EntriesSame t = filter_map huge_page (entries_in T t) ≡ filter_map huge_page (entries_in W t)
+  abbrev EntriesSame : EntryFlaw → Table → Type 0
+  EntriesSame flaw t = filter_map (flaw_in flaw) (entries_in T t) ≡ filter_map (flaw_in flaw) (entries_in W t)
 
-  table_entries : (t : Table) → TableSame t → EntriesSame t
+  table_entries : (flaw : EntryFlaw) (t : Table) → TableSame t → EntriesSame flaw t
   unfolding entries_in
-  table_entries t same = ap (λ o. filter_map huge_page (filter_map (λ i. option_map (λ e. record { slot = record { table = t.frame; index = i }; level = t.level; word = e }) (option_map (λ words. get_or words i 0) o)) indices)) same.0
+  table_entries flaw t same = ap (λ o. filter_map (flaw_in flaw) (filter_map (λ i. option_map (λ e. record { slot = record { table = t.frame; index = i }; level = t.level; word = e }) (option_map (λ words. get_or words i 0) o)) indices)) same.0
 
-  pub same_findings : (L root : ℕ) → SameBelow L T W root → table_findings L T root ≡ table_findings L W root
+  same_entries : (flaw : EntryFlaw) (ts : List Table) → AllByRecursion TableSame ts → flawed_entries flaw T ts ≡ flawed_entries flaw W ts
+  same_entries flaw ts all = flat_map_same (λ t. filter_map (flaw_in flaw) (entries_in T t)) (λ t. filter_map (flaw_in flaw) (entries_in W t)) ts (all_and TableSame (EntriesSame flaw) (table_entries flaw) ts all)
+
+  pub same_findings : (checking : Checking) (L root : ℕ) → SameBelow L T W root → table_findings checking L T root ≡ table_findings checking L W root
   unfolding table_findings
-  same_findings L root same =
+  same_findings checking L root same =
+      let processor = processor_of checking in
       let ts = tables_in_order (tables_by_level L W root) in
       let all = tables_below L root same in
-      ap (λ levels. findings.findings_by T root (tables_in_order levels) (names_in_order T (tables_in_order levels))) (same_tables L root same)
-      ∙ ap (findings.findings_by T root ts) (same_names ts all)
-      ∙ ap₂ (λ lacks pages. all_named_often (names_in_order W ts) root ++ lacks ++ pages)
-      (filter_map_same (missing T) (missing W) (names_in_order W ts) (all_and NameSame (λ n. missing T n ≡ missing W n) (λ n is. ap (λ o. cond (is_some o) None (Some (NotInDump n.frame n.by))) is) _ (names_same ts all)))
-      (flat_map_same (λ t. filter_map huge_page (entries_in T t)) (λ t. filter_map huge_page (entries_in W t)) ts (all_and TableSame EntriesSame table_entries ts all))
+      let lacks = filter_map_same (missing T) (missing W) (names_in_order W ts)
+      (all_and NameSame (λ n. missing T n ≡ missing W n) (λ n is. ap (λ o. cond (is_some o) None (Some (NotInDump n.frame n.by))) is) _ (names_same ts all)) in
+      ap (λ levels. findings.findings_by processor T root (tables_in_order levels) (names_in_order T (tables_in_order levels))) (same_tables L root same)
+      ∙ ap (findings.findings_by processor T root ts) (same_names ts all)
+      ∙ (λ i. all_named_often (names_in_order W ts) root ++ lacks i ++ same_entries flaws.HugePage ts all i ++ same_entries (flaws.ReservedBits processor) ts all i)
 
-  pub same_lines : (L root : ℕ) → mappings_of L T root ≡ mappings_of L W root → SameBelow L T W root → finding_lines L T root ≡ finding_lines L W root
+  pub same_lines : (checking : Checking) (L root : ℕ) → mappings_of L T root ≡ mappings_of L W root → SameBelow L T W root → finding_lines checking L T root ≡ finding_lines checking L W root
   unfolding finding_lines
-  same_lines L root mapped same = ap₂ (λ ms fs. flawed_lines L WritableAndExecutable (regions_in L ms) ++ flawed_lines L UserInUpperHalf (regions_in L ms) ++ map finding_text fs) mapped (same_findings L root same)
+  same_lines checking L root mapped same = ap₂ (λ ms fs. flawed_lines L WritableAndExecutable (regions_in L ms) ++ flawed_lines L UserInUpperHalf (regions_in L ms) ++ map finding_text fs) mapped (same_findings checking L root same)

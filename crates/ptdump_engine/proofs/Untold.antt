@@ -139,7 +139,7 @@ no_argument levels (commands.Regions selection) is = absurd (true≢false (sym i
 no_argument levels (commands.Pages selection has_names) is = absurd (true≢false (sym is))
 no_argument levels (commands.Walk addresses asked) is = absurd (true≢false (sym is))
 no_argument levels (commands.Find addresses) is = absurd (true≢false (sym is))
-no_argument levels commands.Check is = absurd (true≢false (sym is))
+no_argument levels (commands.Check checking) is = absurd (true≢false (sym is))
 no_argument levels commands.Image is = absurd (true≢false (sym is))
 no_argument levels commands.Picture is = absurd (true≢false (sym is))
 

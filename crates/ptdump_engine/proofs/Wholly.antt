@@ -112,8 +112,8 @@ same_of form (commands.Walk addresses asked) L T W root same below =
     λ i. Some (flat_map (λ a. same_walks form L T W root asked (a % position_count L) below i) addresses.items)
 same_of form (commands.Find addresses) L T W root same below =
     ap (λ ms. Some (flat_map (λ a. flat_map (address_line form L a) (filter (leads_to a) ms)) addresses.items)) same
-same_of form commands.Check L T W root same below =
-    ap (λ lines. Some (flat_map line lines ++ line (count_text (line_count lines)))) (same_lines T W L root same below)
+same_of form (commands.Check checking) L T W root same below =
+    ap (λ lines. Some (flat_map line lines ++ line (count_text (line_count lines)))) (same_lines T W checking L root same below)
 same_of form commands.Image L T W root same below = refl
 same_of form commands.Picture L T W root same below = refl
 same_of form commands.Info L T W root same below = refl
@@ -129,7 +129,7 @@ same_completeness (commands.Pages s has_names) L T W root same below walks = ref
 same_completeness (commands.Walk addresses asked) L T W root same below walks =
     λ i. Some (list_all (λ a. same_there asked.controls asked.access L T W root (a % position_count L) (walks (a % position_count L)) below i) addresses.items)
 same_completeness (commands.Find addresses) L T W root same below walks = ap (λ ms. Some (list_all (λ a. list_any (leads_to a) ms) addresses.items)) same
-same_completeness commands.Check L T W root same below walks = ap (λ lines. Some (length lines == 0)) (same_lines T W L root same below)
+same_completeness (commands.Check checking) L T W root same below walks = ap (λ lines. Some (length lines == 0)) (same_lines T W checking L root same below)
 same_completeness commands.Image L T W root same below walks = refl
 same_completeness commands.Picture L T W root same below walks = refl
 same_completeness commands.Info L T W root same below walks = refl

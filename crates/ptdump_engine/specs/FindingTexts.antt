@@ -4,7 +4,7 @@ use Rattle.x86_64_mappings.specs.Numbers.{hexadecimal}
 use Rattle.ptdump_engine.specs.declared.findings.entry.Slot.{Slot}
 use Rattle.ptdump_engine.specs.declared.findings.entry.Entry.{Entry}
 use Rattle.ptdump_engine.specs.declared.findings.finding.Finding.{Finding}
-use Rattle.ptdump_engine.specs.declared.findings.finding.Finding.TheVariants.{NamedOften, NotInDump, HugePage}
+use Rattle.ptdump_engine.specs.declared.findings.finding.Finding.TheVariants.{NamedOften, NotInDump, HugePage, ReservedBits}
 
 -- a slot as 0xTABLE[INDEX]
 abbrev pub slot_text : Slot → List ℕ
@@ -22,3 +22,5 @@ finding_text (NotInDump frame by) =
     codes "table " ++ hexadecimal frame ++ codes " not in the dump" ++ (codes ", named by " ++ slot_text by)
 finding_text (HugePage slot level) =
     codes "HUGE_PAGE at level " ++ decimal level ++ codes " in " ++ slot_text slot
+finding_text (ReservedBits entry) =
+    codes "reserved bits at level " ++ decimal entry.level ++ codes " in " ++ entry_text entry

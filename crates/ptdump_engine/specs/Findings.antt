@@ -1,5 +1,5 @@
 -- Findings: what a check reports of words, with L levels of tables below a root, and in which order.
-use Rattle.std.specs.Prelude.{ℕ, ◌+◌, ◌-◌, ◌^◌, ◌==◌, ◌++◌, ◌&&◌, Bool, not, cond, if◌then◌else◌, min, nat_le, nat_lt, List, [], ◌∷◌, filter, map, length, Option, Some, None, is_some, option_map, option_and_then, codes, decimal}
+use Rattle.std.specs.Prelude.{ℕ, ◌+◌, ◌-◌, ◌^◌, ◌==◌, ◌++◌, ◌&&◌, Bool, true, false, not, cond, if◌then◌else◌, min, nat_le, nat_lt, List, [], ◌∷◌, filter, map, length, Option, Some, None, is_some, option_map, option_and_then, codes, decimal}
 use Rattle.std.specs.List.{dedup, filter_map, flat_map}
 use Rattle.x86_64_dump.specs.Tables.{tables_by_level}
 use Rattle.x86_64_mappings.specs.Texts.{region_text}
@@ -16,10 +16,16 @@ use Rattle.ptdump_engine.specs.declared.findings.entry.Entry.{Entry}
 use Rattle.ptdump_engine.specs.declared.findings.entry.Slot.{Slot}
 use Rattle.ptdump_engine.specs.declared.findings.entry.Table.{Table}
 use Rattle.ptdump_engine.specs.declared.findings.finding.Finding.{Finding}
-use Rattle.ptdump_engine.specs.declared.findings.finding.Finding.TheVariants.{NamedOften, NotInDump, HugePage}
+use Rattle.ptdump_engine.specs.declared.findings.finding.Finding.TheVariants.{NamedOften, NotInDump, HugePage, ReservedBits}
+use Rattle.ptdump_engine.specs.declared.findings.finding.EntryFlaw.{EntryFlaw}
+use Rattle.ptdump_engine.specs.declared.findings.finding.EntryFlaw.TheVariants as flaws
 use Rattle.ptdump_engine.specs.declared.findings.flaw.Flaw.{Flaw}
 use Rattle.ptdump_engine.specs.declared.findings.flaw.Flaw.TheVariants.{WritableAndExecutable, UserInUpperHalf}
 use Rattle.ptdump_engine.specs.declared.findings.names.Name.{Name}
+use Rattle.ptdump_engine.specs.declared.request.Checking.{Checking}
+use Rattle.x86_64_access.specs.Accesses.{controls_of}
+use Rattle.x86_64_access.specs.declared.controls.Controls.{Controls}
+use Rattle.x86_64_model.specs.Access.{reserved}
 
 -- ---- regions
 
@@ -98,23 +104,45 @@ missing T name = cond (is_some (T name.frame)) None (Some (NotInDump name.frame 
 abbrev pub huge_page : Entry → Option Finding
 huge_page e = cond (present e.word && (nat_lt 3 e.level && huge e.word)) (Some (HugePage e.slot e.level)) None
 
-abbrev pub huge_pages : Words → List Table → List Finding
-huge_pages T tables = flat_map (λ t. filter_map huge_page (entries_in T t)) tables
+-- an entry with PRESENT and a reserved bit. If it has HUGE_PAGE above level three, that is the only finding.
+abbrev pub reserved_bits : Controls → Entry → Option Finding
+reserved_bits c e = cond (present e.word && not (nat_lt 3 e.level && huge e.word) && reserved (controls_of c) e.level e.word) (Some (ReservedBits e)) None
+
+abbrev pub flaw_in : EntryFlaw → Entry → Option Finding
+flaw_in flaws.HugePage e = huge_page e
+flaw_in (flaws.ReservedBits c) e = reserved_bits c e
+
+-- the entries of these tables with a flaw
+abbrev pub flawed_entries : EntryFlaw → Words → List Table → List Finding
+flawed_entries flaw T tables = flat_map (λ t. filter_map (flaw_in flaw) (entries_in T t)) tables
+
+-- the processor whose reserved bits are looked for: NO_EXECUTE is on
+abbrev pub processor_of : Checking → Controls
+processor_of checking = record {
+  write_protect = true;
+  no_execute = true;
+  smep = true;
+  smap = true;
+  ac = false;
+  physical_bits = min checking.physical_bits 52;
+}
 
 -- ---- the report
 
 -- the findings in tables, by their names
-abbrev pub findings_by : Words → (root : ℕ) → List Table → List Name → List Finding
-findings_by T root tables names = all_named_often names root ++ filter_map (missing T) names ++ huge_pages T tables
+abbrev pub findings_by : Controls → Words → (root : ℕ) → List Table → List Name → List Finding
+findings_by processor T root tables names = all_named_often names root ++ filter_map (missing T) names
+    ++ flawed_entries flaws.HugePage T tables ++ flawed_entries (flaws.ReservedBits processor) T tables
 
 -- the findings in the tables that a root leads to
-unfoldable pub table_findings : (L : ℕ) → Words → (root : ℕ) → List Finding
-table_findings L T root = let tables = tables_in_order (tables_by_level L T root) in findings_by T root tables (names_in_order T tables)
+unfoldable pub table_findings : Checking → (L : ℕ) → Words → (root : ℕ) → List Finding
+table_findings checking L T root = let tables = tables_in_order (tables_by_level L T root) in
+    findings_by (processor_of checking) T root tables (names_in_order T tables)
 
 -- a line for each finding
-unfoldable pub finding_lines : (L : ℕ) → Words → (root : ℕ) → List (List ℕ)
-finding_lines L T root = let regions = regions_of L T root in
-    flawed_lines L WritableAndExecutable regions ++ flawed_lines L UserInUpperHalf regions ++ map finding_text (table_findings L T root)
+unfoldable pub finding_lines : Checking → (L : ℕ) → Words → (root : ℕ) → List (List ℕ)
+finding_lines checking L T root = let regions = regions_of L T root in
+    flawed_lines L WritableAndExecutable regions ++ flawed_lines L UserInUpperHalf regions ++ map finding_text (table_findings checking L T root)
 
 -- the number of lines, if it is less than 2^64
 abbrev pub line_count : List (List ℕ) → ℕ
@@ -124,9 +152,9 @@ abbrev pub count_text : (count : ℕ) → List ℕ
 count_text count = codes "findings: " ++ decimal count
 
 -- a line for each finding, and a line with their number
-unfoldable pub check_text : (L : ℕ) → Words → (root : ℕ) → List ℕ
-check_text L T root = flat_map line (finding_lines L T root) ++ line (count_text (line_count (finding_lines L T root)))
+unfoldable pub check_text : Checking → (L : ℕ) → Words → (root : ℕ) → List ℕ
+check_text checking L T root = let lines = finding_lines checking L T root in flat_map line lines ++ line (count_text (line_count lines))
 
 -- whether nothing is found
-abbrev pub finds_nothing : (L : ℕ) → Words → (root : ℕ) → Bool
-finds_nothing L T root = length (finding_lines L T root) == 0
+abbrev pub finds_nothing : Checking → (L : ℕ) → Words → (root : ℕ) → Bool
+finds_nothing checking L T root = length (finding_lines checking L T root) == 0

@@ -120,7 +120,7 @@ report_in form (commands.Regions selection) L T root = Some (regions_text select
 report_in form (commands.Pages selection has_names) L T root = Some (pages_text selection has_names form L T root)
 report_in form (commands.Walk addresses asked) L T root = Some (walks_text form L T root asked addresses.items)
 report_in form (commands.Find addresses) L T root = Some (find_text form L T root addresses.items)
-report_in form commands.Check L T root = Some (check_text L T root)
+report_in form (commands.Check checking) L T root = Some (check_text checking L T root)
 report_in form commands.Info L T root = Some []
 report_in form command L T root = None
 
@@ -131,7 +131,7 @@ report_of request = report_in request.form request.command
 abbrev pub completeness_of : Command → (L : ℕ) → Words → (root : ℕ) → Option Bool
 completeness_of (commands.Walk addresses asked) L T root = Some (all_arrive L T root asked addresses.items)
 completeness_of (commands.Find addresses) L T root = Some (all_found L T root addresses.items)
-completeness_of commands.Check L T root = Some (finds_nothing L T root)
+completeness_of (commands.Check checking) L T root = Some (finds_nothing checking L T root)
 completeness_of command L T root = Some true
 
 -- the report of a request on words was written, and the outcome is as specified

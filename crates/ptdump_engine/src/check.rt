@@ -1,5 +1,5 @@
 //! The report of a check.
-ghost use Rattle.std.specs.Prelude.{◌≡◌, OnOk, IfOk};
+ghost use Rattle.std.specs.Prelude.{◌≡◌, ◌≤◌, OnOk, IfOk};
 ghost use Rattle.ptdump_engine.specs.Findings as findings;
 ghost use Rattle.ptdump_engine.specs.Loaded.{HasAllTables, IsLoaded, words_loaded};
 ghost use Rattle.ptdump_engine.specs.Output.{Puts};
@@ -19,8 +19,13 @@ use crate::findings::{Flaw, names_in_order, tables_in_order};
 use crate::line_output::LineOutput;
 use crate::loaded::Loaded;
 use crate::output::{Output, OutputError};
+use crate::request::Checking;
 use std::alloc::Global;
+use x86_64_access::Controls;
 use x86_64_addr::level_count::LevelCount;
+
+/// The largest number of bits of a physical address.
+const PHYSICAL_BITS: u8 = 52;
 
 /// Writes a line for each finding and a line with their number, and returns true if there is none. The number is 2^64 - 1 if
 /// there are more.
@@ -31,19 +36,21 @@ use x86_64_addr::level_count::LevelCount;
 pub fn write_findings<L: LevelCount, W: Destination>(
     alloc: Global,
     loaded: &Loaded<'_, L>,
+    checking: Checking,
     output: &mut Output<'_, W>,
 ) -> Result<bool, OutputError<W>>
     requires { IsLoaded loaded.now }
     ensures text { HasAllTables L.LEVELS loaded.now → OnOk result (Puts W.contents output.old output.new
-        (findings.check_text L.LEVELS (words_loaded loaded.now) loaded.now.root)) }
+        (findings.check_text checking L.LEVELS (words_loaded loaded.now) loaded.now.root)) }
     ensures nothing { HasAllTables L.LEVELS loaded.now → IfOk result (λ nothing.
-        nothing ≡ findings.finds_nothing L.LEVELS (words_loaded loaded.now) loaded.now.root) }
+        nothing ≡ findings.finds_nothing checking L.LEVELS (words_loaded loaded.now) loaded.now.root) }
 {
     let memory = loaded.tables.memory();
     let tables = tables_in_order(alloc, loaded.tables.frames())?;
     let names = names_in_order(alloc, memory, &tables)?;
     let subject = Subject {
         memory,
+        processor: processor_of(checking),
         root: loaded.root,
         tables: &tables,
         names: &names,
@@ -53,6 +60,20 @@ pub fn write_findings<L: LevelCount, W: Destination>(
     Ok(count == 0)
 }
 
+/// Returns the processor whose reserved bits are looked for.
+fn processor_of(checking: Checking) -> Controls
+    ensures { result ≡ findings.processor_of checking }
+{
+    Controls {
+        write_protect: true,
+        no_execute: true,
+        smep: true,
+        smap: true,
+        ac: false,
+        physical_bits: checking.physical_bits.min(PHYSICAL_BITS),
+    }
+}
+
 /// Writes a line for each finding, and returns their number, or 2^64 - 1 if there are more.
 fn write_counted<L: LevelCount, O: LineOutput>(
     loaded: &Loaded<'_, L>,
@@ -60,6 +81,7 @@ fn write_counted<L: LevelCount, O: LineOutput>(
     output: &mut O,
 ) -> Result<u64, O::Error>
     requires loaded { IsLoaded loaded.now }
+    requires bits { subject.now.processor.physical_bits ≤ 52 }
     requires names { Ascend (λ name. name.frame) subject.now.names.now }
     ensures lines { OnOk result (O.Lines output.old output.new
         (finding_lines_by L.LEVELS loaded.now subject.now)) }
@@ -78,6 +100,7 @@ fn write_lines<L: LevelCount, O: LineOutput>(
     output: &mut O,
 ) -> Result<(), O::Error>
     requires loaded { IsLoaded loaded.now }
+    requires bits { subject.now.processor.physical_bits ≤ 52 }
     requires names { Ascend (λ name. name.frame) subject.now.names.now }
     ensures { OnOk result (O.Lines output.old output.new
         (finding_lines_by L.LEVELS loaded.now subject.now)) }

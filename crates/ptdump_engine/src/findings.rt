@@ -8,7 +8,7 @@ mod names;
 mod tables;
 
 pub use entry::{Entry, Slot, Table};
-pub use finding::Finding;
+pub use finding::{EntryFlaw, Finding};
 pub use flaw::{Flaw, FlawedRegion};
 pub use image::{Image, Refusals, ReportEnd, Row, WordLines};
 pub use names::{Name, names_in_order};

@@ -39,6 +39,13 @@ impl Selection {
     };
 }
 
+/// What a check looks for besides what is always a finding.
+#[derive(Clone, Copy, Debug, PartialEq, Eq)]
+pub struct Checking {
+    /// The number of bits of the processor's physical addresses. More than 52 count as 52.
+    pub physical_bits: u8,
+}
+
 /// The report to write.
 #[derive(Debug, Drop)]
 pub enum Command {
@@ -61,7 +68,7 @@ pub enum Command {
     /// The virtual addresses that lead to each of these physical addresses.
     Find(Vec<u64>),
     /// The findings in the tables.
-    Check,
+    Check(Checking),
     /// The tables as an image for `pagetab`.
     Image,
     /// A picture of the regions and the tables.

@@ -1,6 +1,7 @@
 //! The tables that a check looks at.
 
 use crate::findings::{Name, Table};
+use x86_64_access::Controls;
 use x86_64_page::frame::PhysFrame;
 use x86_64_page::page::Size4KiB;
 use x86_64_tables::phys_memory::PhysMemory;
@@ -10,6 +11,8 @@ use x86_64_tables::phys_memory::PhysMemory;
 pub struct Subject<'a> {
     /// The memory that holds the tables.
     pub memory: &'a PhysMemory,
+    /// The processor whose reserved bits are looked for.
+    pub processor: Controls,
     /// The frame of the root.
     pub root: PhysFrame<Size4KiB>,
     /// The tables, in order.

@@ -6,9 +6,10 @@ ghost use Rattle.ptdump_engine.specs.FindingTexts.{finding_text};
 ghost use Rattle.ptdump_engine.specs.Findings as findings;
 ghost use Rattle.ptdump_engine.specs.private.Alike.{alike};
 ghost use Rattle.ptdump_engine.specs.private.Ascending.{Ascend};
+ghost use Rattle.ptdump_engine.specs.private.Checked.{HasBits};
 
 use crate::check::subject::Subject;
-use crate::findings::{Entry, Finding, Name, Table};
+use crate::findings::{Entry, EntryFlaw, Finding, Name, Table};
 use crate::line_output::LineOutput;
 use x86_64_page::frame::PhysFrame;
 use x86_64_page::page::Size4KiB;
@@ -19,14 +20,17 @@ pub fn write_table_findings<O: LineOutput>(
     subject: &Subject<'_>,
     output: &mut O,
 ) -> Result<(), O::Error>
-    requires { Ascend (λ name. name.frame) subject.now.names.now }
+    requires bits { subject.now.processor.physical_bits ≤ 52 }
+    requires names { Ascend (λ name. name.frame) subject.now.names.now }
     ensures { OnOk result (O.Lines output.old output.new (map finding_text
-        (findings.findings_by (words_of subject.now.memory.now identity_places)
+        (findings.findings_by subject.now.processor (words_of subject.now.memory.now identity_places)
         subject.now.root subject.now.tables.now subject.now.names.now))) }
 {
     write_named_often::<O>(subject.names, subject.root, output)?;
     write_missing::<O>(subject.memory, subject.names, output)?;
-    write_huge_pages::<O>(subject.memory, subject.tables, output)
+    let reserved = EntryFlaw::ReservedBits(subject.processor);
+    write_flawed_entries::<O>(subject.memory, subject.tables, EntryFlaw::HugePage, output)?;
+    write_flawed_entries::<O>(subject.memory, subject.tables, reserved, output)
 }
 
 /// Writes a line for a finding, if there is one.
@@ -91,37 +95,41 @@ fn write_missing<O: LineOutput>(
     Ok(())
 }
 
-/// Writes a line for each entry above level three that has `PRESENT` and `HUGE_PAGE`.
-fn write_huge_pages<O: LineOutput>(
+/// Writes a line for each entry of the tables that has `PRESENT` and a flaw.
+fn write_flawed_entries<O: LineOutput>(
     memory: &PhysMemory,
     tables: &[Table],
+    flaw: EntryFlaw,
     output: &mut O,
 ) -> Result<(), O::Error>
+    requires { HasBits flaw }
     ensures { OnOk result (O.Lines output.old output.new (map finding_text
-        (findings.huge_pages (words_of memory.now identity_places) tables.now))) }
+        (findings.flawed_entries flaw (words_of memory.now identity_places) tables.now))) }
 {
     for table in tables {
-        write_huge_pages_in::<O>(memory, table, output)?;
+        write_flawed_in::<O>(memory, table, flaw, output)?;
     }
     Ok(())
 }
 
-/// Writes a line for each entry of a table that has `PRESENT` and `HUGE_PAGE`, if the table is above level three.
+/// Writes a line for each entry of a table that has `PRESENT` and a flaw.
 #[tactic(auto, unfolding(crate::specs::Findings::entries_in))]
-fn write_huge_pages_in<O: LineOutput>(
+fn write_flawed_in<O: LineOutput>(
     memory: &PhysMemory,
     table: &Table,
+    flaw: EntryFlaw,
     output: &mut O,
 ) -> Result<(), O::Error>
-    ensures { OnOk result (O.Lines output.old output.new (map finding_text (filter_map findings.huge_page
-        (findings.entries_in (words_of memory.now identity_places) table.now)))) }
+    requires { HasBits flaw }
+    ensures { OnOk result (O.Lines output.old output.new (map finding_text (filter_map
+        (findings.flaw_in flaw) (findings.entries_in (words_of memory.now identity_places) table.now)))) }
 {
     let Some(words) = table_in(memory, &IdentityMapping, table.frame) else {
         return Ok(());
     };
     for index in 0..512 {
         let entry = Entry::new(table, index, words[index].word());
-        write_finding::<O>(Finding::of_huge_page(&entry), output)?;
+        write_finding::<O>(Finding::of_entry(flaw, &entry), output)?;
     }
     Ok(())
 }

@@ -1,12 +1,15 @@
 //! Findings in page tables that were read from a dump.
-ghost use Rattle.std.specs.Prelude.{◌≡◌, Some};
+ghost use Rattle.std.specs.Prelude.{◌≡◌, ◌≤◌, Some};
 ghost use Rattle.x86_64_model.specs.Memory.{identity_places, words_of};
+ghost use Rattle.ptdump_engine.specs.private.Checked.{HasBits};
 
 use crate::findings::entry::{Entry, Slot};
 use crate::findings::names::Name;
 use std::fmt::{Display, Formatter, Result as FmtResult, Write};
+use x86_64_access::Controls;
 use x86_64_page::frame::PhysFrame;
 use x86_64_page::page::Size4KiB;
+use x86_64_tables::page_table::PageTableEntry;
 use x86_64_tables::phys_memory::{IdentityMapping, PhysMemory, table_in};
 
 /// A problem in page tables.
@@ -33,6 +36,17 @@ pub enum Finding {
         /// The level of its table.
         level: u64,
     },
+    /// An entry has other reserved bits.
+    ReservedBits(Entry),
+}
+
+/// A flaw of an entry.
+#[derive(Clone, Copy)]
+pub enum EntryFlaw {
+    /// `HUGE_PAGE` above level three.
+    HugePage,
+    /// Other reserved bits, for a processor with these settings.
+    ReservedBits(Controls),
 }
 
 impl Finding {
@@ -62,8 +76,21 @@ impl Finding {
         })
     }
 
+    /// Returns the finding of an entry, if it has `PRESENT` and a flaw.
+    ///
+    /// Requires at most 52 bits of physical addresses.
+    pub fn of_entry(flaw: EntryFlaw, entry: &Entry) -> Option<Finding>
+        requires { HasBits flaw }
+        ensures { result ≡ findings.flaw_in flaw entry.now }
+    {
+        match flaw {
+            EntryFlaw::HugePage => Finding::of_huge_page(entry),
+            EntryFlaw::ReservedBits(controls) => Finding::of_reserved_bits(&controls, entry),
+        }
+    }
+
     /// Returns the finding of an entry, if it has `PRESENT` and `HUGE_PAGE` above level three.
-    pub fn of_huge_page(entry: &Entry) -> Option<Finding>
+    fn of_huge_page(entry: &Entry) -> Option<Finding>
         ensures { result ≡ findings.huge_page entry.now }
     {
         if entry.is_present() && entry.is_huge_above() {
@@ -71,6 +98,20 @@ impl Finding {
                 slot: entry.slot,
                 level: entry.level,
             })
+        } else {
+            None
+        }
+    }
+
+    /// Returns the finding of an entry, if it has `PRESENT` and a reserved bit, and not `HUGE_PAGE` above level three.
+    fn of_reserved_bits(controls: &Controls, entry: &Entry) -> Option<Finding>
+        requires { controls.now.physical_bits ≤ 52 }
+        ensures { result ≡ findings.reserved_bits controls.now entry.now }
+    {
+        let word = PageTableEntry::from_word(entry.word);
+        let is_reserved = controls.is_reserved(entry.level, &word);
+        if entry.is_present() && !entry.is_huge_above() && is_reserved {
+            Some(Finding::ReservedBits(*entry))
         } else {
             None
         }
@@ -94,6 +135,10 @@ impl Display for Finding {
                 write!(f, ", named by {by}")
             }
             Finding::HugePage { slot, level } => write!(f, "HUGE_PAGE at level {level} in {slot}"),
+            Finding::ReservedBits(entry) => {
+                let level = entry.level;
+                write!(f, "reserved bits at level {level} in {entry}")
+            }
         }
     }
 }

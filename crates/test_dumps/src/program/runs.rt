@@ -1,6 +1,6 @@
 //! Runs of the program, and how they end.
 use ptdump_engine::{
-    Command, Destination, Failure, Form, Outcome, Progress, Request, Selection, WalkOptions, run,
+    Checking, Command, Destination, Failure, Form, Outcome, Progress, Request, Selection, WalkOptions, run,
 };
 use std::alloc::{AllocError, Global};
 use std::io::{self, ErrorKind, Write};
@@ -59,7 +59,7 @@ impl Word {
                 },
             },
             Word::Find => Command::Find(Vec::from_slice(alloc, &[0x8000_0123, 0x3abc])?),
-            Word::Check => Command::Check,
+            Word::Check => Command::Check(Checking { physical_bits: 52 }),
             Word::Image => Command::Image,
             Word::Picture => Command::Picture,
         };

@@ -5,10 +5,10 @@ use Rattle.std.specs.Option.{option_copied}
 use Rattle.x86_64_model.specs.Memory.{identity_places, words_of}
 use Rattle.x86_64_model.specs.Path.{indices}
 use Rattle.ptdump_engine.specs.FindingTexts.{finding_text}
-use Rattle.ptdump_engine.specs.Findings.{entries_in, entry_at, huge_page}
+use Rattle.ptdump_engine.specs.Findings.{entries_in, entry_at, flaw_in}
 use Rattle.ptdump_engine.specs.declared.findings.entry.Entry.{Entry}
 use Rattle.ptdump_engine.proofs.Found.{both_lines, filter_nothing, range_more}
-use Rattle.ptdump_engine.proofs.check.tables.write_huge_pages_in.Goals as goal
+use Rattle.ptdump_engine.proofs.check.tables.write_flawed_in.Goals as goal
 
 pub returns-in_default : goal.returns-in_default
 unfolding entries_in
@@ -16,8 +16,8 @@ returns-in_default g c =
     let T = words_of c.args.memory.now identity_places in
     let t = c.args.table.now in
     let none : T t.frame ≡ None = sym c.table_in.ensures ∙ ap option_copied c.in_default.is in
-    let nothing : filter_map huge_page (filter_map (entry_at T t) indices) ≡ [] =
-    ap (filter_map huge_page) (filter_nothing (entry_at T t) (λ i. ap (λ o. option_map (λ e. record { slot = record { table = t.frame; index = i }; level = t.level; word = e }) (option_map (λ words. get_or words i 0) o)) none) indices) in
+    let nothing : filter_map (flaw_in c.args.flaw) (filter_map (entry_at T t) indices) ≡ [] =
+    ap (filter_map (flaw_in c.args.flaw)) (filter_nothing (entry_at T t) (λ i. ap (λ o. option_map (λ e. record { slot = record { table = t.frame; index = i }; level = t.level; word = e }) (option_map (λ words. get_or words i 0) o)) none) indices) in
     subst (λ fs. g.O.LineOutput.Lines c.args.output.now c.args.output.now (map finding_text fs)) (sym nothing) (g.O.LineOutput.nothing c.args.output.now)
 
 pub loop-index-init : goal.loop-index-init
@@ -36,11 +36,11 @@ loop-index-preserved g c =
     ∙ ap (λ e. Some (record { slot = record { table = t.frame; index = i }; level = t.level; word = e })) (sym word)
     ∙ ap Some (sym c.new-entry.ensures) in
     both_lines g.O.LineOutput.Lines g.O.LineOutput.parts finding_text c.args.output.now c.loop-index.output c.write_finding.new.output
-    (filter_map huge_page so_far) (cons_option c.of_huge_page.result []) (filter_map huge_page (filter_map (entry_at T t) (range_with_len 0 (i + 1))))
-    (ap (filter_map huge_page) (range_more (entry_at T t) i)
-    ∙ filter_map-append huge_page so_far (cons_option (entry_at T t i) [])
-    ∙ ap (λ o. filter_map huge_page so_far ++ filter_map huge_page (cons_option o [])) entry
-    ∙ ap (λ o. filter_map huge_page so_far ++ cons_option o []) (sym c.of_huge_page.ensures))
+    (filter_map (flaw_in c.args.flaw) so_far) (cons_option c.of_entry.result []) (filter_map (flaw_in c.args.flaw) (filter_map (entry_at T t) (range_with_len 0 (i + 1))))
+    (ap (filter_map (flaw_in c.args.flaw)) (range_more (entry_at T t) i)
+    ∙ filter_map-append (flaw_in c.args.flaw) so_far (cons_option (entry_at T t i) [])
+    ∙ ap (λ o. filter_map (flaw_in c.args.flaw) so_far ++ filter_map (flaw_in c.args.flaw) (cons_option o [])) entry
+    ∙ ap (λ o. filter_map (flaw_in c.args.flaw) so_far ++ cons_option o []) (sym c.of_entry.ensures))
     c.loop-index.invariant c.in_ok-write_finding.ensures
 
 pub returns : goal.returns
@@ -48,4 +48,4 @@ unfolding entries_in indices
 returns g c =
     let T = words_of c.args.memory.now identity_places in
     let end : c.loop-index.index ≡ 512 = omega (arith, c.loop-index-test.false, c.loop-index.auto.index-end) in
-    subst (λ n. g.O.LineOutput.Lines c.args.output.now c.loop-index.output (map finding_text (filter_map huge_page (filter_map (entry_at T c.args.table.now) (range_with_len 0 n))))) end c.loop-index.invariant
+    subst (λ n. g.O.LineOutput.Lines c.args.output.now c.loop-index.output (map finding_text (filter_map (flaw_in c.args.flaw) (filter_map (entry_at T c.args.table.now) (range_with_len 0 n))))) end c.loop-index.invariant
