@@ -57,7 +57,13 @@ pub fn access_end<L: LevelCount>(
     ensures end { outcome_of result.end
         ≡ accesses.outcome_in L.LEVELS (words_loaded loaded.now) loaded.now.root address controls asked }
 {
-    let end = end_of(loaded.tables.memory(), loaded.root, address, controls, asked);
+    let end = end_of(
+        loaded.tables.memory(),
+        loaded.root,
+        address,
+        controls,
+        asked,
+    );
     AccessLine { access: asked, end }
 }
 

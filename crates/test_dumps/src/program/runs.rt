@@ -1,12 +1,13 @@
 //! Runs of the program, and how they end.
 use ptdump_engine::{
-    Checking, Command, Destination, Failure, Form, Outcome, Progress, Request, Selection, WalkOptions, run,
+    Checking, Command, Destination, Failure, Form, Outcome, Progress, Request, Selection,
+    WalkOptions, run,
 };
 use std::alloc::{AllocError, Global};
 use std::io::{self, ErrorKind, Write};
 use std::process::Abort;
-use x86_64_dump::{ByteSource, Placement};
 use x86_64_access::Controls;
+use x86_64_dump::{ByteSource, Placement};
 
 /// The word of a command.
 #[derive(Clone, Copy, Debug)]
