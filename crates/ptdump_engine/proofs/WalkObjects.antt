@@ -10,9 +10,8 @@ use Rattle.ptdump_engine.specs.Walks.{End, arrives_at, not_present, no_table, hu
 use Rattle.x86_64_access.specs.declared.controls.Controls.{Controls}
 use Rattle.x86_64_access.specs.declared.request.Access.{Access}
 use Rattle.ptdump_engine.specs.declared.walked.Walk.{Walk as WalkValue}
-use Rattle.ptdump_engine.specs.private.WalkLines.{is_arrival}
-use Rattle.ptdump_engine.specs.private.Walked.{IsWalk, end_at, end_of, json_of_value, value_members}
-use Rattle.ptdump_engine.proofs.WalkLaws.{is_arrival-walk}
+use Rattle.ptdump_engine.specs.private.Walked.{IsWalk, end_at, end_of, is_arrival, json_of_value, value_members}
+use Rattle.ptdump_engine.proofs.WalkLaws.{page-walk}
 
 -- the value of a walk has its object
 pub object_of_walk : (address : ℕ) (walk : Walk) (value : WalkValue) (access : Option Data) → IsWalk walk value → json_of_value address value access ≡ json_of_walk address walk access
@@ -22,17 +21,17 @@ object_of_walk address walk value access is =
   where
     by : (end : End) → value_members (hexadecimal_string address) (array (items_of (map json_of_word walk.words))) (end_at (walk_rights walk) end)
         ≡ member (codes "address") (hexadecimal_string address) (end_members (array (items_of (map json_of_word walk.words))) (walk_rights walk) end)
-    by (arrives_at to) = refl
+    by (arrives_at to size) = refl
     by not_present = refl
     by (no_table frame) = refl
     by (huge_page level) = refl
 
 -- the value of a walk arrives if the page walk does
 pub value_arrives : (L : ℕ) (T : Words) (root p : ℕ) (value : WalkValue) → IsWalk (walk_of L T root p) value → is_arrival (end_of value.end) ≡ is_some (page_walk L T root p)
-value_arrives L T root p value is = ap (λ end. is_arrival (end_of end)) is.end ∙ by (walk_of L T root p).end ∙ is_arrival-walk L T root p
+value_arrives L T root p value is = ap (λ end. is_arrival (end_of end)) is.end ∙ by (walk_of L T root p).end ∙ page-walk L T root p
   where
     by : (end : End) → is_arrival (end_of (end_at (walk_rights (walk_of L T root p)) end)) ≡ is_arrival end
-    by (arrives_at to) = refl
+    by (arrives_at to size) = refl
     by not_present = refl
     by (no_table frame) = refl
     by (huge_page level) = refl

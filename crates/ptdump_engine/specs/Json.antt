@@ -68,7 +68,7 @@ json_of_word w = object (
 
 -- how a walk ends, and the words that it reads; for an arrival also where, and with which rights
 abbrev pub end_members : (words : Data) → Rights → End → Members
-end_members words rights (arrives_at to) =
+end_members words rights (arrives_at to size) =
     member (codes "end") (string (codes "arrives"))
     (member (codes "execute") (boolean rights.execute)
     (member (codes "physical") (hexadecimal_string to)

@@ -4,8 +4,7 @@ use Rattle.serde_json.specs.Data.{Data}
 use Rattle.x86_64_access.specs.Accesses.{outcome_of}
 use Rattle.ptdump_engine.specs.Accesses.{is_arrived}
 use Rattle.ptdump_engine.specs.declared.json_lines.walks.WalkReport.{WalkReport}
-use Rattle.ptdump_engine.specs.private.WalkLines.{is_arrival}
-use Rattle.ptdump_engine.specs.private.Walked.{end_of, json_of_line, json_of_value}
+use Rattle.ptdump_engine.specs.private.Walked.{end_of, is_arrival, json_of_line, json_of_value}
 
 abbrev pub json_of_report : WalkReport → Data
 json_of_report report = json_of_value report.address report.walk (option_map json_of_line report.access)
