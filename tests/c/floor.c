@@ -1,13 +1,15 @@
 /*
  * A map and an unmap by hand, as quick as C makes them.
  *
- * Levels of tables and sizes of pages are constants where entries are read, so each pair has code of its own. That of four levels and
- * 4 KiB comes first.
+ * Most calls are on pages of 4 KiB in tables of four levels that are all there, with arguments that are right: these are done at once. For
+ * any other one a function starts over, which saves the first one tests, statuses and registers. Levels of tables and sizes of pages are
+ * constants where entries are read.
  */
 #include <string.h>
 
 #include "floor.h"
 
+/* The bits of an entry that are the address of a frame. */
 #define ADDRESS UINT64_C(0x000ffffffffff000)
 
 #define INLINE static inline __attribute__((always_inline))

@@ -84,8 +84,8 @@ static x64_hierarchy some_hierarchy(uint64_t levels) {
     return below(20) != 0 ? (x64_hierarchy){FIRST, root, levels} : wrong[below(8)];
 }
 
-/* Changes a word in the tables of two machines, which then are still valid: an entry loses PRESENT or gets it, and a larger page gets a frame
- * that isn't a multiple of its size. */
+/* Changes a word in the tables of two machines, which then are still valid: an entry loses PRESENT or gets it, or a larger page gets a
+ * frame that isn't a multiple of its size. */
 static void change_a_word(machine *a, machine *b) {
     uint64_t *word = &a->tables[below(TABLES)].words[below(3)];
     if (*word == 0)
@@ -105,7 +105,8 @@ static uint32_t make_call(const x64_calls *one, const x64_calls *other, machine 
         expected = one->unmap(&hierarchy, a->tables, TABLES, &page, &a->frame);
         status = other->unmap(&hierarchy, b->tables, TABLES, &page, &b->frame);
     } else {
-        x64_map_request request = {.page = page, .frame = mostly(below(64) * page.size), .flags = some_flags(), .parent_flags = some_flags()};
+        uint64_t frame = mostly(below(64) * page.size);
+        x64_map_request request = {.page = page, .frame = frame, .flags = some_flags(), .parent_flags = some_flags()};
         size_t capacity = below(99) == 0 && a->free_count > 0 ? a->free_count - 1 : TABLES;
         expected = one->map(&hierarchy, a->tables, TABLES, a->pool, capacity, &a->free_count, &request);
         status = other->map(&hierarchy, b->tables, TABLES, b->pool, capacity, &b->free_count, &request);
@@ -146,12 +147,17 @@ static uint32_t map_nothing(const x64_hierarchy *hierarchy, x64_table *tables, s
     return X64_OK;
 }
 
-static uint32_t unmap_nothing(const x64_hierarchy *hierarchy, x64_table *tables, size_t table_count, const x64_page *page, uint64_t *frame) {
+static uint32_t unmap_nothing(const x64_hierarchy *hierarchy, x64_table *tables, size_t table_count, const x64_page *page,
+    uint64_t *frame) {
     (void)hierarchy, (void)tables, (void)table_count, (void)page, (void)frame;
     return X64_OK;
 }
 
-static const x64_calls kinds[] = {{"library", x64_map, x64_unmap}, {"by hand", floor_map, floor_unmap}, {"nothing", map_nothing, unmap_nothing}};
+static const x64_calls kinds[] = {
+    {"library", x64_map, x64_unmap},
+    {"by hand", floor_map, floor_unmap},
+    {"nothing", map_nothing, unmap_nothing},
+};
 
 enum { KINDS = sizeof kinds / sizeof *kinds };
 
