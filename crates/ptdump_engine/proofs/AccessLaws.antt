@@ -1,5 +1,5 @@
 -- What a processor does with an access is the same in words that agree on the way, and by settings with at most 52 bits.
-use Rattle.std.proofs.Common.{◌≡◌, ◌∙◌, ◌+◌, ◌-◌, ◌≤◌, ◌<◌, ◌^◌, ◌%◌, ◌&&◌, ◌||◌, ◌==◌, ◌⊎◌, inl, inr, ℕ, zero, suc, Bool, true, false, true≢false, not, cond, min, nat_le, get_or, bit_and, List, [], ◌∷◌, map, Option, Some, None, option_map, unwrap_or, is_some, refl, sym, ap, subst, arith}
+use Rattle.std.proofs.Common.{◌≡◌, ◌∙◌, ◌+◌, ◌≤◌, ◌<◌, ◌^◌, ◌%◌, ◌&&◌, ◌||◌, ◌==◌, ℕ, zero, suc, Bool, true, false, true≢false, not, cond, min, nat_le, get_or, bit_and, List, [], ◌∷◌, map, Option, Some, None, option_map, unwrap_or, is_some, refl, sym, ap, arith}
 use Rattle.std.proofs.Math.Nat.{min-eq_left, min-eq_right}
 use Rattle.std.proofs.Math.Pow.{pow_mono}
 use Rattle.std.proofs.lemmas.Bool.{leb-true, le-leb}
@@ -9,7 +9,7 @@ use Rattle.x86_64_access.specs.Accesses.{access_of, controls_of}
 use Rattle.x86_64_access.specs.declared.controls.Controls.{Controls as Settings}
 use Rattle.x86_64_access.specs.declared.request.Access.{Access as Asked}
 use Rattle.x86_64_dump.specs.Reached.{SameBelow}
-use Rattle.x86_64_model.specs.Access.{Access, Arrives, Controls, Faults, NoMemory, Outcome, Step, access, allowed, code, ends_by, low_bits, outcome, reads_on, reserved, steps_from}
+use Rattle.x86_64_model.specs.Access.{Access, Arrives, Controls, Faults, NoMemory, Step, access, allowed, code, ends_by, low_bits, outcome, reads_on, reserved, steps_from}
 use Rattle.x86_64_model.specs.Entry.{present, huge, no_execute, address}
 use Rattle.x86_64_model.specs.Mappings.{Rights, maps_page, rights_of}
 use Rattle.x86_64_model.specs.Memory.{Words}

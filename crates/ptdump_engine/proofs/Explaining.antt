@@ -1,5 +1,5 @@
 -- The explanation of a walk at a table, from that of the rest below it.
-use Rattle.std.proofs.Common.{◌≡◌, ◌∙◌, ◌≤◌, ◌+◌, ◌-◌, ◌%◌, ◌++◌, ◌||◌, not, ℕ, Bool, true, false, true≢false, cond, List, [], ◌∷◌, Option, None, Some, String, if◌then◌else◌, refl, sym, ap, subst}
+use Rattle.std.proofs.Common.{◌≡◌, ◌∙◌, ◌≤◌, ◌+◌, ◌-◌, ◌%◌, ◌||◌, not, ℕ, Bool, true, false, true≢false, cond, List, [], Option, None, Some, String, refl, sym, ap, subst}
 use Rattle.std.specs.List.{flat_map}
 use Rattle.std.specs.declared.alloc.Global.{Global}
 use Rattle.x86_64_model.specs.Entry.{address, present, huge}

@@ -1,5 +1,5 @@
 -- Why runs fail.
-use Rattle.std.proofs.Common.{◌≡◌, ◌||◌, Bool, true, false, true≢false, Result, Ok, Err, refl, sym, ap}
+use Rattle.std.proofs.Common.{◌≡◌, ◌||◌, Bool, true, false, true≢false, Result, refl, sym, ap}
 use Rattle.x86_64_dump.specs.Opening.{Fails}
 use Rattle.x86_64_dump.specs.declared.error.DumpError.{DumpError}
 use Rattle.x86_64_dump.specs.declared.error.DumpError.TheVariants as errors

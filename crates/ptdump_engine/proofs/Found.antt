@@ -1,5 +1,5 @@
 -- Lists that are gone through element by element, of which each gives a part.
-use Rattle.std.proofs.Common.{◌≡◌, ◌∙◌, ◌+◌, ◌<◌, ◌++◌, ℕ, List, [], ◌∷◌, Option, None, Some, map, take, get_or, length, refl, sym, subst, ap, append-nil, arith}
+use Rattle.std.proofs.Common.{◌≡◌, ◌∙◌, ◌+◌, ◌<◌, ◌++◌, ℕ, List, [], ◌∷◌, Option, None, map, take, get_or, length, refl, sym, subst, ap, append-nil, arith}
 use Rattle.std.proofs.lemmas.Grind.{flat_map-append}
 use Rattle.std.proofs.lemmas.List.{map-append, map-id, take_more}
 use Rattle.std.proofs.lemmas.List.Elements.{filter_map-append}

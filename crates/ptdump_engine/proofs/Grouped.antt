@@ -1,5 +1,5 @@
 -- Ascending lists, of which the elements with one number are taken together.
-use Rattle.std.proofs.Common.{◌≡◌, ◌≢◌, ◌∙◌, ◌≤◌, ◌<◌, ◌==◌, ℕ, zero, suc, Bool, true, false, false-eqb, ne_eqb, cond, List, [], ◌∷◌, drop, filter, map, length, Option, refl, sym, ap, ap₂, subst, arith}
+use Rattle.std.proofs.Common.{◌≡◌, ◌≢◌, ◌∙◌, ◌≤◌, ◌<◌, ◌==◌, ℕ, suc, Bool, true, false, false-eqb, ne_eqb, cond, List, [], ◌∷◌, drop, map, length, Option, refl, sym, ap, ap₂, arith}
 use Rattle.std.proofs.lemmas.Bool.{eq-eqb, eqb-true}
 use Rattle.std.specs.List.{AllByRecursion, cons_option, dedup, dedup_from, filter_map}
 use Rattle.ptdump_engine.specs.private.Alike.{alike}

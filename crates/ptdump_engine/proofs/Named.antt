@@ -1,5 +1,5 @@
 -- The names of flags, one after the other.
-use Rattle.std.proofs.Common.{◌≡◌, ◌∙◌, ◌++◌, ◌==◌, ◌<◌, ◌+◌, ℕ, bit_and, not, Bool, true, false, List, [], ◌∷◌, codes, filter, length, take, get_or, map, ap, sym, refl, cond, append-nil, append_assoc}
+use Rattle.std.proofs.Common.{◌≡◌, ◌∙◌, ◌++◌, ◌==◌, ◌<◌, ◌+◌, ℕ, bit_and, not, Bool, true, false, List, [], ◌∷◌, codes, length, take, get_or, map, ap, sym, refl, cond, append-nil, append_assoc}
 use Rattle.std.proofs.lemmas.Bool.{eqb-true}
 use Rattle.std.proofs.lemmas.Grind.{flat_map-append}
 use Rattle.std.proofs.lemmas.List.{map_more}

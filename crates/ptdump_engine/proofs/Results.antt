@@ -1,5 +1,5 @@
 -- Consequences for results.
-use Rattle.std.proofs.Common.{◌≡◌, ℕ, Result, Ok, Err, OnOk, IfErr}
+use Rattle.std.proofs.Common.{Result, Ok, Err, OnOk, IfErr}
 
 -- a consequence of a fact about a success
 pub on_ok : {T E P Q : Type 0} (r : Result T E) → (P → Q) → OnOk r P → OnOk r Q

@@ -1,5 +1,5 @@
 -- Each failure to find a root has a text.
-use Rattle.std.proofs.Common.{◌≡◌, ◌∙◌, ◌||◌, ℕ, ◌+◌, Bool, true, false, true≢false, cond, List, [], ◌∷◌, Option, None, Some, Result, Ok, Err, is_none, is_some, IfSome, IsSome, option_map, slice_get, unwrap_or, sym, refl, ap, subst, length, not, nat_lt, if◌then◌else◌}
+use Rattle.std.proofs.Common.{◌≡◌, ◌||◌, ℕ, ◌+◌, Bool, true, false, true≢false, cond, List, [], ◌∷◌, Option, None, Some, Result, Ok, Err, is_none, is_some, IfSome, IsSome, slice_get, unwrap_or, sym, refl, subst, length, if◌then◌else◌}
 use Rattle.std.specs.Option.{option_map_or}
 use Rattle.std.specs.Result.{result_map_both}
 use Rattle.x86_64_dump.specs.Dump.{Contents, words_of_dump}

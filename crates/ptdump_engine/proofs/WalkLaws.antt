@@ -1,5 +1,5 @@
 -- Written walks arrive if and only if the page walks do, and are equal in words that agree on the way.
-use Rattle.std.proofs.Common.{◌≡◌, ◌∙◌, ◌+◌, ◌-◌, ◌%◌, ◌&&◌, ℕ, zero, suc, Bool, true, false, cond, get_or, List, Option, Some, None, option_map, option_and_then, is_some, refl, sym, ap}
+use Rattle.std.proofs.Common.{◌≡◌, ◌∙◌, ◌+◌, ◌%◌, ℕ, zero, suc, Bool, true, false, cond, get_or, Option, Some, None, option_map, option_and_then, is_some, refl, sym, ap}
 use Rattle.std.specs.Option.{option_map_or}
 use Rattle.std.proofs.Math.Nat.{mod-eq-sub-div-mul}
 use Rattle.x86_64_dump.specs.Reached.{SameBelow}

@@ -1,9 +1,9 @@
 -- The lines of a walk, word by word.
-use Rattle.std.proofs.Common.{◌≡◌, ◌∙◌, ◌≤◌, ◌-◌, ◌++◌, ◌&&◌, ℕ, zero, suc, Bool, true, false, not, List, [], Option, Some, None, refl, sym, ap, append_assoc, arith, map}
+use Rattle.std.proofs.Common.{◌≡◌, ◌∙◌, ◌≤◌, ◌-◌, ◌++◌, ℕ, zero, suc, not, Some, None, refl, sym, ap, append_assoc, arith}
 use Rattle.std.specs.List.{flat_map}
 use Rattle.std.proofs.Math.Bool.{and_assoc, and-true}
 use Rattle.x86_64_access.specs.declared.controls.Controls.{Controls}
-use Rattle.x86_64_model.specs.Entry.{address, writable, user, no_execute, present, huge}
+use Rattle.x86_64_model.specs.Entry.{address, writable, user, no_execute}
 use Rattle.x86_64_model.specs.Mappings.{Rights, every_right, granted}
 use Rattle.x86_64_model.specs.Memory.{Words}
 use Rattle.x86_64_model.specs.PageWalk.{read}

@@ -1,5 +1,5 @@
 -- The objects of walks, and whether they arrive, from their values.
-use Rattle.std.proofs.Common.{◌≡◌, ◌∙◌, ℕ, Bool, Option, None, Some, codes, is_some, map, option_map, unwrap_or, refl, ap, ap₂}
+use Rattle.std.proofs.Common.{◌≡◌, ◌∙◌, ℕ, Option, None, Some, codes, is_some, map, option_map, unwrap_or, refl, ap, ap₂}
 use Rattle.serde_json.specs.Data.{Data, array, member, object}
 use Rattle.serde_json.specs.View.{items_of}
 use Rattle.x86_64_model.specs.Memory.{Words}

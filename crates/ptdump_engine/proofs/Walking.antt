@@ -1,5 +1,5 @@
 -- The lines that a walk writes at a table, from the lines that are written below it.
-use Rattle.std.proofs.Common.{◌≡◌, ◌∙◌, ◌≤◌, ◌+◌, ◌-◌, ◌%◌, ◌++◌, ℕ, Bool, true, false, cond, get_or, slice_index, List, Option, String, Some, None, option_map, refl, sym, ap, subst}
+use Rattle.std.proofs.Common.{◌≡◌, ◌∙◌, ◌≤◌, ◌+◌, ◌-◌, ◌%◌, ◌++◌, ℕ, true, false, cond, get_or, slice_index, List, Option, String, Some, None, option_map, sym, ap, subst}
 use Rattle.std.specs.declared.alloc.Global.{Global}
 use Rattle.x86_64_access.specs.declared.controls.Controls.{Controls}
 use Rattle.x86_64_model.specs.Entry.{address, present, huge}

@@ -1,5 +1,5 @@
 -- The links between tables.
-use Rattle.std.specs.Prelude.{◌≡◌, Option, Some, Ok}
+use Rattle.std.specs.Prelude.{◌≡◌, Some, Ok}
 use Rattle.std.specs.Option.{option_map}
 use Rattle.x86_64_model.specs.Memory.{Words}
 use Rattle.x86_64_model.specs.PageWalk.{read}

@@ -1,6 +1,6 @@
 -- Names: the flags of a mapping by the names that the processor manuals give them.
 -- Intel SDM vol. 3A, "4-Level Paging and 5-Level Paging"; AMD APM vol. 2, "Page-Translation-Table Entry Fields".
-use Rattle.std.specs.Prelude.{ℕ, ◌++◌, ◌+◌, ◌==◌, ◌/◌, ◌%◌, ◌^◌, bit_and, not, Bool, cond, if◌then◌else◌, List, [], ◌∷◌, codes, decimal, filter}
+use Rattle.std.specs.Prelude.{ℕ, ◌++◌, ◌==◌, ◌/◌, ◌%◌, ◌^◌, bit_and, not, Bool, cond, if◌then◌else◌, List, [], ◌∷◌, codes, decimal, filter}
 use Rattle.std.specs.List.{join_by}
 use Rattle.x86_64_mappings.specs.Numbers.{hexadecimal}
 use Rattle.x86_64_mappings.specs.Texts.{mapping_text}

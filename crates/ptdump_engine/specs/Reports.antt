@@ -1,5 +1,5 @@
 -- Reports: the texts of the program for words in a form, with L levels of tables below a root.
-use Rattle.std.specs.Prelude.{ℕ, ◌+◌, ◌-◌, ◌%◌, Bool, List, Option, filter}
+use Rattle.std.specs.Prelude.{ℕ, ◌+◌, ◌-◌, ◌%◌, Bool, List, filter}
 use Rattle.std.specs.List.{flat_map, list_all, list_any}
 use Rattle.x86_64_model.specs.Mappings.{Mapping, mappings_of}
 use Rattle.x86_64_model.specs.Memory.{Words}

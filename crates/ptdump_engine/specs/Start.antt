@@ -1,7 +1,7 @@
 -- Start: the root and the number of levels, from the request, QEMU's note of a processor or Linux's note of its kernel.
 -- Intel SDM vol. 3A, "Control Registers": bits 12 to 51 of CR3 are the address of the root's table, bit 31 of CR0 is PG, bits 5
 -- and 12 of CR4 are PAE and LA57.
-use Rattle.std.specs.Prelude.{ℕ, Bool, ◌||◌, not, if◌then◌else◌, List, [], ◌∷◌, length, slice_get, Option, None, Some, is_none, Result, Ok, Err}
+use Rattle.std.specs.Prelude.{ℕ, ◌||◌, not, if◌then◌else◌, List, [], ◌∷◌, length, slice_get, Option, None, Some, is_none, Result, Ok, Err}
 use Rattle.std.specs.Option.{option_map_or, unwrap_or}
 use Rattle.x86_64_dump.specs.Dump.{Contents}
 use Rattle.x86_64_dump.specs.Notes.{is_of_virtualbox, processors_of, register_of}

@@ -1,7 +1,7 @@
 -- Walks: the words that the page walk to a position reads, one below the other, and how it ends. The position of an address is
 -- its number counted without the gap of non-canonical addresses. Intel SDM vol. 3A, "Linear-Address Translation with 4-Level
 -- Paging and 5-Level Paging"; AMD APM vol. 2, "Long-Mode Page Translation".
-use Rattle.std.specs.Prelude.{zero, suc, ℕ, ◌+◌, ◌%◌, ◌++◌, ◌&&◌, Bool, true, false, cond, if◌then◌else◌, List, [], ◌∷◌, map, Option, Some, None, codes, decimal}
+use Rattle.std.specs.Prelude.{zero, suc, ℕ, ◌+◌, ◌%◌, ◌++◌, ◌&&◌, Bool, cond, if◌then◌else◌, List, [], ◌∷◌, map, Option, None, codes, decimal}
 use Rattle.std.specs.List.{flat_map}
 use Rattle.std.specs.Option.{option_map_or}
 use Rattle.x86_64_access.specs.Accesses.{controls_of}

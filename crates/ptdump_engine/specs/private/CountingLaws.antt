@@ -1,5 +1,5 @@
 -- Lines that are counted in parts.
-use Rattle.std.proofs.Common.{◌≡◌, ◌∙◌, ◌+◌, ◌++◌, ℕ, List, [], length, length-append, refl, arith}
+use Rattle.std.proofs.Common.{◌∙◌, ◌++◌, ℕ, List, [], length-append, refl, arith}
 use Rattle.ptdump_engine.specs.private.Counting.{AreCounted}
 use Rattle.ptdump_engine.specs.declared.counted_lines.CountedLines.{CountedLines}
 

@@ -1,5 +1,5 @@
 -- The items that are passed on, after parts of the visits.
-use Rattle.std.proofs.Common.{◌≡◌, ◌∙◌, ◌++◌, Bool, List, [], filter, refl, sym, subst}
+use Rattle.std.proofs.Common.{◌∙◌, ◌++◌, Bool, List, [], filter, refl, sym, subst}
 use Rattle.std.proofs.lemmas.List.Elements.{filter-append}
 use Rattle.ptdump_engine.specs.declared.request.Selection.{Selection}
 use Rattle.ptdump_engine.specs.declared.selected.Selected.{Selected}

@@ -1,4 +1,4 @@
-use Rattle.std.proofs.Common.{◌≡◌, ◌∙◌, ap}
+use Rattle.std.proofs.Common.{◌∙◌, ap}
 use Rattle.x86_64_access.specs.Accesses.{access_of, controls_of}
 use Rattle.x86_64_model.specs.Access.{access}
 use Rattle.x86_64_model.specs.Memory.{words_of, identity_places}

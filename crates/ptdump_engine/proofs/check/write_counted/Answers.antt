@@ -1,4 +1,4 @@
-use Rattle.std.proofs.Common.{◌≡◌, arith}
+use Rattle.std.proofs.Common.{arith}
 use Rattle.ptdump_engine.proofs.check.write_counted.Goals as goal
 
 pub returns-clause-count : goal.returns-clause-count

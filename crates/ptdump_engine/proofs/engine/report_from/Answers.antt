@@ -1,4 +1,4 @@
-use Rattle.std.proofs.Common.{◌≡◌, OnOk, sym, subst}
+use Rattle.std.proofs.Common.{OnOk, sym, subst}
 use Rattle.x86_64_dump.specs.Dump.{words_of_dump}
 use Rattle.x86_64_dump.specs.Opened.{opened}
 use Rattle.ptdump_engine.specs.Program.{ToldOfTables, level_count}

@@ -1,8 +1,7 @@
-use Rattle.std.proofs.Common.{rules, ◌≡◌, ◌∙◌, ◌||◌, ◌++◌, OnOk, true, false, inr, refl, sym, ap, subst, Ok, Err}
-use Rattle.x86_64_dump.specs.Dump.{words_of_dump}
+use Rattle.std.proofs.Common.{rules, ◌≡◌, ◌∙◌, ◌||◌, ◌++◌, OnOk, true, false, inr, refl, sym, ap, subst, Err}
 use Rattle.x86_64_dump.specs.Opened.{opened}
 use Rattle.ptdump_engine.specs.Failure.{failure_of}
-use Rattle.ptdump_engine.specs.Program.{Notes, NotesAs, NotesOnTables, RunsAs, ToldAs, dump_for, is_image, is_info, opening_text, source_text}
+use Rattle.ptdump_engine.specs.Program.{Notes, NotesAs, NotesOnTables, RunsAs, ToldAs, is_info, opening_text, source_text}
 use Rattle.ptdump_engine.specs.Steps.{of_dump}
 use Rattle.std.specs.Io.KnownBytes.{Appends}
 use Rattle.ptdump_engine.specs.Output.{put_in}

@@ -1,4 +1,4 @@
-use Rattle.std.proofs.Common.{rules, ◌≡◌, subst, unwrap_or}
+use Rattle.std.proofs.Common.{rules, subst, unwrap_or}
 use Rattle.std.specs.Io.KnownBytes.{Appends}
 use Rattle.x86_64_dump.specs.Opened.{opened}
 use Rattle.ptdump_engine.specs.Info.{info_text}

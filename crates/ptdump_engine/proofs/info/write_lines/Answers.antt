@@ -1,9 +1,8 @@
-use Rattle.std.proofs.Common.{◌≡◌, ◌∙◌, ◌++◌, List, Ok, codes, sym, subst, unwrap_or}
+use Rattle.std.proofs.Common.{◌≡◌, ◌∙◌, ◌++◌, Ok, codes, subst, unwrap_or}
 use Rattle.std.specs.List.{flat_map}
 use Rattle.x86_64_dump.specs.Notes.{processors_of}
 use Rattle.x86_64_dump.specs.Opened.{opened}
 use Rattle.x86_64_dump.specs.VmCoreInfo.{kernel_in}
-use Rattle.x86_64_dump.specs.declared.note.Note.{Note}
 use Rattle.ptdump_engine.specs.Info.{format_name, info_text, kernel_text, memory_text, processors_text, root_text}
 use Rattle.ptdump_engine.specs.Output.{Puts}
 use Rattle.ptdump_engine.specs.Program.{start_for}

@@ -1,4 +1,3 @@
-use Rattle.std.proofs.Common.{◌≡◌}
 use Rattle.ptdump_engine.specs.Info.{memory_text}
 use Rattle.ptdump_engine.specs.private.Puts.{puts_nothing}
 use Rattle.ptdump_engine.proofs.Listed.{puts_more}

@@ -3,7 +3,7 @@ use Rattle.std.proofs.lemmas.Grind.{put_three}
 use Rattle.ptdump_engine.specs.Names.{set_text}
 use Rattle.ptdump_engine.specs.declared.names.Flag.{Flag}
 use Rattle.ptdump_engine.specs.private.Flags.{named}
-use Rattle.ptdump_engine.proofs.Named.{is_set, separator_set, set_past, text_set}
+use Rattle.ptdump_engine.proofs.Named.{is_set, separator_set, text_set}
 use Rattle.ptdump_engine.proofs.names.write_set.Goals as goal
 
 abbrev nothing : Flag

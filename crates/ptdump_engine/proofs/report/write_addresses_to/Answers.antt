@@ -1,6 +1,5 @@
-use Rattle.std.proofs.Common.{◌≡◌, ◌∙◌, Some, IfOk, filter, ap, subst}
+use Rattle.std.proofs.Common.{◌≡◌, ◌∙◌, Some, IfOk, ap, subst}
 use Rattle.x86_64_model.specs.Mappings.{mappings_of}
-use Rattle.x86_64_mappings.specs.Wanted.{leads_to}
 use Rattle.ptdump_engine.specs.Loaded.{words_loaded}
 use Rattle.ptdump_engine.specs.Output.{Puts}
 use Rattle.ptdump_engine.specs.private.Asked.{mappings_asked}

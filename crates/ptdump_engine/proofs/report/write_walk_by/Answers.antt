@@ -1,4 +1,4 @@
-use Rattle.std.proofs.Common.{◌≡◌, ◌∙◌, ◌++◌, ℕ, Bool, IfOk, List, [], if◌then◌else◌, is_some, sym, ap, subst, append-nil}
+use Rattle.std.proofs.Common.{◌≡◌, ◌∙◌, ◌++◌, IfOk, [], if◌then◌else◌, is_some, sym, ap, subst, append-nil}
 use Rattle.ptdump_engine.specs.Accesses.{asked_text, is_there}
 use Rattle.ptdump_engine.specs.Explanations.{explanation_text}
 use Rattle.ptdump_engine.specs.Loaded.{words_loaded}

@@ -1,4 +1,4 @@
-use Rattle.std.proofs.Common.{◌≡◌, ◌∙◌, ◌%◌, ◌&&◌, get_or, ap, ap₂, sym, subst, take, refl}
+use Rattle.std.proofs.Common.{◌∙◌, ◌%◌, ◌&&◌, ap, ap₂, sym, subst, refl}
 use Rattle.x86_64_model.specs.Position.{position_count}
 use Rattle.ptdump_engine.specs.Accesses.{is_there}
 use Rattle.ptdump_engine.specs.Loaded.{words_loaded}

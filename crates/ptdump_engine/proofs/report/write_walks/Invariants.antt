@@ -1,6 +1,4 @@
-use Rattle.std.proofs.Common.{◌≡◌, ◌%◌, take}
-use Rattle.std.specs.List.{flat_map}
-use Rattle.x86_64_model.specs.Position.{position_count}
+use Rattle.std.proofs.Common.{◌≡◌, take}
 use Rattle.ptdump_engine.specs.Loaded.{words_loaded}
 use Rattle.ptdump_engine.specs.Output.{Puts}
 use Rattle.ptdump_engine.specs.Reports.{all_arrive, walks_text}

@@ -1,4 +1,4 @@
-use Rattle.std.proofs.Common.{rules, ◌≡◌, ◌∙◌, ◌-◌, ℕ, None, Some, IfOk, true, false, sym, ap, subst}
+use Rattle.std.proofs.Common.{rules, ◌≡◌, ◌∙◌, ◌-◌, Some, IfOk, true, false, sym, ap, subst}
 use Rattle.x86_64_model.proofs.Lemmas.Entries.Words.{address_aligned}
 use Rattle.x86_64_model.specs.Entry.{present, huge}
 use Rattle.x86_64_model.specs.Mappings.{maps_page, granted}

@@ -1,4 +1,4 @@
-use Rattle.std.proofs.Common.{rules, ◌≡◌, ◌++◌, Bool, true, List, [], ℕ, if◌then◌else◌, codes, sym, subst}
+use Rattle.std.proofs.Common.{rules, ◌≡◌, ◌++◌, Bool, true, [], if◌then◌else◌, codes, sym, subst}
 use Rattle.ptdump_engine.specs.Output.{Puts}
 use Rattle.ptdump_engine.specs.Walks.{faults_at, line, word_lines, word_text}
 use Rattle.ptdump_engine.specs.private.Puts.{puts_both}

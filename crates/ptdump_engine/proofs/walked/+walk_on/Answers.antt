@@ -1,10 +1,10 @@
-use Rattle.std.proofs.Common.{rules, ◌≡◌, ◌∙◌, ◌-◌, ◌++◌, None, Some, true, false, sym, ap, append-nil, [], ◌∷◌}
+use Rattle.std.proofs.Common.{rules, ◌≡◌, ◌∙◌, ◌-◌, ◌++◌, true, false, sym, ap, append-nil, [], ◌∷◌}
 use Rattle.std.proofs.lemmas.Result.{IfOk-weaker}
 use Rattle.x86_64_model.proofs.Lemmas.Entries.Words.{address_aligned}
 use Rattle.x86_64_model.specs.Entry.{present, huge}
 use Rattle.x86_64_model.specs.Mappings.{maps_page, granted}
 use Rattle.x86_64_model.specs.Memory.{words_of, identity_places}
-use Rattle.ptdump_engine.specs.Walks.{not_present, ends, walk_from}
+use Rattle.ptdump_engine.specs.Walks.{walk_from}
 use Rattle.ptdump_engine.specs.private.Walked.{end_with}
 use Rattle.ptdump_engine.proofs.Results.{on_ok}
 use Rattle.ptdump_engine.proofs.WalkLines.{walk_from-missing}

@@ -1,4 +1,4 @@
-use Rattle.std.proofs.Common.{rules, ◌≡◌, ◌∙◌, ap, subst}
+use Rattle.std.proofs.Common.{rules, ◌≡◌, subst}
 use Rattle.x86_64_model.specs.Regions.{regions_in, regions_of}
 use Rattle.ptdump_engine.specs.Findings.{flawed_lines}
 use Rattle.ptdump_engine.specs.Loaded.{words_loaded}

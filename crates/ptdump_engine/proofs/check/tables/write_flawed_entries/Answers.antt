@@ -1,4 +1,4 @@
-use Rattle.std.proofs.Common.{◌≡◌, ◌∙◌, ◌+◌, ◌++◌, map, take, sym, ap}
+use Rattle.std.proofs.Common.{◌∙◌, ◌+◌, ◌++◌, take, sym, ap}
 use Rattle.std.specs.List.{filter_map}
 use Rattle.x86_64_model.specs.Memory.{identity_places, words_of}
 use Rattle.ptdump_engine.specs.FindingTexts.{finding_text}

@@ -1,5 +1,4 @@
 use Rattle.std.proofs.Common.{map, take}
-use Rattle.std.specs.List.{filter_map, flat_map}
 use Rattle.x86_64_model.specs.Memory.{identity_places, words_of}
 use Rattle.ptdump_engine.specs.FindingTexts.{finding_text}
 use Rattle.ptdump_engine.specs.Findings.{flawed_entries}

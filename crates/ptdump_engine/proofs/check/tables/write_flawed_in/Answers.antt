@@ -1,4 +1,4 @@
-use Rattle.std.proofs.Common.{rules, ◌≡◌, ◌∙◌, ◌+◌, ◌++◌, ℕ, [], ◌∷◌, List, Option, None, Some, get_or, map, option_map, sym, ap, subst, arith}
+use Rattle.std.proofs.Common.{rules, ◌≡◌, ◌∙◌, ◌+◌, ◌++◌, [], None, Some, get_or, map, option_map, sym, ap, subst, arith}
 use Rattle.std.proofs.lemmas.List.Elements.{filter_map-append}
 use Rattle.std.specs.List.{cons_option, filter_map, range_with_len}
 use Rattle.std.specs.Option.{option_copied}
@@ -6,7 +6,6 @@ use Rattle.x86_64_model.specs.Memory.{identity_places, words_of}
 use Rattle.x86_64_model.specs.Path.{indices}
 use Rattle.ptdump_engine.specs.FindingTexts.{finding_text}
 use Rattle.ptdump_engine.specs.Findings.{entries_in, entry_at, flaw_in}
-use Rattle.ptdump_engine.specs.declared.findings.entry.Entry.{Entry}
 use Rattle.ptdump_engine.proofs.Found.{both_lines, filter_nothing, range_more}
 use Rattle.ptdump_engine.proofs.check.tables.write_flawed_in.Goals as goal
 

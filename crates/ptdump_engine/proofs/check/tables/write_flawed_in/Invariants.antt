@@ -1,7 +1,6 @@
-use Rattle.std.proofs.Common.{map, option_map}
+use Rattle.std.proofs.Common.{map}
 use Rattle.std.specs.List.{filter_map, range_with_len}
 use Rattle.x86_64_model.specs.Memory.{identity_places, words_of}
-use Rattle.x86_64_model.specs.PageWalk.{read}
 use Rattle.ptdump_engine.specs.FindingTexts.{finding_text}
 use Rattle.ptdump_engine.specs.Findings.{entry_at, flaw_in}
 use Rattle.ptdump_engine.proofs.check.tables.write_flawed_in.Given as goal

@@ -1,4 +1,4 @@
-use Rattle.std.proofs.Common.{rules, ◌≡◌, ◌∙◌, ◌≤◌, ◌+◌, ◌-◌, ◌<◌, ◌==◌, ◌++◌, if◌then◌else◌, ℕ, List, [], ◌∷◌, Option, None, Some, drop, get_or, length, map, take, refl, sym, ap, ap₂, subst, append_assoc, append-nil, drop-drop, arith}
+use Rattle.std.proofs.Common.{rules, ◌≡◌, ◌∙◌, ◌≤◌, ◌+◌, ◌-◌, ◌<◌, ◌==◌, ◌++◌, if◌then◌else◌, ℕ, List, [], ◌∷◌, Option, None, Some, drop, get_or, length, map, take, refl, sym, ap, subst, append_assoc, append-nil, drop-drop, arith}
 use Rattle.std.proofs.lemmas.List.{drop_all, drop_more, length-drop, take_all}
 use Rattle.std.specs.List.{cons_option}
 use Rattle.ptdump_engine.specs.FindingTexts.{finding_text}

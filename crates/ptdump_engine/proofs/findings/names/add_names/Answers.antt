@@ -1,4 +1,4 @@
-use Rattle.std.proofs.Common.{rules, ◌≡◌, ◌∙◌, ◌+◌, ◌++◌, ℕ, [], ◌∷◌, List, Option, None, Some, get_or, option_and_then, option_map, sym, ap, subst, append_assoc, append-nil, arith}
+use Rattle.std.proofs.Common.{◌≡◌, ◌∙◌, ◌++◌, ℕ, [], Option, None, Some, get_or, option_and_then, option_map, sym, ap, append_assoc, append-nil, arith}
 use Rattle.std.specs.List.{cons_option, filter_map, range_with_len}
 use Rattle.std.specs.Option.{option_copied}
 use Rattle.x86_64_model.specs.Memory.{identity_places, words_of}

@@ -1,4 +1,4 @@
-use Rattle.std.proofs.Common.{◌≡◌, ◌∙◌, ◌==◌, ◌&&◌, true, filter, map, nat_lt, ap}
+use Rattle.std.proofs.Common.{◌∙◌, ◌==◌, ◌&&◌, true, filter, map, nat_lt, ap}
 use Rattle.std.proofs.Math.Bool.{and-true}
 use Rattle.std.proofs.lemmas.List.{take_all}
 use Rattle.std.proofs.lemmas.List.Filters.{dedup_is}

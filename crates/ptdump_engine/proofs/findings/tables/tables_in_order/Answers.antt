@@ -1,4 +1,4 @@
-use Rattle.std.proofs.Common.{rules, ◌≡◌, ◌∙◌, ap}
+use Rattle.std.proofs.Common.{rules, ◌∙◌, ap}
 use Rattle.std.proofs.lemmas.List.Sorted.{answers_always}
 use Rattle.ptdump_engine.specs.Findings.{tables_in_order}
 use Rattle.ptdump_engine.specs.InOrder.{in_order}

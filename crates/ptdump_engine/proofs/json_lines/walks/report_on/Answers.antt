@@ -1,10 +1,8 @@
-use Rattle.std.proofs.Common.{◌∙◌, Bool, option_map, unwrap_or, ap, ap₂}
-use Rattle.x86_64_access.specs.Accesses.{outcome_of}
+use Rattle.std.proofs.Common.{◌∙◌, unwrap_or, ap₂}
 use Rattle.x86_64_model.specs.Position.{raw}
-use Rattle.ptdump_engine.specs.Accesses.{is_arrived, outcome_in}
 use Rattle.ptdump_engine.specs.Loaded.{words_loaded}
 use Rattle.ptdump_engine.specs.Walks.{walk_of}
-use Rattle.ptdump_engine.specs.private.Walked.{end_of, is_arrival, json_of_value}
+use Rattle.ptdump_engine.specs.private.Walked.{json_of_value}
 use Rattle.ptdump_engine.proofs.WalkObjects.{asked_there, object_of_walk, value_arrives}
 use Rattle.ptdump_engine.proofs.json_lines.walks.report_on.Goals as goal
 

@@ -1,4 +1,4 @@
-use Rattle.std.proofs.Common.{rules, ◌≡◌, ◌∙◌, codes, option_map, map, Some, ap, sym}
+use Rattle.std.proofs.Common.{rules, ◌≡◌, ◌∙◌, codes, option_map, map, ap, sym}
 use Rattle.std.proofs.lemmas.Result.{IfOk-weaker}
 use Rattle.serde_json.specs.Data.{array, member, object}
 use Rattle.serde_json.specs.View.{items_of, view}
