@@ -1,16 +1,17 @@
 //! The access that the options of a walk describe.
-ghost use Rattle.std.specs.Prelude.{◌≡◌, ◌≤◌, List, ℕ, Option, IfOk, IfErr, map, not, option_map, unwrap_or};
+ghost use Rattle.std.specs.Prelude.{◌≡◌, List, [], ℕ, Option, IfOk, IfErr, codes, map, not, option_map, unwrap_or};
 ghost use Rattle.std.specs.List.{find, list_any};
-ghost use Rattle.std.specs.Option.{option_copied};
 ghost use Rattle.std.specs.Str.{bytes_eq};
-ghost use Rattle.clap.specs.Matches.{found_of};
+ghost use Rattle.clap.specs.Matches.{first_value, found_of};
+ghost use Rattle.ptdump.specs.Reasons.{IsNoSetting, IsReason};
+ghost use Rattle.ptdump.specs.declared.stop.Stop.TheVariants.{NoAccess};
 ghost use Rattle.ptdump.specs.Asked.{AreControls, IsAccess, IsBits, is_listed, setting_names, texts_of, usual_names};
 ghost use Rattle.ptdump_engine.specs.Accesses.{access_name};
 ghost use Rattle.ptdump_engine.specs.declared.request.ProcessorAccess.{ProcessorAccess};
 ghost use Rattle.x86_64_access.specs.declared.controls.Controls.{Controls};
 ghost use Rattle.x86_64_access.specs.declared.request.Access.{Access};
 
-use crate::numbers::number_of;
+use crate::numbers::option_of;
 use crate::stop::Stop;
 use clap::ArgMatches;
 use ptdump_engine::ProcessorAccess;
@@ -28,12 +29,13 @@ pub fn access_of<'a>(arguments: &ArgMatches<'a>) -> Result<Option<ProcessorAcces
     ensures ok { IfOk result (IsAccess (found_of arguments.now)) }
     ensures err { IfErr result (λ _. (asked : Option ProcessorAccess) →
         ¬ (IsAccess (found_of arguments.now) asked)) }
+    ensures reason { IfErr result (IsReason (found_of arguments.now)) }
 {
     let Some(name) = arguments.get_str("as") else {
         return Ok(None);
     };
     let access = access_named(name)?;
-    let physical_bits = bits_of(arguments.get_str("physical-bits"))?;
+    let physical_bits = bits_of(arguments)?;
     let controls = controls_of(arguments.get_strs("controls"), physical_bits)?;
     Ok(Some(ProcessorAccess { access, controls }))
 }
@@ -43,6 +45,7 @@ pub fn access_of<'a>(arguments: &ArgMatches<'a>) -> Result<Option<ProcessorAcces
 fn access_named<'a>(name: &'a str) -> Result<Access, Stop<'a>>
     ensures ok { IfOk result (λ access. name.now ≡ access_name access) }
     ensures err { IfErr result (λ _. (access : Access) → ¬ (name.now ≡ access_name access)) }
+    ensures reason { IfErr result (λ stop. stop ≡ NoAccess name.entry) }
 {
     if name == "user-read" {
         Ok(Access {
@@ -80,16 +83,16 @@ fn access_named<'a>(name: &'a str) -> Result<Access, Stop<'a>>
 }
 
 /// Reads the number of bits of physical addresses, if it is given.
-fn bits_of<'a>(text: Option<&'a str>) -> Result<u8, Stop<'a>>
-    ensures ok { IfOk result (IsBits (option_copied text.entry)) }
-    ensures err { IfErr result (λ _. (bits : ℕ) → ¬ (IsBits (option_copied text.entry) bits)) }
+fn bits_of<'a>(arguments: &ArgMatches<'a>) -> Result<u8, Stop<'a>>
+    ensures ok { IfOk result (IsBits (first_value (found_of arguments.now) (codes "physical-bits"))) }
+    ensures err { IfErr result (λ _. (bits : ℕ) →
+        ¬ (IsBits (first_value (found_of arguments.now) (codes "physical-bits")) bits)) }
+    ensures reason { IfErr result (IsReason (found_of arguments.now)) }
 {
-    let Some(text) = text else {
-        return Ok(PHYSICAL_BITS);
-    };
-    match number_of("--physical-bits", text)? {
-        bits @ 32..=52 => Ok(bits as u8),
-        _ => Err(Stop::NoPhysicalBits(text)),
+    match option_of(arguments, "physical-bits")? {
+        None => Ok(PHYSICAL_BITS),
+        Some(bits @ 32..=52) => Ok(bits as u8),
+        Some(bits) => Err(Stop::NoPhysicalBits(bits)),
     }
 }
 
@@ -99,6 +102,7 @@ fn controls_of<'a>(words: Option<&[&'a str]>, physical_bits: u8) -> Result<Contr
     ensures bits { IfOk result (λ controls. controls.physical_bits ≡ physical_bits) }
     ensures err { IfErr result (λ _. (controls : Controls) →
         ¬ (AreControls (unwrap_or (option_map texts_of words.entry) usual_names) controls)) }
+    ensures reason { IfErr result (IsNoSetting (unwrap_or (option_map texts_of words.entry) [])) }
 {
     match words {
         Some(words) => controls_named(words, physical_bits),
@@ -119,6 +123,7 @@ fn controls_named<'a>(words: &[&'a str], physical_bits: u8) -> Result<Controls, 
     ensures bits { IfOk result (λ controls. controls.physical_bits ≡ physical_bits) }
     ensures err { IfErr result (λ _. (controls : Controls) →
         ¬ (AreControls (map (λ word. word.now) words.now) controls)) }
+    ensures reason { IfErr result (IsNoSetting (map (λ word. word.now) words.now)) }
 {
     if let Some(word) = unknown_of(words) {
         return Err(Stop::NoSetting(word));
