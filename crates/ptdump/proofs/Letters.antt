@@ -6,11 +6,11 @@ use Rattle.x86_64_model.specs.Mappings.{Rights}
 use Rattle.ptdump.specs.Selections.{AreRights, are_letters, has}
 
 -- the rights of letters that are given as bytes
-pub rights_given : (text : Option (Bor (List ℕ))) (given : Bor (List ℕ)) (bytes : List ℕ) (w u x : Bool) → text ≡ Some given → bytes ≡ given.now
+pub rights_given : (first : Option (List ℕ)) (text : Option (Bor (List ℕ))) (given : Bor (List ℕ)) (bytes : List ℕ) (w u x : Bool) → option_copied text ≡ first → text ≡ Some given → bytes ≡ given.now
     → are_letters bytes ≡ true → w ≡ has bytes 0x77 → u ≡ has bytes 0x75 → x ≡ has bytes 0x78
-    → AreRights (option_copied text) (record { write = w; user = u; execute = x })
-rights_given text given bytes w u x some same are write user execute =
-    subst (λ o. AreRights (option_copied o) (record { write = w; user = u; execute = x })) (sym some) (
+    → AreRights first (record { write = w; user = u; execute = x })
+rights_given first text given bytes w u x copied some same are write user execute =
+    subst (λ (o : Option (List ℕ)). AreRights o (record { write = w; user = u; execute = x })) (sym (ap option_copied some) ∙ copied) (
       sym (ap are_letters same) ∙ are,
       λ i. record {
         write = (write ∙ ap (λ b. has b 0x77) same) i;

@@ -1,11 +1,15 @@
 -- Texts of numbers.
-use Rattle.std.proofs.Common.{◌≡◌, ◌<◌, ℕ, List, [], ◌∷◌, ◌++◌, ◌∙◌, Option, None, Some, length, get_or, map, option_map, unwrap_or, sym, ap, subst}
+use Rattle.std.proofs.Common.{◌≡◌, ◌<◌, ℕ, List, [], ◌∷◌, ◌++◌, ◌∙◌, Option, None, Some, true, length, get_or, map, option_map, unwrap_or, sym, ap, subst}
 use Rattle.std.proofs.lemmas.List.{map_push, length-map}
 use Rattle.std.proofs.lemmas.List.Elements.{All-push}
 use Rattle.std.proofs.Math.ListN.{get_or-map}
 use Rattle.clap.specs.Matches.{raw_values}
 use Rattle.clap.specs.declared.parser.matches.MatchedArg.{MatchedArg}
+use Rattle.std.proofs.lemmas.List.Folds.{list_any_at}
+use Rattle.std.proofs.lemmas.Slice.Eq.{bytes_eq-Decides}
 use Rattle.std.specs.Borrow.{Bor}
+use Rattle.std.specs.Str.{bytes_eq}
+use Rattle.ptdump.specs.Asked.{is_listed}
 use Rattle.x86_64_mappings.specs.Numbers.{IsNumber, number_of}
 use Rattle.ptdump.specs.Requests.{AreNumbers}
 
@@ -19,6 +23,14 @@ pub number_at : (texts : List (Bor (List ℕ))) (numbers : List ℕ) (i : ℕ) (
 number_at texts numbers i d below are =
     let now : Bor (List ℕ) → List ℕ = λ text. text.now in
     subst IsNumber (get_or-map now texts i d) (are.0 i (now d) (subst (λ n. i < n) (sym (length-map texts now)) below))
+
+-- each of the texts is listed
+pub listed_at : (texts : List (Bor (List ℕ))) (i : ℕ) (d : Bor (List ℕ)) → i < length texts → is_listed (map (λ text. text.now) texts) (get_or texts i d).now ≡ true
+listed_at texts i d below =
+    let now : Bor (List ℕ) → List ℕ = λ text. text.now in
+    let text = (get_or texts i d).now in
+    list_any_at (λ other. bytes_eq other text) (map now texts) i (now d) (subst (λ n. i < n) (sym (length-map texts now)) below)
+    ((bytes_eq-Decides (get_or (map now texts) i (now d)) text).1 (get_or-map now texts i d))
 
 -- the given texts are those of the values
 pub texts_given : (texts : Option (Bor (List (Bor (List ℕ))))) (none : Bor (List (Bor (List ℕ)))) (all : Option MatchedArg) → none.now ≡ []

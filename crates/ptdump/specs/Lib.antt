@@ -2,5 +2,6 @@ pub mod Asked
 pub mod Exit
 pub mod Options
 pub mod Placements
+pub mod Reasons
 pub mod Requests
 pub mod Selections

@@ -1,17 +1,18 @@
 //! What the options of a walk ask for.
-ghost use Rattle.std.specs.Prelude.{◌≡◌, ◌≤◌, List, ℕ, Option, IfOk, IfErr, map, not, option_map, unwrap_or};
+ghost use Rattle.std.specs.Prelude.{◌≡◌, List, [], ℕ, Option, IfOk, IfErr, codes, map, not, option_map, unwrap_or};
 ghost use Rattle.std.specs.List.{find, list_any};
-ghost use Rattle.std.specs.Option.{option_copied};
 ghost use Rattle.std.specs.Str.{bytes_eq};
-ghost use Rattle.clap.specs.Matches.{found_of};
+ghost use Rattle.clap.specs.Matches.{first_value, found_of};
 ghost use Rattle.ptdump.specs.Asked.{AreAsked, AreControls, IsAccess, IsBits, is_listed, setting_names, texts_of, usual_names};
+ghost use Rattle.ptdump.specs.Reasons.{IsNoSetting, IsReason};
+ghost use Rattle.ptdump.specs.declared.stop.Stop.TheVariants.{NoAccess};
 ghost use Rattle.ptdump_engine.specs.Accesses.{access_name};
 ghost use Rattle.ptdump_engine.specs.declared.request.WalkOptions.{WalkOptions};
 ghost use Rattle.x86_64_access.specs.declared.controls.Controls.{Controls};
 ghost use Rattle.x86_64_access.specs.declared.request.Access.{Access as Asked};
 
 use crate::flags::is_given;
-use crate::numbers::number_of;
+use crate::numbers::option_of;
 use crate::stop::Stop;
 use clap::ArgMatches;
 use ptdump_engine::WalkOptions;
@@ -29,9 +30,10 @@ pub fn options_of<'a>(arguments: &ArgMatches<'a>) -> Result<WalkOptions, Stop<'a
     ensures ok { IfOk result (AreAsked (found_of arguments.now)) }
     ensures err { IfErr result (λ _. (options : WalkOptions) →
         ¬ (AreAsked (found_of arguments.now) options)) }
+    ensures reason { IfErr result (IsReason (found_of arguments.now)) }
 {
-    let access = access_of(arguments.get_str("as"))?;
-    let physical_bits = bits_of(arguments.get_str("maxphyaddr"))?;
+    let access = access_of(arguments)?;
+    let physical_bits = bits_of(arguments)?;
     let controls = controls_of(arguments.get_strs("controls"), physical_bits)?;
     Ok(WalkOptions {
         controls,
@@ -40,15 +42,18 @@ pub fn options_of<'a>(arguments: &ArgMatches<'a>) -> Result<WalkOptions, Stop<'a
     })
 }
 
-/// Returns the access with a name, if it is given.
-fn access_of<'a>(name: Option<&'a str>) -> Result<Option<Access>, Stop<'a>>
-    ensures ok { IfOk result (IsAccess (option_copied name.entry)) }
-    ensures err { IfErr result (λ _. (access : Option Asked) → ¬ (IsAccess (option_copied name.entry) access)) }
+/// Returns the access that is asked for, if one is.
+fn access_of<'a>(arguments: &ArgMatches<'a>) -> Result<Option<Access>, Stop<'a>>
+    ensures ok { IfOk result (IsAccess (first_value (found_of arguments.now) (codes "as"))) }
+    ensures err { IfErr result (λ _. (access : Option Asked) →
+        ¬ (IsAccess (first_value (found_of arguments.now) (codes "as")) access)) }
+    ensures reason { IfErr result (IsReason (found_of arguments.now)) }
 {
-    match name {
-        Some(name) => Ok(Some(access_named(name)?)),
-        None => Ok(None),
-    }
+    let Some(name) = arguments.get_str("as") else {
+        return Ok(None);
+    };
+    let access = access_named(name)?;
+    Ok(Some(access))
 }
 
 /// Returns the access with a name.
@@ -56,6 +61,7 @@ fn access_of<'a>(name: Option<&'a str>) -> Result<Option<Access>, Stop<'a>>
 fn access_named<'a>(name: &'a str) -> Result<Access, Stop<'a>>
     ensures ok { IfOk result (λ access. name.now ≡ access_name access) }
     ensures err { IfErr result (λ _. (access : Asked) → ¬ (name.now ≡ access_name access)) }
+    ensures reason { IfErr result (λ stop. stop ≡ NoAccess name.entry) }
 {
     if name == "user-read" {
         Ok(Access {
@@ -97,16 +103,16 @@ fn access_named<'a>(name: &'a str) -> Result<Access, Stop<'a>>
 /// # Errors
 ///
 /// What is wrong with the number.
-pub fn bits_of<'a>(text: Option<&'a str>) -> Result<u8, Stop<'a>>
-    ensures ok { IfOk result (IsBits (option_copied text.entry)) }
-    ensures err { IfErr result (λ _. (bits : ℕ) → ¬ (IsBits (option_copied text.entry) bits)) }
+pub fn bits_of<'a>(arguments: &ArgMatches<'a>) -> Result<u8, Stop<'a>>
+    ensures ok { IfOk result (IsBits (first_value (found_of arguments.now) (codes "maxphyaddr"))) }
+    ensures err { IfErr result (λ _. (bits : ℕ) →
+        ¬ (IsBits (first_value (found_of arguments.now) (codes "maxphyaddr")) bits)) }
+    ensures reason { IfErr result (IsReason (found_of arguments.now)) }
 {
-    let Some(text) = text else {
-        return Ok(PHYSICAL_BITS);
-    };
-    match number_of("--maxphyaddr", text)? {
-        bits @ 32..=52 => Ok(bits as u8),
-        _ => Err(Stop::NoPhysicalBits(text)),
+    match option_of(arguments, "maxphyaddr")? {
+        None => Ok(PHYSICAL_BITS),
+        Some(bits @ 32..=52) => Ok(bits as u8),
+        Some(bits) => Err(Stop::NoPhysicalBits(bits)),
     }
 }
 
@@ -116,6 +122,7 @@ fn controls_of<'a>(words: Option<&[&'a str]>, physical_bits: u8) -> Result<Contr
     ensures bits { IfOk result (λ controls. controls.physical_bits ≡ physical_bits) }
     ensures err { IfErr result (λ _. (controls : Controls) →
         ¬ (AreControls (unwrap_or (option_map texts_of words.entry) usual_names) controls)) }
+    ensures reason { IfErr result (IsNoSetting (unwrap_or (option_map texts_of words.entry) [])) }
 {
     match words {
         Some(words) => controls_named(words, physical_bits),
@@ -136,6 +143,7 @@ fn controls_named<'a>(words: &[&'a str], physical_bits: u8) -> Result<Controls, 
     ensures bits { IfOk result (λ controls. controls.physical_bits ≡ physical_bits) }
     ensures err { IfErr result (λ _. (controls : Controls) →
         ¬ (AreControls (map (λ word. word.now) words.now) controls)) }
+    ensures reason { IfErr result (IsNoSetting (map (λ word. word.now) words.now)) }
 {
     if let Some(word) = unknown_of(words) {
         return Err(Stop::NoSetting(word));

@@ -1,12 +1,15 @@
 //! Numbers of a command line.
-ghost use Rattle.std.specs.Prelude.{ℕ, Option, IfOk, IfErr, map};
-ghost use Rattle.std.specs.Option.{option_copied};
+ghost use Rattle.std.specs.Prelude.{◌≡◌, ℕ, List, Option, IfOk, IfErr, map};
 ghost use Rattle.std.specs.Result.{OkIff};
+ghost use Rattle.clap.specs.Matches.{first_value, found_of};
 ghost use Rattle.x86_64_mappings.specs.Numbers.{IsNumber, number_of};
 ghost use Rattle.ptdump.specs.Options.{IsOption};
+ghost use Rattle.ptdump.specs.Reasons.{IsNoAddress, IsReason};
 ghost use Rattle.ptdump.specs.Requests.{AreNumbers, IsUnread};
+ghost use Rattle.ptdump.specs.declared.stop.Stop.TheVariants.{NoNumber};
 
 use crate::stop::Stop;
+use clap::ArgMatches;
 use std::alloc::Global;
 use x86_64_mappings::text::parse_number;
 
@@ -14,14 +17,18 @@ use x86_64_mappings::text::parse_number;
 ///
 /// # Errors
 ///
-/// `Failure::OutOfMemory` if memory allocation fails, `NoNumber` if an address isn't a number.
+/// `Failure::OutOfMemory` if memory allocation fails, `NoAddress` if an address isn't a number.
 pub fn numbers_of<'a>(alloc: Global, texts: &[&'a str]) -> Result<Vec<u64>, Stop<'a>>
     ensures ok { IfOk result (λ numbers. AreNumbers (map (λ text. text.now) texts.now) numbers.items) }
     ensures err { IfErr result (IsUnread (AreNumbers (map (λ text. text.now) texts.now))) }
+    ensures reason { IfErr result (IsNoAddress (map (λ text. text.now) texts.now)) }
 {
     let mut numbers = Vec::new(alloc);
     for text in texts {
-        numbers.push(number_of("address", text)?)?;
+        let Some(number) = parse_number(text) else {
+            return Err(Stop::NoAddress(text));
+        };
+        numbers.push(number)?;
     }
     Ok(numbers)
 }
@@ -31,23 +38,29 @@ pub fn numbers_of<'a>(alloc: Global, texts: &[&'a str]) -> Result<Vec<u64>, Stop
 /// # Errors
 ///
 /// `NoNumber` if the text isn't a number.
-pub fn option_of<'a>(option: &'static str, text: Option<&'a str>) -> Result<Option<u64>, Stop<'a>>
-    ensures ok { IfOk result (IsOption (option_copied text.entry)) }
-    ensures err { IfErr result (λ _. (number : Option ℕ) → ¬ (IsOption (option_copied text.entry) number)) }
+pub fn option_of<'a>(
+    arguments: &ArgMatches<'a>,
+    option: &'static str,
+) -> Result<Option<u64>, Stop<'a>>
+    ensures ok { IfOk result (IsOption (first_value (found_of arguments.now) option.now)) }
+    ensures err { IfErr result (λ _. (number : Option ℕ) →
+        ¬ (IsOption (first_value (found_of arguments.now) option.now) number)) }
+    ensures reason { IfErr result (IsReason (found_of arguments.now)) }
 {
-    match text {
+    match arguments.get_str(option) {
         Some(text) => Ok(Some(number_of(option, text)?)),
         None => Ok(None),
     }
 }
 
-/// Reads the number that is the value of an argument.
+/// Reads the number that is the value of an option.
 ///
 /// # Errors
 ///
 /// `NoNumber` if the text isn't a number.
-pub fn number_of<'a>(argument: &'static str, text: &'a str) -> Result<u64, Stop<'a>>
-    ensures { OkIff result (IsNumber text.now) (number_of text.now) }
+pub fn number_of<'a>(option: &'static str, text: &'a str) -> Result<u64, Stop<'a>>
+    ensures value { OkIff result (IsNumber text.now) (number_of text.now) }
+    ensures reason { IfErr result (λ stop. stop ≡ NoNumber option.entry text.entry) }
 {
-    parse_number(text).ok_or(Stop::NoNumber { argument, text })
+    parse_number(text).ok_or(Stop::NoNumber { option, text })
 }

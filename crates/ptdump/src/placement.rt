@@ -1,10 +1,13 @@
 //! Where the bytes of a raw file lie in physical memory, as the command line says it.
-ghost use Rattle.std.specs.Prelude.{◌≡◌, ◌==◌, List, IfOk, IfErr, IfSome, IfNone, codes, map};
+ghost use Rattle.std.specs.Prelude.{◌≡◌, ◌⊎◌, ◌==◌, List, IfOk, IfErr, IfSome, IfNone, codes, map};
 ghost use Rattle.std.specs.List.{slice_split};
 ghost use Rattle.std.specs.Option.{option_copied};
 ghost use Rattle.clap.specs.Matches.{first_value, found_of};
 ghost use Rattle.ptdump.specs.Placements.{AreParts, AreRanges, IsPlacement, IsRange};
+ghost use Rattle.ptdump.specs.Reasons.{IsNoPlacement, IsNoRange, IsReason};
 ghost use Rattle.ptdump.specs.Requests.{IsUnread, values};
+ghost use Rattle.ptdump.specs.declared.stop.Stop.TheVariants.{Failed, NoRange};
+ghost use Rattle.ptdump_engine.specs.declared.failure.Failure.TheVariants.{OutOfMemory};
 ghost use Rattle.x86_64_dump.specs.declared.placement.RawRange.{RawRange};
 
 use crate::numbers::number_of;
@@ -26,6 +29,7 @@ pub fn placement_of<'a>(alloc: Global, arguments: &ArgMatches<'a>) -> Result<Pla
     ensures err { IfErr result (IsUnread (IsPlacement
         (first_value (found_of arguments.now) (codes "base"))
         (values (found_of arguments.now) (codes "range")))) }
+    ensures reason { IfErr result (IsReason (found_of arguments.now)) }
 {
     placed(
         alloc,
@@ -44,10 +48,12 @@ fn placed<'a>(
         (IsPlacement (option_copied base.entry) (map (λ text. text.now) ranges.now)) }
     ensures err { IfErr result
         (IsUnread (IsPlacement (option_copied base.entry) (map (λ text. text.now) ranges.now))) }
+    ensures reason { IfErr result
+        (IsNoPlacement (option_copied base.entry) (map (λ text. text.now) ranges.now)) }
 {
     match (base, ranges) {
         (None, []) => Ok(Placement::Unstated),
-        (Some(text), []) => Ok(Placement::Base(number_of("--base", text)?)),
+        (Some(text), []) => Ok(Placement::Base(number_of("base", text)?)),
         (None, texts) => Ok(Placement::Ranges(ranges_of(alloc, texts)?)),
         (Some(_), _) => Err(Stop::BaseAndRanges),
     }
@@ -57,6 +63,7 @@ fn placed<'a>(
 fn ranges_of<'a>(alloc: Global, texts: &[&'a str]) -> Result<Vec<RawRange>, Stop<'a>>
     ensures ok { IfOk result (λ ranges. AreRanges (map (λ text. text.now) texts.now) ranges.items) }
     ensures err { IfErr result (IsUnread (AreRanges (map (λ text. text.now) texts.now))) }
+    ensures reason { IfErr result (IsNoRange (map (λ text. text.now) texts.now)) }
 {
     let mut ranges = Vec::new(alloc);
     for text in texts {
@@ -69,6 +76,7 @@ fn ranges_of<'a>(alloc: Global, texts: &[&'a str]) -> Result<Vec<RawRange>, Stop
 fn range_of<'a>(alloc: Global, text: &'a str) -> Result<RawRange, Stop<'a>>
     ensures ok { IfOk result (IsRange text.now) }
     ensures err { IfErr result (IsUnread (IsRange text.now)) }
+    ensures reason { IfErr result (λ stop. (stop ≡ Failed OutOfMemory) ⊎ (stop ≡ NoRange text.entry)) }
 {
     let parts = parts_of(alloc, text)?;
     match range_in(&parts) {

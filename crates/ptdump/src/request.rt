@@ -1,14 +1,14 @@
 //! Requests from the words of a command line.
 ghost use Rattle.std.specs.Prelude.{Option, IfOk, IfErr, codes};
-ghost use Rattle.std.specs.Option.{option_copied};
-ghost use Rattle.clap.specs.Matches.{found_of, one_text};
+ghost use Rattle.clap.specs.Matches.{first_value, found_of, one_text};
 ghost use Rattle.ptdump.specs.Options.{IsFlag};
+ghost use Rattle.ptdump.specs.Reasons.{IsReason};
 ghost use Rattle.ptdump.specs.Requests.{AreNumbers, IsCommand, IsLevels, IsRequest, IsUnread, is_json, values};
 ghost use Rattle.x86_64_addr.specs.declared.level_count.Levels.{Levels};
 
 use crate::asked::{bits_of, options_of};
 use crate::flags::is_given;
-use crate::numbers::{number_of, numbers_of, option_of};
+use crate::numbers::{numbers_of, option_of};
 use crate::placement::placement_of;
 use crate::selection::selection_of;
 use crate::stop::Stop;
@@ -28,15 +28,16 @@ pub fn request_of<'a>(
 ) -> Result<Request, Stop<'a>>
     ensures ok { IfOk result (IsRequest name.now (found_of arguments.now)) }
     ensures err { IfErr result (IsUnread (IsRequest name.now (found_of arguments.now))) }
+    ensures reason { IfErr result (IsReason (found_of arguments.now)) }
 {
     Ok(Request {
         command: command_of(alloc, name, arguments)?,
         form: form_of(arguments),
-        cr3: option_of("--cr3", arguments.get_str("cr3"))?,
-        levels: levels_of(arguments.get_str("levels"))?,
+        cr3: option_of(arguments, "cr3")?,
+        levels: levels_of(arguments)?,
         placement: placement_of(alloc, arguments)?,
         is_raw: is_given(arguments, "raw"),
-        cpu: option_of("--cpu", arguments.get_str("cpu"))?,
+        cpu: option_of(arguments, "cpu")?,
     })
 }
 
@@ -60,6 +61,7 @@ fn command_of<'a>(
 ) -> Result<Command, Stop<'a>>
     ensures ok { IfOk result (IsCommand name.now (found_of arguments.now)) }
     ensures err { IfErr result (IsUnread (IsCommand name.now (found_of arguments.now))) }
+    ensures reason { IfErr result (IsReason (found_of arguments.now)) }
 {
     if name == "regions" {
         regions_of(arguments)
@@ -86,6 +88,7 @@ fn command_of<'a>(
 fn regions_of<'a>(arguments: &ArgMatches<'a>) -> Result<Command, Stop<'a>>
     ensures ok { IfOk result (IsCommand (codes "regions") (found_of arguments.now)) }
     ensures err { IfErr result (IsUnread (IsCommand (codes "regions") (found_of arguments.now))) }
+    ensures reason { IfErr result (IsReason (found_of arguments.now)) }
 {
     Ok(Command::Regions(selection_of(arguments)?))
 }
@@ -94,6 +97,7 @@ fn regions_of<'a>(arguments: &ArgMatches<'a>) -> Result<Command, Stop<'a>>
 fn pages_of<'a>(arguments: &ArgMatches<'a>) -> Result<Command, Stop<'a>>
     ensures ok { IfOk result (IsCommand (codes "pages") (found_of arguments.now)) }
     ensures err { IfErr result (IsUnread (IsCommand (codes "pages") (found_of arguments.now))) }
+    ensures reason { IfErr result (IsReason (found_of arguments.now)) }
 {
     Ok(Command::Pages {
         selection: selection_of(arguments)?,
@@ -105,6 +109,7 @@ fn pages_of<'a>(arguments: &ArgMatches<'a>) -> Result<Command, Stop<'a>>
 fn walk_of<'a>(alloc: Global, arguments: &ArgMatches<'a>) -> Result<Command, Stop<'a>>
     ensures ok { IfOk result (IsCommand (codes "walk") (found_of arguments.now)) }
     ensures err { IfErr result (IsUnread (IsCommand (codes "walk") (found_of arguments.now))) }
+    ensures reason { IfErr result (IsReason (found_of arguments.now)) }
 {
     let addresses = addresses_of(alloc, arguments)?;
     let options = options_of(arguments)?;
@@ -115,6 +120,7 @@ fn walk_of<'a>(alloc: Global, arguments: &ArgMatches<'a>) -> Result<Command, Sto
 fn search_of<'a>(alloc: Global, arguments: &ArgMatches<'a>) -> Result<Command, Stop<'a>>
     ensures ok { IfOk result (IsCommand (codes "find") (found_of arguments.now)) }
     ensures err { IfErr result (IsUnread (IsCommand (codes "find") (found_of arguments.now))) }
+    ensures reason { IfErr result (IsReason (found_of arguments.now)) }
 {
     Ok(Command::Find(addresses_of(alloc, arguments)?))
 }
@@ -123,8 +129,9 @@ fn search_of<'a>(alloc: Global, arguments: &ArgMatches<'a>) -> Result<Command, S
 fn check_of<'a>(arguments: &ArgMatches<'a>) -> Result<Command, Stop<'a>>
     ensures ok { IfOk result (IsCommand (codes "check") (found_of arguments.now)) }
     ensures err { IfErr result (IsUnread (IsCommand (codes "check") (found_of arguments.now))) }
+    ensures reason { IfErr result (IsReason (found_of arguments.now)) }
 {
-    let physical_bits = bits_of(arguments.get_str("maxphyaddr"))?;
+    let physical_bits = bits_of(arguments)?;
     Ok(Command::Check(Checking { physical_bits }))
 }
 
@@ -134,22 +141,22 @@ fn addresses_of<'a>(alloc: Global, arguments: &ArgMatches<'a>) -> Result<Vec<u64
         AreNumbers (values (found_of arguments.now) (codes "addresses")) numbers.items) }
     ensures err { IfErr result
         (IsUnread (AreNumbers (values (found_of arguments.now) (codes "addresses")))) }
+    ensures reason { IfErr result (IsReason (found_of arguments.now)) }
 {
     numbers_of(alloc, arguments.get_strs("addresses").unwrap_or(&[]))
 }
 
 /// Reads the number of levels, if it is given.
-fn levels_of<'a>(text: Option<&'a str>) -> Result<Option<Levels>, Stop<'a>>
-    ensures ok { IfOk result (IsLevels (option_copied text.entry)) }
+fn levels_of<'a>(arguments: &ArgMatches<'a>) -> Result<Option<Levels>, Stop<'a>>
+    ensures ok { IfOk result (IsLevels (first_value (found_of arguments.now) (codes "levels"))) }
     ensures err { IfErr result (λ _. (levels : Option Levels) →
-        ¬ (IsLevels (option_copied text.entry) levels)) }
+        ¬ (IsLevels (first_value (found_of arguments.now) (codes "levels")) levels)) }
+    ensures reason { IfErr result (IsReason (found_of arguments.now)) }
 {
-    let Some(text) = text else {
-        return Ok(None);
-    };
-    match number_of("--levels", text)? {
-        4 => Ok(Some(Levels::Four)),
-        5 => Ok(Some(Levels::Five)),
-        _ => Err(Stop::NoLevels(text)),
+    match option_of(arguments, "levels")? {
+        None => Ok(None),
+        Some(4) => Ok(Some(Levels::Four)),
+        Some(5) => Ok(Some(Levels::Five)),
+        Some(levels) => Err(Stop::NoLevels(levels)),
     }
 }

@@ -1,8 +1,8 @@
 //! The selection that the options of a list describe.
-ghost use Rattle.std.specs.Prelude.{◌≡◌, nat_eq, IfOk, IfErr};
+ghost use Rattle.std.specs.Prelude.{◌≡◌, nat_eq, IfOk, IfErr, codes};
 ghost use Rattle.std.specs.List.{count_by, list_all};
-ghost use Rattle.std.specs.Option.{option_copied};
-ghost use Rattle.clap.specs.Matches.{found_of};
+ghost use Rattle.clap.specs.Matches.{first_value, found_of};
+ghost use Rattle.ptdump.specs.Reasons.{IsReason};
 ghost use Rattle.ptdump.specs.Selections.{AreRights, IsSelection, are_letters, is_once};
 ghost use Rattle.ptdump_engine.specs.declared.request.Selection.{Selection};
 ghost use Rattle.x86_64_model.specs.Mappings.{Rights as Allowed};
@@ -22,20 +22,23 @@ pub fn selection_of<'a>(arguments: &ArgMatches<'a>) -> Result<Selection, Stop<'a
     ensures ok { IfOk result (IsSelection (found_of arguments.now)) }
     ensures err { IfErr result (λ _. (selection : Selection) →
         ¬ (IsSelection (found_of arguments.now) selection)) }
+    ensures reason { IfErr result (IsReason (found_of arguments.now)) }
 {
     Ok(Selection {
-        from: option_of("--from", arguments.get_str("from"))?,
-        to: option_of("--to", arguments.get_str("to"))?,
-        rights: rights_of(arguments.get_str("rights"))?,
+        from: option_of(arguments, "from")?,
+        to: option_of(arguments, "to")?,
+        rights: rights_of(arguments)?,
     })
 }
 
 /// Reads the letters of rights, if they are given.
-fn rights_of<'a>(text: Option<&'a str>) -> Result<Rights, Stop<'a>>
-    ensures ok { IfOk result (AreRights (option_copied text.entry)) }
-    ensures err { IfErr result (λ _. (rights : Allowed) → ¬ (AreRights (option_copied text.entry) rights)) }
+fn rights_of<'a>(arguments: &ArgMatches<'a>) -> Result<Rights, Stop<'a>>
+    ensures ok { IfOk result (AreRights (first_value (found_of arguments.now) (codes "rights"))) }
+    ensures err { IfErr result (λ _. (rights : Allowed) →
+        ¬ (AreRights (first_value (found_of arguments.now) (codes "rights")) rights)) }
+    ensures reason { IfErr result (IsReason (found_of arguments.now)) }
 {
-    let Some(text) = text else {
+    let Some(text) = arguments.get_str("rights") else {
         return Ok(Rights::NONE);
     };
     let letters = text.as_bytes();

@@ -9,6 +9,9 @@ use std::error::Error;
 use std::fmt::{Display, Formatter, Result as FmtResult, Write};
 use std::io;
 
+/// Which numbers there are, and how they are written.
+const NUMBERS: &str = "below 2^64: write decimal digits, or hexadecimal ones after 0x";
+
 /// The reason why the program ends without the requested report.
 #[derive(Debug, Drop)]
 pub enum Stop<'a> {
@@ -20,15 +23,17 @@ pub enum Stop<'a> {
     NoText,
     /// There is no command with this name.
     NoCommand(&'a str),
-    /// The value of an argument isn't a number.
+    /// An address isn't a number.
+    NoAddress(&'a str),
+    /// The value of an option isn't a number.
     NoNumber {
-        /// The argument.
-        argument: &'static str,
+        /// The option, without its dashes.
+        option: &'static str,
         /// Its value.
         text: &'a str,
     },
     /// There are no page tables with this number of levels.
-    NoLevels(&'a str),
+    NoLevels(u64),
     /// The value of `--range` isn't a range.
     NoRange(&'a str),
     /// Both a base and ranges are given.
@@ -38,7 +43,7 @@ pub enum Stop<'a> {
     /// A processor has no setting with this name.
     NoSetting(&'a str),
     /// No processor has this number of bits of physical addresses.
-    NoPhysicalBits(&'a str),
+    NoPhysicalBits(u64),
     /// The text isn't one of letters of rights, each once.
     NoRights(&'a str),
     /// The file can't be opened.
@@ -70,6 +75,7 @@ impl Stop<'_> {
             Stop::Usage(_)
             | Stop::NoText
             | Stop::NoCommand(_)
+            | Stop::NoAddress(_)
             | Stop::NoNumber { .. }
             | Stop::NoLevels(_)
             | Stop::NoRange(_)
@@ -105,13 +111,14 @@ impl Display for Stop<'_> {
                 f,
                 "{name} is no command: `ptdump --help` lists those that are"
             ),
-            Stop::NoNumber { argument, text } => write!(
+            Stop::NoAddress(text) => write!(f, "address {text} is no number {NUMBERS}"),
+            Stop::NoNumber { option, text } => write!(
                 f,
-                "{argument} {text} is no number below 2^64: write decimal digits, or hexadecimal ones after 0x"
+                "--{option} {text} is no number {NUMBERS}"
             ),
-            Stop::NoLevels(text) => write!(
+            Stop::NoLevels(levels) => write!(
                 f,
-                "--levels {text}: give 4 or 5, which page tables have"
+                "--levels {levels}: give 4 or 5, which page tables have"
             ),
             Stop::NoRange(text) => write!(
                 f,
@@ -128,9 +135,9 @@ impl Display for Stop<'_> {
                 f,
                 "'{word}' is no setting for --controls: list those of wp,nxe,smep,smap,ac that are on, or give none"
             ),
-            Stop::NoPhysicalBits(text) => write!(
+            Stop::NoPhysicalBits(bits) => write!(
                 f,
-                "--maxphyaddr {text}: give a number from 32 to 52"
+                "--maxphyaddr {bits}: give a number from 32 to 52"
             ),
             Stop::NoRights(text) => write!(
                 f,

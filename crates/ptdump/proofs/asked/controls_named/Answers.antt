@@ -1,10 +1,13 @@
 use Rattle.std.proofs.Common.{◌∙◌, sym, codes}
-use Rattle.ptdump.proofs.Settings.{known_texts, listed_texts, unknown_texts}
+use Rattle.ptdump.proofs.Settings.{bad_setting, known_texts, listed_texts, unknown_texts}
 use Rattle.ptdump.proofs.asked.controls_named.Goals as goal
 
 pub returns-in-Some-clause-err : goal.returns-in-Some-clause-err
 returns-in-Some-clause-err c = λ controls are.
     unknown_texts c.args.words.now c.in-Some.word (sym c.unknown_of.ensures ∙ c.in-Some.is) controls are
+
+pub returns-in-Some-clause-reason : goal.returns-in-Some-clause-reason
+returns-in-Some-clause-reason c = bad_setting c.args.words.now c.in-Some.word (sym c.unknown_of.ensures ∙ c.in-Some.is)
 
 pub returns-clause-words : goal.returns-clause-words
 returns-clause-words c =

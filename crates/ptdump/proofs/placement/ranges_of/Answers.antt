@@ -4,8 +4,10 @@ use Rattle.std.proofs.lemmas.Slice.Zip.{all_zipped_more}
 use Rattle.std.specs.Borrow.{Bor}
 use Rattle.x86_64_dump.specs.declared.placement.RawRange.{RawRange}
 use Rattle.ptdump.specs.Placements.{AreRanges, IsRange}
+use Rattle.ptdump.specs.Reasons.{IsNoRange}
 use Rattle.ptdump.specs.Requests.{IsUnread}
 use Rattle.ptdump.proofs.RangeTexts.{range_at}
+use Rattle.ptdump.proofs.Reasons.{no_range_at}
 use Rattle.ptdump.proofs.placement.ranges_of.Goals as goal
 
 nothing : Bor (List ℕ)
@@ -30,3 +32,10 @@ returns-in_err-range_of-clause-err c =
       | inr none ↦ inr (λ ranges are. let found = range_at c.args.texts.now ranges c.loop-text.text-index nothing c.loop-text-test.true are in none found.0 found.1)
     ] in
     search (rules, unread)
+
+pub returns-in_err-range_of-clause-reason : goal.returns-in_err-range_of-clause-reason
+unfolding nothing
+returns-in_err-range_of-clause-reason c =
+    let reason : IsNoRange (map (λ (text : Bor (List ℕ)). text.now) c.args.texts.now) c.in_err-range_of.field-0.0 =
+    no_range_at c.args.texts.now c.loop-text.text-index nothing c.in_err-range_of.field-0.0 c.loop-text-test.true c.in_err-range_of.ensures.reason c.in_err-range_of.ensures.err in
+    search (rules, reason)

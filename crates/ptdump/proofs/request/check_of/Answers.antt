@@ -9,5 +9,5 @@ pub returns-in_err-physical_bits-clause-err : goal.returns-in_err-physical_bits-
 returns-in_err-physical_bits-clause-err c =
     let found = found_of c.args.arguments.now in
     let unread : IsUnread (IsCommand (codes "check") found) c.in_err-physical_bits.field-0.0 =
-    inr (no_check (codes "check") found refl (λ bits is. c.in_err-physical_bits.ensures.err bits (subst (λ (o : Option (List ℕ)). IsBits o bits) (sym c.get_str.ensures) is))) in
+    inr (no_check (codes "check") found refl (λ bits is. c.in_err-physical_bits.ensures.err bits is)) in
     search (rules, unread)

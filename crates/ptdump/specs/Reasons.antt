@@ -1,0 +1,76 @@
+-- Reasons: what is true of the words of a command line that aren't read.
+use Rattle.std.specs.Prelude.{◌≡◌, ◌≤◌, ℕ, true, false, List, [], ◌∷◌, Option, None, Some, codes}
+use Rattle.clap.specs.Matches.{first_value}
+use Rattle.clap.specs.declared.parser.matches.Found.{Found}
+use Rattle.ptdump_engine.specs.Accesses.{access_name}
+use Rattle.ptdump_engine.specs.declared.failure.Failure.TheVariants.{OutOfMemory}
+use Rattle.ptdump.specs.Asked.{is_listed, setting_names}
+use Rattle.ptdump.specs.Placements.{IsRange}
+use Rattle.ptdump.specs.Requests.{values}
+use Rattle.ptdump.specs.Selections.{are_letters}
+use Rattle.ptdump.specs.declared.stop.Stop.{Stop}
+use Rattle.ptdump.specs.declared.stop.Stop.TheVariants.{NoCommand, NoAddress, NoNumber, NoLevels, NoRange, BaseAndRanges, NoAccess, NoSetting, NoPhysicalBits, NoRights, Failed}
+use Rattle.x86_64_access.specs.declared.request.Access.{Access}
+use Rattle.x86_64_dump.specs.declared.placement.RawRange.{RawRange}
+use Rattle.x86_64_mappings.specs.Numbers.{IsNumber, number_of}
+
+-- the names of the commands
+abbrev pub command_names : List (List ℕ)
+command_names =
+    codes "regions" ∷ codes "pages" ∷ codes "walk" ∷ codes "find" ∷ codes "check" ∷ codes "image" ∷ codes "picture" ∷ codes "info" ∷ []
+
+-- an option has the number as its value
+abbrev pub HasNumber : Found → (option : List ℕ) → (number : ℕ) → Type 0
+HasNumber found option number = (text : List ℕ) × (first_value found option ≡ Some text) × IsNumber text × (number_of text ≡ number)
+
+-- one of the texts is no number
+abbrev pub IsBadNumber : (texts : List (List ℕ)) → (text : List ℕ) → Type 0
+IsBadNumber texts text = (is_listed texts text ≡ true) × ¬ (IsNumber text)
+
+-- one of the texts is no range
+abbrev pub IsBadRange : (texts : List (List ℕ)) → (text : List ℕ) → Type 0
+IsBadRange texts text = (is_listed texts text ≡ true) × ((range : RawRange) → ¬ (IsRange text range))
+
+-- one of the words is the name of no setting
+abbrev pub IsBadSetting : (words : List (List ℕ)) → (word : List ℕ) → Type 0
+IsBadSetting words word = (is_listed words word ≡ true) × (is_listed setting_names word ≡ false)
+
+-- what is true of the arguments of a command if this is the reason why they aren't read; other reasons come from elsewhere
+abbrev pub IsReason : Found → Stop → Type 0
+IsReason found (NoCommand name) = is_listed command_names name.now ≡ false
+IsReason found (NoAddress text) = IsBadNumber (values found (codes "addresses")) text.now
+IsReason found (NoNumber option text) = (first_value found option.now ≡ Some text.now) × ¬ (IsNumber text.now)
+IsReason found (NoLevels number) = HasNumber found (codes "levels") number × ¬ (number ≡ 4) × ¬ (number ≡ 5)
+IsReason found (NoRange text) = IsBadRange (values found (codes "range")) text.now
+IsReason found BaseAndRanges = ¬ (first_value found (codes "base") ≡ None) × ¬ (values found (codes "range") ≡ [])
+IsReason found (NoAccess text) = (first_value found (codes "as") ≡ Some text.now) × ((access : Access) → ¬ (text.now ≡ access_name access))
+IsReason found (NoSetting word) = IsBadSetting (values found (codes "controls")) word.now
+IsReason found (NoPhysicalBits bits) = HasNumber found (codes "maxphyaddr") bits × ¬ ((32 ≤ bits) × (bits ≤ 52))
+IsReason found (NoRights text) = (first_value found (codes "rights") ≡ Some text.now) × (are_letters text.now ≡ false)
+IsReason found (Failed failure) = failure ≡ OutOfMemory
+IsReason found stop = ⊥
+
+-- one of the texts is no number, or memory allocation failed
+abbrev pub IsNoAddress : (texts : List (List ℕ)) → Stop → Type 0
+IsNoAddress texts (NoAddress text) = IsBadNumber texts text.now
+IsNoAddress texts (Failed failure) = failure ≡ OutOfMemory
+IsNoAddress texts stop = ⊥
+
+-- one of the words is the name of no setting
+abbrev pub IsNoSetting : (words : List (List ℕ)) → Stop → Type 0
+IsNoSetting words (NoSetting word) = IsBadSetting words word.now
+IsNoSetting words stop = ⊥
+
+-- one of the texts is no range, or memory allocation failed
+abbrev pub IsNoRange : (texts : List (List ℕ)) → Stop → Type 0
+IsNoRange texts (NoRange text) = IsBadRange texts text.now
+IsNoRange texts (Failed failure) = failure ≡ OutOfMemory
+IsNoRange texts stop = ⊥
+
+-- the base is no number, one of the ranges is none, both are given, or memory allocation failed
+abbrev pub IsNoPlacement : (base : Option (List ℕ)) → (ranges : List (List ℕ)) → Stop → Type 0
+IsNoPlacement base ranges (NoNumber option text) = (option.now ≡ codes "base") × (base ≡ Some text.now) × ¬ (IsNumber text.now)
+IsNoPlacement base ranges (NoRange text) = IsBadRange ranges text.now
+IsNoPlacement base ranges BaseAndRanges = ¬ (base ≡ None) × ¬ (ranges ≡ [])
+IsNoPlacement base ranges (Failed failure) = failure ≡ OutOfMemory
+IsNoPlacement base ranges stop = ⊥
