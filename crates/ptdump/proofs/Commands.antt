@@ -78,13 +78,8 @@ no_name name found a b c d e f g h Info is = other_name name (codes "info") h is
 -- no check can be described
 pub no_check : (name : List ℕ) (found : Found) → name ≡ codes "check" → ((bits : ℕ) → IsBits (first_value found (codes "maxphyaddr")) bits → ⊥)
     → (command : Command) → IsCommand name found command → ⊥
-no_check name found check none Regions is = differ name (codes "check") (codes "regions") refl check is
-no_check name found check none Pages is = differ name (codes "check") (codes "pages") refl check is
-no_check name found check none (Walk numbers asked) is = differ name (codes "check") (codes "walk") refl check is.0
-no_check name found check none (Find numbers) is = differ name (codes "check") (codes "find") refl check is.0
 no_check name found check none (Check checking) is = none checking.physical_bits is.1
-no_check name found check none Image is = differ name (codes "check") (codes "image") refl check is
-no_check name found check none Picture is = differ name (codes "check") (codes "picture") refl check is
+no_check name found check none command is = differ name (codes "check") (name_of command) refl check (named name found command is)
 
 -- the command and the refusal are those of an equal name
 pub same_command : (name word : List ℕ) (found : Found) (result : Result Command Stop) → bytes_eq name word ≡ true → IfOk result (IsCommand word found)
