@@ -1,9 +1,10 @@
 //! Visits of regions.
-ghost use Rattle.std.specs.Prelude.{◌≡◌, ◌<◌, ◌≤◌, ◌+◌, ◌*◌, ◌%◌, ◌∷◌, [], OnOk, filter};
+ghost use Rattle.std.specs.Prelude.{◌≡◌, ◌<◌, ◌≤◌, ◌+◌, ◌*◌, ◌%◌, ◌∷◌, [], OnOk, filter, length};
 ghost use Rattle.x86_64_model.specs.Position.{span as span_of, position_count};
 ghost use Rattle.x86_64_mappings.specs.Wanted.{asked_of, asked_regions, is_wanted};
 ghost use Rattle.x86_64_mappings.specs.private.Joined.{region_between, listed, Joins};
-ghost use Rattle.x86_64_mappings.specs.private.Targets.{asked_in};
+ghost use Rattle.x86_64_mappings.specs.private.Known.{asking};
+ghost use Rattle.x86_64_mappings.specs.private.Targets.{asked_in, asked_on};
 
 mod extent;
 
@@ -18,7 +19,7 @@ use x86_64_addr::addr::VirtAddrIn;
 use x86_64_addr::level_count::LevelCount;
 use x86_64_page::frame::PhysFrame;
 use x86_64_page::page::Size4KiB;
-use x86_64_tables::page_table::{EntryTarget, Rights};
+use x86_64_tables::page_table::{EntryTarget, PageTableEntry, PageTableFlags, Rights, has_flag};
 use x86_64_tables::phys_memory::{PageTableFrameMapping, TableMemory};
 
 /// Visits the regions formed by all wanted mappings below a root, in order of their addresses.
@@ -68,9 +69,13 @@ fn join_table<L: LevelCount, T: TableMemory, P: PageTableFrameMapping, V: Visito
     let Some(words) = query.table(table.frame) else {
         return Ok(());
     };
+    let entries = words.as_slice();
+    if table.level == 1 {
+        return join_small_pages(query, entries, table.start, table.above, joiner, visitor);
+    }
     let size = span(table.level);
     let mut start = table.start;
-    for entry in words.as_slice() {
+    for entry in entries {
         match entry.target(table.level) {
             EntryTarget::Page => {
                 let page = MappingIn::of_page(table.level, start, entry, table.above);
@@ -115,6 +120,38 @@ fn join_below<L: LevelCount, T: TableMemory, P: PageTableFrameMapping, V: Visito
         }
         Extent::Mixture => join_table(summaries, table, joiner, visitor),
     }
+}
+
+/// Joins the pages by the entries of a table of level one, whose span starts at a position, below entries that allow `above`.
+fn join_small_pages<
+    L: LevelCount,
+    T: TableMemory,
+    P: PageTableFrameMapping,
+    V: Visitor<RegionIn<L>>,
+>(
+    query: &Query<'_, T, P>,
+    entries: &[PageTableEntry],
+    start: u64,
+    above: Rights,
+    joiner: &mut Joiner<L>,
+    visitor: &mut V,
+) -> Result<(), V::Error>
+    requires size { length entries.now ≡ 512 }
+    requires aligned { start % span_of 1 ≡ 0 }
+    requires inside { start + 512 * span_of 1 ≤ position_count L.LEVELS }
+    ensures { OnOk result (Joins V.Visits L.LEVELS
+        (asked_on (asked_of T.tables P.places (asking query.now)) 1 start above entries.now)
+        joiner.old visitor.old joiner.new visitor.new) }
+{
+    let mut start = start;
+    for entry in entries {
+        if has_flag(entry, PageTableFlags::PRESENT) {
+            let page = MappingIn::of_page(1, start, entry, above);
+            join_page(query, &page, joiner, visitor)?;
+        }
+        start += 4096;
+    }
+    Ok(())
 }
 
 /// Joins a page, if it is wanted.

@@ -4,7 +4,7 @@ ghost use Rattle.x86_64_model.specs.Mappings.{every_right};
 ghost use Rattle.x86_64_mappings.specs.Summaries.{summary_of};
 ghost use Rattle.x86_64_mappings.specs.Wanted.{Asked, asked_of, asked_mappings};
 ghost use Rattle.x86_64_mappings.specs.private.Known.{IsLevel, AreLevels, asking};
-ghost use Rattle.x86_64_mappings.specs.private.Targets.{asked_by};
+ghost use Rattle.x86_64_mappings.specs.private.Targets.{asked_by, asked_on};
 
 use crate::summaries::query::Query;
 use crate::summaries::summary::Summary;
@@ -14,7 +14,7 @@ use std::marker::Model;
 use x86_64_addr::addr::PhysAddr;
 use x86_64_page::frame::PhysFrame;
 use x86_64_page::page::Size4KiB;
-use x86_64_tables::page_table::{EntryTarget, PageTableEntry, Rights};
+use x86_64_tables::page_table::{EntryTarget, PageTableEntry, PageTableFlags, Rights, has_flag};
 use x86_64_tables::phys_memory::{PageTableFrameMapping, TableMemory};
 
 /// The largest number of levels of tables.
@@ -137,9 +137,30 @@ fn table_summary<T: TableMemory, P: PageTableFrameMapping>(
     let Some(table) = query.table(frame) else {
         return Some(Summary::NONE);
     };
+    let entries = table.as_slice();
+    if below.is_empty() {
+        return small_pages_summary(query, entries);
+    }
     let mut sum = Summary::NONE;
-    for entry in table.as_slice() {
+    for entry in entries {
         sum = sum.with(entry_summary(query, below, entry)?)?;
+    }
+    Some(sum)
+}
+
+/// Summarizes the pages by the entries of a table of level one. Returns `None` if the numbers don't fit.
+fn small_pages_summary<T: TableMemory, P: PageTableFrameMapping>(
+    query: &Query<'_, T, P>,
+    entries: &[PageTableEntry],
+) -> Option<Summary>
+    ensures { IfSome result (λ summary. summary ≡ summary_of
+        (asked_on (asked_of T.tables P.places (asking query.now)) 1 0 every_right entries.now)) }
+{
+    let mut sum = Summary::NONE;
+    for entry in entries {
+        if has_flag(entry, PageTableFlags::PRESENT) {
+            sum = sum.with(query.page_summary(1, entry))?;
+        }
     }
     Some(sum)
 }

@@ -1,4 +1,5 @@
 use Rattle.std.proofs.Common.{◌≡◌, ◌≤◌, ◌<◌, ◌+◌, ◌-◌, ◌*◌, ◌%◌, ◌^◌, [], ◌∷◌, None, Some, sym, ap, ap₂, ◌∙◌, subst, subst₂, arith, get_or, length, take, filter, map}
+use Rattle.std.specs.Prelude.{OnOk}
 use Rattle.std.proofs.Math.Pow.{pow_mono}
 use Rattle.std.proofs.lemmas.List.{get_or_read, take_all}
 use Rattle.std.proofs.lemmas.Nat.{pow_pos}
@@ -64,6 +65,22 @@ join_table-returns-in_default g t c =
     (sym (ap (map (placed c.args.table.now.start c.args.table.now.above)) (asked_none asked c.args.table.now.level c.args.table.now.frame none)))
     (joins_none g.V.Visitor.Visits g.L.LevelCount.LEVELS g.met.V.Visitor.none c.args.joiner.now c.args.visitor.now)
 
+pub join_table-returns-then-table-eq1 : goal.join_table-returns-then-table-eq1
+join_table-returns-then-table-eq1 g t c =
+    let asking_by = asked_of g.T.TableMemory.tables g.P.PageTableFrameMapping.places in
+    let asked = asking_by c.args.summaries.now in
+    let words = c.as_slice-entries.result.now in
+    let s = c.args.table.now.start in
+    let r = c.args.table.now.above in
+    let there : asked.words c.args.table.now.frame ≡ Some words =
+    ap (λ a. (asking_by a).words c.args.table.now.frame) (sym c.query-query.ensures) ∙ sym c.in-Some.ensures ∙ ap Some (sym c.as_slice-entries.ensures.words) in
+    let size : length words ≡ 512 = ap length c.as_slice-entries.ensures.words ∙ c.as_slice-entries.ensures.size in
+    subst (λ ms. OnOk c.join_small_pages.result (Joins g.V.Visitor.Visits g.L.LevelCount.LEVELS ms c.args.joiner.now c.args.visitor.now c.join_small_pages.new.joiner c.join_small_pages.new.visitor))
+    (ap (λ a. asked_on (asking_by a) 1 s r words) c.query-query.ensures
+    ∙ ap (λ level. asked_on asked level s r words) (sym c.if-table-eq1.true)
+    ∙ sym (asked_table asked c.args.table.now.level s r c.args.table.now.frame words c.requires.low there size))
+    c.join_small_pages.ensures
+
 pub join_table-loop-entry-init : goal.join_table-loop-entry-init
 join_table-loop-entry-init g t c = record {
   start = omega arith;
@@ -80,7 +97,7 @@ join_table-join_below-requires g t c κs within =
     let high = c.requires.high in
     let start : c.loop-entry.start ≡ s + i * w = c.loop-entry.invariant.start in
     let aligned : c.loop-entry.start % w ≡ 0 = ap (λ s. s % w) start ∙ start_aligned s i w c.requires.aligned in
-    let size : length c.as_slice-entry-items.result.now ≡ 512 = ap length c.as_slice-entry-items.ensures.words ∙ c.as_slice-entry-items.ensures.size in
+    let size : length c.as_slice-entries.result.now ≡ 512 = ap length c.as_slice-entries.ensures.words ∙ c.as_slice-entries.ensures.size in
     let inside = start_inside s i w (position_count g.L.LevelCount.LEVELS) (omega (arith, c.loop-entry-test.true, size)) c.requires.inside in
     let below = c.below-below.result in
     let level_is : below.level ≡ level - 1 = ap (λ table. table.level) c.below-below.ensures in
@@ -103,7 +120,7 @@ pub join_table-overflow_add-start : goal.join_table-overflow_add-start
 join_table-overflow_add-start g t c =
     let w = span c.args.table.now.level in
     let few : position_count g.L.LevelCount.LEVELS ≤ 2 ^ 57 = pow_mono (let most : 12 + 9 * g.L.LevelCount.LEVELS ≤ 57 = (let five = g.L.LevelCount.at_most_five in omega (arith, five)) in most) in
-    let size : length c.as_slice-entry-items.result.now ≡ 512 = ap length c.as_slice-entry-items.ensures.words ∙ c.as_slice-entry-items.ensures.size in
+    let size : length c.as_slice-entries.result.now ≡ 512 = ap length c.as_slice-entries.ensures.words ∙ c.as_slice-entries.ensures.size in
     let inside = start_inside c.args.table.now.start c.loop-entry.entry-index w (position_count g.L.LevelCount.LEVELS) (omega (arith, c.loop-entry-test.true, size)) c.requires.inside in
     omega (arith, c.loop-entry.invariant.start, c.span-size.ensures, inside, few)
 
@@ -114,7 +131,7 @@ join_table-loop-entry-preserved g t c =
     let asked = asked_of g.T.TableMemory.tables g.P.PageTableFrameMapping.places c.args.summaries.now in
     let level = c.args.table.now.level in
     let r = c.args.table.now.above in
-    let words = c.as_slice-entry-items.result.now in
+    let words = c.as_slice-entries.result.now in
     let s = c.args.table.now.start in
     let i = c.loop-entry.entry-index in
     let e = c.entry-item.result in
@@ -164,11 +181,11 @@ pub join_table-returns : goal.join_table-returns
 join_table-returns g t c =
     let asking_by = asked_of g.T.TableMemory.tables g.P.PageTableFrameMapping.places in
     let asked = asking_by c.args.summaries.now in
-    let words = c.as_slice-entry-items.result.now in
+    let words = c.as_slice-entries.result.now in
     let r = c.args.table.now.above in
     let there : asked.words c.args.table.now.frame ≡ Some words =
-    ap (λ a. (asking_by a).words c.args.table.now.frame) (sym c.query-query.ensures) ∙ sym c.in-Some.ensures ∙ ap Some (sym c.as_slice-entry-items.ensures.words) in
-    let size : length words ≡ 512 = ap length c.as_slice-entry-items.ensures.words ∙ c.as_slice-entry-items.ensures.size in
+    ap (λ a. (asking_by a).words c.args.table.now.frame) (sym c.query-query.ensures) ∙ sym c.in-Some.ensures ∙ ap Some (sym c.as_slice-entries.ensures.words) in
+    let size : length words ≡ 512 = ap length c.as_slice-entries.ensures.words ∙ c.as_slice-entries.ensures.size in
     subst (λ ms. Joins g.V.Visitor.Visits g.L.LevelCount.LEVELS ms c.args.joiner.now c.args.visitor.now c.loop-entry.joiner c.loop-entry.visitor)
     (ap (asked_on asked c.args.table.now.level c.args.table.now.start r) (take_all c.loop-entry.entry-index words c.loop-entry-test.false)
     ∙ sym (asked_table asked c.args.table.now.level c.args.table.now.start r c.args.table.now.frame words c.requires.low there size))

@@ -17,6 +17,6 @@ invariant-join_table-loop-entry g l =
     let asked = asked_of g.T.TableMemory.tables g.P.PageTableFrameMapping.places l.summaries in
     record {
       start : l.start ≡ l.table.start + l.entry-index * span l.table.level;
-      joined : Joins g.V.Visitor.Visits g.L.LevelCount.LEVELS (asked_on asked l.table.level l.table.start l.table.above (take l.entry-index l.entry-items))
+      joined : Joins g.V.Visitor.Visits g.L.LevelCount.LEVELS (asked_on asked l.table.level l.table.start l.table.above (take l.entry-index l.entries))
           l.fn.joiner l.fn.visitor l.joiner l.visitor;
     }

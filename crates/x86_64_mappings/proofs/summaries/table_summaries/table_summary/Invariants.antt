@@ -10,4 +10,4 @@ use Rattle.x86_64_model.specs.Mappings.{every_right}
 abbrev pub invariant-loop-entry : goal.invariant-loop-entry
 invariant-loop-entry g l =
     let asked = asked_of g.T.TableMemory.tables g.P.PageTableFrameMapping.places (asking l.query) in
-    l.sum ≡ summary_of (asked_on asked (length l.below + 1) 0 every_right (take l.entry-index l.entry-items))
+    l.sum ≡ summary_of (asked_on asked (length l.below + 1) 0 every_right (take l.entry-index l.entries))
