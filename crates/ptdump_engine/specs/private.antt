@@ -8,6 +8,7 @@ pub mod Finding
 pub mod Flags
 pub mod Flawed
 pub mod FlawedLaws
+pub mod Headings
 pub mod JsonLines
 pub mod Naming
 pub mod NoFloats
