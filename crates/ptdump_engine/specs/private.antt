@@ -8,7 +8,6 @@ pub mod Finding
 pub mod Flags
 pub mod Flawed
 pub mod FlawedLaws
-pub mod Headings
 pub mod JsonLines
 pub mod Naming
 pub mod NoFloats
@@ -16,6 +15,7 @@ pub mod Passed
 pub mod Passing
 pub mod Puts
 pub mod Reported
+pub mod Roots
 pub mod Searched
 pub mod WalkLines
 pub mod Walked

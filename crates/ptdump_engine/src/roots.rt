@@ -9,7 +9,7 @@ ghost use Rattle.ptdump_engine.specs.Processors as specs;
 ghost use Rattle.ptdump_engine.specs.Program as program;
 ghost use Rattle.ptdump_engine.specs.Steps.{FindsAs, InTurn, IsForced};
 ghost use Rattle.ptdump_engine.specs.declared.request.Form.TheVariants.{Text};
-ghost use Rattle.ptdump_engine.specs.private.Headings.{number_at};
+ghost use Rattle.ptdump_engine.specs.private.Roots.{AreNoted, number_at};
 
 use crate::arguments::{argument_failure, root_failure};
 use crate::destination::Destination;
@@ -94,11 +94,8 @@ pub fn report_on_processors<S: ByteSource, W: Destination, E: Destination, G: Pr
     requires noted { string_bytes notes.old.text ≡ [] }
     ensures written { S.IsKnown → IfOk result (program.ReportsAll request.now
         (words_of_dump (opened S.bytes dump.now)) processors.now (W.contents writer.old) (W.contents writer.new)) }
-    ensures notes { S.IsKnown → OnOk result ((notes.new.writer.ghost_name ≡ notes.old.writer.ghost_name)
-        × (between : Option (List ℕ))
-        × Appends (E.contents notes.old.writer.now) between (specs.left_out_text processors.now)
-        × InTurn (program.EndsByTotalsOf (words_of_dump (opened S.bytes dump.now))) (specs.firsts_of processors.now)
-        between (E.contents notes.new.writer.now)) }
+    ensures notes { S.IsKnown → OnOk result (AreNoted E.contents (words_of_dump (opened S.bytes dump.now))
+        processors.now notes.old notes.new) }
     ensures told { S.IsKnown → OnOk result (InTurn (program.ToldOfTablesOf G.Told G.Ended
         (words_of_dump (opened S.bytes dump.now))) (specs.firsts_of processors.now) progress.old progress.new) }
     ensures errors { S.IsKnown → IfErr result (IsForced (W.may_refuse || E.may_refuse)) }
@@ -127,7 +124,7 @@ fn write_reports<S: ByteSource, W: Destination, E: Destination, G: Progress>(
         (program.report_below request.now (words_of_dump (opened S.bytes dump.now)) processors.now) firsts.now)) }
     ensures complete { S.IsKnown → IfOk result (λ all. all ≡ list_all
         (program.is_complete_for request.now (words_of_dump (opened S.bytes dump.now))) firsts.now) }
-    ensures name { OnOk result (notes.new.writer.ghost_name ≡ notes.old.writer.ghost_name) }
+    ensures name { S.IsKnown → OnOk result (notes.new.writer.ghost_name ≡ notes.old.writer.ghost_name) }
     ensures totals { S.IsKnown → OnOk result (InTurn
         (program.EndsByTotalsOf (words_of_dump (opened S.bytes dump.now))) firsts.now
         (E.contents notes.old.writer.now) (E.contents notes.new.writer.now)) }
@@ -194,7 +191,8 @@ fn write_heading<W: Destination>(
     let cpus = cpus_with(alloc, processors, first)?;
     let mut output = Output::new(alloc, writer);
     write_heading_in(alloc, form, &cpus, first.start.root, &mut output)?;
-    output.finish()
+    output.finish()?;
+    Ok(())
 }
 
 /// Writes the numbers of some processors, and their root, in a form.
