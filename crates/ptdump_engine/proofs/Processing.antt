@@ -33,23 +33,29 @@ module _ (file : List ℕ) (given : Option Levels) (notes : List Note) where
   behind i ps found = onto ps (and_then (of_dump found) (λ registers.
       and_then (processors_from file given (i + 1) (drop (i + 1) notes)) (λ others. Ok (processor_with given i registers ∷ others))))
 
-  next : (i : ℕ) (ps : List Processor) (note : Note) → i < length notes → AreRead i ps → note ≡ get_or notes i note → processors_from file given 0 notes ≡ behind i ps (registers_of file note)
-  next i ps note below so_far is =
-      so_far ∙ ap (λ ns. onto ps (processors_from file given i ns)) (drop_more notes i note below ∙ ap (λ n. n ∷ drop (i + 1) notes) (sym is))
+  next : (i : ℕ) (ps : List Processor) (d : Note) → i < length notes → AreRead i ps → processors_from file given 0 notes ≡ behind i ps (registers_of file (get_or notes i d))
+  next i ps d below so_far = so_far ∙ ap (λ ns. onto ps (processors_from file given i ns)) (drop_more notes i d below)
+
+  -- none is read
+  pub read_none : AreRead 0 []
+  read_none = none (processors_from file given 0 notes)
+    where
+      none : (found : Result (List Processor) Failure) → found ≡ onto [] found
+      none (Ok ps) = refl
+      none (Err failure) = refl
 
   -- one more is read
-  pub read_more : (i : ℕ) (ps : List Processor) (note : Note) (registers : Registers) → i < length notes → AreRead i ps → note ≡ get_or notes i note
-      → registers_of file note ≡ Ok registers → AreRead (i + 1) (ps ++ processor_with given i registers ∷ [])
-  read_more i ps note registers below so_far is says =
-      next i ps note below so_far is ∙ ap (behind i ps) says
-      ∙ onto_more ps (processor_with given i registers) (processors_from file given (i + 1) (drop (i + 1) notes))
+  pub read_more : (i : ℕ) (ps : List Processor) (d : Note) (registers : Registers) → i < length notes → AreRead i ps → registers_of file (get_or notes i d) ≡ Ok registers
+      → AreRead (i + 1) (ps ++ processor_with given i registers ∷ [])
+  read_more i ps d registers below so_far says =
+      next i ps d below so_far ∙ ap (behind i ps) says ∙ onto_more ps (processor_with given i registers) (processors_from file given (i + 1) (drop (i + 1) notes))
 
   -- the next note can't be read
-  pub read_fails : (i : ℕ) (ps : List Processor) (note : Note) (error : DumpError) → i < length notes → AreRead i ps → note ≡ get_or notes i note
-      → GivesAtOnce {X = Registers} (λ r. r) (Err error) (registers_of file note) → FailsBy false (failure_of error) (processors_from file given 0 notes)
-  read_fails i ps note errors.OutOfMemory below so_far is fails = absurd fails
-  read_fails i ps note (errors.Read error) below so_far is fails = absurd fails
-  read_fails i ps note (errors.Fault fault) below so_far is fails = next i ps note below so_far is ∙ ap (behind i ps) fails
+  pub read_fails : (i : ℕ) (ps : List Processor) (d : Note) (error : DumpError) → i < length notes → AreRead i ps
+      → GivesAtOnce {X = Registers} (λ r. r) (Err error) (registers_of file (get_or notes i d)) → FailsBy false (failure_of error) (processors_from file given 0 notes)
+  read_fails i ps d errors.OutOfMemory below so_far fails = absurd fails
+  read_fails i ps d (errors.Read error) below so_far fails = absurd fails
+  read_fails i ps d (errors.Fault fault) below so_far fails = next i ps d below so_far ∙ ap (behind i ps) fails
 
   -- all are read
   pub read_all : (i : ℕ) (ps : List Processor) → length notes ≤ i → AreRead i ps → processors_from file given 0 notes ≡ Ok ps
