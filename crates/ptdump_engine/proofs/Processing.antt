@@ -37,8 +37,8 @@ module _ (file : List ℕ) (given : Option Levels) (notes : List Note) where
   next i ps d below so_far = so_far ∙ ap (λ ns. onto ps (processors_from file given i ns)) (drop_more notes i d below)
 
   -- none is read
-  pub read_none : AreRead 0 []
-  read_none = none (processors_from file given 0 notes)
+  pub read_none : (ps : List Processor) → ps ≡ [] → AreRead 0 ps
+  read_none ps nothing = none (processors_from file given 0 notes) ∙ ap (λ qs. onto qs (processors_from file given 0 notes)) (sym nothing)
     where
       none : (found : Result (List Processor) Failure) → found ≡ onto [] found
       none (Ok ps) = refl

@@ -1,5 +1,5 @@
 -- Processors: where the page walks of each processor begin, by QEMU's notes, and which processors have the same tables.
-use Rattle.std.specs.Prelude.{ℕ, ◌+◌, ◌++◌, ◌==◌, ◌&&◌, Bool, true, false, not, nat_lt, if◌then◌else◌, List, [], ◌∷◌, map, filter, Option, None, Some, unwrap_or, Result, Ok, Err, codes, decimal}
+use Rattle.std.specs.Prelude.{ℕ, ◌+◌, ◌++◌, ◌==◌, ◌&&◌, Bool, true, false, not, nat_lt, if◌then◌else◌, List, [], ◌∷◌, map, filter, slice_get, Option, None, Some, unwrap_or, Result, Ok, Err, codes, decimal}
 use Rattle.std.specs.List.{flat_map, join_by, list_any}
 use Rattle.serde_json.specs.Data.{Data, array, object, member, no_members}
 use Rattle.serde_json.specs.View.{items_of}
@@ -48,10 +48,14 @@ is_64_bit mode = false
 abbrev pub has_tables : Processor → Bool
 has_tables p = is_64_bit p.mode
 
+-- why there are no tables, if this is the first processor and none has tables
+abbrev pub mode_failure : Option Processor → Failure
+mode_failure None = failures.NoProcessors
+mode_failure (Some p) = failures.WrongMode p.cpu p.mode
+
 -- why none of the processors has tables
 abbrev pub modes_failure : List Processor → Option Failure
-modes_failure [] = Some failures.NoProcessors
-modes_failure (p ∷ ps) = if list_any has_tables (p ∷ ps) then None else Some (failures.WrongMode p.cpu p.mode)
+modes_failure ps = if list_any has_tables ps then None else Some (mode_failure (slice_get ps 0))
 
 -- ---- those with the same tables
 

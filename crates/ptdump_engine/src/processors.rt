@@ -1,5 +1,6 @@
 //! The processors of a dump, and which of them have the same tables.
 ghost use Rattle.std.specs.Prelude.{◌≡◌, IfOk};
+ghost use Rattle.std.specs.List.{list_any};
 ghost use Rattle.x86_64_dump.specs.Notes.{processors_of};
 ghost use Rattle.x86_64_dump.specs.Opened.{opened};
 ghost use Rattle.ptdump_engine.specs.Processors as specs;
@@ -121,16 +122,23 @@ fn read_notes<S: ByteSource>(
 pub fn modes_failure(processors: &[Processor]) -> Option<Failure>
     ensures { result ≡ specs.modes_failure processors.now }
 {
-    let Some(first) = processors.first() else {
-        return Some(Failure::NoProcessors);
-    };
-    if processors.iter().any(|processor| processor.has_tables()) {
+    if have_tables(processors) {
         return None;
     }
-    Some(Failure::WrongMode {
-        cpu: first.cpu as u64,
-        mode: first.mode,
-    })
+    match processors.first() {
+        Some(first) => Some(Failure::WrongMode {
+            cpu: first.cpu as u64,
+            mode: first.mode,
+        }),
+        None => Some(Failure::NoProcessors),
+    }
+}
+
+/// Returns true if one of some processors has tables.
+fn have_tables(processors: &[Processor]) -> bool
+    ensures { result ≡ list_any specs.has_tables processors.now }
+{
+    processors.iter().any(|processor| processor.has_tables())
 }
 
 /// Returns the first processor with each root and number of levels.
