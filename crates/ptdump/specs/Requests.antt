@@ -63,6 +63,7 @@ pub record IsRequest (name : List ℕ) (found : Found) (request : Request) : Typ
   pub placement : IsPlacement (first_value found (codes "base")) (values found (codes "range")) request.placement
   pub raw : IsFlag (one_text found (codes "raw")) request.is_raw
   pub cpu : IsOption (first_value found (codes "cpu")) request.cpu
+  pub all_cpus : IsFlag (one_text found (codes "all-cpus")) request.all_cpus
 
 -- memory allocation failed, or no value has this property
 abbrev pub IsUnread : {T : Type 0} → (Holds : T → Type 0) → Stop → Type 0

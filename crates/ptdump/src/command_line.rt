@@ -30,9 +30,9 @@ fn subcommand<'a>(alloc: Global, help: &CommandHelp) -> Result<Command<'a>, Erro
         .arg(file(alloc))?;
     let command = match help.operands {
         Operands::None => command,
-        Operands::Selection => with_selection(alloc, command)?,
+        Operands::Selection => with_all_cpus(alloc, with_selection(alloc, command)?)?,
         Operands::Names => with_names(alloc, with_selection(alloc, command)?)?,
-        Operands::Checks => command.arg(maxphyaddr(alloc))?,
+        Operands::Checks => with_all_cpus(alloc, command.arg(maxphyaddr(alloc))?)?,
         Operands::Addresses(text) => command.arg(addresses(alloc, text))?,
         Operands::Accesses(text) => with_access(alloc, command.arg(addresses(alloc, text))?)?,
     };
@@ -86,6 +86,17 @@ fn with_selection<'a>(alloc: Global, command: Command<'a>) -> Result<Command<'a>
         "RIGHTS",
     );
     Ok(command.arg(from)?.arg(to)?.arg(rights)?)
+}
+
+/// Adds the option of all processors to the command line of a command.
+fn with_all_cpus<'a>(alloc: Global, command: Command<'a>) -> Result<Command<'a>, Error> {
+    let all = flag(
+        alloc,
+        "all-cpus",
+        "Report on the tables of all processors, on each root once",
+    )
+    .conflicts_with_all(&["cr3", "cpu"])?;
+    Ok(command.arg(all)?)
 }
 
 /// Adds the option of names to the command line of a command.

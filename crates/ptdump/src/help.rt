@@ -5,11 +5,11 @@
 pub enum Operands {
     /// No arguments.
     None,
-    /// The options of a selection.
+    /// The options of a selection, and that of all processors.
     Selection,
     /// The options of a selection, and that of names.
     Names,
-    /// No arguments, but the options of a check.
+    /// No arguments, but the options of a check, and that of all processors.
     Checks,
     /// Addresses, with their help text.
     Addresses(&'static str),
@@ -95,11 +95,22 @@ and what may be done there: r read, w write, x execute, u by user code.
 included, as they are; --rights only those with at least these of the letters
 r, w, x and u. The last line counts all that is mapped.
 
+--all-cpus lists the regions of each processor in QEMU's notes, and those of
+several with the same root once, below a line with their numbers and the root.
+Standard error says which ones are left out, as they have no 64-bit paging, and
+counts the tables and mappings of each root.
+
 With --json a line is an object with first and last (strings in hexadecimal),
-bytes (a number), and the rights write, execute and user (true or false).
+bytes (a number), and the rights write, execute and user (true or false). With
+--all-cpus the line of a root is an object with cpus (an array of numbers) and
+root (a string in hexadecimal).
 
 Examples:
 
+  $ ptdump regions machine.elf --all-cpus --rights wx
+  cpu 0 root 0x101000
+  0x0-0x1fffff 2MiB rwx-
+  tables 13, mappings 18, mapped 1054776KiB
   $ ptdump regions machine.elf --from 0x402000 --to 0x405000
   0x400000-0x402fff 12KiB r-xu
   0x403000-0x403fff 4KiB r--u
@@ -267,6 +278,9 @@ half that user code reaches, tables that several words name, tables that aren't
 in the dump, HUGE_PAGE at a level that has no pages, and other reserved bits:
 address bits that the processor lacks, which are those from --maxphyaddr on, and
 low address bits of large pages. The exit status is 1 if there are any.
+
+--all-cpus checks the tables of each processor in QEMU's notes, and those of
+several with the same root once, below a line with their numbers and the root.
 
 Example:
 

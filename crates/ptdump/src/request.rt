@@ -38,6 +38,7 @@ pub fn request_of<'a>(
         placement: placement_of(alloc, arguments)?,
         is_raw: is_given(arguments, "raw"),
         cpu: option_of(arguments, "cpu")?,
+        all_cpus: is_given(arguments, "all-cpus"),
     })
 }
 

@@ -20,3 +20,6 @@ pub mod Found
 pub mod Grouped
 pub mod InOrder
 pub mod SameTables
+pub mod Processing
+pub mod Turns
+pub mod OfProcessors

@@ -5,7 +5,7 @@ use Rattle.std.specs.Io.KnownBytes.{Appends, append_known}
 use Rattle.std.specs.List.{flat_map, list_all, list_any}
 use Rattle.std.specs.String.{string_bytes}
 use Rattle.std.specs.declared.alloc.Global.{Global}
-use Rattle.x86_64_dump.specs.Dump.{Contents}
+use Rattle.x86_64_dump.specs.Dump.{Contents, words_of_dump}
 use Rattle.x86_64_dump.specs.Opening.{Fails, contents_as}
 use Rattle.x86_64_dump.specs.declared.error.DumpError.{DumpError}
 use Rattle.x86_64_dump.specs.Reached.{SameBelow}
@@ -21,13 +21,14 @@ use Rattle.ptdump_engine.specs.Failure.{failure_of}
 use Rattle.ptdump_engine.specs.Findings.{check_text, count_text, line_count}
 use Rattle.ptdump_engine.specs.Json.{json_line, json_of_access, json_of_asked, json_of_walk}
 use Rattle.ptdump_engine.specs.Lines.{mapping_line, region_line, walk_lines}
-use Rattle.ptdump_engine.specs.Program.{Opened, ReportsOf, RunsAs, RunsOnDump, RunsOnTables, completeness_of, dump_for, format_for, info_of, opened_for, report_in, report_of, start_for}
+use Rattle.ptdump_engine.specs.Program.{Machine, Opened, ReportsAll, ReportsOf, RunsAs, RunsOnDump, RunsOnProcessors, RunsOnTables, completeness_of, dump_for, format_for, info_of, machine_for, opened_for, processors_for, report_in, report_of, start_for}
 use Rattle.ptdump_engine.specs.Reports.{address_line, addresses_text, find_text, pages_text, regions_text, walks_text}
 use Rattle.ptdump_engine.specs.Selections.{is_mapping_selected, is_selected}
 use Rattle.ptdump_engine.specs.Steps.{FailsBy, IsForced, and_then, of_dump}
 use Rattle.ptdump_engine.specs.Walks.{line, walk_text}
 use Rattle.ptdump_engine.specs.declared.failure.Failure.{Failure}
 use Rattle.ptdump_engine.specs.declared.output.Output.{Output}
+use Rattle.ptdump_engine.specs.declared.processors.Processor.{Processor}
 use Rattle.ptdump_engine.specs.declared.request.Command.{Command}
 use Rattle.ptdump_engine.specs.declared.request.Command.TheVariants as commands
 use Rattle.ptdump_engine.specs.declared.request.Form.{Form}
@@ -52,6 +53,10 @@ if_some (Some x) f p = f x p
 known_alone : (known : Option (List ℕ)) → append_known known [] ≡ known
 known_alone None = refl
 known_alone (Some bytes) = ap Some (append-nil bytes)
+
+-- all that was put in is written if nothing is collected
+pub put_all : {W : Type 0} (contents : W → Option (List ℕ)) (output : Output W (String Global)) → string_bytes output.text ≡ [] → put_in contents output ≡ contents output.writer.now
+put_all contents output none = ap (append_known (contents output.writer.now)) none ∙ known_alone (contents output.writer.now)
 
 -- what was put in is written once nothing is collected any more
 pub written_rest : {W : Type 0} (contents : W → Option (List ℕ)) (begun ended : Output W (String Global)) (text : List ℕ)
@@ -156,11 +161,36 @@ no_start may request file dump failure contents fails =
     subst (λ found. FailsBy {A = Opened} may failure (and_then (of_dump found) (λ dump. and_then (start_for request dump) (λ start. Ok (record { dump = dump; start = start }))))) (sym contents)
     (fails_then may failure (start_for request dump) (λ start. Ok (record { dump = dump; start = start })) fails)
 
+-- likewise for the processors of a dump
+pub shows : (request : Request) (file : List ℕ) (dump : Contents) (ps : List Processor) → contents_as (format_for request file) file request.placement ≡ Ok dump → processors_for request dump ≡ Ok ps
+    → machine_for request file ≡ Ok (record { dump = dump; processors = ps })
+unfolding machine_for
+shows request file dump ps contents are =
+    ap (λ found. and_then (of_dump found) (λ dump. and_then (processors_for request dump) (λ ps. Ok (record { dump = dump; processors = ps })))) contents
+    ∙ ap (λ found. and_then found (λ ps. Ok (record { dump = dump; processors = ps }))) are
+
+shows_none : (may : Bool) (request : Request) (file : List ℕ) (error : DumpError) → Fails error (contents_as (format_for request file) file request.placement) → FailsBy may (failure_of error) (machine_for request file)
+unfolding machine_for
+shows_none may request file error fails = dump_fails may error (contents_as (format_for request file) file request.placement) _ fails
+
+pub no_processors : (may : Bool) (request : Request) (file : List ℕ) (dump : Contents) (failure : Failure) → contents_as (format_for request file) file request.placement ≡ Ok dump
+    → FailsBy false failure (processors_for request dump) → FailsBy may failure (machine_for request file)
+unfolding machine_for
+no_processors may request file dump failure contents fails =
+    subst (λ found. FailsBy {A = Machine} may failure (and_then (of_dump found) (λ dump. and_then (processors_for request dump) (λ ps. Ok (record { dump = dump; processors = ps }))))) (sym contents)
+    (fails_then may failure (processors_for request dump) (λ ps. Ok (record { dump = dump; processors = ps })) fails)
+
 -- a run that opened what was asked for reports on it, or fails because of memory or a write
 pub runs_by : (may : Bool) (request : Request) (file : List ℕ) (before after : Option (List ℕ)) (o : Opened) (result : Result Outcome Failure) → opened_for request file ≡ Ok o
     → IfOk result (λ outcome. ReportsOf request before after outcome o) → IfErr result (IsForced may) → RunsOnTables may request file before after result
 runs_by may request file before after o (Ok outcome) opened reports forced = (o, opened, reports)
 runs_by may request file before after o (Err failure) opened reports forced = (forced_fails may failure (opened_for request file) forced, inl forced)
+
+-- likewise for the processors of a dump
+pub runs_on_all : (may : Bool) (request : Request) (file : List ℕ) (before after : Option (List ℕ)) (m : Machine) (result : Result Outcome Failure) → machine_for request file ≡ Ok m
+    → IfOk result (ReportsAll request (words_of_dump m.dump) m.processors before after) → IfErr result (IsForced may) → RunsOnProcessors may request file before after result
+runs_on_all may request file before after m (Ok outcome) shown reports forced = (m, shown, reports)
+runs_on_all may request file before after m (Err failure) shown reports forced = (forced_fails may failure (machine_for request file) forced, inl forced)
 
 -- likewise if what was asked for is about the dump alone
 pub tells_of : (a b : Bool) (request : Request) (file : List ℕ) (before after : Option (List ℕ)) (dump : Contents) (result : Result Outcome Failure)
@@ -172,12 +202,14 @@ tells_of a b request file before after dump (Err failure) opened written complet
     (forced_fails (a || b) failure (dump_for request file) either, inl either)
 
 -- a run fails because of memory or a write, whatever was asked for
-pub forced_run : (info may : Bool) (request : Request) (file : List ℕ) (before after : Option (List ℕ)) (failure : Failure) → IsForced may failure → RunsAs info may request file before after (Err failure)
-forced_run true may request file before after failure forced = (forced_fails may failure (dump_for request file) forced, inl forced)
-forced_run false may request file before after failure forced = (forced_fails may failure (opened_for request file) forced, inl forced)
+pub forced_run : (info all may : Bool) (request : Request) (file : List ℕ) (before after : Option (List ℕ)) (failure : Failure) → IsForced may failure → RunsAs info all may request file before after (Err failure)
+forced_run true all may request file before after failure forced = (forced_fails may failure (dump_for request file) forced, inl forced)
+forced_run false true may request file before after failure forced = (forced_fails may failure (machine_for request file) forced, inl forced)
+forced_run false false may request file before after failure forced = (forced_fails may failure (opened_for request file) forced, inl forced)
 
 -- or because the file is no dump
-pub unopened : (info may : Bool) (request : Request) (file : List ℕ) (contents : Option (List ℕ)) (error : DumpError) → Fails error (contents_as (format_for request file) file request.placement)
-    → RunsAs info may request file contents contents (Err (failure_of error))
-unopened true may request file contents error fails = (dump_unread may error (contents_as (format_for request file) file request.placement) fails, inr refl)
-unopened false may request file contents error fails = (no_dump may request file error fails, inr refl)
+pub unopened : (info all may : Bool) (request : Request) (file : List ℕ) (contents : Option (List ℕ)) (error : DumpError) → Fails error (contents_as (format_for request file) file request.placement)
+    → RunsAs info all may request file contents contents (Err (failure_of error))
+unopened true all may request file contents error fails = (dump_unread may error (contents_as (format_for request file) file request.placement) fails, inr refl)
+unopened false true may request file contents error fails = (shows_none may request file error fails, inr refl)
+unopened false false may request file contents error fails = (no_dump may request file error fails, inr refl)

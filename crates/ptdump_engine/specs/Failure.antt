@@ -11,6 +11,7 @@ abbrev pub status_of : Failure → ℕ
 status_of failures.NoCr3 = 2
 status_of failures.VirtualBox = 2
 status_of (failures.NoProcessor cpu count) = 2
+status_of failures.NoProcessors = 2
 status_of (failures.WrongMode cpu mode) = 2
 status_of (failures.NotCanonical address levels) = 2
 status_of (failures.NotPhysical address) = 2

@@ -3,7 +3,7 @@ use Rattle.std.specs.Prelude.{ℕ, ◌++◌, List, Option, None, Some, codes, de
 use Rattle.x86_64_dump.specs.FaultTexts.{fault_text}
 use Rattle.x86_64_mappings.specs.Numbers.{hexadecimal}
 use Rattle.ptdump_engine.specs.declared.failure.Failure.{Failure}
-use Rattle.ptdump_engine.specs.declared.failure.Failure.TheVariants.{NoCr3, VirtualBox, NoProcessor, WrongMode, NoRoot, Dump}
+use Rattle.ptdump_engine.specs.declared.failure.Failure.TheVariants.{NoCr3, VirtualBox, NoProcessor, NoProcessors, WrongMode, NoRoot, Dump}
 use Rattle.ptdump_engine.specs.declared.mode.Mode.{Mode}
 use Rattle.ptdump_engine.specs.declared.mode.Mode.TheVariants.{NoPaging, Paging32, Paging64}
 
@@ -26,6 +26,7 @@ abbrev pub failure_text : Failure → Option (List ℕ)
 failure_text NoCr3 = Some (codes "no CR3 in the file: give --cr3, as QEMU's `info registers` prints it")
 failure_text VirtualBox = Some (codes "the file is a core of VirtualBox, of which no CR3 is read: give --cr3")
 failure_text (NoProcessor cpu count) = Some (no_processor_text cpu count)
+failure_text NoProcessors = Some (codes "no notes of processors in the file, which --all-cpus needs: leave it out, and give --cr3 if it is needed")
 failure_text (WrongMode cpu mode) = Some (wrong_mode_text cpu mode)
 failure_text (NoRoot root) = Some (codes "the root's table " ++ hexadecimal root
     ++ codes " is not in the dump: give another --cr3, or --base or --range for a raw file")

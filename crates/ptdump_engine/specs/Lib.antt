@@ -10,6 +10,7 @@ pub mod Loaded
 pub mod MemoryRanges
 pub mod Names
 pub mod Output
+pub mod Processors
 pub mod Program
 pub mod Reports
 pub mod Selections

@@ -1,11 +1,12 @@
 -- The output of the program for a file, or why it fails.
-use Rattle.std.specs.Prelude.{◌≡◌, ◌⊎◌, ℕ, ◌-◌, ◌^◌, ◌==◌, ◌++◌, codes, length, ◌&&◌, ◌||◌, nat_le, nat_lt, not, true, false, Bool, if◌then◌else◌, List, [], Option, None, Some, IfSome, is_some, option_map, unwrap_or, Result, Ok, Err, ⊤}
-use Rattle.std.specs.List.{find, flat_map}
+use Rattle.std.specs.Prelude.{◌≡◌, ◌⊎◌, ℕ, ◌-◌, ◌^◌, ◌==◌, ◌++◌, codes, length, ◌&&◌, ◌||◌, nat_le, nat_lt, not, true, false, Bool, if◌then◌else◌, List, [], ◌∷◌, Option, None, Some, IfSome, is_some, option_map, unwrap_or, Result, Ok, Err, ⊤}
+use Rattle.std.specs.List.{find, flat_map, list_all}
 use Rattle.std.specs.Option.{option_or}
 use Rattle.std.specs.Io.KnownBytes.{Appends}
 use Rattle.x86_64_dump.specs.Dump.{Contents, is_short, words_of_dump}
 use Rattle.x86_64_dump.specs.Loaded.{IsTableCount, up_to}
 use Rattle.x86_64_dump.specs.Formats.{format_of, is_raw}
+use Rattle.x86_64_dump.specs.Notes.{processors_of}
 use Rattle.x86_64_dump.specs.Opening.{contents_as}
 use Rattle.x86_64_dump.specs.declared.formats.Format.{Format}
 use Rattle.x86_64_dump.specs.declared.formats.Format.TheVariants.{Raw}
@@ -16,9 +17,10 @@ use Rattle.x86_64_model.specs.Position.{lower_half}
 use Rattle.ptdump_engine.specs.Findings.{check_text, finds_nothing}
 use Rattle.ptdump_engine.specs.Info.{info_text}
 pub use Rattle.ptdump_engine.specs.MemoryRanges.{last_address}
+use Rattle.ptdump_engine.specs.Processors.{cpus_with, firsts_of, heading_text, left_out_text, modes_failure, processors_from}
 use Rattle.ptdump_engine.specs.Reports.{regions_text, pages_text, walks_text, find_text, all_arrive, all_found}
 use Rattle.ptdump_engine.specs.Start.{start_of}
-use Rattle.ptdump_engine.specs.Steps.{FailsBy, IsForced, and_then, of_dump, unless}
+use Rattle.ptdump_engine.specs.Steps.{FailsBy, InTurn, IsForced, and_then, of_dump, unless}
 use Rattle.ptdump_engine.specs.Totals.{AreTotals, totals_text}
 use Rattle.ptdump_engine.specs.Walks.{line}
 use Rattle.ptdump_engine.specs.declared.failure.Failure.{Failure}
@@ -27,6 +29,7 @@ use Rattle.ptdump_engine.specs.declared.request.Command.{Command}
 use Rattle.ptdump_engine.specs.declared.request.Command.TheVariants as commands
 use Rattle.x86_64_addr.specs.declared.level_count.Levels.{Levels}
 use Rattle.x86_64_addr.specs.declared.level_count.Levels.TheVariants.{Four, Five}
+use Rattle.ptdump_engine.specs.declared.processors.Processor.{Processor}
 use Rattle.ptdump_engine.specs.declared.request.Form.{Form}
 use Rattle.ptdump_engine.specs.declared.request.Outcome.{Outcome}
 use Rattle.ptdump_engine.specs.declared.request.Request.{Request}
@@ -112,6 +115,42 @@ unfoldable pub opened_for : Request → (file : List ℕ) → Result Opened Fail
 opened_for request file = and_then (dump_for request file) (λ dump.
     and_then (start_for request dump) (λ start. Ok (record { dump = dump; start = start })))
 
+-- ---- all processors
+
+-- whether the report can be made of each root that the processors have
+abbrev pub has_roots : Command → Bool
+has_roots (commands.Regions selection) = true
+has_roots (commands.Check checking) = true
+has_roots command = false
+
+abbrev pub is_of_processors : Request → Bool
+is_of_processors request = request.all_cpus && has_roots request.command
+
+-- why the tables of a processor can't be reported on
+abbrev pub tables_failure : Request → Words → Processor → Option Failure
+tables_failure request T p = option_or (argument_failure p.start.levels request.command) (root_failure request.command T p.start.root)
+
+-- the first of these failures
+abbrev pub first_failure : Request → Words → List Processor → Option Failure
+first_failure request T [] = None
+first_failure request T (p ∷ ps) = option_or (tables_failure request T p) (first_failure request T ps)
+
+-- the processors of a dump, after the tests of the request
+unfoldable pub processors_for : Request → Contents → Result (List Processor) Failure
+processors_for request dump = and_then (processors_from dump.file request.levels 0 (processors_of dump)) (λ ps.
+    and_then (unless (modes_failure ps) ps) (λ tested.
+    unless (first_failure request (words_of_dump dump) (firsts_of ps)) ps))
+
+-- the contents of a dump, and its processors
+pub record Machine : Type 0 where
+  pub dump : Contents
+  pub processors : List Processor
+
+-- the machine that a file shows, or why the request or the file can't be used
+unfoldable pub machine_for : Request → (file : List ℕ) → Result Machine Failure
+machine_for request file = and_then (dump_for request file) (λ dump.
+    and_then (processors_for request dump) (λ ps. Ok (record { dump = dump; processors = ps })))
+
 -- ---- the output
 
 -- the report of a command in a form, or None if it isn't specified here
@@ -149,6 +188,34 @@ abbrev pub RunsOnTables : (may_refuse : Bool) → Request → (file : List ℕ) 
 RunsOnTables may request file before after (Ok outcome) = (o : Opened) × (opened_for request file ≡ Ok o) × ReportsOf request before after outcome o
 RunsOnTables may request file before after (Err failure) = FailsBy may failure (opened_for request file) × (IsForced may failure ⊎ (after ≡ before))
 
+-- the report on the tables of a processor, below the numbers of those that have the same
+abbrev pub report_below : Request → Words → List Processor → Processor → List ℕ
+report_below request T ps p = heading_text request.form (cpus_with ps p) p.start.root
+    ++ unwrap_or (report_of request (level_count p.start.levels) T p.start.root) []
+
+-- the reports on all tables that processors have
+abbrev pub all_reports : Request → Words → List Processor → List ℕ
+all_reports request T ps = flat_map (report_below request T ps) (firsts_of ps)
+
+-- whether the request is fulfilled for the tables of a processor
+abbrev pub is_complete_for : Request → Words → Processor → Bool
+is_complete_for request T p = unwrap_or (completeness_of request.command (level_count p.start.levels) T p.start.root) true
+
+-- whether it is for all tables that processors have
+abbrev pub all_complete : Request → Words → List Processor → Bool
+all_complete request T ps = list_all (is_complete_for request T) (firsts_of ps)
+
+-- all reports were written, and the outcome is as specified
+pub record ReportsAll (request : Request) (T : Words) (ps : List Processor) (before after : Option (List ℕ)) (outcome : Outcome) : Type 0 where
+  pub text : Appends before after (all_reports request T ps)
+  pub complete : outcome.is_complete ≡ all_complete request T ps
+
+-- the result and the output of a run that reports on the tables of all processors, as `RunsOnTables` for one root
+abbrev pub RunsOnProcessors : (may_refuse : Bool) → Request → (file : List ℕ) → (before after : Option (List ℕ)) → Result Outcome Failure → Type 0
+RunsOnProcessors may request file before after (Ok outcome) =
+    (m : Machine) × (machine_for request file ≡ Ok m) × ReportsAll request (words_of_dump m.dump) m.processors before after outcome
+RunsOnProcessors may request file before after (Err failure) = FailsBy may failure (machine_for request file) × (IsForced may failure ⊎ (after ≡ before))
+
 -- what a dump says of its machine, and of the root that other commands take
 abbrev pub info_of : Request → Contents → List ℕ
 info_of request dump = info_text (unwrap_or request.cpu 0) dump (start_for request dump)
@@ -159,14 +226,15 @@ RunsOnDump may request file before after (Ok outcome) =
     (dump : Contents) × (dump_for request file ≡ Ok dump) × Appends before after (info_of request dump) × (outcome.is_complete ≡ true)
 RunsOnDump may request file before after (Err failure) = FailsBy may failure (dump_for request file) × (IsForced may failure ⊎ (after ≡ before))
 
--- either, for a command that is about the dump alone or isn't
-abbrev pub RunsAs : (info may_refuse : Bool) → Request → (file : List ℕ) → (before after : Option (List ℕ)) → Result Outcome Failure → Type 0
-RunsAs true = RunsOnDump
-RunsAs false = RunsOnTables
+-- one of these, for a command that is about the dump alone or isn't, and for all processors or one root
+abbrev pub RunsAs : (info all may_refuse : Bool) → Request → (file : List ℕ) → (before after : Option (List ℕ)) → Result Outcome Failure → Type 0
+RunsAs true all = RunsOnDump
+RunsAs false true = RunsOnProcessors
+RunsAs false false = RunsOnTables
 
 -- the result and the output of a run on a file
 abbrev pub Runs : (may_refuse : Bool) → Request → (file : List ℕ) → (before after : Option (List ℕ)) → Result Outcome Failure → Type 0
-Runs may request = RunsAs (is_info request.command) may request
+Runs may request = RunsAs (is_info request.command) (is_of_processors request) may request
 
 -- ---- standard error, and the progress
 
@@ -206,23 +274,39 @@ abbrev pub NotesOnTables : Request → (file : List ℕ) → (before after : Opt
 NotesOnTables request file before after = (o : Opened) × (between : Option (List ℕ)) × (opened_for request file ≡ Ok o) × Appends before between (opening_text o.dump ++ source_text o.start.origin)
     × EndsByTotals (level_count o.start.levels) (words_of_dump o.dump) o.start.root between after
 
+-- likewise for the tables of a processor
+abbrev pub EndsByTotalsOf : Words → Processor → (before after : Option (List ℕ)) → Type 0
+EndsByTotalsOf T p = EndsByTotals (level_count p.start.levels) T p.start.root
+
+-- standard error after a run on all processors: that the file is raw or short, which processors have no tables, and the totals
+abbrev pub NotesOnProcessors : Request → (file : List ℕ) → (before after : Option (List ℕ)) → Type 0
+NotesOnProcessors request file before after = (m : Machine) × (between : Option (List ℕ)) × (machine_for request file ≡ Ok m)
+    × Appends before between (opening_text m.dump ++ left_out_text m.processors) × InTurn (EndsByTotalsOf (words_of_dump m.dump)) (firsts_of m.processors) between after
+
 -- standard error after a run: for a command that is about the dump alone, that the file is raw or short
-abbrev pub NotesAs : (info : Bool) → Request → (file : List ℕ) → (before after : Option (List ℕ)) → Type 0
-NotesAs true request file before after = (dump : Contents) × (dump_for request file ≡ Ok dump) × Appends before after (opening_text dump)
-NotesAs false request file before after = NotesOnTables request file before after
+abbrev pub NotesAs : (info all : Bool) → Request → (file : List ℕ) → (before after : Option (List ℕ)) → Type 0
+NotesAs true all request file before after = (dump : Contents) × (dump_for request file ≡ Ok dump) × Appends before after (opening_text dump)
+NotesAs false true request file before after = NotesOnProcessors request file before after
+NotesAs false false request file before after = NotesOnTables request file before after
 
 abbrev pub Notes : Request → (file : List ℕ) → (before after : Option (List ℕ)) → Type 0
-Notes request = NotesAs (is_info request.command) request
+Notes request = NotesAs (is_info request.command) (is_of_processors request) request
 
 -- the observer was told of each table that the root leads to, and of the end
 abbrev pub ToldOfTables : {G : Type 0} (Told : G → G → List ℕ → Type 0) (Ended : G → G → Type 0) → (L : ℕ) → Words → (root : ℕ) → (before after : G) → Type 0
 ToldOfTables {G} Told Ended L T root before after = (count : ℕ) × (between : G) × IsTableCount L T root count × Told before between (up_to count) × Ended between after
 
+-- likewise for the tables of a processor
+abbrev pub ToldOfTablesOf : {G : Type 0} (Told : G → G → List ℕ → Type 0) (Ended : G → G → Type 0) → Words → Processor → (before after : G) → Type 0
+ToldOfTablesOf Told Ended T p = ToldOfTables Told Ended (level_count p.start.levels) T p.start.root
+
 -- likewise for the tables of a run, of which there are none if the command is about the dump alone
-abbrev pub ToldAs : {G : Type 0} (info : Bool) (Told : G → G → List ℕ → Type 0) (Ended : G → G → Type 0) → Request → (file : List ℕ) → (before after : G) → Type 0
-ToldAs true Told Ended request file before after = after ≡ before
-ToldAs false Told Ended request file before after = (o : Opened) × (opened_for request file ≡ Ok o)
+abbrev pub ToldAs : {G : Type 0} (info all : Bool) (Told : G → G → List ℕ → Type 0) (Ended : G → G → Type 0) → Request → (file : List ℕ) → (before after : G) → Type 0
+ToldAs true all Told Ended request file before after = after ≡ before
+ToldAs false true Told Ended request file before after = (m : Machine) × (machine_for request file ≡ Ok m)
+    × InTurn (ToldOfTablesOf Told Ended (words_of_dump m.dump)) (firsts_of m.processors) before after
+ToldAs false false Told Ended request file before after = (o : Opened) × (opened_for request file ≡ Ok o)
     × ToldOfTables Told Ended (level_count o.start.levels) (words_of_dump o.dump) o.start.root before after
 
 abbrev pub ToldOfRun : {G : Type 0} (Told : G → G → List ℕ → Type 0) (Ended : G → G → Type 0) → Request → (file : List ℕ) → (before after : G) → Type 0
-ToldOfRun Told Ended request = ToldAs (is_info request.command) Told Ended request
+ToldOfRun Told Ended request = ToldAs (is_info request.command) (is_of_processors request) Told Ended request

@@ -1,5 +1,5 @@
 -- Steps: expected results, step by step, and calls that return them.
-use Rattle.std.specs.Prelude.{◌≡◌, Bool, true, false, Option, None, Some, Result, Ok, Err, ⊤}
+use Rattle.std.specs.Prelude.{◌≡◌, Bool, true, false, List, [], ◌∷◌, Option, None, Some, Result, Ok, Err, ⊤}
 use Rattle.x86_64_dump.specs.declared.error.Fault.{Fault}
 use Rattle.ptdump_engine.specs.declared.failure.Failure.{Failure}
 use Rattle.ptdump_engine.specs.declared.failure.Failure.TheVariants as failures
@@ -33,3 +33,13 @@ FailsBy may failure found = found ≡ Err failure
 abbrev pub Finds : {A : Type 0} → Result A Failure → Result A Failure → Type 0
 Finds (Ok a) found = found ≡ Ok a
 Finds (Err failure) found = FailsBy false failure found
+
+-- likewise of a result that is seen by `view`
+abbrev pub FindsAs : {A B : Type 0} → (view : A → B) → Result A Failure → Result B Failure → Type 0
+FindsAs view (Ok a) found = found ≡ Ok (view a)
+FindsAs view (Err failure) found = FailsBy false failure found
+
+-- one step after the other, one for each item
+abbrev pub InTurn : {X G : Type 0} (Step : X → G → G → Type 0) → List X → (before after : G) → Type 0
+InTurn Step [] before after = after ≡ before
+InTurn {G = G} Step (x ∷ xs) before after = (between : G) × Step x before between × InTurn Step xs between after

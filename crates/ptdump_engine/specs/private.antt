@@ -15,6 +15,7 @@ pub mod Passed
 pub mod Passing
 pub mod Puts
 pub mod Reported
+pub mod Roots
 pub mod Searched
 pub mod WalkLines
 pub mod Walked

@@ -25,6 +25,7 @@ use crate::output::{Output, OutputError};
 use crate::picture::write_picture;
 use crate::report::{write_found, write_pages, write_regions, write_walks};
 use crate::request::{Command, Levels, Outcome, Request};
+use crate::roots::{processors_for, report_on_processors};
 use crate::start::{Origin, Start, start_of};
 use crate::totals::Totals;
 use std::alloc::Global;
@@ -45,7 +46,8 @@ use x86_64_tables::phys_memory::IdentityMapping;
 /// # Errors
 ///
 /// A failure if the file isn't a dump, the start of page walks can't be determined, an address is invalid, or the root isn't in
-/// the dump, all before anything is written to `writer`. A walk reports a missing root itself. A failure if memory allocation,
+/// the dump, all before anything is written to `writer`; likewise for a root of one of the processors, if the report is on the roots
+/// of all. A walk reports a missing root itself. A failure if memory allocation,
 /// a read or a write fails.
 #[tactic(auto, using(crate::proofs::Wholly::forced_run, crate::proofs::Failing::forced_first, crate::proofs::Failing::forced_second))]
 pub fn run<S: ByteSource, W: Destination, E: Destination, G: Progress>(
@@ -68,6 +70,12 @@ pub fn run<S: ByteSource, W: Destination, E: Destination, G: Progress>(
     write_opening(&dump, &mut notes)?;
     if request.command.is_info() {
         return write_info(alloc, &dump, request, writer);
+    }
+    if request.is_of_processors() {
+        let processors = processors_for(alloc, &dump, request)?;
+        return report_on_processors(
+            alloc, &dump, &processors, request, writer, &mut notes, progress,
+        );
     }
     let start = start_for(alloc, &dump, request)?;
     write_source(start.origin, &mut notes)?;
@@ -117,7 +125,11 @@ pub fn start_for<S: ByteSource>(
 }
 
 /// Reads the tables at the start of page walks, and writes a command's report on them, and the totals.
-fn report_from<S: ByteSource, W: Destination, E: Destination, G: Progress>(
+///
+/// # Errors
+///
+/// A failure if memory allocation, a read or a write fails.
+pub fn report_from<S: ByteSource, W: Destination, E: Destination, G: Progress>(
     alloc: Global,
     dump: &Dump<S>,
     start: &Start,
@@ -133,6 +145,7 @@ fn report_from<S: ByteSource, W: Destination, E: Destination, G: Progress>(
         (notes.new.writer.ghost_name ≡ notes.old.writer.ghost_name)
         × program.EndsByTotals (program.level_count start.now.levels) (words_of_dump (opened S.bytes dump.now))
         start.now.root (put_in E.contents notes.old) (E.contents notes.new.writer.now)) }
+    ensures noted { OnOk result (string_bytes notes.new.text ≡ []) }
     ensures told { S.IsKnown → OnOk result (program.ToldOfTables G.Told G.Ended
         (program.level_count start.now.levels) (words_of_dump (opened S.bytes dump.now)) start.now.root
         progress.old progress.new) }
@@ -166,6 +179,7 @@ fn report<L: LevelCount, S: ByteSource, W: Destination, E: Destination, G: Progr
         (notes.new.writer.ghost_name ≡ notes.old.writer.ghost_name)
         × program.EndsByTotals L.LEVELS (words_of_dump (opened S.bytes dump.now)) root
         (put_in E.contents notes.old) (E.contents notes.new.writer.now)) }
+    ensures noted { OnOk result (string_bytes notes.new.text ≡ []) }
     ensures told { S.IsKnown → OnOk result (program.ToldOfTables G.Told G.Ended L.LEVELS
         (words_of_dump (opened S.bytes dump.now)) root progress.old progress.new) }
     ensures errors { S.IsKnown → IfErr result (IsForced (W.may_refuse || E.may_refuse)) }

@@ -7,7 +7,7 @@ use crate::destination::Destination;
 use crate::mode::Mode;
 use crate::output::OutputError;
 use crate::request::Levels;
-use std::alloc::AllocError;
+use std::alloc::{AllocError, AllocFailed};
 use std::error::Error;
 use std::fmt::{Display, Formatter, Result as FmtResult, Write};
 use std::io;
@@ -27,6 +27,8 @@ pub enum Failure {
         /// The number of notes of processors.
         count: usize,
     },
+    /// The roots of all processors are requested, and the file has no note of a processor.
+    NoProcessors,
     /// The CR3 of a processor is needed that isn't in 64-bit paging.
     WrongMode {
         /// The processor.
@@ -81,6 +83,7 @@ impl Failure {
             Failure::NoCr3
             | Failure::VirtualBox
             | Failure::NoProcessor { .. }
+            | Failure::NoProcessors
             | Failure::WrongMode { .. }
             | Failure::NotCanonical { .. }
             | Failure::NotPhysical { .. }
@@ -106,6 +109,7 @@ impl Failure {
             Failure::NoCr3
                 | Failure::VirtualBox
                 | Failure::NoProcessor { .. }
+                | Failure::NoProcessors
                 | Failure::WrongMode { .. }
                 | Failure::NoRoot { .. }
                 | Failure::Dump(Fault::NoteCut { .. } | Fault::VmCoreInfo(_))
@@ -127,6 +131,9 @@ impl Display for Failure {
                 "the file is a core of VirtualBox, of which no CR3 is read: give --cr3",
             ),
             Failure::NoProcessor { cpu, count } => write_no_processor(f, *cpu, *count),
+            Failure::NoProcessors => f.write_str(
+                "no notes of processors in the file, which --all-cpus needs: leave it out, and give --cr3 if it is needed",
+            ),
             Failure::WrongMode { cpu, mode } => write_wrong_mode(f, *cpu, *mode),
             Failure::NotCanonical { address, levels } => write_not_canonical(f, *address, *levels),
             Failure::NotPhysical { address } => write!(
@@ -190,6 +197,16 @@ impl From<AllocError> for Failure {
     ghost from_gives = { λ _ failure. failure ≡ OutOfMemory };
 
     fn from(_error: AllocError) -> Failure {
+        Failure::OutOfMemory
+    }
+}
+
+impl<T: Drop> From<AllocFailed<T>> for Failure {
+    ghost use Rattle.ptdump_engine.specs.declared.failure.Failure.TheVariants.{OutOfMemory};
+
+    ghost from_gives = { λ _ failure. failure ≡ OutOfMemory };
+
+    fn from(_error: AllocFailed<T>) -> Failure {
         Failure::OutOfMemory
     }
 }

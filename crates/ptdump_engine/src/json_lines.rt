@@ -6,10 +6,12 @@ ghost use Rattle.serde_json.specs.Written.{has_float};
 ghost use Rattle.x86_64_mappings.specs.Numbers.{hexadecimal as digits_of};
 ghost use Rattle.ptdump_engine.specs.Json.{json_line};
 
+mod group;
 mod listed;
 mod walks;
 
 use crate::lines::Lines;
+pub use group::ProcessorGroup;
 pub use listed::{Found, write_json_pages, write_json_regions};
 use serde_json::Value;
 use std::alloc::{AllocError, Global};

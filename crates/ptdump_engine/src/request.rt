@@ -1,7 +1,7 @@
 //! The request to a run, and its outcome.
 
 ghost use Rattle.std.specs.Prelude.{◌≡◌};
-ghost use Rattle.ptdump_engine.specs.Program.{is_info};
+ghost use Rattle.ptdump_engine.specs.Program.{has_roots, is_info, is_of_processors};
 
 use x86_64_access::{Access, Controls};
 pub use x86_64_addr::level_count::Levels;
@@ -84,6 +84,13 @@ impl Command {
     {
         matches!(self, Command::Info)
     }
+
+    /// Returns true if the report can be made of each root that processors have.
+    fn has_roots(&self) -> bool
+        ensures { result ≡ has_roots self.now }
+    {
+        matches!(self, Command::Regions(_) | Command::Check(_))
+    }
 }
 
 /// The form of a report.
@@ -113,6 +120,18 @@ pub struct Request {
     pub is_raw: bool,
     /// The processor whose note is read, counted from 0 in the order of the notes. If `None`, it is the first one.
     pub cpu: Option<u64>,
+    /// Whether a report of regions or a check is made of each root that the processors have by their notes, and not of one root.
+    /// Then `cr3` and `cpu` don't count.
+    pub all_cpus: bool,
+}
+
+impl Request {
+    /// Returns true if a report is requested on each root that the processors have.
+    pub fn is_of_processors(&self) -> bool
+        ensures { result ≡ is_of_processors self.now }
+    {
+        self.all_cpus && self.command.has_roots()
+    }
 }
 
 /// The outcome of a run that wrote its report.

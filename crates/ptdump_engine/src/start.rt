@@ -87,7 +87,7 @@ fn start_with<S: ByteSource>(
 }
 
 /// Returns the start at the root of a CR3.
-fn start_at(origin: Origin, cr3: u64, levels: Levels) -> Start
+pub fn start_at(origin: Origin, cr3: u64, levels: Levels) -> Start
     ensures { Ok result ≡ starts.start_at origin cr3 (Ok levels) }
 {
     Start {

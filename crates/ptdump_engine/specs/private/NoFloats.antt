@@ -5,7 +5,8 @@ use Rattle.serde_json.specs.Written.{has_float, items_have_float}
 use Rattle.x86_64_access.specs.Accesses.{outcome_of}
 use Rattle.x86_64_access.specs.declared.request.Access.{Access}
 use Rattle.x86_64_model.specs.Access.{Outcome, Arrives, Faults, NoMemory}
-use Rattle.ptdump_engine.specs.Json.{json_of_access, json_of_word}
+use Rattle.ptdump_engine.specs.Json.{count, json_of_access, json_of_word}
+use Rattle.ptdump_engine.specs.Processors.{json_of_group}
 use Rattle.ptdump_engine.specs.private.Walked.{json_of_line, json_of_value}
 use Rattle.ptdump_engine.specs.declared.access_line.AccessLine.{AccessLine}
 use Rattle.ptdump_engine.specs.declared.walked.Walk.{Walk as WalkValue}
@@ -34,3 +35,11 @@ without address value = by value.end
 pub no_float_walk : (address : ℕ) (value : WalkValue) (access : Option AccessLine) → has_float (json_of_value address value (option_map json_of_line access)) ≡ false
 no_float_walk address value None = without address value
 no_float_walk address value (Some line) = rw (no_float_access line.access (outcome_of line.end)) (without address value)
+
+-- or of groups of processors
+numbers_have_none : (numbers : List ℕ) → items_have_float (items_of (map count numbers)) ≡ false
+numbers_have_none [] = refl
+numbers_have_none (n ∷ numbers) = numbers_have_none numbers
+
+pub no_float_group : (cpus : List ℕ) (root : ℕ) → has_float (json_of_group cpus root) ≡ false
+no_float_group cpus root = rw (numbers_have_none cpus) refl

@@ -72,6 +72,7 @@ impl Word {
             placement: Placement::Unstated,
             is_raw: false,
             cpu: None,
+            all_cpus: false,
         })
     }
 }

@@ -1,18 +1,22 @@
-use Rattle.std.proofs.Common.{rules, ◌≡◌, ◌∙◌, ◌||◌, ◌++◌, OnOk, true, false, inr, refl, sym, ap, subst, Err}
+use Rattle.std.proofs.Common.{rules, ◌≡◌, ◌∙◌, ◌||◌, ◌++◌, IfOk, OnOk, true, false, inr, refl, sym, ap, subst, Err}
+use Rattle.std.proofs.KnownBytes.{Appends-trans}
+use Rattle.x86_64_dump.specs.Dump.{words_of_dump}
 use Rattle.x86_64_dump.specs.Opened.{opened}
 use Rattle.ptdump_engine.specs.Failure.{failure_of}
-use Rattle.ptdump_engine.specs.Program.{Notes, NotesAs, NotesOnTables, RunsAs, ToldAs, is_info, opening_text, source_text}
-use Rattle.ptdump_engine.specs.Steps.{of_dump}
+use Rattle.ptdump_engine.specs.Program.{Machine, Notes, NotesAs, NotesOnTables, ReportsAll, RunsAs, ToldAs, ToldOfTablesOf, is_info, is_of_processors, opening_text, source_text}
+use Rattle.ptdump_engine.specs.Processors.{firsts_of}
+use Rattle.ptdump_engine.specs.Steps.{InTurn, of_dump}
 use Rattle.std.specs.Io.KnownBytes.{Appends}
 use Rattle.ptdump_engine.specs.Output.{put_in}
+use Rattle.ptdump_engine.specs.private.Roots.{AreNoted}
 use Rattle.ptdump_engine.proofs.Results.{on_ok}
-use Rattle.ptdump_engine.proofs.Wholly.{no_start, opens, put_first, puts_both, runs_by, tells_of, unopened, written_at_once}
+use Rattle.ptdump_engine.proofs.Wholly.{no_processors, no_start, opens, put_first, puts_both, runs_by, runs_on_all, shows, tells_of, unopened, written_at_once}
 use Rattle.ptdump_engine.proofs.engine.run.Goals as goal
 
 pub returns-in_err-dump-clause-run : goal.returns-in_err-dump-clause-run
 returns-in_err-dump-clause-run g c = λ known.
     let is : c.from_residual.result ≡ Err (failure_of c.in_err-dump.field-0.0) = search rules in
-    rw is (unopened (is_info c.args.request.now.command) (g.W.Destination.may_refuse || g.E.Destination.may_refuse) c.args.request.now (g.S.ByteSource.bytes c.args.source)
+    rw is (unopened (is_info c.args.request.now.command) (is_of_processors c.args.request.now) (g.W.Destination.may_refuse || g.E.Destination.may_refuse) c.args.request.now (g.S.ByteSource.bytes c.args.source)
     (g.W.Destination.contents c.args.writer.now) c.in_err-dump.field-0.0 (c.in_err-dump.ensures known))
 
 -- ---- a command that is about the dump alone
@@ -25,7 +29,7 @@ returns-then-is_info-clause-run g c = λ known.
     let a = g.W.Destination.may_refuse in
     let b = g.E.Destination.may_refuse in
     let is : is_info request.command ≡ true = sym c.is_info.ensures ∙ c.if-is_info.true in
-    subst (λ info. RunsAs info (a || b) request file (contents c.args.writer.now) (contents c.write_info.new.writer) c.write_info.result) (sym is)
+    subst (λ info. RunsAs info (is_of_processors request) (a || b) request file (contents c.args.writer.now) (contents c.write_info.new.writer) c.write_info.result) (sym is)
     (tells_of a b request file (contents c.args.writer.now) (contents c.write_info.new.writer) (opened g.S.ByteSource.bytes c.in_ok-dump.dump) c.write_info.result
     (ap of_dump (c.in_ok-dump.ensures known)) (c.write_info.ensures.written known) c.write_info.ensures.complete (c.write_info.ensures.errors known))
 
@@ -42,15 +46,90 @@ returns-then-is_info-clause-notes g c = λ known.
     subst (λ e. Appends (contents e) (contents ended.writer.now) (opening_text dump)) c.new-notes.ensures.now told in
     let same = (c.in_ok-write_opening.ensures.text known).writer in
     let noted : Notes request file (contents c.args.errors.now) (contents ended.writer.now) =
-    subst (λ info. NotesAs info request file (contents c.args.errors.now) (contents ended.writer.now)) (sym is) (dump, ap of_dump (c.in_ok-dump.ensures known), begun) in
+    subst (λ info. NotesAs info (is_of_processors request) request file (contents c.args.errors.now) (contents ended.writer.now)) (sym is) (dump, ap of_dump (c.in_ok-dump.ensures known), begun) in
     search (rules, noted)
 
 pub returns-then-is_info-clause-told : goal.returns-then-is_info-clause-told
 returns-then-is_info-clause-told g c = λ known.
     let request = c.args.request.now in
     let is : is_info request.command ≡ true = sym c.is_info.ensures ∙ c.if-is_info.true in
-    subst (λ info. OnOk c.write_info.result (ToldAs info g.G.Progress.Told g.G.Progress.Ended request (g.S.ByteSource.bytes c.args.source) c.args.progress.now c.args.progress.now)) (sym is)
+    subst (λ info. OnOk c.write_info.result (ToldAs info (is_of_processors request) g.G.Progress.Told g.G.Progress.Ended request (g.S.ByteSource.bytes c.args.source) c.args.progress.now c.args.progress.now)) (sym is)
     (search rules)
+
+-- ---- a command on the tables of all processors
+
+pub returns-in_err-processors-clause-run : goal.returns-in_err-processors-clause-run
+returns-in_err-processors-clause-run g c = λ known.
+    let request = c.args.request.now in
+    let file = g.S.ByteSource.bytes c.args.source in
+    let may = g.W.Destination.may_refuse || g.E.Destination.may_refuse in
+    let contents = g.W.Destination.contents in
+    let not : is_info request.command ≡ false = sym c.is_info.ensures ∙ c.if-is_info.false in
+    let all : is_of_processors request ≡ true = sym c.is_of_processors.ensures ∙ c.if-is_of_processors.true in
+    let is : c.from_residual-in_err-processors.result ≡ Err c.in_err-processors.field-0.0 = search rules in
+    subst (λ info. RunsAs info (is_of_processors request) may request file (contents c.args.writer.now) (contents c.args.writer.now) c.from_residual-in_err-processors.result) (sym not)
+    (subst (λ all. RunsAs false all may request file (contents c.args.writer.now) (contents c.args.writer.now) c.from_residual-in_err-processors.result) (sym all)
+    (rw is (
+      no_processors may request file (opened g.S.ByteSource.bytes c.in_ok-dump.dump) c.in_err-processors.field-0.0 (c.in_ok-dump.ensures known) (c.in_err-processors.ensures known),
+      inr refl,
+    )))
+
+pub returns-then-is_of_processors-clause-run : goal.returns-then-is_of_processors-clause-run
+returns-then-is_of_processors-clause-run g c = λ known.
+    let request = c.args.request.now in
+    let file = g.S.ByteSource.bytes c.args.source in
+    let may = g.W.Destination.may_refuse || g.E.Destination.may_refuse in
+    let contents = g.W.Destination.contents in
+    let m : Machine = record { dump = opened g.S.ByteSource.bytes c.in_ok-dump.dump; processors = c.in_ok-processors.processors.items } in
+    let not : is_info request.command ≡ false = sym c.is_info.ensures ∙ c.if-is_info.false in
+    let all : is_of_processors request ≡ true = sym c.is_of_processors.ensures ∙ c.if-is_of_processors.true in
+    subst (λ info. RunsAs info (is_of_processors request) may request file (contents c.args.writer.now) (contents c.report_on_processors.new.writer) c.report_on_processors.result) (sym not)
+    (subst (λ all. RunsAs false all may request file (contents c.args.writer.now) (contents c.report_on_processors.new.writer) c.report_on_processors.result) (sym all)
+    (runs_on_all may request file (contents c.args.writer.now) (contents c.report_on_processors.new.writer) m c.report_on_processors.result
+    (shows request file m.dump m.processors (c.in_ok-dump.ensures known) (c.in_ok-processors.ensures known))
+    (subst (λ ps. IfOk c.report_on_processors.result (ReportsAll request (words_of_dump m.dump) ps (contents c.args.writer.now) (contents c.report_on_processors.new.writer)))
+    c.deref.ensures.value (c.report_on_processors.ensures.written known))
+    (c.report_on_processors.ensures.errors known)))
+
+pub returns-then-is_of_processors-clause-notes : goal.returns-then-is_of_processors-clause-notes
+returns-then-is_of_processors-clause-notes g c = λ known.
+    let request = c.args.request.now in
+    let file = g.S.ByteSource.bytes c.args.source in
+    let contents = g.E.Destination.contents in
+    let m : Machine = record { dump = opened g.S.ByteSource.bytes c.in_ok-dump.dump; processors = c.in_ok-processors.processors.items } in
+    let not : is_info request.command ≡ false = sym c.is_info.ensures ∙ c.if-is_info.false in
+    let all : is_of_processors request ≡ true = sym c.is_of_processors.ensures ∙ c.if-is_of_processors.true in
+    let now = c.write_opening.new.notes in
+    let ended = c.report_on_processors.new.notes in
+    let told = written_at_once contents c.new-notes.result now (opening_text m.dump) c.new-notes.ensures.empty (c.in_ok-write_opening.ensures.all c.new-notes.ensures.empty) (c.in_ok-write_opening.ensures.text known) in
+    let begun : Appends (contents c.args.errors.now) (contents now.writer.now) (opening_text m.dump) =
+    subst (λ e. Appends (contents e) (contents now.writer.now) (opening_text m.dump)) c.new-notes.ensures.now told in
+    on_ok c.report_on_processors.result (λ noted not_image.
+        let (name, between, left_out, totals) = noted in
+        let same = (c.in_ok-write_opening.ensures.text known).writer in
+        let noted : Notes request file (contents c.args.errors.now) (contents ended.writer.now) =
+        subst (λ info. NotesAs info (is_of_processors request) request file (contents c.args.errors.now) (contents ended.writer.now)) (sym not)
+        (subst (λ all. NotesAs false all request file (contents c.args.errors.now) (contents ended.writer.now)) (sym all)
+        (m, between, shows request file m.dump m.processors (c.in_ok-dump.ensures known) (c.in_ok-processors.ensures known), Appends-trans _ _ _ _ _ begun left_out, totals)) in
+        search (rules, noted))
+    (subst (λ ps. OnOk c.report_on_processors.result (AreNoted g.E.Destination.contents (words_of_dump m.dump) ps now ended)) c.deref.ensures.value (c.report_on_processors.ensures.notes known))
+
+pub returns-then-is_of_processors-clause-told : goal.returns-then-is_of_processors-clause-told
+returns-then-is_of_processors-clause-told g c = λ known.
+    let request = c.args.request.now in
+    let file = g.S.ByteSource.bytes c.args.source in
+    let m : Machine = record { dump = opened g.S.ByteSource.bytes c.in_ok-dump.dump; processors = c.in_ok-processors.processors.items } in
+    let Told = g.G.Progress.Told in
+    let Ended = g.G.Progress.Ended in
+    let before = c.args.progress.now in
+    let after = c.report_on_processors.new.progress in
+    let not : is_info request.command ≡ false = sym c.is_info.ensures ∙ c.if-is_info.false in
+    let all : is_of_processors request ≡ true = sym c.is_of_processors.ensures ∙ c.if-is_of_processors.true in
+    subst (λ info. OnOk c.report_on_processors.result (ToldAs info (is_of_processors request) Told Ended request file before after)) (sym not)
+    (subst (λ all. OnOk c.report_on_processors.result (ToldAs false all Told Ended request file before after)) (sym all)
+    (on_ok c.report_on_processors.result (λ told. (m, shows request file m.dump m.processors (c.in_ok-dump.ensures known) (c.in_ok-processors.ensures known), told))
+    (subst (λ ps. OnOk c.report_on_processors.result (InTurn (ToldOfTablesOf Told Ended (words_of_dump m.dump)) (firsts_of ps) before after)) c.deref.ensures.value
+    (c.report_on_processors.ensures.told known))))
 
 -- ---- a command on tables
 
@@ -61,12 +140,14 @@ returns-in_err-start-clause-run g c = λ known.
     let may = g.W.Destination.may_refuse || g.E.Destination.may_refuse in
     let contents = g.W.Destination.contents in
     let not : is_info request.command ≡ false = sym c.is_info.ensures ∙ c.if-is_info.false in
+    let one : is_of_processors request ≡ false = sym c.is_of_processors.ensures ∙ c.if-is_of_processors.false in
     let is : c.from_residual-in_err-start.result ≡ Err c.in_err-start.field-0.0 = search rules in
-    subst (λ info. RunsAs info may request file (contents c.args.writer.now) (contents c.args.writer.now) c.from_residual-in_err-start.result) (sym not)
+    subst (λ info. RunsAs info (is_of_processors request) may request file (contents c.args.writer.now) (contents c.args.writer.now) c.from_residual-in_err-start.result) (sym not)
+    (subst (λ all. RunsAs false all may request file (contents c.args.writer.now) (contents c.args.writer.now) c.from_residual-in_err-start.result) (sym one)
     (rw is (
       no_start may request file (opened g.S.ByteSource.bytes c.in_ok-dump.dump) c.in_err-start.field-0.0 (c.in_ok-dump.ensures known) (c.in_err-start.ensures.start known),
       inr refl,
-    ))
+    )))
 
 pub returns-clause-run : goal.returns-clause-run
 returns-clause-run g c = λ known.
@@ -77,10 +158,12 @@ returns-clause-run g c = λ known.
     let may = g.W.Destination.may_refuse || g.E.Destination.may_refuse in
     let contents = g.W.Destination.contents in
     let not : is_info request.command ≡ false = sym c.is_info.ensures ∙ c.if-is_info.false in
-    subst (λ info. RunsAs info may request file (contents c.args.writer.now) (contents c.report_from.new.writer) c.report_from.result) (sym not)
+    let one : is_of_processors request ≡ false = sym c.is_of_processors.ensures ∙ c.if-is_of_processors.false in
+    subst (λ info. RunsAs info (is_of_processors request) may request file (contents c.args.writer.now) (contents c.report_from.new.writer) c.report_from.result) (sym not)
+    (subst (λ all. RunsAs false all may request file (contents c.args.writer.now) (contents c.report_from.new.writer) c.report_from.result) (sym one)
     (runs_by may request file (contents c.args.writer.now) (contents c.report_from.new.writer) (record { dump = dump; start = start }) c.report_from.result
     (opens request file dump start (c.in_ok-dump.ensures known) (c.in_ok-start.ensures.start known))
-    (c.report_from.ensures.written known) (c.report_from.ensures.errors known))
+    (c.report_from.ensures.written known) (c.report_from.ensures.errors known)))
 
 pub returns-clause-told : goal.returns-clause-told
 returns-clause-told g c = λ known.
@@ -89,9 +172,11 @@ returns-clause-told g c = λ known.
     let dump = opened g.S.ByteSource.bytes c.in_ok-dump.dump in
     let start = c.in_ok-start.start in
     let not : is_info request.command ≡ false = sym c.is_info.ensures ∙ c.if-is_info.false in
-    subst (λ info. OnOk c.report_from.result (ToldAs info g.G.Progress.Told g.G.Progress.Ended request file c.args.progress.now c.report_from.new.progress)) (sym not)
+    let one : is_of_processors request ≡ false = sym c.is_of_processors.ensures ∙ c.if-is_of_processors.false in
+    subst (λ info. OnOk c.report_from.result (ToldAs info (is_of_processors request) g.G.Progress.Told g.G.Progress.Ended request file c.args.progress.now c.report_from.new.progress)) (sym not)
+    (subst (λ all. OnOk c.report_from.result (ToldAs false all g.G.Progress.Told g.G.Progress.Ended request file c.args.progress.now c.report_from.new.progress)) (sym one)
     (on_ok c.report_from.result (λ told. (record { dump = dump; start = start }, opens request file dump start (c.in_ok-dump.ensures known) (c.in_ok-start.ensures.start known), told))
-    (c.report_from.ensures.told known))
+    (c.report_from.ensures.told known)))
 
 pub returns-clause-notes : goal.returns-clause-notes
 returns-clause-notes g c = λ known.
@@ -101,6 +186,7 @@ returns-clause-notes g c = λ known.
     let start = c.in_ok-start.start in
     let contents = g.E.Destination.contents in
     let not : is_info request.command ≡ false = sym c.is_info.ensures ∙ c.if-is_info.false in
+    let one : is_of_processors request ≡ false = sym c.is_of_processors.ensures ∙ c.if-is_of_processors.false in
     let text = opening_text dump ++ source_text start.origin in
     let both = puts_both contents c.new-notes.result c.write_opening.new.notes c.write_source.new.notes (opening_text dump) (source_text start.origin) (c.in_ok-write_opening.ensures.text known) c.in_ok-write_source.ensures in
     let told = put_first contents c.new-notes.result c.write_source.new.notes text c.new-notes.ensures.empty both in
@@ -115,6 +201,7 @@ returns-clause-notes g c = λ known.
       ends.1,
     ) in
     let noted : Notes request file (contents c.args.errors.now) (contents c.report_from.new.notes.writer.now) =
-    subst (λ info. NotesAs info request file (contents c.args.errors.now) (contents c.report_from.new.notes.writer.now)) (sym not) tables in
+    subst (λ info. NotesAs info (is_of_processors request) request file (contents c.args.errors.now) (contents c.report_from.new.notes.writer.now)) (sym not)
+    (subst (λ all. NotesAs false all request file (contents c.args.errors.now) (contents c.report_from.new.notes.writer.now)) (sym one) tables) in
     search (rules, noted))
     (c.report_from.ensures.totals known)

@@ -1,0 +1,39 @@
+use Rattle.std.proofs.Common.{◌≡◌, ◌∙◌, ◌&&◌, refl, sym, ap₂, subst}
+use Rattle.std.proofs.KnownBytes.{Appends-nil}
+use Rattle.std.proofs.lemmas.List.Folds.{list_all_more}
+use Rattle.x86_64_dump.specs.Dump.{words_of_dump}
+use Rattle.x86_64_dump.specs.Opened.{opened}
+use Rattle.ptdump_engine.specs.Program.{EndsByTotalsOf, ToldOfTablesOf, is_complete_for, report_below}
+use Rattle.ptdump_engine.proofs.Turns.{appends_more, turn_all, turn_more}
+use Rattle.ptdump_engine.proofs.roots.write_reports.Goals as goal
+
+pub loop-first-init : goal.loop-first-init
+loop-first-init g c = (c.requires.noted, λ known. (refl, Appends-nil _, refl, λ after all. all, λ after all. all))
+
+pub loop-first-preserved : goal.loop-first-preserved
+loop-first-preserved g c = (
+  c.in_ok-is.ensures.noted,
+  λ known.
+      let T = words_of_dump (opened g.S.ByteSource.bytes c.args.dump.now) in
+      let xs = c.args.firsts.now in
+      let i = c.loop-first.first-index in
+      let below = c.loop-first-test.true in
+      let (name, written, complete, totals, told) = c.loop-first.invariant.1 known in (
+        c.in_ok-is.ensures.name known ∙ name,
+        appends_more (report_below c.args.request.now T c.args.processors.now) _ _ _ xs i _ below written (c.in_ok-is.ensures.text known),
+        ap₂ (λ b d. b && d) complete (c.in_ok-is.ensures.complete known) ∙ sym (list_all_more (is_complete_for c.args.request.now T) xs i _ below),
+        turn_more (EndsByTotalsOf T) _ _ _ xs i _ below totals (c.in_ok-is.ensures.totals known),
+        turn_more (ToldOfTablesOf g.G.Progress.Told g.G.Progress.Ended T) _ _ _ xs i _ below told (c.in_ok-is.ensures.told known),
+      ),
+)
+
+pub returns-clause-totals : goal.returns-clause-totals
+returns-clause-totals g c = λ known.
+    let (name, written, complete, totals, told) = c.loop-first.invariant.1 known in
+    turn_all (EndsByTotalsOf (words_of_dump (opened g.S.ByteSource.bytes c.args.dump.now))) _ _ c.args.firsts.now c.loop-first.first-index c.loop-first-test.false totals
+
+pub returns-clause-told : goal.returns-clause-told
+returns-clause-told g c = λ known.
+    let (name, written, complete, totals, told) = c.loop-first.invariant.1 known in
+    turn_all (ToldOfTablesOf g.G.Progress.Told g.G.Progress.Ended (words_of_dump (opened g.S.ByteSource.bytes c.args.dump.now))) _ _ c.args.firsts.now c.loop-first.first-index
+    c.loop-first-test.false told

@@ -1,0 +1,180 @@
+//! The processors of a dump, and which of them have the same tables.
+ghost use Rattle.std.specs.Prelude.{◌≡◌, IfOk};
+ghost use Rattle.std.specs.List.{list_any};
+ghost use Rattle.x86_64_dump.specs.Notes.{processors_of};
+ghost use Rattle.x86_64_dump.specs.Opened.{opened};
+ghost use Rattle.ptdump_engine.specs.Processors as specs;
+ghost use Rattle.ptdump_engine.specs.Steps.{FindsAs};
+
+use crate::failure::Failure;
+use crate::mode::Mode;
+use crate::registers::Registers;
+use crate::request::Levels;
+use crate::start::{Origin, Start, levels_by, start_at};
+use std::alloc::{AllocError, Global};
+use x86_64_dump::{ByteSource, Dump, Note};
+
+/// A processor, by its note.
+#[derive(Clone, Copy)]
+pub struct Processor {
+    /// Its number, counted from 0 in the order of the notes.
+    pub cpu: usize,
+    /// Its mode of paging. It has tables only if that is 64-bit paging.
+    pub mode: Mode,
+    /// The start of its page walks, if it has tables.
+    pub start: Start,
+}
+
+impl Processor {
+    /// Returns a processor with some control registers. Levels that are given go before those that CR4 says.
+    fn new(cpu: usize, registers: Registers, given: Option<Levels>) -> Processor
+        ensures { result ≡ specs.processor_with given cpu registers }
+    {
+        let levels = given.unwrap_or(levels_by(registers.cr4));
+        Processor {
+            cpu,
+            mode: Mode::of(registers.cr0, registers.cr4),
+            start: start_at(Origin::ByProcessor, registers.cr3, levels),
+        }
+    }
+
+    /// Returns true if it is in 64-bit paging, and so has tables.
+    pub fn has_tables(&self) -> bool
+        ensures { result ≡ specs.has_tables self.now }
+    {
+        matches!(self.mode, Mode::Paging64)
+    }
+
+    /// Returns true if another processor has tables with the root and the number of levels of this one's.
+    fn shares(&self, other: &Processor) -> bool
+        ensures { result ≡ specs.shares self.now other.now }
+    {
+        other.has_tables()
+            && self.start.root == other.start.root
+            && same_levels(self.start.levels, other.start.levels)
+    }
+
+    /// Returns true if it has tables, and no processor before it has the same.
+    fn is_first(&self, processors: &[Processor]) -> bool
+        ensures { result ≡ specs.is_first processors.now self.now }
+    {
+        self.has_tables() && !self.is_later(processors)
+    }
+
+    /// Returns true if a processor before it has the same tables.
+    fn is_later(&self, processors: &[Processor]) -> bool
+        ensures { result ≡ specs.is_later processors.now self.now }
+    {
+        processors
+            .iter()
+            .any(|other| other.cpu < self.cpu && self.shares(other))
+    }
+}
+
+/// Returns true if both are the same number of levels.
+fn same_levels(one: Levels, other: Levels) -> bool
+    ensures { result ≡ specs.same_levels one other }
+{
+    matches!(
+        (one, other),
+        (Levels::Four, Levels::Four) | (Levels::Five, Levels::Five)
+    )
+}
+
+/// Reads the notes of the processors, in order. A number of levels that is given goes before those that CR4 says.
+///
+/// # Errors
+///
+/// `Failure::Dump` if a note is too short, `Failure::OutOfMemory` if memory allocation fails, `Failure::Read` if the dump can't be
+/// read.
+pub fn read_processors<S: ByteSource>(
+    alloc: Global,
+    dump: &Dump<S>,
+    given: Option<Levels>,
+) -> Result<Vec<Processor>, Failure>
+    ensures { S.IsKnown → FindsAs (λ processors. processors.items) result
+        (specs.processors_from (opened S.bytes dump.now).file given 0
+        (processors_of (opened S.bytes dump.now))) }
+{
+    let notes = dump.processors(alloc)?;
+    read_notes(alloc, dump, &notes, given)
+}
+
+/// Reads notes of processors, in order.
+fn read_notes<S: ByteSource>(
+    alloc: Global,
+    dump: &Dump<S>,
+    notes: &[Note],
+    given: Option<Levels>,
+) -> Result<Vec<Processor>, Failure>
+    ensures { S.IsKnown → FindsAs (λ processors. processors.items) result
+        (specs.processors_from (opened S.bytes dump.now).file given 0 notes.now) }
+{
+    let mut processors = Vec::new(alloc);
+    for (cpu, note) in notes.iter().enumerate() {
+        let registers = Registers::read(dump, note)?;
+        processors.push(Processor::new(cpu, registers, given))?;
+    }
+    Ok(processors)
+}
+
+/// Returns why none of some processors has tables, or `None` if one of them has.
+pub fn modes_failure(processors: &[Processor]) -> Option<Failure>
+    ensures { result ≡ specs.modes_failure processors.now }
+{
+    if have_tables(processors) {
+        return None;
+    }
+    match processors.first() {
+        Some(first) => Some(Failure::WrongMode {
+            cpu: first.cpu as u64,
+            mode: first.mode,
+        }),
+        None => Some(Failure::NoProcessors),
+    }
+}
+
+/// Returns true if one of some processors has tables.
+fn have_tables(processors: &[Processor]) -> bool
+    ensures { result ≡ list_any specs.has_tables processors.now }
+{
+    processors.iter().any(|processor| processor.has_tables())
+}
+
+/// Returns the first processor with each root and number of levels.
+///
+/// # Errors
+///
+/// `AllocError` if memory allocation fails.
+pub fn firsts_of(alloc: Global, processors: &[Processor]) -> Result<Vec<Processor>, AllocError>
+    ensures { IfOk result (λ firsts. firsts.items ≡ specs.firsts_of processors.now) }
+{
+    let mut firsts = Vec::new(alloc);
+    for processor in processors {
+        if processor.is_first(processors) {
+            firsts.push(*processor)?;
+        }
+    }
+    Ok(firsts)
+}
+
+/// Returns the numbers of the processors with the tables of one.
+///
+/// # Errors
+///
+/// `AllocError` if memory allocation fails.
+pub fn cpus_with(
+    alloc: Global,
+    processors: &[Processor],
+    one: &Processor,
+) -> Result<Vec<usize>, AllocError>
+    ensures { IfOk result (λ cpus. cpus.items ≡ specs.cpus_with processors.now one.now) }
+{
+    let mut cpus = Vec::new(alloc);
+    for processor in processors {
+        if one.shares(processor) {
+            cpus.push(processor.cpu)?;
+        }
+    }
+    Ok(cpus)
+}
