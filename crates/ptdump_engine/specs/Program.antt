@@ -14,9 +14,10 @@ use Rattle.x86_64_mappings.specs.Numbers.{hexadecimal}
 use Rattle.x86_64_model.specs.Memory.{Words}
 use Rattle.x86_64_model.specs.Position.{lower_half}
 use Rattle.ptdump_engine.specs.Findings.{check_text, finds_nothing}
-use Rattle.ptdump_engine.specs.Info.{info_text}
+use Rattle.ptdump_engine.specs.Info.{info_in}
 pub use Rattle.ptdump_engine.specs.MemoryRanges.{last_address}
 use Rattle.ptdump_engine.specs.Reports.{regions_text, pages_text, walks_text, find_text, all_arrive, all_found}
+pub use Rattle.ptdump_engine.specs.Start.{level_count}
 use Rattle.ptdump_engine.specs.Start.{start_of}
 use Rattle.ptdump_engine.specs.Steps.{FailsBy, IsForced, and_then, of_dump, unless}
 use Rattle.ptdump_engine.specs.Totals.{AreTotals, totals_text}
@@ -26,7 +27,6 @@ use Rattle.ptdump_engine.specs.declared.failure.Failure.TheVariants as failures
 use Rattle.ptdump_engine.specs.declared.request.Command.{Command}
 use Rattle.ptdump_engine.specs.declared.request.Command.TheVariants as commands
 use Rattle.x86_64_addr.specs.declared.level_count.Levels.{Levels}
-use Rattle.x86_64_addr.specs.declared.level_count.Levels.TheVariants.{Four, Five}
 use Rattle.ptdump_engine.specs.declared.request.Form.{Form}
 use Rattle.ptdump_engine.specs.declared.request.Outcome.{Outcome}
 use Rattle.ptdump_engine.specs.declared.request.Request.{Request}
@@ -35,10 +35,6 @@ use Rattle.ptdump_engine.specs.declared.start.Origin.{Origin}
 use Rattle.ptdump_engine.specs.declared.start.Origin.TheVariants.{ByKernel}
 use Rattle.ptdump_engine.specs.declared.start.Start.{Start}
 use Rattle.ptdump_engine.specs.declared.totals.Totals.{Totals}
-
-abbrev pub level_count : Levels → ℕ
-level_count Four = 4
-level_count Five = 5
 
 -- ---- tests before anything is written
 
@@ -151,7 +147,7 @@ RunsOnTables may request file before after (Err failure) = FailsBy may failure (
 
 -- what a dump says of its machine, and of the root that other commands take
 abbrev pub info_of : Request → Contents → List ℕ
-info_of request dump = info_text (unwrap_or request.cpu 0) dump (start_for request dump)
+info_of request dump = info_in request.form (unwrap_or request.cpu 0) dump (start_for request dump)
 
 -- the result and the output of a run that tells what a file says
 abbrev pub RunsOnDump : (may_refuse : Bool) → Request → (file : List ℕ) → (before after : Option (List ℕ)) → Result Outcome Failure → Type 0
