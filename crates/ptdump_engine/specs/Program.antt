@@ -124,16 +124,16 @@ abbrev pub report_of : Request → (L : ℕ) → Words → (root : ℕ) → Opti
 report_of request = report_in request.form request.command
 
 -- whether the request is fulfilled: each walk or its access arrives, each physical address is found, a check finds nothing
-abbrev pub completeness_of : Command → (L : ℕ) → Words → (root : ℕ) → Option Bool
-completeness_of (commands.Walk addresses asked) L T root = Some (all_arrive L T root asked addresses.items)
-completeness_of (commands.Find addresses) L T root = Some (all_found L T root addresses.items)
-completeness_of (commands.Check checking) L T root = Some (finds_nothing checking L T root)
-completeness_of command L T root = Some true
+abbrev pub completeness_of : Command → (L : ℕ) → Words → (root : ℕ) → Bool
+completeness_of (commands.Walk addresses asked) L T root = all_arrive L T root asked addresses.items
+completeness_of (commands.Find addresses) L T root = all_found L T root addresses.items
+completeness_of (commands.Check checking) L T root = finds_nothing checking L T root
+completeness_of command L T root = true
 
 -- the report of a request on words was written, and the outcome is as specified
 pub record Reports (request : Request) (L : ℕ) (T : Words) (root : ℕ) (before after : Option (List ℕ)) (outcome : Outcome) : Type 0 where
   pub text : IfSome (report_of request L T root) (Appends before after)
-  pub complete : IfSome (completeness_of request.command L T root) (λ b. outcome.is_complete ≡ b)
+  pub complete : outcome.is_complete ≡ completeness_of request.command L T root
 
 abbrev pub ReportsOf : Request → (before after : Option (List ℕ)) → Outcome → Opened → Type 0
 ReportsOf request before after outcome o =
