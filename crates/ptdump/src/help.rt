@@ -141,7 +141,6 @@ SW=0x200 (the bits 9 to 11 and 52 to 58, which are software's). PAT is shown for
 
 With --json a line is an object with start, frame and flags (strings in
 hexadecimal), bytes (a number), and write, execute and user (true or false).
-It has no names of flags, also with --names.
 
 Examples:
 

@@ -13,7 +13,7 @@ use x86_64_tables::page_table::Rights;
 pub struct WalkOptions {
     /// What the processor is set to, which says at which words it faults. More than 52 bits of physical addresses count as 52.
     pub controls: Controls,
-    /// Whether the report also says how large the page is, and which words take rights away.
+    /// Whether the report also says how large the page is, and which words take rights away, which only text can do.
     pub explains: bool,
     /// The access of which the report also says what the processor does with it, if there is one.
     pub access: Option<Access>,
@@ -55,7 +55,7 @@ pub enum Command {
     Pages {
         /// Which of them.
         selection: Selection,
-        /// Whether the names of their flags are listed too.
+        /// Whether the names of their flags are listed too, which only text can do.
         has_names: bool,
     },
     /// The walks to virtual addresses.
