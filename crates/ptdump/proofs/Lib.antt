@@ -3,6 +3,6 @@ pub mod Letters
 pub mod Names
 mod NumberTexts
 mod RangeTexts
-mod Reasons
+pub mod Reasons
 mod Refusals
 pub mod Settings

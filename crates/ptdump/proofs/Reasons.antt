@@ -1,18 +1,18 @@
 -- Reasons of texts, and of the arguments that they are from.
-use Rattle.std.proofs.Common.{◌≡◌, ◌<◌, ◌⊎◌, inl, inr, ℕ, List, Option, Some, codes, length, get_or, map, sym, subst, refl, ap, ◌∙◌}
+use Rattle.std.proofs.Common.{◌≡◌, ◌<◌, ◌⊎◌, inl, inr, ℕ, List, Option, Some, Result, IfErr, codes, length, get_or, map, sym, subst, refl, ap, ◌∙◌}
+use Rattle.std.proofs.lemmas.Result.{IfErr-weaker}
 use Rattle.std.specs.Borrow.{Bor}
-use Rattle.std.specs.Option.{option_copied}
 use Rattle.clap.specs.Matches.{first_value}
 use Rattle.clap.specs.declared.parser.matches.Found.{Found}
 use Rattle.ptdump_engine.specs.Accesses.{access_name}
 use Rattle.ptdump_engine.specs.declared.failure.Failure.TheVariants.{OutOfMemory}
+use Rattle.ptdump.specs.Options.{option_name}
 use Rattle.ptdump.specs.Placements.{IsRange}
-use Rattle.ptdump.specs.Reasons.{IsNoAddress, IsNoPlacement, IsNoRange, IsNoSetting, IsReason}
+use Rattle.ptdump.specs.Reasons.{IsNoAddress, IsNoPlacement, IsNoRange, IsNoSetting, IsReason, IsReasonFor}
 use Rattle.ptdump.specs.Requests.{IsUnread, values}
 use Rattle.ptdump.specs.declared.stop.Stop.{Stop}
-use Rattle.ptdump.specs.declared.stop.Stop.TheVariants.{NoAddress, NoNumber, NoRange, BaseAndRanges, NoAccess, NoSetting, Failed}
+use Rattle.ptdump.specs.declared.stop.Stop.TheVariants.{NoCommand, NoAddress, NoNumber, NoRange, BaseAndRanges, NoAccess, NoSetting, Failed}
 use Rattle.x86_64_access.specs.declared.request.Access.{Access}
-use Rattle.x86_64_mappings.specs.Numbers.{IsNumber}
 use Rattle.ptdump.proofs.NumberTexts.{listed_at}
 
 -- one of the texts is no range, or memory allocation failed
@@ -26,12 +26,6 @@ no_range_at texts i d stop below (inr is) (inr none) = subst (IsNoRange (map (λ
 pub no_access_named : (found : Found) (name : Bor (List ℕ)) (stop : Stop) → first_value found (codes "as") ≡ Some name.now → stop ≡ NoAccess name
     → ((access : Access) → name.now ≡ access_name access → ⊥) → IsReason found stop
 no_access_named found name stop given is none = subst (IsReason found) (sym is) (given, none)
-
--- the base is no number
-pub no_base : (base : Option (Bor (List ℕ))) (text : Bor (List ℕ)) (ranges : List (List ℕ)) (option : Bor (List ℕ)) (stop : Stop) → option.now ≡ codes "base" → base ≡ Some text
-    → stop ≡ NoNumber option text → (IsNumber text.now → ⊥) → IsNoPlacement (option_copied base) ranges stop
-no_base base text ranges option stop named given is none =
-    subst (IsNoPlacement (option_copied base) ranges) (sym is) (named, ap option_copied given, none)
 
 -- the ranges of a placement aren't read
 pub of_ranges : (base : Option (List ℕ)) (ranges : List (List ℕ)) (stop : Stop) → IsNoRange ranges stop → IsNoPlacement base ranges stop
@@ -50,8 +44,16 @@ of_settings found (NoSetting word) is = is
 of_settings found stop is = absurd is
 
 pub of_placement : (found : Found) (stop : Stop) → IsNoPlacement (first_value found (codes "base")) (values found (codes "range")) stop → IsReason found stop
-of_placement found (NoNumber option text) is = (ap (first_value found) is.0 ∙ is.1, is.2)
+of_placement found (NoNumber option text) is = (ap (λ o. first_value found (option_name o)) is.0 ∙ is.1, is.2)
 of_placement found (NoRange text) is = is
 of_placement found BaseAndRanges is = is
 of_placement found (Failed failure) is = is
 of_placement found stop is = absurd is
+
+-- the reason why arguments aren't read, whatever the name of the command
+pub for_any_name : (name : List ℕ) (found : Found) (stop : Stop) → IsReason found stop → IsReasonFor name found stop
+for_any_name name found (NoCommand word) is = absurd is
+for_any_name name found stop is = is
+
+pub reason_for : {T : Type 0} (name : List ℕ) (found : Found) (result : Result T Stop) → IfErr result (IsReason found) → IfErr result (IsReasonFor name found)
+reason_for name found result = IfErr-weaker result (IsReason found) (IsReasonFor name found) (for_any_name name found)

@@ -5,9 +5,11 @@ use Rattle.clap.specs.declared.parser.matches.Found.{Found}
 use Rattle.ptdump_engine.specs.Accesses.{access_name}
 use Rattle.ptdump_engine.specs.declared.failure.Failure.TheVariants.{OutOfMemory}
 use Rattle.ptdump.specs.Asked.{is_listed, setting_names}
+use Rattle.ptdump.specs.Options.{option_name}
 use Rattle.ptdump.specs.Placements.{IsRange}
 use Rattle.ptdump.specs.Requests.{values}
 use Rattle.ptdump.specs.Selections.{are_letters}
+use Rattle.ptdump.specs.declared.numbers.NumberOption.TheVariants.{Base}
 use Rattle.ptdump.specs.declared.stop.Stop.{Stop}
 use Rattle.ptdump.specs.declared.stop.Stop.TheVariants.{NoCommand, NoAddress, NoNumber, NoLevels, NoRange, BaseAndRanges, NoAccess, NoSetting, NoPhysicalBits, NoRights, Failed}
 use Rattle.x86_64_access.specs.declared.request.Access.{Access}
@@ -37,9 +39,8 @@ IsBadSetting words word = (is_listed words word ≡ true) × (is_listed setting_
 
 -- what is true of the arguments of a command if this is the reason why they aren't read; other reasons come from elsewhere
 abbrev pub IsReason : Found → Stop → Type 0
-IsReason found (NoCommand name) = is_listed command_names name.now ≡ false
 IsReason found (NoAddress text) = IsBadNumber (values found (codes "addresses")) text.now
-IsReason found (NoNumber option text) = (first_value found option.now ≡ Some text.now) × ¬ (IsNumber text.now)
+IsReason found (NoNumber option text) = (first_value found (option_name option) ≡ Some text.now) × ¬ (IsNumber text.now)
 IsReason found (NoLevels number) = HasNumber found (codes "levels") number × ¬ (number ≡ 4) × ¬ (number ≡ 5)
 IsReason found (NoRange text) = IsBadRange (values found (codes "range")) text.now
 IsReason found BaseAndRanges = ¬ (first_value found (codes "base") ≡ None) × ¬ (values found (codes "range") ≡ [])
@@ -49,6 +50,11 @@ IsReason found (NoPhysicalBits bits) = HasNumber found (codes "maxphyaddr") bits
 IsReason found (NoRights text) = (first_value found (codes "rights") ≡ Some text.now) × (are_letters text.now ≡ false)
 IsReason found (Failed failure) = failure ≡ OutOfMemory
 IsReason found stop = ⊥
+
+-- likewise of the name of the command too, which may be that of none
+abbrev pub IsReasonFor : (name : List ℕ) → Found → Stop → Type 0
+IsReasonFor name found (NoCommand word) = (word.now ≡ name) × (is_listed command_names name ≡ false)
+IsReasonFor name found stop = IsReason found stop
 
 -- one of the texts is no number, or memory allocation failed
 abbrev pub IsNoAddress : (texts : List (List ℕ)) → Stop → Type 0
@@ -69,7 +75,7 @@ IsNoRange texts stop = ⊥
 
 -- the base is no number, one of the ranges is none, both are given, or memory allocation failed
 abbrev pub IsNoPlacement : (base : Option (List ℕ)) → (ranges : List (List ℕ)) → Stop → Type 0
-IsNoPlacement base ranges (NoNumber option text) = (option.now ≡ codes "base") × (base ≡ Some text.now) × ¬ (IsNumber text.now)
+IsNoPlacement base ranges (NoNumber option text) = (option ≡ Base) × (base ≡ Some text.now) × ¬ (IsNumber text.now)
 IsNoPlacement base ranges (NoRange text) = IsBadRange ranges text.now
 IsNoPlacement base ranges BaseAndRanges = ¬ (base ≡ None) × ¬ (ranges ≡ [])
 IsNoPlacement base ranges (Failed failure) = failure ≡ OutOfMemory

@@ -12,7 +12,7 @@ ghost use Rattle.x86_64_access.specs.declared.controls.Controls.{Controls};
 ghost use Rattle.x86_64_access.specs.declared.request.Access.{Access as Asked};
 
 use crate::flags::is_given;
-use crate::numbers::option_of;
+use crate::numbers::{NumberOption, option_of};
 use crate::stop::Stop;
 use clap::ArgMatches;
 use ptdump_engine::WalkOptions;
@@ -109,7 +109,7 @@ pub fn bits_of<'a>(arguments: &ArgMatches<'a>) -> Result<u8, Stop<'a>>
         ¬ (IsBits (first_value (found_of arguments.now) (codes "maxphyaddr")) bits)) }
     ensures reason { IfErr result (IsReason (found_of arguments.now)) }
 {
-    match option_of(arguments, "maxphyaddr")? {
+    match option_of(arguments, NumberOption::PhysicalBits)? {
         None => Ok(PHYSICAL_BITS),
         Some(bits @ 32..=52) => Ok(bits as u8),
         Some(bits) => Err(Stop::NoPhysicalBits(bits)),

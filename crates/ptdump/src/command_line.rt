@@ -104,8 +104,9 @@ fn with_names<'a>(alloc: Global, command: Command<'a>) -> Result<Command<'a>, Er
     let names = flag(
         alloc,
         "names",
-        "Show the names of the flags that are set, too; not in JSON",
-    );
+        "Show the names of the flags that are set, too; not with --json",
+    )
+    .conflicts_with("json")?;
     Ok(command.arg(names)?)
 }
 
@@ -126,8 +127,9 @@ fn with_access<'a>(alloc: Global, command: Command<'a>) -> Result<Command<'a>, E
     let explain = flag(
         alloc,
         "explain",
-        "Show how large pages are, and which words take rights away",
-    );
+        "Show page sizes, and which words take rights away; not with --json",
+    )
+    .conflicts_with("json")?;
     Ok(command.arg(explain)?.arg(access)?.arg(controls)?.arg(bits)?)
 }
 

@@ -152,7 +152,6 @@ SW=0x200 (the bits 9 to 11 and 52 to 58, which are software's). PAT is shown for
 
 With --json a line is an object with start, frame and flags (strings in
 hexadecimal), bytes (a number), and write, execute and user (true or false).
-It has no names of flags, also with --names.
 
 Examples:
 
@@ -342,19 +341,28 @@ Example:
         name: "info",
         about: "Tell what the dump says of its machine, and which root is taken",
         operands: Operands::None,
-        has_json: false,
+        has_json: true,
         more: "\
 The lines are: the format of the file, the ranges of physical memory with their
 sizes, the control registers of each processor with its mode of paging, what the
 note VMCOREINFO says of the kernel, and the root with which the other commands
 begin if they have the same options, or why they find none. No tables are read.
 
-Example:
+With --json a line is an object with one member: format (a string), or an object
+memory, with first and last (strings in hexadecimal, as all addresses and
+registers) and bytes; processor, with cpu, cr0, cr3, cr4, mode and, if paging is
+64-bit, levels; kernel, with root and levels; or root, with address, levels and
+origin (\"--cr3\", \"processor\", with cpu, or \"kernel\"). What isn't known has
+error (a string) in place of these, and a processor also cpu.
+
+Examples:
 
   $ ptdump info machine.elf
   format: ELF core
   memory 0x100000-0x10dfff 56KiB
   processor 0: CR0 0x80010011, CR3 0x101000, CR4 0x20, 64-bit paging, 4 levels
-  root: 0x101000, 4 levels, of processor 0",
+  root: 0x101000, 4 levels, of processor 0
+  $ ptdump info machine.elf --json | tail -n 1
+  {\"root\":{\"address\":\"0x101000\",\"cpu\":0,\"levels\":4,\"origin\":\"processor\"}}",
     },
 ];

@@ -3,7 +3,7 @@ ghost use Rattle.std.specs.Prelude.{◌≡◌, ℕ, List, Option, IfOk, IfErr, m
 ghost use Rattle.std.specs.Result.{OkIff};
 ghost use Rattle.clap.specs.Matches.{first_value, found_of};
 ghost use Rattle.x86_64_mappings.specs.Numbers.{IsNumber, number_of};
-ghost use Rattle.ptdump.specs.Options.{IsOption};
+ghost use Rattle.ptdump.specs.Options.{IsOption, option_name};
 ghost use Rattle.ptdump.specs.Reasons.{IsNoAddress, IsReason};
 ghost use Rattle.ptdump.specs.Requests.{AreNumbers, IsUnread};
 ghost use Rattle.ptdump.specs.declared.stop.Stop.TheVariants.{NoNumber};
@@ -12,6 +12,42 @@ use crate::stop::Stop;
 use clap::ArgMatches;
 use std::alloc::Global;
 use x86_64_mappings::text::parse_number;
+
+/// An option that takes a number.
+#[derive(Clone, Copy, Debug, PartialEq, Eq)]
+pub enum NumberOption {
+    /// `--cr3`.
+    Cr3,
+    /// `--levels`.
+    Levels,
+    /// `--base`.
+    Base,
+    /// `--cpu`.
+    Cpu,
+    /// `--from`.
+    From,
+    /// `--to`.
+    To,
+    /// `--maxphyaddr`.
+    PhysicalBits,
+}
+
+impl NumberOption {
+    /// Returns its name, without dashes.
+    pub fn name(self) -> &'static str
+        ensures { result.now ≡ option_name self }
+    {
+        match self {
+            NumberOption::Cr3 => "cr3",
+            NumberOption::Levels => "levels",
+            NumberOption::Base => "base",
+            NumberOption::Cpu => "cpu",
+            NumberOption::From => "from",
+            NumberOption::To => "to",
+            NumberOption::PhysicalBits => "maxphyaddr",
+        }
+    }
+}
 
 /// Reads addresses.
 ///
@@ -40,14 +76,14 @@ pub fn numbers_of<'a>(alloc: Global, texts: &[&'a str]) -> Result<Vec<u64>, Stop
 /// `NoNumber` if the text isn't a number.
 pub fn option_of<'a>(
     arguments: &ArgMatches<'a>,
-    option: &'static str,
+    option: NumberOption,
 ) -> Result<Option<u64>, Stop<'a>>
-    ensures ok { IfOk result (IsOption (first_value (found_of arguments.now) option.now)) }
+    ensures ok { IfOk result (IsOption (first_value (found_of arguments.now) (option_name option))) }
     ensures err { IfErr result (λ _. (number : Option ℕ) →
-        ¬ (IsOption (first_value (found_of arguments.now) option.now) number)) }
+        ¬ (IsOption (first_value (found_of arguments.now) (option_name option)) number)) }
     ensures reason { IfErr result (IsReason (found_of arguments.now)) }
 {
-    match arguments.get_str(option) {
+    match arguments.get_str(option.name()) {
         Some(text) => Ok(Some(number_of(option, text)?)),
         None => Ok(None),
     }
@@ -58,9 +94,9 @@ pub fn option_of<'a>(
 /// # Errors
 ///
 /// `NoNumber` if the text isn't a number.
-pub fn number_of<'a>(option: &'static str, text: &'a str) -> Result<u64, Stop<'a>>
+pub fn number_of<'a>(option: NumberOption, text: &'a str) -> Result<u64, Stop<'a>>
     ensures value { OkIff result (IsNumber text.now) (number_of text.now) }
-    ensures reason { IfErr result (λ stop. stop ≡ NoNumber option.entry text.entry) }
+    ensures reason { IfErr result (λ stop. stop ≡ NoNumber option text.entry) }
 {
     parse_number(text).ok_or(Stop::NoNumber { option, text })
 }

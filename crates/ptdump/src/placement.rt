@@ -10,7 +10,7 @@ ghost use Rattle.ptdump.specs.declared.stop.Stop.TheVariants.{Failed, NoRange};
 ghost use Rattle.ptdump_engine.specs.declared.failure.Failure.TheVariants.{OutOfMemory};
 ghost use Rattle.x86_64_dump.specs.declared.placement.RawRange.{RawRange};
 
-use crate::numbers::number_of;
+use crate::numbers::{NumberOption, number_of};
 use crate::stop::Stop;
 use clap::ArgMatches;
 use std::alloc::{AllocError, Global};
@@ -53,7 +53,7 @@ fn placed<'a>(
 {
     match (base, ranges) {
         (None, []) => Ok(Placement::Unstated),
-        (Some(text), []) => Ok(Placement::Base(number_of("base", text)?)),
+        (Some(text), []) => Ok(Placement::Base(number_of(NumberOption::Base, text)?)),
         (None, texts) => Ok(Placement::Ranges(ranges_of(alloc, texts)?)),
         (Some(_), _) => Err(Stop::BaseAndRanges),
     }

@@ -2,13 +2,13 @@
 ghost use Rattle.std.specs.Prelude.{Option, IfOk, IfErr, codes};
 ghost use Rattle.clap.specs.Matches.{first_value, found_of, one_text};
 ghost use Rattle.ptdump.specs.Options.{IsFlag};
-ghost use Rattle.ptdump.specs.Reasons.{IsReason};
+ghost use Rattle.ptdump.specs.Reasons.{IsReason, IsReasonFor};
 ghost use Rattle.ptdump.specs.Requests.{AreNumbers, IsCommand, IsLevels, IsRequest, IsUnread, is_json, values};
 ghost use Rattle.x86_64_addr.specs.declared.level_count.Levels.{Levels};
 
 use crate::asked::{bits_of, options_of};
 use crate::flags::is_given;
-use crate::numbers::{numbers_of, option_of};
+use crate::numbers::{NumberOption, numbers_of, option_of};
 use crate::placement::placement_of;
 use crate::selection::selection_of;
 use crate::stop::Stop;
@@ -21,6 +21,7 @@ use std::alloc::Global;
 /// # Errors
 ///
 /// `Failure::OutOfMemory` if memory allocation fails, otherwise what is wrong with the words.
+#[tactic(auto, using(crate::proofs::Reasons::for_any_name))]
 pub fn request_of<'a>(
     alloc: Global,
     name: &'a str,
@@ -28,16 +29,16 @@ pub fn request_of<'a>(
 ) -> Result<Request, Stop<'a>>
     ensures ok { IfOk result (IsRequest name.now (found_of arguments.now)) }
     ensures err { IfErr result (IsUnread (IsRequest name.now (found_of arguments.now))) }
-    ensures reason { IfErr result (IsReason (found_of arguments.now)) }
+    ensures reason { IfErr result (IsReasonFor name.now (found_of arguments.now)) }
 {
     Ok(Request {
         command: command_of(alloc, name, arguments)?,
         form: form_of(arguments),
-        cr3: option_of(arguments, "cr3")?,
+        cr3: option_of(arguments, NumberOption::Cr3)?,
         levels: levels_of(arguments)?,
         placement: placement_of(alloc, arguments)?,
         is_raw: is_given(arguments, "raw"),
-        cpu: option_of(arguments, "cpu")?,
+        cpu: option_of(arguments, NumberOption::Cpu)?,
         all_cpus: is_given(arguments, "all-cpus"),
     })
 }
@@ -54,7 +55,7 @@ fn form_of(arguments: &ArgMatches<'_>) -> Form
 }
 
 /// Returns the command with a name and its arguments.
-#[tactic(auto, using(crate::proofs::Names::same_name, crate::proofs::Commands::no_name, crate::proofs::Commands::same_command, crate::proofs::Commands::same_refusal))]
+#[tactic(auto, using(crate::proofs::Names::same_name, crate::proofs::Commands::no_name, crate::proofs::Commands::same_command, crate::proofs::Commands::same_refusal, crate::proofs::Reasons::reason_for))]
 fn command_of<'a>(
     alloc: Global,
     name: &'a str,
@@ -62,7 +63,7 @@ fn command_of<'a>(
 ) -> Result<Command, Stop<'a>>
     ensures ok { IfOk result (IsCommand name.now (found_of arguments.now)) }
     ensures err { IfErr result (IsUnread (IsCommand name.now (found_of arguments.now))) }
-    ensures reason { IfErr result (IsReason (found_of arguments.now)) }
+    ensures reason { IfErr result (IsReasonFor name.now (found_of arguments.now)) }
 {
     if name == "regions" {
         regions_of(arguments)
@@ -154,7 +155,7 @@ fn levels_of<'a>(arguments: &ArgMatches<'a>) -> Result<Option<Levels>, Stop<'a>>
         ¬ (IsLevels (first_value (found_of arguments.now) (codes "levels")) levels)) }
     ensures reason { IfErr result (IsReason (found_of arguments.now)) }
 {
-    match option_of(arguments, "levels")? {
+    match option_of(arguments, NumberOption::Levels)? {
         None => Ok(None),
         Some(4) => Ok(Some(Levels::Four)),
         Some(5) => Ok(Some(Levels::Five)),

@@ -7,7 +7,7 @@ ghost use Rattle.ptdump.specs.Selections.{AreRights, IsSelection, are_letters, i
 ghost use Rattle.ptdump_engine.specs.declared.request.Selection.{Selection};
 ghost use Rattle.x86_64_model.specs.Mappings.{Rights as Allowed};
 
-use crate::numbers::option_of;
+use crate::numbers::{NumberOption, option_of};
 use crate::stop::Stop;
 use clap::ArgMatches;
 use ptdump_engine::Selection;
@@ -25,8 +25,8 @@ pub fn selection_of<'a>(arguments: &ArgMatches<'a>) -> Result<Selection, Stop<'a
     ensures reason { IfErr result (IsReason (found_of arguments.now)) }
 {
     Ok(Selection {
-        from: option_of(arguments, "from")?,
-        to: option_of(arguments, "to")?,
+        from: option_of(arguments, NumberOption::From)?,
+        to: option_of(arguments, NumberOption::To)?,
         rights: rights_of(arguments)?,
     })
 }

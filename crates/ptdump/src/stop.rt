@@ -2,6 +2,7 @@
 ghost use Rattle.std.specs.Prelude.{◌≡◌};
 ghost use Rattle.ptdump.specs.Exit.{stop_status};
 
+use crate::numbers::NumberOption;
 use clap::error::ErrorKind;
 use ptdump_engine::Failure;
 use std::alloc::{AllocError, AllocFailed};
@@ -27,8 +28,8 @@ pub enum Stop<'a> {
     NoAddress(&'a str),
     /// The value of an option isn't a number.
     NoNumber {
-        /// The option, without its dashes.
-        option: &'static str,
+        /// The option.
+        option: NumberOption,
         /// Its value.
         text: &'a str,
     },
@@ -112,10 +113,10 @@ impl Display for Stop<'_> {
                 "{name} is no command: `ptdump --help` lists those that are"
             ),
             Stop::NoAddress(text) => write!(f, "address {text} is no number {NUMBERS}"),
-            Stop::NoNumber { option, text } => write!(
-                f,
-                "--{option} {text} is no number {NUMBERS}"
-            ),
+            Stop::NoNumber { option, text } => {
+                let name = option.name();
+                write!(f, "--{name} {text} is no number {NUMBERS}")
+            }
             Stop::NoLevels(levels) => write!(
                 f,
                 "--levels {levels}: give 4 or 5, which page tables have"

@@ -1,7 +1,7 @@
 -- Requests for reports on the tables of all processors.
 use Rattle.std.proofs.Common.{◌≡◌, ◌&&◌, ℕ, Bool, true, false, true≢false, List, Option, None, Some, IfSome, IsSome, unwrap_or, refl, sym}
 use Rattle.x86_64_model.specs.Memory.{Words}
-use Rattle.ptdump_engine.specs.Program.{IsTested, completeness_of, has_roots, is_image, is_of_processors, report_in, report_of}
+use Rattle.ptdump_engine.specs.Program.{IsTested, has_roots, is_image, is_of_processors, report_in, report_of}
 use Rattle.ptdump_engine.specs.declared.request.Command.{Command}
 use Rattle.ptdump_engine.specs.declared.request.Command.TheVariants as commands
 use Rattle.ptdump_engine.specs.declared.request.Form.{Form}
@@ -45,12 +45,3 @@ reported form command L T root is = absurd (true≢false (sym is))
 -- its report is specified
 pub has_report : (request : Request) (L : ℕ) (T : Words) (root : ℕ) → is_of_processors request ≡ true → IsSome (report_of request L T root)
 has_report request L T root is = reported request.form request.command L T root (roots_of request is)
-
-completed : (command : Command) (L : ℕ) (T : Words) (root : ℕ) → has_roots command ≡ true → IsSome (completeness_of command L T root)
-completed (commands.Regions selection) L T root is = refl
-completed (commands.Check checking) L T root is = refl
-completed command L T root is = absurd (true≢false (sym is))
-
--- and whether it is fulfilled
-pub has_completeness : (request : Request) (L : ℕ) (T : Words) (root : ℕ) → is_of_processors request ≡ true → IsSome (completeness_of request.command L T root)
-has_completeness request L T root is = completed request.command L T root (roots_of request is)

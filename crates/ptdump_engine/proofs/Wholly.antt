@@ -132,9 +132,9 @@ pub same_completeness : (command : Command) (L : ℕ) (T W : Words) (root : ℕ)
 same_completeness (commands.Regions s) L T W root same below walks = refl
 same_completeness (commands.Pages s has_names) L T W root same below walks = refl
 same_completeness (commands.Walk addresses asked) L T W root same below walks =
-    λ i. Some (list_all (λ a. same_there asked.controls asked.access L T W root (a % position_count L) (walks (a % position_count L)) below i) addresses.items)
-same_completeness (commands.Find addresses) L T W root same below walks = ap (λ ms. Some (list_all (λ a. list_any (leads_to a) ms) addresses.items)) same
-same_completeness (commands.Check checking) L T W root same below walks = ap (λ lines. Some (length lines == 0)) (same_lines T W checking L root same below)
+    λ i. list_all (λ a. same_there asked.controls asked.access L T W root (a % position_count L) (walks (a % position_count L)) below i) addresses.items
+same_completeness (commands.Find addresses) L T W root same below walks = ap (λ ms. list_all (λ a. list_any (leads_to a) ms) addresses.items) same
+same_completeness (commands.Check checking) L T W root same below walks = ap (λ lines. length lines == 0) (same_lines T W checking L root same below)
 same_completeness commands.Image L T W root same below walks = refl
 same_completeness commands.Picture L T W root same below walks = refl
 same_completeness commands.Info L T W root same below walks = refl

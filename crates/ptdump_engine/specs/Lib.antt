@@ -3,6 +3,8 @@ pub mod Explanations
 pub mod Failure
 pub mod FailureTexts
 pub mod Info
+pub mod InfoObjects
+pub mod InfoTexts
 pub mod Json
 pub mod Laws
 pub mod Lines

@@ -1,5 +1,6 @@
 -- Lines: what reports say of regions, mappings, searches and walks in each form, as lines of text or of JSON.
 use Rattle.std.specs.Prelude.{ℕ, ◌++◌, Bool, true, false, if◌then◌else◌, List, []}
+use Rattle.serde_json.specs.Data.{Data}
 use Rattle.x86_64_mappings.specs.Texts.{mapping_text, region_text}
 use Rattle.x86_64_model.specs.Mappings.{Mapping, Rights}
 use Rattle.x86_64_model.specs.Memory.{Words}
@@ -13,6 +14,11 @@ use Rattle.ptdump_engine.specs.Walks.{line, rights_at_text, walk_of, walk_text}
 use Rattle.ptdump_engine.specs.declared.request.Form.{Form}
 use Rattle.ptdump_engine.specs.declared.request.Form.TheVariants.{Text, Json}
 use Rattle.ptdump_engine.specs.declared.request.WalkOptions.{WalkOptions}
+
+-- a line that has this text, or as JSON this value
+abbrev pub line_in : Form → (text : List ℕ) → (value : Data) → List ℕ
+line_in Text text value = line text
+line_in Json text value = json_line value
 
 abbrev pub region_line : Form → (L : ℕ) → Region → List ℕ
 region_line Text L r = line (region_text L r)

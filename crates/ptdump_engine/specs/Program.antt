@@ -15,10 +15,11 @@ use Rattle.x86_64_mappings.specs.Numbers.{hexadecimal}
 use Rattle.x86_64_model.specs.Memory.{Words}
 use Rattle.x86_64_model.specs.Position.{lower_half}
 use Rattle.ptdump_engine.specs.Findings.{check_text, finds_nothing}
-use Rattle.ptdump_engine.specs.Info.{info_text}
+use Rattle.ptdump_engine.specs.Info.{info_in}
 pub use Rattle.ptdump_engine.specs.MemoryRanges.{last_address}
 use Rattle.ptdump_engine.specs.Processors.{cpus_with, firsts_of, heading_text, left_out_text, modes_failure, processors_from}
 use Rattle.ptdump_engine.specs.Reports.{regions_text, pages_text, walks_text, find_text, all_arrive, all_found}
+pub use Rattle.ptdump_engine.specs.Start.{level_count}
 use Rattle.ptdump_engine.specs.Start.{start_of}
 use Rattle.ptdump_engine.specs.Steps.{FailsBy, InTurn, IsForced, and_then, of_dump, unless}
 use Rattle.ptdump_engine.specs.Totals.{AreTotals, totals_text}
@@ -28,7 +29,6 @@ use Rattle.ptdump_engine.specs.declared.failure.Failure.TheVariants as failures
 use Rattle.ptdump_engine.specs.declared.request.Command.{Command}
 use Rattle.ptdump_engine.specs.declared.request.Command.TheVariants as commands
 use Rattle.x86_64_addr.specs.declared.level_count.Levels.{Levels}
-use Rattle.x86_64_addr.specs.declared.level_count.Levels.TheVariants.{Four, Five}
 use Rattle.ptdump_engine.specs.declared.processors.Processor.{Processor}
 use Rattle.ptdump_engine.specs.declared.request.Form.{Form}
 use Rattle.ptdump_engine.specs.declared.request.Outcome.{Outcome}
@@ -38,10 +38,6 @@ use Rattle.ptdump_engine.specs.declared.start.Origin.{Origin}
 use Rattle.ptdump_engine.specs.declared.start.Origin.TheVariants.{ByKernel}
 use Rattle.ptdump_engine.specs.declared.start.Start.{Start}
 use Rattle.ptdump_engine.specs.declared.totals.Totals.{Totals}
-
-abbrev pub level_count : Levels → ℕ
-level_count Four = 4
-level_count Five = 5
 
 -- ---- tests before anything is written
 
@@ -167,16 +163,16 @@ abbrev pub report_of : Request → (L : ℕ) → Words → (root : ℕ) → Opti
 report_of request = report_in request.form request.command
 
 -- whether the request is fulfilled: each walk or its access arrives, each physical address is found, a check finds nothing
-abbrev pub completeness_of : Command → (L : ℕ) → Words → (root : ℕ) → Option Bool
-completeness_of (commands.Walk addresses asked) L T root = Some (all_arrive L T root asked addresses.items)
-completeness_of (commands.Find addresses) L T root = Some (all_found L T root addresses.items)
-completeness_of (commands.Check checking) L T root = Some (finds_nothing checking L T root)
-completeness_of command L T root = Some true
+abbrev pub completeness_of : Command → (L : ℕ) → Words → (root : ℕ) → Bool
+completeness_of (commands.Walk addresses asked) L T root = all_arrive L T root asked addresses.items
+completeness_of (commands.Find addresses) L T root = all_found L T root addresses.items
+completeness_of (commands.Check checking) L T root = finds_nothing checking L T root
+completeness_of command L T root = true
 
 -- the report of a request on words was written, and the outcome is as specified
 pub record Reports (request : Request) (L : ℕ) (T : Words) (root : ℕ) (before after : Option (List ℕ)) (outcome : Outcome) : Type 0 where
   pub text : IfSome (report_of request L T root) (Appends before after)
-  pub complete : IfSome (completeness_of request.command L T root) (λ b. outcome.is_complete ≡ b)
+  pub complete : outcome.is_complete ≡ completeness_of request.command L T root
 
 abbrev pub ReportsOf : Request → (before after : Option (List ℕ)) → Outcome → Opened → Type 0
 ReportsOf request before after outcome o =
@@ -199,7 +195,7 @@ all_reports request T ps = flat_map (report_below request T ps) (firsts_of ps)
 
 -- whether the request is fulfilled for the tables of a processor
 abbrev pub is_complete_for : Request → Words → Processor → Bool
-is_complete_for request T p = unwrap_or (completeness_of request.command (level_count p.start.levels) T p.start.root) true
+is_complete_for request T p = completeness_of request.command (level_count p.start.levels) T p.start.root
 
 -- whether it is for all tables that processors have
 abbrev pub all_complete : Request → Words → List Processor → Bool
@@ -218,7 +214,7 @@ RunsOnProcessors may request file before after (Err failure) = FailsBy may failu
 
 -- what a dump says of its machine, and of the root that other commands take
 abbrev pub info_of : Request → Contents → List ℕ
-info_of request dump = info_text (unwrap_or request.cpu 0) dump (start_for request dump)
+info_of request dump = info_in request.form (unwrap_or request.cpu 0) dump (start_for request dump)
 
 -- the result and the output of a run that tells what a file says
 abbrev pub RunsOnDump : (may_refuse : Bool) → Request → (file : List ℕ) → (before after : Option (List ℕ)) → Result Outcome Failure → Type 0

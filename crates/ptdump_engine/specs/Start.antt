@@ -45,6 +45,10 @@ cr3_in file cpu note = and_then (of_dump (register_of file note 416)) (λ cr3.
     and_then (of_dump (register_of file note 392)) (λ cr0.
     and_then (of_dump (register_of file note 424)) (λ cr4. cr3_by cpu cr3 (mode_of cr0 cr4))))
 
+abbrev pub level_count : Levels → ℕ
+level_count Four = 4
+level_count Five = 5
+
 abbrev pub levels_by : (cr4 : ℕ) → Levels
 levels_by cr4 = if has cr4 0x1000 then Five else Four
 

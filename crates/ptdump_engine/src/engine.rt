@@ -216,9 +216,8 @@ fn write_whole<L: LevelCount, S: ByteSource, W: Destination, E: Destination>(
     ensures text { S.IsKnown → OnOk result (
         IfSome (program.report_of request.now L.LEVELS (words_loaded loaded.now) loaded.now.root)
         (Appends (W.contents writer.old) (W.contents writer.new))) }
-    ensures complete { S.IsKnown → IfOk result (λ is.
-        IfSome (program.completeness_of request.now.command L.LEVELS (words_loaded loaded.now) loaded.now.root)
-        (λ all. is ≡ all)) }
+    ensures complete { S.IsKnown → IfOk result (λ is. is
+        ≡ program.completeness_of request.now.command L.LEVELS (words_loaded loaded.now) loaded.now.root) }
     ensures notes { OnOk result (program.is_image request.now.command ≡ false → notes.new ≡ notes.old) }
     ensures errors { S.IsKnown → IfErr result (IsForced (W.may_refuse || E.may_refuse)) }
 {
@@ -244,9 +243,8 @@ fn write_report<L: LevelCount, S: ByteSource, W: Destination, E: Destination>(
     ensures text { S.IsKnown → OnOk result (
         IfSome (program.report_of request.now L.LEVELS (words_loaded loaded.now) loaded.now.root)
         (Puts W.contents output.old output.new)) }
-    ensures complete { S.IsKnown → IfOk result (λ is.
-        IfSome (program.completeness_of request.now.command L.LEVELS (words_loaded loaded.now) loaded.now.root)
-        (λ all. is ≡ all)) }
+    ensures complete { S.IsKnown → IfOk result (λ is. is
+        ≡ program.completeness_of request.now.command L.LEVELS (words_loaded loaded.now) loaded.now.root) }
     ensures notes { OnOk result (program.is_image request.now.command ≡ false → notes.new ≡ notes.old) }
     ensures errors { S.IsKnown → IfErr result (IsForced (W.may_refuse || E.may_refuse)) }
 {

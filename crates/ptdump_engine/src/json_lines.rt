@@ -1,20 +1,24 @@
 //! Reports as JSON, an object a line.
-ghost use Rattle.std.specs.Prelude.{◌≡◌, false, IfOk, OnOk, string_bytes};
+ghost use Rattle.std.specs.Prelude.{◌≡◌, false, IfOk, IfSome, OnOk, string_bytes};
 ghost use Rattle.serde_json.specs.Data.{Data};
 ghost use Rattle.serde_json.specs.View.{view};
 ghost use Rattle.serde_json.specs.Written.{has_float};
 ghost use Rattle.x86_64_mappings.specs.Numbers.{hexadecimal as digits_of};
 ghost use Rattle.ptdump_engine.specs.Json.{json_line};
+ghost use Rattle.ptdump_engine.specs.Lines.{line_in};
 
 mod group;
 mod listed;
+mod told;
 mod walks;
 
 use crate::lines::Lines;
 pub use group::ProcessorGroup;
+use crate::request::Form;
 pub use listed::{Found, write_json_pages, write_json_regions};
 use serde_json::Value;
 use std::alloc::{AllocError, Global};
+use std::fmt::Display;
 pub use walks::write_json_walk;
 use x86_64_mappings::Visitor;
 
@@ -57,6 +61,26 @@ pub fn write_json<T: ToJson, O: Lines>(
     let value = item.to_json(alloc)?;
     let text = value.to_string(alloc)?;
     output.write_line(text)
+}
+
+/// Writes an item as a line in a form: its text, or its object.
+///
+/// # Errors
+///
+/// The error of the destination, or of memory allocation.
+pub fn write_as<T: Display + ToJson + Drop, O: Lines>(
+    alloc: Global,
+    form: Form,
+    item: T,
+    output: &mut O,
+) -> Result<(), O::Error>
+    ensures { OnOk result (IfSome (T.output item) (λ text.
+        O.puts output.old output.new (line_in form text (T.json item)))) }
+{
+    match form {
+        Form::Text => output.write_line(item),
+        Form::Json => write_json(alloc, &item, output),
+    }
 }
 
 /// A visitor that writes a line of JSON for each item.

@@ -1,5 +1,6 @@
 //! Modes of paging.
 ghost use Rattle.std.specs.Prelude.{◌≡◌};
+ghost use Rattle.ptdump_engine.specs.InfoTexts.{mode_name};
 ghost use Rattle.ptdump_engine.specs.Start as starts;
 
 use std::fmt::{Display, Formatter, Result as FmtResult, Write};
@@ -33,6 +34,17 @@ impl Mode {
             Mode::Paging32
         } else {
             Mode::Paging64
+        }
+    }
+
+    /// Returns its name.
+    pub fn name(self) -> &'static str
+        ensures { result.now ≡ mode_name self }
+    {
+        match self {
+            Mode::NoPaging => "no paging",
+            Mode::Paging32 => "32-bit paging",
+            Mode::Paging64 => "64-bit paging",
         }
     }
 }

@@ -4,6 +4,8 @@ ghost use Rattle.std.specs.Fmt.{WritesOnOk};
 ghost use Rattle.x86_64_dump.specs.Opened.{opened};
 ghost use Rattle.x86_64_dump.specs.Opening.{GivesAtOnce};
 ghost use Rattle.ptdump_engine.specs.Info as info;
+ghost use Rattle.ptdump_engine.specs.InfoTexts as texts;
+ghost use Rattle.ptdump_engine.specs.Start as starts;
 
 use crate::mode::Mode;
 use crate::start::levels_by;
@@ -43,9 +45,9 @@ impl Registers {
 }
 
 impl Display for Registers {
-    ghost output = { λ registers. Some (info.registers_text registers) };
+    ghost output = { λ registers. Some (texts.registers_text registers) };
 
-    #[tactic(auto, unfolding(crate::specs::Info::registers_text))]
+    #[tactic(auto, unfolding(crate::specs::InfoTexts::registers_text))]
     fn fmt<W: Write>(&self, f: &mut Formatter<W>) -> FmtResult {
         write_values(f, *self)?;
         f.write_str(", ")?;
@@ -54,9 +56,9 @@ impl Display for Registers {
 }
 
 /// Writes the names and the values of registers.
-#[tactic(auto, unfolding(crate::specs::Info::values_text))]
+#[tactic(auto, unfolding(crate::specs::InfoTexts::values_text))]
 fn write_values<W: Write>(f: &mut Formatter<W>, registers: Registers) -> FmtResult
-    ensures { WritesOnOk W.write_str_gives f.old result (info.values_text registers) f.new }
+    ensures { WritesOnOk W.write_str_gives f.old result (texts.values_text registers) f.new }
 {
     write_register(f, "CR0", registers.cr0)?;
     f.write_str(", ")?;
@@ -66,9 +68,9 @@ fn write_values<W: Write>(f: &mut Formatter<W>, registers: Registers) -> FmtResu
 }
 
 /// Writes the name and the value of a register.
-#[tactic(auto, unfolding(crate::specs::Info::register_text))]
+#[tactic(auto, unfolding(crate::specs::InfoTexts::register_text))]
 fn write_register<W: Write>(f: &mut Formatter<W>, name: &'static str, value: u64) -> FmtResult
-    ensures { WritesOnOk W.write_str_gives f.old result (info.register_text name.now value) f.new }
+    ensures { WritesOnOk W.write_str_gives f.old result (texts.register_text name.now value) f.new }
 {
     write!(f, "{name} ")?;
     write_hexadecimal(f, value)
@@ -76,24 +78,34 @@ fn write_register<W: Write>(f: &mut Formatter<W>, name: &'static str, value: u64
 
 /// Writes a mode of paging, and for 64 bits how many levels CR4 says.
 fn write_paging<W: Write>(f: &mut Formatter<W>, mode: Mode, cr4: u64) -> FmtResult
-    ensures { WritesOnOk W.write_str_gives f.old result (info.paging_text cr4 mode) f.new }
+    ensures { WritesOnOk W.write_str_gives f.old result (texts.paging_text cr4 mode) f.new }
 {
+    let name = mode.name();
     match mode {
-        Mode::NoPaging => f.write_str("no paging"),
-        Mode::Paging32 => f.write_str("32-bit paging"),
+        Mode::NoPaging | Mode::Paging32 => f.write_str(name),
         Mode::Paging64 => {
             let levels = levels_name(levels_by(cr4));
-            write!(f, "64-bit paging, {levels}")
+            write!(f, "{name}, {levels}")
         }
     }
 }
 
 /// Returns a number of levels as text.
 pub fn levels_name(levels: Levels) -> &'static str
-    ensures { result.now ≡ info.levels_text levels }
+    ensures { result.now ≡ texts.levels_text levels }
 {
     match levels {
         Levels::Four => "4 levels",
         Levels::Five => "5 levels",
+    }
+}
+
+/// Returns a number of levels.
+pub fn level_count(levels: Levels) -> u64
+    ensures { result ≡ starts.level_count levels }
+{
+    match levels {
+        Levels::Four => 4,
+        Levels::Five => 5,
     }
 }

@@ -13,7 +13,7 @@ use x86_64_tables::page_table::Rights;
 pub struct WalkOptions {
     /// What the processor is set to, which says at which words it faults. More than 52 bits of physical addresses count as 52.
     pub controls: Controls,
-    /// Whether the report also says how large the page is, and which words take rights away.
+    /// Whether the report also says how large the page is, and which words take rights away, which only text can do.
     pub explains: bool,
     /// The access of which the report also says what the processor does with it, if there is one.
     pub access: Option<Access>,
@@ -55,7 +55,7 @@ pub enum Command {
     Pages {
         /// Which of them.
         selection: Selection,
-        /// Whether the names of their flags are listed too.
+        /// Whether the names of their flags are listed too, which only text can do.
         has_names: bool,
     },
     /// The walks to virtual addresses.
@@ -98,7 +98,7 @@ impl Command {
 pub enum Form {
     /// Lines of text.
     Text,
-    /// A JSON object for each region, mapping, walk or address that is found, one a line.
+    /// A JSON object a line: for each region, mapping, walk or address that is found, and for each thing that a dump says.
     Json,
 }
 
@@ -107,7 +107,7 @@ pub enum Form {
 pub struct Request {
     /// The report to write.
     pub command: Command,
-    /// The form of a report of regions, mappings, walks or a search. Other reports have one form.
+    /// The form of a report of regions, mappings, walks or a search, or of what the dump says. Other reports have one form.
     pub form: Form,
     /// The CR3. If `None`, it is read from a processor's note in the dump, or else the kernel's note says where the root is.
     pub cr3: Option<u64>,

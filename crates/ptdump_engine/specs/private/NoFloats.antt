@@ -1,14 +1,23 @@
--- Objects of walks have no floats.
-use Rattle.std.proofs.Common.{◌≡◌, ℕ, List, [], ◌∷◌, Option, None, Some, option_map, map, false, refl}
+-- Objects of walks, and of what a dump says of its machine, have no floats.
+use Rattle.std.proofs.Common.{◌≡◌, ℕ, List, [], ◌∷◌, Option, None, Some, codes, option_map, map, false, refl}
+use Rattle.serde_json.specs.Data.{object}
 use Rattle.serde_json.specs.View.{items_of}
 use Rattle.serde_json.specs.Written.{has_float, items_have_float}
 use Rattle.x86_64_access.specs.Accesses.{outcome_of}
 use Rattle.x86_64_access.specs.declared.request.Access.{Access}
 use Rattle.x86_64_model.specs.Access.{Outcome, Arrives, Faults, NoMemory}
+use Rattle.ptdump_engine.specs.InfoObjects.{json_of_processor, json_of_registers, json_of_root, root_members, told}
 use Rattle.ptdump_engine.specs.Json.{count, json_of_access, json_of_word}
 use Rattle.ptdump_engine.specs.Processors.{json_of_group}
+use Rattle.ptdump_engine.specs.Start.{mode_of}
 use Rattle.ptdump_engine.specs.private.Walked.{json_of_line, json_of_value}
 use Rattle.ptdump_engine.specs.declared.access_line.AccessLine.{AccessLine}
+use Rattle.ptdump_engine.specs.declared.mode.Mode.{Mode}
+use Rattle.ptdump_engine.specs.declared.mode.Mode.TheVariants.{NoPaging, Paging32, Paging64}
+use Rattle.ptdump_engine.specs.declared.registers.Registers.{Registers}
+use Rattle.ptdump_engine.specs.declared.start.Origin.{Origin}
+use Rattle.ptdump_engine.specs.declared.start.Origin.TheVariants.{ByRequest, ByProcessor, ByKernel}
+use Rattle.ptdump_engine.specs.declared.start.Start.{Start}
 use Rattle.ptdump_engine.specs.declared.walked.Walk.{Walk as WalkValue}
 use Rattle.ptdump_engine.specs.declared.walked.WalkEnd.{WalkEnd}
 use Rattle.ptdump_engine.specs.declared.walked.WalkEnd.TheVariants as ends
@@ -36,10 +45,30 @@ pub no_float_walk : (address : ℕ) (value : WalkValue) (access : Option AccessL
 no_float_walk address value None = without address value
 no_float_walk address value (Some line) = rw (no_float_access line.access (outcome_of line.end)) (without address value)
 
--- or of groups of processors
+-- ---- groups of processors
+
 numbers_have_none : (numbers : List ℕ) → items_have_float (items_of (map count numbers)) ≡ false
 numbers_have_none [] = refl
 numbers_have_none (n ∷ numbers) = numbers_have_none numbers
 
 pub no_float_group : (cpus : List ℕ) (root : ℕ) → has_float (json_of_group cpus root) ≡ false
 no_float_group cpus root = rw (numbers_have_none cpus) refl
+
+-- ---- what a dump says of its machine
+
+pub no_float_processor : (cpu : ℕ) (registers : Option Registers) → has_float (json_of_processor cpu registers) ≡ false
+no_float_processor cpu None = refl
+no_float_processor cpu (Some r) = by (mode_of r.cr0 r.cr4)
+  where
+    by : (mode : Mode) → has_float (told (codes "processor") (json_of_registers cpu r mode)) ≡ false
+    by NoPaging = refl
+    by Paging32 = refl
+    by Paging64 = refl
+
+pub no_float_root : (cpu : ℕ) (start : Start) → has_float (json_of_root cpu start) ≡ false
+no_float_root cpu start = by start.origin
+  where
+    by : (origin : Origin) → has_float (told (codes "root") (object (root_members cpu start.root start.levels origin))) ≡ false
+    by ByRequest = refl
+    by ByProcessor = refl
+    by ByKernel = refl

@@ -23,7 +23,7 @@ returns-clause-written g c = λ known.
     record {
       text = subst (λ text. IfSome text (Appends (contents c.args.writer.now) (contents c.write_whole.new.writer)))
           (same_report c.args.request.now L T W c.args.root (c.in_ok-tables.ensures.mappings known) (c.in_ok-tables.ensures.same known)) (c.in_ok-is_complete.ensures.text known);
-      complete = subst (λ complete. IfSome complete (λ all. c.in_ok-is_complete.is_complete ≡ all))
+      complete = subst (λ complete. c.in_ok-is_complete.is_complete ≡ complete)
           (same_completeness c.args.request.now.command L T W c.args.root (c.in_ok-tables.ensures.mappings known) (c.in_ok-tables.ensures.same known) (c.in_ok-tables.ensures.walks known))
           (c.in_ok-is_complete.ensures.complete known);
     }

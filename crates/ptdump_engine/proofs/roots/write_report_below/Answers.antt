@@ -1,10 +1,10 @@
-use Rattle.std.proofs.Common.{◌≡◌, ◌++◌, ◌∙◌, List, ℕ, [], true, unwrap_or, subst}
+use Rattle.std.proofs.Common.{◌≡◌, ◌++◌, ◌∙◌, List, ℕ, [], unwrap_or, subst}
 use Rattle.std.proofs.KnownBytes.{Appends-trans}
 use Rattle.std.specs.Io.KnownBytes.{Appends}
 use Rattle.x86_64_dump.specs.Dump.{words_of_dump}
 use Rattle.x86_64_dump.specs.Opened.{opened}
-use Rattle.ptdump_engine.specs.Program.{EndsByTotals, completeness_of, level_count, report_of}
-use Rattle.ptdump_engine.proofs.OfProcessors.{has_completeness, has_report, is_tested, no_image, some_or}
+use Rattle.ptdump_engine.specs.Program.{EndsByTotals, level_count, report_of}
+use Rattle.ptdump_engine.proofs.OfProcessors.{has_report, is_tested, no_image, some_or}
 use Rattle.ptdump_engine.proofs.Wholly.{put_all}
 use Rattle.ptdump_engine.proofs.roots.write_report_below.Goals as goal
 
@@ -23,13 +23,7 @@ returns-clause-text g c = λ known.
     (has_report request L T start.root c.requires.all))
 
 pub returns-clause-complete : goal.returns-clause-complete
-returns-clause-complete g c = λ known.
-    let request = c.args.request.now in
-    let start = c.args.first.now.start in
-    let T = words_of_dump (opened g.S.ByteSource.bytes c.args.dump.now) in
-    let L = level_count start.levels in
-    some_or (completeness_of request.command L T start.root) (λ b. c.in_ok-outcome.outcome.is_complete ≡ b) true (c.in_ok-outcome.ensures.written known).complete
-    (has_completeness request L T start.root c.requires.all)
+returns-clause-complete g c = λ known. (c.in_ok-outcome.ensures.written known).complete
 
 pub returns-clause-name : goal.returns-clause-name
 returns-clause-name g c = λ known. (c.in_ok-outcome.ensures.totals known (no_image c.args.request.now c.requires.all)).0

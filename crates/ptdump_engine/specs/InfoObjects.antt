@@ -1,0 +1,89 @@
+-- InfoObjects: what `ptdump info` tells of a dump, as JSON objects: each has one member, which is named after what is told.
+use Rattle.std.specs.Prelude.{ℕ, List, Option, None, Some, codes}
+use Rattle.serde_json.specs.Data.{Data, string, object, Members, member, no_members}
+use Rattle.x86_64_addr.specs.declared.level_count.Levels.{Levels}
+use Rattle.x86_64_dump.specs.declared.formats.Format.{Format}
+use Rattle.x86_64_dump.specs.declared.vmcoreinfo.Kernel.{Kernel}
+use Rattle.ptdump_engine.specs.InfoTexts.{cut_text, format_name, mode_name}
+use Rattle.ptdump_engine.specs.Json.{count, hexadecimal_string}
+use Rattle.ptdump_engine.specs.Start.{level_count, levels_by, mode_of}
+use Rattle.ptdump_engine.specs.declared.mode.Mode.{Mode}
+use Rattle.ptdump_engine.specs.declared.mode.Mode.TheVariants.{NoPaging, Paging32, Paging64}
+use Rattle.ptdump_engine.specs.declared.registers.Registers.{Registers}
+use Rattle.ptdump_engine.specs.declared.start.Origin.{Origin}
+use Rattle.ptdump_engine.specs.declared.start.Origin.TheVariants.{ByRequest, ByProcessor, ByKernel}
+use Rattle.ptdump_engine.specs.declared.start.Start.{Start}
+
+-- an object with one member
+abbrev pub told : (name : List ℕ) → Data → Data
+told name value = object (member name value no_members)
+
+-- why something isn't known
+abbrev pub json_of_error : (error : List ℕ) → Data
+json_of_error error = told (codes "error") (string error)
+
+abbrev pub json_of_format : Format → Data
+json_of_format format = told (codes "format") (string (format_name format))
+
+abbrev pub json_of_memory : (first last size : ℕ) → Data
+json_of_memory first last size = told (codes "memory") (object (
+    member (codes "bytes") (count size)
+    (member (codes "first") (hexadecimal_string first)
+    (member (codes "last") (hexadecimal_string last) no_members))))
+
+-- ---- processors
+
+-- the mode of paging, and for 64 bits how many levels CR4 says
+abbrev pub paging_members : (cr4 : ℕ) → Mode → Members
+paging_members cr4 NoPaging = member (codes "mode") (string (mode_name NoPaging)) no_members
+paging_members cr4 Paging32 = member (codes "mode") (string (mode_name Paging32)) no_members
+paging_members cr4 Paging64 =
+    member (codes "levels") (count (level_count (levels_by cr4))) (member (codes "mode") (string (mode_name Paging64)) no_members)
+
+abbrev pub json_of_registers : (cpu : ℕ) → Registers → Mode → Data
+json_of_registers cpu r mode = object (
+    member (codes "cpu") (count cpu)
+    (member (codes "cr0") (hexadecimal_string r.cr0)
+    (member (codes "cr3") (hexadecimal_string r.cr3)
+    (member (codes "cr4") (hexadecimal_string r.cr4)
+    (paging_members r.cr4 mode)))))
+
+-- a processor, with its registers if they are known
+abbrev pub json_of_processor : (cpu : ℕ) → Option Registers → Data
+json_of_processor cpu (Some r) = told (codes "processor") (json_of_registers cpu r (mode_of r.cr0 r.cr4))
+json_of_processor cpu None = told (codes "processor") (object (
+    member (codes "cpu") (count cpu)
+    (member (codes "error") (string cut_text) no_members)))
+
+-- ---- roots
+
+abbrev pub json_of_kernel : Kernel → Data
+json_of_kernel kernel = told (codes "kernel") (object (
+    member (codes "levels") (count (level_count kernel.levels))
+    (member (codes "root") (hexadecimal_string kernel.root) no_members)))
+
+abbrev pub json_of_no_kernel : (error : List ℕ) → Data
+json_of_no_kernel error = told (codes "kernel") (json_of_error error)
+
+-- the address of a root, the number of levels, and what says so: --cr3, a processor, which is named, or the kernel's note
+abbrev pub root_members : (cpu root : ℕ) → Levels → Origin → Members
+root_members cpu root levels ByRequest =
+    member (codes "address") (hexadecimal_string root)
+    (member (codes "levels") (count (level_count levels))
+    (member (codes "origin") (string (codes "--cr3")) no_members))
+root_members cpu root levels ByProcessor =
+    member (codes "address") (hexadecimal_string root)
+    (member (codes "cpu") (count cpu)
+    (member (codes "levels") (count (level_count levels))
+    (member (codes "origin") (string (codes "processor")) no_members)))
+root_members cpu root levels ByKernel =
+    member (codes "address") (hexadecimal_string root)
+    (member (codes "levels") (count (level_count levels))
+    (member (codes "origin") (string (codes "kernel")) no_members))
+
+-- the root that other commands take if this processor is requested
+abbrev pub json_of_root : (cpu : ℕ) → Start → Data
+json_of_root cpu start = told (codes "root") (object (root_members cpu start.root start.levels start.origin))
+
+abbrev pub json_of_no_root : (error : List ℕ) → Data
+json_of_no_root error = told (codes "root") (json_of_error error)

@@ -1,0 +1,88 @@
+-- InfoTexts: what `ptdump info` tells of a dump, as text.
+use Rattle.std.specs.Prelude.{ℕ, ◌++◌, List, Option, None, Some, codes, decimal}
+use Rattle.x86_64_addr.specs.declared.level_count.Levels.{Levels}
+use Rattle.x86_64_addr.specs.declared.level_count.Levels.TheVariants.{Four, Five}
+use Rattle.x86_64_dump.specs.declared.formats.Format.{Format}
+use Rattle.x86_64_dump.specs.declared.formats.Format.TheVariants.{Raw, Elf, Lime, Unread}
+use Rattle.x86_64_dump.specs.declared.vmcoreinfo.Kernel.{Kernel}
+use Rattle.x86_64_mappings.specs.Numbers.{hexadecimal}
+use Rattle.x86_64_mappings.specs.Texts.{size_text}
+use Rattle.ptdump_engine.specs.Start.{levels_by, mode_of}
+use Rattle.ptdump_engine.specs.declared.mode.Mode.{Mode}
+use Rattle.ptdump_engine.specs.declared.mode.Mode.TheVariants.{NoPaging, Paging32, Paging64}
+use Rattle.ptdump_engine.specs.declared.registers.Registers.{Registers}
+use Rattle.ptdump_engine.specs.declared.start.Origin.{Origin}
+use Rattle.ptdump_engine.specs.declared.start.Origin.TheVariants.{ByRequest, ByProcessor, ByKernel}
+use Rattle.ptdump_engine.specs.declared.start.Start.{Start}
+
+abbrev pub format_name : Format → List ℕ
+format_name Raw = codes "raw"
+format_name Elf = codes "ELF core"
+format_name Lime = codes "LiME"
+format_name (Unread format) = codes "none that is read"
+
+abbrev pub format_text : Format → List ℕ
+format_text format = codes "format: " ++ format_name format
+
+abbrev pub levels_text : Levels → List ℕ
+levels_text Four = codes "4 levels"
+levels_text Five = codes "5 levels"
+
+-- memory FIRST-LAST SIZE
+unfoldable pub memory_text : (first last size : ℕ) → List ℕ
+memory_text first last size = codes "memory " ++ hexadecimal first ++ codes "-" ++ hexadecimal last ++ codes " " ++ size_text size
+
+-- ---- processors
+
+unfoldable pub register_text : (name : List ℕ) → (value : ℕ) → List ℕ
+register_text name value = name ++ codes " " ++ hexadecimal value
+
+unfoldable pub values_text : Registers → List ℕ
+values_text r = register_text (codes "CR0") r.cr0 ++ codes ", " ++ register_text (codes "CR3") r.cr3 ++ codes ", " ++ register_text (codes "CR4") r.cr4
+
+abbrev pub mode_name : Mode → List ℕ
+mode_name NoPaging = codes "no paging"
+mode_name Paging32 = codes "32-bit paging"
+mode_name Paging64 = codes "64-bit paging"
+
+-- the mode of paging, and for 64 bits how many levels CR4 says
+abbrev pub paging_text : (cr4 : ℕ) → Mode → List ℕ
+paging_text cr4 NoPaging = mode_name NoPaging
+paging_text cr4 Paging32 = mode_name Paging32
+paging_text cr4 Paging64 = mode_name Paging64 ++ codes ", " ++ levels_text (levels_by cr4)
+
+unfoldable pub registers_text : Registers → List ℕ
+registers_text r = values_text r ++ codes ", " ++ paging_text r.cr4 (mode_of r.cr0 r.cr4)
+
+-- why the registers of a processor aren't known
+abbrev pub cut_text : List ℕ
+cut_text = codes "its note ends before CR4 does"
+
+-- a processor, with its registers if they are known
+abbrev pub processor_text : (cpu : ℕ) → Option Registers → List ℕ
+processor_text cpu (Some registers) = codes "processor " ++ decimal cpu ++ codes ": " ++ registers_text registers
+processor_text cpu None = codes "processor " ++ decimal cpu ++ codes ": " ++ cut_text
+
+-- ---- roots
+
+-- ROOT, LEVELS
+unfoldable pub place_text : (root : ℕ) → Levels → List ℕ
+place_text root levels = hexadecimal root ++ codes ", " ++ levels_text levels
+
+abbrev pub kernel_text : Kernel → List ℕ
+kernel_text kernel = codes "kernel (VMCOREINFO): root " ++ place_text kernel.root kernel.levels
+
+abbrev pub no_kernel_text : (error : List ℕ) → List ℕ
+no_kernel_text error = codes "kernel (VMCOREINFO): " ++ error
+
+abbrev pub origin_text : (cpu : ℕ) → Origin → List ℕ
+origin_text cpu ByRequest = codes "as --cr3 says"
+origin_text cpu ByProcessor = codes "of processor " ++ decimal cpu
+origin_text cpu ByKernel = codes "of the kernel"
+
+-- the root that other commands take if this processor is requested
+abbrev pub root_text : (cpu : ℕ) → Start → List ℕ
+root_text cpu start = codes "root: " ++ place_text start.root start.levels ++ codes ", " ++ origin_text cpu start.origin
+
+abbrev pub no_root_text : (error : List ℕ) → List ℕ
+no_root_text error = codes "root: none: " ++ error

@@ -1,0 +1,204 @@
+//! What a dump says of its machine, as values: each has a text.
+ghost use Rattle.std.specs.Prelude.{◌≡◌, Some, string_bytes};
+ghost use Rattle.ptdump_engine.specs.InfoTexts as texts;
+
+use crate::registers::{Registers, levels_name};
+use crate::start::{Origin, Start};
+use std::fmt::{Display, Formatter, Result as FmtResult, Write};
+use x86_64_addr::level_count::Levels;
+use x86_64_dump::{Format, Kernel};
+use x86_64_mappings::text::{write_hexadecimal, write_size};
+use x86_64_page::frame::PhysFrame;
+use x86_64_page::page::Size4KiB;
+
+/// The format of a dump.
+#[derive(Clone, Copy)]
+pub struct DumpFormat(pub Format);
+
+impl DumpFormat {
+    /// Returns its name.
+    pub fn name(self) -> &'static str
+        ensures { result.now ≡ texts.format_name self.0 }
+    {
+        match self.0 {
+            Format::Raw => "raw",
+            Format::Elf => "ELF core",
+            Format::Lime => "LiME",
+            Format::Unread(_) => "none that is read",
+        }
+    }
+}
+
+impl Display for DumpFormat {
+    ghost output = { λ format. Some (texts.format_text format.0) };
+
+    fn fmt<W: Write>(&self, f: &mut Formatter<W>) -> FmtResult {
+        let name = self.name();
+        write!(f, "format: {name}")
+    }
+}
+
+/// A range of physical memory.
+#[derive(Clone, Copy)]
+pub struct MemoryRange {
+    /// Its first address.
+    pub first: u64,
+    /// Its last address.
+    pub last: u64,
+    /// The number of its bytes.
+    pub size: u64,
+}
+
+impl Display for MemoryRange {
+    ghost output = { λ range. Some (texts.memory_text range.first range.last range.size) };
+
+    #[tactic(auto, unfolding(crate::specs::InfoTexts::memory_text))]
+    fn fmt<W: Write>(&self, f: &mut Formatter<W>) -> FmtResult {
+        f.write_str("memory ")?;
+        write_hexadecimal(f, self.first)?;
+        f.write_str("-")?;
+        write_hexadecimal(f, self.last)?;
+        f.write_str(" ")?;
+        write_size(f, self.size)
+    }
+}
+
+/// A processor.
+#[derive(Clone, Copy)]
+pub struct Processor {
+    /// Its number, in the order of the notes.
+    pub cpu: usize,
+    /// Its control registers, if its note has them all.
+    pub registers: Option<Registers>,
+}
+
+impl Processor {
+    /// Why the registers of a processor aren't known.
+    pub const CUT: &'static str = "its note ends before CR4 does";
+}
+
+impl Display for Processor {
+    ghost output = { λ processor. Some (texts.processor_text processor.cpu processor.registers) };
+
+    fn fmt<W: Write>(&self, f: &mut Formatter<W>) -> FmtResult {
+        let cpu = self.cpu;
+        write!(f, "processor {cpu}: ")?;
+        match self.registers {
+            Some(registers) => write!(f, "{registers}"),
+            None => f.write_str(Processor::CUT),
+        }
+    }
+}
+
+/// A root as text, with the number of levels.
+#[derive(Clone, Copy)]
+struct Place {
+    root: PhysFrame<Size4KiB>,
+    levels: Levels,
+}
+
+impl Display for Place {
+    ghost output = { λ place. Some (texts.place_text place.root place.levels) };
+
+    #[tactic(auto, unfolding(crate::specs::InfoTexts::place_text))]
+    fn fmt<W: Write>(&self, f: &mut Formatter<W>) -> FmtResult {
+        write_hexadecimal(f, self.root.start_address().as_u64())?;
+        let levels = levels_name(self.levels);
+        write!(f, ", {levels}")
+    }
+}
+
+/// The root of the kernel's own page tables, as the note VMCOREINFO says it.
+#[derive(Clone, Copy)]
+pub struct KernelRoot(pub Kernel);
+
+impl Display for KernelRoot {
+    ghost output = { λ kernel. Some (texts.kernel_text kernel.0) };
+
+    fn fmt<W: Write>(&self, f: &mut Formatter<W>) -> FmtResult {
+        let place = Place {
+            root: self.0.root,
+            levels: self.0.levels,
+        };
+        write!(f, "kernel (VMCOREINFO): root {place}")
+    }
+}
+
+/// Why the note VMCOREINFO doesn't say where the kernel's root is.
+#[derive(Drop)]
+pub struct NoKernelRoot {
+    /// The reason.
+    pub error: String,
+}
+
+impl Display for NoKernelRoot {
+    ghost output = { λ kernel. Some (texts.no_kernel_text (string_bytes kernel.error)) };
+
+    fn fmt<W: Write>(&self, f: &mut Formatter<W>) -> FmtResult {
+        let error = &self.error;
+        write!(f, "kernel (VMCOREINFO): {error}")
+    }
+}
+
+/// What says where a root is, as text.
+#[derive(Clone, Copy)]
+struct Source {
+    origin: Origin,
+    cpu: u64,
+}
+
+impl Display for Source {
+    ghost output = { λ source. Some (texts.origin_text source.cpu source.origin) };
+
+    fn fmt<W: Write>(&self, f: &mut Formatter<W>) -> FmtResult {
+        match self.origin {
+            Origin::ByRequest => f.write_str("as --cr3 says"),
+            Origin::ByProcessor => {
+                let cpu = self.cpu;
+                write!(f, "of processor {cpu}")
+            }
+            Origin::ByKernel => f.write_str("of the kernel"),
+        }
+    }
+}
+
+/// The start of page walks.
+#[derive(Clone, Copy)]
+pub struct Root {
+    /// The start.
+    pub start: Start,
+    /// The processor that is requested.
+    pub cpu: u64,
+}
+
+impl Display for Root {
+    ghost output = { λ root. Some (texts.root_text root.cpu root.start) };
+
+    fn fmt<W: Write>(&self, f: &mut Formatter<W>) -> FmtResult {
+        let place = Place {
+            root: self.start.root,
+            levels: self.start.levels,
+        };
+        let source = Source {
+            origin: self.start.origin,
+            cpu: self.cpu,
+        };
+        write!(f, "root: {place}, {source}")
+    }
+}
+
+/// Why no root is found.
+#[derive(Drop)]
+pub struct NoRoot {
+    /// The reason.
+    pub error: String,
+}
+
+impl Display for NoRoot {
+    ghost output = { λ root. Some (texts.no_root_text (string_bytes root.error)) };
+
+    fn fmt<W: Write>(&self, f: &mut Formatter<W>) -> FmtResult {
+        let error = &self.error;
+        write!(f, "root: none: {error}")
+    }
+}
