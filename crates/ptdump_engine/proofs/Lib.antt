@@ -23,3 +23,4 @@ pub mod SameTables
 pub mod Processing
 pub mod Turns
 pub mod OfProcessors
+pub mod Tests

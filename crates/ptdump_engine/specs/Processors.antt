@@ -86,9 +86,12 @@ cpus_with ps p = map (λ q. q.cpu) (filter (shares p) ps)
 
 -- ---- what is said of them
 
+abbrev pub left_out_told : (cpu : ℕ) → Mode → List ℕ
+left_out_told cpu mode = codes "processor " ++ decimal cpu ++ codes " " ++ mode_told mode ++ codes ": it is left out"
+
 -- a line for each processor that has no tables
 abbrev pub left_out_line : Processor → List ℕ
-left_out_line p = if has_tables p then [] else line (codes "processor " ++ decimal p.cpu ++ codes " " ++ mode_told p.mode ++ codes ": it is left out")
+left_out_line p = if has_tables p then [] else line (left_out_told p.cpu p.mode)
 
 abbrev pub left_out_text : List Processor → List ℕ
 left_out_text ps = flat_map left_out_line ps

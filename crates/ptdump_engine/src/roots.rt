@@ -8,6 +8,7 @@ ghost use Rattle.ptdump_engine.specs.Output.{Puts, put_in};
 ghost use Rattle.ptdump_engine.specs.Processors as specs;
 ghost use Rattle.ptdump_engine.specs.Program as program;
 ghost use Rattle.ptdump_engine.specs.Steps.{FindsAs, InTurn, IsForced};
+ghost use Rattle.ptdump_engine.specs.Walks.{line};
 ghost use Rattle.ptdump_engine.specs.declared.request.Form.TheVariants.{Text};
 ghost use Rattle.ptdump_engine.specs.private.Roots.{AreNoted, number_at};
 
@@ -16,6 +17,7 @@ use crate::destination::Destination;
 use crate::engine::report_from;
 use crate::failure::Failure;
 use crate::json_lines::{ProcessorGroup, write_json};
+use crate::mode::Mode;
 use crate::output::{Output, OutputError};
 use crate::processors::{Processor, cpus_with, firsts_of, modes_failure, read_processors};
 use crate::request::{Form, Outcome, Request};
@@ -280,7 +282,16 @@ fn write_mode<E: Destination>(
     if processor.has_tables() {
         return Ok(());
     }
-    let cpu = processor.cpu;
-    let mode = processor.mode;
+    write_without_tables(processor.cpu, processor.mode, notes)
+}
+
+/// Writes that a processor has no tables, as it is in another mode.
+fn write_without_tables<E: Destination>(
+    cpu: usize,
+    mode: Mode,
+    notes: &mut Output<'_, E>,
+) -> Result<(), OutputError<E>>
+    ensures { OnOk result (Puts E.contents notes.old notes.new (line (specs.left_out_told cpu mode))) }
+{
     writeln!(notes, "processor {cpu} {mode}: it is left out")
 }

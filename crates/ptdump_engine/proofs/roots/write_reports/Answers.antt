@@ -1,4 +1,5 @@
-use Rattle.std.proofs.Common.{◌≡◌, ◌∙◌, ◌&&◌, refl, sym, ap₂, subst}
+use Rattle.std.proofs.Common.{◌≡◌, ◌∙◌, ◌&&◌, refl, sym, ap, ap₂, subst}
+use Rattle.std.specs.Io.KnownBytes.{Appends}
 use Rattle.std.proofs.KnownBytes.{Appends-nil}
 use Rattle.std.proofs.lemmas.List.Folds.{list_all_more}
 use Rattle.x86_64_dump.specs.Dump.{words_of_dump}
@@ -15,15 +16,26 @@ loop-first-preserved g c = (
   c.in_ok-is.ensures.noted,
   λ known.
       let T = words_of_dump (opened g.S.ByteSource.bytes c.args.dump.now) in
+      let request = c.args.request.now in
+      let ps = c.args.processors.now in
       let xs = c.args.firsts.now in
       let i = c.loop-first.first-index in
+      let x = c.first-item.result in
       let below = c.loop-first-test.true in
+      let written_by = g.W.Destination.contents in
+      let noted_by = g.E.Destination.contents in
+      let now = c.loop-first in
+      let new = c.write_report_below-is.new in
+      let told_of = ToldOfTablesOf g.G.Progress.Told g.G.Progress.Ended T in
       let (name, written, complete, totals, told) = c.loop-first.invariant.1 known in (
         c.in_ok-is.ensures.name known ∙ name,
-        appends_more (report_below c.args.request.now T c.args.processors.now) _ _ _ xs i _ below written (c.in_ok-is.ensures.text known),
-        ap₂ (λ b d. b && d) complete (c.in_ok-is.ensures.complete known) ∙ sym (list_all_more (is_complete_for c.args.request.now T) xs i _ below),
-        turn_more (EndsByTotalsOf T) _ _ _ xs i _ below totals (c.in_ok-is.ensures.totals known),
-        turn_more (ToldOfTablesOf g.G.Progress.Told g.G.Progress.Ended T) _ _ _ xs i _ below told (c.in_ok-is.ensures.told known),
+        appends_more (report_below request T ps) _ (written_by now.writer) (written_by new.writer) xs i x below written
+            (subst (λ y. Appends (written_by now.writer) (written_by new.writer) (report_below request T ps y)) c.first-item.is (c.in_ok-is.ensures.text known)),
+        ap₂ (λ b d. b && d) complete (c.in_ok-is.ensures.complete known ∙ ap (is_complete_for request T) c.first-item.is) ∙ sym (list_all_more (is_complete_for request T) xs i x below),
+        turn_more (EndsByTotalsOf T) _ (noted_by now.notes.writer.now) (noted_by new.notes.writer.now) xs i x below totals
+            (subst (λ y. EndsByTotalsOf T y (noted_by now.notes.writer.now) (noted_by new.notes.writer.now)) c.first-item.is (c.in_ok-is.ensures.totals known)),
+        turn_more told_of _ now.progress new.progress xs i x below told
+            (subst (λ y. told_of y now.progress new.progress) c.first-item.is (c.in_ok-is.ensures.told known)),
       ),
 )
 

@@ -1,0 +1,101 @@
+-- Tests of the request: none of them fails by a write.
+use Rattle.std.proofs.Common.{◌≡◌, ◌∙◌, ◌^◌, ◌||◌, ℕ, Bool, true, false, not, List, [], ◌∷◌, Option, None, Some, IfSome, is_some, option_map, Result, Ok, Err, cond, nat_le, nat_lt, sym, ap, subst}
+use Rattle.std.specs.Bool.{⊤}
+use Rattle.std.specs.List.{find}
+use Rattle.std.specs.Option.{option_or}
+use Rattle.x86_64_addr.specs.declared.level_count.Levels.{Levels}
+use Rattle.x86_64_dump.specs.Dump.{Contents, words_of_dump}
+use Rattle.x86_64_dump.specs.Notes.{processors_of}
+use Rattle.x86_64_model.specs.Memory.{Words}
+use Rattle.ptdump_engine.specs.Processors.{firsts_of, modes_failure, processors_from}
+use Rattle.ptdump_engine.specs.Program.{address_failure, argument_failure, first_failure, is_canonical, is_walk, level_count, order_failure, processors_for, root_failure, tables_failure}
+use Rattle.ptdump_engine.specs.Steps.{FailsBy, and_then, unless}
+use Rattle.ptdump_engine.specs.declared.failure.Failure.{Failure}
+use Rattle.ptdump_engine.specs.declared.failure.Failure.TheVariants as failures
+use Rattle.ptdump_engine.specs.declared.processors.Processor.{Processor}
+use Rattle.ptdump_engine.specs.declared.request.Command.{Command}
+use Rattle.ptdump_engine.specs.declared.request.Command.TheVariants as commands
+use Rattle.ptdump_engine.specs.declared.request.Request.{Request}
+
+-- it isn't that of a write
+abbrev IsNoWrite : Failure → Type 0
+IsNoWrite failures.Output = ⊥
+IsNoWrite failure = ⊤
+
+fails_so : {A : Type 0} (failure : Failure) (found : Result A Failure) → IsNoWrite failure → found ≡ Err failure → FailsBy false failure found
+fails_so failures.OutOfMemory found no_write is = tt
+fails_so failures.Output found no_write is = absurd no_write
+fails_so failures.NoCr3 found no_write is = is
+fails_so failures.VirtualBox found no_write is = is
+fails_so (failures.NoProcessor cpu count) found no_write is = is
+fails_so failures.NoProcessors found no_write is = is
+fails_so (failures.WrongMode cpu mode) found no_write is = is
+fails_so (failures.NotCanonical address levels) found no_write is = is
+fails_so (failures.NotPhysical address) found no_write is = is
+fails_so (failures.FromAboveTo from to) found no_write is = is
+fails_so (failures.NoRoot root) found no_write is = is
+fails_so (failures.Dump fault) found no_write is = is
+fails_so (failures.Read error) found no_write is = is
+
+either : (one other : Option Failure) → IfSome one IsNoWrite → IfSome other IsNoWrite → IfSome (option_or one other) IsNoWrite
+either None other first second = second
+either (Some failure) other first second = first
+
+found_so : (failure_at : ℕ → Failure) → ((a : ℕ) → IsNoWrite (failure_at a)) → (found : Option ℕ) → IfSome (option_map failure_at found) IsNoWrite
+found_so failure_at none None = tt
+found_so failure_at none (Some a) = none a
+
+address_so : (levels : Levels) (address : Option ℕ) → IfSome (address_failure levels address) IsNoWrite
+address_so levels None = tt
+address_so levels (Some a) = by (is_canonical (level_count levels) a)
+  where
+    by : (b : Bool) → IfSome (cond b None (Some (failures.NotCanonical a levels))) IsNoWrite
+    by true = tt
+    by false = tt
+
+order_so : (from to : Option ℕ) → IfSome (order_failure from to) IsNoWrite
+order_so None to = tt
+order_so (Some from) None = tt
+order_so (Some from) (Some to) = by (nat_lt to from)
+  where
+    by : (b : Bool) → IfSome (cond b (Some (failures.FromAboveTo from to)) None) IsNoWrite
+    by true = tt
+    by false = tt
+
+argument_so : (levels : Levels) (command : Command) → IfSome (argument_failure levels command) IsNoWrite
+argument_so levels (commands.Walk addresses asked) = found_so (λ a. failures.NotCanonical a levels) (λ a. tt) (find (λ a. not (is_canonical (level_count levels) a)) addresses.items)
+argument_so levels (commands.Find addresses) = found_so (λ a. failures.NotPhysical a) (λ a. tt) (find (λ a. nat_le (2 ^ 52) a) addresses.items)
+argument_so levels (commands.Regions s) = either (address_failure levels s.from) _ (address_so levels s.from) (either (address_failure levels s.to) _ (address_so levels s.to) (order_so s.from s.to))
+argument_so levels (commands.Pages s has_names) = either (address_failure levels s.from) _ (address_so levels s.from) (either (address_failure levels s.to) _ (address_so levels s.to) (order_so s.from s.to))
+argument_so levels (commands.Check checking) = tt
+argument_so levels commands.Image = tt
+argument_so levels commands.Picture = tt
+argument_so levels commands.Info = tt
+
+root_so : (command : Command) (T : Words) (root : ℕ) → IfSome (root_failure command T root) IsNoWrite
+root_so command T root = by (is_walk command || is_some (T root))
+  where
+    by : (b : Bool) → IfSome (cond b None (Some (failures.NoRoot root))) IsNoWrite
+    by true = tt
+    by false = tt
+
+first_so : (request : Request) (T : Words) (ps : List Processor) → IfSome (first_failure request T ps) IsNoWrite
+first_so request T [] = tt
+first_so request T (p ∷ ps) = either (tables_failure request T p) _
+    (either (argument_failure p.start.levels request.command) _ (argument_so p.start.levels request.command) (root_so request.command T p.start.root))
+    (first_so request T ps)
+
+fails_with : (request : Request) (dump : Contents) (ps : List Processor) (failure : Failure) → processors_from dump.file request.levels 0 (processors_of dump) ≡ Ok ps → modes_failure ps ≡ None
+    → first_failure request (words_of_dump dump) (firsts_of ps) ≡ Some failure → processors_for request dump ≡ Err failure
+unfolding processors_for
+fails_with request dump ps failure are modes first =
+    ap (λ found. and_then found (λ ps. and_then (unless (modes_failure ps) ps) (λ tested. unless (first_failure request (words_of_dump dump) (firsts_of ps)) ps))) are
+    ∙ ap (λ o. and_then (unless o ps) (λ tested. unless (first_failure request (words_of_dump dump) (firsts_of ps)) ps)) modes
+    ∙ ap (λ o. unless o ps) first
+
+-- the tables of a processor can't be reported on
+pub no_tables : (request : Request) (dump : Contents) (ps : List Processor) (failure : Failure) → processors_from dump.file request.levels 0 (processors_of dump) ≡ Ok ps → modes_failure ps ≡ None
+    → first_failure request (words_of_dump dump) (firsts_of ps) ≡ Some failure → FailsBy false failure (processors_for request dump)
+no_tables request dump ps failure are modes first =
+    fails_so failure (processors_for request dump) (subst (λ o. IfSome o IsNoWrite) first (first_so request (words_of_dump dump) (firsts_of ps)))
+    (fails_with request dump ps failure are modes first)
