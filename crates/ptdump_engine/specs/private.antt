@@ -16,5 +16,4 @@ pub mod Passing
 pub mod Puts
 pub mod Reported
 pub mod Searched
-pub mod WalkLines
 pub mod Walked
