@@ -2,14 +2,12 @@ pub mod AccessLaws
 pub mod Alikes
 pub mod Asked
 pub mod Counting
-pub mod Explaining
 pub mod Failing
 pub mod Listed
 pub mod Results
 pub mod WalkLaws
-pub mod WalkObjects
+pub mod WalkValues
 pub mod WordByWord
-pub mod WalkLines
 pub mod Walking
 pub mod Wholly
 pub mod Named

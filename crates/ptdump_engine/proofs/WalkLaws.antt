@@ -15,8 +15,8 @@ use Rattle.ptdump_engine.specs.Laws.{WrittenWalksArrive}
 use Rattle.ptdump_engine.specs.Walks.{End, Walk, arrives_at, not_present, huge_page, no_table, after, behind, ends, arrival_with, arrival_of, walk_from, walk_of, walk_rights}
 use Rattle.ptdump_engine.specs.declared.word_read.WordRead.{WordRead}
 use Rattle.x86_64_tables.specs.Rights.{both}
-use Rattle.ptdump_engine.specs.private.WalkLines.{page_size}
-use Rattle.ptdump_engine.proofs.WalkLines.{narrowed_first, rights_kept, word_read}
+use Rattle.ptdump_engine.specs.private.Walked.{page_size}
+use Rattle.ptdump_engine.proofs.Walking.{narrowed_first, rights_kept, word_read}
 
 -- the arrival of a walk, below words that allow these rights
 abbrev arrival_below : Rights → Walk → Option Walked

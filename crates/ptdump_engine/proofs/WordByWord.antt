@@ -8,8 +8,7 @@ use Rattle.ptdump_engine.specs.Walks.{End, Walk, after, behind, ends, walk_from}
 use Rattle.ptdump_engine.specs.declared.walked.WalkEnd.{WalkEnd}
 use Rattle.ptdump_engine.specs.declared.word_read.WordRead.{WordRead}
 use Rattle.ptdump_engine.specs.private.Walked.{end_at, end_with}
-use Rattle.ptdump_engine.proofs.WalkLines.{narrowed_first, rights_kept, walk_from-there, word_read}
-use Rattle.ptdump_engine.proofs.Walking.{IsRead}
+use Rattle.ptdump_engine.proofs.Walking.{IsRead, narrowed_first, rights_kept, walk_from-there, word_read}
 
 pub words_behind : (T : Words) (p level f e : ℕ) (walk : Walk) → IsRead T p level f e → behind p level e (walk_from T p (level - 1) (address e)) ≡ walk
     → (walk_from T p level f).words ≡ word_read p level f e ∷ walk.words

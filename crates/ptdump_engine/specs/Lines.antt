@@ -21,8 +21,7 @@ line_in Text text value = line text
 line_in Json text value = json_line value
 
 abbrev pub region_line : Form → (L : ℕ) → Region → List ℕ
-region_line Text L r = line (region_text L r)
-region_line Json L r = json_line (json_of_region L r)
+region_line form L r = line_in form (region_text L r) (json_of_region L r)
 
 -- a line of text has the names of the flags too if they are asked for
 abbrev pub mapping_line : Form → (has_names : Bool) → (L : ℕ) → Mapping → List ℕ
@@ -32,8 +31,7 @@ mapping_line Json has_names L m = json_line (json_of_mapping L m)
 
 -- the line for an address that leads to a physical address, with the rights there
 abbrev pub found_line : Form → (physical address : ℕ) → Rights → List ℕ
-found_line Text a at rights = line (rights_at_text at rights)
-found_line Json a at rights = json_line (json_of_found a at rights)
+found_line form a at rights = line_in form (rights_at_text at rights) (json_of_found a at rights)
 
 -- the walk to position p, its explanation and the access if they are asked for
 abbrev pub walk_lines : Form → (L : ℕ) → Words → (root : ℕ) → WalkOptions → (p : ℕ) → List ℕ

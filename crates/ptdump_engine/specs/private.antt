@@ -17,5 +17,4 @@ pub mod Puts
 pub mod Reported
 pub mod Roots
 pub mod Searched
-pub mod WalkLines
 pub mod Walked

@@ -1,114 +1,69 @@
 //! Explanations of walks that arrive: how large the page is, and which words take rights away.
-ghost use Rattle.std.specs.Prelude.{◌≡◌, ◌≤◌, ◌++◌, ◌||◌, Some, not, codes, if◌then◌else◌, [], OnOk};
+ghost use Rattle.std.specs.Prelude.{◌++◌, Some, codes, if◌then◌else◌, [], OnOk};
 ghost use Rattle.std.specs.List.{flat_map};
 ghost use Rattle.x86_64_mappings.specs.Texts.{size_text};
-ghost use Rattle.x86_64_model.specs.Entry.{present, huge};
-ghost use Rattle.x86_64_model.specs.Mappings.{maps_page};
-ghost use Rattle.x86_64_model.specs.Memory.{words_of, identity_places};
 ghost use Rattle.ptdump_engine.specs.Explanations as explanations;
-ghost use Rattle.ptdump_engine.specs.Loaded.{words_loaded};
 ghost use Rattle.ptdump_engine.specs.Output.{Puts};
-ghost use Rattle.ptdump_engine.specs.Walks.{line, walk_from, walk_of};
-ghost use Rattle.ptdump_engine.specs.private.WalkLines.{page_size};
+ghost use Rattle.ptdump_engine.specs.private.Walked.{end_of};
 
 use crate::destination::Destination;
-use crate::loaded::Loaded;
 use crate::output::{Output, OutputError};
+use crate::walked::{Walk, WalkEnd};
 use crate::word_read::{Place, WordRead};
 use std::fmt::{Display, Formatter, Result as FmtResult, Write};
-use x86_64_addr::addr::VirtAddrIn;
-use x86_64_addr::level_count::LevelCount;
 use x86_64_mappings::text::write_size;
-use x86_64_page::frame::PhysFrame;
-use x86_64_page::page::Size4KiB;
 use x86_64_tables::page_table::{PageTableEntry, PageTableFlags, has_flag};
-use x86_64_tables::phys_memory::{IdentityMapping, PhysMemory, index_of, table_in};
 
-/// Writes the explanation of the walk to an address, if it is asked for and the walk arrives in a page of some size.
+/// Writes the explanation of a walk, if it is asked for and the walk arrives.
 ///
 /// # Errors
 ///
 /// `OutputError::OutOfMemory` if memory allocation fails, `OutputError::Write` if a write fails.
-pub fn write_explanation<L: LevelCount, W: Destination>(
-    loaded: &Loaded<'_, L>,
-    address: VirtAddrIn<L>,
+pub fn write_explanation<W: Destination>(
+    walk: &Walk,
     is_asked: bool,
-    size: Option<u64>,
     output: &mut Output<'_, W>,
 ) -> Result<(), OutputError<W>>
-    requires { size ≡ page_size (walk_of L.LEVELS (words_loaded loaded.now) loaded.now.root address).end }
     ensures { OnOk result (Puts W.contents output.old output.new (if is_asked
-        then explanations.explanation_text (walk_of L.LEVELS (words_loaded loaded.now) loaded.now.root address)
-        else [])) }
+        then explanations.explained (end_of walk.now.end) walk.now.words.items else [])) }
 {
     if !is_asked {
         return Ok(());
     }
-    match size {
-        Some(size) => write_explained(loaded, address, size, output),
-        None => Ok(()),
+    match walk.end {
+        WalkEnd::Arrives { at: _, size } => write_explained(walk.words.as_slice(), size, output),
+        _ => Ok(()),
     }
 }
 
-/// Writes the size of the page of the walk to an address, and which words of the walk take rights away.
-fn write_explained<L: LevelCount, W: Destination>(
-    loaded: &Loaded<'_, L>,
-    address: VirtAddrIn<L>,
+/// Writes the size of a page, and which words of the walk to it take rights away.
+fn write_explained<W: Destination>(
+    words: &[WordRead],
     size: u64,
     output: &mut Output<'_, W>,
 ) -> Result<(), OutputError<W>>
-    ensures { OnOk result (Puts W.contents output.old output.new (explanations.explained_by size
-        (walk_of L.LEVELS (words_loaded loaded.now) loaded.now.root address).words)) }
+    ensures { OnOk result (Puts W.contents output.old output.new (explanations.explained_by size words.now)) }
 {
     let page = PageLine { size };
     writeln!(output, "{page}")?;
-    let memory = loaded.tables.memory();
-    write_losses_on(memory, address.position(), L::LEVELS, loaded.root, output)
-}
-
-/// Writes which words take rights away, of the walk to a position, the number of an address counted without the gap, from the table
-/// of a level in a frame.
-fn write_losses_on<W: Destination>(
-    memory: &PhysMemory,
-    position: u64,
-    level: u64,
-    frame: PhysFrame<Size4KiB>,
-    output: &mut Output<'_, W>,
-) -> Result<(), OutputError<W>>
-    requires low { 1 ≤ level }
-    requires high { level ≤ 5 }
-    ensures { OnOk result (Puts W.contents output.old output.new (flat_map explanations.losses_text
-        (walk_from (words_of memory.now identity_places) position level frame).words)) }
-{
-    let Some(table) = table_in(memory, &IdentityMapping, frame) else {
-        return Ok(());
-    };
-    let index = index_of(position, level);
-    let entry = &table[index];
-    let read = WordRead {
-        level,
-        table: frame,
-        index,
-        word: entry.word(),
-    };
-    write_losses(&read, output)?;
-    if ends_walk(level, entry) {
-        return Ok(());
-    }
-    let below = PhysFrame::from_start_address_unchecked(entry.addr());
-    write_losses_on(memory, position, level - 1, below, output)
-}
-
-/// Returns true if a walk reads no table below an entry of a level.
-fn ends_walk(level: u64, entry: &PageTableEntry) -> bool
-    ensures { result ≡ (not (present entry.now) || maps_page level entry.now || huge entry.now) }
-{
-    !has_flag(entry, PageTableFlags::PRESENT)
-        || entry.maps_page(level)
-        || has_flag(entry, PageTableFlags::HUGE_PAGE)
+    write_losses_of(words, output)
 }
 
 /// Writes a line for each right that a word takes away.
+fn write_losses_of<W: Destination>(
+    words: &[WordRead],
+    output: &mut Output<'_, W>,
+) -> Result<(), OutputError<W>>
+    ensures { OnOk result (Puts W.contents output.old output.new
+        (flat_map explanations.losses_text words.now)) }
+{
+    for word in words {
+        write_losses(word, output)?;
+    }
+    Ok(())
+}
+
+/// Writes a line for each right that one word takes away.
 #[tactic(auto, unfolding(crate::specs::Explanations::losses_text))]
 fn write_losses<W: Destination>(
     read: &WordRead,

@@ -2,7 +2,7 @@
 ghost use Rattle.std.specs.Prelude.{◌≡◌, false, OnOk};
 ghost use Rattle.ptdump_engine.specs.Lines.{found_line};
 
-use crate::json_lines::{Found, write_json};
+use crate::json_lines::{Found, write_as};
 use crate::lines::Lines;
 use crate::request::Form;
 use crate::rights_at::RightsAt;
@@ -97,15 +97,9 @@ fn write_found<O: Lines>(
     ensures { OnOk result (O.puts output.old output.new
         (found_line form physical found.address found.rights)) }
 {
-    match form {
-        Form::Text => output.write_line(found),
-        Form::Json => write_json(
-            alloc,
-            &Found {
-                physical,
-                at: found,
-            },
-            output,
-        ),
-    }
+    let found = Found {
+        physical,
+        at: found,
+    };
+    write_as(alloc, form, found, output)
 }

@@ -51,11 +51,7 @@ fn hexadecimal(alloc: Global, number: u64) -> Result<String, AllocError>
 /// # Errors
 ///
 /// The error of the destination, or of memory allocation.
-pub fn write_json<T: ToJson, O: Lines>(
-    alloc: Global,
-    item: &T,
-    output: &mut O,
-) -> Result<(), O::Error>
+fn write_json<T: ToJson, O: Lines>(alloc: Global, item: &T, output: &mut O) -> Result<(), O::Error>
     ensures { OnOk result (O.puts output.old output.new (json_line (T.json item.now))) }
 {
     let value = item.to_json(alloc)?;

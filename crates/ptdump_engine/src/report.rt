@@ -24,6 +24,7 @@ use crate::output::{Output, OutputError};
 use crate::request::{Form, Selection, WalkOptions};
 use crate::selected::{visit_selected_mappings, visit_selected_regions};
 use crate::walk::write_walk;
+use crate::walked::walk_to;
 use std::alloc::Global;
 use x86_64_addr::addr::{PhysAddr, VirtAddrIn};
 use x86_64_addr::level_count::LevelCount;
@@ -151,7 +152,7 @@ fn write_walk_as<L: LevelCount, W: Destination>(
         L.LEVELS (words_loaded loaded.now) loaded.now.root address) }
 {
     match form {
-        Form::Text => write_walk_by(loaded, address, options, output),
+        Form::Text => write_walk_by(alloc, loaded, address, options, output),
         Form::Json => write_json_walk::<L, Output<'_, W>>(alloc, loaded, address, options, output),
     }
 }
@@ -159,6 +160,7 @@ fn write_walk_as<L: LevelCount, W: Destination>(
 /// Writes the walk to an address as text, and what else is asked of it. Returns true if the access arrives, or if none is asked for,
 /// the walk.
 fn write_walk_by<L: LevelCount, W: Destination>(
+    alloc: Global,
     loaded: &Loaded<'_, L>,
     address: VirtAddrIn<L>,
     options: WalkOptions,
@@ -171,10 +173,11 @@ fn write_walk_by<L: LevelCount, W: Destination>(
         L.LEVELS (words_loaded loaded.now) loaded.now.root address) }
 {
     let controls = options.controls;
-    let size = write_walk(loaded, controls, address, output)?;
-    write_explanation(loaded, address, options.explains, size, output)?;
+    let walk = walk_to(alloc, loaded, address)?;
+    write_walk(&walk, controls, output)?;
+    write_explanation(&walk, options.explains, output)?;
     match options.access {
-        None => Ok(size.is_some()),
+        None => Ok(walk.arrives()),
         Some(asked) => write_access(loaded, address, controls, asked, output),
     }
 }

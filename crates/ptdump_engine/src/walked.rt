@@ -1,17 +1,18 @@
 //! Walks as values: the words that they read, and how they end.
-ghost use Rattle.std.specs.Prelude.{◌≡◌, ◌++◌, ◌≤◌, ◌+◌, ◌%◌, true, IfOk, OnOk};
+ghost use Rattle.std.specs.Prelude.{◌≡◌, ◌++◌, ◌≤◌, ◌+◌, ◌%◌, true, IfOk, OnOk, Some};
 ghost use Rattle.x86_64_model.specs.Mappings.{maps_page as page_mapped};
 ghost use Rattle.x86_64_model.specs.Memory.{words_of, identity_places};
 ghost use Rattle.x86_64_model.specs.PageWalk.{page_start};
 ghost use Rattle.x86_64_model.specs.Position.{span as span_of};
 ghost use Rattle.ptdump_engine.specs.Loaded.{words_loaded};
 ghost use Rattle.ptdump_engine.specs.Walks as walks;
-ghost use Rattle.ptdump_engine.specs.private.Walked.{IsWalk, end_with};
+ghost use Rattle.ptdump_engine.specs.private.Walked.{IsWalk, end_of, end_with, is_arrival, text_of_end};
 
 use crate::loaded::Loaded;
 use crate::rights_at::RightsAt;
-use crate::word_read::WordRead;
+use crate::word_read::{MissingTable, WordRead};
 use std::alloc::{AllocError, Global};
+use std::fmt::{Display, Formatter, Result as FmtResult, Write};
 use x86_64_addr::addr::VirtAddrIn;
 use x86_64_addr::level_count::LevelCount;
 use x86_64_mappings::span;
@@ -23,14 +24,35 @@ use x86_64_tables::phys_memory::{IdentityMapping, PhysMemory, index_of, table_in
 /// How a walk ends.
 #[derive(Clone, Copy)]
 pub enum WalkEnd {
-    /// It arrives at a physical address, with the rights that all words allow.
-    Arrives(RightsAt),
+    /// It arrives.
+    Arrives {
+        /// The physical address, with the rights that all words allow.
+        at: RightsAt,
+        /// The number of bytes of the page.
+        size: u64,
+    },
     /// The last word lacks `PRESENT`.
     NotPresent,
     /// The table in a frame isn't in the dump.
     MissingTable(PhysFrame<Size4KiB>),
     /// The last word, of this level, has `HUGE_PAGE` although no entry of the level maps a page.
     HugePage(u64),
+}
+
+impl Display for WalkEnd {
+    ghost output = { λ end. Some (text_of_end end) };
+
+    fn fmt<W: Write>(&self, f: &mut Formatter<W>) -> FmtResult {
+        match *self {
+            WalkEnd::Arrives { at, size: _ } => write!(f, "{at}"),
+            WalkEnd::NotPresent => f.write_str("not present"),
+            WalkEnd::MissingTable(frame) => {
+                let missing = MissingTable(frame);
+                write!(f, "{missing}")
+            }
+            WalkEnd::HugePage(level) => write!(f, "HUGE_PAGE at level {level}"),
+        }
+    }
 }
 
 /// A walk to an address.
@@ -40,6 +62,15 @@ pub struct Walk {
     pub words: Vec<WordRead>,
     /// How it ends.
     pub end: WalkEnd,
+}
+
+impl Walk {
+    /// Returns true if it arrives.
+    pub fn arrives(&self) -> bool
+        ensures { result ≡ is_arrival (end_of self.now.end) }
+    {
+        matches!(self.end, WalkEnd::Arrives { .. })
+    }
 }
 
 /// Walks to an address.
@@ -118,9 +149,12 @@ fn arrival(position: u64, level: u64, entry: &PageTableEntry, rights: Rights) ->
     ensures { result ≡ WalkEnd.Arrives (record {
       address = page_start level entry.now + position % span_of level;
       rights = rights;
-    }) }
+    }) (span_of level) }
 {
     let size = span(level);
     let address = entry.addr().as_u64() / size * size + position % size;
-    WalkEnd::Arrives(RightsAt { address, rights })
+    WalkEnd::Arrives {
+        at: RightsAt { address, rights },
+        size,
+    }
 }

@@ -36,7 +36,7 @@ without : (address : ℕ) (value : WalkValue) → has_float (json_of_value addre
 without address value = by value.end
   where
     by : (end : WalkEnd) → has_float (json_of_value address (record value { end = end }) None) ≡ false
-    by (ends.Arrives at) = rw (words_have_none value.words.items) refl
+    by (ends.Arrives at size) = rw (words_have_none value.words.items) refl
     by ends.NotPresent = rw (words_have_none value.words.items) refl
     by (ends.MissingTable frame) = rw (words_have_none value.words.items) refl
     by (ends.HugePage level) = rw (words_have_none value.words.items) refl

@@ -1,9 +1,10 @@
 //! Regions, mappings and addresses that are found, as JSON.
-ghost use Rattle.std.specs.Prelude.{filter, OnOk};
+ghost use Rattle.std.specs.Prelude.{filter, OnOk, Some};
 ghost use Rattle.std.specs.List.{flat_map};
 ghost use Rattle.std.proofs.Common.{refl};
 ghost use Rattle.ptdump_engine.specs.Json as json;
 ghost use Rattle.ptdump_engine.specs.Selections.{is_mapping_selected, is_selected};
+ghost use Rattle.ptdump_engine.specs.Walks.{rights_at_text};
 ghost use Rattle.ptdump_engine.specs.private.Asked.{mappings_asked, regions_asked};
 
 use super::{JsonLines, ToJson, hexadecimal};
@@ -15,6 +16,7 @@ use crate::selected::{visit_selected_mappings, visit_selected_regions};
 use bitflags::Flags;
 use serde_json::{Value, json};
 use std::alloc::{AllocError, Global};
+use std::fmt::{Display, Formatter, Result as FmtResult, Write};
 use x86_64_addr::addr::PhysAddr;
 use x86_64_addr::level_count::LevelCount;
 use x86_64_mappings::{MappingIn, RegionIn};
@@ -61,6 +63,15 @@ pub struct Found {
     pub physical: PhysAddr,
     /// The address that leads to it, with the rights there.
     pub at: RightsAt,
+}
+
+impl Display for Found {
+    ghost output = { λ found. Some (rights_at_text found.at.address found.at.rights) };
+
+    fn fmt<W: Write>(&self, f: &mut Formatter<W>) -> FmtResult {
+        let at = self.at;
+        write!(f, "{at}")
+    }
 }
 
 impl ToJson for Found {

@@ -45,7 +45,7 @@ impl WalkReport {
     {
         match &self.access {
             Some(line) => line.end.is_ok(),
-            None => matches!(self.walk.end, WalkEnd::Arrives(_)),
+            None => self.walk.arrives(),
         }
     }
 }
@@ -143,7 +143,7 @@ fn walk_to_json(
 {
     let address = hexadecimal(alloc, address)?;
     match end {
-        WalkEnd::Arrives(at) => {
+        WalkEnd::Arrives { at, size: _ } => {
             json!(in alloc; {
                 "address": address,
                 "words": words,

@@ -1,4 +1,4 @@
-use Rattle.std.proofs.Common.{◌≡◌, ◌∙◌, ◌++◌, IfOk, [], if◌then◌else◌, is_some, sym, ap, subst, append-nil}
+use Rattle.std.proofs.Common.{◌≡◌, ◌∙◌, ◌++◌, IfOk, [], if◌then◌else◌, sym, ap, subst, append-nil}
 use Rattle.ptdump_engine.specs.Accesses.{asked_text, is_there}
 use Rattle.ptdump_engine.specs.Explanations.{explanation_text}
 use Rattle.ptdump_engine.specs.Loaded.{words_loaded}
@@ -6,7 +6,7 @@ use Rattle.ptdump_engine.specs.Output.{Puts}
 use Rattle.ptdump_engine.specs.Walks.{walk_of, walk_text}
 use Rattle.ptdump_engine.specs.private.Puts.{puts_both}
 use Rattle.ptdump_engine.proofs.Results.{on_ok}
-use Rattle.ptdump_engine.proofs.WalkLaws.{page-walk}
+use Rattle.ptdump_engine.proofs.WalkValues.{puts_walk, value_arrives}
 use Rattle.ptdump_engine.proofs.report.write_walk_by.Goals as goal
 
 pub returns-in-None-clause-text : goal.returns-in-None-clause-text
@@ -16,11 +16,12 @@ returns-in-None-clause-text g c =
     let root = c.args.loaded.now.root in
     let p = c.args.address in
     let contents = g.W.Destination.contents in
-    let walk = walk_text c.args.options.controls (walk_of L T root p) in
-    let explanation = if c.args.options.explains then explanation_text (walk_of L T root p) else [] in
+    let controls = c.args.options.controls in
+    let told = walk_text controls (walk_of L T root p) ++ (if c.args.options.explains then explanation_text (walk_of L T root p) else []) in
+    let put = puts_walk contents c.args.output.now c.write_walk.new.output c.write_explanation.new.output controls c.args.options.explains (walk_of L T root p) c.in_ok-walk.walk
+    c.in_ok-walk.ensures c.in_ok-write_walk.ensures c.in_ok-write_explanation.ensures in
     subst (Puts contents c.args.output.now c.write_explanation.new.output)
-    (sym (append-nil (walk ++ explanation)) ∙ ap (λ asked. walk ++ explanation ++ asked_text c.args.options.controls asked L T root p) (sym c.in-None.is))
-    (puts_both contents c.args.output.now c.write_walk.new.output c.write_explanation.new.output _ _ c.in_ok-size.ensures.text c.in_ok-write_explanation.ensures)
+    (sym (append-nil told) ∙ ap (λ asked. told ++ asked_text controls asked L T root p) (sym c.in-None.is)) put
 
 pub returns-in-None-clause-arrives : goal.returns-in-None-clause-arrives
 returns-in-None-clause-arrives g c =
@@ -28,7 +29,7 @@ returns-in-None-clause-arrives g c =
     let T = words_loaded c.args.loaded.now in
     let root = c.args.loaded.now.root in
     let p = c.args.address in
-    c.is_some.ensures ∙ ap is_some c.in_ok-size.ensures.size ∙ page-walk L T root p ∙ ap (λ asked. is_there c.args.options.controls asked L T root p) (sym c.in-None.is)
+    c.arrives.ensures ∙ value_arrives L T root p c.in_ok-walk.walk c.in_ok-walk.ensures ∙ ap (λ asked. is_there c.args.options.controls asked L T root p) (sym c.in-None.is)
 
 pub returns-in-Some-clause-text : goal.returns-in-Some-clause-text
 returns-in-Some-clause-text g c =
@@ -37,12 +38,13 @@ returns-in-Some-clause-text g c =
     let root = c.args.loaded.now.root in
     let p = c.args.address in
     let contents = g.W.Destination.contents in
-    let walk = walk_text c.args.options.controls (walk_of L T root p) in
-    let explanation = if c.args.options.explains then explanation_text (walk_of L T root p) else [] in
-    on_ok c.write_access.result (λ put. subst (Puts contents c.args.output.now c.write_access.new.output)
-    (ap (λ asked. walk ++ explanation ++ asked_text c.args.options.controls asked L T root p) (sym c.in-Some.is))
-    (puts_both contents c.args.output.now c.write_explanation.new.output c.write_access.new.output _ _
-    (puts_both contents c.args.output.now c.write_walk.new.output c.write_explanation.new.output _ _ c.in_ok-size.ensures.text c.in_ok-write_explanation.ensures) put))
+    let controls = c.args.options.controls in
+    let told = walk_text controls (walk_of L T root p) ++ (if c.args.options.explains then explanation_text (walk_of L T root p) else []) in
+    let put = puts_walk contents c.args.output.now c.write_walk.new.output c.write_explanation.new.output controls c.args.options.explains (walk_of L T root p) c.in_ok-walk.walk
+    c.in_ok-walk.ensures c.in_ok-write_walk.ensures c.in_ok-write_explanation.ensures in
+    on_ok c.write_access.result (λ access. subst (Puts contents c.args.output.now c.write_access.new.output)
+    (ap (λ asked. told ++ asked_text controls asked L T root p) (sym c.in-Some.is))
+    (puts_both contents c.args.output.now c.write_explanation.new.output c.write_access.new.output _ _ put access))
     c.write_access.ensures.text
 
 pub returns-in-Some-clause-arrives : goal.returns-in-Some-clause-arrives

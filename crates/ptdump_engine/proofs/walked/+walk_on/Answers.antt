@@ -7,9 +7,8 @@ use Rattle.x86_64_model.specs.Memory.{words_of, identity_places}
 use Rattle.ptdump_engine.specs.Walks.{walk_from}
 use Rattle.ptdump_engine.specs.private.Walked.{end_with}
 use Rattle.ptdump_engine.proofs.Results.{on_ok}
-use Rattle.ptdump_engine.proofs.WalkLines.{walk_from-missing}
 use Rattle.ptdump_engine.proofs.WordByWord.{words_below, words_end, end_below, end_ends}
-use Rattle.ptdump_engine.proofs.Walking.{IsRead, is_read, behind_absent, behind_page, behind_huge, behind_table}
+use Rattle.ptdump_engine.proofs.Walking.{IsRead, is_read, behind_absent, behind_page, behind_huge, behind_table, walk_from-missing}
 use Rattle.ptdump_engine.proofs.walked.+walk_on.Goals as goal
 
 pub returns-in_default-clause-words : goal.returns-in_default-clause-words

@@ -3,7 +3,7 @@ use Rattle.x86_64_model.specs.Position.{raw}
 use Rattle.ptdump_engine.specs.Loaded.{words_loaded}
 use Rattle.ptdump_engine.specs.Walks.{walk_of}
 use Rattle.ptdump_engine.specs.private.Walked.{json_of_value}
-use Rattle.ptdump_engine.proofs.WalkObjects.{asked_there, object_of_walk, value_arrives}
+use Rattle.ptdump_engine.proofs.WalkValues.{asked_there, object_of_walk, value_arrives}
 use Rattle.ptdump_engine.proofs.json_lines.walks.report_on.Goals as goal
 
 pub returns-clause-json : goal.returns-clause-json
