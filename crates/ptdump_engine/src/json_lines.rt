@@ -1,18 +1,22 @@
 //! Reports as JSON, an object a line.
-ghost use Rattle.std.specs.Prelude.{◌≡◌, false, IfOk, OnOk, string_bytes};
-ghost use Rattle.serde_json.specs.Data.{Data};
+ghost use Rattle.std.specs.Prelude.{◌≡◌, false, IfOk, IfSome, OnOk, string_bytes};
+ghost use Rattle.serde_json.specs.Data.{Data, Members, object, put};
 ghost use Rattle.serde_json.specs.View.{view};
 ghost use Rattle.serde_json.specs.Written.{has_float};
 ghost use Rattle.x86_64_mappings.specs.Numbers.{hexadecimal as digits_of};
 ghost use Rattle.ptdump_engine.specs.Json.{json_line};
+ghost use Rattle.ptdump_engine.specs.Said.{line_of};
 
+mod findings;
 mod listed;
 mod walks;
 
 use crate::lines::Lines;
+use crate::request::Form;
 pub use listed::{Found, write_json_pages, write_json_regions};
 use serde_json::Value;
 use std::alloc::{AllocError, Global};
+use std::fmt::Display;
 pub use walks::write_json_walk;
 use x86_64_mappings::Visitor;
 
@@ -38,6 +42,45 @@ fn hexadecimal(alloc: Global, number: u64) -> Result<String, AllocError>
     ensures { IfOk result (λ text. string_bytes text ≡ digits_of number) }
 {
     format!(in alloc; "0x{number:x}")
+}
+
+/// Adds a member to an object.
+fn with_member(
+    alloc: Global,
+    value: Value,
+    name: &'static str,
+    member: Value,
+) -> Result<Value, AllocError>
+    ensures { (members : Members) → view value ≡ object members → IfOk result (λ with_it.
+        view with_it ≡ object (put name.now (view member) members)) }
+{
+    match value {
+        Value::Object(mut members) => {
+            serde_json::put(&mut members, alloc, name, member)?;
+            Ok(Value::Object(members))
+        }
+        other => Ok(other),
+    }
+}
+
+/// Writes an item as a line in a form.
+///
+/// # Errors
+///
+/// The error of the destination, or of memory allocation.
+pub fn write_in_form<T: ToJson + Display + Drop, O: Lines>(
+    alloc: Global,
+    form: Form,
+    item: T,
+    output: &mut O,
+) -> Result<(), O::Error>
+    ensures { OnOk result (IfSome (T.output item) (λ text. O.puts output.old output.new
+        (line_of form (record { text = text; object = T.json item })))) }
+{
+    match form {
+        Form::Text => output.write_line(item),
+        Form::Json => write_json(alloc, &item, output),
+    }
 }
 
 /// Writes an item as a line of JSON.

@@ -1,13 +1,16 @@
--- Objects of walks have no floats.
+-- Objects of walks and findings have no floats.
 use Rattle.std.proofs.Common.{◌≡◌, ℕ, List, [], ◌∷◌, Option, None, Some, option_map, map, false, refl}
 use Rattle.serde_json.specs.View.{items_of}
 use Rattle.serde_json.specs.Written.{has_float, items_have_float}
 use Rattle.x86_64_access.specs.Accesses.{outcome_of}
 use Rattle.x86_64_access.specs.declared.request.Access.{Access}
 use Rattle.x86_64_model.specs.Access.{Outcome, Arrives, Faults, NoMemory}
+use Rattle.ptdump_engine.specs.FindingObjects.{json_of_finding}
 use Rattle.ptdump_engine.specs.Json.{json_of_access, json_of_word}
 use Rattle.ptdump_engine.specs.private.Walked.{json_of_line, json_of_value}
 use Rattle.ptdump_engine.specs.declared.access_line.AccessLine.{AccessLine}
+use Rattle.ptdump_engine.specs.declared.findings.finding.Finding.{Finding}
+use Rattle.ptdump_engine.specs.declared.findings.finding.Finding.TheVariants.{NamedOften, NotInDump, HugePage, ReservedBits}
 use Rattle.ptdump_engine.specs.declared.walked.Walk.{Walk as WalkValue}
 use Rattle.ptdump_engine.specs.declared.walked.WalkEnd.{WalkEnd}
 use Rattle.ptdump_engine.specs.declared.walked.WalkEnd.TheVariants as ends
@@ -34,3 +37,9 @@ without address value = by value.end
 pub no_float_walk : (address : ℕ) (value : WalkValue) (access : Option AccessLine) → has_float (json_of_value address value (option_map json_of_line access)) ≡ false
 no_float_walk address value None = without address value
 no_float_walk address value (Some line) = rw (no_float_access line.access (outcome_of line.end)) (without address value)
+
+pub no_float_finding : (finding : Finding) → has_float (json_of_finding finding) ≡ false
+no_float_finding (NamedOften frame times) = refl
+no_float_finding (NotInDump frame by) = refl
+no_float_finding (HugePage slot level) = refl
+no_float_finding (ReservedBits entry) = refl
