@@ -270,7 +270,7 @@ Examples:
         name: "check",
         about: "Find what is seldom meant, as memory that may be written and executed",
         operands: Operands::Checks,
-        has_json: false,
+        has_json: true,
         more: "\
 Findings are: regions that may be written and executed, regions of the upper
 half that user code reaches, tables that several words name, tables that aren't
@@ -281,12 +281,24 @@ low address bits of large pages. The exit status is 1 if there are any.
 --all-cpus checks the tables of each processor in QEMU's notes, and those of
 several with the same root once, below a line with their numbers and the root.
 
-Example:
+With --json a line is an object whose finding is \"writable and executable\" or
+\"user reaches upper half\", with what regions --json tells of the region, \"table
+named often\", with table and times, \"table not in the dump\", with table and
+named_by, which has table and index, or \"HUGE_PAGE above level three\" or
+\"reserved bits\", with table, index and level, and for the latter word. The last
+line is an object with findings, their number.
+
+Examples:
 
   $ ptdump check machine.elf
   writable and executable 0x0-0x1fffff 2MiB rwx-
   user reaches upper half 0xffffffffff600000-0xffffffffff600fff 4KiB r-xu
   findings: 2
+  tables 13, mappings 18, mapped 1054776KiB
+  $ ptdump check machine.elf --json
+  {\"bytes\":2097152,\"execute\":true,\"finding\":\"writable and executable\",\"first\":\"0x0\",\"last\":\"0x1fffff\",\"user\":false,\"write\":true}
+  {\"bytes\":4096,\"execute\":true,\"finding\":\"user reaches upper half\",\"first\":\"0xffffffffff600000\",\"last\":\"0xffffffffff600fff\",\"user\":true,\"write\":false}
+  {\"findings\":2}
   tables 13, mappings 18, mapped 1054776KiB",
     },
     CommandHelp {

@@ -5,6 +5,7 @@ use Rattle.std.proofs.lemmas.List.{map-append, map-id, take_more}
 use Rattle.std.proofs.lemmas.List.Elements.{filter_map-append}
 use Rattle.std.proofs.lemmas.List.FromFn.{map-range_with_len_more}
 use Rattle.std.specs.List.{cons_option, filter_map, flat_map, range_with_len}
+use Rattle.ptdump_engine.specs.Said.{Said}
 
 -- one more element
 pub filter_more : {X Y : Type 0} (f : X → Option Y) (xs : List X) (i : ℕ) (d : X) → i < length xs
@@ -22,10 +23,10 @@ range_more f i = ap (filter_map f) (next i) ∙ filter_map-append f (range_with_
     next : (i : ℕ) → range_with_len 0 (i + 1) ≡ range_with_len 0 i ++ i ∷ []
     next i = sym (map-id (range_with_len 0 (i + 1))) ∙ map-range_with_len_more (λ j. j) 0 i i (omega arith) ∙ ap (λ is. is ++ i ∷ []) (map-id (range_with_len 0 i))
 
-module _ {O : Type 0} (Lines : O → O → List (List ℕ) → Type 0) where
-  module _ (parts : (before between after : O) (front back : List (List ℕ)) → Lines before between front → Lines between after back → Lines before after (front ++ back)) where
+module _ {O : Type 0} (Lines : O → O → List Said → Type 0) where
+  module _ (parts : (before between after : O) (front back : List Said) → Lines before between front → Lines between after back → Lines before after (front ++ back)) where
     -- two parts are put in
-    pub both_lines : {X : Type 0} (text : X → List ℕ) (before between after : O) (front back all : List X) → all ≡ front ++ back
+    pub both_lines : {X : Type 0} (text : X → Said) (before between after : O) (front back all : List X) → all ≡ front ++ back
         → Lines before between (map text front) → Lines between after (map text back) → Lines before after (map text all)
     both_lines text before between after front back all is first second =
         subst (Lines before after) (sym (ap (map text) is ∙ map-append text front back)) (parts before between after (map text front) (map text back) first second)

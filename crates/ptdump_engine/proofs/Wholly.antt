@@ -18,14 +18,15 @@ use Rattle.x86_64_mappings.specs.Wanted.{leads_to}
 use Rattle.ptdump_engine.specs.Explanations.{explanation_text}
 use Rattle.ptdump_engine.specs.Output.{Puts, put_in}
 use Rattle.ptdump_engine.specs.Failure.{failure_of}
-use Rattle.ptdump_engine.specs.Findings.{check_text, count_text, line_count}
+use Rattle.ptdump_engine.specs.Findings.{check_text, line_count, said_of_count}
 use Rattle.ptdump_engine.specs.Json.{json_line, json_of_access, json_of_asked, json_of_walk}
 use Rattle.ptdump_engine.specs.Lines.{mapping_line, region_line, walk_lines}
 use Rattle.ptdump_engine.specs.Program.{Machine, Opened, ReportsAll, ReportsOf, RunsAs, RunsOnDump, RunsOnProcessors, RunsOnTables, completeness_of, dump_for, format_for, info_of, machine_for, opened_for, processors_for, report_in, report_of, start_for}
 use Rattle.ptdump_engine.specs.Reports.{address_line, addresses_text, find_text, pages_text, regions_text, walks_text}
+use Rattle.ptdump_engine.specs.Said.{line_of}
 use Rattle.ptdump_engine.specs.Selections.{is_mapping_selected, is_selected}
 use Rattle.ptdump_engine.specs.Steps.{FailsBy, IsForced, and_then, of_dump}
-use Rattle.ptdump_engine.specs.Walks.{line, walk_text}
+use Rattle.ptdump_engine.specs.Walks.{walk_text}
 use Rattle.ptdump_engine.specs.declared.failure.Failure.{Failure}
 use Rattle.ptdump_engine.specs.declared.output.Output.{Output}
 use Rattle.ptdump_engine.specs.declared.processors.Processor.{Processor}
@@ -118,7 +119,7 @@ same_of form (commands.Walk addresses asked) L T W root same below =
 same_of form (commands.Find addresses) L T W root same below =
     ap (λ ms. Some (flat_map (λ a. flat_map (address_line form L a) (filter (leads_to a) ms)) addresses.items)) same
 same_of form (commands.Check checking) L T W root same below =
-    ap (λ lines. Some (flat_map line lines ++ line (count_text (line_count lines)))) (same_lines T W checking L root same below)
+    ap (λ lines. Some (flat_map (line_of form) lines ++ line_of form (said_of_count (line_count lines)))) (same_lines T W checking L root same below)
 same_of form commands.Image L T W root same below = refl
 same_of form commands.Picture L T W root same below = refl
 same_of form commands.Info L T W root same below = refl

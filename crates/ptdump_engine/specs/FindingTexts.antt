@@ -1,10 +1,22 @@
--- Texts: the texts of entries and findings.
+-- Texts: the texts of regions with flaws, of entries and of findings.
 use Rattle.std.specs.Prelude.{ℕ, List, ◌++◌, codes, decimal}
 use Rattle.x86_64_mappings.specs.Numbers.{hexadecimal}
+use Rattle.x86_64_mappings.specs.Texts.{region_text}
+use Rattle.x86_64_model.specs.Regions.{Region}
 use Rattle.ptdump_engine.specs.declared.findings.entry.Slot.{Slot}
 use Rattle.ptdump_engine.specs.declared.findings.entry.Entry.{Entry}
 use Rattle.ptdump_engine.specs.declared.findings.finding.Finding.{Finding}
 use Rattle.ptdump_engine.specs.declared.findings.finding.Finding.TheVariants.{NamedOften, NotInDump, HugePage, ReservedBits}
+use Rattle.ptdump_engine.specs.declared.findings.flaw.Flaw.{Flaw}
+use Rattle.ptdump_engine.specs.declared.findings.flaw.Flaw.TheVariants.{WritableAndExecutable, UserInUpperHalf}
+
+abbrev pub flaw_text : Flaw → List ℕ
+flaw_text WritableAndExecutable = codes "writable and executable"
+flaw_text UserInUpperHalf = codes "user reaches upper half"
+
+-- a region with a flaw
+abbrev pub flawed_text : (L : ℕ) → Flaw → Region → List ℕ
+flawed_text L flaw r = flaw_text flaw ++ codes " " ++ region_text L r
 
 -- a slot as 0xTABLE[INDEX]
 abbrev pub slot_text : Slot → List ℕ
@@ -24,3 +36,6 @@ finding_text (HugePage slot level) =
     codes "HUGE_PAGE at level " ++ decimal level ++ codes " in " ++ slot_text slot
 finding_text (ReservedBits entry) =
     codes "reserved bits at level " ++ decimal entry.level ++ codes " in " ++ entry_text entry
+
+abbrev pub count_text : (findings : ℕ) → List ℕ
+count_text findings = codes "findings: " ++ decimal findings

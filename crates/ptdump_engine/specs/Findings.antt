@@ -1,17 +1,17 @@
 -- Findings: what a check reports of words, with L levels of tables below a root, and in which order.
-use Rattle.std.specs.Prelude.{ℕ, ◌+◌, ◌-◌, ◌^◌, ◌==◌, ◌++◌, ◌&&◌, Bool, true, false, not, cond, if◌then◌else◌, min, nat_le, nat_lt, List, [], ◌∷◌, filter, map, length, Option, Some, None, is_some, option_map, option_and_then, codes, decimal}
+use Rattle.std.specs.Prelude.{ℕ, ◌+◌, ◌-◌, ◌^◌, ◌==◌, ◌++◌, ◌&&◌, Bool, true, false, not, cond, if◌then◌else◌, min, nat_le, nat_lt, List, [], ◌∷◌, filter, map, length, Option, Some, None, is_some, option_map, option_and_then}
 use Rattle.std.specs.List.{dedup, filter_map, flat_map}
 use Rattle.x86_64_dump.specs.Tables.{tables_by_level}
-use Rattle.x86_64_mappings.specs.Texts.{region_text}
 use Rattle.x86_64_model.specs.Entry.{present, huge, address}
 use Rattle.x86_64_model.specs.Memory.{Words}
 use Rattle.x86_64_model.specs.PageWalk.{read}
 use Rattle.x86_64_model.specs.Path.{indices}
 use Rattle.x86_64_model.specs.Position.{lower_half}
 use Rattle.x86_64_model.specs.Regions.{Region, regions_of}
-use Rattle.ptdump_engine.specs.FindingTexts.{finding_text}
+use Rattle.ptdump_engine.specs.FindingObjects.{json_of_count, json_of_finding, json_of_flawed}
+use Rattle.ptdump_engine.specs.FindingTexts.{count_text, finding_text, flawed_text}
 use Rattle.ptdump_engine.specs.InOrder.{in_order}
-use Rattle.ptdump_engine.specs.Walks.{line}
+use Rattle.ptdump_engine.specs.Said.{Said, line_of}
 use Rattle.ptdump_engine.specs.declared.findings.entry.Entry.{Entry}
 use Rattle.ptdump_engine.specs.declared.findings.entry.Slot.{Slot}
 use Rattle.ptdump_engine.specs.declared.findings.entry.Table.{Table}
@@ -23,6 +23,7 @@ use Rattle.ptdump_engine.specs.declared.findings.flaw.Flaw.{Flaw}
 use Rattle.ptdump_engine.specs.declared.findings.flaw.Flaw.TheVariants.{WritableAndExecutable, UserInUpperHalf}
 use Rattle.ptdump_engine.specs.declared.findings.names.Name.{Name}
 use Rattle.ptdump_engine.specs.declared.request.Checking.{Checking}
+use Rattle.ptdump_engine.specs.declared.request.Form.{Form}
 use Rattle.x86_64_access.specs.Accesses.{controls_of}
 use Rattle.x86_64_access.specs.declared.controls.Controls.{Controls}
 use Rattle.x86_64_model.specs.Access.{reserved}
@@ -34,16 +35,13 @@ abbrev pub has_flaw : (L : ℕ) → Flaw → Region → Bool
 has_flaw L WritableAndExecutable r = r.rights.write && r.rights.execute
 has_flaw L UserInUpperHalf r = r.rights.user && nat_le (lower_half L) r.first
 
-abbrev pub flaw_text : Flaw → List ℕ
-flaw_text WritableAndExecutable = codes "writable and executable"
-flaw_text UserInUpperHalf = codes "user reaches upper half"
-
-abbrev pub flawed_text : (L : ℕ) → Flaw → Region → List ℕ
-flawed_text L flaw r = flaw_text flaw ++ codes " " ++ region_text L r
+-- what is said of a region with a flaw
+abbrev pub said_of_flawed : (L : ℕ) → Flaw → Region → Said
+said_of_flawed L flaw r = record { text = flawed_text L flaw r; object = json_of_flawed L flaw r }
 
 -- a line for each region with a flaw
-abbrev pub flawed_lines : (L : ℕ) → Flaw → List Region → List (List ℕ)
-flawed_lines L flaw rs = map (flawed_text L flaw) (filter (has_flaw L flaw) rs)
+abbrev pub flawed_lines : (L : ℕ) → Flaw → List Region → List Said
+flawed_lines L flaw rs = map (said_of_flawed L flaw) (filter (has_flaw L flaw) rs)
 
 -- ---- tables and entries
 
@@ -139,21 +137,27 @@ unfoldable pub table_findings : Checking → (L : ℕ) → Words → (root : ℕ
 table_findings checking L T root = let tables = tables_in_order (tables_by_level L T root) in
     findings_by (processor_of checking) T root tables (names_in_order T tables)
 
+-- what is said of a finding in tables
+abbrev pub said_of : Finding → Said
+said_of finding = record { text = finding_text finding; object = json_of_finding finding }
+
 -- a line for each finding
-unfoldable pub finding_lines : Checking → (L : ℕ) → Words → (root : ℕ) → List (List ℕ)
+unfoldable pub finding_lines : Checking → (L : ℕ) → Words → (root : ℕ) → List Said
 finding_lines checking L T root = let regions = regions_of L T root in
-    flawed_lines L WritableAndExecutable regions ++ flawed_lines L UserInUpperHalf regions ++ map finding_text (table_findings checking L T root)
+    flawed_lines L WritableAndExecutable regions ++ flawed_lines L UserInUpperHalf regions ++ map said_of (table_findings checking L T root)
 
 -- the number of lines, if it is less than 2^64
-abbrev pub line_count : List (List ℕ) → ℕ
+abbrev pub line_count : List Said → ℕ
 line_count lines = min (length lines) (2 ^ 64 - 1)
 
-abbrev pub count_text : (count : ℕ) → List ℕ
-count_text count = codes "findings: " ++ decimal count
+-- what is said of the number of findings
+abbrev pub said_of_count : (findings : ℕ) → Said
+said_of_count findings = record { text = count_text findings; object = json_of_count findings }
 
--- a line for each finding, and a line with their number
-unfoldable pub check_text : Checking → (L : ℕ) → Words → (root : ℕ) → List ℕ
-check_text checking L T root = let lines = finding_lines checking L T root in flat_map line lines ++ line (count_text (line_count lines))
+-- a line in a form for each finding, and a line with their number
+unfoldable pub check_text : Form → Checking → (L : ℕ) → Words → (root : ℕ) → List ℕ
+check_text form checking L T root = let lines = finding_lines checking L T root in
+    flat_map (line_of form) lines ++ line_of form (said_of_count (line_count lines))
 
 -- whether nothing is found
 abbrev pub finds_nothing : Checking → (L : ℕ) → Words → (root : ℕ) → Bool

@@ -29,14 +29,17 @@ count n = number (unsigned n)
 
 -- ---- lists
 
-abbrev pub json_of_region : (L : ℕ) → Region → Data
-json_of_region L r = object (
+abbrev pub region_members : (L : ℕ) → Region → Members
+region_members L r =
     member (codes "bytes") (count (r.last + 1 - r.first))
     (member (codes "execute") (boolean r.rights.execute)
     (member (codes "first") (hexadecimal_string (raw L r.first))
     (member (codes "last") (hexadecimal_string (raw L r.last))
     (member (codes "user") (boolean r.rights.user)
-    (member (codes "write") (boolean r.rights.write) no_members))))))
+    (member (codes "write") (boolean r.rights.write) no_members)))))
+
+abbrev pub json_of_region : (L : ℕ) → Region → Data
+json_of_region L r = object (region_members L r)
 
 abbrev pub json_of_mapping : (L : ℕ) → Mapping → Data
 json_of_mapping L m = object (

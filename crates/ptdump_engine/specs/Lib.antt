@@ -15,12 +15,14 @@ pub mod Output
 pub mod Processors
 pub mod Program
 pub mod Reports
+pub mod Said
 pub mod Selections
 pub mod Start
 pub mod Steps
 pub mod Totals
 pub mod Walks
 pub mod Entries
+pub mod FindingObjects
 pub mod FindingTexts
 pub mod Findings
 pub mod InOrder

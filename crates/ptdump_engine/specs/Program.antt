@@ -155,7 +155,7 @@ report_in form (commands.Regions selection) L T root = Some (regions_text select
 report_in form (commands.Pages selection has_names) L T root = Some (pages_text selection has_names form L T root)
 report_in form (commands.Walk addresses asked) L T root = Some (walks_text form L T root asked addresses.items)
 report_in form (commands.Find addresses) L T root = Some (find_text form L T root addresses.items)
-report_in form (commands.Check checking) L T root = Some (check_text checking L T root)
+report_in form (commands.Check checking) L T root = Some (check_text form checking L T root)
 report_in form commands.Info L T root = Some []
 report_in form command L T root = None
 

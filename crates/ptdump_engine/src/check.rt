@@ -1,8 +1,10 @@
 //! The report of a check.
 ghost use Rattle.std.specs.Prelude.{◌≡◌, ◌≤◌, OnOk, IfOk};
+ghost use Rattle.std.specs.List.{flat_map};
 ghost use Rattle.ptdump_engine.specs.Findings as findings;
 ghost use Rattle.ptdump_engine.specs.Loaded.{HasAllTables, IsLoaded, words_loaded};
 ghost use Rattle.ptdump_engine.specs.Output.{Puts};
+ghost use Rattle.ptdump_engine.specs.Said.{line_of};
 ghost use Rattle.ptdump_engine.specs.private.Ascending.{Ascend};
 ghost use Rattle.ptdump_engine.specs.private.Checked.{finding_lines_by};
 
@@ -15,11 +17,13 @@ use crate::check::subject::Subject;
 use crate::check::tables::write_table_findings;
 use crate::counted_lines::CountedLines;
 use crate::destination::Destination;
-use crate::findings::{Flaw, names_in_order, tables_in_order};
+use crate::findings::{FindingCount, Flaw, names_in_order, tables_in_order};
+use crate::json_lines::write_as;
 use crate::line_output::LineOutput;
+use crate::lines::Lines;
 use crate::loaded::Loaded;
 use crate::output::{Output, OutputError};
-use crate::request::Checking;
+use crate::request::{Checking, Form};
 use std::alloc::Global;
 use x86_64_access::Controls;
 use x86_64_addr::level_count::LevelCount;
@@ -27,8 +31,8 @@ use x86_64_addr::level_count::LevelCount;
 /// The largest number of bits of a physical address.
 const PHYSICAL_BITS: u8 = 52;
 
-/// Writes a line for each finding and a line with their number, and returns true if there is none. The number is 2^64 - 1 if
-/// there are more.
+/// Writes a line in a form for each finding and a line with their number, and returns true if there is none. The number is
+/// 2^64 - 1 if there are more.
 ///
 /// # Errors
 ///
@@ -37,11 +41,12 @@ pub fn write_findings<L: LevelCount, W: Destination>(
     alloc: Global,
     loaded: &Loaded<'_, L>,
     checking: Checking,
+    form: Form,
     output: &mut Output<'_, W>,
 ) -> Result<bool, OutputError<W>>
     requires { IsLoaded loaded.now }
     ensures text { HasAllTables L.LEVELS loaded.now → OnOk result (Puts W.contents output.old output.new
-        (findings.check_text checking L.LEVELS (words_loaded loaded.now) loaded.now.root)) }
+        (findings.check_text form checking L.LEVELS (words_loaded loaded.now) loaded.now.root)) }
     ensures nothing { HasAllTables L.LEVELS loaded.now → IfOk result (λ nothing.
         nothing ≡ findings.finds_nothing checking L.LEVELS (words_loaded loaded.now) loaded.now.root) }
 {
@@ -55,8 +60,8 @@ pub fn write_findings<L: LevelCount, W: Destination>(
         tables: &tables,
         names: &names,
     };
-    let count = write_counted::<L, Output<'_, W>>(loaded, &subject, output)?;
-    writeln!(output, "findings: {count}")?;
+    let count = write_counted::<L, Output<'_, W>>(alloc, loaded, &subject, form, output)?;
+    write_as(alloc, form, FindingCount(count), output)?;
     Ok(count == 0)
 }
 
@@ -74,21 +79,23 @@ fn processor_of(checking: Checking) -> Controls
     }
 }
 
-/// Writes a line for each finding, and returns their number, or 2^64 - 1 if there are more.
-fn write_counted<L: LevelCount, O: LineOutput>(
+/// Writes a line in a form for each finding, and returns their number, or 2^64 - 1 if there are more.
+fn write_counted<L: LevelCount, O: Lines>(
+    alloc: Global,
     loaded: &Loaded<'_, L>,
     subject: &Subject<'_>,
+    form: Form,
     output: &mut O,
 ) -> Result<u64, O::Error>
     requires loaded { IsLoaded loaded.now }
     requires bits { subject.now.processor.physical_bits ≤ 52 }
     requires names { Ascend (λ name. name.frame) subject.now.names.now }
-    ensures lines { OnOk result (O.Lines output.old output.new
-        (finding_lines_by L.LEVELS loaded.now subject.now)) }
+    ensures lines { OnOk result (O.puts output.old output.new
+        (flat_map (line_of form) (finding_lines_by L.LEVELS loaded.now subject.now))) }
     ensures count { IfOk result (λ count. count
         ≡ findings.line_count (finding_lines_by L.LEVELS loaded.now subject.now)) }
 {
-    let mut lines = CountedLines::new(output);
+    let mut lines = CountedLines::new(alloc, form, output);
     write_lines::<L, CountedLines<'_, O>>(loaded, subject, &mut lines)?;
     Ok(lines.count())
 }

@@ -265,7 +265,7 @@ fn write_report<L: LevelCount, S: ByteSource, W: Destination, E: Destination>(
             Ok(write_walks(alloc, loaded, addresses, *options, form, output)?)
         }
         Command::Find(addresses) => Ok(write_found(alloc, loaded, addresses, form, output)?),
-        Command::Check(checking) => Ok(write_findings(alloc, loaded, *checking, output)?),
+        Command::Check(checking) => Ok(write_findings(alloc, loaded, *checking, form, output)?),
         Command::Image => {
             write_image(alloc, dump, loaded, output, notes)?;
             Ok(true)

@@ -1,5 +1,6 @@
 //! Findings in page tables, and images of page tables for `pagetab`.
 
+mod count;
 mod entry;
 mod finding;
 mod flaw;
@@ -7,6 +8,7 @@ mod image;
 mod names;
 mod tables;
 
+pub use count::FindingCount;
 pub use entry::{Entry, Slot, Table};
 pub use finding::{EntryFlaw, Finding};
 pub use flaw::{Flaw, FlawedRegion};

@@ -1,12 +1,13 @@
 //! Reports as JSON, an object a line.
 ghost use Rattle.std.specs.Prelude.{◌≡◌, false, IfOk, IfSome, OnOk, string_bytes};
-ghost use Rattle.serde_json.specs.Data.{Data};
+ghost use Rattle.serde_json.specs.Data.{Data, Members, object, put};
 ghost use Rattle.serde_json.specs.View.{view};
 ghost use Rattle.serde_json.specs.Written.{has_float};
 ghost use Rattle.x86_64_mappings.specs.Numbers.{hexadecimal as digits_of};
 ghost use Rattle.ptdump_engine.specs.Json.{json_line};
 ghost use Rattle.ptdump_engine.specs.Lines.{line_in};
 
+mod findings;
 mod group;
 mod listed;
 mod told;
@@ -44,6 +45,25 @@ fn hexadecimal(alloc: Global, number: u64) -> Result<String, AllocError>
     ensures { IfOk result (λ text. string_bytes text ≡ digits_of number) }
 {
     format!(in alloc; "0x{number:x}")
+}
+
+/// Adds a member to an object.
+fn with_member(
+    alloc: Global,
+    value: Value,
+    name: &'static str,
+    member: Value,
+) -> Result<Value, AllocError>
+    ensures { (members : Members) → view value ≡ object members → IfOk result (λ with_it.
+        view with_it ≡ object (put name.now (view member) members)) }
+{
+    match value {
+        Value::Object(mut members) => {
+            serde_json::put(&mut members, alloc, name, member)?;
+            Ok(Value::Object(members))
+        }
+        other => Ok(other),
+    }
 }
 
 /// Writes an item as a line of JSON.

@@ -98,7 +98,7 @@ impl Command {
 pub enum Form {
     /// Lines of text.
     Text,
-    /// A JSON object a line: for each region, mapping, walk or address that is found, and for each thing that a dump says.
+    /// A JSON object a line: for each region, mapping, walk, finding or address that is found, and for each thing that a dump says.
     Json,
 }
 
@@ -107,7 +107,7 @@ pub enum Form {
 pub struct Request {
     /// The report to write.
     pub command: Command,
-    /// The form of a report of regions, mappings, walks or a search, or of what the dump says. Other reports have one form.
+    /// The form of a report of regions, mappings, walks, a search or a check, or of what the dump says. Other reports have one form.
     pub form: Form,
     /// The CR3. If `None`, it is read from a processor's note in the dump, or else the kernel's note says where the root is.
     pub cr3: Option<u64>,

@@ -1,4 +1,4 @@
--- Objects of walks, and of what a dump says of its machine, have no floats.
+-- Objects of walks, of findings, and of what a dump says of its machine have no floats.
 use Rattle.std.proofs.Common.{◌≡◌, ℕ, List, [], ◌∷◌, Option, None, Some, codes, option_map, map, false, refl}
 use Rattle.serde_json.specs.Data.{object}
 use Rattle.serde_json.specs.View.{items_of}
@@ -6,12 +6,15 @@ use Rattle.serde_json.specs.Written.{has_float, items_have_float}
 use Rattle.x86_64_access.specs.Accesses.{outcome_of}
 use Rattle.x86_64_access.specs.declared.request.Access.{Access}
 use Rattle.x86_64_model.specs.Access.{Outcome, Arrives, Faults, NoMemory}
+use Rattle.ptdump_engine.specs.FindingObjects.{json_of_finding}
 use Rattle.ptdump_engine.specs.InfoObjects.{json_of_processor, json_of_registers, json_of_root, root_members, told}
 use Rattle.ptdump_engine.specs.Json.{count, json_of_access, json_of_word}
 use Rattle.ptdump_engine.specs.Processors.{json_of_group}
 use Rattle.ptdump_engine.specs.Start.{mode_of}
 use Rattle.ptdump_engine.specs.private.Walked.{json_of_line, json_of_value}
 use Rattle.ptdump_engine.specs.declared.access_line.AccessLine.{AccessLine}
+use Rattle.ptdump_engine.specs.declared.findings.finding.Finding.{Finding}
+use Rattle.ptdump_engine.specs.declared.findings.finding.Finding.TheVariants.{NamedOften, NotInDump, HugePage, ReservedBits}
 use Rattle.ptdump_engine.specs.declared.mode.Mode.{Mode}
 use Rattle.ptdump_engine.specs.declared.mode.Mode.TheVariants.{NoPaging, Paging32, Paging64}
 use Rattle.ptdump_engine.specs.declared.registers.Registers.{Registers}
@@ -44,6 +47,14 @@ without address value = by value.end
 pub no_float_walk : (address : ℕ) (value : WalkValue) (access : Option AccessLine) → has_float (json_of_value address value (option_map json_of_line access)) ≡ false
 no_float_walk address value None = without address value
 no_float_walk address value (Some line) = rw (no_float_access line.access (outcome_of line.end)) (without address value)
+
+-- ---- findings
+
+pub no_float_finding : (finding : Finding) → has_float (json_of_finding finding) ≡ false
+no_float_finding (NamedOften frame times) = refl
+no_float_finding (NotInDump frame by) = refl
+no_float_finding (HugePage slot level) = refl
+no_float_finding (ReservedBits entry) = refl
 
 -- ---- groups of processors
 

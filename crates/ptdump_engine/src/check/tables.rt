@@ -2,8 +2,8 @@
 ghost use Rattle.std.specs.Prelude.{◌≡◌, ◌≤◌, [], OnOk, map, length};
 ghost use Rattle.std.specs.List.{cons_option, filter_map};
 ghost use Rattle.x86_64_model.specs.Memory.{identity_places, words_of};
-ghost use Rattle.ptdump_engine.specs.FindingTexts.{finding_text};
 ghost use Rattle.ptdump_engine.specs.Findings as findings;
+ghost use Rattle.ptdump_engine.specs.Findings.{said_of};
 ghost use Rattle.ptdump_engine.specs.private.Alike.{alike};
 ghost use Rattle.ptdump_engine.specs.private.Ascending.{Ascend};
 ghost use Rattle.ptdump_engine.specs.private.Checked.{HasBits};
@@ -22,7 +22,7 @@ pub fn write_table_findings<O: LineOutput>(
 ) -> Result<(), O::Error>
     requires bits { subject.now.processor.physical_bits ≤ 52 }
     requires names { Ascend (λ name. name.frame) subject.now.names.now }
-    ensures { OnOk result (O.Lines output.old output.new (map finding_text
+    ensures { OnOk result (O.Lines output.old output.new (map said_of
         (findings.findings_by subject.now.processor (words_of subject.now.memory.now identity_places)
         subject.now.root subject.now.tables.now subject.now.names.now))) }
 {
@@ -35,7 +35,7 @@ pub fn write_table_findings<O: LineOutput>(
 
 /// Writes a line for a finding, if there is one.
 fn write_finding<O: LineOutput>(finding: Option<Finding>, output: &mut O) -> Result<(), O::Error>
-    ensures { OnOk result (O.Lines output.old output.new (map finding_text (cons_option finding []))) }
+    ensures { OnOk result (O.Lines output.old output.new (map said_of (cons_option finding []))) }
 {
     match finding {
         Some(finding) => output.write_line(finding),
@@ -51,7 +51,7 @@ fn write_named_often<O: LineOutput>(
 ) -> Result<(), O::Error>
     requires { Ascend (λ name. name.frame) names.now }
     ensures { OnOk result (O.Lines output.old output.new
-        (map finding_text (findings.all_named_often names.now root))) }
+        (map said_of (findings.all_named_often names.now root))) }
 {
     let mut start = 0;
     while start < names.len() {
@@ -86,7 +86,7 @@ fn write_missing<O: LineOutput>(
     names: &[Name],
     output: &mut O,
 ) -> Result<(), O::Error>
-    ensures { OnOk result (O.Lines output.old output.new (map finding_text
+    ensures { OnOk result (O.Lines output.old output.new (map said_of
         (filter_map (findings.missing (words_of memory.now identity_places)) names.now))) }
 {
     for name in names {
@@ -103,7 +103,7 @@ fn write_flawed_entries<O: LineOutput>(
     output: &mut O,
 ) -> Result<(), O::Error>
     requires { HasBits flaw }
-    ensures { OnOk result (O.Lines output.old output.new (map finding_text
+    ensures { OnOk result (O.Lines output.old output.new (map said_of
         (findings.flawed_entries flaw (words_of memory.now identity_places) tables.now))) }
 {
     for table in tables {
@@ -121,7 +121,7 @@ fn write_flawed_in<O: LineOutput>(
     output: &mut O,
 ) -> Result<(), O::Error>
     requires { HasBits flaw }
-    ensures { OnOk result (O.Lines output.old output.new (map finding_text (filter_map
+    ensures { OnOk result (O.Lines output.old output.new (map said_of (filter_map
         (findings.flaw_in flaw) (findings.entries_in (words_of memory.now identity_places) table.now)))) }
 {
     let Some(words) = table_in(memory, &IdentityMapping, table.frame) else {

@@ -1,6 +1,7 @@
 //! Flaws of regions.
 ghost use Rattle.std.specs.Prelude.{◌≡◌, Some};
-ghost use Rattle.ptdump_engine.specs.Findings.{flaw_text, has_flaw};
+ghost use Rattle.ptdump_engine.specs.FindingTexts.{flaw_text};
+ghost use Rattle.ptdump_engine.specs.Findings.{has_flaw};
 
 use std::fmt::{Display, Formatter, Result as FmtResult, Write};
 use x86_64_addr::level_count::LevelCount;
@@ -27,16 +28,15 @@ impl Flaw {
             }
         }
     }
-}
 
-impl Display for Flaw {
-    ghost output = { λ flaw. Some (flaw_text flaw) };
-
-    fn fmt<W: Write>(&self, f: &mut Formatter<W>) -> FmtResult {
-        f.write_str(match self {
+    /// Returns what the flaw is.
+    pub fn text(self) -> &'static str
+        ensures { result.now ≡ flaw_text self }
+    {
+        match self {
             Flaw::WritableAndExecutable => "writable and executable",
             Flaw::UserInUpperHalf => "user reaches upper half",
-        })
+        }
     }
 }
 
@@ -50,12 +50,12 @@ pub struct FlawedRegion<L: LevelCount> {
 }
 
 impl<L: LevelCount> Display for FlawedRegion<L> {
-    ghost use Rattle.ptdump_engine.specs.Findings.{flawed_text};
+    ghost use Rattle.ptdump_engine.specs.FindingTexts.{flawed_text};
 
     ghost output = { λ flawed. Some (flawed_text L.LEVELS flawed.flaw flawed.region) };
 
     fn fmt<W: Write>(&self, f: &mut Formatter<W>) -> FmtResult {
-        let flaw = self.flaw;
+        let flaw = self.flaw.text();
         let region = self.region;
         write!(f, "{flaw} {region}")
     }

@@ -1,6 +1,6 @@
 //! Walks as JSON, with what a processor does with an access.
-ghost use Rattle.std.specs.Prelude.{◌≡◌, IfOk, OnOk, codes, map, option_map};
-ghost use Rattle.serde_json.specs.Data.{Members, array, object, put};
+ghost use Rattle.std.specs.Prelude.{◌≡◌, IfOk, OnOk, map, option_map};
+ghost use Rattle.serde_json.specs.Data.{array, object};
 ghost use Rattle.serde_json.specs.View.{items_of, view};
 ghost use Rattle.x86_64_access.specs.Accesses.{outcome_of};
 ghost use Rattle.ptdump_engine.specs.Accesses.{is_arrived, is_there, outcome_in};
@@ -13,7 +13,7 @@ ghost use Rattle.ptdump_engine.specs.declared.request.Form.TheVariants.{Json};
 ghost use Rattle.ptdump_engine.specs.private.Reported.{json_of_report, report_arrives};
 ghost use Rattle.ptdump_engine.specs.private.Walked.{json_of_line, value_members};
 
-use super::{ToJson, hexadecimal, write_json};
+use super::{ToJson, hexadecimal, with_member, write_json};
 use crate::access_line::{AccessLine, access_end, access_name};
 use crate::lines::Lines;
 use crate::loaded::Loaded;
@@ -114,7 +114,7 @@ impl ToJson for WalkReport {
         let words = words_to_json(alloc, self.walk.words.as_slice())?;
         let walk = walk_to_json(alloc, self.address, words, self.walk.end)?;
         match &self.access {
-            Some(access) => with_access(alloc, walk, access.to_json(alloc)?),
+            Some(access) => with_member(alloc, walk, "access", access.to_json(alloc)?),
             None => Ok(walk),
         }
     }
@@ -173,20 +173,6 @@ fn walk_to_json(
                 "level": level,
             })
         }
-    }
-}
-
-/// Adds an access to the object of a walk.
-fn with_access(alloc: Global, walk: Value, access: Value) -> Result<Value, AllocError>
-    ensures { (members : Members) → view walk ≡ object members → IfOk result (λ value.
-        view value ≡ object (put (codes "access") (view access) members)) }
-{
-    match walk {
-        Value::Object(mut members) => {
-            serde_json::put(&mut members, alloc, "access", access)?;
-            Ok(Value::Object(members))
-        }
-        other => Ok(other),
     }
 }
 

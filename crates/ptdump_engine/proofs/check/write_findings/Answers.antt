@@ -3,11 +3,10 @@ use Rattle.std.specs.List.{flat_map}
 use Rattle.x86_64_dump.specs.Loaded.{frames_of}
 use Rattle.x86_64_model.specs.Memory.{Words, identity_places, words_of}
 use Rattle.x86_64_model.specs.Regions.{regions_of}
-use Rattle.ptdump_engine.specs.FindingTexts.{finding_text}
-use Rattle.ptdump_engine.specs.Findings.{check_text, count_text, finding_lines, findings_by, flawed_lines, frames_above, line_count, names_in, names_in_order, processor_of, table_findings, tables_in_order}
+use Rattle.ptdump_engine.specs.Findings.{check_text, finding_lines, findings_by, flawed_lines, frames_above, line_count, names_in, names_in_order, processor_of, said_of, said_of_count, table_findings, tables_in_order}
 use Rattle.ptdump_engine.specs.Loaded.{HasAllTables, words_loaded}
 use Rattle.ptdump_engine.specs.Output.{Puts}
-use Rattle.ptdump_engine.specs.Walks.{line}
+use Rattle.ptdump_engine.specs.Said.{Said, line_of}
 use Rattle.ptdump_engine.specs.declared.check.subject.Subject.{Subject}
 use Rattle.ptdump_engine.specs.declared.findings.entry.Table.{Table}
 use Rattle.ptdump_engine.specs.declared.findings.finding.Finding.{Finding}
@@ -31,7 +30,7 @@ unfolding finding_lines table_findings
 all_lines checking L loaded subject all processor memory root tables names =
     let T = words_loaded loaded in
     let rs = regions_of L T loaded.root in
-    let lines : List Finding → List (List ℕ) = λ fs. flawed_lines L WritableAndExecutable rs ++ flawed_lines L UserInUpperHalf rs ++ map finding_text fs in
+    let lines : List Finding → List Said = λ fs. flawed_lines L WritableAndExecutable rs ++ flawed_lines L UserInUpperHalf rs ++ map said_of fs in
     ap (λ (p : Controls). lines (findings_by p (words_of subject.memory.now identity_places) subject.root subject.tables.now subject.names.now)) processor
     ∙ ap (λ ns. lines (findings_by (processor_of checking) (words_of subject.memory.now identity_places) subject.root subject.tables.now ns)) names
     ∙ ap (λ m. lines (findings_by (processor_of checking) (words_of m identity_places) subject.root subject.tables.now (names_in_order (words_of m identity_places) subject.tables.now))) memory
@@ -58,10 +57,11 @@ returns-clause-text g c = λ all.
     let names : c.deref-3.result.now ≡ names_in_order (words_of c.memory-memory.result.now identity_places) c.deref-2.result.now =
     c.deref-3.ensures.value ∙ c.in_ok-names.ensures ∙ ap (names_in_order (words_of c.memory-memory.result.now identity_places)) (c.deref.ensures.value ∙ sym c.deref-2.ensures.value) in
     let same : finding_lines_by L loaded subject ≡ finding_lines c.args.checking L (words_loaded loaded) loaded.root = all_lines c.args.checking L loaded subject all c.processor_of.ensures c.memory-memory.ensures refl tables names in
-    let last : Puts contents c.write_counted.new.output c.writeln.new.self (line (count_text c.in_ok-count.count)) = search (rules, c.in_ok-writeln.ensures) in
-    subst (λ ls. Puts contents c.args.output.now c.writeln.new.self (flat_map line ls ++ line (count_text (line_count ls)))) same
-    (subst (λ n. Puts contents c.args.output.now c.writeln.new.self (flat_map line (finding_lines_by L loaded subject) ++ line (count_text n))) c.in_ok-count.ensures.count
-    (puts_both contents c.args.output.now c.write_counted.new.output c.writeln.new.self _ _ c.in_ok-count.ensures.lines last))
+    let form = c.args.form in
+    let end = c.write_as.new.output in
+    subst (λ ls. Puts contents c.args.output.now end (flat_map (line_of form) ls ++ line_of form (said_of_count (line_count ls)))) same
+    (subst (λ n. Puts contents c.args.output.now end (flat_map (line_of form) (finding_lines_by L loaded subject) ++ line_of form (said_of_count n))) c.in_ok-count.ensures.count
+    (puts_both contents c.args.output.now c.write_counted.new.output end _ _ c.in_ok-count.ensures.lines c.in_ok-write_as.ensures))
 
 pub returns-clause-nothing : goal.returns-clause-nothing
 returns-clause-nothing g c = λ all.

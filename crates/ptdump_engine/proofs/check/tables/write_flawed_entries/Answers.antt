@@ -1,8 +1,7 @@
 use Rattle.std.proofs.Common.{◌∙◌, ◌+◌, ◌++◌, take, sym, ap}
 use Rattle.std.specs.List.{filter_map}
 use Rattle.x86_64_model.specs.Memory.{identity_places, words_of}
-use Rattle.ptdump_engine.specs.FindingTexts.{finding_text}
-use Rattle.ptdump_engine.specs.Findings.{entries_in, flaw_in, flawed_entries}
+use Rattle.ptdump_engine.specs.Findings.{entries_in, flaw_in, flawed_entries, said_of}
 use Rattle.ptdump_engine.proofs.Found.{both_lines, flat_more}
 use Rattle.ptdump_engine.proofs.check.tables.write_flawed_entries.Goals as goal
 
@@ -11,7 +10,7 @@ loop-table-preserved g c =
     let T = words_of c.args.memory.now identity_places in
     let i = c.loop-table.table-index in
     let table = c.table-item.result in
-    both_lines g.O.LineOutput.Lines g.O.LineOutput.parts finding_text c.args.output.now c.loop-table.output c.write_flawed_in.new.output
+    both_lines g.O.LineOutput.Lines g.O.LineOutput.parts said_of c.args.output.now c.loop-table.output c.write_flawed_in.new.output
     (flawed_entries c.args.flaw T (take i c.args.tables.now)) (filter_map (flaw_in c.args.flaw) (entries_in T table)) (flawed_entries c.args.flaw T (take (i + 1) c.args.tables.now))
     (flat_more (λ t. filter_map (flaw_in c.args.flaw) (entries_in T t)) c.args.tables.now i table c.loop-table-test.true
     ∙ ap (λ t. flawed_entries c.args.flaw T (take i c.args.tables.now) ++ filter_map (flaw_in c.args.flaw) (entries_in T t)) (sym c.table-item.is))

@@ -1,8 +1,7 @@
 use Rattle.std.proofs.Common.{rules, ◌≡◌, ◌∙◌, ◌≤◌, ◌+◌, ◌-◌, ◌<◌, ◌==◌, ◌++◌, if◌then◌else◌, ℕ, List, [], ◌∷◌, Option, None, Some, drop, get_or, length, map, take, refl, sym, ap, subst, append_assoc, append-nil, drop-drop, arith}
 use Rattle.std.proofs.lemmas.List.{drop_all, drop_more, length-drop, take_all}
 use Rattle.std.specs.List.{cons_option}
-use Rattle.ptdump_engine.specs.FindingTexts.{finding_text}
-use Rattle.ptdump_engine.specs.Findings.{all_named_often, often}
+use Rattle.ptdump_engine.specs.Findings.{all_named_often, often, said_of}
 use Rattle.ptdump_engine.specs.declared.findings.finding.Finding.{Finding}
 use Rattle.ptdump_engine.specs.declared.findings.names.Name.{Name}
 use Rattle.ptdump_engine.specs.private.Alike.{alike}
@@ -56,7 +55,7 @@ loop-start-preserved g c =
       ascends_on names s count x.frame up same,
       (
         done ++ cons_option c.of_frame.result [],
-        both_lines g.O.LineOutput.Lines g.O.LineOutput.parts finding_text c.args.output.now c.loop-start.output c.write_finding.new.output done (cons_option c.of_frame.result [])
+        both_lines g.O.LineOutput.Lines g.O.LineOutput.parts said_of c.args.output.now c.loop-start.output c.write_finding.new.output done (cons_option c.of_frame.result [])
             (done ++ cons_option c.of_frame.result []) refl lines c.in_ok-write_finding.ensures,
         append_assoc done (cons_option c.of_frame.result []) others
             ∙ ap (λ fs. done ++ fs) (in_front c.of_frame.result others ∙ ap (λ o. cons_option o others) finding ∙ sym next)
@@ -70,4 +69,4 @@ returns g c =
     let (within, up, (done, lines, all)) = c.loop-start.invariant in
     let none : drop c.loop-start.start c.args.names.now ≡ [] = drop_all c.loop-start.start c.args.names.now c.loop-start-test.false in
     let whole : done ≡ all_named_often c.args.names.now c.args.root = sym (append-nil done) ∙ ap (λ ns. done ++ all_named_often ns c.args.root) (sym none) ∙ all in
-    subst (λ fs. g.O.LineOutput.Lines c.args.output.now c.loop-start.output (map finding_text fs)) whole lines
+    subst (λ fs. g.O.LineOutput.Lines c.args.output.now c.loop-start.output (map said_of fs)) whole lines

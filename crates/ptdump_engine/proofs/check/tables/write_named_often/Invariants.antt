@@ -1,6 +1,5 @@
 use Rattle.std.proofs.Common.{◌≡◌, ◌≤◌, ◌-◌, ◌++◌, List, drop, length, map}
-use Rattle.ptdump_engine.specs.FindingTexts.{finding_text}
-use Rattle.ptdump_engine.specs.Findings.{all_named_often}
+use Rattle.ptdump_engine.specs.Findings.{all_named_often, said_of}
 use Rattle.ptdump_engine.specs.declared.findings.finding.Finding.{Finding}
 use Rattle.ptdump_engine.specs.private.Ascending.{Ascend}
 use Rattle.ptdump_engine.proofs.check.tables.write_named_often.Given as goal
@@ -9,7 +8,7 @@ use Rattle.ptdump_engine.proofs.check.tables.write_named_often.Given as goal
 abbrev pub invariant-loop-start : goal.invariant-loop-start
 invariant-loop-start g l =
     (l.start ≤ length l.names) × Ascend (λ name. name.frame) (drop l.start l.names)
-    × ((done : List Finding) × g.O.LineOutput.Lines l.fn.output l.output (map finding_text done) × (done ++ all_named_often (drop l.start l.names) l.root ≡ all_named_often l.names l.root))
+    × ((done : List Finding) × g.O.LineOutput.Lines l.fn.output l.output (map said_of done) × (done ++ all_named_often (drop l.start l.names) l.root ≡ all_named_often l.names l.root))
 
 abbrev pub decreases-loop-start : goal.decreases-loop-start
 decreases-loop-start g l = length l.names - l.start

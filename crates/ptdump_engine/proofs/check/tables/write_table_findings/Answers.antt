@@ -1,8 +1,7 @@
 use Rattle.std.proofs.Common.{◌++◌, refl}
 use Rattle.std.specs.List.{filter_map}
 use Rattle.x86_64_model.specs.Memory.{identity_places, words_of}
-use Rattle.ptdump_engine.specs.FindingTexts.{finding_text}
-use Rattle.ptdump_engine.specs.Findings.{all_named_often, findings_by, flawed_entries, missing}
+use Rattle.ptdump_engine.specs.Findings.{all_named_often, findings_by, flawed_entries, missing, said_of}
 use Rattle.ptdump_engine.specs.declared.findings.finding.EntryFlaw.TheVariants as flaws
 use Rattle.ptdump_engine.proofs.Found.{both_lines}
 use Rattle.ptdump_engine.proofs.Results.{on_ok}
@@ -21,9 +20,9 @@ returns g c =
     let reserved = flawed_entries (flaws.ReservedBits subject.processor) T subject.tables.now in
     let end = c.write_flawed_entries-2.new.output in
     on_ok c.write_flawed_entries-2.result (λ last.
-    both_lines Lines parts finding_text begun c.write_flawed_entries.new.output end (often ++ lacking ++ huge) reserved (findings_by subject.processor T subject.root subject.tables.now subject.names.now) refl
-    (both_lines Lines parts finding_text begun c.write_missing.new.output c.write_flawed_entries.new.output (often ++ lacking) huge (often ++ lacking ++ huge) refl
-    (both_lines Lines parts finding_text begun c.write_named_often.new.output c.write_missing.new.output often lacking (often ++ lacking) refl c.in_ok-write_named_often.ensures c.in_ok-write_missing.ensures)
+    both_lines Lines parts said_of begun c.write_flawed_entries.new.output end (often ++ lacking ++ huge) reserved (findings_by subject.processor T subject.root subject.tables.now subject.names.now) refl
+    (both_lines Lines parts said_of begun c.write_missing.new.output c.write_flawed_entries.new.output (often ++ lacking) huge (often ++ lacking ++ huge) refl
+    (both_lines Lines parts said_of begun c.write_named_often.new.output c.write_missing.new.output often lacking (often ++ lacking) refl c.in_ok-write_named_often.ensures c.in_ok-write_missing.ensures)
     c.in_ok-write_flawed_entries.ensures)
     last)
     c.write_flawed_entries-2.ensures

@@ -13,5 +13,5 @@ returns-in_ok-to_json-in-Some c =
     let walk : view c.in_ok-walk.walk ≡ object (value_members (hexadecimal_string report.address) (array (items_of (map json_of_word report.walk.words.items))) report.walk.end) =
     c.in_ok-walk.ensures ∙ ap (λ w. object (value_members (hexadecimal_string report.address) w report.walk.end)) words in
     let access : view c.in_ok-to_json-in-Some.field-0 ≡ json_of_line c.in-Some.access = search rules in
-    IfOk-weaker c.with_access.result _ _ (λ value is. is ∙ ap (λ a. object (member (codes "access") a (value_members (hexadecimal_string report.address) (array (items_of (map json_of_word report.walk.words.items))) report.walk.end))) access
-    ∙ ap (λ a. json_of_value report.address report.walk (option_map json_of_line a)) (sym c.in-Some.is)) (c.with_access.ensures _ walk)
+    IfOk-weaker c.with_member.result _ _ (λ value is. is ∙ ap (λ a. object (member (codes "access") a (value_members (hexadecimal_string report.address) (array (items_of (map json_of_word report.walk.words.items))) report.walk.end))) access
+    ∙ ap (λ a. json_of_value report.address report.walk (option_map json_of_line a)) (sym c.in-Some.is)) (c.with_member.ensures _ walk)

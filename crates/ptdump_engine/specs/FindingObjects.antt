@@ -1,0 +1,44 @@
+-- FindingObjects: findings as JSON objects, whose member "finding" says what is found.
+use Rattle.std.specs.Prelude.{ℕ, codes}
+use Rattle.serde_json.specs.Data.{Data, string, object, put, member, no_members}
+use Rattle.x86_64_model.specs.Regions.{Region}
+use Rattle.ptdump_engine.specs.FindingTexts.{flaw_text}
+use Rattle.ptdump_engine.specs.Json.{count, hexadecimal_string, region_members}
+use Rattle.ptdump_engine.specs.declared.findings.entry.Slot.{Slot}
+use Rattle.ptdump_engine.specs.declared.findings.finding.Finding.{Finding}
+use Rattle.ptdump_engine.specs.declared.findings.finding.Finding.TheVariants.{NamedOften, NotInDump, HugePage, ReservedBits}
+use Rattle.ptdump_engine.specs.declared.findings.flaw.Flaw.{Flaw}
+
+-- a region with a flaw: the object of the region, with the flaw
+abbrev pub json_of_flawed : (L : ℕ) → Flaw → Region → Data
+json_of_flawed L flaw r = object (put (codes "finding") (string (flaw_text flaw)) (region_members L r))
+
+abbrev pub json_of_slot : Slot → Data
+json_of_slot slot = object (
+    member (codes "index") (count slot.index)
+    (member (codes "table") (hexadecimal_string slot.table) no_members))
+
+abbrev pub json_of_finding : Finding → Data
+json_of_finding (NamedOften frame times) = object (
+    member (codes "finding") (string (codes "table named often"))
+    (member (codes "table") (hexadecimal_string frame)
+    (member (codes "times") (count times) no_members)))
+json_of_finding (NotInDump frame by) = object (
+    member (codes "finding") (string (codes "table not in the dump"))
+    (member (codes "named_by") (json_of_slot by)
+    (member (codes "table") (hexadecimal_string frame) no_members)))
+json_of_finding (HugePage slot level) = object (
+    member (codes "finding") (string (codes "HUGE_PAGE above level three"))
+    (member (codes "index") (count slot.index)
+    (member (codes "level") (count level)
+    (member (codes "table") (hexadecimal_string slot.table) no_members))))
+json_of_finding (ReservedBits entry) = object (
+    member (codes "finding") (string (codes "reserved bits"))
+    (member (codes "index") (count entry.slot.index)
+    (member (codes "level") (count entry.level)
+    (member (codes "table") (hexadecimal_string entry.slot.table)
+    (member (codes "word") (hexadecimal_string entry.word) no_members)))))
+
+-- the number of findings
+abbrev pub json_of_count : (findings : ℕ) → Data
+json_of_count findings = object (member (codes "findings") (count findings) no_members)

@@ -1,0 +1,13 @@
+-- Said: what a line says, as a text and as a JSON object.
+use Rattle.std.specs.Prelude.{ℕ, List}
+use Rattle.serde_json.specs.Data.{Data}
+use Rattle.ptdump_engine.specs.Lines.{line_in}
+use Rattle.ptdump_engine.specs.declared.request.Form.{Form}
+
+pub record Said : Type 0 where
+  pub text : List ℕ
+  pub object : Data
+
+-- its line in a form
+abbrev pub line_of : Form → Said → List ℕ
+line_of form said = line_in form said.text said.object
