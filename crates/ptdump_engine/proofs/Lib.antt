@@ -20,3 +20,4 @@ pub mod Found
 pub mod Grouped
 pub mod InOrder
 pub mod SameTables
+pub mod Reaches

@@ -4,7 +4,7 @@ use Rattle.x86_64_mappings.specs.Numbers.{hexadecimal}
 use Rattle.ptdump_engine.specs.declared.findings.entry.Slot.{Slot}
 use Rattle.ptdump_engine.specs.declared.findings.entry.Entry.{Entry}
 use Rattle.ptdump_engine.specs.declared.findings.finding.Finding.{Finding}
-use Rattle.ptdump_engine.specs.declared.findings.finding.Finding.TheVariants.{NamedOften, NotInDump, HugePage, ReservedBits}
+use Rattle.ptdump_engine.specs.declared.findings.finding.Finding.TheVariants.{NamedOften, NotInDump, HugePage, ReservedBits, WritableForUser, MappedForUser}
 
 -- a slot as 0xTABLE[INDEX]
 abbrev pub slot_text : Slot → List ℕ
@@ -24,3 +24,7 @@ finding_text (HugePage slot level) =
     codes "HUGE_PAGE at level " ++ decimal level ++ codes " in " ++ slot_text slot
 finding_text (ReservedBits entry) =
     codes "reserved bits at level " ++ decimal entry.level ++ codes " in " ++ entry_text entry
+finding_text (WritableForUser frame at) =
+    codes "table " ++ hexadecimal frame ++ codes " is mapped writable for user" ++ (codes " at " ++ hexadecimal at)
+finding_text (MappedForUser frame at) =
+    codes "table " ++ hexadecimal frame ++ codes " is mapped for user at " ++ hexadecimal at

@@ -11,6 +11,7 @@ use Rattle.x86_64_model.specs.Position.{lower_half}
 use Rattle.x86_64_model.specs.Regions.{Region, regions_of}
 use Rattle.ptdump_engine.specs.FindingTexts.{finding_text}
 use Rattle.ptdump_engine.specs.InOrder.{in_order}
+use Rattle.ptdump_engine.specs.ReachedTables.{all_reached}
 use Rattle.ptdump_engine.specs.Walks.{line}
 use Rattle.ptdump_engine.specs.declared.findings.entry.Entry.{Entry}
 use Rattle.ptdump_engine.specs.declared.findings.entry.Slot.{Slot}
@@ -137,7 +138,7 @@ findings_by processor T root tables names = all_named_often names root ++ filter
 -- the findings in the tables that a root leads to
 unfoldable pub table_findings : Checking → (L : ℕ) → Words → (root : ℕ) → List Finding
 table_findings checking L T root = let tables = tables_in_order (tables_by_level L T root) in
-    findings_by (processor_of checking) T root tables (names_in_order T tables)
+    findings_by (processor_of checking) T root tables (names_in_order T tables) ++ all_reached L T root tables
 
 -- a line for each finding
 unfoldable pub finding_lines : Checking → (L : ℕ) → Words → (root : ℕ) → List (List ℕ)

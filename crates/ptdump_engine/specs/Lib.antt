@@ -11,6 +11,7 @@ pub mod MemoryRanges
 pub mod Names
 pub mod Output
 pub mod Program
+pub mod ReachedTables
 pub mod Reports
 pub mod Selections
 pub mod Start

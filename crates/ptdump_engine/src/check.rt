@@ -19,6 +19,7 @@ use crate::findings::{Flaw, names_in_order, tables_in_order};
 use crate::line_output::LineOutput;
 use crate::loaded::Loaded;
 use crate::output::{Output, OutputError};
+use crate::reached::reached_tables;
 use crate::request::Checking;
 use std::alloc::Global;
 use x86_64_access::Controls;
@@ -48,12 +49,14 @@ pub fn write_findings<L: LevelCount, W: Destination>(
     let memory = loaded.tables.memory();
     let tables = tables_in_order(alloc, loaded.tables.frames())?;
     let names = names_in_order(alloc, memory, &tables)?;
+    let reached = reached_tables::<L>(alloc, memory, loaded.root, &tables)?;
     let subject = Subject {
         memory,
         processor: processor_of(checking),
         root: loaded.root,
         tables: &tables,
         names: &names,
+        reached: &reached,
     };
     let count = write_counted::<L, Output<'_, W>>(loaded, &subject, output)?;
     writeln!(output, "findings: {count}")?;

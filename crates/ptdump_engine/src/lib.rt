@@ -24,6 +24,7 @@ mod naming;
 mod opening;
 mod output;
 mod picture;
+mod reached;
 mod registers;
 mod report;
 mod request;

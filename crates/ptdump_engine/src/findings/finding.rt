@@ -38,6 +38,20 @@ pub enum Finding {
     },
     /// An entry has other reserved bits.
     ReservedBits(Entry),
+    /// User code can write to a table.
+    WritableForUser {
+        /// The frame of the table.
+        frame: PhysFrame<Size4KiB>,
+        /// The first virtual address of the table in the first mapping through which user code can write to it.
+        at: u64,
+    },
+    /// User code can access a table, but can't write to it.
+    MappedForUser {
+        /// The frame of the table.
+        frame: PhysFrame<Size4KiB>,
+        /// The first virtual address of the table in the first mapping for user code that leads to it.
+        at: u64,
+    },
 }
 
 /// A flaw of an entry.
@@ -51,6 +65,7 @@ pub enum EntryFlaw {
 
 impl Finding {
     ghost use Rattle.ptdump_engine.specs.Findings as findings;
+    ghost use Rattle.ptdump_engine.specs.ReachedTables.{reached_at};
 
     /// Returns the finding of a frame that is named as a table so many times, if that is more than once.
     pub fn of_frame(frame: PhysFrame<Size4KiB>, count: usize) -> Option<Finding>
@@ -86,6 +101,22 @@ impl Finding {
         match flaw {
             EntryFlaw::HugePage => Finding::of_huge_page(entry),
             EntryFlaw::ReservedBits(controls) => Finding::of_reserved_bits(&controls, entry),
+        }
+    }
+
+    /// Returns the finding of a frame's table, given at which virtual address user code can write to it, and at which it can
+    /// access it, if there are such.
+    pub fn of_reached(
+        frame: PhysFrame<Size4KiB>,
+        writable: Option<u64>,
+        mapped: Option<u64>,
+    ) -> Option<Finding>
+        ensures { result ≡ reached_at frame writable mapped }
+    {
+        match (writable, mapped) {
+            (Some(at), _) => Some(Finding::WritableForUser { frame, at }),
+            (None, Some(at)) => Some(Finding::MappedForUser { frame, at }),
+            (None, None) => None,
         }
     }
 
@@ -138,6 +169,15 @@ impl Display for Finding {
             Finding::ReservedBits(entry) => {
                 let level = entry.level;
                 write!(f, "reserved bits at level {level} in {entry}")
+            }
+            Finding::WritableForUser { frame, at } => {
+                let address = frame.start_address().as_u64();
+                write!(f, "table 0x{address:x} is mapped writable for user")?;
+                write!(f, " at 0x{at:x}")
+            }
+            Finding::MappedForUser { frame, at } => {
+                let address = frame.start_address().as_u64();
+                write!(f, "table 0x{address:x} is mapped for user at 0x{at:x}")
             }
         }
     }
