@@ -20,4 +20,7 @@ pub mod Found
 pub mod Grouped
 pub mod InOrder
 pub mod SameTables
+pub mod FirstAddresses
+pub mod Noted
+pub mod OnceInOrder
 pub mod Reaches

@@ -1,8 +1,10 @@
 -- Searches: what the first mapping that leads to an address is after more mappings, and which of them change nothing.
 use Rattle.std.proofs.Common.{◌≡◌, ◌∙◌, ◌+◌, ◌<◌, ◌%◌, ◌&&◌, ◌||◌, ◌++◌, ℕ, Bool, true, false, not, cond, nat_eq, nat_le, nat_lt, List, [], ◌∷◌, filter, find, map, Option, None, Some, option_map, refl, sym, ap, ap₂, subst, append-nil, append_assoc, arith}
 use Rattle.std.proofs.lemmas.Bool.{and_parts, eqb-true}
+use Rattle.std.proofs.lemmas.List.Elements.{filter-append}
 use Rattle.std.proofs.lemmas.List.Folds.{find-append}
 use Rattle.std.specs.HashSet.{contains}
+use Rattle.std.specs.List.Sorted.{IsNonDecreasingBy}
 use Rattle.std.specs.Option.{option_or}
 use Rattle.x86_64_mappings.specs.Wanted.{asked_mappings, leads_to}
 use Rattle.x86_64_mappings.specs.private.Placed.{placed}
@@ -12,7 +14,7 @@ use Rattle.ptdump_engine.specs.Selections.{includes}
 use Rattle.ptdump_engine.specs.declared.reached.search.Found.{Found}
 use Rattle.ptdump_engine.specs.declared.reached.search.Search.{Search}
 use Rattle.ptdump_engine.specs.declared.reached.search.Visit.{Visit}
-use Rattle.ptdump_engine.specs.private.Reaching.{address_in, asked_by, firsts_of, kept, kept_below, kept_in, Cover, IsAfter, Takes}
+use Rattle.ptdump_engine.specs.private.Reaching.{address_in, searched, firsts_of, kept, kept_below, kept_in, Cover, IsAfter, Takes}
 
 -- ---- rights
 
@@ -32,16 +34,17 @@ both_true a b p q = λ i. p i && q i
 
 included : (r s needed : Rights) → includes r needed ≡ true → includes (both r s) needed ≡ includes s needed
 included r s n h =
-    let first = and_parts (r.write || not n.write) ((r.user || not n.user) && (r.execute || not n.execute)) h in
-    let rest = and_parts (r.user || not n.user) (r.execute || not n.execute) first.1 in
-    λ i. part_kept r.write s.write n.write first.0 i && (part_kept r.user s.user n.user rest.0 i && part_kept r.execute s.execute n.execute rest.1 i)
+    let last = and_parts ((r.write || not n.write) && (r.user || not n.user)) (r.execute || not n.execute) h in
+    let first = and_parts (r.write || not n.write) (r.user || not n.user) last.0 in
+    λ i. (part_kept r.write s.write n.write first.0 i && part_kept r.user s.user n.user first.1 i) && part_kept r.execute s.execute n.execute last.1 i
 
 excluded : (r s needed : Rights) → includes (both r s) needed ≡ true → includes r needed ≡ true
 excluded r s n h =
-    let first = and_parts ((r.write && s.write) || not n.write) (((r.user && s.user) || not n.user) && ((r.execute && s.execute) || not n.execute)) h in
-    let rest = and_parts ((r.user && s.user) || not n.user) ((r.execute && s.execute) || not n.execute) first.1 in
-    both_true (r.write || not n.write) ((r.user || not n.user) && (r.execute || not n.execute)) (part_missing r.write s.write n.write first.0)
-    (both_true (r.user || not n.user) (r.execute || not n.execute) (part_missing r.user s.user n.user rest.0) (part_missing r.execute s.execute n.execute rest.1))
+    let last = and_parts (((r.write && s.write) || not n.write) && ((r.user && s.user) || not n.user)) ((r.execute && s.execute) || not n.execute) h in
+    let first = and_parts ((r.write && s.write) || not n.write) ((r.user && s.user) || not n.user) last.0 in
+    both_true ((r.write || not n.write) && (r.user || not n.user)) (r.execute || not n.execute)
+    (both_true (r.write || not n.write) (r.user || not n.user) (part_missing r.write s.write n.write first.0) (part_missing r.user s.user n.user first.1))
+    (part_missing r.execute s.execute n.execute last.1)
 
 missing : (r s needed : Rights) → includes r needed ≡ false → includes (both r s) needed ≡ false
 missing r s n h = by (includes (both r s) n) refl
@@ -120,6 +123,23 @@ module _ (L : ℕ) (search : Search) where
   pub takes_both : (old between new : Found) (front back : List Mapping) → Takes L search old between front → Takes L search between new back → Takes L search old new (front ++ back)
   takes_both old between new front back first second ms after = subst (IsAfter L search new) (append_assoc ms front back) (second (ms ++ front) (first ms after))
 
+  -- mappings of which those with the needed rights were taken in two parts
+  pub takes_more : (old between new : Found) (front back : List Mapping) → Takes L search old between (kept search.needed front) → Takes L search between new (kept search.needed back)
+      → Takes L search old new (kept search.needed (front ++ back))
+  takes_more old between new front back first second =
+      subst (Takes L search old new) (sym (filter-append (λ m. includes m.rights search.needed) front back))
+      (takes_both old between new (kept search.needed front) (kept search.needed back) first second)
+
+  -- a page was noted
+  pub takes_page : (old new : Found) (m : Mapping) → ((ms : List Mapping) → IsNonDecreasingBy (λ f. f) search.frames.now → old.firsts.items ≡ firsts_of L search.frames.now ms → new.firsts.items ≡ firsts_of L search.frames.now (ms ++ m ∷ []))
+      → new.visited ≡ old.visited → Takes L search old new (m ∷ [])
+  takes_page old new m noted same ms after = record {
+    ascend = after.ascend;
+    firsts = noted ms after.ascend after.firsts;
+    visited = λ level frame low aligned is.
+        cover_more ms (m ∷ []) (kept_below search level frame) (after.visited level frame low aligned (subst (λ v. contains nat_eq v (frame + level) ≡ true) same is));
+  }
+
   takes_covered : (found : Found) (ms others : List Mapping) (s : ℕ) (r : Rights) → Cover ms others → IsAfter L search found ms → IsAfter L search found (ms ++ map (placed s r) others)
   takes_covered found ms others s r cover after = record {
     ascend = after.ascend;
@@ -130,13 +150,13 @@ module _ (L : ℕ) (search : Search) where
   -- a table below words that lack a right
   pub takes_no_right : (found : Found) (visit : Visit) → includes visit.above search.needed ≡ false → Takes L search found found (kept_in search visit)
   takes_no_right found visit lacks =
-      subst (Takes L search found found) (sym (kept_none search.needed visit.start visit.above (asked_mappings (asked_by search) visit.level visit.frame) lacks)) (takes_nothing found)
+      subst (Takes L search found found) (sym (kept_none search.needed visit.start visit.above (asked_mappings (searched search) visit.level visit.frame) lacks)) (takes_nothing found)
 
   -- a table that was visited
   pub takes_visited : (found : Found) (visit : Visit) → includes visit.above search.needed ≡ true → visit.level < 4096 → visit.frame % 4096 ≡ 0
       → contains nat_eq found.visited (visit.frame + visit.level) ≡ true → Takes L search found found (kept_in search visit)
   takes_visited found visit has low aligned is =
-      subst (Takes L search found found) (sym (kept_placed search.needed visit.start visit.above (asked_mappings (asked_by search) visit.level visit.frame) has))
+      subst (Takes L search found found) (sym (kept_placed search.needed visit.start visit.above (asked_mappings (searched search) visit.level visit.frame) has))
       (λ ms after. takes_covered found ms (kept_below search visit.level visit.frame) visit.start visit.above (after.visited visit.level visit.frame low aligned is) after)
 
   -- a table and a level are determined by their sum
@@ -159,7 +179,7 @@ module _ (L : ℕ) (search : Search) where
 
       here : Cover all (kept_below search visit.level visit.frame)
       here = subst (λ ns. Cover (ms ++ ns) (kept_below search visit.level visit.frame))
-          (sym (kept_placed search.needed visit.start visit.above (asked_mappings (asked_by search) visit.level visit.frame) has))
+          (sym (kept_placed search.needed visit.start visit.above (asked_mappings (searched search) visit.level visit.frame) has))
           (cover_placed ms (kept_below search visit.level visit.frame) visit.start visit.above)
 
       by : (level frame : ℕ) → level < 4096 → frame % 4096 ≡ 0 → (b : Bool) → nat_eq (visit.frame + visit.level) (frame + level) ≡ b

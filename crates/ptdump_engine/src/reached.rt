@@ -1,5 +1,6 @@
 //! Page tables to which mappings for user code lead.
-ghost use Rattle.std.specs.Prelude.{◌≡◌, ℕ, Option, IfOk, filter_map, length, map};
+ghost use Rattle.std.specs.Prelude.{◌≡◌, ◌++◌, [], ℕ, Option, IfOk, OnOk, filter_map, length, map};
+ghost use Rattle.std.specs.List.{cons_option};
 ghost use Rattle.x86_64_model.specs.Memory.{identity_places, words_of};
 ghost use Rattle.ptdump_engine.specs.ReachedTables as reached;
 ghost use Rattle.ptdump_engine.specs.private.Ascending.{Ascend};
@@ -88,9 +89,18 @@ fn findings_at(
 {
     let mut findings = Vec::new(alloc);
     for i in 0..frames.len() {
-        if let Some(finding) = Finding::of_reached(frames[i], writable[i], mapped[i]) {
-            findings.push(finding)?;
-        }
+        let finding = Finding::of_reached(frames[i], writable[i], mapped[i]);
+        add_finding(&mut findings, finding)?;
     }
     Ok(findings)
+}
+
+/// Adds a finding, if there is one.
+fn add_finding(findings: &mut Vec<Finding>, finding: Option<Finding>) -> Result<(), AllocError>
+    ensures { OnOk result (findings.new.items ≡ findings.old.items ++ cons_option finding []) }
+{
+    if let Some(finding) = finding {
+        findings.push(finding)?;
+    }
+    Ok(())
 }

@@ -33,16 +33,16 @@ abbrev pub Cover : (ms others : List Mapping) → Type 0
 Cover ms others = (a : ℕ) → find (leads_to a) ms ≡ None → find (leads_to a) others ≡ None
 
 -- the words that are searched, where all mappings are wanted
-abbrev pub asked_by : Search → Asked
-asked_by search = record { words = words_of search.memory.now identity_places; wanted = None }
+abbrev pub searched : Search → Asked
+searched search = record { words = words_of search.memory.now identity_places; wanted = None }
 
 -- the mappings with the needed rights below a frame's table of a level
 abbrev pub kept_below : Search → (level frame : ℕ) → List Mapping
-kept_below search level frame = kept search.needed (asked_mappings (asked_by search) level frame)
+kept_below search level frame = kept search.needed (asked_mappings (searched search) level frame)
 
 -- the same of a table that is visited
 abbrev pub kept_in : Search → Visit → List Mapping
-kept_in search visit = kept search.needed (map (placed visit.start visit.above) (asked_mappings (asked_by search) visit.level visit.frame))
+kept_in search visit = kept search.needed (map (placed visit.start visit.above) (asked_mappings (searched search) visit.level visit.frame))
 
 -- ---- the search
 

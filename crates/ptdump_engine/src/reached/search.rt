@@ -100,7 +100,8 @@ fn visit_table<L: LevelCount>(
     };
     let size = span(table.level);
     let mut start = table.start;
-    for entry in words.as_slice() {
+    let entries = words.as_slice();
+    for entry in entries {
         match entry.target(table.level) {
             EntryTarget::Page => {
                 let page = MappingIn::of_page(table.level, start, entry, table.above);
@@ -138,7 +139,10 @@ fn is_new<L: LevelCount>(search: &Search<'_>, table: &Visit, found: &Found) -> b
         (reaching.kept_in search.now table.now) }
     ensures rights { result ≡ true → selections.includes table.now.above search.now.needed ≡ true }
 {
-    includes(table.above, search.needed) && !found.visited.contains(&table.key())
+    if !includes(table.above, search.needed) {
+        return false;
+    }
+    !found.visited.contains(&table.key())
 }
 
 /// Records that a table is visited.
@@ -183,7 +187,8 @@ impl Visit {
     /// Returns a number that is different for each frame and level.
     fn key(&self) -> u64
         requires { self.now.level < 4096 }
-        ensures { result ≡ self.now.frame + self.now.level }
+        ensures sum { result ≡ self.now.frame + self.now.level }
+        ensures aligned { self.now.frame % 4096 ≡ 0 }
     {
         self.frame.start_address().as_u64() + self.level
     }
