@@ -15,25 +15,30 @@ use Rattle.ptdump_engine.specs.declared.reached.search.Search.{Search}
 use Rattle.ptdump_engine.specs.private.Reaching.{address_in, firsts_of, kept, kept_in, searched}
 use Rattle.ptdump_engine.proofs.Asked.{all_wanted, inside}
 
+-- what no number has, only None has
+pub only_none : (P : Option ℕ → Type 0) → ((a : ℕ) → P (Some a) → ⊥) → (o : Option ℕ) → P o → o ≡ None
+only_none P never None h = refl
+only_none P never (Some a) h = absurd (never a h)
+
 pub nothing_found : (L : ℕ) (frames : List ℕ) → replicate (length frames) None ≡ firsts_of L frames []
 nothing_found L [] = refl
 nothing_found L (f ∷ fs) = ap (λ (os : List (Option ℕ)). None ∷ os) (nothing_found L fs)
 
+-- the addresses in the first of some mappings that leads to a frame
+abbrev Same : (L f : ℕ) → List Mapping → Type 0
+Same L f ms = option_map (address_in L f) (find (leads_to f) ms) ≡ option_map (λ m. raw L (m.start + (f - m.frame))) (find (leads_to f) ms)
+
 -- an address in a mapping that leads to a frame is an address of the mapping
-same_address : (L : ℕ) (needed : Rights) (f : ℕ) (ms : List Mapping) → AllByRecursion (λ m. m.start + m.size ≤ position_count L) ms
-    → option_map (address_in L f) (find (leads_to f) (kept needed ms)) ≡ option_map (λ m. raw L (m.start + (f - m.frame))) (find (leads_to f) (kept needed ms))
+same_address : (L : ℕ) (needed : Rights) (f : ℕ) (ms : List Mapping) → AllByRecursion (λ m. m.start + m.size ≤ position_count L) ms → Same L f (kept needed ms)
 same_address L needed f [] fit = refl
 same_address L needed f (m ∷ ms) fit = by (includes m.rights needed) (same_address L needed f ms fit.1)
   where
-    abbrev Same : List Mapping → Type 0
-    Same ks = option_map (address_in L f) (find (leads_to f) ks) ≡ option_map (λ m. raw L (m.start + (f - m.frame))) (find (leads_to f) ks)
-
-    here : (b : Bool) → leads_to f m ≡ b → Same (kept needed ms)
+    here : (b : Bool) → leads_to f m ≡ b → Same L f (kept needed ms)
         → option_map (address_in L f) (cond b (Some m) (find (leads_to f) (kept needed ms))) ≡ option_map (λ m. raw L (m.start + (f - m.frame))) (cond b (Some m) (find (leads_to f) (kept needed ms)))
     here true leads rest = ap (λ p. Some (raw L p)) (mod-eq_of_lt (inside f m (position_count L) leads fit.0))
     here false leads rest = rest
 
-    by : (b : Bool) → Same (kept needed ms) → Same (cond b (m ∷ kept needed ms) (kept needed ms))
+    by : (b : Bool) → Same L f (kept needed ms) → Same L f (cond b (m ∷ kept needed ms) (kept needed ms))
     by true rest = here (leads_to f m) refl rest
     by false rest = rest
 

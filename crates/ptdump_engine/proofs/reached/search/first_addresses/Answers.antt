@@ -1,7 +1,8 @@
-use Rattle.std.proofs.Common.{◌≡◌, ◌∙◌, true, false, ◌+◌, [], length, nat_eq, None, sym, ap}
-use Rattle.std.specs.HashSet.{contains}
+use Rattle.std.proofs.Common.{◌++◌, ◌≡◌, ◌∙◌, true, false, ◌+◌, [], nat_eq, sym, ap}
 use Rattle.std.specs.List.{list_any}
-use Rattle.ptdump_engine.proofs.FirstAddresses.{all_found, nothing_found}
+use Rattle.x86_64_model.specs.Mappings.{every_right}
+use Rattle.ptdump_engine.specs.private.Reaching.{firsts_of, kept_in}
+use Rattle.ptdump_engine.proofs.FirstAddresses.{all_found, nothing_found, only_none}
 use Rattle.ptdump_engine.proofs.reached.search.first_addresses.Goals as goal
 
 pub returns : goal.returns
@@ -10,8 +11,10 @@ returns g c =
     let sought = c.args.search.now in
     let after = c.in_ok-visit_table.ensures [] (record {
       ascend = c.requires;
-      firsts = c.in_ok-from_elem.ensures.items_if_clones_equal ? ∙ nothing_found L sought.frames.now;
+      firsts = c.in_ok-from_elem.ensures.items_if_clones_equal (only_none _ (λ x same. same)) ∙ nothing_found L sought.frames.now;
       visited = λ level frame low aligned is.
           absurd (let e : false ≡ true = ap (λ keys. list_any (nat_eq (frame + level)) keys) (sym c.new.ensures.empty) ∙ is in cc);
     }) in
-    after.firsts ∙ all_found L sought c.args.root
+    after.firsts
+    ∙ ap (λ level. firsts_of L sought.frames.now ([] ++ kept_in sought (record { frame = c.args.root; level = level; start = 0; above = every_right }))) c.LEVELS.ensures
+    ∙ all_found L sought c.args.root
