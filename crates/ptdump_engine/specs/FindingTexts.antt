@@ -14,6 +14,10 @@ slot_text slot = hexadecimal slot.table ++ codes "[" ++ decimal slot.index ++ co
 abbrev pub entry_text : Entry → List ℕ
 entry_text entry = slot_text entry.slot ++ codes " = " ++ hexadecimal entry.word
 
+-- for whom a table is mapped, and where
+abbrev pub for_user_text : (at : ℕ) → List ℕ
+for_user_text at = codes " for user at " ++ hexadecimal at
+
 -- the line of a finding, without its line feed
 abbrev pub finding_text : Finding → List ℕ
 finding_text (NamedOften frame count) =
@@ -25,6 +29,6 @@ finding_text (HugePage slot level) =
 finding_text (ReservedBits entry) =
     codes "reserved bits at level " ++ decimal entry.level ++ codes " in " ++ entry_text entry
 finding_text (WritableForUser frame at) =
-    codes "table " ++ hexadecimal frame ++ codes " is mapped writable for user" ++ (codes " at " ++ hexadecimal at)
+    codes "table " ++ hexadecimal frame ++ codes " is mapped writable" ++ for_user_text at
 finding_text (MappedForUser frame at) =
-    codes "table " ++ hexadecimal frame ++ codes " is mapped for user at " ++ hexadecimal at
+    codes "table " ++ hexadecimal frame ++ codes " is mapped" ++ for_user_text at

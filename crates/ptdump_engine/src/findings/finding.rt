@@ -1,12 +1,15 @@
 //! Findings in page tables that were read from a dump.
 ghost use Rattle.std.specs.Prelude.{◌≡◌, ◌≤◌, Some};
+ghost use Rattle.std.specs.Fmt.{WritesOnOk};
 ghost use Rattle.x86_64_model.specs.Memory.{identity_places, words_of};
+ghost use Rattle.ptdump_engine.specs.FindingTexts.{for_user_text};
 ghost use Rattle.ptdump_engine.specs.private.Checked.{HasBits};
 
 use crate::findings::entry::{Entry, Slot};
 use crate::findings::names::Name;
 use std::fmt::{Display, Formatter, Result as FmtResult, Write};
 use x86_64_access::Controls;
+use x86_64_mappings::text::write_hexadecimal;
 use x86_64_page::frame::PhysFrame;
 use x86_64_page::page::Size4KiB;
 use x86_64_tables::page_table::PageTableEntry;
@@ -172,13 +175,22 @@ impl Display for Finding {
             }
             Finding::WritableForUser { frame, at } => {
                 let address = frame.start_address().as_u64();
-                write!(f, "table 0x{address:x} is mapped writable for user")?;
-                write!(f, " at 0x{at:x}")
+                write!(f, "table 0x{address:x} is mapped writable")?;
+                write_for_user(f, *at)
             }
             Finding::MappedForUser { frame, at } => {
                 let address = frame.start_address().as_u64();
-                write!(f, "table 0x{address:x} is mapped for user at 0x{at:x}")
+                write!(f, "table 0x{address:x} is mapped")?;
+                write_for_user(f, *at)
             }
         }
     }
+}
+
+/// Writes for whom a table is mapped, and where.
+fn write_for_user<W: Write>(f: &mut Formatter<W>, at: u64) -> FmtResult
+    ensures { WritesOnOk W.write_str_gives f.old result (for_user_text at) f.new }
+{
+    f.write_str(" for user at ")?;
+    write_hexadecimal(f, at)
 }
