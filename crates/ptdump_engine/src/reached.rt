@@ -60,10 +60,7 @@ pub fn reached_tables<L: LevelCount>(
 }
 
 /// Returns the frames of tables that are in order, each once.
-fn frames_in_order(
-    alloc: Global,
-    tables: &[Table],
-) -> Result<Vec<PhysFrame<Size4KiB>>, AllocError>
+fn frames_in_order(alloc: Global, tables: &[Table]) -> Result<Vec<PhysFrame<Size4KiB>>, AllocError>
     ensures { IfOk result (λ frames. frames.items ≡ reached.frames_in_order tables.now) }
 {
     let mut frames = Vec::new(alloc);

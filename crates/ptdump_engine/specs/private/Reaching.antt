@@ -1,5 +1,6 @@
 -- Reaching: a search for frames, after some of the mappings.
-use Rattle.std.specs.Prelude.{◌≡◌, ◌<◌, ◌+◌, ◌-◌, ◌%◌, ◌++◌, ℕ, true, List, map, filter, find, nat_eq, Option, None, option_map}
+use Rattle.std.specs.Prelude.{◌≡◌, ◌<◌, ◌+◌, ◌-◌, ◌%◌, ◌++◌, ◌&&◌, ℕ, Bool, true, false, IfSome, nat_le, nat_lt, List, map, filter, find, nat_eq, Option, None, option_map}
+use Rattle.std.specs.HashMap.{get}
 use Rattle.std.specs.HashSet.{contains}
 use Rattle.std.specs.List.Sorted.{IsNonDecreasingBy}
 use Rattle.x86_64_mappings.specs.Wanted.{Asked, asked_mappings, leads_to}
@@ -32,6 +33,10 @@ kept needed ms = filter (λ m. includes m.rights needed) ms
 abbrev pub Cover : (ms others : List Mapping) → Type 0
 Cover ms others = (a : ℕ) → find (leads_to a) ms ≡ None → find (leads_to a) others ≡ None
 
+-- whether an address is in a page with a start and a size
+abbrev pub is_within : (start size address : ℕ) → Bool
+is_within start size a = nat_le start a && nat_lt a (start + size)
+
 -- the words that are searched, where all mappings are wanted
 abbrev pub searched : Search → Asked
 searched search = record { words = words_of search.memory.now identity_places; wanted = None }
@@ -46,11 +51,12 @@ kept_in search visit = kept search.needed (map (placed visit.start visit.above) 
 
 -- ---- the search
 
--- The search went through some mappings. Whatever the tables lead to that it needn't visit again, some of these lead to.
+-- The search went through some mappings. Whatever the tables and pages lead to that it needn't visit again, some of these lead to.
 pub record IsAfter (L : ℕ) (search : Search) (found : Found) (ms : List Mapping) : Type 0 where
   pub ascend : IsNonDecreasingBy (λ f. f) search.frames.now
   pub firsts : found.firsts.items ≡ firsts_of L search.frames.now ms
   pub visited : (level frame : ℕ) → level < 4096 → frame % 4096 ≡ 0 → contains nat_eq found.visited (frame + level) ≡ true → Cover ms (kept_below search level frame)
+  pub pages : (start : ℕ) → IfSome (get nat_eq found.pages start) (λ size. (a : ℕ) → find (leads_to a) ms ≡ None → is_within start size a ≡ false)
 
 -- it went through more mappings
 abbrev pub Takes : (L : ℕ) → Search → (old new : Found) → (more : List Mapping) → Type 0

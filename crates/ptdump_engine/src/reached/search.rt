@@ -1,5 +1,6 @@
 //! Searches for frames of tables in what page tables map.
-ghost use Rattle.std.specs.Prelude.{◌≡◌, ◌<◌, ◌≤◌, ◌+◌, ◌-◌, ◌*◌, ◌%◌, ◌++◌, ◌∷◌, [], List, IfOk, OnOk, map, true, false};
+ghost use Rattle.std.specs.Prelude.{◌≡◌, ◌<◌, ◌≤◌, ◌+◌, ◌-◌, ◌*◌, ◌%◌, ◌++◌, ◌∷◌, [], List, IfOk, OnOk, IsSomeAnd, map, nat_eq, true, false};
+ghost use Rattle.std.specs.HashMap.{get};
 ghost use Rattle.std.specs.List.Sorted.{IsNonDecreasingBy};
 ghost use Rattle.x86_64_model.specs.Mappings.{Mapping};
 ghost use Rattle.x86_64_model.specs.Memory.{identity_places, words_of};
@@ -11,11 +12,11 @@ ghost use Rattle.ptdump_engine.specs.private.Reaching as reaching;
 use crate::reached::firsts::note;
 use crate::selected::includes;
 use std::alloc::{AllocError, Global};
-use std::collections::HashSet;
+use std::collections::{HashMap, HashSet};
 use x86_64_addr::level_count::LevelCount;
 use x86_64_mappings::{MappingIn, span};
 use x86_64_page::frame::PhysFrame;
-use x86_64_page::page::Size4KiB;
+use x86_64_page::page::{PageSize, Size4KiB};
 use x86_64_tables::page_table::{EntryTarget, Rights};
 use x86_64_tables::phys_memory::{IdentityMapping, PhysMemory, table_in};
 
@@ -37,6 +38,8 @@ struct Found {
     firsts: Vec<Option<u64>>,
     /// The tables that were visited: the sum of address and level of each. Another visit finds no frame for the first time.
     visited: HashSet<u64>,
+    /// The largest size of the pages above level one that were noted, by the start of their frames.
+    pages: HashMap<u64, u64>,
 }
 
 /// A table, as a walk down from the root reaches it.
@@ -69,6 +72,7 @@ pub fn first_addresses<L: LevelCount>(
     let mut found = Found {
         firsts: Vec::from_elem(alloc, None, search.frames.len())?,
         visited: HashSet::new(alloc),
+        pages: HashMap::new(alloc),
     };
     let table = Visit {
         frame: root,
@@ -105,7 +109,7 @@ fn visit_table<L: LevelCount>(
         match entry.target(table.level) {
             EntryTarget::Page => {
                 let page = MappingIn::of_page(table.level, start, entry, table.above);
-                note_page::<L>(search, &page, found);
+                note_page::<L>(search, &page, found)?;
             }
             EntryTarget::Table(frame) => {
                 let below = table.below(frame, start, table.above.below(entry));
@@ -122,13 +126,58 @@ fn visit_table<L: LevelCount>(
 }
 
 /// Notes the addresses in a page, if it has the needed rights.
-fn note_page<L: LevelCount>(search: &Search<'_>, page: &MappingIn<L>, found: &mut Found)
+///
+/// # Errors
+///
+/// `AllocError` if memory allocation fails.
+fn note_page<L: LevelCount>(
+    search: &Search<'_>,
+    page: &MappingIn<L>,
+    found: &mut Found,
+) -> Result<(), AllocError>
     requires { page.now.start + page.now.size ≤ position_count L.LEVELS }
-    ensures { reaching.Takes L.LEVELS search.now found.old found.new
-        (reaching.kept search.now.needed (page.now ∷ [])) }
+    ensures { OnOk result (reaching.Takes L.LEVELS search.now found.old found.new
+        (reaching.kept search.now.needed (page.now ∷ []))) }
 {
-    if includes(page.rights, search.needed) {
-        note::<L>(search.frames, page, &mut found.firsts);
+    if !includes(page.rights, search.needed) {
+        return Ok(());
+    }
+    if page.size() > Size4KiB::SIZE {
+        return note_large_page::<L>(search, page, found);
+    }
+    note::<L>(search.frames, page, &mut found.firsts);
+    Ok(())
+}
+
+/// Notes the addresses in a page that is larger than others, unless a page as large with the same frame was noted.
+///
+/// # Errors
+///
+/// `AllocError` if memory allocation fails.
+fn note_large_page<L: LevelCount>(
+    search: &Search<'_>,
+    page: &MappingIn<L>,
+    found: &mut Found,
+) -> Result<(), AllocError>
+    requires { page.now.start + page.now.size ≤ position_count L.LEVELS }
+    ensures { OnOk result (reaching.Takes L.LEVELS search.now found.old found.new (page.now ∷ [])) }
+{
+    let start = page.frame.start_address().as_u64();
+    if is_noted(&found.pages, start, page.size()) {
+        return Ok(());
+    }
+    note::<L>(search.frames, page, &mut found.firsts);
+    found.pages.insert(start, page.size())?;
+    Ok(())
+}
+
+/// Returns true if a page with this start of its frame and at least this size was noted.
+fn is_noted(pages: &HashMap<u64, u64>, start: u64, size: u64) -> bool
+    ensures { result ≡ true → IsSomeAnd (get nat_eq pages.now start) (λ noted. size ≤ noted) }
+{
+    match pages.get(&start) {
+        Some(noted) => size <= *noted,
+        None => false,
     }
 }
 

@@ -18,7 +18,7 @@ returns-then-not-leads_to g c = λ ms ascend is.
     let begin = c.partition_point-begin.result in
     let i = c.loop-i.i in
     let point = IsPartitionPoint-from_clause (λ f. nat_lt f c.as_u64-start.result) frames begin c.partition_point-begin.ensures.partitioned
-        (IsPartitionedBy-ltb (λ f. f) frames c.as_u64-start.result ascend) (λ a r f k. search rules) in
+    (IsPartitionedBy-ltb (λ f. f) frames c.as_u64-start.result ascend) (λ a r f k. search rules) in
     let start : c.as_u64-start.result ≡ m.frame = search (rules, c.mapping.view_is) in
     let starts : BeginsAt frames m.frame begin = subst (λ s. BeginsAt frames s begin) start (record {
       low = λ j low. ltb-true (get_or frames j 0) c.as_u64-start.result (point.0 j 0 (omega arith) low);
@@ -58,7 +58,7 @@ returns g c = λ ms ascend is.
     let begin = c.partition_point-begin.result in
     let i = c.loop-i.i in
     let point = IsPartitionPoint-from_clause (λ f. nat_lt f c.as_u64-start.result) frames begin c.partition_point-begin.ensures.partitioned
-        (IsPartitionedBy-ltb (λ f. f) frames c.as_u64-start.result ascend) (λ a r f k. search rules) in
+    (IsPartitionedBy-ltb (λ f. f) frames c.as_u64-start.result ascend) (λ a r f k. search rules) in
     let start : c.as_u64-start.result ≡ m.frame = search (rules, c.mapping.view_is) in
     let starts : BeginsAt frames m.frame begin = subst (λ s. BeginsAt frames s begin) start (record {
       low = λ j low. ltb-true (get_or frames j 0) c.as_u64-start.result (point.0 j 0 (omega arith) low);

@@ -13,7 +13,7 @@ use Rattle.ptdump_engine.specs.declared.reached.search.Found.{Found}
 use Rattle.ptdump_engine.specs.private.Reaching.{kept, kept_in, searched, Takes}
 use Rattle.ptdump_engine.proofs.Reaches.{takes_more, takes_nothing}
 use Rattle.ptdump_engine.proofs.reached.search.+visit_table.Goals as goal
-use Rattle.ptdump_engine.proofs.reached.search.+visit_table.Goals.{in-Page, in-Table+then-is_new+in_ok-visit_table-in-Table+in_ok-mark-in-Table, in-Table+else-is_new, in-Nothing}
+use Rattle.ptdump_engine.proofs.reached.search.+visit_table.Goals.{in-Page+in_ok-note_page-in-Page, in-Table+then-is_new+in_ok-visit_table-in-Table+in_ok-mark-in-Table, in-Table+else-is_new, in-Nothing}
 
 pub returns-in_default : goal.returns-in_default
 returns-in_default g t c =
@@ -72,15 +72,15 @@ loop-entry-preserved g t c =
     let next = next_start s i (span level) in
     let all : Found → List Mapping → Type 0 = λ new ms. Takes L sought old new (kept needed ms) in
     let with : (new : Found) → (back : List Mapping) → asked_by asked level c.loop-entry.start r e ≡ back → Takes L sought between new (kept needed back)
-        → all new (asked_on asked level s r (take (i + 1) words)) =
+    → all new (asked_on asked level s r (take (i + 1) words)) =
     λ new back is more. visited_more asked level s r words i less (all new) back (here ∙ is) (takes_more L sought old between new front back so_far more) in
     record {
       start = omega (arith, start, c.span-size.ensures, next);
       taken = elim c.match-target.branch [
-        | in-Page w ↦
+        | in-Page+in_ok-note_page-in-Page w ↦
             let m = w.of_page-page.result in
             subst (λ v. all v (asked_on asked level s r (take (i + 1) words))) (sym w.found-is)
-            (with w.note_page.new.found (m ∷ []) (by_page asked level c.loop-entry.start r e m w.in-Page.ensures.value w.of_page-page.ensures aligned) w.note_page.ensures)
+            (with w.note_page.new.found (m ∷ []) (by_page asked level c.loop-entry.start r e m w.in-Page.ensures.value w.of_page-page.ensures aligned) w.in_ok-note_page-in-Page.ensures)
         | in-Table+then-is_new+in_ok-visit_table-in-Table+in_ok-mark-in-Table w ↦
             let visit = w.below-below.result in
             let below = map (placed c.loop-entry.start (granted r e)) (asked_mappings asked (level - 1) w.in-Table.frame) in
