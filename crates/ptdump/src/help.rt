@@ -264,9 +264,11 @@ Examples:
         more: "\
 Findings are: regions that may be written and executed, regions of the upper
 half that user code reaches, tables that several words name, tables that aren't
-in the dump, HUGE_PAGE at a level that has no pages, and other reserved bits:
-address bits that the processor lacks, which are those from --maxphyaddr on, and
-low address bits of large pages. The exit status is 1 if there are any.
+in the dump, HUGE_PAGE at a level that has no pages, other reserved bits, and
+tables that user code reaches. Other reserved bits are address bits that the
+processor lacks, which are those from --maxphyaddr on, and low address bits of
+large pages. For a table there is the first address at which user code can write
+to it, or if it can't, read it. The exit status is 1 if there are any.
 
 Example:
 
