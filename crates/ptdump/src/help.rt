@@ -274,9 +274,11 @@ Examples:
         more: "\
 Findings are: regions that may be written and executed, regions of the upper
 half that user code reaches, tables that several words name, tables that aren't
-in the dump, HUGE_PAGE at a level that has no pages, and other reserved bits:
-address bits that the processor lacks, which are those from --maxphyaddr on, and
-low address bits of large pages. The exit status is 1 if there are any.
+in the dump, HUGE_PAGE at a level that has no pages, other reserved bits, and
+tables that user code reaches. Other reserved bits are address bits that the
+processor lacks, which are those from --maxphyaddr on, and low address bits of
+large pages. For a table there is the first address at which user code can write
+to it, or if it can't, read it. The exit status is 1 if there are any.
 
 --all-cpus checks the tables of each processor in QEMU's notes, and those of
 several with the same root once, below a line with their numbers and the root.
@@ -284,9 +286,10 @@ several with the same root once, below a line with their numbers and the root.
 With --json a line is an object whose finding is \"writable and executable\" or
 \"user reaches upper half\", with what regions --json tells of the region, \"table
 named often\", with table and times, \"table not in the dump\", with table and
-named_by, which has table and index, or \"HUGE_PAGE above level three\" or
-\"reserved bits\", with table, index and level, and for the latter word. The last
-line is an object with findings, their number.
+named_by, which has table and index, \"HUGE_PAGE above level three\" or \"reserved
+bits\", with table, index and level, and for the latter word, or \"table mapped
+writable for user\" or \"table mapped for user\", with table and at, the address.
+The last line is an object with findings, their number.
 
 Examples:
 

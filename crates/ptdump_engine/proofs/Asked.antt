@@ -16,7 +16,7 @@ use Rattle.ptdump_engine.specs.declared.request.Form.{Form}
 use Rattle.ptdump_engine.specs.private.Finding.{address_line, some_there}
 
 -- all mappings are wanted
-all_wanted : (ms : List Mapping) → filter (is_wanted None) ms ≡ ms
+pub all_wanted : (ms : List Mapping) → filter (is_wanted None) ms ≡ ms
 all_wanted [] = refl
 all_wanted (m ∷ ms) = ap (λ rest. m ∷ rest) (all_wanted ms)
 
@@ -31,7 +31,7 @@ all_asked loaded is L root =
 -- ---- searches
 
 -- the virtual address in a mapping that leads to a physical address is an address of the mapping
-inside : (a : ℕ) (m : Mapping) (count : ℕ) → leads_to a m ≡ true → m.start + m.size ≤ count → m.start + (a - m.frame) < count
+pub inside : (a : ℕ) (m : Mapping) (count : ℕ) → leads_to a m ≡ true → m.start + m.size ≤ count → m.start + (a - m.frame) < count
 inside a m count leads fits =
     let parts = and_parts (nat_le m.frame a) (nat_lt a (m.frame + m.size)) leads in
     let low : m.frame ≤ a = leb-true m.frame a parts.0 in

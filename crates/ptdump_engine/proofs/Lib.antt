@@ -22,3 +22,7 @@ pub mod Processing
 pub mod Turns
 pub mod OfProcessors
 pub mod Tests
+pub mod FirstAddresses
+pub mod Noted
+pub mod OnceInOrder
+pub mod Reaches

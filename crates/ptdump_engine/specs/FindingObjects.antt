@@ -6,7 +6,7 @@ use Rattle.ptdump_engine.specs.FindingTexts.{flaw_text}
 use Rattle.ptdump_engine.specs.Json.{count, hexadecimal_string, region_members}
 use Rattle.ptdump_engine.specs.declared.findings.entry.Slot.{Slot}
 use Rattle.ptdump_engine.specs.declared.findings.finding.Finding.{Finding}
-use Rattle.ptdump_engine.specs.declared.findings.finding.Finding.TheVariants.{NamedOften, NotInDump, HugePage, ReservedBits}
+use Rattle.ptdump_engine.specs.declared.findings.finding.Finding.TheVariants.{NamedOften, NotInDump, HugePage, ReservedBits, WritableForUser, MappedForUser}
 use Rattle.ptdump_engine.specs.declared.findings.flaw.Flaw.{Flaw}
 
 -- a region with a flaw: the object of the region, with the flaw
@@ -38,6 +38,14 @@ json_of_finding (ReservedBits entry) = object (
     (member (codes "level") (count entry.level)
     (member (codes "table") (hexadecimal_string entry.slot.table)
     (member (codes "word") (hexadecimal_string entry.word) no_members)))))
+json_of_finding (WritableForUser frame at) = object (
+    member (codes "at") (hexadecimal_string at)
+    (member (codes "finding") (string (codes "table mapped writable for user"))
+    (member (codes "table") (hexadecimal_string frame) no_members)))
+json_of_finding (MappedForUser frame at) = object (
+    member (codes "at") (hexadecimal_string at)
+    (member (codes "finding") (string (codes "table mapped for user"))
+    (member (codes "table") (hexadecimal_string frame) no_members)))
 
 -- the number of findings
 abbrev pub json_of_count : (findings : ℕ) → Data

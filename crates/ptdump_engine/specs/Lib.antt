@@ -14,6 +14,7 @@ pub mod Names
 pub mod Output
 pub mod Processors
 pub mod Program
+pub mod ReachedTables
 pub mod Reports
 pub mod Said
 pub mod Selections

@@ -14,6 +14,7 @@ pub mod NoFloats
 pub mod Passed
 pub mod Passing
 pub mod Puts
+pub mod Reaching
 pub mod Reported
 pub mod Roots
 pub mod Searched

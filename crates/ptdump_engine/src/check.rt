@@ -23,6 +23,7 @@ use crate::line_output::LineOutput;
 use crate::lines::Lines;
 use crate::loaded::Loaded;
 use crate::output::{Output, OutputError};
+use crate::reached::reached_tables;
 use crate::request::{Checking, Form};
 use std::alloc::Global;
 use x86_64_access::Controls;
@@ -53,12 +54,14 @@ pub fn write_findings<L: LevelCount, W: Destination>(
     let memory = loaded.tables.memory();
     let tables = tables_in_order(alloc, loaded.tables.frames())?;
     let names = names_in_order(alloc, memory, &tables)?;
+    let reached = reached_tables::<L>(alloc, memory, loaded.root, &tables)?;
     let subject = Subject {
         memory,
         processor: processor_of(checking),
         root: loaded.root,
         tables: &tables,
         names: &names,
+        reached: &reached,
     };
     let count = write_counted::<L, Output<'_, W>>(alloc, loaded, &subject, form, output)?;
     write_as(alloc, form, FindingCount(count), output)?;

@@ -25,6 +25,7 @@ mod opening;
 mod output;
 mod picture;
 mod processors;
+mod reached;
 mod registers;
 mod report;
 mod request;

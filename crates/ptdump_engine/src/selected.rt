@@ -167,7 +167,7 @@ fn is_to<L: LevelCount>(to: Option<u64>, position: u64) -> bool
 }
 
 /// Returns true if rights include others.
-fn includes(rights: Rights, others: Rights) -> bool
+pub fn includes(rights: Rights, others: Rights) -> bool
     ensures { result ≡ selections.includes rights others }
 {
     (rights.write || !others.write)

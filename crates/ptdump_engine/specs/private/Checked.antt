@@ -14,7 +14,7 @@ use Rattle.ptdump_engine.specs.declared.loaded.Loaded.{Loaded}
 abbrev pub finding_lines_by : {X : Type 0} → (L : ℕ) → Loaded X → Subject → List Said
 finding_lines_by L loaded subject = let regions = regions_of L (words_loaded loaded) loaded.root in
     flawed_lines L WritableAndExecutable regions ++ flawed_lines L UserInUpperHalf regions
-    ++ map said_of (findings_by subject.processor (words_of subject.memory.now identity_places) subject.root subject.tables.now subject.names.now)
+    ++ map said_of (findings_by subject.processor (words_of subject.memory.now identity_places) subject.root subject.tables.now subject.names.now ++ subject.reached.now)
 
 -- a processor has at most 52 bits of physical addresses
 abbrev pub HasBits : EntryFlaw → Type 0

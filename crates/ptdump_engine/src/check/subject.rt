@@ -1,6 +1,6 @@
 //! The tables that a check looks at.
 
-use crate::findings::{Name, Table};
+use crate::findings::{Finding, Name, Table};
 use x86_64_access::Controls;
 use x86_64_page::frame::PhysFrame;
 use x86_64_page::page::Size4KiB;
@@ -19,4 +19,6 @@ pub struct Subject<'a> {
     pub tables: &'a [Table],
     /// The names of tables in their entries, in order.
     pub names: &'a [Name],
+    /// The findings of the tables to which mappings for user code lead.
+    pub reached: &'a [Finding],
 }

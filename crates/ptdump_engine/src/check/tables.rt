@@ -1,5 +1,5 @@
 //! Findings in tables.
-ghost use Rattle.std.specs.Prelude.{◌≡◌, ◌≤◌, [], OnOk, map, length};
+ghost use Rattle.std.specs.Prelude.{◌≡◌, ◌≤◌, ◌++◌, [], OnOk, map, length};
 ghost use Rattle.std.specs.List.{cons_option, filter_map};
 ghost use Rattle.x86_64_model.specs.Memory.{identity_places, words_of};
 ghost use Rattle.ptdump_engine.specs.Findings as findings;
@@ -24,13 +24,24 @@ pub fn write_table_findings<O: LineOutput>(
     requires names { Ascend (λ name. name.frame) subject.now.names.now }
     ensures { OnOk result (O.Lines output.old output.new (map said_of
         (findings.findings_by subject.now.processor (words_of subject.now.memory.now identity_places)
-        subject.now.root subject.now.tables.now subject.now.names.now))) }
+        subject.now.root subject.now.tables.now subject.now.names.now ++ subject.now.reached.now))) }
 {
     write_named_often::<O>(subject.names, subject.root, output)?;
     write_missing::<O>(subject.memory, subject.names, output)?;
     let reserved = EntryFlaw::ReservedBits(subject.processor);
     write_flawed_entries::<O>(subject.memory, subject.tables, EntryFlaw::HugePage, output)?;
-    write_flawed_entries::<O>(subject.memory, subject.tables, reserved, output)
+    write_flawed_entries::<O>(subject.memory, subject.tables, reserved, output)?;
+    write_each::<O>(subject.reached, output)
+}
+
+/// Writes a line for each of some findings.
+fn write_each<O: LineOutput>(findings: &[Finding], output: &mut O) -> Result<(), O::Error>
+    ensures { OnOk result (O.Lines output.old output.new (map said_of findings.now)) }
+{
+    for finding in findings {
+        output.write_line(*finding)?;
+    }
+    Ok(())
 }
 
 /// Writes a line for a finding, if there is one.

@@ -1,12 +1,15 @@
 //! Findings in page tables that were read from a dump.
 ghost use Rattle.std.specs.Prelude.{◌≡◌, ◌≤◌, Some};
+ghost use Rattle.std.specs.Fmt.{WritesOnOk};
 ghost use Rattle.x86_64_model.specs.Memory.{identity_places, words_of};
+ghost use Rattle.ptdump_engine.specs.FindingTexts.{for_user_text};
 ghost use Rattle.ptdump_engine.specs.private.Checked.{HasBits};
 
 use crate::findings::entry::{Entry, Slot};
 use crate::findings::names::Name;
 use std::fmt::{Display, Formatter, Result as FmtResult, Write};
 use x86_64_access::Controls;
+use x86_64_mappings::text::write_hexadecimal;
 use x86_64_page::frame::PhysFrame;
 use x86_64_page::page::Size4KiB;
 use x86_64_tables::page_table::PageTableEntry;
@@ -38,6 +41,20 @@ pub enum Finding {
     },
     /// An entry has other reserved bits.
     ReservedBits(Entry),
+    /// User code can write to a table.
+    WritableForUser {
+        /// The frame of the table.
+        frame: PhysFrame<Size4KiB>,
+        /// The first virtual address of the table in the first mapping through which user code can write to it.
+        at: u64,
+    },
+    /// User code can access a table, but can't write to it.
+    MappedForUser {
+        /// The frame of the table.
+        frame: PhysFrame<Size4KiB>,
+        /// The first virtual address of the table in the first mapping for user code that leads to it.
+        at: u64,
+    },
 }
 
 /// A flaw of an entry.
@@ -51,6 +68,7 @@ pub enum EntryFlaw {
 
 impl Finding {
     ghost use Rattle.ptdump_engine.specs.Findings as findings;
+    ghost use Rattle.ptdump_engine.specs.ReachedTables.{reached_at};
 
     /// Returns the finding of a frame that is named as a table so many times, if that is more than once.
     pub fn of_frame(frame: PhysFrame<Size4KiB>, count: usize) -> Option<Finding>
@@ -86,6 +104,22 @@ impl Finding {
         match flaw {
             EntryFlaw::HugePage => Finding::of_huge_page(entry),
             EntryFlaw::ReservedBits(controls) => Finding::of_reserved_bits(&controls, entry),
+        }
+    }
+
+    /// Returns the finding of a frame's table, given at which virtual address user code can write to it, and at which it can
+    /// access it, if there are such.
+    pub fn of_reached(
+        frame: PhysFrame<Size4KiB>,
+        writable: Option<u64>,
+        mapped: Option<u64>,
+    ) -> Option<Finding>
+        ensures { result ≡ reached_at frame writable mapped }
+    {
+        match (writable, mapped) {
+            (Some(at), _) => Some(Finding::WritableForUser { frame, at }),
+            (None, Some(at)) => Some(Finding::MappedForUser { frame, at }),
+            (None, None) => None,
         }
     }
 
@@ -139,6 +173,24 @@ impl Display for Finding {
                 let level = entry.level;
                 write!(f, "reserved bits at level {level} in {entry}")
             }
+            Finding::WritableForUser { frame, at } => {
+                let address = frame.start_address().as_u64();
+                write!(f, "table 0x{address:x} is mapped writable")?;
+                write_for_user(f, *at)
+            }
+            Finding::MappedForUser { frame, at } => {
+                let address = frame.start_address().as_u64();
+                write!(f, "table 0x{address:x} is mapped")?;
+                write_for_user(f, *at)
+            }
         }
     }
+}
+
+/// Writes for whom a table is mapped, and where.
+fn write_for_user<W: Write>(f: &mut Formatter<W>, at: u64) -> FmtResult
+    ensures { WritesOnOk W.write_str_gives f.old result (for_user_text at) f.new }
+{
+    f.write_str(" for user at ")?;
+    write_hexadecimal(f, at)
 }

@@ -77,6 +77,20 @@ impl ToJson for Finding {
                     "word": hexadecimal(alloc, entry.word)?,
                 })
             }
+            Finding::WritableForUser { frame, at } => {
+                json!(in alloc; {
+                    "finding": "table mapped writable for user",
+                    "table": hexadecimal(alloc, frame.start_address().as_u64())?,
+                    "at": hexadecimal(alloc, *at)?,
+                })
+            }
+            Finding::MappedForUser { frame, at } => {
+                json!(in alloc; {
+                    "finding": "table mapped for user",
+                    "table": hexadecimal(alloc, frame.start_address().as_u64())?,
+                    "at": hexadecimal(alloc, *at)?,
+                })
+            }
         }
     }
 }

@@ -3,7 +3,8 @@ use Rattle.std.specs.List.{flat_map}
 use Rattle.x86_64_dump.specs.Loaded.{frames_of}
 use Rattle.x86_64_model.specs.Memory.{Words, identity_places, words_of}
 use Rattle.x86_64_model.specs.Regions.{regions_of}
-use Rattle.ptdump_engine.specs.Findings.{check_text, finding_lines, findings_by, flawed_lines, frames_above, line_count, names_in, names_in_order, processor_of, said_of, said_of_count, table_findings, tables_in_order}
+use Rattle.ptdump_engine.specs.Findings.{check_text, finding_lines, findings_by, flawed_lines, frames_above, line_count, names_in, names_in_order, processor_of, said_of, said_of_count, table_findings, tables_from, tables_in_order}
+use Rattle.ptdump_engine.specs.ReachedTables.{all_reached}
 use Rattle.ptdump_engine.specs.Loaded.{HasAllTables, words_loaded}
 use Rattle.ptdump_engine.specs.Output.{Puts}
 use Rattle.ptdump_engine.specs.Said.{Said, line_of}
@@ -22,28 +23,40 @@ use Rattle.ptdump_engine.proofs.Counting.{none_counted}
 use Rattle.ptdump_engine.proofs.InOrder.{ascend_in_order}
 use Rattle.ptdump_engine.proofs.check.write_findings.Goals as goal
 
--- the lines for the tables in order and their names are those of the report
+-- the lines for the tables in order, their names and those that are reached are those of the report
 all_lines : {X : Type 0} (checking : Checking) (L : ℕ) (loaded : Loaded X) (subject : Subject) → HasAllTables L loaded → subject.processor ≡ processor_of checking → subject.memory.now ≡ loaded.tables.now.memory → subject.root ≡ loaded.root
     → subject.tables.now ≡ tables_in_order (frames_of loaded.tables.now.frames.items) → subject.names.now ≡ names_in_order (words_of subject.memory.now identity_places) subject.tables.now
+    → subject.reached.now ≡ all_reached L (words_of subject.memory.now identity_places) subject.root subject.tables.now
     → finding_lines_by L loaded subject ≡ finding_lines checking L (words_loaded loaded) loaded.root
 unfolding finding_lines table_findings
-all_lines checking L loaded subject all processor memory root tables names =
+all_lines checking L loaded subject all processor memory root tables names reached =
     let T = words_loaded loaded in
     let rs = regions_of L T loaded.root in
     let lines : List Finding → List Said = λ fs. flawed_lines L WritableAndExecutable rs ++ flawed_lines L UserInUpperHalf rs ++ map said_of fs in
-    ap (λ (p : Controls). lines (findings_by p (words_of subject.memory.now identity_places) subject.root subject.tables.now subject.names.now)) processor
-    ∙ ap (λ ns. lines (findings_by (processor_of checking) (words_of subject.memory.now identity_places) subject.root subject.tables.now ns)) names
-    ∙ ap (λ m. lines (findings_by (processor_of checking) (words_of m identity_places) subject.root subject.tables.now (names_in_order (words_of m identity_places) subject.tables.now))) memory
-    ∙ ap (λ r. lines (findings_by (processor_of checking) T r subject.tables.now (names_in_order T subject.tables.now))) root
-    ∙ ap (λ ts. lines (findings_by (processor_of checking) T loaded.root ts (names_in_order T ts))) (tables ∙ ap tables_in_order all)
+    let W = words_of subject.memory.now identity_places in
+    let found : Words → (root : ℕ) → List Table → List Finding = λ T r ts. findings_by (processor_of checking) T r ts (names_in_order T ts) ++ all_reached L T r ts in
+    ap (λ (p : Controls). lines (findings_by p W subject.root subject.tables.now subject.names.now ++ subject.reached.now)) processor
+    ∙ ap (λ ns. lines (findings_by (processor_of checking) W subject.root subject.tables.now ns ++ subject.reached.now)) names
+    ∙ ap (λ fs. lines (findings_by (processor_of checking) W subject.root subject.tables.now (names_in_order W subject.tables.now) ++ fs)) reached
+    ∙ ap (λ m. lines (found (words_of m identity_places) subject.root subject.tables.now)) memory
+    ∙ ap (λ r. lines (found T r subject.tables.now)) root
+    ∙ ap (λ ts. lines (found T loaded.root ts)) (tables ∙ ap tables_in_order all)
+
+ascend_tables : (levels : List (List ℕ)) → Ascend (λ (table : Table). table.frame) (tables_in_order levels)
+unfolding tables_in_order
+ascend_tables levels = ascend_in_order (λ table. table.frame) (tables_from 1 levels)
 
 ascend_names : (T : Words) (tables : List Table) → Ascend (λ (name : Name). name.frame) (names_in_order T tables)
 unfolding names_in_order
 ascend_names T tables = ascend_in_order (λ name. name.frame) (flat_map (names_in T) (frames_above tables))
 
+pub reached_tables-requires : goal.reached_tables-requires
+reached_tables-requires g c =
+    subst (Ascend (λ (table : Table). table.frame)) (sym (c.deref-2.ensures.value ∙ c.in_ok-tables.ensures)) (ascend_tables (frames_of c.frames.result.now))
+
 pub write_counted-requires-clause-names : goal.write_counted-requires-clause-names
 write_counted-requires-clause-names g c =
-    subst (Ascend (λ (name : Name). name.frame)) (sym (c.deref-3.ensures.value ∙ c.in_ok-names.ensures)) (ascend_names (words_of c.memory-memory.result.now identity_places) c.deref.result.now)
+    subst (Ascend (λ (name : Name). name.frame)) (sym (c.deref-4.ensures.value ∙ c.in_ok-names.ensures)) (ascend_names (words_of c.memory-memory.result.now identity_places) c.deref.result.now)
 
 pub returns-clause-text : goal.returns-clause-text
 unfolding check_text
@@ -51,12 +64,15 @@ returns-clause-text g c = λ all.
     let L = g.L.LevelCount.LEVELS in
     let loaded = c.args.loaded.now in
     let contents = g.W.Destination.contents in
-    let subject : Subject = record { memory = c.memory-memory.result; processor = c.processor_of.result; root = loaded.root; tables = c.deref-2.result; names = c.deref-3.result } in
-    let tables : c.deref-2.result.now ≡ tables_in_order (frames_of loaded.tables.now.frames.items) =
-    c.deref-2.ensures.value ∙ c.in_ok-tables.ensures ∙ ap (λ fs. tables_in_order (frames_of fs)) c.frames.ensures in
-    let names : c.deref-3.result.now ≡ names_in_order (words_of c.memory-memory.result.now identity_places) c.deref-2.result.now =
-    c.deref-3.ensures.value ∙ c.in_ok-names.ensures ∙ ap (names_in_order (words_of c.memory-memory.result.now identity_places)) (c.deref.ensures.value ∙ sym c.deref-2.ensures.value) in
-    let same : finding_lines_by L loaded subject ≡ finding_lines c.args.checking L (words_loaded loaded) loaded.root = all_lines c.args.checking L loaded subject all c.processor_of.ensures c.memory-memory.ensures refl tables names in
+    let subject : Subject = record { memory = c.memory-memory.result; processor = c.processor_of.result; root = loaded.root; tables = c.deref-3.result; names = c.deref-4.result; reached = c.deref-5.result } in
+    let W = words_of c.memory-memory.result.now identity_places in
+    let tables : c.deref-3.result.now ≡ tables_in_order (frames_of loaded.tables.now.frames.items) =
+    c.deref-3.ensures.value ∙ c.in_ok-tables.ensures ∙ ap (λ fs. tables_in_order (frames_of fs)) c.frames.ensures in
+    let names : c.deref-4.result.now ≡ names_in_order W c.deref-3.result.now =
+    c.deref-4.ensures.value ∙ c.in_ok-names.ensures ∙ ap (names_in_order W) (c.deref.ensures.value ∙ sym c.deref-3.ensures.value) in
+    let reached : c.deref-5.result.now ≡ all_reached L W loaded.root c.deref-3.result.now =
+    c.deref-5.ensures.value ∙ c.in_ok-reached.ensures ∙ ap (all_reached L W loaded.root) (c.deref-2.ensures.value ∙ sym c.deref-3.ensures.value) in
+    let same : finding_lines_by L loaded subject ≡ finding_lines c.args.checking L (words_loaded loaded) loaded.root = all_lines c.args.checking L loaded subject all c.processor_of.ensures c.memory-memory.ensures refl tables names reached in
     let form = c.args.form in
     let end = c.write_as.new.output in
     subst (λ ls. Puts contents c.args.output.now end (flat_map (line_of form) ls ++ line_of form (said_of_count (line_count ls)))) same
@@ -67,10 +83,13 @@ pub returns-clause-nothing : goal.returns-clause-nothing
 returns-clause-nothing g c = λ all.
     let L = g.L.LevelCount.LEVELS in
     let loaded = c.args.loaded.now in
-    let subject : Subject = record { memory = c.memory-memory.result; processor = c.processor_of.result; root = loaded.root; tables = c.deref-2.result; names = c.deref-3.result } in
-    let tables : c.deref-2.result.now ≡ tables_in_order (frames_of loaded.tables.now.frames.items) =
-    c.deref-2.ensures.value ∙ c.in_ok-tables.ensures ∙ ap (λ fs. tables_in_order (frames_of fs)) c.frames.ensures in
-    let names : c.deref-3.result.now ≡ names_in_order (words_of c.memory-memory.result.now identity_places) c.deref-2.result.now =
-    c.deref-3.ensures.value ∙ c.in_ok-names.ensures ∙ ap (names_in_order (words_of c.memory-memory.result.now identity_places)) (c.deref.ensures.value ∙ sym c.deref-2.ensures.value) in
-    let same : finding_lines_by L loaded subject ≡ finding_lines c.args.checking L (words_loaded loaded) loaded.root = all_lines c.args.checking L loaded subject all c.processor_of.ensures c.memory-memory.ensures refl tables names in
+    let subject : Subject = record { memory = c.memory-memory.result; processor = c.processor_of.result; root = loaded.root; tables = c.deref-3.result; names = c.deref-4.result; reached = c.deref-5.result } in
+    let W = words_of c.memory-memory.result.now identity_places in
+    let tables : c.deref-3.result.now ≡ tables_in_order (frames_of loaded.tables.now.frames.items) =
+    c.deref-3.ensures.value ∙ c.in_ok-tables.ensures ∙ ap (λ fs. tables_in_order (frames_of fs)) c.frames.ensures in
+    let names : c.deref-4.result.now ≡ names_in_order W c.deref-3.result.now =
+    c.deref-4.ensures.value ∙ c.in_ok-names.ensures ∙ ap (names_in_order W) (c.deref.ensures.value ∙ sym c.deref-3.ensures.value) in
+    let reached : c.deref-5.result.now ≡ all_reached L W loaded.root c.deref-3.result.now =
+    c.deref-5.ensures.value ∙ c.in_ok-reached.ensures ∙ ap (all_reached L W loaded.root) (c.deref-2.ensures.value ∙ sym c.deref-3.ensures.value) in
+    let same : finding_lines_by L loaded subject ≡ finding_lines c.args.checking L (words_loaded loaded) loaded.root = all_lines c.args.checking L loaded subject all c.processor_of.ensures c.memory-memory.ensures refl tables names reached in
     ap (λ n. n == 0) c.in_ok-count.ensures.count ∙ none_counted (length (finding_lines_by L loaded subject)) ∙ ap (λ ls. length ls == 0) same

@@ -18,11 +18,13 @@ returns g c =
     let huge = flawed_entries flaws.HugePage T subject.tables.now in
     let begun = c.args.output.now in
     let reserved = flawed_entries (flaws.ReservedBits subject.processor) T subject.tables.now in
-    let end = c.write_flawed_entries-2.new.output in
-    on_ok c.write_flawed_entries-2.result (λ last.
-    both_lines Lines parts said_of begun c.write_flawed_entries.new.output end (often ++ lacking ++ huge) reserved (findings_by subject.processor T subject.root subject.tables.now subject.names.now) refl
+    let before = findings_by subject.processor T subject.root subject.tables.now subject.names.now in
+    on_ok c.write_each.result (λ last.
+    both_lines Lines parts said_of begun c.write_flawed_entries-2.new.output c.write_each.new.output before subject.reached.now (before ++ subject.reached.now) refl
+    (both_lines Lines parts said_of begun c.write_flawed_entries.new.output c.write_flawed_entries-2.new.output (often ++ lacking ++ huge) reserved before refl
     (both_lines Lines parts said_of begun c.write_missing.new.output c.write_flawed_entries.new.output (often ++ lacking) huge (often ++ lacking ++ huge) refl
     (both_lines Lines parts said_of begun c.write_named_often.new.output c.write_missing.new.output often lacking (often ++ lacking) refl c.in_ok-write_named_often.ensures c.in_ok-write_missing.ensures)
     c.in_ok-write_flawed_entries.ensures)
+    c.in_ok-write_flawed_entries-2.ensures)
     last)
-    c.write_flawed_entries-2.ensures
+    c.write_each.ensures

@@ -1,0 +1,19 @@
+use Rattle.std.proofs.Common.{◌≡◌, ◌∙◌, ◌+◌, Bool, true, false, not, nat_eq, refl, sym, ap}
+use Rattle.std.specs.HashSet.{contains}
+use Rattle.ptdump_engine.proofs.Reaches.{takes_no_right, takes_visited}
+use Rattle.ptdump_engine.proofs.reached.search.is_new.Goals as goal
+
+there : (b : Bool) → not b ≡ false → b ≡ true
+there true h = refl
+there false h = absurd (let e : true ≡ false = h in cc)
+
+pub returns-then-not-includes-clause-old : goal.returns-then-not-includes-clause-old
+returns-then-not-includes-clause-old g c = λ old.
+    takes_no_right g.L.LevelCount.LEVELS c.args.search.now c.args.found.now c.args.table.now (sym c.includes.ensures ∙ c.if-not-includes.true)
+
+pub returns-clause-old : goal.returns-clause-old
+returns-clause-old g c = λ old.
+    let visit = c.args.table.now in
+    let is : contains nat_eq c.args.found.now.visited (visit.frame + visit.level) ≡ true =
+    ap (contains nat_eq c.args.found.now.visited) (sym c.key.ensures.sum) ∙ sym c.contains.ensures ∙ there c.contains.result old in
+    takes_visited g.L.LevelCount.LEVELS c.args.search.now c.args.found.now visit (sym c.includes.ensures ∙ c.if-not-includes.false) c.requires c.key.ensures.aligned is

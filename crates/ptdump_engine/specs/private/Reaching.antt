@@ -1,0 +1,63 @@
+-- Reaching: a search for frames, after some of the mappings.
+use Rattle.std.specs.Prelude.{◌≡◌, ◌<◌, ◌+◌, ◌-◌, ◌%◌, ◌++◌, ◌&&◌, ℕ, Bool, true, false, IfSome, nat_le, nat_lt, List, map, filter, find, nat_eq, Option, None, option_map}
+use Rattle.std.specs.HashMap.{get}
+use Rattle.std.specs.HashSet.{contains}
+use Rattle.std.specs.List.Sorted.{IsNonDecreasingBy}
+use Rattle.x86_64_mappings.specs.Wanted.{Asked, asked_mappings, leads_to}
+use Rattle.x86_64_mappings.specs.private.Placed.{placed}
+use Rattle.x86_64_model.specs.Mappings.{Mapping, Rights}
+use Rattle.x86_64_model.specs.Memory.{Words, identity_places, words_of}
+use Rattle.x86_64_model.specs.Position.{position_count, raw}
+use Rattle.ptdump_engine.specs.Selections.{includes}
+use Rattle.ptdump_engine.specs.declared.reached.search.Found.{Found}
+use Rattle.ptdump_engine.specs.declared.reached.search.Search.{Search}
+use Rattle.ptdump_engine.specs.declared.reached.search.Visit.{Visit}
+
+-- ---- addresses
+
+-- the virtual address in a mapping that leads to a physical address, whatever the mapping
+abbrev pub address_in : (L physical : ℕ) → Mapping → ℕ
+address_in L a m = raw L ((m.start + (a - m.frame)) % position_count L)
+
+-- for each frame the address in the first mapping that leads to it
+abbrev pub firsts_of : (L : ℕ) → (frames : List ℕ) → List Mapping → List (Option ℕ)
+firsts_of L frames ms = map (λ f. option_map (address_in L f) (find (leads_to f) ms)) frames
+
+-- ---- mappings
+
+-- those with the needed rights
+abbrev pub kept : (needed : Rights) → List Mapping → List Mapping
+kept needed ms = filter (λ m. includes m.rights needed) ms
+
+-- whatever the others lead to, some of these lead to
+abbrev pub Cover : (ms others : List Mapping) → Type 0
+Cover ms others = (a : ℕ) → find (leads_to a) ms ≡ None → find (leads_to a) others ≡ None
+
+-- whether an address is in a page with a start and a size
+abbrev pub is_within : (start size address : ℕ) → Bool
+is_within start size a = nat_le start a && nat_lt a (start + size)
+
+-- the words that are searched, where all mappings are wanted
+abbrev pub searched : Search → Asked
+searched search = record { words = words_of search.memory.now identity_places; wanted = None }
+
+-- the mappings with the needed rights below a frame's table of a level
+abbrev pub kept_below : Search → (level frame : ℕ) → List Mapping
+kept_below search level frame = kept search.needed (asked_mappings (searched search) level frame)
+
+-- the same of a table that is visited
+abbrev pub kept_in : Search → Visit → List Mapping
+kept_in search visit = kept search.needed (map (placed visit.start visit.above) (asked_mappings (searched search) visit.level visit.frame))
+
+-- ---- the search
+
+-- The search went through some mappings. Whatever the tables and pages lead to that it needn't visit again, some of these lead to.
+pub record IsAfter (L : ℕ) (search : Search) (found : Found) (ms : List Mapping) : Type 0 where
+  pub ascend : IsNonDecreasingBy (λ f. f) search.frames.now
+  pub firsts : found.firsts.items ≡ firsts_of L search.frames.now ms
+  pub visited : (level frame : ℕ) → level < 4096 → frame % 4096 ≡ 0 → contains nat_eq found.visited (frame + level) ≡ true → Cover ms (kept_below search level frame)
+  pub pages : (start : ℕ) → IfSome (get nat_eq found.pages start) (λ size. (a : ℕ) → find (leads_to a) ms ≡ None → is_within start size a ≡ false)
+
+-- it went through more mappings
+abbrev pub Takes : (L : ℕ) → Search → (old new : Found) → (more : List Mapping) → Type 0
+Takes L search old new more = (ms : List Mapping) → IsAfter L search old ms → IsAfter L search new (ms ++ more)
