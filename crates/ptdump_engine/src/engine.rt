@@ -74,7 +74,13 @@ pub fn run<S: ByteSource, W: Destination, E: Destination, G: Progress>(
     if request.is_of_processors() {
         let processors = processors_for(alloc, &dump, request)?;
         return report_on_processors(
-            alloc, &dump, &processors, request, writer, &mut notes, progress,
+            alloc,
+            &dump,
+            &processors,
+            request,
+            writer,
+            &mut notes,
+            progress,
         );
     }
     let start = start_for(alloc, &dump, request)?;

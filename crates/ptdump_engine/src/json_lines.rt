@@ -14,8 +14,8 @@ mod told;
 mod walks;
 
 use crate::lines::Lines;
-pub use group::ProcessorGroup;
 use crate::request::Form;
+pub use group::ProcessorGroup;
 pub use listed::{Found, write_json_pages, write_json_regions};
 use serde_json::Value;
 use std::alloc::{AllocError, Global};
