@@ -71,7 +71,11 @@ fn with_member(
 /// # Errors
 ///
 /// The error of the destination, or of memory allocation.
-fn write_json<T: ToJson, O: Lines>(alloc: Global, item: &T, output: &mut O) -> Result<(), O::Error>
+pub fn write_json<T: ToJson, O: Lines>(
+    alloc: Global,
+    item: &T,
+    output: &mut O,
+) -> Result<(), O::Error>
     ensures { OnOk result (O.puts output.old output.new (json_line (T.json item.now))) }
 {
     let value = item.to_json(alloc)?;
