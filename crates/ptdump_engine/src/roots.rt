@@ -78,8 +78,11 @@ fn tables_failure<S: ByteSource>(
     ensures { S.IsKnown → result
         ≡ program.tables_failure request.now (words_of_dump (opened S.bytes dump.now)) processor.now }
 {
-    argument_failure(&request.command, processor.start.levels)
-        .or(root_failure(dump, &request.command, processor.start.root))
+    argument_failure(&request.command, processor.start.levels).or(root_failure(
+        dump,
+        &request.command,
+        processor.start.root,
+    ))
 }
 
 /// Reports on the tables of all processors, on those of several once.
@@ -104,8 +107,9 @@ pub fn report_on_processors<S: ByteSource, W: Destination, E: Destination, G: Pr
 {
     let firsts = firsts_of(alloc, processors)?;
     write_left_out(processors, notes)?;
-    let is_complete =
-        write_reports(alloc, dump, processors, &firsts, request, writer, notes, progress)?;
+    let is_complete = write_reports(
+        alloc, dump, processors, &firsts, request, writer, notes, progress,
+    )?;
     Ok(Outcome { is_complete })
 }
 
@@ -137,10 +141,10 @@ fn write_reports<S: ByteSource, W: Destination, E: Destination, G: Progress>(
 {
     let mut is_complete = true;
     for first in firsts {
-        let is = write_report_below(
+        let is_fulfilled = write_report_below(
             alloc, dump, processors, first, request, writer, notes, progress,
         )?;
-        is_complete &= is;
+        is_complete &= is_fulfilled;
     }
     Ok(is_complete)
 }
@@ -173,9 +177,7 @@ fn write_report_below<S: ByteSource, W: Destination, E: Destination, G: Progress
     ensures errors { S.IsKnown → IfErr result (IsForced (W.may_refuse || E.may_refuse)) }
 {
     write_heading(alloc, request.form, processors, first, writer)?;
-    let outcome = report_from(
-        alloc, dump, &first.start, request, writer, notes, progress,
-    )?;
+    let outcome = report_from(alloc, dump, &first.start, request, writer, notes, progress)?;
     Ok(outcome.is_complete)
 }
 

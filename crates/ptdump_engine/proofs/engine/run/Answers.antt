@@ -105,13 +105,13 @@ returns-then-is_of_processors-clause-notes g c = λ known.
     let begun : Appends (contents c.args.errors.now) (contents now.writer.now) (opening_text m.dump) =
     subst (λ e. Appends (contents e) (contents now.writer.now) (opening_text m.dump)) c.new-notes.ensures.now told in
     on_ok c.report_on_processors.result (λ noted not_image.
-        let (name, between, left_out, totals) = noted in
-        let same = (c.in_ok-write_opening.ensures.text known).writer in
-        let noted : Notes request file (contents c.args.errors.now) (contents ended.writer.now) =
-        subst (λ info. NotesAs info (is_of_processors request) request file (contents c.args.errors.now) (contents ended.writer.now)) (sym not)
-        (subst (λ all. NotesAs false all request file (contents c.args.errors.now) (contents ended.writer.now)) (sym all)
-        (m, between, shows request file m.dump m.processors (c.in_ok-dump.ensures known) (c.in_ok-processors.ensures known), Appends-trans _ _ _ _ _ begun left_out, totals)) in
-        search (rules, noted))
+    let (name, between, left_out, totals) = noted in
+    let same = (c.in_ok-write_opening.ensures.text known).writer in
+    let noted : Notes request file (contents c.args.errors.now) (contents ended.writer.now) =
+    subst (λ info. NotesAs info (is_of_processors request) request file (contents c.args.errors.now) (contents ended.writer.now)) (sym not)
+    (subst (λ all. NotesAs false all request file (contents c.args.errors.now) (contents ended.writer.now)) (sym all)
+    (m, between, shows request file m.dump m.processors (c.in_ok-dump.ensures known) (c.in_ok-processors.ensures known), Appends-trans _ _ _ _ _ begun left_out, totals)) in
+    search (rules, noted))
     (subst (λ ps. OnOk c.report_on_processors.result (AreNoted g.E.Destination.contents (words_of_dump m.dump) ps now ended)) c.deref.ensures.value (c.report_on_processors.ensures.notes known))
 
 pub returns-then-is_of_processors-clause-told : goal.returns-then-is_of_processors-clause-told
