@@ -1,5 +1,5 @@
 -- Requests for reports on the tables of all processors.
-use Rattle.std.proofs.Common.{◌≡◌, ◌&&◌, ℕ, Bool, true, false, true≢false, List, Option, None, Some, IfSome, IsSome, unwrap_or, refl, sym}
+use Rattle.std.proofs.Common.{◌≡◌, ◌&&◌, ℕ, Bool, true, false, true≢false, Option, None, Some, IfSome, IsSome, unwrap_or, refl, sym}
 use Rattle.x86_64_model.specs.Memory.{Words}
 use Rattle.ptdump_engine.specs.Program.{IsTested, has_roots, is_image, is_of_processors, report_in, report_of}
 use Rattle.ptdump_engine.specs.declared.request.Command.{Command}

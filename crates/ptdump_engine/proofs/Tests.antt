@@ -1,5 +1,5 @@
 -- Tests of the request: none of them fails by a write.
-use Rattle.std.proofs.Common.{◌≡◌, ◌∙◌, ◌^◌, ◌||◌, ℕ, Bool, true, false, not, List, [], ◌∷◌, Option, None, Some, IfSome, is_some, option_map, Result, Ok, Err, cond, nat_le, nat_lt, sym, ap, subst}
+use Rattle.std.proofs.Common.{◌≡◌, ◌∙◌, ◌^◌, ◌||◌, ℕ, Bool, true, false, not, List, [], ◌∷◌, Option, None, Some, IfSome, is_some, option_map, Result, Ok, Err, cond, nat_le, nat_lt, ap, subst}
 use Rattle.std.specs.Bool.{⊤}
 use Rattle.std.specs.List.{find}
 use Rattle.std.specs.Option.{option_or}

@@ -1,5 +1,5 @@
 -- Processors: where the page walks of each processor begin, by QEMU's notes, and which processors have the same tables.
-use Rattle.std.specs.Prelude.{ℕ, ◌+◌, ◌++◌, ◌==◌, ◌&&◌, Bool, true, false, not, nat_lt, if◌then◌else◌, List, [], ◌∷◌, map, filter, slice_get, Option, None, Some, unwrap_or, Result, Ok, Err, codes, decimal}
+use Rattle.std.specs.Prelude.{ℕ, ◌+◌, ◌++◌, ◌==◌, ◌&&◌, Bool, true, false, not, nat_lt, if◌then◌else◌, List, [], ◌∷◌, map, filter, slice_get, Option, None, Some, unwrap_or, Result, Ok, codes, decimal}
 use Rattle.std.specs.List.{flat_map, join_by, list_any}
 use Rattle.serde_json.specs.Data.{Data, array, object, member, no_members}
 use Rattle.serde_json.specs.View.{items_of}

@@ -41,14 +41,14 @@ use x86_64_tables::phys_memory::IdentityMapping;
 /// report to `writer`. The request is tested before anything is written there. `progress` is called as the tables are read.
 ///
 /// `errors` receives the rest of the text for standard error: that the file is raw, or shorter than its headers say, that the root is
-/// the kernel's own by Linux's note, how an image was created, and finally the number of tables that were read and how much they map.
+/// the kernel's own by Linux's note, which processors have no tables, how an image was created, and finally the number of tables that
+/// were read and how much they map, for each root.
 ///
 /// # Errors
 ///
 /// A failure if the file isn't a dump, the start of page walks can't be determined, an address is invalid, or the root isn't in
-/// the dump, all before anything is written to `writer`; likewise for a root of one of the processors, if the report is on the roots
-/// of all. A walk reports a missing root itself. A failure if memory allocation,
-/// a read or a write fails.
+/// the dump, all before anything is written to `writer`; likewise for each root of the processors, if the report is on all of them. A
+/// walk reports a missing root itself. A failure if memory allocation, a read or a write fails.
 #[tactic(auto, using(crate::proofs::Wholly::forced_run, crate::proofs::Failing::forced_first, crate::proofs::Failing::forced_second))]
 pub fn run<S: ByteSource, W: Destination, E: Destination, G: Progress>(
     alloc: Global,

@@ -141,10 +141,10 @@ fn write_reports<S: ByteSource, W: Destination, E: Destination, G: Progress>(
 {
     let mut is_complete = true;
     for first in firsts {
-        let is = write_report_below(
+        let is_fulfilled = write_report_below(
             alloc, dump, processors, first, request, writer, notes, progress,
         )?;
-        is_complete &= is;
+        is_complete &= is_fulfilled;
     }
     Ok(is_complete)
 }

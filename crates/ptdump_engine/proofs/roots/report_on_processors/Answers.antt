@@ -1,15 +1,14 @@
-use Rattle.std.proofs.Common.{◌≡◌, ◌∙◌, ap, subst}
+use Rattle.std.proofs.Common.{◌≡◌, ◌∙◌, List, ap, subst}
 use Rattle.std.specs.Io.KnownBytes.{Appends}
+use Rattle.std.specs.List.{flat_map, list_all}
 use Rattle.x86_64_dump.specs.Dump.{words_of_dump}
 use Rattle.x86_64_dump.specs.Opened.{opened}
 use Rattle.ptdump_engine.specs.Processors.{firsts_of, left_out_text}
-use Rattle.ptdump_engine.specs.Program.{EndsByTotalsOf, ToldOfTablesOf, all_complete, all_reports, is_complete_for, report_below}
+use Rattle.ptdump_engine.specs.Program.{EndsByTotalsOf, ToldOfTablesOf, is_complete_for, report_below}
 use Rattle.ptdump_engine.specs.Steps.{InTurn}
 use Rattle.ptdump_engine.specs.declared.processors.Processor.{Processor}
 use Rattle.ptdump_engine.proofs.Wholly.{written_at_once}
 use Rattle.ptdump_engine.proofs.roots.report_on_processors.Goals as goal
-use Rattle.std.specs.List.{flat_map, list_all}
-use Rattle.std.proofs.Common.{List}
 
 pub returns-clause-written : goal.returns-clause-written
 returns-clause-written g c = λ known.
@@ -18,7 +17,7 @@ returns-clause-written g c = λ known.
     let firsts : c.deref.result.now ≡ firsts_of ps = c.deref.ensures.value ∙ c.in_ok-firsts.ensures in
     let contents = g.W.Destination.contents in
     record {
-      text = subst (λ (fs : List Processor). Appends (contents c.args.writer.now) (contents c.write_reports-is_complete.new.writer) (flat_map (report_below c.args.request.now T ps) fs)) firsts
+      text = subst (λ (fs : List Processor). Appends (contents c.args.writer.now) (contents c.write_reports.new.writer) (flat_map (report_below c.args.request.now T ps) fs)) firsts
           (c.in_ok-is_complete.ensures.text known);
       complete = c.in_ok-is_complete.ensures.complete known ∙ ap (list_all (is_complete_for c.args.request.now T)) firsts;
     }
@@ -33,12 +32,12 @@ returns-clause-notes g c = λ known.
       c.in_ok-is_complete.ensures.name known ∙ c.in_ok-write_left_out.ensures.text.writer,
       contents told.writer.now,
       written_at_once contents c.args.notes.now told (left_out_text ps) c.requires.noted c.in_ok-write_left_out.ensures.all c.in_ok-write_left_out.ensures.text,
-      subst (λ (fs : List Processor). InTurn (EndsByTotalsOf T) fs (contents told.writer.now) (contents c.write_reports-is_complete.new.notes.writer.now)) firsts (c.in_ok-is_complete.ensures.totals known),
+      subst (λ (fs : List Processor). InTurn (EndsByTotalsOf T) fs (contents told.writer.now) (contents c.write_reports.new.notes.writer.now)) firsts (c.in_ok-is_complete.ensures.totals known),
     )
 
 pub returns-clause-told : goal.returns-clause-told
 returns-clause-told g c = λ known.
     let T = words_of_dump (opened g.S.ByteSource.bytes c.args.dump.now) in
     let firsts : c.deref.result.now ≡ firsts_of c.args.processors.now = c.deref.ensures.value ∙ c.in_ok-firsts.ensures in
-    subst (λ (fs : List Processor). InTurn (ToldOfTablesOf g.G.Progress.Told g.G.Progress.Ended T) fs c.args.progress.now c.write_reports-is_complete.new.progress) firsts
+    subst (λ (fs : List Processor). InTurn (ToldOfTablesOf g.G.Progress.Told g.G.Progress.Ended T) fs c.args.progress.now c.write_reports.new.progress) firsts
     (c.in_ok-is_complete.ensures.told known)

@@ -1,4 +1,4 @@
-use Rattle.std.proofs.Common.{◌≡◌, ◌++◌, ◌∙◌, List, ℕ, [], unwrap_or, subst}
+use Rattle.std.proofs.Common.{◌≡◌, [], subst}
 use Rattle.std.proofs.KnownBytes.{Appends-trans}
 use Rattle.std.specs.Io.KnownBytes.{Appends}
 use Rattle.x86_64_dump.specs.Dump.{words_of_dump}
@@ -8,8 +8,8 @@ use Rattle.ptdump_engine.proofs.OfProcessors.{has_report, is_tested, no_image, s
 use Rattle.ptdump_engine.proofs.Wholly.{put_all}
 use Rattle.ptdump_engine.proofs.roots.write_report_below.Goals as goal
 
-pub report_from-outcome-requires : goal.report_from-outcome-requires
-report_from-outcome-requires g c = is_tested c.args.request.now c.requires.all
+pub report_from-requires : goal.report_from-requires
+report_from-requires g c = is_tested c.args.request.now c.requires.all
 
 pub returns-clause-text : goal.returns-clause-text
 returns-clause-text g c = λ known.
@@ -19,7 +19,7 @@ returns-clause-text g c = λ known.
     let L = level_count start.levels in
     let contents = g.W.Destination.contents in
     Appends-trans _ _ _ _ _ c.in_ok-write_heading.ensures
-    (some_or (report_of request L T start.root) (Appends (contents c.write_heading.new.writer) (contents c.report_from-outcome.new.writer)) [] (c.in_ok-outcome.ensures.written known).text
+    (some_or (report_of request L T start.root) (Appends (contents c.write_heading.new.writer) (contents c.report_from.new.writer)) [] (c.in_ok-outcome.ensures.written known).text
     (has_report request L T start.root c.requires.all))
 
 pub returns-clause-complete : goal.returns-clause-complete
@@ -33,5 +33,5 @@ returns-clause-totals g c = λ known.
     let start = c.args.first.now.start in
     let T = words_of_dump (opened g.S.ByteSource.bytes c.args.dump.now) in
     let contents = g.E.Destination.contents in
-    subst (λ before. EndsByTotals (level_count start.levels) T start.root before (contents c.report_from-outcome.new.notes.writer.now)) (put_all contents c.args.notes.now c.requires.noted)
+    subst (λ before. EndsByTotals (level_count start.levels) T start.root before (contents c.report_from.new.notes.writer.now)) (put_all contents c.args.notes.now c.requires.noted)
     (c.in_ok-outcome.ensures.totals known (no_image c.args.request.now c.requires.all)).1

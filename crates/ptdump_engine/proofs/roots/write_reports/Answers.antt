@@ -1,4 +1,4 @@
-use Rattle.std.proofs.Common.{◌≡◌, ◌∙◌, ◌&&◌, refl, sym, ap, ap₂, subst}
+use Rattle.std.proofs.Common.{◌∙◌, ◌&&◌, refl, sym, ap, ap₂, subst}
 use Rattle.std.specs.Io.KnownBytes.{Appends}
 use Rattle.std.proofs.KnownBytes.{Appends-nil}
 use Rattle.std.proofs.lemmas.List.Folds.{list_all_more}
@@ -13,7 +13,7 @@ loop-first-init g c = (c.requires.noted, λ known. (refl, Appends-nil _, refl, �
 
 pub loop-first-preserved : goal.loop-first-preserved
 loop-first-preserved g c = (
-  c.in_ok-is.ensures.noted,
+  c.in_ok-is_fulfilled.ensures.noted,
   λ known.
       let T = words_of_dump (opened g.S.ByteSource.bytes c.args.dump.now) in
       let request = c.args.request.now in
@@ -25,17 +25,17 @@ loop-first-preserved g c = (
       let written_by = g.W.Destination.contents in
       let noted_by = g.E.Destination.contents in
       let now = c.loop-first in
-      let new = c.write_report_below-is.new in
+      let new = c.write_report_below.new in
       let told_of = ToldOfTablesOf g.G.Progress.Told g.G.Progress.Ended T in
       let (name, written, complete, totals, told) = c.loop-first.invariant.1 known in (
-        c.in_ok-is.ensures.name known ∙ name,
+        c.in_ok-is_fulfilled.ensures.name known ∙ name,
         appends_more (report_below request T ps) _ (written_by now.writer) (written_by new.writer) xs i x below written
-            (subst (λ y. Appends (written_by now.writer) (written_by new.writer) (report_below request T ps y)) c.first-item.is (c.in_ok-is.ensures.text known)),
-        ap₂ (λ b d. b && d) complete (c.in_ok-is.ensures.complete known ∙ ap (is_complete_for request T) c.first-item.is) ∙ sym (list_all_more (is_complete_for request T) xs i x below),
+            (subst (λ y. Appends (written_by now.writer) (written_by new.writer) (report_below request T ps y)) c.first-item.is (c.in_ok-is_fulfilled.ensures.text known)),
+        ap₂ (λ b d. b && d) complete (c.in_ok-is_fulfilled.ensures.complete known ∙ ap (is_complete_for request T) c.first-item.is) ∙ sym (list_all_more (is_complete_for request T) xs i x below),
         turn_more (EndsByTotalsOf T) _ (noted_by now.notes.writer.now) (noted_by new.notes.writer.now) xs i x below totals
-            (subst (λ y. EndsByTotalsOf T y (noted_by now.notes.writer.now) (noted_by new.notes.writer.now)) c.first-item.is (c.in_ok-is.ensures.totals known)),
+            (subst (λ y. EndsByTotalsOf T y (noted_by now.notes.writer.now) (noted_by new.notes.writer.now)) c.first-item.is (c.in_ok-is_fulfilled.ensures.totals known)),
         turn_more told_of _ now.progress new.progress xs i x below told
-            (subst (λ y. told_of y now.progress new.progress) c.first-item.is (c.in_ok-is.ensures.told known)),
+            (subst (λ y. told_of y now.progress new.progress) c.first-item.is (c.in_ok-is_fulfilled.ensures.told known)),
       ),
 )
 
