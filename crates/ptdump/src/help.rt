@@ -268,6 +268,9 @@ in the dump, HUGE_PAGE at a level that has no pages, and other reserved bits:
 address bits that the processor lacks, which are those from --maxphyaddr on, and
 low address bits of large pages. The exit status is 1 if there are any.
 
+--from and --to look only at regions that reach into these addresses, the last
+one included. Findings in tables are listed wherever the tables lead.
+
 With --json a line is an object whose finding is \"writable and executable\" or
 \"user reaches upper half\", with what regions --json tells of the region, \"table
 named often\", with table and times, \"table not in the dump\", with table and
