@@ -1,14 +1,14 @@
 -- Commands that no arguments describe.
 use Rattle.std.proofs.Common.{◌≡◌, ◌∙◌, ℕ, List, Option, codes, false, true, Result, IfOk, IfErr, refl, sym, subst}
 use Rattle.clap.specs.declared.parser.matches.Found.{Found}
+use Rattle.ptdump_engine.specs.declared.request.Checking.{Checking}
 use Rattle.ptdump_engine.specs.declared.request.Command.{Command}
 use Rattle.ptdump_engine.specs.declared.request.Command.TheVariants.{Regions, Pages, Walk, Find, Check, Image, Picture, Info}
 use Rattle.ptdump_engine.specs.declared.request.WalkOptions.{WalkOptions}
 use Rattle.ptdump_engine.specs.declared.request.Selection.{Selection}
-use Rattle.ptdump.specs.Asked.{AreAsked, IsBits}
+use Rattle.ptdump.specs.Asked.{AreAsked}
 use Rattle.ptdump.specs.Selections.{IsSelection}
-use Rattle.clap.specs.Matches.{first_value}
-use Rattle.ptdump.specs.Requests.{AreNumbers, IsCommand, IsUnread, values}
+use Rattle.ptdump.specs.Requests.{AreNumbers, IsChecking, IsCommand, IsUnread, values}
 use Rattle.ptdump.specs.declared.stop.Stop.{Stop}
 use Rattle.ptdump.proofs.Names.{other_name, same_name}
 use Rattle.std.specs.Str.{bytes_eq}
@@ -76,9 +76,9 @@ no_name name found a b c d e f g h Picture is = other_name name (codes "picture"
 no_name name found a b c d e f g h Info is = other_name name (codes "info") h is
 
 -- no check can be described
-pub no_check : (name : List ℕ) (found : Found) → name ≡ codes "check" → ((bits : ℕ) → IsBits (first_value found (codes "maxphyaddr")) bits → ⊥)
+pub no_check : (name : List ℕ) (found : Found) → name ≡ codes "check" → ((checking : Checking) → IsChecking found checking → ⊥)
     → (command : Command) → IsCommand name found command → ⊥
-no_check name found check none (Check checking) is = none checking.physical_bits is.1
+no_check name found check none (Check checking) is = none checking is.1
 no_check name found check none command is = differ name (codes "check") (name_of command) refl check (named name found command is)
 
 -- the command and the refusal are those of an equal name

@@ -27,9 +27,10 @@ AreNumbers texts numbers = All IsNumber texts × (numbers ≡ map number_of text
 abbrev pub values : Found → (name : List ℕ) → List (List ℕ)
 values found name = unwrap_or (option_map raw_values (matched_of found name)) []
 
--- the number of bits of physical addresses is that of --maxphyaddr
-abbrev pub IsChecking : Found → Checking → Type 0
-IsChecking found checking = IsBits (first_value found (codes "maxphyaddr")) checking.physical_bits
+-- the number of bits of physical addresses is that of --maxphyaddr, and the regions are those of --from and --to
+pub record IsChecking (found : Found) (checking : Checking) : Type 0 where
+  pub bits : IsBits (first_value found (codes "maxphyaddr")) checking.physical_bits
+  pub selection : IsSelection found checking.selection
 
 -- the command has this name, and what it takes from these arguments
 abbrev pub IsCommand : (name : List ℕ) → Found → Command → Type 0

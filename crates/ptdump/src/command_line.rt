@@ -32,7 +32,9 @@ fn subcommand<'a>(alloc: Global, help: &CommandHelp) -> Result<Command<'a>, Erro
         Operands::None => command,
         Operands::Selection => with_all_cpus(alloc, with_selection(alloc, command)?)?,
         Operands::Names => with_names(alloc, with_selection(alloc, command)?)?,
-        Operands::Checks => with_all_cpus(alloc, command.arg(maxphyaddr(alloc))?)?,
+        Operands::Checks => {
+            with_all_cpus(alloc, with_addresses(alloc, command)?.arg(maxphyaddr(alloc))?)?
+        }
         Operands::Addresses(text) => command.arg(addresses(alloc, text))?,
         Operands::Accesses(text) => with_access(alloc, command.arg(addresses(alloc, text))?)?,
     };
@@ -78,14 +80,19 @@ fn subcommand<'a>(alloc: Global, help: &CommandHelp) -> Result<Command<'a>, Erro
 
 /// Adds the options of a selection to the command line of a command.
 fn with_selection<'a>(alloc: Global, command: Command<'a>) -> Result<Command<'a>, Error> {
+    let rights = option(alloc, "rights", "Rights to list, as in wx [default: any]").value_name(
+        "RIGHTS",
+    );
+    Ok(with_addresses(alloc, command)?.arg(rights)?)
+}
+
+/// Adds the options of the first and the last address to the command line of a command.
+fn with_addresses<'a>(alloc: Global, command: Command<'a>) -> Result<Command<'a>, Error> {
     let from = option(alloc, "from", "First address to list [default: the first]").value_name(
         "ADDRESS",
     );
     let to = option(alloc, "to", "Last address to list [default: the last]").value_name("ADDRESS");
-    let rights = option(alloc, "rights", "Rights to list, as in wx [default: any]").value_name(
-        "RIGHTS",
-    );
-    Ok(command.arg(from)?.arg(to)?.arg(rights)?)
+    Ok(command.arg(from)?.arg(to)?)
 }
 
 /// Adds the option of all processors to the command line of a command.

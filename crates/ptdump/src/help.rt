@@ -283,6 +283,9 @@ to it, or if it can't, read it. The exit status is 1 if there are any.
 --all-cpus checks the tables of each processor in QEMU's notes, and those of
 several with the same root once, below a line with their numbers and the root.
 
+--from and --to look only at regions that reach into these addresses, the last
+one included. Findings in tables are listed wherever the tables lead.
+
 With --json a line is an object whose finding is \"writable and executable\" or
 \"user reaches upper half\", with what regions --json tells of the region, \"table
 named often\", with table and times, \"table not in the dump\", with table and

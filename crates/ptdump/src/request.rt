@@ -134,7 +134,11 @@ fn check_of<'a>(arguments: &ArgMatches<'a>) -> Result<Command, Stop<'a>>
     ensures reason { IfErr result (IsReason (found_of arguments.now)) }
 {
     let physical_bits = bits_of(arguments)?;
-    Ok(Command::Check(Checking { physical_bits }))
+    let selection = selection_of(arguments)?;
+    Ok(Command::Check(Checking {
+        physical_bits,
+        selection,
+    }))
 }
 
 /// Reads the addresses of a command.

@@ -13,6 +13,7 @@ use Rattle.ptdump_engine.specs.FindingTexts.{count_text, finding_text, flawed_te
 use Rattle.ptdump_engine.specs.InOrder.{in_order}
 use Rattle.ptdump_engine.specs.ReachedTables.{all_reached}
 use Rattle.ptdump_engine.specs.Said.{Said, line_of}
+use Rattle.ptdump_engine.specs.Selections.{is_selected}
 use Rattle.ptdump_engine.specs.declared.findings.entry.Entry.{Entry}
 use Rattle.ptdump_engine.specs.declared.findings.entry.Slot.{Slot}
 use Rattle.ptdump_engine.specs.declared.findings.entry.Table.{Table}
@@ -142,9 +143,9 @@ table_findings checking L T root = let tables = tables_in_order (tables_by_level
 abbrev pub said_of : Finding → Said
 said_of finding = record { text = finding_text finding; object = json_of_finding finding }
 
--- a line for each finding
+-- a line for each finding in the regions that are selected, and in all tables
 unfoldable pub finding_lines : Checking → (L : ℕ) → Words → (root : ℕ) → List Said
-finding_lines checking L T root = let regions = regions_of L T root in
+finding_lines checking L T root = let regions = filter (is_selected L checking.selection) (regions_of L T root) in
     flawed_lines L WritableAndExecutable regions ++ flawed_lines L UserInUpperHalf regions ++ map said_of (table_findings checking L T root)
 
 -- the number of lines, if it is less than 2^64

@@ -67,6 +67,7 @@ argument_failure levels (commands.Walk addresses asked) =
 argument_failure levels (commands.Find addresses) = option_map (λ a. failures.NotPhysical a) (find (λ a. nat_le (2 ^ 52) a) addresses.items)
 argument_failure levels (commands.Regions selection) = selection_failure levels selection
 argument_failure levels (commands.Pages selection has_names) = selection_failure levels selection
+argument_failure levels (commands.Check checking) = selection_failure levels checking.selection
 argument_failure levels command = None
 
 -- the physical addresses of a search are below 2^52

@@ -31,6 +31,7 @@ pub fn argument_failure(command: &Command, levels: Levels) -> Option<Failure>
         Command::Regions(selection) | Command::Pages { selection, .. } => {
             selection_failure(*selection, levels)
         }
+        Command::Check(checking) => selection_failure(checking.selection, levels),
         _ => None,
     }
 }

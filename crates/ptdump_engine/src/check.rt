@@ -57,6 +57,7 @@ pub fn write_findings<L: LevelCount, W: Destination>(
     let reached = reached_tables::<L>(alloc, memory, loaded.root, &tables)?;
     let subject = Subject {
         memory,
+        selection: checking.selection,
         processor: processor_of(checking),
         root: loaded.root,
         tables: &tables,
@@ -115,7 +116,8 @@ fn write_lines<L: LevelCount, O: LineOutput>(
     ensures { OnOk result (O.Lines output.old output.new
         (finding_lines_by L.LEVELS loaded.now subject.now)) }
 {
-    write_flawed::<L, O>(loaded, Flaw::WritableAndExecutable, output)?;
-    write_flawed::<L, O>(loaded, Flaw::UserInUpperHalf, output)?;
+    let selection = &subject.selection;
+    write_flawed::<L, O>(loaded, selection, Flaw::WritableAndExecutable, output)?;
+    write_flawed::<L, O>(loaded, selection, Flaw::UserInUpperHalf, output)?;
     write_table_findings::<O>(subject, output)
 }

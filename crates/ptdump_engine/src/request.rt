@@ -19,7 +19,7 @@ pub struct WalkOptions {
     pub access: Option<Access>,
 }
 
-/// Which mappings or regions to report: those that reach into the addresses from one to another, and have at least some rights.
+/// Which mappings or regions to report or to check: those that reach into the addresses from one to another, and have at least some rights.
 #[derive(Clone, Copy, Debug, PartialEq, Eq)]
 pub struct Selection {
     /// The first of the addresses. If `None`, it is the first of all.
@@ -44,6 +44,8 @@ impl Selection {
 pub struct Checking {
     /// The number of bits of the processor's physical addresses. More than 52 count as 52.
     pub physical_bits: u8,
+    /// The regions that are looked at. All tables are.
+    pub selection: Selection,
 }
 
 /// The report to write.

@@ -1,10 +1,11 @@
 -- Checked: the lines of a check of loaded tables, which are in order.
-use Rattle.std.specs.Prelude.{ℕ, ◌≤◌, ◌++◌, List, map, ⊤}
+use Rattle.std.specs.Prelude.{ℕ, ◌≤◌, ◌++◌, List, filter, map, ⊤}
 use Rattle.x86_64_model.specs.Memory.{identity_places, words_of}
 use Rattle.x86_64_model.specs.Regions.{regions_of}
 use Rattle.ptdump_engine.specs.Findings.{findings_by, flawed_lines, said_of}
 use Rattle.ptdump_engine.specs.Loaded.{words_loaded}
 use Rattle.ptdump_engine.specs.Said.{Said}
+use Rattle.ptdump_engine.specs.Selections.{is_selected}
 use Rattle.ptdump_engine.specs.declared.check.subject.Subject.{Subject}
 use Rattle.ptdump_engine.specs.declared.findings.finding.EntryFlaw.{EntryFlaw}
 use Rattle.ptdump_engine.specs.declared.findings.finding.EntryFlaw.TheVariants as flaws
@@ -12,7 +13,7 @@ use Rattle.ptdump_engine.specs.declared.findings.flaw.Flaw.TheVariants.{Writable
 use Rattle.ptdump_engine.specs.declared.loaded.Loaded.{Loaded}
 
 abbrev pub finding_lines_by : {X : Type 0} → (L : ℕ) → Loaded X → Subject → List Said
-finding_lines_by L loaded subject = let regions = regions_of L (words_loaded loaded) loaded.root in
+finding_lines_by L loaded subject = let regions = filter (is_selected L subject.selection) (regions_of L (words_loaded loaded) loaded.root) in
     flawed_lines L WritableAndExecutable regions ++ flawed_lines L UserInUpperHalf regions
     ++ map said_of (findings_by subject.processor (words_of subject.memory.now identity_places) subject.root subject.tables.now subject.names.now ++ subject.reached.now)
 

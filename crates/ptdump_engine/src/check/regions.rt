@@ -1,15 +1,17 @@
 //! Findings in regions.
-ghost use Rattle.std.specs.Prelude.{◌≡◌, OnOk};
+ghost use Rattle.std.specs.Prelude.{◌≡◌, OnOk, filter};
 ghost use Rattle.x86_64_model.specs.Regions.{regions_of};
 ghost use Rattle.ptdump_engine.specs.Findings.{flawed_lines};
 ghost use Rattle.ptdump_engine.specs.Loaded.{IsLoaded, words_loaded};
+ghost use Rattle.ptdump_engine.specs.Selections.{is_selected};
 
 use crate::findings::{Flaw, FlawedRegion};
 use crate::line_output::LineOutput;
 use crate::loaded::Loaded;
+use crate::request::Selection;
+use crate::selected::visit_selected_regions;
 use x86_64_addr::level_count::LevelCount;
-use x86_64_mappings::{RegionIn, Visitor, visit_regions};
-use x86_64_tables::phys_memory::{IdentityMapping, PhysMemory};
+use x86_64_mappings::{RegionIn, Visitor};
 
 /// A visitor that writes a line for each region with a flaw.
 ///
@@ -63,20 +65,23 @@ impl<L: LevelCount, O: LineOutput> Visitor<RegionIn<L>> for FlawedRegions<'_, O>
     ghost both = { visited_both O.Lines O.parts L.LEVELS };
 }
 
-/// Writes a line for each region with a flaw.
+/// Writes a line for each region that is selected and has a flaw.
 pub fn write_flawed<L: LevelCount, O: LineOutput>(
     loaded: &Loaded<'_, L>,
+    selection: &Selection,
     flaw: Flaw,
     output: &mut O,
 ) -> Result<(), O::Error>
     requires { IsLoaded loaded.now }
     ensures { OnOk result (O.Lines output.old output.new
-        (flawed_lines L.LEVELS flaw (regions_of L.LEVELS (words_loaded loaded.now) loaded.now.root))) }
+        (flawed_lines L.LEVELS flaw (filter (is_selected L.LEVELS selection.now)
+        (regions_of L.LEVELS (words_loaded loaded.now) loaded.now.root)))) }
 {
     let mut regions = FlawedRegions::new(flaw, output);
-    visit_regions::<L, PhysMemory, IdentityMapping, FlawedRegions<'_, O>>(
+    visit_selected_regions::<L, FlawedRegions<'_, O>>(
         loaded.summaries,
         loaded.root,
+        *selection,
         &mut regions,
     )?;
     Ok(())

@@ -1,16 +1,19 @@
-//! The tables that a check looks at.
+//! What a check looks at.
 
 use crate::findings::{Finding, Name, Table};
+use crate::request::Selection;
 use x86_64_access::Controls;
 use x86_64_page::frame::PhysFrame;
 use x86_64_page::page::Size4KiB;
 use x86_64_tables::phys_memory::PhysMemory;
 
-/// The tables below a root, and the names in them.
+/// The tables below a root, the names in them, and which regions count.
 #[derive(Clone, Copy)]
 pub struct Subject<'a> {
     /// The memory that holds the tables.
     pub memory: &'a PhysMemory,
+    /// The regions that are looked at.
+    pub selection: Selection,
     /// The processor whose reserved bits are looked for.
     pub processor: Controls,
     /// The frame of the root.

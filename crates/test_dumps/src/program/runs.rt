@@ -60,7 +60,10 @@ impl Word {
                 },
             },
             Word::Find => Command::Find(Vec::from_slice(alloc, &[0x8000_0123, 0x3abc])?),
-            Word::Check => Command::Check(Checking { physical_bits: 52 }),
+            Word::Check => Command::Check(Checking {
+                physical_bits: 52,
+                selection: Selection::ALL,
+            }),
             Word::Image => Command::Image,
             Word::Picture => Command::Picture,
         };
