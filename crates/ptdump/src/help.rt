@@ -366,12 +366,11 @@ sizes, the control registers of each processor with its mode of paging, what the
 note VMCOREINFO says of the kernel, and the root with which the other commands
 begin if they have the same options, or why they find none. No tables are read.
 
-With --json a line is an object with one member: format (a string), or an object
-memory, with first and last (strings in hexadecimal, as all addresses and
-registers) and bytes; processor, with cpu, cr0, cr3, cr4, mode and, if paging is
-64-bit, levels; kernel, with root and levels; or root, with address, levels and
-origin (\"--cr3\", \"processor\", with cpu, or \"kernel\"). What isn't known has
-error (a string) in place of these, and a processor also cpu.
+With --json a line is an object with one member: format, a string, or an object:
+memory (first, last, bytes), processor (cpu, cr0, cr3, cr4, mode, and levels if
+paging is 64-bit), kernel (root, levels), or root (address, levels, and origin:
+\"--cr3\", \"kernel\", or \"processor\", with cpu). Addresses and registers are
+strings in hexadecimal. For what isn't known, error is a string that says why.
 
 Examples:
 

@@ -1,13 +1,15 @@
 //! Walks as JSON, with what a processor does with an access.
-ghost use Rattle.std.specs.Prelude.{◌≡◌, IfOk, OnOk, map, option_map};
-ghost use Rattle.serde_json.specs.Data.{array, object};
+ghost use Rattle.std.specs.Prelude.{◌≡◌, IfOk, OnOk, codes, map, option_map, string_bytes};
+ghost use Rattle.serde_json.specs.Data.{array, member, no_members, object, string};
 ghost use Rattle.serde_json.specs.View.{items_of, view};
 ghost use Rattle.x86_64_access.specs.Accesses.{outcome_of};
 ghost use Rattle.ptdump_engine.specs.Accesses.{is_arrived, is_there, outcome_in};
 ghost use Rattle.ptdump_engine.specs.Json as json;
 ghost use Rattle.ptdump_engine.specs.Loaded.{words_loaded};
 ghost use Rattle.x86_64_model.specs.Position.{raw};
+ghost use Rattle.ptdump_engine.specs.Walks as walks;
 ghost use Rattle.ptdump_engine.specs.Walks.{walk_of};
+ghost use Rattle.x86_64_model.specs.Mappings.{every_right};
 ghost use Rattle.ptdump_engine.specs.Lines.{walk_lines};
 ghost use Rattle.ptdump_engine.specs.declared.request.Form.TheVariants.{Json};
 ghost use Rattle.ptdump_engine.specs.private.Reported.{json_of_report, report_arrives};
@@ -18,6 +20,7 @@ use crate::access_line::{AccessLine, access_end, access_name};
 use crate::lines::Lines;
 use crate::loaded::Loaded;
 use crate::request::WalkOptions;
+use crate::rights_at::RightsAt;
 use crate::walked::{Walk, WalkEnd, walk_to};
 use crate::word_read::WordRead;
 use bitflags::Flags;
@@ -143,37 +146,78 @@ fn walk_to_json(
 {
     let address = hexadecimal(alloc, address)?;
     match end {
-        WalkEnd::Arrives { at, size: _ } => {
-            json!(in alloc; {
-                "address": address,
-                "words": words,
-                "end": "arrives",
-                "physical": hexadecimal(alloc, at.address)?,
-                "write": at.rights.write,
-                "execute": at.rights.execute,
-                "user": at.rights.user,
-            })
-        }
+        WalkEnd::Arrives { at, size: _ } => arrival_to_json(alloc, address, words, at),
         WalkEnd::NotPresent => {
             json!(in alloc; {"address": address, "words": words, "end": "not present"})
         }
         WalkEnd::MissingTable(frame) => {
-            json!(in alloc; {
-                "address": address,
-                "words": words,
-                "end": "missing table",
-                "table": hexadecimal(alloc, frame.start_address().as_u64())?,
-            })
+            let table = hexadecimal(alloc, frame.start_address().as_u64())?;
+            missing_to_json(alloc, address, words, table)
         }
-        WalkEnd::HugePage(level) => {
-            json!(in alloc; {
-                "address": address,
-                "words": words,
-                "end": "huge page",
-                "level": level,
-            })
-        }
+        WalkEnd::HugePage(level) => huge_to_json(alloc, address, words, level),
     }
+}
+
+/// Returns the object of a walk that arrives.
+fn arrival_to_json(
+    alloc: Global,
+    address: String,
+    words: Value,
+    at: RightsAt,
+) -> Result<Value, AllocError>
+    ensures { IfOk result (λ value. view value ≡ object (
+        member (codes "address") (string (string_bytes address))
+        (json.end_members (view words) at.rights (walks.arrives_at at.address 0)))) }
+{
+    json!(in alloc; {
+        "address": address,
+        "words": words,
+        "end": "arrives",
+        "physical": hexadecimal(alloc, at.address)?,
+        "write": at.rights.write,
+        "execute": at.rights.execute,
+        "user": at.rights.user,
+    })
+}
+
+/// Returns the object of a walk that needs a table that isn't in the dump.
+fn missing_to_json(
+    alloc: Global,
+    address: String,
+    words: Value,
+    table: String,
+) -> Result<Value, AllocError>
+    ensures { IfOk result (λ value. view value ≡ object (
+        member (codes "address") (string (string_bytes address))
+        (member (codes "end") (string (codes "missing table"))
+        (member (codes "table") (string (string_bytes table))
+        (member (codes "words") (view words) no_members))))) }
+{
+    json!(in alloc; {
+        "address": address,
+        "words": words,
+        "end": "missing table",
+        "table": table,
+    })
+}
+
+/// Returns the object of a walk that ends by `HUGE_PAGE` at a level.
+fn huge_to_json(
+    alloc: Global,
+    address: String,
+    words: Value,
+    level: u64,
+) -> Result<Value, AllocError>
+    ensures { IfOk result (λ value. view value ≡ object (
+        member (codes "address") (string (string_bytes address))
+        (json.end_members (view words) every_right (walks.huge_page level)))) }
+{
+    json!(in alloc; {
+        "address": address,
+        "words": words,
+        "end": "huge page",
+        "level": level,
+    })
 }
 
 /// Writes the walk to an address as a line of JSON, with what a processor does with an access there, if one is asked for.
