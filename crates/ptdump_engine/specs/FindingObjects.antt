@@ -1,5 +1,5 @@
 -- FindingObjects: findings as JSON objects, whose member "finding" says what is found.
-use Rattle.std.specs.Prelude.{ℕ, codes}
+use Rattle.std.specs.Prelude.{ℕ, List, codes}
 use Rattle.serde_json.specs.Data.{Data, string, object, put, member, no_members}
 use Rattle.x86_64_model.specs.Regions.{Region}
 use Rattle.ptdump_engine.specs.FindingTexts.{flaw_text}
@@ -17,6 +17,13 @@ abbrev pub json_of_slot : Slot → Data
 json_of_slot slot = object (
     member (codes "index") (count slot.index)
     (member (codes "table") (hexadecimal_string slot.table) no_members))
+
+-- a table that is mapped for user code, by the name of the finding and the address
+abbrev pub json_of_mapped : (name : List ℕ) → (frame at : ℕ) → Data
+json_of_mapped name frame at = object (
+    member (codes "at") (hexadecimal_string at)
+    (member (codes "finding") (string name)
+    (member (codes "table") (hexadecimal_string frame) no_members)))
 
 abbrev pub json_of_finding : Finding → Data
 json_of_finding (NamedOften frame times) = object (
@@ -38,14 +45,8 @@ json_of_finding (ReservedBits entry) = object (
     (member (codes "level") (count entry.level)
     (member (codes "table") (hexadecimal_string entry.slot.table)
     (member (codes "word") (hexadecimal_string entry.word) no_members)))))
-json_of_finding (WritableForUser frame at) = object (
-    member (codes "at") (hexadecimal_string at)
-    (member (codes "finding") (string (codes "table mapped writable for user"))
-    (member (codes "table") (hexadecimal_string frame) no_members)))
-json_of_finding (MappedForUser frame at) = object (
-    member (codes "at") (hexadecimal_string at)
-    (member (codes "finding") (string (codes "table mapped for user"))
-    (member (codes "table") (hexadecimal_string frame) no_members)))
+json_of_finding (WritableForUser frame at) = json_of_mapped (codes "table mapped writable for user") frame at
+json_of_finding (MappedForUser frame at) = json_of_mapped (codes "table mapped for user") frame at
 
 -- the number of findings
 abbrev pub json_of_count : (findings : ℕ) → Data

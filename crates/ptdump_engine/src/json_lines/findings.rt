@@ -1,11 +1,16 @@
 //! Findings as JSON.
+ghost use Rattle.std.specs.Prelude.{◌≡◌, IfOk};
+ghost use Rattle.serde_json.specs.View.{view};
 ghost use Rattle.ptdump_engine.specs.FindingObjects as objects;
+ghost use Rattle.ptdump_engine.specs.declared.findings.finding.Finding.TheVariants.{NamedOften, NotInDump, HugePage, ReservedBits};
 
 use super::{ToJson, hexadecimal, with_member};
-use crate::findings::{Finding, FindingCount, FlawedRegion, Slot};
+use crate::findings::{Entry, Finding, FindingCount, FlawedRegion, Slot};
 use serde_json::{Value, json};
 use std::alloc::{AllocError, Global};
 use x86_64_addr::level_count::LevelCount;
+use x86_64_page::frame::PhysFrame;
+use x86_64_page::page::Size4KiB;
 
 impl<L: LevelCount> ToJson for FlawedRegion<L> {
     ghost use Rattle.std.proofs.Common.{refl};
@@ -45,54 +50,90 @@ impl ToJson for Finding {
 
     fn to_json(&self, alloc: Global) -> Result<Value, AllocError> {
         match self {
-            Finding::NamedOften { frame, count } => {
-                json!(in alloc; {
-                    "finding": "table named often",
-                    "table": hexadecimal(alloc, frame.start_address().as_u64())?,
-                    "times": *count,
-                })
-            }
-            Finding::NotInDump { frame, by } => {
-                json!(in alloc; {
-                    "finding": "table not in the dump",
-                    "table": hexadecimal(alloc, frame.start_address().as_u64())?,
-                    "named_by": by.to_json(alloc)?,
-                })
-            }
-            Finding::HugePage { slot, level } => {
-                json!(in alloc; {
-                    "finding": "HUGE_PAGE above level three",
-                    "level": *level,
-                    "table": hexadecimal(alloc, slot.table.start_address().as_u64())?,
-                    "index": slot.index,
-                })
-            }
-            Finding::ReservedBits(entry) => {
-                let slot = entry.slot;
-                json!(in alloc; {
-                    "finding": "reserved bits",
-                    "level": entry.level,
-                    "table": hexadecimal(alloc, slot.table.start_address().as_u64())?,
-                    "index": slot.index,
-                    "word": hexadecimal(alloc, entry.word)?,
-                })
-            }
+            Finding::NamedOften { frame, count } => named_often_to_json(alloc, *frame, *count),
+            Finding::NotInDump { frame, by } => not_in_dump_to_json(alloc, *frame, *by),
+            Finding::HugePage { slot, level } => huge_page_to_json(alloc, *slot, *level),
+            Finding::ReservedBits(entry) => reserved_bits_to_json(alloc, *entry),
             Finding::WritableForUser { frame, at } => {
-                json!(in alloc; {
-                    "finding": "table mapped writable for user",
-                    "table": hexadecimal(alloc, frame.start_address().as_u64())?,
-                    "at": hexadecimal(alloc, *at)?,
-                })
+                mapped_to_json(alloc, "table mapped writable for user", *frame, *at)
             }
             Finding::MappedForUser { frame, at } => {
-                json!(in alloc; {
-                    "finding": "table mapped for user",
-                    "table": hexadecimal(alloc, frame.start_address().as_u64())?,
-                    "at": hexadecimal(alloc, *at)?,
-                })
+                mapped_to_json(alloc, "table mapped for user", *frame, *at)
             }
         }
     }
+}
+
+/// Returns the object of a frame that is named as a table so many times.
+fn named_often_to_json(
+    alloc: Global,
+    frame: PhysFrame<Size4KiB>,
+    count: usize,
+) -> Result<Value, AllocError>
+    ensures { IfOk result (λ value. view value ≡ objects.json_of_finding (NamedOften frame count)) }
+{
+    json!(in alloc; {
+        "finding": "table named often",
+        "table": hexadecimal(alloc, frame.start_address().as_u64())?,
+        "times": count,
+    })
+}
+
+/// Returns the object of a table that isn't in the dump.
+fn not_in_dump_to_json(
+    alloc: Global,
+    frame: PhysFrame<Size4KiB>,
+    by: Slot,
+) -> Result<Value, AllocError>
+    ensures { IfOk result (λ value. view value ≡ objects.json_of_finding (NotInDump frame by)) }
+{
+    json!(in alloc; {
+        "finding": "table not in the dump",
+        "table": hexadecimal(alloc, frame.start_address().as_u64())?,
+        "named_by": by.to_json(alloc)?,
+    })
+}
+
+/// Returns the object of an entry with `HUGE_PAGE` above level three.
+fn huge_page_to_json(alloc: Global, slot: Slot, level: u64) -> Result<Value, AllocError>
+    ensures { IfOk result (λ value. view value ≡ objects.json_of_finding (HugePage slot level)) }
+{
+    json!(in alloc; {
+        "finding": "HUGE_PAGE above level three",
+        "level": level,
+        "table": hexadecimal(alloc, slot.table.start_address().as_u64())?,
+        "index": slot.index,
+    })
+}
+
+/// Returns the object of an entry with other reserved bits.
+fn reserved_bits_to_json(alloc: Global, entry: Entry) -> Result<Value, AllocError>
+    ensures { IfOk result (λ value. view value ≡ objects.json_of_finding (ReservedBits entry)) }
+{
+    let slot = entry.slot;
+    json!(in alloc; {
+        "finding": "reserved bits",
+        "level": entry.level,
+        "table": hexadecimal(alloc, slot.table.start_address().as_u64())?,
+        "index": slot.index,
+        "word": hexadecimal(alloc, entry.word)?,
+    })
+}
+
+/// Returns the object of a table that is mapped for user code, by the name of the finding and the address.
+fn mapped_to_json(
+    alloc: Global,
+    name: &'static str,
+    frame: PhysFrame<Size4KiB>,
+    at: u64,
+) -> Result<Value, AllocError>
+    ensures { IfOk result (λ value. view value ≡ objects.json_of_mapped name.now frame at) }
+{
+    json!(in alloc; {
+        "finding": name,
+        "table": hexadecimal(alloc, frame.start_address().as_u64())?,
+        "at": hexadecimal(alloc, at)?,
+    })
 }
 
 impl ToJson for FindingCount {
