@@ -1,4 +1,4 @@
-use Rattle.std.proofs.Common.{◌≡◌, ◌∙◌, ◌++◌, IfOk, [], if◌then◌else◌, sym, ap, subst, append-nil}
+use Rattle.std.proofs.Common.{◌≡◌, ◌∙◌, ◌++◌, [], if◌then◌else◌, sym, ap, subst, append-nil}
 use Rattle.ptdump_engine.specs.Accesses.{asked_text, is_there}
 use Rattle.ptdump_engine.specs.Explanations.{explanation_text}
 use Rattle.ptdump_engine.specs.Loaded.{words_loaded}
@@ -31,8 +31,8 @@ returns-in-None-clause-arrives g c =
     let p = c.args.address in
     c.arrives.ensures ∙ value_arrives L T root p c.in_ok-walk.walk c.in_ok-walk.ensures ∙ ap (λ asked. is_there c.args.options.controls asked L T root p) (sym c.in-None.is)
 
-pub returns-in-Some-clause-text : goal.returns-in-Some-clause-text
-returns-in-Some-clause-text g c =
+pub returns-clause-text : goal.returns-clause-text
+returns-clause-text g c =
     let L = g.L.LevelCount.LEVELS in
     let T = words_loaded c.args.loaded.now in
     let root = c.args.loaded.now.root in
@@ -46,11 +46,3 @@ returns-in-Some-clause-text g c =
     (ap (λ asked. told ++ asked_text controls asked L T root p) (sym c.in-Some.is))
     (puts_both contents c.args.output.now c.write_explanation.new.output c.write_access.new.output _ _ put access))
     c.write_access.ensures.text
-
-pub returns-in-Some-clause-arrives : goal.returns-in-Some-clause-arrives
-returns-in-Some-clause-arrives g c =
-    let L = g.L.LevelCount.LEVELS in
-    let T = words_loaded c.args.loaded.now in
-    let root = c.args.loaded.now.root in
-    let p = c.args.address in
-    subst (λ b. IfOk c.write_access.result (λ arrives. arrives ≡ b)) (ap (λ asked. is_there c.args.options.controls asked L T root p) (sym c.in-Some.is)) c.write_access.ensures.arrives
