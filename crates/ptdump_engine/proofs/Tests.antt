@@ -8,7 +8,7 @@ use Rattle.x86_64_dump.specs.Dump.{Contents, words_of_dump}
 use Rattle.x86_64_dump.specs.Notes.{processors_of}
 use Rattle.x86_64_model.specs.Memory.{Words}
 use Rattle.ptdump_engine.specs.Processors.{firsts_of, modes_failure, processors_from}
-use Rattle.ptdump_engine.specs.Program.{address_failure, argument_failure, first_failure, is_canonical, is_walk, level_count, order_failure, processors_for, root_failure, tables_failure}
+use Rattle.ptdump_engine.specs.Program.{address_failure, argument_failure, first_failure, is_canonical, is_walk, level_count, order_failure, processors_for, root_failure, selection_failure, tables_failure}
 use Rattle.ptdump_engine.specs.Steps.{FailsBy, and_then, unless}
 use Rattle.ptdump_engine.specs.declared.failure.Failure.{Failure}
 use Rattle.ptdump_engine.specs.declared.failure.Failure.TheVariants as failures
@@ -16,6 +16,7 @@ use Rattle.ptdump_engine.specs.declared.processors.Processor.{Processor}
 use Rattle.ptdump_engine.specs.declared.request.Command.{Command}
 use Rattle.ptdump_engine.specs.declared.request.Command.TheVariants as commands
 use Rattle.ptdump_engine.specs.declared.request.Request.{Request}
+use Rattle.ptdump_engine.specs.declared.request.Selection.{Selection}
 
 -- it isn't that of a write
 abbrev IsNoWrite : Failure → Type 0
@@ -62,12 +63,15 @@ order_so (Some from) (Some to) = by (nat_lt to from)
     by true = tt
     by false = tt
 
+selection_so : (levels : Levels) (s : Selection) → IfSome (selection_failure levels s) IsNoWrite
+selection_so levels s = either (address_failure levels s.from) _ (address_so levels s.from) (either (address_failure levels s.to) _ (address_so levels s.to) (order_so s.from s.to))
+
 argument_so : (levels : Levels) (command : Command) → IfSome (argument_failure levels command) IsNoWrite
 argument_so levels (commands.Walk addresses asked) = found_so (λ a. failures.NotCanonical a levels) (λ a. tt) (find (λ a. not (is_canonical (level_count levels) a)) addresses.items)
 argument_so levels (commands.Find addresses) = found_so (λ a. failures.NotPhysical a) (λ a. tt) (find (λ a. nat_le (2 ^ 52) a) addresses.items)
-argument_so levels (commands.Regions s) = either (address_failure levels s.from) _ (address_so levels s.from) (either (address_failure levels s.to) _ (address_so levels s.to) (order_so s.from s.to))
-argument_so levels (commands.Pages s has_names) = either (address_failure levels s.from) _ (address_so levels s.from) (either (address_failure levels s.to) _ (address_so levels s.to) (order_so s.from s.to))
-argument_so levels (commands.Check checking) = tt
+argument_so levels (commands.Regions selection) = selection_so levels selection
+argument_so levels (commands.Pages selection has_names) = selection_so levels selection
+argument_so levels (commands.Check checking) = selection_so levels checking.selection
 argument_so levels commands.Image = tt
 argument_so levels commands.Picture = tt
 argument_so levels commands.Info = tt
