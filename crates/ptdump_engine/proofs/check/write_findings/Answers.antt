@@ -1,4 +1,4 @@
-use Rattle.std.proofs.Common.{rules, ◌≡◌, ◌∙◌, ◌==◌, ◌++◌, ℕ, List, filter, length, map, refl, sym, ap, subst}
+use Rattle.std.proofs.Common.{◌≡◌, ◌∙◌, ◌==◌, ◌++◌, ℕ, List, filter, length, map, refl, sym, ap, subst}
 use Rattle.std.specs.List.{flat_map}
 use Rattle.x86_64_dump.specs.Loaded.{frames_of}
 use Rattle.x86_64_model.specs.Memory.{Words, identity_places, words_of}

@@ -1,4 +1,4 @@
-use Rattle.std.proofs.Common.{◌≡◌, ◌∙◌, ◌++◌, [], if◌then◌else◌, sym, ap, subst, append-nil}
+use Rattle.std.proofs.Common.{◌∙◌, ◌++◌, [], if◌then◌else◌, sym, ap, subst, append-nil}
 use Rattle.ptdump_engine.specs.Accesses.{asked_text, is_there}
 use Rattle.ptdump_engine.specs.Explanations.{explanation_text}
 use Rattle.ptdump_engine.specs.Loaded.{words_loaded}

@@ -1,4 +1,4 @@
-use Rattle.std.proofs.Common.{◌≡◌, ◌∙◌, ◌+◌, ◌++◌, [], ◌∷◌, take, sym, ap}
+use Rattle.std.proofs.Common.{◌∙◌, ◌+◌, ◌++◌, [], ◌∷◌, take, sym, ap}
 use Rattle.std.proofs.lemmas.List.{take_more}
 use Rattle.ptdump_engine.specs.Findings.{said_of}
 use Rattle.ptdump_engine.proofs.Found.{both_lines}

@@ -1,4 +1,4 @@
-use Rattle.std.proofs.Common.{◌≡◌, ◌<◌, ◌≤◌, ◌+◌, ◌-◌, ◌*◌, ◌%◌, ◌^◌, true, [], ◌∷◌, length, get_or, map, take, List, Some, None, sym, ap, ◌∙◌, subst, arith, rules}
+use Rattle.std.proofs.Common.{◌≡◌, ◌<◌, ◌≤◌, ◌+◌, ◌-◌, ◌*◌, ◌%◌, ◌^◌, [], ◌∷◌, length, get_or, map, take, List, Some, None, sym, ap, ◌∙◌, subst, arith, rules}
 use Rattle.std.proofs.Math.Pow.{pow_mono}
 use Rattle.std.proofs.lemmas.List.{get_or_read, take_all}
 use Rattle.std.specs.Option.{option_copied}
@@ -8,7 +8,7 @@ use Rattle.x86_64_mappings.specs.Wanted.{asked_mappings}
 use Rattle.x86_64_mappings.specs.private.Placed.{placed}
 use Rattle.x86_64_mappings.specs.private.Targets.{asked_by, asked_on}
 use Rattle.x86_64_mappings.proofs.Tables.{asked_none, asked_table, by_nothing, by_page, by_table}
-use Rattle.x86_64_mappings.proofs.Visited.{next_start, start_inside, start_aligned, span_below, aligned_below, visited_more, visited_same}
+use Rattle.x86_64_mappings.proofs.Visited.{next_start, start_inside, start_aligned, span_below, aligned_below, visited_more}
 use Rattle.ptdump_engine.specs.declared.reached.search.Found.{Found}
 use Rattle.ptdump_engine.specs.private.Reaching.{kept, kept_in, searched, Takes}
 use Rattle.ptdump_engine.proofs.Reaches.{takes_more, takes_nothing}
