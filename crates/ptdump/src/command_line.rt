@@ -33,7 +33,10 @@ fn subcommand<'a>(alloc: Global, help: &CommandHelp) -> Result<Command<'a>, Erro
         Operands::Selection => with_all_cpus(alloc, with_selection(alloc, command)?)?,
         Operands::Names => with_names(alloc, with_selection(alloc, command)?)?,
         Operands::Checks => {
-            with_all_cpus(alloc, with_addresses(alloc, command)?.arg(maxphyaddr(alloc))?)?
+            with_all_cpus(
+                alloc,
+                with_addresses(alloc, command)?.arg(maxphyaddr(alloc))?,
+            )?
         }
         Operands::Addresses(text) => command.arg(addresses(alloc, text))?,
         Operands::Accesses(text) => with_access(alloc, command.arg(addresses(alloc, text))?)?,

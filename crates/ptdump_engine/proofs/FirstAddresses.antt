@@ -1,9 +1,8 @@
 -- What a search finds: nothing at first, and after all mappings the first address that leads to each frame.
-use Rattle.std.proofs.Common.{◌≡◌, ◌∙◌, ◌+◌, ◌-◌, ◌≤◌, ◌++◌, suc, ℕ, Bool, true, false, cond, List, [], ◌∷◌, find, length, map, replicate, None, Option, Some, option_map, refl, sym, ap, ap₂}
+use Rattle.std.proofs.Common.{◌≡◌, ◌∙◌, ◌+◌, ◌-◌, ◌≤◌, ◌++◌, ℕ, Bool, true, false, cond, List, [], ◌∷◌, find, length, map, replicate, None, Option, Some, option_map, refl, ap, ap₂}
 use Rattle.std.proofs.Math.Nat.{mod-eq_of_lt}
 use Rattle.std.specs.List.{AllByRecursion}
-use Rattle.x86_64_mappings.specs.Wanted.{asked_mappings, leads_to}
-use Rattle.x86_64_mappings.specs.private.Placed.{placed}
+use Rattle.x86_64_mappings.specs.Wanted.{leads_to}
 use Rattle.x86_64_mappings.proofs.Tables.{asked_here}
 use Rattle.x86_64_model.specs.Mappings.{Mapping, Rights, every_right, mappings_of}
 use Rattle.x86_64_model.specs.Memory.{Words, identity_places, words_of}

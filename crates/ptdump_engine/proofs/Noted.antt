@@ -1,5 +1,5 @@
 -- Notes: the first addresses that lead to frames, after one more mapping.
-use Rattle.std.proofs.Common.{◌≡◌, ◌∙◌, ◌+◌, ◌≤◌, ◌<◌, ◌&&◌, ◌++◌, ℕ, Bool, true, false, cond, nat_le, nat_lt, ◌-◌, min, List, [], ◌∷◌, find, get_or, length, map, set, Option, None, Some, option_map, refl, sym, ap, subst, ◌⊎◌, ◌≢◌, inl, inr, arith}
+use Rattle.std.proofs.Common.{◌≡◌, ◌∙◌, ◌+◌, ◌≤◌, ◌<◌, ◌&&◌, ◌++◌, ℕ, Bool, true, false, cond, nat_le, nat_lt, min, List, [], ◌∷◌, find, get_or, length, set, Option, None, Some, option_map, refl, sym, ap, subst, ◌⊎◌, ◌≢◌, inl, inr, arith}
 use Rattle.std.proofs.Math.Nat.{sub-add-min_cancel}
 use Rattle.std.proofs.lemmas.Bool.{cases_lt, leb-false, le-ltb, lt-leb, ltb-false}
 use Rattle.std.proofs.lemmas.List.{ext_get_or, get_or-map, get_or-set_other, get_or-set_same, length-map, length-set}

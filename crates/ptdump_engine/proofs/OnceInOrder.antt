@@ -1,5 +1,5 @@
 -- Ascending numbers, each once.
-use Rattle.std.proofs.Common.{◌≡◌, ◌≤◌, ◌<◌, ◌==◌, ℕ, zero, suc, Bool, true, false, cond, List, [], ◌∷◌, get_or, length, map, arith}
+use Rattle.std.proofs.Common.{◌≤◌, ◌<◌, ◌==◌, ℕ, zero, suc, Bool, true, false, cond, List, [], ◌∷◌, get_or, length, map, arith}
 use Rattle.std.specs.List.{AllByRecursion, dedup, dedup_from}
 use Rattle.std.specs.List.Sorted.{IsNonDecreasingBy}
 use Rattle.ptdump_engine.specs.private.Ascending.{Ascend}

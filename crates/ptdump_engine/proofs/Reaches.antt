@@ -1,5 +1,5 @@
 -- Searches: what the first mapping that leads to an address is after more mappings, and which of them change nothing.
-use Rattle.std.proofs.Common.{◌≡◌, ◌∙◌, ◌+◌, ◌<◌, ◌≤◌, ◌%◌, ◌&&◌, ◌||◌, ◌++◌, ℕ, Bool, true, false, not, cond, nat_eq, nat_le, nat_lt, List, [], ◌∷◌, filter, find, length, map, Option, None, Some, IfSome, option_map, refl, sym, ap, ap₂, subst, append-nil, append_assoc, arith}
+use Rattle.std.proofs.Common.{◌≡◌, ◌∙◌, ◌+◌, ◌<◌, ◌≤◌, ◌%◌, ◌&&◌, ◌||◌, ◌++◌, ℕ, Bool, true, false, not, cond, nat_eq, nat_le, nat_lt, List, [], ◌∷◌, find, length, map, Option, None, Some, IfSome, option_map, refl, sym, ap, ap₂, subst, append-nil, append_assoc, arith}
 use Rattle.std.proofs.lemmas.Bool.{and_parts, eqb-true, lt-ltb, ltb-true}
 use Rattle.std.proofs.lemmas.List.{with_items_is}
 use Rattle.std.proofs.lemmas.List.Elements.{filter-append}

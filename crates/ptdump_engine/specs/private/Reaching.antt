@@ -6,7 +6,7 @@ use Rattle.std.specs.List.Sorted.{IsNonDecreasingBy}
 use Rattle.x86_64_mappings.specs.Wanted.{Asked, asked_mappings, leads_to}
 use Rattle.x86_64_mappings.specs.private.Placed.{placed}
 use Rattle.x86_64_model.specs.Mappings.{Mapping, Rights}
-use Rattle.x86_64_model.specs.Memory.{Words, identity_places, words_of}
+use Rattle.x86_64_model.specs.Memory.{identity_places, words_of}
 use Rattle.x86_64_model.specs.Position.{position_count, raw}
 use Rattle.ptdump_engine.specs.Selections.{includes}
 use Rattle.ptdump_engine.specs.declared.reached.search.Found.{Found}
