@@ -105,7 +105,8 @@ fn with_all_cpus<'a>(alloc: Global, command: Command<'a>) -> Result<Command<'a>,
         "all-cpus",
         "Report on the tables of all processors, on each root once",
     )
-    .conflicts_with_all(&["cr3", "cpu"])?;
+    .conflicts_with("cr3")?
+    .conflicts_with("cpu")?;
     Ok(command.arg(all)?)
 }
 
