@@ -1,6 +1,6 @@
 //! Physical memory that consists of page tables, and mappings of frames to places in it.
 ghost use Rattle.std.specs.Prelude.{◌≡◌, ◌==◌, ◌/◌, ◌↔◌, ℕ, true, length, Some, IsSome, IfOk, OnOk, OnErr, Err, ◌<◌, nat_lt, if◌then◌else◌};
-ghost use Rattle.std.specs.Option.{option_copied, option_copied_mut};
+ghost use Rattle.std.specs.Option.{option_copied, option_copied_mut, SomeIff};
 ghost use Rattle.std.specs.Borrow.{sem};
 ghost use Rattle.std.specs.FinMap as map;
 ghost use Rattle.std.specs.List.{list_any, position, slice_get};
@@ -8,7 +8,7 @@ ghost use Rattle.std.specs.List.Sorted.{IsStrictlyIncreasing};
 ghost use Rattle.std.specs.Ordering.{nat_cmp, eq_by_cmp};
 ghost use Rattle.x86_64_model.specs.Memory.{Places, IsMapping, identity_places};
 ghost use Rattle.x86_64_tables.specs.PageTable.{zero_words};
-ghost use Rattle.x86_64_tables.specs.PhysMemory.{zero_tables_at};
+ghost use Rattle.x86_64_tables.specs.PhysMemory.{tables_at, zero_tables_at};
 ghost use Rattle.x86_64_tables.specs.Lending.{LendsTable, LendsTableAt};
 ghost use Rattle.x86_64_tables.specs.private.SortedPlaces.{IsDense};
 
@@ -164,6 +164,19 @@ impl PhysMemory {
         let mut numbers = Vec::new(alloc);
         numbers.extend_from_slice(places)?;
         Ok(zero_memory(alloc, numbers)?)
+    }
+
+    /// Creates a memory with the places of the given numbers and a table at each, in their order. Returns `None` if a number
+    /// isn't below the next, or if there aren't as many tables as numbers.
+    pub fn with_tables(places: Vec<u64>, tables: Vec<PageTable>) -> Option<PhysMemory>
+        ensures { SomeIff result (IsStrictlyIncreasing places.items × (length tables.items ≡ length places.items))
+            (tables_at places.items tables.items) }
+    {
+        if !is_increasing(&places) || tables.len() != places.len() {
+            return None;
+        }
+        let places = SortedPlaces::new(places);
+        Some(PhysMemory { places, tables })
     }
 
     /// Returns the number of places.
