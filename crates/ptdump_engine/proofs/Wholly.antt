@@ -6,7 +6,7 @@ use Rattle.std.specs.List.{flat_map, list_all, list_any}
 use Rattle.std.specs.String.{string_bytes}
 use Rattle.std.specs.declared.alloc.Global.{Global}
 use Rattle.x86_64_dump.specs.Dump.{Contents, words_of_dump}
-use Rattle.x86_64_dump.specs.Opening.{Fails, contents_as}
+use Rattle.x86_64_dump.specs.Opening.{Fails}
 use Rattle.x86_64_dump.specs.declared.error.DumpError.{DumpError}
 use Rattle.x86_64_dump.specs.Reached.{SameBelow}
 use Rattle.x86_64_model.specs.Mappings.{mappings_of}
@@ -21,7 +21,7 @@ use Rattle.ptdump_engine.specs.Failure.{failure_of}
 use Rattle.ptdump_engine.specs.Findings.{check_text, line_count, said_of_count}
 use Rattle.ptdump_engine.specs.Json.{json_line, json_of_access, json_of_asked, json_of_walk}
 use Rattle.ptdump_engine.specs.Lines.{mapping_line, region_line, walk_lines}
-use Rattle.ptdump_engine.specs.Program.{Machine, Opened, ReportsAll, ReportsOf, RunsAs, RunsOnDump, RunsOnProcessors, RunsOnTables, completeness_of, dump_for, format_for, info_of, machine_for, opened_for, processors_for, report_in, report_of, start_for}
+use Rattle.ptdump_engine.specs.Program.{Machine, Opened, ReportsAll, ReportsOf, RunsAs, RunsOnDump, RunsOnProcessors, RunsOnTables, completeness_of, contents_for, dump_for, info_of, machine_for, opened_for, processors_for, report_in, report_of, start_for}
 use Rattle.ptdump_engine.specs.Reports.{address_line, addresses_text, find_text, pages_text, regions_text, walks_text}
 use Rattle.ptdump_engine.specs.Said.{line_of}
 use Rattle.ptdump_engine.specs.Selections.{is_mapping_selected, is_selected}
@@ -143,7 +143,7 @@ same_completeness commands.Info L T W root same below walks = refl
 -- ---- the run
 
 -- what is opened if the file is a dump and the start of page walks is found
-pub opens : (request : Request) (file : List ℕ) (dump : Contents) (start : Start) → contents_as (format_for request file) file request.placement ≡ Ok dump → start_for request dump ≡ Ok start
+pub opens : (request : Request) (file : List ℕ) (dump : Contents) (start : Start) → contents_for request file ≡ Ok dump → start_for request dump ≡ Ok start
     → opened_for request file ≡ Ok (record { dump = dump; start = start })
 unfolding opened_for
 opens request file dump start contents starts =
@@ -151,11 +151,11 @@ opens request file dump start contents starts =
     ∙ ap (λ found. and_then found (λ start. Ok (record { dump = dump; start = start }))) starts
 
 -- why nothing is opened
-pub no_dump : (may : Bool) (request : Request) (file : List ℕ) (error : DumpError) → Fails error (contents_as (format_for request file) file request.placement) → FailsBy may (failure_of error) (opened_for request file)
+pub no_dump : (may : Bool) (request : Request) (file : List ℕ) (error : DumpError) → Fails error (contents_for request file) → FailsBy may (failure_of error) (opened_for request file)
 unfolding opened_for
-no_dump may request file error fails = dump_fails may error (contents_as (format_for request file) file request.placement) _ fails
+no_dump may request file error fails = dump_fails may error (contents_for request file) _ fails
 
-pub no_start : (may : Bool) (request : Request) (file : List ℕ) (dump : Contents) (failure : Failure) → contents_as (format_for request file) file request.placement ≡ Ok dump → FailsBy false failure (start_for request dump)
+pub no_start : (may : Bool) (request : Request) (file : List ℕ) (dump : Contents) (failure : Failure) → contents_for request file ≡ Ok dump → FailsBy false failure (start_for request dump)
     → FailsBy may failure (opened_for request file)
 unfolding opened_for
 no_start may request file dump failure contents fails =
@@ -163,18 +163,18 @@ no_start may request file dump failure contents fails =
     (fails_then may failure (start_for request dump) (λ start. Ok (record { dump = dump; start = start })) fails)
 
 -- likewise for the processors of a dump
-pub shows : (request : Request) (file : List ℕ) (dump : Contents) (ps : List Processor) → contents_as (format_for request file) file request.placement ≡ Ok dump → processors_for request dump ≡ Ok ps
+pub shows : (request : Request) (file : List ℕ) (dump : Contents) (ps : List Processor) → contents_for request file ≡ Ok dump → processors_for request dump ≡ Ok ps
     → machine_for request file ≡ Ok (record { dump = dump; processors = ps })
 unfolding machine_for
 shows request file dump ps contents are =
     ap (λ found. and_then (of_dump found) (λ dump. and_then (processors_for request dump) (λ ps. Ok (record { dump = dump; processors = ps })))) contents
     ∙ ap (λ found. and_then found (λ ps. Ok (record { dump = dump; processors = ps }))) are
 
-shows_none : (may : Bool) (request : Request) (file : List ℕ) (error : DumpError) → Fails error (contents_as (format_for request file) file request.placement) → FailsBy may (failure_of error) (machine_for request file)
+shows_none : (may : Bool) (request : Request) (file : List ℕ) (error : DumpError) → Fails error (contents_for request file) → FailsBy may (failure_of error) (machine_for request file)
 unfolding machine_for
-shows_none may request file error fails = dump_fails may error (contents_as (format_for request file) file request.placement) _ fails
+shows_none may request file error fails = dump_fails may error (contents_for request file) _ fails
 
-pub no_processors : (may : Bool) (request : Request) (file : List ℕ) (dump : Contents) (failure : Failure) → contents_as (format_for request file) file request.placement ≡ Ok dump
+pub no_processors : (may : Bool) (request : Request) (file : List ℕ) (dump : Contents) (failure : Failure) → contents_for request file ≡ Ok dump
     → FailsBy false failure (processors_for request dump) → FailsBy may failure (machine_for request file)
 unfolding machine_for
 no_processors may request file dump failure contents fails =
@@ -209,8 +209,8 @@ forced_run false true may request file before after failure forced = (forced_fai
 forced_run false false may request file before after failure forced = (forced_fails may failure (opened_for request file) forced, inl forced)
 
 -- or because the file is no dump
-pub unopened : (info all may : Bool) (request : Request) (file : List ℕ) (contents : Option (List ℕ)) (error : DumpError) → Fails error (contents_as (format_for request file) file request.placement)
+pub unopened : (info all may : Bool) (request : Request) (file : List ℕ) (contents : Option (List ℕ)) (error : DumpError) → Fails error (contents_for request file)
     → RunsAs info all may request file contents contents (Err (failure_of error))
-unopened true all may request file contents error fails = (dump_unread may error (contents_as (format_for request file) file request.placement) fails, inr refl)
+unopened true all may request file contents error fails = (dump_unread may error (contents_for request file) fails, inr refl)
 unopened false true may request file contents error fails = (shows_none may request file error fails, inr refl)
 unopened false false may request file contents error fails = (no_dump may request file error fails, inr refl)

@@ -59,8 +59,9 @@ json_of_processor cpu None = told (codes "processor") (object (
 
 abbrev pub json_of_kernel : Kernel → Data
 json_of_kernel kernel = told (codes "kernel") (object (
-    member (codes "levels") (count (level_count kernel.levels))
-    (member (codes "root") (hexadecimal_string kernel.root) no_members)))
+    member (codes "encryption_mask") (hexadecimal_string kernel.encryption_mask)
+    (member (codes "levels") (count (level_count kernel.levels))
+    (member (codes "root") (hexadecimal_string kernel.root) no_members))))
 
 abbrev pub json_of_no_kernel : (error : List ℕ) → Data
 json_of_no_kernel error = told (codes "kernel") (json_of_error error)

@@ -1,5 +1,5 @@
 -- InfoTexts: what `ptdump info` tells of a dump, as text.
-use Rattle.std.specs.Prelude.{ℕ, ◌++◌, List, Option, None, Some, codes, decimal}
+use Rattle.std.specs.Prelude.{ℕ, ◌++◌, ◌==◌, if◌then◌else◌, List, [], Option, None, Some, codes, decimal}
 use Rattle.x86_64_addr.specs.declared.level_count.Levels.{Levels}
 use Rattle.x86_64_addr.specs.declared.level_count.Levels.TheVariants.{Four, Five}
 use Rattle.x86_64_dump.specs.declared.formats.Format.{Format}
@@ -69,8 +69,12 @@ processor_text cpu None = codes "processor " ++ decimal cpu ++ codes ": " ++ cut
 unfoldable pub place_text : (root : ℕ) → Levels → List ℕ
 place_text root levels = hexadecimal root ++ codes ", " ++ levels_text levels
 
+-- the bits by which the kernel marks encrypted memory, if there are such bits
+abbrev pub mask_text : (mask : ℕ) → List ℕ
+mask_text mask = if mask == 0 then [] else codes ", encryption mask " ++ hexadecimal mask
+
 abbrev pub kernel_text : Kernel → List ℕ
-kernel_text kernel = codes "kernel (VMCOREINFO): root " ++ place_text kernel.root kernel.levels
+kernel_text kernel = codes "kernel (VMCOREINFO): root " ++ place_text kernel.root kernel.levels ++ mask_text kernel.encryption_mask
 
 abbrev pub no_kernel_text : (error : List ℕ) → List ℕ
 no_kernel_text error = codes "kernel (VMCOREINFO): " ++ error

@@ -4,10 +4,13 @@ use Rattle.std.specs.List.{find, flat_map, list_all}
 use Rattle.std.specs.Option.{option_or}
 use Rattle.std.specs.Io.KnownBytes.{Appends}
 use Rattle.x86_64_dump.specs.Dump.{Contents, is_short, words_of_dump}
+use Rattle.x86_64_dump.specs.Lime.{after}
 use Rattle.x86_64_dump.specs.Loaded.{IsTableCount, up_to}
 use Rattle.x86_64_dump.specs.Formats.{format_of, is_raw}
 use Rattle.x86_64_dump.specs.Notes.{processors_of}
 use Rattle.x86_64_dump.specs.Opening.{contents_as}
+use Rattle.x86_64_dump.specs.VmCoreInfo.{decrypted}
+use Rattle.x86_64_dump.specs.declared.error.Fault.{Fault}
 use Rattle.x86_64_dump.specs.declared.formats.Format.{Format}
 use Rattle.x86_64_dump.specs.declared.formats.Format.TheVariants.{Raw}
 use Rattle.x86_64_dump.specs.declared.segment.Segment.{Segment}
@@ -98,9 +101,13 @@ abbrev pub is_info : Command → Bool
 is_info commands.Info = true
 is_info command = false
 
+-- the contents of a file as a dump, in whose words the bits are cleared by which the kernel marks encrypted memory
+abbrev pub contents_for : Request → (file : List ℕ) → Result Contents Fault
+contents_for request file = after (contents_as (format_for request file) file request.placement) (λ dump. Ok (decrypted dump))
+
 -- the dump that a file is, or why it is none
 abbrev pub dump_for : Request → (file : List ℕ) → Result Contents Failure
-dump_for request file = of_dump (contents_as (format_for request file) file request.placement)
+dump_for request file = of_dump (contents_for request file)
 
 -- the contents of a dump, and the start of page walks in it
 pub record Opened : Type 0 where

@@ -2,7 +2,7 @@
 ghost use Rattle.std.specs.Prelude.{◌≡◌, [], OnOk, Some, string_bytes};
 ghost use Rattle.std.specs.List.{flat_map};
 ghost use Rattle.x86_64_dump.specs.Opened.{opened};
-ghost use Rattle.x86_64_dump.specs.Opening.{Gives, contents_as};
+ghost use Rattle.x86_64_dump.specs.Opening.{Gives};
 ghost use Rattle.ptdump_engine.specs.Output.{Puts};
 ghost use Rattle.ptdump_engine.specs.Program as program;
 ghost use Rattle.ptdump_engine.specs.Walks.{line};
@@ -33,7 +33,8 @@ impl Display for AddressRange {
     }
 }
 
-/// Opens a dump as the request says.
+/// Opens a dump as the request says. The bits by which the kernel marks encrypted memory, if it says them, are cleared in each word
+/// that is read.
 ///
 /// # Errors
 ///
@@ -43,15 +44,14 @@ pub fn open<S: ByteSource>(
     source: S,
     request: &Request,
 ) -> Result<Dump<S>, DumpError>
-    ensures { S.IsKnown → Gives (opened S.bytes) result
-        (contents_as (program.format_for request.now (S.bytes source)) (S.bytes source) request.now.placement) }
+    ensures { S.IsKnown → Gives (opened S.bytes) result (program.contents_for request.now (S.bytes source)) }
 {
     let format = if request.is_raw {
         Format::Raw
     } else {
         read_format(&source)?
     };
-    Dump::open_as(alloc, source, format, &request.placement)
+    Dump::open_as(alloc, source, format, &request.placement)?.decrypted(alloc)
 }
 
 /// Writes immediately if the file is raw, or shorter than its headers say.

@@ -1,5 +1,6 @@
 //! What a dump says of its machine, as values: each has a text.
 ghost use Rattle.std.specs.Prelude.{◌≡◌, Some, string_bytes};
+ghost use Rattle.std.specs.Fmt.{WritesOnOk};
 ghost use Rattle.ptdump_engine.specs.InfoTexts as texts;
 
 use crate::registers::{Registers, levels_name};
@@ -120,8 +121,19 @@ impl Display for KernelRoot {
             root: self.0.root,
             levels: self.0.levels,
         };
-        write!(f, "kernel (VMCOREINFO): root {place}")
+        write!(f, "kernel (VMCOREINFO): root {place}")?;
+        write_mask(f, self.0.encryption_mask)
     }
+}
+
+/// Writes the bits by which the kernel marks encrypted memory, if there are such bits.
+fn write_mask<W: Write>(f: &mut Formatter<W>, mask: u64) -> FmtResult
+    ensures { WritesOnOk W.write_str_gives f.old result (texts.mask_text mask) f.new }
+{
+    if mask == 0 {
+        return Ok(());
+    }
+    write!(f, ", encryption mask 0x{mask:x}")
 }
 
 /// Why the note VMCOREINFO doesn't say where the kernel's root is.

@@ -98,6 +98,7 @@ impl ToJson for KernelRoot {
             "kernel": {
                 "root": hexadecimal(alloc, self.0.root.start_address().as_u64())?,
                 "levels": level_count(self.0.levels),
+                "encryption_mask": hexadecimal(alloc, self.0.encryption_mask)?,
             },
         })
     }
