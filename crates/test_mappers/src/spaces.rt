@@ -22,7 +22,8 @@ fn space(root: Frame) -> Space
 /// Aborts unless a hierarchy is an address space that the pool fits, together with the other one, if that differs.
 fn assert_fit<L: LevelCount>(rt: impl Test, world: &World, root: Frame, other: Frame)
     ensures { let layout = direct_at L.LEVELS identity_places root in
-        let pool = world.now.pool in PoolFits (layout laid_in world.now.memory) (serves_below pool.limit) pool.frames }
+        let pool = world.now.pool in
+        PoolFits (layout laid_in world.now.memory) (serves_below pool.limit) pool.frames }
 {
     let (both, half) = ([space(root), space(other)], SharedIndices::UPPER_HALF);
     let spaces = if root == other { &both[..1] } else { &both[..] };
