@@ -27,8 +27,6 @@ pub mod FindingObjects
 pub mod FindingTexts
 pub mod Findings
 pub mod InOrder
-pub mod Colours
-pub mod Links
 pub mod private
 pub use Rattle.x86_64_dump.specs.Formats
 pub use Rattle.x86_64_dump.specs.Opening

@@ -6,7 +6,6 @@ mod arguments;
 mod check;
 mod counted_lines;
 mod destination;
-mod drawing;
 mod engine;
 mod explanation;
 mod failure;

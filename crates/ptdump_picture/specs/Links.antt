@@ -4,7 +4,7 @@ use Rattle.std.specs.Option.{option_map}
 use Rattle.x86_64_model.specs.Memory.{Words}
 use Rattle.x86_64_model.specs.PageWalk.{read}
 use Rattle.x86_64_tables.specs.PageTableEntry.{frame_of}
-use Rattle.ptdump_engine.specs.declared.drawing.links.TableLink.{TableLink}
+use Rattle.ptdump_picture.specs.declared.links.TableLink.{TableLink}
 
 -- the entry at the link's index exists and names the link's child
 abbrev pub IsLink : Words → TableLink → Type 0

@@ -1,5 +1,6 @@
 //! A picture of what page tables map: an SVG image, 1,000 pixels wide, with a bar for each half of the address space, and with
 //! the tables as a tree by level.
+#![tactic(auto)]
 
 mod area;
 mod bar;

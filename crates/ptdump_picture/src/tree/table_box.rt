@@ -1,7 +1,7 @@
 //! The box of a table.
 use super::Tables;
-use crate::drawing::area::{Area, Point};
-use crate::drawing::links::TableLink;
+use crate::area::{Area, Point};
+use crate::links::TableLink;
 use std::fmt::{Formatter, Result as FmtResult, Write};
 use x86_64_page::frame::PhysFrame;
 use x86_64_page::page::Size4KiB;

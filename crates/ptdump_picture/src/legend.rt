@@ -1,7 +1,7 @@
 //! The legend of the colours.
-use crate::drawing::area::{Area, MARGIN, Point};
-use crate::drawing::bar::{BAR_WIDTH, write_break};
-use crate::drawing::rights::{KIND_COUNT, Kind};
+use crate::area::{Area, MARGIN, Point};
+use crate::bar::{BAR_WIDTH, write_break};
+use crate::rights::{KIND_COUNT, Kind};
 use std::fmt::{Formatter, Result as FmtResult, Write};
 
 /// The height of the legend.

@@ -1,9 +1,9 @@
 //! The links between the tables of a memory.
 ghost use Rattle.std.specs.Prelude.{◌<◌, All, IfOk, IfSome, OnOk};
 ghost use Rattle.x86_64_model.specs.Memory.{words_of};
-ghost use Rattle.ptdump_engine.specs.Links.{IsLink};
+ghost use Rattle.ptdump_picture.specs.Links.{IsLink};
 
-use crate::drawing::links::TableLink;
+use crate::links::TableLink;
 use std::alloc::{AllocError, Global};
 use x86_64_dump::TablesByLevel;
 use x86_64_page::frame::PhysFrame;

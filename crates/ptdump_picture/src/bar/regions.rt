@@ -2,10 +2,10 @@
 ghost use Rattle.std.specs.Prelude.{◌≤◌, ◌<◌};
 
 use super::{BAR_WIDTH, beside};
-use crate::drawing::area::{Area, LINE_HEIGHT};
-use crate::drawing::piece::{Piece, Shares};
-use crate::drawing::rights::{KIND_COUNT, Kind};
-use crate::drawing::size::{Count, ExactSize, ShortSize};
+use crate::area::{Area, LINE_HEIGHT};
+use crate::piece::{Piece, Shares};
+use crate::rights::{KIND_COUNT, Kind};
+use crate::size::{Count, ExactSize, ShortSize};
 use std::fmt::{Formatter, Result as FmtResult, Write};
 
 /// The height that each doubling of the size adds to a box.

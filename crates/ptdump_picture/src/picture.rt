@@ -1,10 +1,10 @@
 //! The picture.
-use crate::drawing::area::{MARGIN, PICTURE_WIDTH, Point};
-use crate::drawing::bar::{Bar, Half};
-use crate::drawing::legend::{LEGEND_HEIGHT, write_legend};
-use crate::drawing::links::TableLink;
-use crate::drawing::size::{Count, ShortSize};
-use crate::drawing::tree::{Tables, Tree};
+use crate::area::{MARGIN, PICTURE_WIDTH, Point};
+use crate::bar::{Bar, Half};
+use crate::legend::{LEGEND_HEIGHT, write_legend};
+use crate::links::TableLink;
+use crate::size::{Count, ShortSize};
+use crate::tree::{Tables, Tree};
 use std::alloc::{AllocError, Global};
 use std::fmt::{Display, Formatter, Result as FmtResult, Write};
 use x86_64_addr::level_count::LevelCount;
@@ -64,7 +64,7 @@ pub struct Mapped<'a, L: LevelCount> {
     pub table_count: u64,
     /// The frames of the tables by level, level one first. A frame may be at several levels.
     pub tables: TablesByLevel<'a>,
-    /// The links between the tables. They are used only if there are at most [`MOST_DRAWN_TABLES`](crate::drawing::MOST_DRAWN_TABLES)
+    /// The links between the tables. They are used only if there are at most [`MOST_DRAWN_TABLES`](crate::MOST_DRAWN_TABLES)
     /// tables, and may be left out if there are more.
     pub links: &'a [TableLink],
 }

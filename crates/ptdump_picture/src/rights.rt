@@ -1,8 +1,8 @@
 //! The drawing of rights.
 ghost use Rattle.std.specs.Prelude.{◌≡◌, ◌<◌};
-ghost use Rattle.ptdump_engine.specs.Colours.{colour_of};
+ghost use Rattle.ptdump_picture.specs.Colours.{colour_of};
 
-use crate::drawing::area::Area;
+use crate::area::Area;
 use std::fmt::{Display, Formatter, Result as FmtResult, Write};
 use std::marker::Model;
 use x86_64_addr::level_count::LevelCount;

@@ -1,8 +1,8 @@
 //! The tables of a level.
 use super::Tables;
 use super::table_box::TableBox;
-use crate::drawing::area::{Area, LINE_HEIGHT, Point};
-use crate::drawing::size::{Count, ExactSize};
+use crate::area::{Area, LINE_HEIGHT, Point};
+use crate::size::{Count, ExactSize};
 use std::alloc::{AllocError, Global};
 use std::fmt::{Formatter, Result as FmtResult, Write};
 use x86_64_page::frame::PhysFrame;

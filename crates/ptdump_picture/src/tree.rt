@@ -3,8 +3,8 @@ mod columns;
 mod level;
 mod table_box;
 
-use crate::drawing::area::{LINE_HEIGHT, Line, Point};
-use crate::drawing::links::TableLink;
+use crate::area::{LINE_HEIGHT, Line, Point};
+use crate::links::TableLink;
 use columns::Columns;
 use level::Level;
 use std::alloc::{AllocError, Global};

@@ -1,7 +1,7 @@
 //! The columns of the levels.
 ghost use Rattle.std.specs.Prelude.{◌≡◌, ◌+◌, ◌≤◌, ◌<◌};
 
-use crate::drawing::area::{Area, MARGIN, PICTURE_WIDTH};
+use crate::area::{Area, MARGIN, PICTURE_WIDTH};
 use x86_64_dump::TablesByLevel;
 
 /// The height of the box of a table.

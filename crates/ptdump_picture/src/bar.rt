@@ -1,9 +1,9 @@
 //! A bar: a half of the address space, from its first address at the top to its last one at the bottom.
 mod regions;
 
-use crate::drawing::area::{Area, LINE_HEIGHT, Line, Point};
-use crate::drawing::piece::{Piece, pieces_between};
-use crate::drawing::size::{Count, ExactSize, ShortSize};
+use crate::area::{Area, LINE_HEIGHT, Line, Point};
+use crate::piece::{Piece, pieces_between};
+use crate::size::{Count, ExactSize, ShortSize};
 use regions::{region_height, write_regions};
 use std::alloc::{AllocError, Global};
 use std::fmt::{Formatter, Result as FmtResult, Write};

@@ -1,8 +1,8 @@
 //! Regions that are drawn as one box.
 ghost use Rattle.std.specs.Prelude.{◌≤◌, ◌<◌, vec_len, IfOk, IfSome};
 
-use crate::drawing::rights::{KIND_COUNT, Kind};
-use crate::drawing::size::ShortSize;
+use crate::rights::{KIND_COUNT, Kind};
+use crate::size::ShortSize;
 use std::alloc::{AllocError, Global};
 use std::fmt::{Display, Formatter, Result as FmtResult, Write};
 use x86_64_addr::level_count::LevelCount;
