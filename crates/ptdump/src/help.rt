@@ -93,7 +93,8 @@ and what may be done there: r read, w write, x execute, u by user code.
 
 --from and --to list only regions that reach into these addresses, the last one
 included, as they are; --rights only those with at least these of the letters
-r, w, x and u. The last line counts all that is mapped.
+r, w, x and u. The last line counts all that is mapped. Words with reserved bits
+are counted on standard error.
 
 --all-cpus lists the regions of each processor in QEMU's notes, and those of
 several with the same root once, below a line with their numbers and the root.
@@ -143,6 +144,7 @@ the page's own entry, bits 0 to 11 and 52 to 63.
 
 --from and --to list only pages that reach into these addresses, the last one
 included; --rights only those with at least these of the letters r, w, x and u.
+Words with reserved bits are counted on standard error.
 
 --names adds the names of the flags that are set: P (present), W (writable), U
 (user), A (accessed), D (dirty), G (global), PS (large page), NX (no execute),

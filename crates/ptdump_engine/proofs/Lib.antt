@@ -3,6 +3,7 @@ pub mod Alikes
 pub mod Asked
 pub mod Counting
 pub mod Failing
+pub mod Flawless
 pub mod Listed
 pub mod Results
 pub mod WalkLaws

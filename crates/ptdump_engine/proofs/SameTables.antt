@@ -1,5 +1,5 @@
--- Words that are equal wherever page walks from a root lead have the same tables and the same findings.
-use Rattle.std.proofs.Common.{◌≡◌, ◌∙◌, ◌<◌, ◌+◌, ◌-◌, ◌==◌, ◌&&◌, ◌++◌, ℕ, zero, suc, Bool, true, false, not, cond, nat_lt, nat_le, List, [], ◌∷◌, reverse, map, filter, length, get_or, Option, Some, None, is_some, option_map, option_and_then, refl, sym, ap, ap₂, subst, arith}
+-- Words that are equal wherever page walks from a root lead have the same tables, the same findings and the same reserved bits.
+use Rattle.std.proofs.Common.{◌≡◌, ◌∙◌, ◌<◌, ◌+◌, ◌-◌, ◌^◌, ◌==◌, ◌&&◌, ◌++◌, ℕ, zero, suc, Bool, true, false, not, cond, if◌then◌else◌, nat_lt, nat_le, List, [], ◌∷◌, reverse, map, filter, length, get_or, Option, Some, None, is_some, min, option_map, option_and_then, refl, sym, ap, ap₂, subst, arith}
 use Rattle.std.proofs.lemmas.Grind.{reverse_onto}
 use Rattle.std.proofs.lemmas.List.{length-reverse}
 use Rattle.std.specs.List.{AllByRecursion, cons_option, dedup, dedup_from, filter_map, flat_map, fold}
@@ -16,6 +16,7 @@ use Rattle.x86_64_model.specs.Regions.{regions_in}
 use Rattle.ptdump_engine.specs.Findings as findings
 use Rattle.ptdump_engine.specs.ReachedTables.{all_reached, first_to, for_user, frames_in_order, reached_at, writable_for_user}
 use Rattle.ptdump_engine.specs.Selections.{is_selected}
+use Rattle.ptdump_engine.specs.Reserved.{lists_mappings, processor, reserved_count, reserved_entries, reserved_line, reserved_note}
 use Rattle.ptdump_engine.specs.Findings.{all_named_often, check_text, entries_in, finding_lines, finds_nothing, flawed_lines, frames_above, flaw_in, flawed_entries, missing, name_by, names_in, names_in_order, processor_of, said_of, table_findings, tables_in_order}
 use Rattle.ptdump_engine.specs.InOrder.{placed, in_order}
 use Rattle.ptdump_engine.specs.declared.findings.entry.Table.{Table}
@@ -24,6 +25,7 @@ use Rattle.ptdump_engine.specs.declared.findings.finding.EntryFlaw.TheVariants a
 use Rattle.ptdump_engine.specs.declared.findings.finding.Finding.TheVariants.{NotInDump}
 use Rattle.ptdump_engine.specs.declared.findings.finding.Finding.{Finding}
 use Rattle.ptdump_engine.specs.declared.request.Checking.{Checking}
+use Rattle.ptdump_engine.specs.declared.request.Command.{Command}
 use Rattle.ptdump_engine.specs.declared.findings.flaw.Flaw.TheVariants.{WritableAndExecutable, UserInUpperHalf}
 use Rattle.ptdump_engine.specs.declared.findings.names.Name.{Name}
 
@@ -186,9 +188,13 @@ module _ (T W : Words) where
   of_levels level [] some h = tt
   of_levels level (frames ∷ above) some h = all_append TableSame _ _ (of_level level frames some h.0) (of_levels (level + 1) above (omega arith) h.1)
 
+  each_below : (L root : ℕ) → SameBelow L T W root → AllByRecursion TableSame (findings.tables_from 1 (tables_by_level L W root))
+  unfolding tables_by_level
+  each_below L root same = of_levels 1 _ (omega arith) (levels_from L (if_there W root) (root_below L root same))
+
   tables_below : (L root : ℕ) → SameBelow L T W root → AllByRecursion TableSame (tables_in_order (tables_by_level L W root))
-  unfolding tables_in_order tables_by_level
-  tables_below L root same = all_in_order TableSame (λ t. t.frame) (findings.tables_from 1 (reverse (tables_from L W (if_there W root)))) (of_levels 1 _ (omega arith) (levels_from L (if_there W root) (root_below L root same)))
+  unfolding tables_in_order
+  tables_below L root same = all_in_order TableSame (λ t. t.frame) (findings.tables_from 1 (tables_by_level L W root)) (each_below L root same)
 
   -- ---- names
 
@@ -279,3 +285,16 @@ module _ (T W : Words) where
   pub same_lines : (checking : Checking) (L root : ℕ) → mappings_of L T root ≡ mappings_of L W root → SameBelow L T W root → finding_lines checking L T root ≡ finding_lines checking L W root
   unfolding finding_lines
   same_lines checking L root mapped same = ap₂ (λ ms fs. flawed_lines L WritableAndExecutable (filter (is_selected L checking.selection) (regions_in L ms)) ++ flawed_lines L UserInUpperHalf (filter (is_selected L checking.selection) (regions_in L ms)) ++ map said_of fs) mapped (same_findings checking L root mapped same)
+
+  -- ---- reserved bits
+
+  pub same_reserved : (L root : ℕ) → SameBelow L T W root → reserved_count L T root ≡ reserved_count L W root
+  unfolding reserved_count
+  same_reserved L root same =
+      let ts = findings.tables_from 1 (tables_by_level L W root) in
+      let all = each_below L root same in
+      ap (λ levels. min (length (reserved_entries T (findings.tables_from 1 levels))) (2 ^ 64 - 1)) (same_tables L root same)
+      ∙ (λ i. min (length (same_entries flaws.HugePage ts all i ++ same_entries (flaws.ReservedBits processor) ts all i)) (2 ^ 64 - 1))
+
+  pub same_note : (command : Command) (L root : ℕ) → SameBelow L T W root → reserved_note command L T root ≡ reserved_note command L W root
+  same_note command L root same = ap (λ count. if lists_mappings command then reserved_line count else []) (same_reserved L root same)

@@ -16,6 +16,7 @@ pub mod Processors
 pub mod Program
 pub mod ReachedTables
 pub mod Reports
+pub mod Reserved
 pub mod Said
 pub mod Selections
 pub mod Start

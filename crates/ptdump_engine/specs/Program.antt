@@ -22,6 +22,7 @@ use Rattle.ptdump_engine.specs.Info.{info_in}
 pub use Rattle.ptdump_engine.specs.MemoryRanges.{last_address}
 use Rattle.ptdump_engine.specs.Processors.{cpus_with, firsts_of, heading_text, left_out_text, modes_failure, processors_from}
 use Rattle.ptdump_engine.specs.Reports.{regions_text, pages_text, walks_text, find_text, all_arrive, all_found}
+use Rattle.ptdump_engine.specs.Reserved.{reserved_note}
 pub use Rattle.ptdump_engine.specs.Start.{level_count}
 use Rattle.ptdump_engine.specs.Start.{start_of}
 use Rattle.ptdump_engine.specs.Steps.{FailsBy, InTurn, IsForced, and_then, of_dump, unless}
@@ -269,23 +270,24 @@ abbrev pub is_image : Command → Bool
 is_image commands.Image = true
 is_image command = false
 
--- the last line has the totals of the tables
-abbrev pub EndsByTotals : (L : ℕ) → Words → (root : ℕ) → (before after : Option (List ℕ)) → Type 0
-EndsByTotals L T root before after = (totals : Totals) × AreTotals L T root totals × Appends before after (line (totals_text totals))
+-- the last line has the totals of the tables, after that of the words with reserved bits, if the command wants it and there are any
+abbrev pub EndsByTotals : Command → (L : ℕ) → Words → (root : ℕ) → (before after : Option (List ℕ)) → Type 0
+EndsByTotals command L T root before after =
+    (totals : Totals) × AreTotals L T root totals × Appends before after (reserved_note command L T root ++ line (totals_text totals))
 
--- standard error after a run on tables: that the file is raw or short, that the root is the kernel's, and the totals
+-- standard error after a run on tables: that the file is raw or short, that the root is the kernel's, how many words have reserved bits, and the totals
 abbrev pub NotesOnTables : Request → (file : List ℕ) → (before after : Option (List ℕ)) → Type 0
 NotesOnTables request file before after = (o : Opened) × (between : Option (List ℕ)) × (opened_for request file ≡ Ok o) × Appends before between (opening_text o.dump ++ source_text o.start.origin)
-    × EndsByTotals (level_count o.start.levels) (words_of_dump o.dump) o.start.root between after
+    × EndsByTotals request.command (level_count o.start.levels) (words_of_dump o.dump) o.start.root between after
 
 -- likewise for the tables of a processor
-abbrev pub EndsByTotalsOf : Words → Processor → (before after : Option (List ℕ)) → Type 0
-EndsByTotalsOf T p = EndsByTotals (level_count p.start.levels) T p.start.root
+abbrev pub EndsByTotalsOf : Command → Words → Processor → (before after : Option (List ℕ)) → Type 0
+EndsByTotalsOf command T p = EndsByTotals command (level_count p.start.levels) T p.start.root
 
--- standard error after a run on all processors: that the file is raw or short, which processors have no tables, and the totals
+-- standard error after a run on all processors: that the file is raw or short, which processors have no tables, and the same of each root
 abbrev pub NotesOnProcessors : Request → (file : List ℕ) → (before after : Option (List ℕ)) → Type 0
 NotesOnProcessors request file before after = (m : Machine) × (between : Option (List ℕ)) × (machine_for request file ≡ Ok m)
-    × Appends before between (opening_text m.dump ++ left_out_text m.processors) × InTurn (EndsByTotalsOf (words_of_dump m.dump)) (firsts_of m.processors) between after
+    × Appends before between (opening_text m.dump ++ left_out_text m.processors) × InTurn (EndsByTotalsOf request.command (words_of_dump m.dump)) (firsts_of m.processors) between after
 
 -- standard error after a run: for a command that is about the dump alone, that the file is raw or short
 abbrev pub NotesAs : (info all : Bool) → Request → (file : List ℕ) → (before after : Option (List ℕ)) → Type 0

@@ -9,6 +9,8 @@ pub mod Flags
 pub mod Flawed
 pub mod FlawedLaws
 pub mod JsonLines
+pub mod LineCounting
+pub mod LineCountingLaws
 pub mod Naming
 pub mod NoFloats
 pub mod Passed

@@ -25,6 +25,7 @@ use crate::output::{Output, OutputError};
 use crate::picture::write_picture;
 use crate::report::{write_found, write_pages, write_regions, write_walks};
 use crate::request::{Command, Levels, Outcome, Request};
+use crate::reserved::write_reserved;
 use crate::roots::{processors_for, report_on_processors};
 use crate::start::{Origin, Start, start_of};
 use crate::totals::Totals;
@@ -41,8 +42,8 @@ use x86_64_tables::phys_memory::IdentityMapping;
 /// report to `writer`. The request is tested before anything is written there. `progress` is called as the tables are read.
 ///
 /// `errors` receives the rest of the text for standard error: that the file is raw, or shorter than its headers say, that the root is
-/// the kernel's own by Linux's note, which processors have no tables, how an image was created, and finally the number of tables that
-/// were read and how much they map, for each root.
+/// the kernel's own by Linux's note, which processors have no tables, how an image was created, and finally for each root how many
+/// words have reserved bits, if the report lists what is mapped, the number of tables that were read, and how much they map.
 ///
 /// # Errors
 ///
@@ -130,7 +131,8 @@ pub fn start_for<S: ByteSource>(
     Ok(start)
 }
 
-/// Reads the tables at the start of page walks, and writes a command's report on them, and the totals.
+/// Reads the tables at the start of page walks, and writes a command's report on them, how many of their words have reserved bits,
+/// and the totals.
 ///
 /// # Errors
 ///
@@ -149,8 +151,9 @@ pub fn report_from<S: ByteSource, W: Destination, E: Destination, G: Progress>(
         (words_of_dump (opened S.bytes dump.now)) start.now.root (W.contents writer.old) (W.contents writer.new)) }
     ensures totals { S.IsKnown → OnOk result (program.is_image request.now.command ≡ false →
         (notes.new.writer.ghost_name ≡ notes.old.writer.ghost_name)
-        × program.EndsByTotals (program.level_count start.now.levels) (words_of_dump (opened S.bytes dump.now))
-        start.now.root (put_in E.contents notes.old) (E.contents notes.new.writer.now)) }
+        × program.EndsByTotals request.now.command (program.level_count start.now.levels)
+        (words_of_dump (opened S.bytes dump.now)) start.now.root
+        (put_in E.contents notes.old) (E.contents notes.new.writer.now)) }
     ensures noted { OnOk result (string_bytes notes.new.text ≡ []) }
     ensures told { S.IsKnown → OnOk result (program.ToldOfTables G.Told G.Ended
         (program.level_count start.now.levels) (words_of_dump (opened S.bytes dump.now)) start.now.root
@@ -167,7 +170,8 @@ pub fn report_from<S: ByteSource, W: Destination, E: Destination, G: Progress>(
     }
 }
 
-/// Reads the tables that a root leads to, and writes a command's report on them, and the totals.
+/// Reads the tables that a root leads to, and writes a command's report on them, how many of their words have reserved bits, and the
+/// totals.
 #[tactic(auto, using(crate::proofs::Failing::forced_first, crate::proofs::Failing::forced_second))]
 fn report<L: LevelCount, S: ByteSource, W: Destination, E: Destination, G: Progress>(
     alloc: Global,
@@ -183,7 +187,7 @@ fn report<L: LevelCount, S: ByteSource, W: Destination, E: Destination, G: Progr
         (words_of_dump (opened S.bytes dump.now)) root (W.contents writer.old) (W.contents writer.new)) }
     ensures totals { S.IsKnown → OnOk result (program.is_image request.now.command ≡ false →
         (notes.new.writer.ghost_name ≡ notes.old.writer.ghost_name)
-        × program.EndsByTotals L.LEVELS (words_of_dump (opened S.bytes dump.now)) root
+        × program.EndsByTotals request.now.command L.LEVELS (words_of_dump (opened S.bytes dump.now)) root
         (put_in E.contents notes.old) (E.contents notes.new.writer.now)) }
     ensures noted { OnOk result (string_bytes notes.new.text ≡ []) }
     ensures told { S.IsKnown → OnOk result (program.ToldOfTables G.Told G.Ended L.LEVELS
@@ -202,6 +206,7 @@ fn report<L: LevelCount, S: ByteSource, W: Destination, E: Destination, G: Progr
         levels: PhantomData,
     };
     let is_complete = write_whole(alloc, dump, &loaded, request, writer, notes)?;
+    write_reserved(&request.command, &loaded, notes)?;
     write_totals(&loaded, notes)?;
     Ok(Outcome { is_complete })
 }

@@ -99,8 +99,8 @@ pub fn report_on_processors<S: ByteSource, W: Destination, E: Destination, G: Pr
     requires noted { string_bytes notes.old.text ≡ [] }
     ensures written { S.IsKnown → IfOk result (program.ReportsAll request.now
         (words_of_dump (opened S.bytes dump.now)) processors.now (W.contents writer.old) (W.contents writer.new)) }
-    ensures notes { S.IsKnown → OnOk result (AreNoted E.contents (words_of_dump (opened S.bytes dump.now))
-        processors.now notes.old notes.new) }
+    ensures notes { S.IsKnown → OnOk result (AreNoted E.contents request.now.command
+        (words_of_dump (opened S.bytes dump.now)) processors.now notes.old notes.new) }
     ensures told { S.IsKnown → OnOk result (InTurn (program.ToldOfTablesOf G.Told G.Ended
         (words_of_dump (opened S.bytes dump.now))) (specs.firsts_of processors.now) progress.old progress.new) }
     ensures errors { S.IsKnown → IfErr result (IsForced (W.may_refuse || E.may_refuse)) }
@@ -132,7 +132,7 @@ fn write_reports<S: ByteSource, W: Destination, E: Destination, G: Progress>(
         (program.is_complete_for request.now (words_of_dump (opened S.bytes dump.now))) firsts.now) }
     ensures name { S.IsKnown → OnOk result (notes.new.writer.ghost_name ≡ notes.old.writer.ghost_name) }
     ensures totals { S.IsKnown → OnOk result (InTurn
-        (program.EndsByTotalsOf (words_of_dump (opened S.bytes dump.now))) firsts.now
+        (program.EndsByTotalsOf request.now.command (words_of_dump (opened S.bytes dump.now))) firsts.now
         (E.contents notes.old.writer.now) (E.contents notes.new.writer.now)) }
     ensures told { S.IsKnown → OnOk result (InTurn
         (program.ToldOfTablesOf G.Told G.Ended (words_of_dump (opened S.bytes dump.now))) firsts.now
@@ -170,8 +170,9 @@ fn write_report_below<S: ByteSource, W: Destination, E: Destination, G: Progress
         is ≡ program.is_complete_for request.now (words_of_dump (opened S.bytes dump.now)) first.now) }
     ensures noted { OnOk result (string_bytes notes.new.text ≡ []) }
     ensures name { S.IsKnown → OnOk result (notes.new.writer.ghost_name ≡ notes.old.writer.ghost_name) }
-    ensures totals { S.IsKnown → OnOk result (program.EndsByTotalsOf (words_of_dump (opened S.bytes dump.now))
-        first.now (E.contents notes.old.writer.now) (E.contents notes.new.writer.now)) }
+    ensures totals { S.IsKnown → OnOk result (program.EndsByTotalsOf request.now.command
+        (words_of_dump (opened S.bytes dump.now)) first.now
+        (E.contents notes.old.writer.now) (E.contents notes.new.writer.now)) }
     ensures told { S.IsKnown → OnOk result (program.ToldOfTablesOf G.Told G.Ended
         (words_of_dump (opened S.bytes dump.now)) first.now progress.old progress.new) }
     ensures errors { S.IsKnown → IfErr result (IsForced (W.may_refuse || E.may_refuse)) }

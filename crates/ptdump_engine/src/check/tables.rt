@@ -1,19 +1,19 @@
 //! Findings in tables.
-ghost use Rattle.std.specs.Prelude.{◌≡◌, ◌≤◌, ◌++◌, [], OnOk, map, length};
-ghost use Rattle.std.specs.List.{cons_option, filter_map};
+ghost use Rattle.std.specs.Prelude.{◌≡◌, ◌≤◌, ◌++◌, OnOk, map, length};
+ghost use Rattle.std.specs.List.{filter_map};
 ghost use Rattle.x86_64_model.specs.Memory.{identity_places, words_of};
 ghost use Rattle.ptdump_engine.specs.Findings as findings;
 ghost use Rattle.ptdump_engine.specs.Findings.{said_of};
 ghost use Rattle.ptdump_engine.specs.private.Alike.{alike};
 ghost use Rattle.ptdump_engine.specs.private.Ascending.{Ascend};
-ghost use Rattle.ptdump_engine.specs.private.Checked.{HasBits};
 
 use crate::check::subject::Subject;
-use crate::findings::{Entry, EntryFlaw, Finding, Name, Table};
+use crate::findings::{EntryFlaw, Finding, Name};
+use crate::flawed_entries::{write_finding, write_flawed_entries};
 use crate::line_output::LineOutput;
 use x86_64_page::frame::PhysFrame;
 use x86_64_page::page::Size4KiB;
-use x86_64_tables::phys_memory::{IdentityMapping, PhysMemory, table_in};
+use x86_64_tables::phys_memory::PhysMemory;
 
 /// Writes a line for each finding in the tables.
 pub fn write_table_findings<O: LineOutput>(
@@ -42,16 +42,6 @@ fn write_each<O: LineOutput>(findings: &[Finding], output: &mut O) -> Result<(),
         output.write_line(*finding)?;
     }
     Ok(())
-}
-
-/// Writes a line for a finding, if there is one.
-fn write_finding<O: LineOutput>(finding: Option<Finding>, output: &mut O) -> Result<(), O::Error>
-    ensures { OnOk result (O.Lines output.old output.new (map said_of (cons_option finding []))) }
-{
-    match finding {
-        Some(finding) => output.write_line(finding),
-        None => Ok(()),
-    }
 }
 
 /// Writes a line for each frame that is named more than once, as which the root counts once more.
@@ -102,45 +92,6 @@ fn write_missing<O: LineOutput>(
 {
     for name in names {
         write_finding::<O>(Finding::of_name(memory, name), output)?;
-    }
-    Ok(())
-}
-
-/// Writes a line for each entry of the tables that has `PRESENT` and a flaw.
-fn write_flawed_entries<O: LineOutput>(
-    memory: &PhysMemory,
-    tables: &[Table],
-    flaw: EntryFlaw,
-    output: &mut O,
-) -> Result<(), O::Error>
-    requires { HasBits flaw }
-    ensures { OnOk result (O.Lines output.old output.new (map said_of
-        (findings.flawed_entries flaw (words_of memory.now identity_places) tables.now))) }
-{
-    for table in tables {
-        write_flawed_in::<O>(memory, table, flaw, output)?;
-    }
-    Ok(())
-}
-
-/// Writes a line for each entry of a table that has `PRESENT` and a flaw.
-#[tactic(auto, unfolding(crate::specs::Findings::entries_in))]
-fn write_flawed_in<O: LineOutput>(
-    memory: &PhysMemory,
-    table: &Table,
-    flaw: EntryFlaw,
-    output: &mut O,
-) -> Result<(), O::Error>
-    requires { HasBits flaw }
-    ensures { OnOk result (O.Lines output.old output.new (map said_of (filter_map
-        (findings.flaw_in flaw) (findings.entries_in (words_of memory.now identity_places) table.now)))) }
-{
-    let Some(words) = table_in(memory, &IdentityMapping, table.frame) else {
-        return Ok(());
-    };
-    for index in 0..512 {
-        let entry = Entry::new(table, index, words[index].word());
-        write_finding::<O>(Finding::of_entry(flaw, &entry), output)?;
     }
     Ok(())
 }

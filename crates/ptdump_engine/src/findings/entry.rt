@@ -14,7 +14,7 @@ const ADDRESS_MASK: u64 = 0x000f_ffff_ffff_f000;
 const FLAGS_MASK: u64 = 0xfff0_0000_0000_0fff;
 
 /// The highest level at which an entry may map a page.
-const HIGHEST_OF_PAGES: u64 = 3;
+pub const HIGHEST_OF_PAGES: u64 = 3;
 
 /// A table: its frame and its level.
 #[derive(Clone, Copy)]

@@ -1,4 +1,4 @@
-use Rattle.std.proofs.Common.{◌≡◌, ◌∙◌, List, String, IfSome, sym, ap, subst}
+use Rattle.std.proofs.Common.{◌≡◌, ◌∙◌, ◌++◌, List, String, IfSome, sym, ap, subst}
 use Rattle.std.specs.FinMap.{len}
 use Rattle.std.specs.Io.KnownBytes.{Appends}
 use Rattle.x86_64_dump.specs.Dump.{words_of_dump}
@@ -6,12 +6,13 @@ use Rattle.x86_64_dump.specs.Opened.{opened}
 use Rattle.x86_64_dump.specs.Loaded.{words_in, IsTableCount}
 use Rattle.x86_64_model.specs.Mappings.{Mapping}
 use Rattle.std.specs.declared.alloc.Global.{Global}
-use Rattle.ptdump_engine.specs.Output.{put_in}
+use Rattle.ptdump_engine.specs.Output.{Puts, put_in}
+use Rattle.ptdump_engine.specs.Reserved.{reserved_note}
 use Rattle.ptdump_engine.specs.Totals.{IsMapped, totals_text}
 use Rattle.ptdump_engine.specs.Walks.{line}
 use Rattle.ptdump_engine.specs.declared.output.Output.{Output}
-use Rattle.ptdump_engine.proofs.SameTables.{same_tables}
-use Rattle.ptdump_engine.proofs.Wholly.{same_report, same_completeness, written_rest}
+use Rattle.ptdump_engine.proofs.SameTables.{same_note, same_tables}
+use Rattle.ptdump_engine.proofs.Wholly.{puts_both, same_report, same_completeness, written_rest}
 use Rattle.ptdump_engine.proofs.engine.report.Goals as goal
 
 pub returns-clause-written : goal.returns-clause-written
@@ -31,20 +32,30 @@ returns-clause-written g c = λ known.
 pub returns-clause-totals : goal.returns-clause-totals
 returns-clause-totals g c = λ known not_image.
     let L = g.L.LevelCount.LEVELS in
+    let T = words_in c.in_ok-tables.tables in
     let W = words_of_dump (opened g.S.ByteSource.bytes c.args.dump.now) in
+    let root = c.args.root in
+    let command = c.args.request.now.command in
     let contents = g.E.Destination.contents in
+    let end = c.write_totals.new.notes in
     let same = c.in_ok-is_complete.ensures.notes not_image in
-    let (totals, tables, mapped, puts) = c.in_ok-write_totals.ensures.text in
+    let below = c.in_ok-tables.ensures.same known in
+    let all = (c.in_ok-tables.ensures.tables known).frames ∙ sym (same_tables T W L root below) in
+    let (totals, tables, mapped, last) = c.in_ok-write_totals.ensures.text in
     let Mapped : List Mapping → Type 0 = λ ms. IsMapped ms totals in
-    let before : Output g.row.E.Denot (String Global) → Type 0 = λ notes. Appends (put_in contents notes) (contents c.write_totals.new.notes.writer.now) (line (totals_text totals)) in (
+    let noted : Puts contents c.write_whole.new.notes c.write_reserved.new.notes (reserved_note command L W root) =
+    subst (Puts contents c.write_whole.new.notes c.write_reserved.new.notes) (same_note T W command L root below) (c.in_ok-write_reserved.ensures all) in
+    let puts = puts_both contents c.write_whole.new.notes c.write_reserved.new.notes end _ _ noted last in
+    let text = reserved_note command L W root ++ line (totals_text totals) in
+    let before : Output g.row.E.Denot (String Global) → Type 0 = λ notes. Appends (put_in contents notes) (contents end.writer.now) text in (
       puts.writer ∙ ap (λ (notes : Output g.row.E.Denot (String Global)). notes.writer.ghost_name) same,
       (
         totals,
         record {
-          tables = subst (IsTableCount L W c.args.root) (sym tables) (c.in_ok-tables.ensures.count known);
+          tables = subst (IsTableCount L W root) (sym tables) (c.in_ok-tables.ensures.count known);
           mapped = subst Mapped (c.in_ok-tables.ensures.mappings known) mapped;
         },
-        subst before same (written_rest contents c.write_whole.new.notes c.write_totals.new.notes (line (totals_text totals)) c.in_ok-write_totals.ensures.all puts),
+        subst before same (written_rest contents c.write_whole.new.notes end text c.in_ok-write_totals.ensures.all puts),
       ),
     )
 

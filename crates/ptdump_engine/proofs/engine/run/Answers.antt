@@ -112,7 +112,7 @@ returns-then-is_of_processors-clause-notes g c = λ known.
     (subst (λ all. NotesAs false all request file (contents c.args.errors.now) (contents ended.writer.now)) (sym all)
     (m, between, shows request file m.dump m.processors (c.in_ok-dump.ensures known) (c.in_ok-processors.ensures known), Appends-trans _ _ _ _ _ begun left_out, totals)) in
     search (rules, noted))
-    (subst (λ ps. OnOk c.report_on_processors.result (AreNoted g.E.Destination.contents (words_of_dump m.dump) ps now ended)) c.deref.ensures.value (c.report_on_processors.ensures.notes known))
+    (subst (λ ps. OnOk c.report_on_processors.result (AreNoted g.E.Destination.contents request.command (words_of_dump m.dump) ps now ended)) c.deref.ensures.value (c.report_on_processors.ensures.notes known))
 
 pub returns-then-is_of_processors-clause-told : goal.returns-then-is_of_processors-clause-told
 returns-then-is_of_processors-clause-told g c = λ known.

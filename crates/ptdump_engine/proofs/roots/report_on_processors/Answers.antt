@@ -32,7 +32,7 @@ returns-clause-notes g c = λ known.
       c.in_ok-is_complete.ensures.name known ∙ c.in_ok-write_left_out.ensures.text.writer,
       contents told.writer.now,
       written_at_once contents c.args.notes.now told (left_out_text ps) c.requires.noted c.in_ok-write_left_out.ensures.all c.in_ok-write_left_out.ensures.text,
-      subst (λ (fs : List Processor). InTurn (EndsByTotalsOf T) fs (contents told.writer.now) (contents c.write_reports.new.notes.writer.now)) firsts (c.in_ok-is_complete.ensures.totals known),
+      subst (λ (fs : List Processor). InTurn (EndsByTotalsOf c.args.request.now.command T) fs (contents told.writer.now) (contents c.write_reports.new.notes.writer.now)) firsts (c.in_ok-is_complete.ensures.totals known),
     )
 
 pub returns-clause-told : goal.returns-clause-told

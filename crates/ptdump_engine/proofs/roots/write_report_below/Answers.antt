@@ -33,5 +33,5 @@ returns-clause-totals g c = λ known.
     let start = c.args.first.now.start in
     let T = words_of_dump (opened g.S.ByteSource.bytes c.args.dump.now) in
     let contents = g.E.Destination.contents in
-    subst (λ before. EndsByTotals (level_count start.levels) T start.root before (contents c.report_from.new.notes.writer.now)) (put_all contents c.args.notes.now c.requires.noted)
+    subst (λ before. EndsByTotals c.args.request.now.command (level_count start.levels) T start.root before (contents c.report_from.new.notes.writer.now)) (put_all contents c.args.notes.now c.requires.noted)
     (c.in_ok-outcome.ensures.totals known (no_image c.args.request.now c.requires.all)).1

@@ -32,8 +32,8 @@ loop-first-preserved g c = (
         appends_more (report_below request T ps) _ (written_by now.writer) (written_by new.writer) xs i x below written
             (subst (λ y. Appends (written_by now.writer) (written_by new.writer) (report_below request T ps y)) c.first-item.is (c.in_ok-is_fulfilled.ensures.text known)),
         ap₂ (λ b d. b && d) complete (c.in_ok-is_fulfilled.ensures.complete known ∙ ap (is_complete_for request T) c.first-item.is) ∙ sym (list_all_more (is_complete_for request T) xs i x below),
-        turn_more (EndsByTotalsOf T) _ (noted_by now.notes.writer.now) (noted_by new.notes.writer.now) xs i x below totals
-            (subst (λ y. EndsByTotalsOf T y (noted_by now.notes.writer.now) (noted_by new.notes.writer.now)) c.first-item.is (c.in_ok-is_fulfilled.ensures.totals known)),
+        turn_more (EndsByTotalsOf request.command T) _ (noted_by now.notes.writer.now) (noted_by new.notes.writer.now) xs i x below totals
+            (subst (λ y. EndsByTotalsOf request.command T y (noted_by now.notes.writer.now) (noted_by new.notes.writer.now)) c.first-item.is (c.in_ok-is_fulfilled.ensures.totals known)),
         turn_more told_of _ now.progress new.progress xs i x below told
             (subst (λ y. told_of y now.progress new.progress) c.first-item.is (c.in_ok-is_fulfilled.ensures.told known)),
       ),
@@ -42,7 +42,7 @@ loop-first-preserved g c = (
 pub returns-clause-totals : goal.returns-clause-totals
 returns-clause-totals g c = λ known.
     let (name, written, complete, totals, told) = c.loop-first.invariant.1 known in
-    turn_all (EndsByTotalsOf (words_of_dump (opened g.S.ByteSource.bytes c.args.dump.now))) _ _ c.args.firsts.now c.loop-first.first-index c.loop-first-test.false totals
+    turn_all (EndsByTotalsOf c.args.request.now.command (words_of_dump (opened g.S.ByteSource.bytes c.args.dump.now))) _ _ c.args.firsts.now c.loop-first.first-index c.loop-first-test.false totals
 
 pub returns-clause-told : goal.returns-clause-told
 returns-clause-told g c = λ known.

@@ -3,7 +3,7 @@ use Rattle.std.specs.List.{filter_map}
 use Rattle.x86_64_model.specs.Memory.{identity_places, words_of}
 use Rattle.ptdump_engine.specs.Findings.{entries_in, flaw_in, flawed_entries, said_of}
 use Rattle.ptdump_engine.proofs.Found.{both_lines, flat_more}
-use Rattle.ptdump_engine.proofs.check.tables.write_flawed_entries.Goals as goal
+use Rattle.ptdump_engine.proofs.flawed_entries.write_flawed_entries.Goals as goal
 
 pub loop-table-preserved : goal.loop-table-preserved
 loop-table-preserved g c =

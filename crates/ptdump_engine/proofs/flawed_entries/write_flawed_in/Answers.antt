@@ -1,12 +1,22 @@
-use Rattle.std.proofs.Common.{rules, ◌≡◌, ◌∙◌, ◌+◌, ◌++◌, [], None, Some, get_or, map, option_map, sym, ap, subst, arith}
+use Rattle.std.proofs.Common.{rules, ◌≡◌, ◌∙◌, ◌+◌, ◌++◌, [], None, Some, false, get_or, map, option_map, sym, ap, subst, arith}
 use Rattle.std.proofs.lemmas.List.Elements.{filter_map-append}
 use Rattle.std.specs.List.{cons_option, filter_map, range_with_len}
 use Rattle.std.specs.Option.{option_copied}
 use Rattle.x86_64_model.specs.Memory.{identity_places, words_of}
 use Rattle.x86_64_model.specs.Path.{indices}
 use Rattle.ptdump_engine.specs.Findings.{entries_in, entry_at, flaw_in, said_of}
+use Rattle.ptdump_engine.proofs.Flawless.{none_in}
 use Rattle.ptdump_engine.proofs.Found.{both_lines, filter_nothing, range_more}
-use Rattle.ptdump_engine.proofs.check.tables.write_flawed_in.Goals as goal
+use Rattle.ptdump_engine.proofs.flawed_entries.write_flawed_in.Goals as goal
+
+pub returns-then-not-may_be_at : goal.returns-then-not-may_be_at
+returns-then-not-may_be_at g c =
+    let flaw = c.args.flaw in
+    let T = words_of c.args.memory.now identity_places in
+    let t = c.args.table.now in
+    let not : c.may_be_at.result ≡ false = search rules in
+    let nothing : filter_map (flaw_in flaw) (entries_in T t) ≡ [] = none_in flaw T t (c.may_be_at.ensures not) in
+    subst (λ fs. g.O.LineOutput.Lines c.args.output.now c.args.output.now (map said_of fs)) (sym nothing) (g.O.LineOutput.nothing c.args.output.now)
 
 pub returns-in_default : goal.returns-in_default
 unfolding entries_in

@@ -2,7 +2,7 @@ use Rattle.std.proofs.Common.{map}
 use Rattle.std.specs.List.{filter_map, range_with_len}
 use Rattle.x86_64_model.specs.Memory.{identity_places, words_of}
 use Rattle.ptdump_engine.specs.Findings.{entry_at, flaw_in, said_of}
-use Rattle.ptdump_engine.proofs.check.tables.write_flawed_in.Given as goal
+use Rattle.ptdump_engine.proofs.flawed_entries.write_flawed_in.Given as goal
 
 -- the findings of the entries so far are written
 abbrev pub invariant-loop-index : goal.invariant-loop-index

@@ -1,0 +1,45 @@
+-- Reserved: how many words below a root have reserved bits, at which a processor faults, and what standard error says of them.
+use Rattle.std.specs.Prelude.{ℕ, Bool, ◌-◌, ◌^◌, ◌==◌, ◌++◌, if◌then◌else◌, true, false, min, List, [], codes, decimal, length}
+use Rattle.x86_64_access.specs.declared.controls.Controls.{Controls}
+use Rattle.x86_64_dump.specs.Tables.{tables_by_level}
+use Rattle.x86_64_model.specs.Memory.{Words}
+use Rattle.ptdump_engine.specs.Findings.{flawed_entries, tables_from}
+use Rattle.ptdump_engine.specs.Walks.{line}
+use Rattle.ptdump_engine.specs.declared.findings.entry.Table.{Table}
+use Rattle.ptdump_engine.specs.declared.findings.finding.Finding.{Finding}
+use Rattle.ptdump_engine.specs.declared.findings.finding.EntryFlaw.TheVariants as flaws
+use Rattle.ptdump_engine.specs.declared.request.Command.{Command}
+use Rattle.ptdump_engine.specs.declared.request.Command.TheVariants as commands
+
+-- the processor: it has all 52 bits of physical addresses, so that it lacks no address bit, and NO_EXECUTE is on
+abbrev pub processor : Controls
+processor = record {
+  write_protect = true;
+  no_execute = true;
+  smep = true;
+  smap = true;
+  ac = false;
+  physical_bits = 52;
+}
+
+-- the entries of these tables with PRESENT and HUGE_PAGE at a level without pages, or with PRESENT and other reserved bits
+abbrev pub reserved_entries : Words → List Table → List Finding
+reserved_entries T tables = flawed_entries flaws.HugePage T tables ++ flawed_entries (flaws.ReservedBits processor) T tables
+
+-- their number in the tables that a root leads to, with L levels of tables, if it is less than 2^64
+unfoldable pub reserved_count : (L : ℕ) → Words → (root : ℕ) → ℕ
+reserved_count L T root = min (length (reserved_entries T (tables_from 1 (tables_by_level L T root)))) (2 ^ 64 - 1)
+
+-- a line if there are any
+abbrev pub reserved_line : (count : ℕ) → List ℕ
+reserved_line count = if count == 0 then [] else line (codes "words with reserved bits, at which a processor faults: " ++ decimal count)
+
+-- whether a command lists what is mapped
+abbrev pub lists_mappings : Command → Bool
+lists_mappings (commands.Regions selection) = true
+lists_mappings (commands.Pages selection has_names) = true
+lists_mappings command = false
+
+-- this line, for these commands
+abbrev pub reserved_note : Command → (L : ℕ) → Words → (root : ℕ) → List ℕ
+reserved_note command L T root = if lists_mappings command then reserved_line (reserved_count L T root) else []

@@ -1,0 +1,141 @@
+//! Words with reserved bits, at which a processor faults.
+ghost use Rattle.std.specs.Prelude.{◌≡◌, ◌-◌, ◌^◌, OnOk, length, map, min};
+ghost use Rattle.x86_64_dump.specs.Loaded.{frames_in, words_in};
+ghost use Rattle.x86_64_model.specs.Memory.{identity_places, words_of};
+ghost use Rattle.ptdump_engine.specs.Findings.{flawed_entries, said_of, tables_from};
+ghost use Rattle.ptdump_engine.specs.Loaded.{HasAllTables, words_loaded};
+ghost use Rattle.ptdump_engine.specs.Output.{Puts};
+ghost use Rattle.ptdump_engine.specs.Reserved as specs;
+ghost use Rattle.ptdump_engine.specs.private.Checked.{HasBits};
+
+use crate::destination::Destination;
+use crate::findings::{EntryFlaw, Table};
+use crate::flawed_entries::write_flawed_in;
+use crate::line_count::LineCount;
+use crate::line_output::LineOutput;
+use crate::loaded::Loaded;
+use crate::output::{Output, OutputError};
+use crate::request::Command;
+use x86_64_access::Controls;
+use x86_64_addr::level_count::LevelCount;
+use x86_64_dump::DumpTables;
+use x86_64_page::frame::PhysFrame;
+use x86_64_page::page::Size4KiB;
+use x86_64_tables::phys_memory::PhysMemory;
+
+/// The processor whose reserved bits are looked for: it has all bits of physical addresses.
+const PROCESSOR: Controls = Controls {
+    write_protect: true,
+    no_execute: true,
+    smep: true,
+    smap: true,
+    ac: false,
+    physical_bits: 52,
+};
+
+/// Writes how many words have reserved bits, if there are any and the command lists what is mapped. The number is 2^64 - 1 if there
+/// are more.
+///
+/// # Errors
+///
+/// `OutputError::OutOfMemory` if memory allocation fails, `OutputError::Write` if a write fails.
+pub fn write_reserved<L: LevelCount, E: Destination>(
+    command: &Command,
+    loaded: &Loaded<'_, L>,
+    notes: &mut Output<'_, E>,
+) -> Result<(), OutputError<E>>
+    ensures { HasAllTables L.LEVELS loaded.now → OnOk result (Puts E.contents notes.old notes.new
+        (specs.reserved_note command.now L.LEVELS (words_loaded loaded.now) loaded.now.root)) }
+{
+    if lists_mappings(command) {
+        return write_count(count_reserved(loaded.tables), notes);
+    }
+    Ok(())
+}
+
+/// Returns true if a command lists what is mapped.
+fn lists_mappings(command: &Command) -> bool
+    ensures { result ≡ specs.lists_mappings command.now }
+{
+    matches!(command, Command::Regions(_) | Command::Pages { .. })
+}
+
+/// Writes the number of words with reserved bits, if there are any.
+fn write_count<E: Destination>(count: u64, notes: &mut Output<'_, E>) -> Result<(), OutputError<E>>
+    ensures { OnOk result (Puts E.contents notes.old notes.new (specs.reserved_line count)) }
+{
+    if count > 0 {
+        writeln!(
+            notes,
+            "words with reserved bits, at which a processor faults: {count}"
+        )?;
+    }
+    Ok(())
+}
+
+/// Returns the number of words with reserved bits in the tables, or 2^64 - 1 if there are more.
+fn count_reserved(tables: &DumpTables) -> u64
+    ensures { result ≡ min (length (specs.reserved_entries (words_in tables.now)
+        (tables_from 1 (frames_in tables.now)))) (2 ^ 64 - 1) }
+{
+    let mut count = LineCount::new();
+    match write_reserved_entries::<LineCount>(tables, &mut count) {
+        Ok(()) => count.lines(),
+        Err(never) => match never {},
+    }
+}
+
+/// Writes a line for each word with reserved bits in the tables.
+fn write_reserved_entries<O: LineOutput>(
+    tables: &DumpTables,
+    output: &mut O,
+) -> Result<(), O::Error>
+    ensures { OnOk result (O.Lines output.old output.new (map said_of
+        (specs.reserved_entries (words_in tables.now) (tables_from 1 (frames_in tables.now))))) }
+{
+    write_flawed_by_level::<O>(tables, EntryFlaw::HugePage, output)?;
+    write_flawed_by_level::<O>(tables, EntryFlaw::ReservedBits(PROCESSOR), output)
+}
+
+/// Writes a line for each entry of the tables that has `PRESENT` and a flaw, level by level.
+fn write_flawed_by_level<O: LineOutput>(
+    tables: &DumpTables,
+    flaw: EntryFlaw,
+    output: &mut O,
+) -> Result<(), O::Error>
+    requires { HasBits flaw }
+    ensures { OnOk result (O.Lines output.old output.new (map said_of
+        (flawed_entries flaw (words_in tables.now) (tables_from 1 (frames_in tables.now))))) }
+{
+    let memory = tables.memory();
+    let levels = tables.frames();
+    let mut level = 0;
+    for frames in levels {
+        level += 1;
+        write_flawed_at::<O>(memory, level, frames, flaw, output)?;
+    }
+    Ok(())
+}
+
+/// Writes a line for each entry of the tables of a level that has `PRESENT` and a flaw.
+fn write_flawed_at<O: LineOutput>(
+    memory: &PhysMemory,
+    level: u64,
+    frames: &[PhysFrame<Size4KiB>],
+    flaw: EntryFlaw,
+    output: &mut O,
+) -> Result<(), O::Error>
+    requires { HasBits flaw }
+    ensures { OnOk result (O.Lines output.old output.new (map said_of
+        (flawed_entries flaw (words_of memory.now identity_places)
+        (map (λ frame. record { frame = frame; level = level }) frames.now)))) }
+{
+    for frame in frames {
+        let table = Table {
+            frame: *frame,
+            level,
+        };
+        write_flawed_in::<O>(memory, &table, flaw, output)?;
+    }
+    Ok(())
+}
