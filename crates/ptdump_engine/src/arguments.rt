@@ -1,8 +1,7 @@
 //! Tests of the request.
 ghost use Rattle.std.specs.Prelude.{◌≡◌, ◌^◌, nat_le, not};
 ghost use Rattle.std.specs.List.{find};
-ghost use Rattle.x86_64_dump.specs.Dump.{words_of_dump};
-ghost use Rattle.x86_64_dump.specs.Opened.{opened};
+ghost use Rattle.x86_64_dump.specs.Opened.{words_opened};
 ghost use Rattle.ptdump_engine.specs.Program as program;
 
 use crate::failure::Failure;
@@ -106,7 +105,7 @@ pub fn root_failure<S: ByteSource>(
     root: PhysFrame<Size4KiB>,
 ) -> Option<Failure>
     ensures { S.IsKnown →
-        result ≡ program.root_failure command.now (words_of_dump (opened S.bytes dump.now)) root }
+        result ≡ program.root_failure command.now (words_opened S.bytes dump.now) root }
 {
     if matches!(command, Command::Walk { .. }) || dump.has_frame(root) {
         return None;

@@ -2,8 +2,7 @@
 ghost use Rattle.std.specs.Prelude.{◌≡◌, ◌||◌, [], false, None, OnOk, IfOk, IfErr, IfSome, string_bytes};
 ghost use Rattle.std.specs.FinMap as finite;
 ghost use Rattle.std.specs.Io.KnownBytes.{Appends};
-ghost use Rattle.x86_64_dump.specs.Dump.{words_of_dump};
-ghost use Rattle.x86_64_dump.specs.Opened.{opened};
+ghost use Rattle.x86_64_dump.specs.Opened.{opened, words_opened};
 ghost use Rattle.x86_64_model.specs.Mappings.{mappings_of};
 ghost use Rattle.ptdump_engine.specs.Loaded.{HasAllTables, IsLoaded, words_loaded};
 ghost use Rattle.ptdump_engine.specs.Output.{Puts, put_in};
@@ -147,16 +146,17 @@ pub fn report_from<S: ByteSource, W: Destination, E: Destination, G: Progress>(
     progress: &mut G,
 ) -> Result<Outcome, Failure>
     requires { program.IsTested request.now.command }
-    ensures written { S.IsKnown → IfOk result (program.Reports request.now (program.level_count start.now.levels)
-        (words_of_dump (opened S.bytes dump.now)) start.now.root (W.contents writer.old) (W.contents writer.new)) }
+    ensures written { S.IsKnown → IfOk result (program.Reports request.now
+        (program.level_count start.now.levels) (words_opened S.bytes dump.now) start.now.root
+        (W.contents writer.old) (W.contents writer.new)) }
     ensures totals { S.IsKnown → OnOk result (program.is_image request.now.command ≡ false →
         (notes.new.writer.ghost_name ≡ notes.old.writer.ghost_name)
         × program.EndsByTotals request.now.command (program.level_count start.now.levels)
-        (words_of_dump (opened S.bytes dump.now)) start.now.root
+        (words_opened S.bytes dump.now) start.now.root
         (put_in E.contents notes.old) (E.contents notes.new.writer.now)) }
     ensures noted { OnOk result (string_bytes notes.new.text ≡ []) }
     ensures told { S.IsKnown → OnOk result (program.ToldOfTables G.Told G.Ended
-        (program.level_count start.now.levels) (words_of_dump (opened S.bytes dump.now)) start.now.root
+        (program.level_count start.now.levels) (words_opened S.bytes dump.now) start.now.root
         progress.old progress.new) }
     ensures errors { S.IsKnown → IfErr result (IsForced (W.may_refuse || E.may_refuse)) }
 {
@@ -184,14 +184,14 @@ fn report<L: LevelCount, S: ByteSource, W: Destination, E: Destination, G: Progr
 ) -> Result<Outcome, Failure>
     requires { program.IsTested request.now.command }
     ensures written { S.IsKnown → IfOk result (program.Reports request.now L.LEVELS
-        (words_of_dump (opened S.bytes dump.now)) root (W.contents writer.old) (W.contents writer.new)) }
+        (words_opened S.bytes dump.now) root (W.contents writer.old) (W.contents writer.new)) }
     ensures totals { S.IsKnown → OnOk result (program.is_image request.now.command ≡ false →
         (notes.new.writer.ghost_name ≡ notes.old.writer.ghost_name)
-        × program.EndsByTotals request.now.command L.LEVELS (words_of_dump (opened S.bytes dump.now)) root
+        × program.EndsByTotals request.now.command L.LEVELS (words_opened S.bytes dump.now) root
         (put_in E.contents notes.old) (E.contents notes.new.writer.now)) }
     ensures noted { OnOk result (string_bytes notes.new.text ≡ []) }
     ensures told { S.IsKnown → OnOk result (program.ToldOfTables G.Told G.Ended L.LEVELS
-        (words_of_dump (opened S.bytes dump.now)) root progress.old progress.new) }
+        (words_opened S.bytes dump.now) root progress.old progress.new) }
     ensures errors { S.IsKnown → IfErr result (IsForced (W.may_refuse || E.may_refuse)) }
 {
     let tables = read_tables::<L, S, G>(alloc, dump, root, progress);

@@ -152,8 +152,9 @@ fn write_noted<S: ByteSource, W: Destination>(
     note: &Note,
     output: &mut Output<'_, W>,
 ) -> Result<(), Failure>
-    ensures text { S.IsKnown → OnOk result (Puts W.contents output.old output.new (info.processor_line form cpu
-        (info.known_registers (info.registers_of (opened S.bytes dump.now).file note.now)))) }
+    ensures text { S.IsKnown → OnOk result (Puts W.contents output.old output.new
+        (info.processor_line form cpu (info.known_registers
+        (info.registers_of (opened S.bytes dump.now).file note.now)))) }
     ensures errors { S.IsKnown → IfErr result (IsForced W.may_refuse) }
 {
     match Registers::read(dump, note) {

@@ -2,8 +2,7 @@
 ghost use Rattle.std.specs.Prelude.{◌≡◌, ◌++◌, ◌||◌, Option, List, ℕ, [], codes, OnOk, IfOk, IfErr, string_bytes, decimal, true};
 ghost use Rattle.std.specs.Io.KnownBytes.{Appends};
 ghost use Rattle.std.specs.List.{flat_map, join_by, list_all};
-ghost use Rattle.x86_64_dump.specs.Dump.{words_of_dump};
-ghost use Rattle.x86_64_dump.specs.Opened.{opened};
+ghost use Rattle.x86_64_dump.specs.Opened.{opened, words_opened};
 ghost use Rattle.ptdump_engine.specs.Output.{Puts, put_in};
 ghost use Rattle.ptdump_engine.specs.Processors as specs;
 ghost use Rattle.ptdump_engine.specs.Program as program;
@@ -59,7 +58,7 @@ fn first_failure<S: ByteSource>(
     processors: &[Processor],
 ) -> Option<Failure>
     ensures { S.IsKnown → result
-        ≡ program.first_failure request.now (words_of_dump (opened S.bytes dump.now)) processors.now }
+        ≡ program.first_failure request.now (words_opened S.bytes dump.now) processors.now }
 {
     for processor in processors {
         if let Some(failure) = tables_failure(dump, request, processor) {
@@ -76,7 +75,7 @@ fn tables_failure<S: ByteSource>(
     processor: &Processor,
 ) -> Option<Failure>
     ensures { S.IsKnown → result
-        ≡ program.tables_failure request.now (words_of_dump (opened S.bytes dump.now)) processor.now }
+        ≡ program.tables_failure request.now (words_opened S.bytes dump.now) processor.now }
 {
     argument_failure(&request.command, processor.start.levels).or(root_failure(
         dump,
@@ -98,11 +97,11 @@ pub fn report_on_processors<S: ByteSource, W: Destination, E: Destination, G: Pr
     requires all { program.is_of_processors request.now ≡ true }
     requires noted { string_bytes notes.old.text ≡ [] }
     ensures written { S.IsKnown → IfOk result (program.ReportsAll request.now
-        (words_of_dump (opened S.bytes dump.now)) processors.now (W.contents writer.old) (W.contents writer.new)) }
+        (words_opened S.bytes dump.now) processors.now (W.contents writer.old) (W.contents writer.new)) }
     ensures notes { S.IsKnown → OnOk result (AreNoted E.contents request.now.command
-        (words_of_dump (opened S.bytes dump.now)) processors.now notes.old notes.new) }
+        (words_opened S.bytes dump.now) processors.now notes.old notes.new) }
     ensures told { S.IsKnown → OnOk result (InTurn (program.ToldOfTablesOf G.Told G.Ended
-        (words_of_dump (opened S.bytes dump.now))) (specs.firsts_of processors.now) progress.old progress.new) }
+        (words_opened S.bytes dump.now)) (specs.firsts_of processors.now) progress.old progress.new) }
     ensures errors { S.IsKnown → IfErr result (IsForced (W.may_refuse || E.may_refuse)) }
 {
     let firsts = firsts_of(alloc, processors)?;
@@ -127,15 +126,15 @@ fn write_reports<S: ByteSource, W: Destination, E: Destination, G: Progress>(
     requires all { program.is_of_processors request.now ≡ true }
     requires noted { string_bytes notes.old.text ≡ [] }
     ensures text { S.IsKnown → OnOk result (Appends (W.contents writer.old) (W.contents writer.new) (flat_map
-        (program.report_below request.now (words_of_dump (opened S.bytes dump.now)) processors.now) firsts.now)) }
+        (program.report_below request.now (words_opened S.bytes dump.now) processors.now) firsts.now)) }
     ensures complete { S.IsKnown → IfOk result (λ all. all ≡ list_all
-        (program.is_complete_for request.now (words_of_dump (opened S.bytes dump.now))) firsts.now) }
+        (program.is_complete_for request.now (words_opened S.bytes dump.now)) firsts.now) }
     ensures name { S.IsKnown → OnOk result (notes.new.writer.ghost_name ≡ notes.old.writer.ghost_name) }
     ensures totals { S.IsKnown → OnOk result (InTurn
-        (program.EndsByTotalsOf request.now.command (words_of_dump (opened S.bytes dump.now))) firsts.now
+        (program.EndsByTotalsOf request.now.command (words_opened S.bytes dump.now)) firsts.now
         (E.contents notes.old.writer.now) (E.contents notes.new.writer.now)) }
     ensures told { S.IsKnown → OnOk result (InTurn
-        (program.ToldOfTablesOf G.Told G.Ended (words_of_dump (opened S.bytes dump.now))) firsts.now
+        (program.ToldOfTablesOf G.Told G.Ended (words_opened S.bytes dump.now)) firsts.now
         progress.old progress.new) }
     ensures errors { S.IsKnown → IfErr result (IsForced (W.may_refuse || E.may_refuse)) }
 {
@@ -165,16 +164,16 @@ fn write_report_below<S: ByteSource, W: Destination, E: Destination, G: Progress
     requires all { program.is_of_processors request.now ≡ true }
     requires noted { string_bytes notes.old.text ≡ [] }
     ensures text { S.IsKnown → OnOk result (Appends (W.contents writer.old) (W.contents writer.new)
-        (program.report_below request.now (words_of_dump (opened S.bytes dump.now)) processors.now first.now)) }
+        (program.report_below request.now (words_opened S.bytes dump.now) processors.now first.now)) }
     ensures complete { S.IsKnown → IfOk result (λ is.
-        is ≡ program.is_complete_for request.now (words_of_dump (opened S.bytes dump.now)) first.now) }
+        is ≡ program.is_complete_for request.now (words_opened S.bytes dump.now) first.now) }
     ensures noted { OnOk result (string_bytes notes.new.text ≡ []) }
     ensures name { S.IsKnown → OnOk result (notes.new.writer.ghost_name ≡ notes.old.writer.ghost_name) }
     ensures totals { S.IsKnown → OnOk result (program.EndsByTotalsOf request.now.command
-        (words_of_dump (opened S.bytes dump.now)) first.now
+        (words_opened S.bytes dump.now) first.now
         (E.contents notes.old.writer.now) (E.contents notes.new.writer.now)) }
     ensures told { S.IsKnown → OnOk result (program.ToldOfTablesOf G.Told G.Ended
-        (words_of_dump (opened S.bytes dump.now)) first.now progress.old progress.new) }
+        (words_opened S.bytes dump.now) first.now progress.old progress.new) }
     ensures errors { S.IsKnown → IfErr result (IsForced (W.may_refuse || E.may_refuse)) }
 {
     write_heading(alloc, request.form, processors, first, writer)?;

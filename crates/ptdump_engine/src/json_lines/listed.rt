@@ -102,7 +102,8 @@ pub fn write_json_regions<L: LevelCount, O: Lines>(
     output: &mut O,
 ) -> Result<(), O::Error>
     ensures { OnOk result (O.puts output.old output.new (
-        flat_map (λ r. json.json_line (json.json_of_region L.LEVELS r)) (filter (is_selected L.LEVELS selection)
+        flat_map (λ r. json.json_line (json.json_of_region L.LEVELS r)) (filter
+        (is_selected L.LEVELS selection)
         (regions_asked loaded.now.summaries.now L.LEVELS loaded.now.root)))) }
 {
     let mut lines = JsonLines::new(alloc, output);
@@ -127,7 +128,8 @@ pub fn write_json_pages<L: LevelCount, O: Lines>(
 ) -> Result<(), O::Error>
     ensures { OnOk result (O.puts output.old output.new (
         flat_map (λ m. json.json_line (json.json_of_mapping L.LEVELS m)) (filter
-        (is_mapping_selected L.LEVELS selection) (mappings_asked loaded.now.summaries.now L.LEVELS loaded.now.root)))) }
+        (is_mapping_selected L.LEVELS selection)
+        (mappings_asked loaded.now.summaries.now L.LEVELS loaded.now.root)))) }
 {
     let mut lines = JsonLines::new(alloc, output);
     visit_selected_mappings::<L, JsonLines<'_, O>>(
