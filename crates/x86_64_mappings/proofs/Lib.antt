@@ -9,3 +9,4 @@ pub mod Joined
 mod Whole
 mod Spans
 mod Levels
+mod Digits

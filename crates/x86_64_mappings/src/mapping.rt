@@ -1,12 +1,13 @@
 //! Mappings: what the leaves of page tables map.
-ghost use Rattle.std.specs.Prelude.{◌≡◌, ◌<◌, ◌≤◌, true, Some};
+ghost use Rattle.std.specs.Prelude.{◌≡◌, ◌<◌, ◌≤◌, ◌++◌, true, Some, drop};
+ghost use Rattle.std.specs.Str.{IsAscii};
 ghost use Rattle.x86_64_model.specs.Mappings.{maps_page};
 ghost use Rattle.x86_64_model.specs.Position.{position_count};
 ghost use Rattle.x86_64_model.specs.private.Found.{page_at};
 ghost use Rattle.std.specs.Fmt.{WritesOnOk};
 ghost use Rattle.x86_64_mappings.specs.Texts as texts;
 
-use crate::text::{write_hexadecimal, write_size};
+use crate::text::pieces::{CAPACITY, put, put_hexadecimal, put_rights, put_size, write_from};
 use bitflags::Flags;
 use std::fmt::{Display, Formatter, Result as FmtResult, Write};
 use std::marker::Model;
@@ -118,19 +119,29 @@ fn write_line<W: Write>(
     ensures { WritesOnOk W.write_str_gives f.old result
         (texts.line_text start size frame rights flags) f.new }
 {
-    write_place(f, start, size, frame)?;
-    write!(f, " {rights} ")?;
-    write_hexadecimal(f, flags)
+    let mut line = [0; CAPACITY];
+    let first = put_hexadecimal(&mut line, CAPACITY, flags);
+    let first = put(&mut line, first, b' ');
+    let first = put_rights(&mut line, first, rights);
+    let first = put(&mut line, first, b' ');
+    let first = put_place(&mut line, first, start, size, frame);
+    write_from(f, &line, first)
 }
 
-/// Writes where a mapping starts, its size, and where its frame starts.
+/// Writes where a mapping starts, its size, and where its frame starts, so that they end at `end`. Returns where they start
+/// in the line.
+#[inline(always)]
 #[tactic(auto, unfolding(crate::specs::Texts::place_text))]
-fn write_place<W: Write>(f: &mut Formatter<W>, start: u64, size: u64, frame: u64) -> FmtResult
-    ensures { WritesOnOk W.write_str_gives f.old result (texts.place_text start size frame) f.new }
+fn put_place(line: &mut [u8; CAPACITY], end: usize, start: u64, size: u64, frame: u64) -> usize
+    requires room { 61 ≤ end }
+    requires inside { end ≤ 96 }
+    ensures text { drop result line.new ≡ texts.place_text start size frame ++ drop end line.old }
+    ensures start { result ≤ end }
+    ensures ascii { IsAscii (drop end line.old) → IsAscii (drop result line.new) }
 {
-    write_hexadecimal(f, start)?;
-    f.write_str(" ")?;
-    write_size(f, size)?;
-    f.write_str(" ")?;
-    write_hexadecimal(f, frame)
+    let first = put_hexadecimal(line, end, frame);
+    let first = put(line, first, b' ');
+    let first = put_size(line, first, size);
+    let first = put(line, first, b' ');
+    put_hexadecimal(line, first, start)
 }

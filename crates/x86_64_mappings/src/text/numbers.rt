@@ -6,6 +6,7 @@ ghost use Rattle.std.specs.Option.{SomeIff};
 ghost use Rattle.std.specs.Str.Parse.{IsNumeral, digits_value};
 ghost use Rattle.x86_64_mappings.specs.Numbers.{IsNumber, number_of, hexadecimal};
 
+use crate::text::pieces::{CAPACITY, put_hexadecimal, write_from};
 use std::fmt::{Formatter, Result as FmtResult, Write};
 
 /// Parses a number below 2^64: decimal digits, or `0x` and hexadecimal digits of either case.
@@ -40,5 +41,7 @@ fn parse_digits(digits: &str, radix: u32) -> Option<u64>
 pub fn write_hexadecimal<W: Write>(f: &mut Formatter<W>, number: u64) -> FmtResult
     ensures { WritesOnOk W.write_str_gives f.old result (hexadecimal number) f.new }
 {
-    write!(f, "0x{number:x}")
+    let mut line = [0; CAPACITY];
+    let start = put_hexadecimal(&mut line, CAPACITY, number);
+    write_from(f, &line, start)
 }

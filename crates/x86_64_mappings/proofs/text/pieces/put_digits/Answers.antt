@@ -1,0 +1,46 @@
+use Rattle.std.proofs.Common.{◌∷◌, ◌++◌, ◌∙◌, ◌/◌, ◌%◌, [], drop, false, sym, ap, arith, append_assoc}
+use Rattle.std.specs.Fmt.{digits, digit_glyph}
+use Rattle.x86_64_mappings.proofs.Digits.{digits_one, digits_step, length_one, length_step}
+use Rattle.x86_64_mappings.proofs.text.pieces.put_digits.Goals as goal
+
+pub put-start-requires-clause-room : goal.put-start-requires-clause-room
+put-start-requires-clause-room c =
+    let l = c.loop-left in
+    omega (arith, l.invariant.2, length_step c.args.base l.left c.requires.base c.loop-left-test.true l.auto.left-fits.fits)
+
+pub loop-left-preserved : goal.loop-left-preserved
+loop-left-preserved c =
+    let l = c.loop-left in
+    let base = c.args.base in
+    let written = drop l.start l.line in
+    let front = digits base false (l.left / base) in
+    let last = digit_glyph false (l.left % base) ∷ [] in
+    let long = length_step base l.left c.requires.base c.loop-left-test.true l.auto.left-fits.fits in
+    let put = c.put-start.ensures in
+    let text = ap (λ xs. front ++ xs) (put.text ∙ ap (λ d. d ∷ written) c.digit.ensures.text)
+    ∙ sym (append_assoc front last written)
+    ∙ ap (λ xs. xs ++ written) (sym (digits_step base l.left c.requires.base c.loop-left-test.true l.auto.left-fits.fits))
+    ∙ l.invariant.0 in (
+      text,
+      omega (arith, l.invariant.1, long, put.start),
+      omega (arith, l.invariant.2, long, put.start),
+      omega (arith, l.invariant.3, put.start),
+      λ before. put.ascii (l.invariant.4 before),
+    )
+
+pub put-requires-clause-room : goal.put-requires-clause-room
+put-requires-clause-room c =
+    let l = c.loop-left in
+    omega (arith, l.invariant.2, length_one c.args.base l.left c.requires.base c.loop-left-test.false)
+
+pub returns-clause-text : goal.returns-clause-text
+returns-clause-text c =
+    let l = c.loop-left in
+    let written = drop l.start l.line in
+    c.put.ensures.text ∙ ap (λ d. d ∷ written) c.digit-2.ensures.text
+    ∙ ap (λ xs. xs ++ written) (sym (digits_one c.args.base l.left c.requires.base c.loop-left-test.false)) ∙ l.invariant.0
+
+pub returns-clause-start : goal.returns-clause-start
+returns-clause-start c =
+    let l = c.loop-left in
+    omega (arith, l.invariant.1, c.put.ensures.start, length_one c.args.base l.left c.requires.base c.loop-left-test.false)

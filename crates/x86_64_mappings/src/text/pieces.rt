@@ -1,0 +1,168 @@
+//! Pieces of a line, which are written into a buffer one before the other, from the end of the line to its start.
+ghost use Rattle.std.specs.Fmt.{WritesOnOk, digit_glyph, digits};
+ghost use Rattle.std.specs.Prelude.{◌≡◌, ◌+◌, ◌<◌, ◌≤◌, ◌∷◌, ◌++◌, ◌⊎◌, [], codes, decimal, drop, false, length};
+ghost use Rattle.std.specs.Str.{IsAscii};
+ghost use Rattle.x86_64_mappings.specs.Numbers.{hexadecimal};
+ghost use Rattle.x86_64_mappings.specs.Texts.{size_text};
+ghost use Rattle.x86_64_tables.specs.Rights.{letter_text, rights_text};
+
+use std::fmt::{Formatter, Result as FmtResult, Write};
+use std::str::from_utf8_unchecked;
+use x86_64_tables::page_table::Rights;
+
+/// The size of a buffer.
+pub(crate) const CAPACITY: usize = 96;
+
+/// Writes an ASCII character so that it ends at `end`, and returns where it starts.
+#[inline(always)]
+pub(crate) fn put(line: &mut [u8; CAPACITY], end: usize, character: u8) -> usize
+    requires ascii { character < 128 }
+    requires room { 0 < end }
+    requires inside { end ≤ 96 }
+    ensures text { drop result line.new ≡ character ∷ drop end line.old }
+    ensures start { result + 1 ≡ end }
+    ensures ascii { IsAscii (drop end line.old) → IsAscii (drop result line.new) }
+{
+    line[end - 1] = character;
+    end - 1
+}
+
+/// Writes a number in base 16 so that it ends at `end`, after `0x`, in lower case and without leading zeros. Returns where
+/// it starts.
+#[inline(always)]
+pub(crate) fn put_hexadecimal(line: &mut [u8; CAPACITY], end: usize, number: u64) -> usize
+    requires room { 18 ≤ end }
+    requires inside { end ≤ 96 }
+    ensures text { drop result line.new ≡ hexadecimal number ++ drop end line.old }
+    ensures start { result ≤ end }
+    ensures short { end ≤ result + 18 }
+    ensures ascii { IsAscii (drop end line.old) → IsAscii (drop result line.new) }
+{
+    let start = put_digits(line, end, number, 16);
+    let start = put(line, start, b'x');
+    put(line, start, b'0')
+}
+
+/// Writes a number in base 10 so that it ends at `end`, and returns where it starts.
+#[inline(always)]
+pub(crate) fn put_decimal(line: &mut [u8; CAPACITY], end: usize, number: u64) -> usize
+    requires room { 20 ≤ end }
+    requires inside { end ≤ 96 }
+    ensures text { drop result line.new ≡ decimal number ++ drop end line.old }
+    ensures start { result ≤ end }
+    ensures short { end ≤ result + 20 }
+    ensures ascii { IsAscii (drop end line.old) → IsAscii (drop result line.new) }
+{
+    put_digits(line, end, number, 10)
+}
+
+/// Writes the digits of a number in a base so that they end at `end`, and returns where they start.
+#[inline(always)]
+fn put_digits(line: &mut [u8; CAPACITY], end: usize, number: u64, base: u64) -> usize
+    requires base { (base ≡ 10) ⊎ (base ≡ 16) }
+    requires room { length (digits base false number) ≤ end }
+    requires inside { end ≤ 96 }
+    ensures text { drop result line.new ≡ digits base false number ++ drop end line.old }
+    ensures start { result + length (digits base false number) ≡ end }
+    ensures ascii { IsAscii (drop end line.old) → IsAscii (drop result line.new) }
+{
+    let mut start = end;
+    let mut left = number;
+    while left >= base {
+        start = put(line, start, digit(left % base));
+        left /= base;
+    }
+    put(line, start, digit(left))
+}
+
+/// Returns the character of a digit below 16.
+#[inline(always)]
+fn digit(number: u64) -> u8
+    requires { number < 16 }
+    ensures text { result ≡ digit_glyph false number }
+    ensures ascii { result < 128 }
+{
+    let number = number as u8;
+    if number < 10 {
+        b'0' + number
+    } else {
+        b'a' - 10 + number
+    }
+}
+
+/// Writes a number of bytes so that it ends at `end`, in the largest of KiB, MiB, GiB and TiB that divides it, and returns
+/// where it starts.
+#[inline(always)]
+pub(crate) fn put_size(line: &mut [u8; CAPACITY], end: usize, bytes: u64) -> usize
+    requires room { 23 ≤ end }
+    requires inside { end ≤ 96 }
+    ensures text { drop result line.new ≡ size_text bytes ++ drop end line.old }
+    ensures start { result ≤ end }
+    ensures short { end ≤ result + 23 }
+    ensures ascii { IsAscii (drop end line.old) → IsAscii (drop result line.new) }
+{
+    let (count, unit) = in_unit(bytes);
+    let start = put(line, end, b'B');
+    let start = put(line, start, b'i');
+    let start = put(line, start, unit);
+    put_decimal(line, start, count)
+}
+
+/// Returns a number of bytes in the largest of KiB, MiB, GiB and TiB that divides it, and the first letter of that unit. For
+/// 0, or if none of them divides the number, the unit is KiB.
+fn in_unit(bytes: u64) -> (u64, u8)
+    ensures text { size_text bytes ≡ decimal result.0 ++ result.1 ∷ codes "iB" }
+    ensures ascii { result.1 < 128 }
+{
+    if bytes == 0 {
+        (0, b'K')
+    } else if bytes % (1 << 40) == 0 {
+        (bytes / (1 << 40), b'T')
+    } else if bytes % (1 << 30) == 0 {
+        (bytes / (1 << 30), b'G')
+    } else if bytes % (1 << 20) == 0 {
+        (bytes / (1 << 20), b'M')
+    } else {
+        (bytes / (1 << 10), b'K')
+    }
+}
+
+/// Writes rights so that they end at `end`, and returns where they start.
+#[inline(always)]
+#[tactic(auto, unfolding(x86_64_tables::specs::Rights::rights_text))]
+pub(crate) fn put_rights(line: &mut [u8; CAPACITY], end: usize, rights: Rights) -> usize
+    requires room { 4 ≤ end }
+    requires inside { end ≤ 96 }
+    ensures text { drop result line.new ≡ rights_text rights ++ drop end line.old }
+    ensures start { result + 4 ≡ end }
+    ensures ascii { IsAscii (drop end line.old) → IsAscii (drop result line.new) }
+{
+    let start = put(line, end, letter(rights.user, b'u'));
+    let start = put(line, start, letter(rights.execute, b'x'));
+    let start = put(line, start, letter(rights.write, b'w'));
+    put(line, start, b'r')
+}
+
+/// Returns the letter of a right, or `-` without the right.
+#[inline(always)]
+fn letter(holds: bool, letter: u8) -> u8
+    requires { letter < 128 }
+    ensures text { result ∷ [] ≡ letter_text holds (letter ∷ []) }
+    ensures ascii { result < 128 }
+{
+    if holds { letter } else { b'-' }
+}
+
+/// Writes the text from `start` on.
+#[inline(always)]
+pub(crate) fn write_from<W: Write>(
+    f: &mut Formatter<W>,
+    line: &[u8; CAPACITY],
+    start: usize,
+) -> FmtResult
+    requires inside { start ≤ 96 }
+    requires ascii { IsAscii (drop start line.now) }
+    ensures { WritesOnOk W.write_str_gives f.old result (drop start line.now) f.new }
+{
+    f.write_str(unsafe { from_utf8_unchecked(&line[start..]) })
+}
