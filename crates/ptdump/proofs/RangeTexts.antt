@@ -7,6 +7,8 @@ use Rattle.std.specs.Borrow.{Bor}
 use Rattle.x86_64_dump.specs.declared.placement.Placement.{Placement}
 use Rattle.x86_64_dump.specs.declared.placement.Placement.TheVariants.{Unstated, Base, Ranges}
 use Rattle.x86_64_dump.specs.declared.placement.RawRange.{RawRange}
+use Rattle.ptdump_engine.specs.declared.request.AddressRange.{AddressRange}
+use Rattle.ptdump.specs.DirectMaps.{AreEnds}
 use Rattle.ptdump.specs.Placements.{AreParts, AreRanges, Denotes, IsPlacement, IsRange}
 
 -- each of the texts denotes a range
@@ -21,6 +23,12 @@ pub three_parts : (parts : List (Bor (List ℕ))) (range : RawRange) → ArePart
 three_parts parts range are =
     let now : Bor (List ℕ) → List ℕ = λ part. part.now in
     sym (length-map parts now) ∙ sym (AllZip-long Denotes (map now parts) (range.offset ∷ range.address ∷ range.size ∷ []) are)
+
+-- a range of addresses has two parts
+pub two_parts : (parts : List (Bor (List ℕ))) (range : AddressRange) → AreEnds (map (λ part. part.now) parts) range → length parts ≡ 2
+two_parts parts range are =
+    let now : Bor (List ℕ) → List ℕ = λ part. part.now in
+    sym (length-map parts now) ∙ sym (AllZip-long Denotes (map now parts) (range.first ∷ range.last ∷ []) are)
 
 -- no placement is described if there are texts that denote no ranges
 pub no_ranges : (base : Option (Bor (List ℕ))) (texts : List (Bor (List ℕ))) → base ≡ None → 1 ≤ length texts → ((ranges : List RawRange) → AreRanges (map (λ text. text.now) texts) ranges → ⊥)

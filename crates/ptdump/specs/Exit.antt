@@ -3,7 +3,7 @@ use Rattle.std.specs.Prelude.{ℕ, Result, Ok, Err, if◌then◌else◌}
 use Rattle.ptdump_engine.specs.Failure.{status_of}
 use Rattle.ptdump_engine.specs.declared.request.Outcome.{Outcome}
 use Rattle.ptdump.specs.declared.stop.Stop.{Stop}
-use Rattle.ptdump.specs.declared.stop.Stop.TheVariants.{Help, Usage, NoText, NoCommand, NoAddress, NoNumber, NoLevels, NoRange, BaseAndRanges, NoAccess, NoSetting, NoPhysicalBits, NoRights, Unopened, NoLength, Failed}
+use Rattle.ptdump.specs.declared.stop.Stop.TheVariants.{Help, Usage, NoText, NoCommand, NoAddress, NoNumber, NoLevels, NoRange, BaseAndRanges, NoAccess, NoSetting, NoPhysicalBits, NoDirectMap, NoRights, Unopened, NoLength, Failed}
 
 -- 0: help; 2: the command line; 3: the file; else that of the run that failed
 abbrev pub stop_status : Stop → ℕ
@@ -19,6 +19,7 @@ stop_status BaseAndRanges = 2
 stop_status (NoAccess name) = 2
 stop_status (NoSetting word) = 2
 stop_status (NoPhysicalBits bits) = 2
+stop_status (NoDirectMap text) = 2
 stop_status (NoRights text) = 2
 stop_status (Unopened path error) = 3
 stop_status (NoLength path error) = 3

@@ -1,4 +1,5 @@
 pub mod Asked
+pub mod DirectMaps
 pub mod Exit
 pub mod Options
 pub mod Placements

@@ -4,14 +4,16 @@ use Rattle.clap.specs.Matches.{first_value}
 use Rattle.clap.specs.declared.parser.matches.Found.{Found}
 use Rattle.ptdump_engine.specs.Accesses.{access_name}
 use Rattle.ptdump_engine.specs.declared.failure.Failure.TheVariants.{OutOfMemory}
+use Rattle.ptdump_engine.specs.declared.request.AddressRange.{AddressRange}
 use Rattle.ptdump.specs.Asked.{is_listed, setting_names}
+use Rattle.ptdump.specs.DirectMaps.{IsAddressRange}
 use Rattle.ptdump.specs.Options.{option_name}
 use Rattle.ptdump.specs.Placements.{IsRange}
 use Rattle.ptdump.specs.Requests.{values}
 use Rattle.ptdump.specs.Selections.{are_letters}
 use Rattle.ptdump.specs.declared.numbers.NumberOption.TheVariants.{Base}
 use Rattle.ptdump.specs.declared.stop.Stop.{Stop}
-use Rattle.ptdump.specs.declared.stop.Stop.TheVariants.{NoCommand, NoAddress, NoNumber, NoLevels, NoRange, BaseAndRanges, NoAccess, NoSetting, NoPhysicalBits, NoRights, Failed}
+use Rattle.ptdump.specs.declared.stop.Stop.TheVariants.{NoCommand, NoAddress, NoNumber, NoLevels, NoRange, BaseAndRanges, NoAccess, NoSetting, NoPhysicalBits, NoDirectMap, NoRights, Failed}
 use Rattle.x86_64_access.specs.declared.request.Access.{Access}
 use Rattle.x86_64_dump.specs.declared.placement.RawRange.{RawRange}
 use Rattle.x86_64_mappings.specs.Numbers.{IsNumber, number_of}
@@ -47,6 +49,7 @@ IsReason found BaseAndRanges = ¬ (first_value found (codes "base") ≡ None) ×
 IsReason found (NoAccess text) = (first_value found (codes "as") ≡ Some text.now) × ((access : Access) → ¬ (text.now ≡ access_name access))
 IsReason found (NoSetting word) = IsBadSetting (values found (codes "controls")) word.now
 IsReason found (NoPhysicalBits bits) = HasNumber found (codes "maxphyaddr") bits × ¬ ((32 ≤ bits) × (bits ≤ 52))
+IsReason found (NoDirectMap text) = (first_value found (codes "direct-map") ≡ Some text.now) × ((range : AddressRange) → ¬ (IsAddressRange text.now range))
 IsReason found (NoRights text) = (first_value found (codes "rights") ≡ Some text.now) × (are_letters text.now ≡ false)
 IsReason found (Failed failure) = failure ≡ OutOfMemory
 IsReason found stop = ⊥

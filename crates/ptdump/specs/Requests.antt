@@ -12,6 +12,7 @@ use Rattle.x86_64_addr.specs.declared.level_count.Levels.TheVariants.{Four, Five
 use Rattle.ptdump_engine.specs.declared.request.Request.{Request}
 use Rattle.ptdump_engine.specs.declared.failure.Failure.TheVariants.{OutOfMemory}
 use Rattle.ptdump.specs.Asked.{AreAsked, IsBits}
+use Rattle.ptdump.specs.DirectMaps.{IsDirectMap}
 use Rattle.ptdump.specs.Options.{IsFlag, IsOption}
 use Rattle.ptdump.specs.Placements.{IsPlacement}
 use Rattle.ptdump.specs.Selections.{IsSelection}
@@ -27,9 +28,11 @@ AreNumbers texts numbers = All IsNumber texts × (numbers ≡ map number_of text
 abbrev pub values : Found → (name : List ℕ) → List (List ℕ)
 values found name = unwrap_or (option_map raw_values (matched_of found name)) []
 
--- the number of bits of physical addresses is that of --maxphyaddr, and the regions are those of --from and --to
+-- the number of bits of physical addresses is that of --maxphyaddr, the direct map that of --direct-map, and the regions are those of
+-- --from and --to
 pub record IsChecking (found : Found) (checking : Checking) : Type 0 where
   pub bits : IsBits (first_value found (codes "maxphyaddr")) checking.physical_bits
+  pub direct_map : IsDirectMap (first_value found (codes "direct-map")) checking.direct_map
   pub selection : IsSelection found checking.selection
 
 -- the command has this name, and what it takes from these arguments

@@ -35,7 +35,9 @@ fn subcommand<'a>(alloc: Global, help: &CommandHelp) -> Result<Command<'a>, Erro
         Operands::Checks => {
             with_all_cpus(
                 alloc,
-                with_addresses(alloc, command)?.arg(maxphyaddr(alloc))?,
+                with_addresses(alloc, command)?
+                    .arg(maxphyaddr(alloc))?
+                    .arg(direct_map(alloc))?,
             )?
         }
         Operands::Addresses(text) => command.arg(addresses(alloc, text))?,
@@ -151,6 +153,16 @@ fn maxphyaddr<'a>(alloc: Global) -> Arg<'a> {
         "maxphyaddr",
         "Bits of physical addresses, 32 to 52 [default: 52]",
     )
+}
+
+/// Returns the option for the addresses of the direct map.
+fn direct_map<'a>(alloc: Global) -> Arg<'a> {
+    option(
+        alloc,
+        "direct-map",
+        "Addresses where tables may be writable, as FIRST:LAST",
+    )
+    .value_name("RANGE")
 }
 
 /// Returns the argument for the dump.

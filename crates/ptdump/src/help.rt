@@ -282,6 +282,10 @@ processor lacks, which are those from --maxphyaddr on, and low address bits of
 large pages. For a table there is the first address at which user code can write
 to it, or if it can't, read it. The exit status is 1 if there are any.
 
+--direct-map FIRST:LAST says where the kernel maps all of physical memory: both
+addresses are included. Then a table to which a writable mapping leads that
+doesn't lie there wholly is a finding too, with the first such address.
+
 --all-cpus checks the tables of each processor in QEMU's notes, and those of
 several with the same root once, below a line with their numbers and the root.
 
@@ -293,8 +297,9 @@ With --json a line is an object whose finding is \"writable and executable\" or
 named often\", with table and times, \"table not in the dump\", with table and
 named_by, which has table and index, \"HUGE_PAGE above level three\" or \"reserved
 bits\", with table, index and level, and for the latter word, or \"table mapped
-writable for user\" or \"table mapped for user\", with table and at, the address.
-The last line is an object with findings, their number.
+writable for user\", \"table mapped for user\" or \"table mapped writable outside
+the direct map\", with table and at, the address. The last line is an object with
+findings, their number.
 
 Examples:
 

@@ -9,6 +9,7 @@ ghost use Rattle.ptdump_engine.specs.declared.failure.Failure.TheVariants.{Outpu
 
 mod asked;
 mod command_line;
+mod direct_map;
 mod flags;
 mod help;
 mod numbers;

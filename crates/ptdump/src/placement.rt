@@ -86,7 +86,11 @@ fn range_of<'a>(alloc: Global, text: &'a str) -> Result<RawRange, Stop<'a>>
 }
 
 /// Returns the parts of a text between its colons.
-fn parts_of<'a>(alloc: Global, text: &'a str) -> Result<Vec<&'a str>, AllocError>
+///
+/// # Errors
+///
+/// `AllocError` if memory allocation fails.
+pub fn parts_of<'a>(alloc: Global, text: &'a str) -> Result<Vec<&'a str>, AllocError>
     ensures { IfOk result (λ parts.
         map (λ part. part.now) parts.items ≡ slice_split (λ c. c == 0x3a) text.now) }
 {

@@ -7,6 +7,7 @@ ghost use Rattle.ptdump.specs.Requests.{AreNumbers, IsCommand, IsLevels, IsReque
 ghost use Rattle.x86_64_addr.specs.declared.level_count.Levels.{Levels};
 
 use crate::asked::{bits_of, options_of};
+use crate::direct_map::direct_map_of;
 use crate::flags::is_given;
 use crate::numbers::{NumberOption, numbers_of, option_of};
 use crate::placement::placement_of;
@@ -74,7 +75,7 @@ fn command_of<'a>(
     } else if name == "find" {
         search_of(alloc, arguments)
     } else if name == "check" {
-        check_of(arguments)
+        check_of(alloc, arguments)
     } else if name == "image" {
         Ok(Command::Image)
     } else if name == "picture" {
@@ -128,15 +129,17 @@ fn search_of<'a>(alloc: Global, arguments: &ArgMatches<'a>) -> Result<Command, S
 }
 
 /// Returns the check that the arguments describe.
-fn check_of<'a>(arguments: &ArgMatches<'a>) -> Result<Command, Stop<'a>>
+fn check_of<'a>(alloc: Global, arguments: &ArgMatches<'a>) -> Result<Command, Stop<'a>>
     ensures ok { IfOk result (IsCommand (codes "check") (found_of arguments.now)) }
     ensures err { IfErr result (IsUnread (IsCommand (codes "check") (found_of arguments.now))) }
     ensures reason { IfErr result (IsReason (found_of arguments.now)) }
 {
     let physical_bits = bits_of(arguments)?;
+    let direct_map = direct_map_of(alloc, arguments)?;
     let selection = selection_of(arguments)?;
     Ok(Command::Check(Checking {
         physical_bits,
+        direct_map,
         selection,
     }))
 }

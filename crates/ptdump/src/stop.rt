@@ -45,6 +45,8 @@ pub enum Stop<'a> {
     NoSetting(&'a str),
     /// No processor has this number of bits of physical addresses.
     NoPhysicalBits(u64),
+    /// The value of `--direct-map` isn't two addresses.
+    NoDirectMap(&'a str),
     /// The text isn't one of letters of rights, each once.
     NoRights(&'a str),
     /// The file can't be opened.
@@ -84,6 +86,7 @@ impl Stop<'_> {
             | Stop::NoAccess(_)
             | Stop::NoSetting(_)
             | Stop::NoPhysicalBits(_)
+            | Stop::NoDirectMap(_)
             | Stop::NoRights(_) => 2,
             Stop::Unopened { .. } | Stop::NoLength { .. } => 3,
             Stop::Failed(failure) => failure.status(),
@@ -139,6 +142,10 @@ impl Display for Stop<'_> {
             Stop::NoPhysicalBits(bits) => write!(
                 f,
                 "--maxphyaddr {bits}: give a number from 32 to 52"
+            ),
+            Stop::NoDirectMap(text) => write!(
+                f,
+                "--direct-map {text} is no range: give FIRST:LAST, two addresses with a colon between, decimal or hexadecimal after 0x"
             ),
             Stop::NoRights(text) => write!(
                 f,

@@ -1,23 +1,31 @@
 -- Searches: what the first mapping that leads to an address is after more mappings, and which of them change nothing.
-use Rattle.std.proofs.Common.{◌≡◌, ◌∙◌, ◌+◌, ◌<◌, ◌≤◌, ◌%◌, ◌&&◌, ◌||◌, ◌++◌, ℕ, Bool, true, false, not, cond, nat_eq, nat_le, nat_lt, List, [], ◌∷◌, find, length, map, Option, None, Some, IfSome, option_map, refl, sym, ap, ap₂, subst, append-nil, append_assoc, arith}
-use Rattle.std.proofs.lemmas.Bool.{and_parts, eqb-true, lt-ltb, ltb-true}
+use Rattle.std.proofs.Common.{◌≡◌, ◌∙◌, ◌+◌, ◌-◌, ◌*◌, ◌<◌, ◌≤◌, ◌%◌, ◌&&◌, ◌||◌, ◌++◌, ℕ, Bool, true, false, not, cond, nat_eq, nat_le, nat_lt, List, [], ◌∷◌, filter, find, length, map, Option, None, Some, IfSome, option_map, refl, sym, ap, ap₂, subst, append-nil, append_assoc, arith}
+use Rattle.std.proofs.lemmas.Bool.{and_parts, eqb-true, le-leb, leb-true, lt-leb, lt-ltb, ltb-true}
 use Rattle.std.proofs.lemmas.List.{with_items_is}
 use Rattle.std.proofs.lemmas.List.Elements.{filter-append}
 use Rattle.std.proofs.lemmas.List.Folds.{find-append}
 use Rattle.std.specs.HashMap.{get}
 use Rattle.std.specs.HashSet.{contains}
+use Rattle.std.specs.List.{AllByRecursion}
 use Rattle.std.specs.List.Sorted.{IsNonDecreasingBy}
 use Rattle.std.specs.Option.{option_or, IsSomeAnd}
 use Rattle.std.specs.Vec.{with_items}
 use Rattle.x86_64_mappings.specs.Wanted.{asked_mappings, leads_to}
 use Rattle.x86_64_mappings.specs.private.Placed.{placed}
-use Rattle.x86_64_model.specs.Mappings.{Mapping, Rights}
+use Rattle.x86_64_mappings.proofs.Visited.{span_below}
+use Rattle.x86_64_model.specs.Mappings.{Mapping, Rights, mappings_of}
+use Rattle.x86_64_model.specs.Memory.{identity_places, words_of}
+use Rattle.x86_64_model.specs.Position.{position_count, span}
+use Rattle.x86_64_model.proofs.Lemmas.Mappings.Placed.{mappings_fit, mappings_placed}
+use Rattle.x86_64_model.proofs.Lemmas.Mappings.RegionLaws.{IsPlaced}
 use Rattle.x86_64_tables.specs.Rights.{both}
 use Rattle.ptdump_engine.specs.Selections.{includes}
+use Rattle.ptdump_engine.specs.declared.reached.positions.Positions.{Positions}
 use Rattle.ptdump_engine.specs.declared.reached.search.Found.{Found}
 use Rattle.ptdump_engine.specs.declared.reached.search.Search.{Search}
 use Rattle.ptdump_engine.specs.declared.reached.search.Visit.{Visit}
-use Rattle.ptdump_engine.specs.private.Reaching.{address_in, searched, firsts_of, kept, kept_below, kept_in, is_within, Cover, IsAfter, Takes}
+use Rattle.ptdump_engine.specs.private.Reaching.{address_in, are_apart, are_left_out, searched, is_sought, sought, sought_in, span_of_table, positions_of, firsts_of, kept, kept_below, is_within, Cover, IsAfter, Takes}
+use Rattle.ptdump_engine.proofs.Asked.{all_wanted}
 use Rattle.ptdump_engine.proofs.Noted.{so_many}
 
 -- ---- rights
@@ -76,6 +84,91 @@ kept_none needed s r (m ∷ ms) h =
     ap (λ b. cond b (placed s r m ∷ kept needed (map (placed s r) ms)) (kept needed (map (placed s r) ms))) (missing r m.rights needed h)
     ∙ kept_none needed s r ms h
 
+-- ---- mappings that are left out
+
+module _ {X : Type 0} (p q : X → Bool) where
+  filter_whole : (xs : List X) → AllByRecursion (λ x. p x ≡ true) xs → filter p (filter q xs) ≡ filter q xs
+  filter_whole [] all = refl
+  filter_whole (x ∷ xs) all = by (q x) (filter_whole xs all.1)
+    where
+      by : (b : Bool) → filter p (filter q xs) ≡ filter q xs → filter p (cond b (x ∷ filter q xs) (filter q xs)) ≡ cond b (x ∷ filter q xs) (filter q xs)
+      by true rest = ap (λ c. cond c (x ∷ filter p (filter q xs)) (filter p (filter q xs))) all.0 ∙ ap (λ ys. x ∷ ys) rest
+      by false rest = rest
+
+  filter_nothing : (xs : List X) → AllByRecursion (λ x. p x ≡ false) xs → filter p (filter q xs) ≡ []
+  filter_nothing [] all = refl
+  filter_nothing (x ∷ xs) all = by (q x) (filter_nothing xs all.1)
+    where
+      by : (b : Bool) → filter p (filter q xs) ≡ [] → filter p (cond b (x ∷ filter q xs) (filter q xs)) ≡ []
+      by true rest = ap (λ c. cond c (x ∷ filter p (filter q xs)) (filter p (filter q xs))) all.0 ∙ rest
+      by false rest = rest
+
+-- what holds of the placed mappings of a table
+all_placed : (P : Mapping → Type 0) (level count s : ℕ) (r : Rights) → ((m : Mapping) → IsPlaced level m → m.start + m.size ≤ count → P (placed s r m))
+    → (ms : List Mapping) → AllByRecursion (IsPlaced level) ms → AllByRecursion (λ m. m.start + m.size ≤ count) ms → AllByRecursion P (map (placed s r) ms)
+all_placed P level count s r holds [] some fit = tt
+all_placed P level count s r holds (m ∷ ms) some fit = (holds m some.0 fit.0, all_placed P level count s r holds ms some.1 fit.1)
+
+-- a mapping among the positions of a table's span is left out with them
+inside_left_out : (out : Option Positions) (s start size count : ℕ) → 0 < size → start + size ≤ count → are_left_out out (record { first = s; last = s + (count - 1) }) ≡ true
+    → are_left_out out (record { first = s + start; last = s + start + size - 1 }) ≡ true
+inside_left_out None s start size count some fits all = all
+inside_left_out (Some out) s start size count some fits all =
+    let parts = and_parts (nat_le out.first s) (nat_le (s + (count - 1)) out.last) all in
+    let low : out.first ≤ s = leb-true out.first s parts.0 in
+    let high : s + (count - 1) ≤ out.last = leb-true (s + (count - 1)) out.last parts.1 in
+    both_true (nat_le out.first (s + start)) (nat_le (s + start + size - 1) out.last) (le-leb out.first (s + start) (omega arith)) (le-leb (s + start + size - 1) out.last (omega arith))
+
+-- and isn't left out if none of them is
+apart_kept : (out : Option Positions) (s start size count : ℕ) → 0 < size → start + size ≤ count → are_apart out (record { first = s; last = s + (count - 1) }) ≡ true
+    → are_left_out out (record { first = s + start; last = s + start + size - 1 }) ≡ false
+apart_kept None s start size count some fits all = refl
+apart_kept (Some out) s start size count some fits all = by (nat_lt (s + (count - 1)) out.first) (nat_lt out.last s) refl refl all
+  where
+    none : (a : Bool) → (a && false) ≡ false
+    none true = refl
+    none false = refl
+
+    by : (b c : Bool) → nat_lt (s + (count - 1)) out.first ≡ b → nat_lt out.last s ≡ c → (b || c) ≡ true → (nat_le out.first (s + start) && nat_le (s + start + size - 1) out.last) ≡ false
+    by true c p q h =
+        let below : s + (count - 1) < out.first = ltb-true (s + (count - 1)) out.first p in
+        ap (λ b. b && nat_le (s + start + size - 1) out.last) (lt-leb out.first (s + start) (omega arith))
+    by false true p q h =
+        let above : out.last < s = ltb-true out.last s q in
+        ap (λ b. nat_le out.first (s + start) && b) (lt-leb (s + start + size - 1) out.last (omega arith)) ∙ none (nat_le out.first (s + start))
+    by false false p q h = absurd (let e : false ≡ true = h in cc)
+
+-- a table's span consists of those of its entries
+count_span : (level : ℕ) → 1 ≤ level → position_count level ≡ 512 * span level
+count_span level low =
+    let same : level ≡ level + 1 - 1 = omega arith in
+    ap position_count same ∙ span_below (level + 1) (omega (arith, low)) ∙ ap (λ n. 512 * span n) (sym same)
+
+-- the mappings of a table that is visited
+abbrev mapped_in : Search → Visit → List Mapping
+mapped_in search visit = map (placed visit.start visit.above) (asked_mappings (searched search) visit.level visit.frame)
+
+module _ (search : Search) (visit : Visit) (low : 1 ≤ visit.level) where
+  -- the positions of the span, by the number of positions that the table's level has
+  span_is : span_of_table visit ≡ record { first = visit.start; last = visit.start + (position_count visit.level - 1) }
+  span_is = ap (λ n. record { first = visit.start; last = visit.start + (n - 1) }) (sym (count_span visit.level low))
+
+  all_mapped : (P : Mapping → Type 0) → ((m : Mapping) → IsPlaced visit.level m → m.start + m.size ≤ position_count visit.level → P (placed visit.start visit.above m)) → AllByRecursion P (mapped_in search visit)
+  all_mapped P holds =
+      let T = words_of search.memory.now identity_places in
+      subst (λ ms. AllByRecursion P (map (placed visit.start visit.above) ms)) (sym (all_wanted (mappings_of visit.level T visit.frame)))
+      (all_placed P visit.level (position_count visit.level) visit.start visit.above holds (mappings_of visit.level T visit.frame) (mappings_placed visit.level T visit.frame) (mappings_fit visit.level T visit.frame))
+
+  left_out_in : are_left_out search.left_out (span_of_table visit) ≡ true → sought_in search visit ≡ []
+  left_out_in all = filter_nothing (λ m. not (are_left_out search.left_out (positions_of m))) (λ m. includes m.rights search.needed) (mapped_in search visit)
+      (all_mapped (λ m. not (are_left_out search.left_out (positions_of m)) ≡ false)
+      (λ m is fits. ap not (inside_left_out search.left_out visit.start m.start m.size (position_count visit.level) is.some fits (subst (λ p. are_left_out search.left_out p ≡ true) span_is all))))
+
+  apart_in : are_apart search.left_out (span_of_table visit) ≡ true → sought_in search visit ≡ kept search.needed (mapped_in search visit)
+  apart_in all = filter_whole (λ m. not (are_left_out search.left_out (positions_of m))) (λ m. includes m.rights search.needed) (mapped_in search visit)
+      (all_mapped (λ m. not (are_left_out search.left_out (positions_of m)) ≡ true)
+      (λ m is fits. ap not (apart_kept search.left_out visit.start m.start m.size (position_count visit.level) is.some fits (subst (λ p. are_apart search.left_out p ≡ true) span_is all))))
+
 -- ---- the first mapping that leads to an address
 
 find_placed : (a s : ℕ) (r : Rights) (ms : List Mapping) → find (leads_to a) (map (placed s r) ms) ≡ option_map (placed s r) (find (leads_to a) ms)
@@ -117,6 +210,20 @@ not_first ms others cover a = sym (find-append (leads_to a) ms others ∙ by (fi
     by (Some m) is = refl
     by None is = cover a is
 
+-- what they lead to, fewer lead to
+none_kept : (p : Mapping → Bool) (a : ℕ) (ms : List Mapping) → find (leads_to a) ms ≡ None → find (leads_to a) (filter p ms) ≡ None
+none_kept p a [] none = refl
+none_kept p a (m ∷ ms) none = by (leads_to a m) (p m) refl none (none_kept p a ms)
+  where
+    by : (b c : Bool) → leads_to a m ≡ b → cond b (Some m) (find (leads_to a) ms) ≡ None → (find (leads_to a) ms ≡ None → find (leads_to a) (filter p ms) ≡ None)
+        → find (leads_to a) (cond c (m ∷ filter p ms) (filter p ms)) ≡ None
+    by true c is none rest = absurd (let e : Some m ≡ None = none in cc)
+    by false true is none rest = ap (λ b. cond b (Some m) (find (leads_to a) (filter p ms))) is ∙ rest none
+    by false false is none rest = rest none
+
+cover_fewer : (p : Mapping → Bool) (ms others : List Mapping) → Cover ms others → Cover ms (filter p others)
+cover_fewer p ms others cover a none = none_kept p a others (cover a none)
+
 -- what some mappings lead to of a page, more lead to
 within_more : (ms more : List Mapping) (o : Option ℕ) (start : ℕ) → IfSome o (λ size. (a : ℕ) → find (leads_to a) ms ≡ None → is_within start size a ≡ false)
     → IfSome o (λ size. (a : ℕ) → find (leads_to a) (ms ++ more) ≡ None → is_within start size a ≡ false)
@@ -138,6 +245,16 @@ firsts_same : (L : ℕ) (ms ns : List Mapping) → ((a : ℕ) → find (leads_to
 firsts_same L ms ns same [] = refl
 firsts_same L ms ns same (f ∷ fs) = ap₂ (λ o os. o ∷ os) (ap (option_map (address_in L f)) (same f)) (firsts_same L ms ns same fs)
 
+-- ---- a page that is sought or not
+
+pub sought_one : (search : Search) (m : Mapping) → sought search (m ∷ []) ≡ cond (is_sought search m) (m ∷ []) []
+sought_one search m = by (includes m.rights search.needed) (not (are_left_out search.left_out (positions_of m))) refl
+  where
+    by : (b c : Bool) → not (are_left_out search.left_out (positions_of m)) ≡ c
+        → filter (λ m. not (are_left_out search.left_out (positions_of m))) (cond b (m ∷ []) []) ≡ cond (b && c) (m ∷ []) []
+    by true c is = ap (λ c. cond c (m ∷ []) []) is
+    by false c is = refl
+
 -- ---- searches
 
 module _ (L : ℕ) (search : Search) where
@@ -147,12 +264,17 @@ module _ (L : ℕ) (search : Search) where
   pub takes_both : (old between new : Found) (front back : List Mapping) → Takes L search old between front → Takes L search between new back → Takes L search old new (front ++ back)
   takes_both old between new front back first second ms after = subst (IsAfter L search new) (append_assoc ms front back) (second (ms ++ front) (first ms after))
 
-  -- mappings of which those with the needed rights were taken in two parts
-  pub takes_more : (old between new : Found) (front back : List Mapping) → Takes L search old between (kept search.needed front) → Takes L search between new (kept search.needed back)
-      → Takes L search old new (kept search.needed (front ++ back))
+  sought-append : (front back : List Mapping) → sought search (front ++ back) ≡ sought search front ++ sought search back
+  sought-append front back =
+      ap (filter (λ m. not (are_left_out search.left_out (positions_of m)))) (filter-append (λ m. includes m.rights search.needed) front back)
+      ∙ filter-append (λ m. not (are_left_out search.left_out (positions_of m))) (kept search.needed front) (kept search.needed back)
+
+  -- mappings of which those that are sought were taken in two parts
+  pub takes_more : (old between new : Found) (front back : List Mapping) → Takes L search old between (sought search front) → Takes L search between new (sought search back)
+      → Takes L search old new (sought search (front ++ back))
   takes_more old between new front back first second =
-      subst (Takes L search old new) (sym (filter-append (λ m. includes m.rights search.needed) front back))
-      (takes_both old between new (kept search.needed front) (kept search.needed back) first second)
+      subst (Takes L search old new) (sym (sought-append front back))
+      (takes_both old between new (sought search front) (sought search back) first second)
 
   -- a page of 4KiB was noted
   pub takes_page : (old new : Found) (m : Mapping) → ((ms : List Mapping) → IsNonDecreasingBy (λ f. f) search.frames.now → old.firsts.items ≡ firsts_of L search.frames.now ms → new.firsts.items ≡ firsts_of L search.frames.now (ms ++ m ∷ []))
@@ -221,40 +343,48 @@ module _ (L : ℕ) (search : Search) where
       by (Some size) some out = λ a none. ap (λ b. cond b (Some m) None) (smaller_within m.frame m.size size a some (out a none))
 
   -- a table below words that lack a right
-  pub takes_no_right : (found : Found) (visit : Visit) → includes visit.above search.needed ≡ false → Takes L search found found (kept_in search visit)
+  pub takes_no_right : (found : Found) (visit : Visit) → includes visit.above search.needed ≡ false → Takes L search found found (sought_in search visit)
   takes_no_right found visit lacks =
-      subst (Takes L search found found) (sym (kept_none search.needed visit.start visit.above (asked_mappings (searched search) visit.level visit.frame) lacks)) (takes_nothing found)
+      subst (Takes L search found found)
+      (sym (ap (filter (λ m. not (are_left_out search.left_out (positions_of m)))) (kept_none search.needed visit.start visit.above (asked_mappings (searched search) visit.level visit.frame) lacks)))
+      (takes_nothing found)
+
+  -- a table whose positions are left out
+  pub takes_left_out : (found : Found) (visit : Visit) → 1 ≤ visit.level → are_left_out search.left_out (span_of_table visit) ≡ true → Takes L search found found (sought_in search visit)
+  takes_left_out found visit low all = subst (Takes L search found found) (sym (left_out_in search visit low all)) (takes_nothing found)
 
   -- a table that was visited
   pub takes_visited : (found : Found) (visit : Visit) → includes visit.above search.needed ≡ true → visit.level < 4096 → visit.frame % 4096 ≡ 0
-      → contains nat_eq found.visited (visit.frame + visit.level) ≡ true → Takes L search found found (kept_in search visit)
-  takes_visited found visit has low aligned is =
-      subst (Takes L search found found) (sym (kept_placed search.needed visit.start visit.above (asked_mappings (searched search) visit.level visit.frame) has))
-      (λ ms after. takes_covered found ms (map (placed visit.start visit.above) (kept_below search visit.level visit.frame))
-      (cover_seen ms (kept_below search visit.level visit.frame) visit.start visit.above (after.visited visit.level visit.frame low aligned is)) after)
+      → contains nat_eq found.visited (visit.frame + visit.level) ≡ true → Takes L search found found (sought_in search visit)
+  takes_visited found visit has low aligned is ms after =
+      let below = kept_below search visit.level visit.frame in
+      let seen : Cover ms (map (placed visit.start visit.above) below) = cover_seen ms below visit.start visit.above (after.visited visit.level visit.frame low aligned is) in
+      let all : Cover ms (kept search.needed (mapped_in search visit)) =
+      subst (Cover ms) (sym (kept_placed search.needed visit.start visit.above (asked_mappings (searched search) visit.level visit.frame) has)) seen in
+      takes_covered found ms (sought_in search visit) (cover_fewer (λ m. not (are_left_out search.left_out (positions_of m))) ms (kept search.needed (mapped_in search visit)) all) after
 
   -- a table and a level are determined by their sum
   same_frame : (f l g k : ℕ) → f % 4096 ≡ 0 → g % 4096 ≡ 0 → l < 4096 → k < 4096 → f + l ≡ g + k → f ≡ g
   same_frame f l g k fa ga lo ko is = omega arith
 
-  -- a table is marked after its visit
-  pub marked : (old new : Found) (ms : List Mapping) (visit : Visit) → includes visit.above search.needed ≡ true → visit.level < 4096 → visit.frame % 4096 ≡ 0
+  -- a table none of whose positions is left out is marked after its visit
+  pub marked : (old new : Found) (ms : List Mapping) (visit : Visit) → includes visit.above search.needed ≡ true → 1 ≤ visit.level → are_apart search.left_out (span_of_table visit) ≡ true → visit.level < 4096 → visit.frame % 4096 ≡ 0
       → new.firsts.items ≡ old.firsts.items → new.pages ≡ old.pages
       → ((key : ℕ) → contains nat_eq new.visited key ≡ cond (nat_eq (visit.frame + visit.level) key) true (contains nat_eq old.visited key))
-      → IsAfter L search old (ms ++ kept_in search visit) → IsAfter L search new (ms ++ kept_in search visit)
-  marked old new ms visit has low aligned firsts pages marks after = record {
+      → IsAfter L search old (ms ++ sought_in search visit) → IsAfter L search new (ms ++ sought_in search visit)
+  marked old new ms visit has some apart low aligned firsts pages marks after = record {
     ascend = after.ascend;
     firsts = firsts ∙ after.firsts;
     visited = λ level frame l a is. by level frame l a (nat_eq (visit.frame + visit.level) (frame + level)) refl (sym (marks (frame + level)) ∙ is);
-    pages = λ start. subst (λ ps. IfSome (get nat_eq ps start) (λ size. (a : ℕ) → find (leads_to a) (ms ++ kept_in search visit) ≡ None → is_within start size a ≡ false)) (sym pages) (after.pages start);
+    pages = λ start. subst (λ ps. IfSome (get nat_eq ps start) (λ size. (a : ℕ) → find (leads_to a) (ms ++ sought_in search visit) ≡ None → is_within start size a ≡ false)) (sym pages) (after.pages start);
   }
     where
       all : List Mapping
-      all = ms ++ kept_in search visit
+      all = ms ++ sought_in search visit
 
       here : Cover all (kept_below search visit.level visit.frame)
       here = subst (λ ns. Cover (ms ++ ns) (kept_below search visit.level visit.frame))
-          (sym (kept_placed search.needed visit.start visit.above (asked_mappings (searched search) visit.level visit.frame) has))
+          (sym (apart_in search visit some apart ∙ kept_placed search.needed visit.start visit.above (asked_mappings (searched search) visit.level visit.frame) has))
           (cover_placed ms (kept_below search visit.level visit.frame) visit.start visit.above)
 
       by : (level frame : ℕ) → level < 4096 → frame % 4096 ≡ 0 → (b : Bool) → nat_eq (visit.frame + visit.level) (frame + level) ≡ b

@@ -1,11 +1,12 @@
 -- Words that are equal wherever page walks from a root lead have the same tables, the same findings and the same reserved bits.
-use Rattle.std.proofs.Common.{◌≡◌, ◌∙◌, ◌<◌, ◌+◌, ◌-◌, ◌^◌, ◌==◌, ◌&&◌, ◌++◌, ℕ, zero, suc, Bool, true, false, not, cond, if◌then◌else◌, nat_lt, nat_le, List, [], ◌∷◌, reverse, map, filter, length, get_or, Option, Some, None, is_some, min, option_map, option_and_then, refl, sym, ap, ap₂, subst, arith}
+use Rattle.std.proofs.Common.{◌≡◌, ◌∙◌, ◌<◌, ◌+◌, ◌-◌, ◌^◌, ◌==◌, ◌&&◌, ◌++◌, ℕ, zero, suc, Bool, true, false, not, cond, if◌then◌else◌, nat_lt, nat_le, List, [], ◌∷◌, reverse, map, filter, length, get_or, Option, Some, None, is_some, min, option_map, option_and_then, refl, sym, ap, ap₂, subst, arith, find}
 use Rattle.std.proofs.lemmas.Grind.{reverse_onto}
 use Rattle.std.proofs.lemmas.List.{length-reverse}
 use Rattle.std.specs.List.{AllByRecursion, cons_option, dedup, dedup_from, filter_map, flat_map, fold}
 use Rattle.std.specs.Option.{unwrap_or}
 use Rattle.x86_64_dump.specs.Reached.{SameBelow}
 use Rattle.x86_64_dump.specs.Tables.{table_named, tables_named, is_among, met, each_once, tables_from, if_there, tables_by_level}
+use Rattle.x86_64_mappings.specs.Wanted.{leads_to}
 use Rattle.x86_64_model.specs.Entry.{present, huge, address}
 use Rattle.x86_64_model.specs.Mappings.{Mapping, Rights, mappings_of}
 use Rattle.x86_64_model.specs.Memory.{Words}
@@ -17,6 +18,7 @@ use Rattle.ptdump_engine.specs.Findings as findings
 use Rattle.ptdump_engine.specs.ReachedTables.{all_reached, first_to, for_user, frames_in_order, reached_at, writable_for_user}
 use Rattle.ptdump_engine.specs.Selections.{is_selected}
 use Rattle.ptdump_engine.specs.Reserved.{lists_mappings, processor, reserved_count, reserved_entries, reserved_line, reserved_note}
+use Rattle.ptdump_engine.specs.WritableTables.{all_writable, writable_at, writable_outside}
 use Rattle.ptdump_engine.specs.Findings.{all_named_often, check_text, entries_in, finding_lines, finds_nothing, flawed_lines, frames_above, flaw_in, flawed_entries, missing, name_by, names_in, names_in_order, processor_of, said_of, table_findings, tables_in_order}
 use Rattle.ptdump_engine.specs.InOrder.{placed, in_order}
 use Rattle.ptdump_engine.specs.declared.findings.entry.Table.{Table}
@@ -24,6 +26,7 @@ use Rattle.ptdump_engine.specs.declared.findings.finding.EntryFlaw.{EntryFlaw}
 use Rattle.ptdump_engine.specs.declared.findings.finding.EntryFlaw.TheVariants as flaws
 use Rattle.ptdump_engine.specs.declared.findings.finding.Finding.TheVariants.{NotInDump}
 use Rattle.ptdump_engine.specs.declared.findings.finding.Finding.{Finding}
+use Rattle.ptdump_engine.specs.declared.request.AddressRange.{AddressRange}
 use Rattle.ptdump_engine.specs.declared.request.Checking.{Checking}
 use Rattle.ptdump_engine.specs.declared.request.Command.{Command}
 use Rattle.ptdump_engine.specs.declared.findings.flaw.Flaw.TheVariants.{WritableAndExecutable, UserInUpperHalf}
@@ -36,6 +39,9 @@ first_in L rights ms a = option_map (λ m. raw L (m.start + (a - m.frame))) (fir
 
 abbrev reached_in : (L : ℕ) → List Mapping → (frame : ℕ) → Option Finding
 reached_in L ms f = reached_at f (first_in L writable_for_user ms f) (first_in L for_user ms f)
+
+abbrev writable_in : (L : ℕ) → AddressRange → List Mapping → (frame : ℕ) → Option Finding
+writable_in L range ms f = writable_at f (option_map (λ m. raw L (m.start + (f - m.frame))) (find (leads_to f) (writable_outside L range ms)))
 
 -- ---- what holds of every element
 
@@ -269,18 +275,24 @@ module _ (T W : Words) where
   unfolding all_reached
   same_reached L root ts mapped = ap (λ ms. filter_map (reached_in L ms) (frames_in_order ts)) mapped
 
+  same_writable : (L root : ℕ) (direct_map : Option AddressRange) (ts : List Table) → mappings_of L T root ≡ mappings_of L W root → all_writable L T root direct_map ts ≡ all_writable L W root direct_map ts
+  unfolding all_writable
+  same_writable L root None ts mapped = refl
+  same_writable L root (Some range) ts mapped = ap (λ ms. filter_map (writable_in L range ms) (frames_in_order ts)) mapped
+
   pub same_findings : (checking : Checking) (L root : ℕ) → mappings_of L T root ≡ mappings_of L W root → SameBelow L T W root → table_findings checking L T root ≡ table_findings checking L W root
   unfolding table_findings
-  same_findings checking L root mapped same =
+  same_findings checking L root maps same =
       let processor = processor_of checking in
+      let mapped : Words → List Table → List Finding = λ V ts. all_reached L V root ts ++ all_writable L V root checking.direct_map ts in
       let ts = tables_in_order (tables_by_level L W root) in
       let all = tables_below L root same in
       let lacks = filter_map_same (missing T) (missing W) (names_in_order W ts)
       (all_and NameSame (λ n. missing T n ≡ missing W n) (λ n is. ap (λ o. cond (is_some o) None (Some (NotInDump n.frame n.by))) is) _ (names_same ts all)) in
-      ap (λ levels. findings.findings_by processor T root (tables_in_order levels) (names_in_order T (tables_in_order levels)) ++ all_reached L T root (tables_in_order levels)) (same_tables L root same)
-      ∙ ap (λ ns. findings.findings_by processor T root ts ns ++ all_reached L T root ts) (same_names ts all)
-      ∙ ap (λ fs. findings.findings_by processor T root ts (names_in_order W ts) ++ fs) (same_reached L root ts mapped)
-      ∙ (λ i. (all_named_often (names_in_order W ts) root ++ lacks i ++ same_entries flaws.HugePage ts all i ++ same_entries (flaws.ReservedBits processor) ts all i) ++ all_reached L W root ts)
+      ap (λ levels. findings.findings_by processor T root (tables_in_order levels) (names_in_order T (tables_in_order levels)) ++ mapped T (tables_in_order levels)) (same_tables L root same)
+      ∙ ap (λ ns. findings.findings_by processor T root ts ns ++ mapped T ts) (same_names ts all)
+      ∙ ap (λ fs. findings.findings_by processor T root ts (names_in_order W ts) ++ fs) (ap₂ (λ fs gs. fs ++ gs) (same_reached L root ts maps) (same_writable L root checking.direct_map ts maps))
+      ∙ (λ i. (all_named_often (names_in_order W ts) root ++ lacks i ++ same_entries flaws.HugePage ts all i ++ same_entries (flaws.ReservedBits processor) ts all i) ++ mapped W ts)
 
   pub same_lines : (checking : Checking) (L root : ℕ) → mappings_of L T root ≡ mappings_of L W root → SameBelow L T W root → finding_lines checking L T root ≡ finding_lines checking L W root
   unfolding finding_lines

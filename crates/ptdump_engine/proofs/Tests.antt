@@ -8,11 +8,12 @@ use Rattle.x86_64_dump.specs.Dump.{Contents, words_of_dump}
 use Rattle.x86_64_dump.specs.Notes.{processors_of}
 use Rattle.x86_64_model.specs.Memory.{Words}
 use Rattle.ptdump_engine.specs.Processors.{firsts_of, modes_failure, processors_from}
-use Rattle.ptdump_engine.specs.Program.{address_failure, argument_failure, first_failure, is_canonical, is_walk, level_count, order_failure, processors_for, root_failure, selection_failure, tables_failure}
+use Rattle.ptdump_engine.specs.Program.{address_failure, argument_failure, direct_map_failure, first_failure, is_canonical, is_walk, level_count, order_failure, processors_for, root_failure, reversed_failure, selection_failure, tables_failure}
 use Rattle.ptdump_engine.specs.Steps.{FailsBy, and_then, unless}
 use Rattle.ptdump_engine.specs.declared.failure.Failure.{Failure}
 use Rattle.ptdump_engine.specs.declared.failure.Failure.TheVariants as failures
 use Rattle.ptdump_engine.specs.declared.processors.Processor.{Processor}
+use Rattle.ptdump_engine.specs.declared.request.AddressRange.{AddressRange}
 use Rattle.ptdump_engine.specs.declared.request.Command.{Command}
 use Rattle.ptdump_engine.specs.declared.request.Command.TheVariants as commands
 use Rattle.ptdump_engine.specs.declared.request.Request.{Request}
@@ -34,6 +35,7 @@ fails_so (failures.WrongMode cpu mode) found no_write is = is
 fails_so (failures.NotCanonical address levels) found no_write is = is
 fails_so (failures.NotPhysical address) found no_write is = is
 fails_so (failures.FromAboveTo from to) found no_write is = is
+fails_so (failures.DirectMapReversed first last) found no_write is = is
 fails_so (failures.NoRoot root) found no_write is = is
 fails_so (failures.Dump fault) found no_write is = is
 fails_so (failures.Read error) found no_write is = is
@@ -66,12 +68,24 @@ order_so (Some from) (Some to) = by (nat_lt to from)
 selection_so : (levels : Levels) (s : Selection) → IfSome (selection_failure levels s) IsNoWrite
 selection_so levels s = either (address_failure levels s.from) _ (address_so levels s.from) (either (address_failure levels s.to) _ (address_so levels s.to) (order_so s.from s.to))
 
+reversed_so : (range : AddressRange) → IfSome (reversed_failure range) IsNoWrite
+reversed_so range = by (nat_lt range.last range.first)
+  where
+    by : (b : Bool) → IfSome (cond b (Some (failures.DirectMapReversed range.first range.last)) None) IsNoWrite
+    by true = tt
+    by false = tt
+
+direct_map_so : (levels : Levels) (range : Option AddressRange) → IfSome (direct_map_failure levels range) IsNoWrite
+direct_map_so levels None = tt
+direct_map_so levels (Some range) = either (address_failure levels (Some range.first)) _ (address_so levels (Some range.first))
+    (either (address_failure levels (Some range.last)) _ (address_so levels (Some range.last)) (reversed_so range))
+
 argument_so : (levels : Levels) (command : Command) → IfSome (argument_failure levels command) IsNoWrite
 argument_so levels (commands.Walk addresses asked) = found_so (λ a. failures.NotCanonical a levels) (λ a. tt) (find (λ a. not (is_canonical (level_count levels) a)) addresses.items)
 argument_so levels (commands.Find addresses) = found_so (λ a. failures.NotPhysical a) (λ a. tt) (find (λ a. nat_le (2 ^ 52) a) addresses.items)
 argument_so levels (commands.Regions selection) = selection_so levels selection
 argument_so levels (commands.Pages selection has_names) = selection_so levels selection
-argument_so levels (commands.Check checking) = selection_so levels checking.selection
+argument_so levels (commands.Check checking) = either (selection_failure levels checking.selection) _ (selection_so levels checking.selection) (direct_map_so levels checking.direct_map)
 argument_so levels commands.Image = tt
 argument_so levels commands.Picture = tt
 argument_so levels commands.Info = tt

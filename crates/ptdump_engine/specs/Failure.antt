@@ -20,6 +20,7 @@ status_of (failures.Dump (RangeEmpty offset address)) = 2
 status_of (failures.Dump (RangeOutside offset size length)) = 2
 status_of (failures.Dump (RangeTooHigh address size)) = 2
 status_of (failures.FromAboveTo from to) = 2
+status_of (failures.DirectMapReversed first last) = 2
 status_of (failures.Dump fault) = 3
 status_of (failures.NoRoot root) = 3
 status_of (failures.Read error) = 3

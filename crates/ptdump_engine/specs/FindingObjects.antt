@@ -6,7 +6,7 @@ use Rattle.ptdump_engine.specs.FindingTexts.{flaw_text}
 use Rattle.ptdump_engine.specs.Json.{count, hexadecimal_string, region_members}
 use Rattle.ptdump_engine.specs.declared.findings.entry.Slot.{Slot}
 use Rattle.ptdump_engine.specs.declared.findings.finding.Finding.{Finding}
-use Rattle.ptdump_engine.specs.declared.findings.finding.Finding.TheVariants.{NamedOften, NotInDump, HugePage, ReservedBits, WritableForUser, MappedForUser}
+use Rattle.ptdump_engine.specs.declared.findings.finding.Finding.TheVariants.{NamedOften, NotInDump, HugePage, ReservedBits, WritableForUser, MappedForUser, WritableOutside}
 use Rattle.ptdump_engine.specs.declared.findings.flaw.Flaw.{Flaw}
 
 -- a region with a flaw: the object of the region, with the flaw
@@ -18,7 +18,7 @@ json_of_slot slot = object (
     member (codes "index") (count slot.index)
     (member (codes "table") (hexadecimal_string slot.table) no_members))
 
--- a table that is mapped for user code, by the name of the finding and the address
+-- a table that is mapped, by the name of the finding and the address
 abbrev pub json_of_mapped : (name : List ℕ) → (frame at : ℕ) → Data
 json_of_mapped name frame at = object (
     member (codes "at") (hexadecimal_string at)
@@ -47,6 +47,7 @@ json_of_finding (ReservedBits entry) = object (
     (member (codes "word") (hexadecimal_string entry.word) no_members)))))
 json_of_finding (WritableForUser frame at) = json_of_mapped (codes "table mapped writable for user") frame at
 json_of_finding (MappedForUser frame at) = json_of_mapped (codes "table mapped for user") frame at
+json_of_finding (WritableOutside frame at) = json_of_mapped (codes "table mapped writable outside the direct map") frame at
 
 -- the number of findings
 abbrev pub json_of_count : (findings : ℕ) → Data

@@ -6,7 +6,7 @@ use Rattle.x86_64_model.specs.Regions.{Region}
 use Rattle.ptdump_engine.specs.declared.findings.entry.Slot.{Slot}
 use Rattle.ptdump_engine.specs.declared.findings.entry.Entry.{Entry}
 use Rattle.ptdump_engine.specs.declared.findings.finding.Finding.{Finding}
-use Rattle.ptdump_engine.specs.declared.findings.finding.Finding.TheVariants.{NamedOften, NotInDump, HugePage, ReservedBits, WritableForUser, MappedForUser}
+use Rattle.ptdump_engine.specs.declared.findings.finding.Finding.TheVariants.{NamedOften, NotInDump, HugePage, ReservedBits, WritableForUser, MappedForUser, WritableOutside}
 use Rattle.ptdump_engine.specs.declared.findings.flaw.Flaw.{Flaw}
 use Rattle.ptdump_engine.specs.declared.findings.flaw.Flaw.TheVariants.{WritableAndExecutable, UserInUpperHalf}
 
@@ -26,6 +26,10 @@ slot_text slot = hexadecimal slot.table ++ codes "[" ++ decimal slot.index ++ co
 abbrev pub entry_text : Entry → List ℕ
 entry_text entry = slot_text entry.slot ++ codes " = " ++ hexadecimal entry.word
 
+-- where a table is mapped
+abbrev pub at_text : (at : ℕ) → List ℕ
+at_text at = codes " at " ++ hexadecimal at
+
 -- for whom a table is mapped, and where
 abbrev pub for_user_text : (at : ℕ) → List ℕ
 for_user_text at = codes " for user at " ++ hexadecimal at
@@ -44,6 +48,8 @@ finding_text (WritableForUser frame at) =
     codes "table " ++ hexadecimal frame ++ codes " is mapped writable" ++ for_user_text at
 finding_text (MappedForUser frame at) =
     codes "table " ++ hexadecimal frame ++ codes " is mapped" ++ for_user_text at
+finding_text (WritableOutside frame at) =
+    codes "table " ++ hexadecimal frame ++ codes " is mapped writable" ++ at_text at
 
 abbrev pub count_text : (findings : ℕ) → List ℕ
 count_text findings = codes "findings: " ++ decimal findings

@@ -14,6 +14,7 @@ use Rattle.ptdump_engine.specs.InOrder.{in_order}
 use Rattle.ptdump_engine.specs.ReachedTables.{all_reached}
 use Rattle.ptdump_engine.specs.Said.{Said, line_of}
 use Rattle.ptdump_engine.specs.Selections.{is_selected}
+use Rattle.ptdump_engine.specs.WritableTables.{all_writable}
 use Rattle.ptdump_engine.specs.declared.findings.entry.Entry.{Entry}
 use Rattle.ptdump_engine.specs.declared.findings.entry.Slot.{Slot}
 use Rattle.ptdump_engine.specs.declared.findings.entry.Table.{Table}
@@ -137,7 +138,8 @@ findings_by processor T root tables names = all_named_often names root ++ filter
 -- the findings in the tables that a root leads to
 unfoldable pub table_findings : Checking → (L : ℕ) → Words → (root : ℕ) → List Finding
 table_findings checking L T root = let tables = tables_in_order (tables_by_level L T root) in
-    findings_by (processor_of checking) T root tables (names_in_order T tables) ++ all_reached L T root tables
+    findings_by (processor_of checking) T root tables (names_in_order T tables)
+    ++ (all_reached L T root tables ++ all_writable L T root checking.direct_map tables)
 
 -- what is said of a finding in tables
 abbrev pub said_of : Finding → Said

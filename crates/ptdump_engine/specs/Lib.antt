@@ -23,6 +23,7 @@ pub mod Start
 pub mod Steps
 pub mod Totals
 pub mod Walks
+pub mod WritableTables
 pub mod Entries
 pub mod FindingObjects
 pub mod FindingTexts

@@ -30,6 +30,7 @@ use Rattle.ptdump_engine.specs.Totals.{AreTotals, totals_text}
 use Rattle.ptdump_engine.specs.Walks.{line}
 use Rattle.ptdump_engine.specs.declared.failure.Failure.{Failure}
 use Rattle.ptdump_engine.specs.declared.failure.Failure.TheVariants as failures
+use Rattle.ptdump_engine.specs.declared.request.AddressRange.{AddressRange}
 use Rattle.ptdump_engine.specs.declared.request.Command.{Command}
 use Rattle.ptdump_engine.specs.declared.request.Command.TheVariants as commands
 use Rattle.x86_64_addr.specs.declared.level_count.Levels.{Levels}
@@ -64,6 +65,15 @@ abbrev pub selection_failure : Levels → Selection → Option Failure
 selection_failure levels s =
     option_or (address_failure levels s.from) (option_or (address_failure levels s.to) (order_failure s.from s.to))
 
+-- why a direct map can't be left out, if there is one: an end isn't canonical, or the first address is above the last
+abbrev pub reversed_failure : AddressRange → Option Failure
+reversed_failure range = if nat_lt range.last range.first then Some (failures.DirectMapReversed range.first range.last) else None
+
+abbrev pub direct_map_failure : Levels → Option AddressRange → Option Failure
+direct_map_failure levels None = None
+direct_map_failure levels (Some range) = option_or (address_failure levels (Some range.first))
+    (option_or (address_failure levels (Some range.last)) (reversed_failure range))
+
 -- the first invalid address of a command, as a failure
 abbrev pub argument_failure : Levels → Command → Option Failure
 argument_failure levels (commands.Walk addresses asked) =
@@ -71,7 +81,8 @@ argument_failure levels (commands.Walk addresses asked) =
 argument_failure levels (commands.Find addresses) = option_map (λ a. failures.NotPhysical a) (find (λ a. nat_le (2 ^ 52) a) addresses.items)
 argument_failure levels (commands.Regions selection) = selection_failure levels selection
 argument_failure levels (commands.Pages selection has_names) = selection_failure levels selection
-argument_failure levels (commands.Check checking) = selection_failure levels checking.selection
+argument_failure levels (commands.Check checking) =
+    option_or (selection_failure levels checking.selection) (direct_map_failure levels checking.direct_map)
 argument_failure levels command = None
 
 -- the physical addresses of a search are below 2^52

@@ -3,6 +3,7 @@ use Rattle.std.specs.Prelude.{ℕ, ◌%◌, ◌&&◌, ◌||◌, nat_le, not, Boo
 use Rattle.x86_64_model.specs.Mappings.{Mapping, Rights}
 use Rattle.x86_64_model.specs.Position.{position_count}
 use Rattle.x86_64_model.specs.Regions.{Region, region_of}
+use Rattle.ptdump_engine.specs.declared.request.AddressRange.{AddressRange}
 use Rattle.ptdump_engine.specs.declared.request.Selection.{Selection}
 
 -- whether a position, the number of an address counted without the gap, isn't below that of an address, if there is one
@@ -26,3 +27,7 @@ is_selected L s r = is_from L s.from r.last && is_to L s.to r.first && includes 
 -- likewise for a mapping
 abbrev pub is_mapping_selected : (L : ℕ) → Selection → Mapping → Bool
 is_mapping_selected L s m = is_selected L s (region_of m)
+
+-- whether a mapping lies in a range of addresses, both ends included: all of its positions do
+abbrev pub lies_in : (L : ℕ) → AddressRange → Mapping → Bool
+lies_in L range m = is_from L (Some range.first) (region_of m).first && is_to L (Some range.last) (region_of m).last

@@ -5,7 +5,7 @@ ghost use Rattle.x86_64_dump.specs.Opened.{words_opened};
 ghost use Rattle.ptdump_engine.specs.Program as program;
 
 use crate::failure::Failure;
-use crate::request::{Command, Levels, Selection};
+use crate::request::{AddressRange, Command, Levels, Selection};
 use x86_64_addr::addr::{VirtAddr, VirtAddr57};
 use x86_64_dump::{ByteSource, Dump};
 use x86_64_page::frame::PhysFrame;
@@ -30,7 +30,8 @@ pub fn argument_failure(command: &Command, levels: Levels) -> Option<Failure>
         Command::Regions(selection) | Command::Pages { selection, .. } => {
             selection_failure(*selection, levels)
         }
-        Command::Check(checking) => selection_failure(checking.selection, levels),
+        Command::Check(checking) => selection_failure(checking.selection, levels)
+            .or(direct_map_failure(checking.direct_map, levels)),
         _ => None,
     }
 }
@@ -42,6 +43,31 @@ fn selection_failure(selection: Selection, levels: Levels) -> Option<Failure>
     address_failure(selection.from, levels)
         .or(address_failure(selection.to, levels))
         .or(order_failure(selection.from, selection.to))
+}
+
+/// Returns a failure if there is a direct map, and one of its ends isn't canonical, or the first is above the last, and `None`
+/// otherwise.
+fn direct_map_failure(direct_map: Option<AddressRange>, levels: Levels) -> Option<Failure>
+    ensures { result ≡ program.direct_map_failure levels direct_map }
+{
+    let range = direct_map?;
+    address_failure(Some(range.first), levels)
+        .or(address_failure(Some(range.last), levels))
+        .or(reversed_failure(range))
+}
+
+/// Returns a failure if the first address of a direct map is above its last one, and `None` otherwise.
+fn reversed_failure(range: AddressRange) -> Option<Failure>
+    ensures { result ≡ program.reversed_failure range }
+{
+    if range.last < range.first {
+        Some(Failure::DirectMapReversed {
+            first: range.first,
+            last: range.last,
+        })
+    } else {
+        None
+    }
 }
 
 /// Returns a failure if there is an address, and it isn't canonical, and `None` otherwise.

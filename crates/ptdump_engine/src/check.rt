@@ -23,7 +23,7 @@ use crate::line_output::LineOutput;
 use crate::lines::Lines;
 use crate::loaded::Loaded;
 use crate::output::{Output, OutputError};
-use crate::reached::reached_tables;
+use crate::reached::mapped_tables;
 use crate::request::{Checking, Form};
 use std::alloc::Global;
 use x86_64_access::Controls;
@@ -54,7 +54,7 @@ pub fn write_findings<L: LevelCount, W: Destination>(
     let memory = loaded.tables.memory();
     let tables = tables_in_order(alloc, loaded.tables.frames())?;
     let names = names_in_order(alloc, memory, &tables)?;
-    let reached = reached_tables::<L>(alloc, memory, loaded.root, &tables)?;
+    let reached = mapped_tables::<L>(alloc, memory, loaded.root, checking.direct_map, &tables)?;
     let subject = Subject {
         memory,
         selection: checking.selection,

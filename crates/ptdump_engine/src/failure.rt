@@ -55,6 +55,13 @@ pub enum Failure {
         /// The last address.
         to: u64,
     },
+    /// The first address of the direct map is above its last one.
+    DirectMapReversed {
+        /// The first address.
+        first: u64,
+        /// The last address.
+        last: u64,
+    },
     /// The root's table isn't in the dump.
     NoRoot {
         /// The address of the root's frame.
@@ -88,6 +95,7 @@ impl Failure {
             | Failure::NotCanonical { .. }
             | Failure::NotPhysical { .. }
             | Failure::FromAboveTo { .. }
+            | Failure::DirectMapReversed { .. }
             | Failure::Dump(
                 Fault::PlacementGiven
                 | Fault::RangeEmpty { .. }
@@ -143,6 +151,10 @@ impl Display for Failure {
             Failure::FromAboveTo { from, to } => write!(
                 f,
                 "--from 0x{from:x} is above --to 0x{to:x}: give the lower address first"
+            ),
+            Failure::DirectMapReversed { first, last } => write!(
+                f,
+                "--direct-map 0x{first:x}:0x{last:x} ends before it begins: give the lower address first"
             ),
             Failure::NoRoot { root } => write!(
                 f,

@@ -1,15 +1,19 @@
-//! Page tables to which mappings for user code lead.
-ghost use Rattle.std.specs.Prelude.{◌≡◌, ◌++◌, [], ℕ, Option, IfOk, OnOk, filter_map, length, map};
+//! Page tables to which mappings lead: those for user code, and writable ones outside the direct map.
+ghost use Rattle.std.specs.Prelude.{◌≡◌, ◌++◌, [], ℕ, Option, Some, IfOk, OnOk, filter_map, length, map};
 ghost use Rattle.std.specs.List.{cons_option};
 ghost use Rattle.x86_64_model.specs.Memory.{identity_places, words_of};
 ghost use Rattle.ptdump_engine.specs.ReachedTables as reached;
+ghost use Rattle.ptdump_engine.specs.WritableTables as writables;
 ghost use Rattle.ptdump_engine.specs.private.Ascending.{Ascend};
 
 mod firsts;
+mod positions;
 mod search;
 
 use crate::findings::{Finding, Table};
+use crate::reached::positions::Positions;
 use crate::reached::search::{Search, first_addresses};
+use crate::request::AddressRange;
 use std::alloc::{AllocError, Global};
 use x86_64_addr::level_count::LevelCount;
 use x86_64_page::frame::PhysFrame;
@@ -31,13 +35,45 @@ const WRITABLE_FOR_USER: Rights = Rights {
     execute: false,
 };
 
+/// The rights of pages to which code can write.
+const WRITABLE: Rights = Rights {
+    write: true,
+    user: false,
+    execute: false,
+};
+
+/// Returns the findings of the tables to which mappings lead: first each frame's to which those for user code lead, and then each
+/// frame's to which writable ones outside the direct map lead, if it is known. Both are in order, as the tables are.
+///
+/// # Errors
+///
+/// `AllocError` if memory allocation fails.
+pub fn mapped_tables<L: LevelCount>(
+    alloc: Global,
+    memory: &PhysMemory,
+    root: PhysFrame<Size4KiB>,
+    direct_map: Option<AddressRange>,
+    tables: &[Table],
+) -> Result<Vec<Finding>, AllocError>
+    requires { Ascend (λ table. table.frame) tables.now }
+    ensures { IfOk result (λ findings. findings.items
+        ≡ reached.all_reached L.LEVELS (words_of memory.now identity_places) root tables.now
+        ++ writables.all_writable L.LEVELS (words_of memory.now identity_places) root direct_map tables.now) }
+{
+    let mut findings = reached_tables::<L>(alloc, memory, root, tables)?;
+    if let Some(direct_map) = direct_map {
+        add_writable::<L>(alloc, memory, root, direct_map, tables, &mut findings)?;
+    }
+    Ok(findings)
+}
+
 /// Returns the findings of the tables to which mappings for user code lead, each frame's once, in order. The tables are in
 /// order.
 ///
 /// # Errors
 ///
 /// `AllocError` if memory allocation fails.
-pub fn reached_tables<L: LevelCount>(
+fn reached_tables<L: LevelCount>(
     alloc: Global,
     memory: &PhysMemory,
     root: PhysFrame<Size4KiB>,
@@ -51,12 +87,42 @@ pub fn reached_tables<L: LevelCount>(
     let mut search = Search {
         memory,
         needed: WRITABLE_FOR_USER,
+        left_out: None,
         frames: &frames,
     };
     let writable = first_addresses::<L>(alloc, &search, root)?;
     search.needed = FOR_USER;
     let mapped = first_addresses::<L>(alloc, &search, root)?;
     findings_at(alloc, &frames, &writable, &mapped)
+}
+
+/// Adds the findings of the tables to which writable mappings outside the direct map lead, each frame's once, in order. The tables
+/// are in order.
+///
+/// # Errors
+///
+/// `AllocError` if memory allocation fails.
+fn add_writable<L: LevelCount>(
+    alloc: Global,
+    memory: &PhysMemory,
+    root: PhysFrame<Size4KiB>,
+    direct_map: AddressRange,
+    tables: &[Table],
+    findings: &mut Vec<Finding>,
+) -> Result<(), AllocError>
+    requires { Ascend (λ table. table.frame) tables.now }
+    ensures { OnOk result (findings.new.items ≡ findings.old.items
+        ++ writables.all_writable L.LEVELS (words_of memory.now identity_places) root (Some direct_map) tables.now) }
+{
+    let frames = frames_in_order(alloc, tables)?;
+    let search = Search {
+        memory,
+        needed: WRITABLE,
+        left_out: Some(Positions::of_range::<L>(direct_map)),
+        frames: &frames,
+    };
+    let addresses = first_addresses::<L>(alloc, &search, root)?;
+    add_writable_at(&frames, &addresses, findings)
 }
 
 /// Returns the frames of tables that are in order, each once.
@@ -90,6 +156,23 @@ fn findings_at(
         add_finding(&mut findings, finding)?;
     }
     Ok(findings)
+}
+
+/// Adds the findings of frames of tables, given for each frame where it is writable outside the direct map.
+fn add_writable_at(
+    frames: &[PhysFrame<Size4KiB>],
+    addresses: &[Option<u64>],
+    findings: &mut Vec<Finding>,
+) -> Result<(), AllocError>
+    requires { length addresses.now ≡ length frames.now }
+    ensures { (at : ℕ → Option ℕ) → addresses.now ≡ map at frames.now →
+        OnOk result (findings.new.items ≡ findings.old.items
+        ++ filter_map (λ frame. writables.writable_at frame (at frame)) frames.now) }
+{
+    for i in 0..frames.len() {
+        add_finding(findings, Finding::of_writable(frames[i], addresses[i]))?;
+    }
+    Ok(())
 }
 
 /// Adds a finding, if there is one.

@@ -39,11 +39,23 @@ impl Selection {
     };
 }
 
+/// The addresses from a first one to a last one, both included.
+#[derive(Clone, Copy, Debug, PartialEq, Eq)]
+pub struct AddressRange {
+    /// The first.
+    pub first: u64,
+    /// The last.
+    pub last: u64,
+}
+
 /// What a check looks for besides what is always a finding.
 #[derive(Clone, Copy, Debug, PartialEq, Eq)]
 pub struct Checking {
     /// The number of bits of the processor's physical addresses. More than 52 count as 52.
     pub physical_bits: u8,
+    /// The addresses of the kernel's direct map, through which it may write to all of memory. If they are known, a table to which
+    /// another writable mapping leads is a finding. A mapping that lies there only in part is such a mapping.
+    pub direct_map: Option<AddressRange>,
     /// The regions that are looked at. All tables are.
     pub selection: Selection,
 }

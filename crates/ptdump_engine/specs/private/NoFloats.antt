@@ -14,7 +14,7 @@ use Rattle.ptdump_engine.specs.Start.{mode_of}
 use Rattle.ptdump_engine.specs.private.Walked.{json_of_line, json_of_value}
 use Rattle.ptdump_engine.specs.declared.access_line.AccessLine.{AccessLine}
 use Rattle.ptdump_engine.specs.declared.findings.finding.Finding.{Finding}
-use Rattle.ptdump_engine.specs.declared.findings.finding.Finding.TheVariants.{NamedOften, NotInDump, HugePage, ReservedBits, WritableForUser, MappedForUser}
+use Rattle.ptdump_engine.specs.declared.findings.finding.Finding.TheVariants.{NamedOften, NotInDump, HugePage, ReservedBits, WritableForUser, MappedForUser, WritableOutside}
 use Rattle.ptdump_engine.specs.declared.mode.Mode.{Mode}
 use Rattle.ptdump_engine.specs.declared.mode.Mode.TheVariants.{NoPaging, Paging32, Paging64}
 use Rattle.ptdump_engine.specs.declared.registers.Registers.{Registers}
@@ -57,6 +57,7 @@ no_float_finding (HugePage slot level) = refl
 no_float_finding (ReservedBits entry) = refl
 no_float_finding (WritableForUser frame at) = refl
 no_float_finding (MappedForUser frame at) = refl
+no_float_finding (WritableOutside frame at) = refl
 
 -- ---- groups of processors
 

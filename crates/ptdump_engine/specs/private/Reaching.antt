@@ -1,14 +1,15 @@
 -- Reaching: a search for frames, after some of the mappings.
-use Rattle.std.specs.Prelude.{◌≡◌, ◌<◌, ◌+◌, ◌-◌, ◌%◌, ◌++◌, ◌&&◌, ℕ, Bool, true, false, IfSome, nat_le, nat_lt, List, map, filter, find, nat_eq, Option, None, option_map}
+use Rattle.std.specs.Prelude.{◌≡◌, ◌<◌, ◌+◌, ◌-◌, ◌*◌, ◌%◌, ◌++◌, ◌&&◌, ◌||◌, ℕ, Bool, true, false, not, IfSome, nat_le, nat_lt, List, map, filter, find, nat_eq, Option, None, Some, option_map}
 use Rattle.std.specs.HashMap.{get}
 use Rattle.std.specs.HashSet.{contains}
 use Rattle.std.specs.List.Sorted.{IsNonDecreasingBy}
 use Rattle.x86_64_mappings.specs.Wanted.{Asked, asked_mappings, leads_to}
 use Rattle.x86_64_mappings.specs.private.Placed.{placed}
-use Rattle.x86_64_model.specs.Mappings.{Mapping, Rights}
-use Rattle.x86_64_model.specs.Memory.{identity_places, words_of}
-use Rattle.x86_64_model.specs.Position.{position_count, raw}
+use Rattle.x86_64_model.specs.Mappings.{Mapping, Rights, mappings_of}
+use Rattle.x86_64_model.specs.Memory.{Words, identity_places, words_of}
+use Rattle.x86_64_model.specs.Position.{position_count, raw, span}
 use Rattle.ptdump_engine.specs.Selections.{includes}
+use Rattle.ptdump_engine.specs.declared.reached.positions.Positions.{Positions}
 use Rattle.ptdump_engine.specs.declared.reached.search.Found.{Found}
 use Rattle.ptdump_engine.specs.declared.reached.search.Search.{Search}
 use Rattle.ptdump_engine.specs.declared.reached.search.Visit.{Visit}
@@ -29,6 +30,38 @@ firsts_of L frames ms = map (λ f. option_map (address_in L f) (find (leads_to f
 abbrev pub kept : (needed : Rights) → List Mapping → List Mapping
 kept needed ms = filter (λ m. includes m.rights needed) ms
 
+-- the positions of a mapping
+abbrev pub positions_of : Mapping → Positions
+positions_of m = record { first = m.start; last = m.start + m.size - 1 }
+
+-- the positions of a table's span
+abbrev pub span_of_table : Visit → Positions
+span_of_table visit = record { first = visit.start; last = visit.start + (512 * span visit.level - 1) }
+
+-- whether positions are all left out
+abbrev pub are_left_out : (left_out : Option Positions) → Positions → Bool
+are_left_out None p = false
+are_left_out (Some out) p = nat_le out.first p.first && nat_le p.last out.last
+
+-- whether none of them is left out
+abbrev pub are_apart : (left_out : Option Positions) → Positions → Bool
+are_apart None p = true
+are_apart (Some out) p = nat_lt p.last out.first || nat_lt out.last p.first
+
+-- those with the needed rights whose positions aren't all left out
+abbrev pub sought_by : (needed : Rights) → (left_out : Option Positions) → List Mapping → List Mapping
+sought_by needed left_out ms = filter (λ m. not (are_left_out left_out (positions_of m))) (kept needed ms)
+
+abbrev pub is_sought : Search → Mapping → Bool
+is_sought search m = includes m.rights search.needed && not (are_left_out search.left_out (positions_of m))
+
+abbrev pub sought : Search → List Mapping → List Mapping
+sought search ms = sought_by search.needed search.left_out ms
+
+-- the virtual address in the first mapping that is sought and leads to a physical address
+abbrev pub first_sought : (L : ℕ) → Words → (root : ℕ) → (needed : Rights) → (left_out : Option Positions) → (physical : ℕ) → Option ℕ
+first_sought L T root needed left_out a = option_map (λ m. raw L (m.start + (a - m.frame))) (find (leads_to a) (sought_by needed left_out (mappings_of L T root)))
+
 -- whatever the others lead to, some of these lead to
 abbrev pub Cover : (ms others : List Mapping) → Type 0
 Cover ms others = (a : ℕ) → find (leads_to a) ms ≡ None → find (leads_to a) others ≡ None
@@ -45,9 +78,9 @@ searched search = record { words = words_of search.memory.now identity_places; w
 abbrev pub kept_below : Search → (level frame : ℕ) → List Mapping
 kept_below search level frame = kept search.needed (asked_mappings (searched search) level frame)
 
--- the same of a table that is visited
-abbrev pub kept_in : Search → Visit → List Mapping
-kept_in search visit = kept search.needed (map (placed visit.start visit.above) (asked_mappings (searched search) visit.level visit.frame))
+-- the mappings that are sought below a table that is visited
+abbrev pub sought_in : Search → Visit → List Mapping
+sought_in search visit = sought search (map (placed visit.start visit.above) (asked_mappings (searched search) visit.level visit.frame))
 
 -- ---- the search
 

@@ -22,6 +22,6 @@ pub struct Subject<'a> {
     pub tables: &'a [Table],
     /// The names of tables in their entries, in order.
     pub names: &'a [Name],
-    /// The findings of the tables to which mappings for user code lead.
+    /// The findings of the tables to which mappings lead.
     pub reached: &'a [Finding],
 }

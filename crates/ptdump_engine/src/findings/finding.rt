@@ -2,7 +2,7 @@
 ghost use Rattle.std.specs.Prelude.{◌≡◌, ◌≤◌, ◌||◌, false, nat_lt, not, None, Some};
 ghost use Rattle.std.specs.Fmt.{WritesOnOk};
 ghost use Rattle.x86_64_model.specs.Memory.{identity_places, words_of};
-ghost use Rattle.ptdump_engine.specs.FindingTexts.{for_user_text};
+ghost use Rattle.ptdump_engine.specs.FindingTexts.{at_text, for_user_text};
 ghost use Rattle.ptdump_engine.specs.private.Checked.{HasBits};
 
 use crate::findings::entry::{Entry, HIGHEST_OF_PAGES, Slot};
@@ -61,6 +61,13 @@ pub enum Finding {
         /// The first virtual address of the table in the first mapping for user code that leads to it.
         at: u64,
     },
+    /// Code can write to a table through a mapping that doesn't lie in the direct map.
+    WritableOutside {
+        /// The frame of the table.
+        frame: PhysFrame<Size4KiB>,
+        /// The virtual address of the table in the first writable mapping that leads to it and doesn't lie in the direct map.
+        at: u64,
+    },
 }
 
 /// A flaw of an entry.
@@ -97,6 +104,7 @@ fn is_limited(controls: &Controls) -> bool
 impl Finding {
     ghost use Rattle.ptdump_engine.specs.Findings as findings;
     ghost use Rattle.ptdump_engine.specs.ReachedTables.{reached_at};
+    ghost use Rattle.ptdump_engine.specs.WritableTables.{writable_at};
 
     /// Returns the finding of a frame that is named as a table so many times, if that is more than once.
     pub fn of_frame(frame: PhysFrame<Size4KiB>, count: usize) -> Option<Finding>
@@ -149,6 +157,13 @@ impl Finding {
             (None, Some(at)) => Some(Finding::MappedForUser { frame, at }),
             (None, None) => None,
         }
+    }
+
+    /// Returns the finding of a frame's table, given at which virtual address it is writable outside the direct map, if there is one.
+    pub fn of_writable(frame: PhysFrame<Size4KiB>, address: Option<u64>) -> Option<Finding>
+        ensures { result ≡ writable_at frame address }
+    {
+        address.map(|at| Finding::WritableOutside { frame, at })
     }
 
     /// Returns the finding of an entry, if it has `PRESENT` and `HUGE_PAGE` above level three.
@@ -211,8 +226,21 @@ impl Display for Finding {
                 write!(f, "table 0x{address:x} is mapped")?;
                 write_for_user(f, *at)
             }
+            Finding::WritableOutside { frame, at } => {
+                let address = frame.start_address().as_u64();
+                write!(f, "table 0x{address:x} is mapped writable")?;
+                write_at(f, *at)
+            }
         }
     }
+}
+
+/// Writes where a table is mapped.
+fn write_at<W: Write>(f: &mut Formatter<W>, at: u64) -> FmtResult
+    ensures { WritesOnOk W.write_str_gives f.old result (at_text at) f.new }
+{
+    f.write_str(" at ")?;
+    write_hexadecimal(f, at)
 }
 
 /// Writes for whom a table is mapped, and where.

@@ -60,6 +60,12 @@ impl ToJson for Finding {
             Finding::MappedForUser { frame, at } => {
                 mapped_to_json(alloc, "table mapped for user", *frame, *at)
             }
+            Finding::WritableOutside { frame, at } => mapped_to_json(
+                alloc,
+                "table mapped writable outside the direct map",
+                *frame,
+                *at,
+            ),
         }
     }
 }
@@ -120,7 +126,7 @@ fn reserved_bits_to_json(alloc: Global, entry: Entry) -> Result<Value, AllocErro
     })
 }
 
-/// Returns the object of a table that is mapped for user code, by the name of the finding and the address.
+/// Returns the object of a table that is mapped, by the name of the finding and the address.
 fn mapped_to_json(
     alloc: Global,
     name: &'static str,

@@ -5,11 +5,11 @@ ghost use Rattle.std.specs.List.Sorted.{IsNonDecreasingBy};
 ghost use Rattle.x86_64_model.specs.Mappings.{Mapping};
 ghost use Rattle.x86_64_model.specs.Memory.{identity_places, words_of};
 ghost use Rattle.x86_64_model.specs.Position.{span as span_of, position_count};
-ghost use Rattle.ptdump_engine.specs.ReachedTables.{first_address};
 ghost use Rattle.ptdump_engine.specs.Selections as selections;
 ghost use Rattle.ptdump_engine.specs.private.Reaching as reaching;
 
 use crate::reached::firsts::note;
+use crate::reached::positions::Positions;
 use crate::selected::includes;
 use std::alloc::{AllocError, Global};
 use std::collections::{HashMap, HashSet};
@@ -20,13 +20,15 @@ use x86_64_page::page::{PageSize, Size4KiB};
 use x86_64_tables::page_table::{EntryTarget, Rights};
 use x86_64_tables::phys_memory::{IdentityMapping, PhysMemory, table_in};
 
-/// What is searched for: the first mapping with some rights that leads to each of some frames.
+/// What is searched for: the first mapping with some rights, at other positions than some, that leads to each of some frames.
 #[derive(Clone, Copy)]
 pub struct Search<'a> {
     /// The memory that holds the tables.
     pub memory: &'a PhysMemory,
     /// The rights that the mappings have, perhaps with others.
     pub needed: Rights,
+    /// Positions, if there are such: a mapping all of whose positions are among them is left out.
+    pub left_out: Option<Positions>,
     /// The frames, which ascend.
     pub frames: &'a [PhysFrame<Size4KiB>],
 }
@@ -55,7 +57,8 @@ struct Visit {
     above: Rights,
 }
 
-/// Returns the virtual address in the first mapping below a root that has the needed rights and leads to each of the frames.
+/// Returns the virtual address in the first mapping below a root that has the needed rights, isn't left out, and leads to each of
+/// the frames.
 ///
 /// # Errors
 ///
@@ -66,8 +69,9 @@ pub fn first_addresses<L: LevelCount>(
     root: PhysFrame<Size4KiB>,
 ) -> Result<Vec<Option<u64>>, AllocError>
     requires { IsNonDecreasingBy (λ f. f) search.now.frames.now }
-    ensures { IfOk result (λ addresses. addresses.items ≡ map (first_address L.LEVELS
-        (words_of search.now.memory.now identity_places) root search.now.needed) search.now.frames.now) }
+    ensures { IfOk result (λ addresses. addresses.items ≡ map (reaching.first_sought L.LEVELS
+        (words_of search.now.memory.now identity_places) root search.now.needed search.now.left_out)
+        search.now.frames.now) }
 {
     let mut found = Found {
         firsts: Vec::from_elem(alloc, None, search.frames.len())?,
@@ -97,7 +101,7 @@ fn visit_table<L: LevelCount>(
     requires aligned { table.now.start % span_of table.now.level ≡ 0 }
     requires inside { table.now.start + 512 * span_of table.now.level ≤ position_count L.LEVELS }
     ensures { OnOk result (reaching.Takes L.LEVELS search.now found.old found.new
-        (reaching.kept_in search.now table.now)) }
+        (reaching.sought_in search.now table.now)) }
 {
     let Some(words) = table_in(search.memory, &IdentityMapping, table.frame) else {
         return Ok(());
@@ -125,7 +129,7 @@ fn visit_table<L: LevelCount>(
     Ok(())
 }
 
-/// Notes the addresses in a page, if it has the needed rights.
+/// Notes the addresses in a page, if it has the needed rights and isn't left out.
 ///
 /// # Errors
 ///
@@ -137,9 +141,9 @@ fn note_page<L: LevelCount>(
 ) -> Result<(), AllocError>
     requires { page.now.start + page.now.size ≤ position_count L.LEVELS }
     ensures { OnOk result (reaching.Takes L.LEVELS search.now found.old found.new
-        (reaching.kept search.now.needed (page.now ∷ []))) }
+        (reaching.sought search.now (page.now ∷ []))) }
 {
-    if !includes(page.rights, search.needed) {
+    if !search.seeks::<L>(page) {
         return Ok(());
     }
     if page.size() > Size4KiB::SIZE {
@@ -181,20 +185,25 @@ fn is_noted(pages: &HashMap<u64, u64>, start: u64, size: u64) -> bool
     }
 }
 
-/// Returns true if a table may lead to a frame for the first time. If not, it lacks a needed right, or was visited.
+/// Returns true if a table may lead to a frame for the first time. If not, it lacks a needed right, is left out, or was visited.
 fn is_new<L: LevelCount>(search: &Search<'_>, table: &Visit, found: &Found) -> bool
-    requires { table.now.level < 4096 }
+    requires low { 1 ≤ table.now.level }
+    requires high { table.now.level ≤ 5 }
+    requires inside { table.now.start + 512 * span_of table.now.level ≤ position_count L.LEVELS }
     ensures old { result ≡ false → reaching.Takes L.LEVELS search.now found.now found.now
-        (reaching.kept_in search.now table.now) }
+        (reaching.sought_in search.now table.now) }
     ensures rights { result ≡ true → selections.includes table.now.above search.now.needed ≡ true }
 {
     if !includes(table.above, search.needed) {
         return false;
     }
+    if search.leaves_out(table.positions::<L>()) {
+        return false;
+    }
     !found.visited.contains(&table.key())
 }
 
-/// Records that a table is visited.
+/// Records that a table is visited, unless some of its positions are left out: another visit may find more there.
 ///
 /// # Errors
 ///
@@ -204,14 +213,49 @@ fn mark<L: LevelCount>(
     table: &Visit,
     found: &mut Found,
 ) -> Result<(), AllocError>
-    requires level { table.now.level < 4096 }
+    requires low { 1 ≤ table.now.level }
+    requires high { table.now.level ≤ 5 }
+    requires inside { table.now.start + 512 * span_of table.now.level ≤ position_count L.LEVELS }
     requires rights { selections.includes table.now.above search.now.needed ≡ true }
     ensures { OnOk result ((ms : List Mapping) →
-        reaching.IsAfter L.LEVELS search.now found.old (ms ++ reaching.kept_in search.now table.now) →
-        reaching.IsAfter L.LEVELS search.now found.new (ms ++ reaching.kept_in search.now table.now)) }
+        reaching.IsAfter L.LEVELS search.now found.old (ms ++ reaching.sought_in search.now table.now) →
+        reaching.IsAfter L.LEVELS search.now found.new (ms ++ reaching.sought_in search.now table.now)) }
 {
+    if !search.is_apart(table.positions::<L>()) {
+        return Ok(());
+    }
     found.visited.insert(table.key())?;
     Ok(())
+}
+
+impl Search<'_> {
+    /// Returns true if a page has the needed rights and isn't left out.
+    fn seeks<L: LevelCount>(&self, page: &MappingIn<L>) -> bool
+        requires { page.now.start + page.now.size ≤ position_count L.LEVELS }
+        ensures { result ≡ reaching.is_sought self.now page.now }
+    {
+        includes(page.rights, self.needed) && !self.leaves_out(Positions::of_mapping::<L>(page))
+    }
+
+    /// Returns true if positions are all left out.
+    fn leaves_out(&self, positions: Positions) -> bool
+        ensures { result ≡ reaching.are_left_out self.now.left_out positions }
+    {
+        match self.left_out {
+            Some(left_out) => left_out.contains(positions),
+            None => false,
+        }
+    }
+
+    /// Returns true if none of some positions is left out.
+    fn is_apart(&self, positions: Positions) -> bool
+        ensures { result ≡ reaching.are_apart self.now.left_out positions }
+    {
+        match self.left_out {
+            Some(left_out) => left_out.is_apart(positions),
+            None => true,
+        }
+    }
 }
 
 impl Visit {
@@ -230,6 +274,19 @@ impl Visit {
             level: self.level - 1,
             start,
             above,
+        }
+    }
+
+    /// Returns the positions of the table's span.
+    fn positions<L: LevelCount>(&self) -> Positions
+        requires low { 1 ≤ self.now.level }
+        requires high { self.now.level ≤ 5 }
+        requires inside { self.now.start + 512 * span_of self.now.level ≤ position_count L.LEVELS }
+        ensures { result ≡ reaching.span_of_table self.now }
+    {
+        Positions {
+            first: self.start,
+            last: self.start + (512 * span(self.level) - 1),
         }
     }
 

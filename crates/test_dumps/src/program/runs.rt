@@ -62,6 +62,7 @@ impl Word {
             Word::Find => Command::Find(Vec::from_slice(alloc, &[0x8000_0123, 0x3abc])?),
             Word::Check => Command::Check(Checking {
                 physical_bits: 52,
+                direct_map: None,
                 selection: Selection::ALL,
             }),
             Word::Image => Command::Image,

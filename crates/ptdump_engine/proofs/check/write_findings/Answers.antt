@@ -9,6 +9,7 @@ use Rattle.ptdump_engine.specs.Loaded.{HasAllTables, words_loaded}
 use Rattle.ptdump_engine.specs.Output.{Puts}
 use Rattle.ptdump_engine.specs.Said.{Said, line_of}
 use Rattle.ptdump_engine.specs.Selections.{is_selected}
+use Rattle.ptdump_engine.specs.WritableTables.{all_writable}
 use Rattle.ptdump_engine.specs.declared.check.subject.Subject.{Subject}
 use Rattle.ptdump_engine.specs.declared.findings.entry.Table.{Table}
 use Rattle.ptdump_engine.specs.declared.findings.finding.Finding.{Finding}
@@ -25,10 +26,14 @@ use Rattle.ptdump_engine.proofs.Counting.{none_counted}
 use Rattle.ptdump_engine.proofs.InOrder.{ascend_in_order}
 use Rattle.ptdump_engine.proofs.check.write_findings.Goals as goal
 
+-- the findings of tables to which mappings lead
+abbrev mapped : Checking → (L : ℕ) → Words → (root : ℕ) → List Table → List Finding
+mapped checking L T root tables = all_reached L T root tables ++ all_writable L T root checking.direct_map tables
+
 -- the lines for the tables in order, their names and those that are reached are those of the report
 all_lines : {X : Type 0} (checking : Checking) (L : ℕ) (loaded : Loaded X) (subject : Subject) → HasAllTables L loaded → subject.selection ≡ checking.selection → subject.processor ≡ processor_of checking → subject.memory.now ≡ loaded.tables.now.memory → subject.root ≡ loaded.root
     → subject.tables.now ≡ tables_in_order (frames_of loaded.tables.now.frames.items) → subject.names.now ≡ names_in_order (words_of subject.memory.now identity_places) subject.tables.now
-    → subject.reached.now ≡ all_reached L (words_of subject.memory.now identity_places) subject.root subject.tables.now
+    → subject.reached.now ≡ mapped checking L (words_of subject.memory.now identity_places) subject.root subject.tables.now
     → finding_lines_by L loaded subject ≡ finding_lines checking L (words_loaded loaded) loaded.root
 unfolding finding_lines table_findings
 all_lines checking L loaded subject all selection processor memory root tables names reached =
@@ -38,7 +43,7 @@ all_lines checking L loaded subject all selection processor memory root tables n
     flawed_lines L WritableAndExecutable (filter (is_selected L s) rs) ++ flawed_lines L UserInUpperHalf (filter (is_selected L s) rs) ++ map said_of fs in
     let lines = lines_of checking.selection in
     let W = words_of subject.memory.now identity_places in
-    let found : Words → (root : ℕ) → List Table → List Finding = λ T r ts. findings_by (processor_of checking) T r ts (names_in_order T ts) ++ all_reached L T r ts in
+    let found : Words → (root : ℕ) → List Table → List Finding = λ T r ts. findings_by (processor_of checking) T r ts (names_in_order T ts) ++ mapped checking L T r ts in
     ap (λ s. lines_of s (findings_by subject.processor W subject.root subject.tables.now subject.names.now ++ subject.reached.now)) selection
     ∙ ap (λ (p : Controls). lines (findings_by p W subject.root subject.tables.now subject.names.now ++ subject.reached.now)) processor
     ∙ ap (λ ns. lines (findings_by (processor_of checking) W subject.root subject.tables.now ns ++ subject.reached.now)) names
@@ -55,8 +60,8 @@ ascend_names : (T : Words) (tables : List Table) → Ascend (λ (name : Name). n
 unfolding names_in_order
 ascend_names T tables = ascend_in_order (λ name. name.frame) (flat_map (names_in T) (frames_above tables))
 
-pub reached_tables-requires : goal.reached_tables-requires
-reached_tables-requires g c =
+pub mapped_tables-requires : goal.mapped_tables-requires
+mapped_tables-requires g c =
     subst (Ascend (λ (table : Table). table.frame)) (sym (c.deref-2.ensures.value ∙ c.in_ok-tables.ensures)) (ascend_tables (frames_of c.frames.result.now))
 
 pub write_counted-requires-clause-names : goal.write_counted-requires-clause-names
@@ -75,8 +80,8 @@ returns-clause-text g c = λ all.
     c.deref-3.ensures.value ∙ c.in_ok-tables.ensures ∙ ap (λ fs. tables_in_order (frames_of fs)) c.frames.ensures in
     let names : c.deref-4.result.now ≡ names_in_order W c.deref-3.result.now =
     c.deref-4.ensures.value ∙ c.in_ok-names.ensures ∙ ap (names_in_order W) (c.deref.ensures.value ∙ sym c.deref-3.ensures.value) in
-    let reached : c.deref-5.result.now ≡ all_reached L W loaded.root c.deref-3.result.now =
-    c.deref-5.ensures.value ∙ c.in_ok-reached.ensures ∙ ap (all_reached L W loaded.root) (c.deref-2.ensures.value ∙ sym c.deref-3.ensures.value) in
+    let reached : c.deref-5.result.now ≡ mapped c.args.checking L W loaded.root c.deref-3.result.now =
+    c.deref-5.ensures.value ∙ c.in_ok-reached.ensures ∙ ap (mapped c.args.checking L W loaded.root) (c.deref-2.ensures.value ∙ sym c.deref-3.ensures.value) in
     let same : finding_lines_by L loaded subject ≡ finding_lines c.args.checking L (words_loaded loaded) loaded.root = all_lines c.args.checking L loaded subject all refl c.processor_of.ensures c.memory-memory.ensures refl tables names reached in
     let form = c.args.form in
     let end = c.write_as.new.output in
@@ -94,7 +99,7 @@ returns-clause-nothing g c = λ all.
     c.deref-3.ensures.value ∙ c.in_ok-tables.ensures ∙ ap (λ fs. tables_in_order (frames_of fs)) c.frames.ensures in
     let names : c.deref-4.result.now ≡ names_in_order W c.deref-3.result.now =
     c.deref-4.ensures.value ∙ c.in_ok-names.ensures ∙ ap (names_in_order W) (c.deref.ensures.value ∙ sym c.deref-3.ensures.value) in
-    let reached : c.deref-5.result.now ≡ all_reached L W loaded.root c.deref-3.result.now =
-    c.deref-5.ensures.value ∙ c.in_ok-reached.ensures ∙ ap (all_reached L W loaded.root) (c.deref-2.ensures.value ∙ sym c.deref-3.ensures.value) in
+    let reached : c.deref-5.result.now ≡ mapped c.args.checking L W loaded.root c.deref-3.result.now =
+    c.deref-5.ensures.value ∙ c.in_ok-reached.ensures ∙ ap (mapped c.args.checking L W loaded.root) (c.deref-2.ensures.value ∙ sym c.deref-3.ensures.value) in
     let same : finding_lines_by L loaded subject ≡ finding_lines c.args.checking L (words_loaded loaded) loaded.root = all_lines c.args.checking L loaded subject all refl c.processor_of.ensures c.memory-memory.ensures refl tables names reached in
     ap (λ n. n == 0) c.in_ok-count.ensures.count ∙ none_counted (length (finding_lines_by L loaded subject)) ∙ ap (λ ls. length ls == 0) same

@@ -3,6 +3,7 @@ use Rattle.std.specs.List.{filter_map}
 use Rattle.std.specs.List.Sorted.{IsNonDecreasingBy}
 use Rattle.x86_64_model.specs.Memory.{identity_places, words_of}
 use Rattle.ptdump_engine.specs.ReachedTables.{all_reached, first_address, for_user, reached_at, writable_for_user}
+use Rattle.ptdump_engine.proofs.FirstAddresses.{none_left_out}
 use Rattle.ptdump_engine.proofs.OnceInOrder.{once_in_order}
 use Rattle.ptdump_engine.proofs.reached.reached_tables.Goals as goal
 
@@ -22,5 +23,5 @@ returns g c =
     subst (λ frames. IfOk c.findings_at.result (λ findings. findings.items ≡ filter_map (λ f. reached_at f (writable f) (mapped f)) frames))
     (c.deref-2.ensures.value ∙ c.in_ok-frames.ensures)
     (c.findings_at.ensures writable mapped
-    (c.deref-3.ensures.value ∙ c.in_ok-writable.ensures ∙ ap (map writable) again)
-    (c.deref-4.ensures.value ∙ c.in_ok-mapped.ensures ∙ ap (map mapped) again))
+    (c.deref-3.ensures.value ∙ c.in_ok-writable.ensures ∙ none_left_out g.L.LevelCount.LEVELS T c.args.root writable_for_user c.deref.result.now ∙ ap (map writable) again)
+    (c.deref-4.ensures.value ∙ c.in_ok-mapped.ensures ∙ none_left_out g.L.LevelCount.LEVELS T c.args.root for_user c.deref.result.now ∙ ap (map mapped) again))

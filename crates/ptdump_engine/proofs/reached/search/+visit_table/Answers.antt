@@ -10,19 +10,19 @@ use Rattle.x86_64_mappings.specs.private.Targets.{asked_by, asked_on}
 use Rattle.x86_64_mappings.proofs.Tables.{asked_none, asked_table, by_nothing, by_page, by_table}
 use Rattle.x86_64_mappings.proofs.Visited.{next_start, start_inside, start_aligned, span_below, aligned_below, visited_more}
 use Rattle.ptdump_engine.specs.declared.reached.search.Found.{Found}
-use Rattle.ptdump_engine.specs.private.Reaching.{kept, kept_in, searched, Takes}
+use Rattle.ptdump_engine.specs.private.Reaching.{searched, sought, sought_in, Takes}
 use Rattle.ptdump_engine.proofs.Reaches.{takes_more, takes_nothing}
 use Rattle.ptdump_engine.proofs.reached.search.+visit_table.Goals as goal
 use Rattle.ptdump_engine.proofs.reached.search.+visit_table.Goals.{in-Page+in_ok-note_page-in-Page, in-Table+then-is_new+in_ok-visit_table-in-Table+in_ok-mark-in-Table, in-Table+else-is_new, in-Nothing}
 
 pub returns-in_default : goal.returns-in_default
 returns-in_default g t c =
-    let sought = c.args.search.now in
+    let search = c.args.search.now in
     let table = c.args.table.now in
-    let none : (searched sought).words table.frame ≡ None = sym c.table_in.ensures ∙ ap option_copied c.in_default.is in
-    subst (Takes g.L.LevelCount.LEVELS sought c.args.found.now c.args.found.now)
-    (sym (ap (λ ms. kept sought.needed (map (placed table.start table.above) ms)) (asked_none (searched sought) table.level table.frame none)))
-    (takes_nothing g.L.LevelCount.LEVELS sought c.args.found.now)
+    let none : (searched search).words table.frame ≡ None = sym c.table_in.ensures ∙ ap option_copied c.in_default.is in
+    subst (Takes g.L.LevelCount.LEVELS search c.args.found.now c.args.found.now)
+    (sym (ap (λ ms. sought search (map (placed table.start table.above) ms)) (asked_none (searched search) table.level table.frame none)))
+    (takes_nothing g.L.LevelCount.LEVELS search c.args.found.now)
 
 pub visit_table-requires : goal.visit_table-requires
 visit_table-requires g t c κs shorter =
@@ -39,6 +39,34 @@ visit_table-requires g t c κs shorter =
     let inside : c.loop-entry.start + 512 * span (level - 1) ≤ position_count g.L.LevelCount.LEVELS = omega (arith, start, within, below) in
     search rules
 
+pub is_new-requires : goal.is_new-requires
+is_new-requires g t c =
+    let level = c.args.table.now.level in
+    let w = span level in
+    let s = c.args.table.now.start in
+    let i = c.loop-entry.entry-index in
+    let low : 1 < level = c.in-Table.ensures.table tt in
+    let start : c.loop-entry.start ≡ s + i * w = c.loop-entry.invariant.start in
+    let size : length c.as_slice-entries.result.now ≡ 512 = ap length c.as_slice-entries.ensures.words ∙ c.as_slice-entries.ensures.size in
+    let within = start_inside s i w (position_count g.L.LevelCount.LEVELS) (omega (arith, c.loop-entry-test.true, size)) c.requires.inside in
+    let below = span_below level low in
+    let inside : c.loop-entry.start + 512 * span (level - 1) ≤ position_count g.L.LevelCount.LEVELS = omega (arith, start, within, below) in
+    search rules
+
+pub mark-requires : goal.mark-requires
+mark-requires g t c =
+    let level = c.args.table.now.level in
+    let w = span level in
+    let s = c.args.table.now.start in
+    let i = c.loop-entry.entry-index in
+    let low : 1 < level = c.in-Table.ensures.table tt in
+    let start : c.loop-entry.start ≡ s + i * w = c.loop-entry.invariant.start in
+    let size : length c.as_slice-entries.result.now ≡ 512 = ap length c.as_slice-entries.ensures.words ∙ c.as_slice-entries.ensures.size in
+    let within = start_inside s i w (position_count g.L.LevelCount.LEVELS) (omega (arith, c.loop-entry-test.true, size)) c.requires.inside in
+    let below = span_below level low in
+    let inside : c.loop-entry.start + 512 * span (level - 1) ≤ position_count g.L.LevelCount.LEVELS = omega (arith, start, within, below) in
+    search rules
+
 pub overflow_add-start : goal.overflow_add-start
 overflow_add-start g t c =
     let w = span c.args.table.now.level in
@@ -51,9 +79,8 @@ overflow_add-start g t c =
 pub loop-entry-preserved : goal.loop-entry-preserved
 loop-entry-preserved g t c =
     let L = g.L.LevelCount.LEVELS in
-    let sought = c.args.search.now in
-    let asked = searched sought in
-    let needed = sought.needed in
+    let search = c.args.search.now in
+    let asked = searched search in
     let level = c.args.table.now.level in
     let r = c.args.table.now.above in
     let words = c.as_slice-entries.result.now in
@@ -68,12 +95,12 @@ loop-entry-preserved g t c =
     let old = c.args.found.now in
     let between = c.loop-entry.found in
     let front = asked_on asked level s r (take i words) in
-    let so_far : Takes L sought old between (kept needed front) = c.loop-entry.invariant.taken in
+    let so_far : Takes L search old between (sought search front) = c.loop-entry.invariant.taken in
     let next = next_start s i (span level) in
-    let all : Found → List Mapping → Type 0 = λ new ms. Takes L sought old new (kept needed ms) in
-    let with : (new : Found) → (back : List Mapping) → asked_by asked level c.loop-entry.start r e ≡ back → Takes L sought between new (kept needed back)
+    let all : Found → List Mapping → Type 0 = λ new ms. Takes L search old new (sought search ms) in
+    let with : (new : Found) → (back : List Mapping) → asked_by asked level c.loop-entry.start r e ≡ back → Takes L search between new (sought search back)
     → all new (asked_on asked level s r (take (i + 1) words)) =
-    λ new back is more. visited_more asked level s r words i less (all new) back (here ∙ is) (takes_more L sought old between new front back so_far more) in
+    λ new back is more. visited_more asked level s r words i less (all new) back (here ∙ is) (takes_more L search old between new front back so_far more) in
     record {
       start = omega (arith, start, c.span-size.ensures, next);
       taken = elim c.match-target.branch [
@@ -84,32 +111,32 @@ loop-entry-preserved g t c =
         | in-Table+then-is_new+in_ok-visit_table-in-Table+in_ok-mark-in-Table w ↦
             let visit = w.below-below.result in
             let below = map (placed c.loop-entry.start (granted r e)) (asked_mappings asked (level - 1) w.in-Table.frame) in
-            let same : kept_in sought visit ≡ kept needed below = ap (kept_in sought) w.below-below.ensures ∙ ap (λ a. kept needed (map (placed c.loop-entry.start a) (asked_mappings asked (level - 1) w.in-Table.frame))) w.below.ensures in
-            let more : Takes L sought between w.mark.new.found (kept_in sought visit) = λ ms after. w.in_ok-mark-in-Table.ensures ms (w.in_ok-visit_table-in-Table.ensures ms after) in
+            let same : sought_in search visit ≡ sought search below = ap (sought_in search) w.below-below.ensures ∙ ap (λ a. sought search (map (placed c.loop-entry.start a) (asked_mappings asked (level - 1) w.in-Table.frame))) w.below.ensures in
+            let more : Takes L search between w.mark.new.found (sought_in search visit) = λ ms after. w.in_ok-mark-in-Table.ensures ms (w.in_ok-visit_table-in-Table.ensures ms after) in
             subst (λ v. all v (asked_on asked level s r (take (i + 1) words))) (sym w.found-is)
-            (with w.mark.new.found below (by_table asked level c.loop-entry.start r e w.in-Table.frame w.in-Table.ensures.value) (subst (Takes L sought between w.mark.new.found) same more))
+            (with w.mark.new.found below (by_table asked level c.loop-entry.start r e w.in-Table.frame w.in-Table.ensures.value) (subst (Takes L search between w.mark.new.found) same more))
         | in-Table+else-is_new w ↦
             let visit = w.below-below.result in
             let below = map (placed c.loop-entry.start (granted r e)) (asked_mappings asked (level - 1) w.in-Table.frame) in
-            let same : kept_in sought visit ≡ kept needed below = ap (kept_in sought) w.below-below.ensures ∙ ap (λ a. kept needed (map (placed c.loop-entry.start a) (asked_mappings asked (level - 1) w.in-Table.frame))) w.below.ensures in
+            let same : sought_in search visit ≡ sought search below = ap (sought_in search) w.below-below.ensures ∙ ap (λ a. sought search (map (placed c.loop-entry.start a) (asked_mappings asked (level - 1) w.in-Table.frame))) w.below.ensures in
             subst (λ v. all v (asked_on asked level s r (take (i + 1) words))) (sym w.found-is)
             (with between below (by_table asked level c.loop-entry.start r e w.in-Table.frame w.in-Table.ensures.value)
-            (subst (Takes L sought between between) same (w.is_new.ensures.old w.if-is_new.false)))
+            (subst (Takes L search between between) same (w.is_new.ensures.old w.if-is_new.false)))
         | in-Nothing w ↦
             subst (λ v. all v (asked_on asked level s r (take (i + 1) words))) (sym w.found-is)
-            (with between [] (by_nothing asked level c.loop-entry.start r e w.in-Nothing.ensures.value) (takes_nothing L sought between))
+            (with between [] (by_nothing asked level c.loop-entry.start r e w.in-Nothing.ensures.value) (takes_nothing L search between))
       ];
     }
 
 pub returns : goal.returns
 returns g t c =
-    let sought = c.args.search.now in
+    let search = c.args.search.now in
     let table = c.args.table.now in
     let words = c.as_slice-entries.result.now in
-    let there : (searched sought).words table.frame ≡ Some words =
+    let there : (searched search).words table.frame ≡ Some words =
     sym c.table_in.ensures ∙ ap option_copied c.in-Some.is ∙ ap Some (sym c.as_slice-entries.ensures.words) in
     let size : length words ≡ 512 = ap length c.as_slice-entries.ensures.words ∙ c.as_slice-entries.ensures.size in
-    subst (λ ms. Takes g.L.LevelCount.LEVELS sought c.args.found.now c.loop-entry.found (kept sought.needed ms))
-    (ap (asked_on (searched sought) table.level table.start table.above) (take_all c.loop-entry.entry-index words c.loop-entry-test.false)
-    ∙ sym (asked_table (searched sought) table.level table.start table.above table.frame words c.requires.low there size))
+    subst (λ ms. Takes g.L.LevelCount.LEVELS search c.args.found.now c.loop-entry.found (sought search ms))
+    (ap (asked_on (searched search) table.level table.start table.above) (take_all c.loop-entry.entry-index words c.loop-entry-test.false)
+    ∙ sym (asked_table (searched search) table.level table.start table.above table.frame words c.requires.low there size))
     c.loop-entry.invariant.taken

@@ -1,0 +1,19 @@
+-- Direct maps: where the kernel's direct map lies, as --direct-map says it.
+use Rattle.std.specs.Prelude.{◌≡◌, ℕ, ◌==◌, List, [], ◌∷◌, Option, None, Some}
+use Rattle.std.specs.List.{AllZip, slice_split}
+use Rattle.ptdump_engine.specs.declared.request.AddressRange.{AddressRange}
+use Rattle.ptdump.specs.Placements.{Denotes}
+
+-- the parts of a text denote the first and the last address of a range
+abbrev pub AreEnds : (parts : List (List ℕ)) → AddressRange → Type 0
+AreEnds parts range = AllZip Denotes parts (range.first ∷ range.last ∷ [])
+
+-- likewise for the parts between the colons of a text
+abbrev pub IsAddressRange : (text : List ℕ) → AddressRange → Type 0
+IsAddressRange text range = AreEnds (slice_split (λ c. c == 0x3a) text) range
+
+-- the direct map is None if its text is missing, and is the range of its text otherwise
+abbrev pub IsDirectMap : (text : Option (List ℕ)) → Option AddressRange → Type 0
+IsDirectMap None direct_map = direct_map ≡ None
+IsDirectMap (Some text) None = ⊥
+IsDirectMap (Some text) (Some range) = IsAddressRange text range
