@@ -35,7 +35,9 @@ fn subcommand<'a>(alloc: Global, help: &CommandHelp) -> Result<Command<'a>, Erro
         Operands::Checks => {
             with_all_cpus(
                 alloc,
-                with_addresses(alloc, command)?.arg(maxphyaddr(alloc))?,
+                with_addresses(alloc, command)?
+                    .arg(maxphyaddr(alloc))?
+                    .arg(aliases(alloc))?,
             )?
         }
         Operands::Addresses(text) => command.arg(addresses(alloc, text))?,
@@ -150,6 +152,15 @@ fn maxphyaddr<'a>(alloc: Global) -> Arg<'a> {
         alloc,
         "maxphyaddr",
         "Bits of physical addresses, 32 to 52 [default: 52]",
+    )
+}
+
+/// Returns the option for frames that are mapped with different rights.
+fn aliases<'a>(alloc: Global) -> Arg<'a> {
+    flag(
+        alloc,
+        "aliases",
+        "Find frames that are mapped with different rights, too",
     )
 }
 

@@ -138,6 +138,7 @@ fn check_of<'a>(arguments: &ArgMatches<'a>) -> Result<Command, Stop<'a>>
     Ok(Command::Check(Checking {
         physical_bits,
         selection,
+        aliases: is_given(arguments, "aliases"),
     }))
 }
 

@@ -8,10 +8,13 @@ ghost use Rattle.ptdump_engine.specs.Said.{line_of};
 ghost use Rattle.ptdump_engine.specs.private.Ascending.{Ascend};
 ghost use Rattle.ptdump_engine.specs.private.Checked.{finding_lines_by};
 
+mod aliases;
+mod first_mappings;
 mod regions;
 mod subject;
 mod tables;
 
+use crate::check::aliases::write_aliases;
 use crate::check::regions::write_flawed;
 use crate::check::subject::Subject;
 use crate::check::tables::write_table_findings;
@@ -63,6 +66,7 @@ pub fn write_findings<L: LevelCount, W: Destination>(
         tables: &tables,
         names: &names,
         reached: &reached,
+        aliases: checking.aliases,
     };
     let count = write_counted::<L, Output<'_, W>>(alloc, loaded, &subject, form, output)?;
     write_as(alloc, form, FindingCount(count), output)?;
@@ -100,12 +104,13 @@ fn write_counted<L: LevelCount, O: Lines>(
         ≡ findings.line_count (finding_lines_by L.LEVELS loaded.now subject.now)) }
 {
     let mut lines = CountedLines::new(alloc, form, output);
-    write_lines::<L, CountedLines<'_, O>>(loaded, subject, &mut lines)?;
+    write_lines::<L, CountedLines<'_, O>>(alloc, loaded, subject, &mut lines)?;
     Ok(lines.count())
 }
 
 /// Writes a line for each finding.
 fn write_lines<L: LevelCount, O: LineOutput>(
+    alloc: Global,
     loaded: &Loaded<'_, L>,
     subject: &Subject<'_>,
     output: &mut O,
@@ -119,5 +124,10 @@ fn write_lines<L: LevelCount, O: LineOutput>(
     let selection = &subject.selection;
     write_flawed::<L, O>(loaded, selection, Flaw::WritableAndExecutable, output)?;
     write_flawed::<L, O>(loaded, selection, Flaw::UserInUpperHalf, output)?;
-    write_table_findings::<O>(subject, output)
+    write_table_findings::<O>(subject, output)?;
+    if subject.aliases {
+        write_aliases::<L, O>(alloc, loaded, selection, output)
+    } else {
+        Ok(())
+    }
 }

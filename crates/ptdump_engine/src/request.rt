@@ -46,6 +46,8 @@ pub struct Checking {
     pub physical_bits: u8,
     /// The regions that are looked at. All tables are.
     pub selection: Selection,
+    /// Whether frames are looked for that are mapped with different rights, by the mappings that are selected.
+    pub aliases: bool,
 }
 
 /// The report to write.

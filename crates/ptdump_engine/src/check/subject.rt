@@ -24,4 +24,6 @@ pub struct Subject<'a> {
     pub names: &'a [Name],
     /// The findings of the tables to which mappings for user code lead.
     pub reached: &'a [Finding],
+    /// Whether frames are looked for that are mapped with different rights.
+    pub aliases: bool,
 }
