@@ -1,6 +1,6 @@
 -- First mappings of frames: what they are after one more mapping, and the first alias of a mapping by them.
 use Rattle.std.proofs.Common.{◌≡◌, ◌∙◌, ◌+◌, ◌-◌, ◌%◌, ◌<◌, ◌≤◌, ◌==◌, ◌&&◌, ◌||◌, ◌++◌, ℕ, Bool, true, false, not, cond, nat_eq, nat_le, nat_lt, List, [], ◌∷◌, find, Option, None, Some, IfSome, option_map, option_and_then, refl, sym, ap, ap₂, subst, append-nil, arith}
-use Rattle.std.proofs.Math.Bool.{or-false}
+use Rattle.std.proofs.Math.Bool.{and-true, or-false}
 use Rattle.std.proofs.Math.Nat.{mod-eq_of_lt}
 use Rattle.std.proofs.lemmas.Bool.{and_from, and_parts, eq-eqb, eqb-true, false_from_ne_true, le-leb, le-ltb, leb-true, lt-ltb, ltb-false, not-false}
 use Rattle.std.proofs.lemmas.List.Folds.{find-append}
@@ -115,11 +115,11 @@ found_all Q p (m ∷ ms) h = elim (p m) as (λ b. IfSome (cond b (Some m) (find 
 
 found_is : (p : Mapping → Bool) (ms : List Mapping) → IfSome (find p ms) (λ n. p n ≡ true)
 found_is p [] = tt
-found_is p (m ∷ ms) = by (p m) refl
+found_is p (m ∷ ms) = by (p m) refl (found_is p ms)
   where
-    by : (b : Bool) → p m ≡ b → IfSome (cond b (Some m) (find p ms)) (λ n. p n ≡ true)
-    by true is = is
-    by false is = found_is p ms
+    by : (b : Bool) → p m ≡ b → IfSome (find p ms) (λ n. p n ≡ true) → IfSome (cond b (Some m) (find p ms)) (λ n. p n ≡ true)
+    by true is rest = is
+    by false is rest = rest
 
 find_same : (p q : Mapping → Bool) (ms : List Mapping) → AllByRecursion (λ m. p m ≡ q m) ms → find p ms ≡ find q ms
 find_same p q [] h = refl
@@ -128,7 +128,7 @@ find_same p q (m ∷ ms) h = ap₂ (λ b o. cond b (Some m) o) h.0 (find_same p 
 -- the first mapping of two kinds
 find_or : (p q : Mapping → Bool) (ms : List Mapping) → InOrder Precedes ms → find (λ n. p n || q n) ms ≡ earlier (find p ms) (find q ms)
 find_or p q [] order = refl
-find_or p q (m ∷ ms) order = by (p m) (q m)
+find_or p q (m ∷ ms) order = by (p m) (q m) (find_or p q ms order.1)
   where
     first : (o : Option Mapping) → IfSome o (Precedes m) → Some m ≡ earlier (Some m) o
     first None after = refl
@@ -142,32 +142,34 @@ find_or p q (m ∷ ms) order = by (p m) (q m)
     either true = refl
     either false = refl
 
-    by : (a b : Bool) → cond (a || b) (Some m) (find (λ n. p n || q n) ms) ≡ earlier (cond a (Some m) (find p ms)) (cond b (Some m) (find q ms))
-    by true true = either (nat_lt m.start m.start)
-    by true false = first (find q ms) (found_all (Precedes m) q ms order.0)
-    by false true = second (find p ms) (found_all (Precedes m) p ms order.0)
-    by false false = find_or p q ms order.1
+    by : (a b : Bool) → find (λ n. p n || q n) ms ≡ earlier (find p ms) (find q ms)
+        → cond (a || b) (Some m) (find (λ n. p n || q n) ms) ≡ earlier (cond a (Some m) (find p ms)) (cond b (Some m) (find q ms))
+    by true true rest = either (nat_lt m.start m.start)
+    by true false rest = first (find q ms) (found_all (Precedes m) q ms order.0)
+    by false true rest = second (find p ms) (found_all (Precedes m) p ms order.0)
+    by false false rest = rest
 
 -- the first mapping of a kind, if it starts before a position
 find_before : (p : Mapping → Bool) (position : ℕ) (ms : List Mapping) → InOrder Precedes ms → find (λ n. p n && nat_lt n.start position) ms ≡ before position (find p ms)
 find_before p position [] order = refl
-find_before p position (m ∷ ms) order = by (p m)
+find_before p position (m ∷ ms) order = by (p m) (find_before p position ms order.1)
   where
     none : (ms : List Mapping) → AllByRecursion (Precedes m) ms → position ≤ m.start → find (λ n. p n && nat_lt n.start position) ms ≡ None
     none [] after late = refl
     none (n ∷ ms) after late = ap (λ b. cond b (Some n) (find (λ n. p n && nat_lt n.start position) ms)) (never (p n) (le-ltb n.start position (omega (arith, after.0.0, late)))) ∙ none ms after.1 late
       where
         never : (a : Bool) → nat_lt n.start position ≡ false → (a && nat_lt n.start position) ≡ false
-        never true no = no
-        never false no = refl
+        never true later = later
+        never false later = refl
 
     here : (b : Bool) → nat_lt m.start position ≡ b → cond b (Some m) (find (λ n. p n && nat_lt n.start position) ms) ≡ cond b (Some m) None
     here true is = refl
     here false is = none ms order.0 (ltb-false m.start position is)
 
-    by : (a : Bool) → cond (a && nat_lt m.start position) (Some m) (find (λ n. p n && nat_lt n.start position) ms) ≡ before position (cond a (Some m) (find p ms))
-    by true = here (nat_lt m.start position) refl
-    by false = find_before p position ms order.1
+    by : (a : Bool) → find (λ n. p n && nat_lt n.start position) ms ≡ before position (find p ms)
+        → cond (a && nat_lt m.start position) (Some m) (find (λ n. p n && nat_lt n.start position) ms) ≡ before position (cond a (Some m) (find p ms))
+    by true rest = here (nat_lt m.start position) refl
+    by false rest = rest
 
 -- ---- aliases by their frames
 
@@ -188,7 +190,7 @@ same_test s f x y e to low high = by (s == e) refl
     by true is = and_from (nat_le s f) (nat_le x y) (le-leb s f (low (eqb-true s e is))) (le-leb x y (high (eqb-true s e is)))
     by false is = false_from_ne_true (nat_le s f && nat_le x y)
         (λ both. let parts = and_parts (nat_le s f) (nat_le x y) both in
-        absurd (let no : true ≡ false = sym (eq-eqb s e (to (leb-true s f parts.0) (leb-true x y parts.1))) ∙ is in cc))
+        absurd (let other : true ≡ false = sym (eq-eqb s e (to (leb-true s f parts.0) (leb-true x y parts.1))) ∙ is in cc))
 
 too_small : (s f x y : ℕ) → (s ≤ f → x ≤ y → ⊥) → (nat_le s f && nat_le x y) ≡ false
 too_small s f x y never = false_from_ne_true (nat_le s f && nat_le x y) (λ both. let parts = and_parts (nat_le s f) (nat_le x y) both in absurd (never (leb-true s f parts.0) (leb-true x y parts.1)))
@@ -197,27 +199,19 @@ or_false_twice : (b : Bool) → b ≡ ((b || false) || false)
 or_false_twice true = refl
 or_false_twice false = refl
 
-or_false_once : (b : Bool) → b ≡ (b || false)
-or_false_once true = refl
-or_false_once false = refl
-
-and_true : (b : Bool) → (b && true) ≡ b
-and_true true = refl
-and_true false = refl
-
 same_tests : (f g : MappedFrame) → IsAligned f → IsAligned g → (d b : Bool) → contained_test (frame_start f) (frame_size f) (frame_start g) (frame_size g) d b ≡ alias_test f (frame_start g) (frame_size g) d b
 same_tests (Size4KiB f) (Size4KiB g) h k d b =
     ap (λ c. c && d && b) (same_test g f (f + 0x1000) (g + 0x1000) f (λ l m. omega (arith, l, m)) (λ e. omega (arith, e)) (λ e. omega (arith, e))) ∙ or_false_twice ((g == f) && d && b)
 same_tests (Size4KiB f) (Size2MiB g) h k d b =
-    and_true _ ∙ ap (λ c. c && d) (same_test g f (f + 0x1000) (g + 0x20_0000) (f - f % 0x20_0000) (λ l m. omega (arith, l, m, h, k)) (λ e. omega (arith, e, h, k)) (λ e. omega (arith, e, h, k)))
-    ∙ or_false_once ((g == f - f % 0x20_0000) && d)
+    and-true _ ∙ ap (λ c. c && d) (same_test g f (f + 0x1000) (g + 0x20_0000) (f - f % 0x20_0000) (λ l m. omega (arith, l, m, h, k)) (λ e. omega (arith, e, h, k)) (λ e. omega (arith, e, h, k)))
+    ∙ sym (or-false ((g == f - f % 0x20_0000) && d))
 same_tests (Size4KiB f) (Size1GiB g) h k d b =
-    and_true _ ∙ ap (λ c. c && d) (same_test g f (f + 0x1000) (g + 0x4000_0000) (f - f % 0x4000_0000) (λ l m. omega (arith, l, m, h, k)) (λ e. omega (arith, e, h, k)) (λ e. omega (arith, e, h, k)))
+    and-true _ ∙ ap (λ c. c && d) (same_test g f (f + 0x1000) (g + 0x4000_0000) (f - f % 0x4000_0000) (λ l m. omega (arith, l, m, h, k)) (λ e. omega (arith, e, h, k)) (λ e. omega (arith, e, h, k)))
 same_tests (Size2MiB f) (Size4KiB g) h k d b = ap (λ c. c && d && b) (too_small g f (f + 0x20_0000) (g + 0x1000) (λ l m. omega (arith, l, m)))
 same_tests (Size2MiB f) (Size2MiB g) h k d b =
-    ap (λ c. c && d && b) (same_test g f (f + 0x20_0000) (g + 0x20_0000) f (λ l m. omega (arith, l, m)) (λ e. omega (arith, e)) (λ e. omega (arith, e))) ∙ or_false_once ((g == f) && d && b)
+    ap (λ c. c && d && b) (same_test g f (f + 0x20_0000) (g + 0x20_0000) f (λ l m. omega (arith, l, m)) (λ e. omega (arith, e)) (λ e. omega (arith, e))) ∙ sym (or-false ((g == f) && d && b))
 same_tests (Size2MiB f) (Size1GiB g) h k d b =
-    and_true _ ∙ ap (λ c. c && d) (same_test g f (f + 0x20_0000) (g + 0x4000_0000) (f - f % 0x4000_0000) (λ l m. omega (arith, l, m, h, k)) (λ e. omega (arith, e, h, k)) (λ e. omega (arith, e, h, k)))
+    and-true _ ∙ ap (λ c. c && d) (same_test g f (f + 0x20_0000) (g + 0x4000_0000) (f - f % 0x4000_0000) (λ l m. omega (arith, l, m, h, k)) (λ e. omega (arith, e, h, k)) (λ e. omega (arith, e, h, k)))
 same_tests (Size1GiB f) (Size4KiB g) h k d b = ap (λ c. c && d && b) (too_small g f (f + 0x4000_0000) (g + 0x1000) (λ l m. omega (arith, l, m)))
 same_tests (Size1GiB f) (Size2MiB g) h k d b = ap (λ c. c && d && b) (too_small g f (f + 0x4000_0000) (g + 0x20_0000) (λ l m. omega (arith, l, m)))
 same_tests (Size1GiB f) (Size1GiB g) h k d b =
