@@ -22,4 +22,4 @@ fails_knowing less more follows (errors.Fault fault) h = h
 -- a dump has only words of frames
 pub no_frame : (dump : Contents) (f : ℕ) → is_frame f ≡ false → words_of_dump dump f ≡ None
 unfolding words_of_dump
-no_frame dump f lacks = ap (λ b. cond b (option_map (words_at dump.file) (frame_offset (length dump.file) dump.segments f)) None) lacks
+no_frame dump f lacks = ap (λ b. cond b (option_map (words_at dump.cleared dump.file) (frame_offset (length dump.file) dump.segments f)) None) lacks

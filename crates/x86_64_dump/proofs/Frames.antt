@@ -4,26 +4,31 @@ use Rattle.std.specs.List.{find, range_with_len}
 use Rattle.std.specs.Option.{option_map}
 use Rattle.x86_64_model.specs.Entry.{is_frame, address}
 use Rattle.x86_64_dump.specs.Numbers.{u64_at}
-use Rattle.x86_64_dump.specs.Dump.{Contents, has_frame, frame_offset, offset_in, words_at, words_of_dump}
+use Rattle.x86_64_dump.specs.Dump.{Contents, without, has_frame, frame_offset, offset_in, words_at, words_of_dump}
 use Rattle.x86_64_dump.specs.declared.segment.Segment.{Segment}
 use Rattle.std.proofs.lemmas.List.{take_all}
 use Rattle.x86_64_dump.specs.Source.{part_of}
 use Rattle.x86_64_model.proofs.Lemmas.Entries.Words.{address-multiple}
 use Rattle.x86_64_dump.proofs.Parts.{Shows, part_shows, u64_shown, map_range_same}
 
-words_map_shown : (part file : List ℕ) (offset size n : ℕ) → Shows part file offset size → 8 * n ≤ size → map (λ i. u64_at part (0 + 8 * i)) (range_with_len 0 n) ≡ map (λ i. u64_at file (offset + 8 * i)) (range_with_len 0 n)
-words_map_shown part file offset size n shows fits = map_range_same _ _ 0 n (λ i low high. ap (u64_at part) (omega arith) ∙ u64_shown part file (8 * i) offset size shows (omega arith))
+words_map_shown : (cleared : ℕ) (part file : List ℕ) (offset size n : ℕ) → Shows part file offset size → 8 * n ≤ size
+    → map (λ i. without cleared (u64_at part (0 + 8 * i))) (range_with_len 0 n) ≡ map (λ i. without cleared (u64_at file (offset + 8 * i))) (range_with_len 0 n)
+words_map_shown cleared part file offset size n shows fits = map_range_same _ _ 0 n (λ i low high.
+    ap (without cleared) (ap (u64_at part) (omega arith) ∙ u64_shown part file (8 * i) offset size shows (omega arith)))
 
-pub words_shown : (part file : List ℕ) (offset : ℕ) → Shows part file offset 4096 → words_at part 0 ≡ words_at file offset
+pub words_shown : (cleared : ℕ) (part file : List ℕ) (offset : ℕ) → Shows part file offset 4096 → words_at cleared part 0 ≡ words_at cleared file offset
 unfolding words_at
-words_shown part file offset shows = words_map_shown part file offset 4096 512 shows (omega arith)
+words_shown cleared part file offset shows = words_map_shown cleared part file offset 4096 512 shows (omega arith)
 
-words_by_count : (bytes : List ℕ) (n : ℕ) → map (λ i. u64_at bytes (8 * i)) (range_with_len 0 n) ≡ map (λ i. u64_at bytes (0 + 8 * i)) (range_with_len 0 n)
-words_by_count bytes n = map_range_same _ _ 0 n (λ i low high. ap (u64_at bytes) (omega arith))
+words_by_count : (cleared : ℕ) (bytes : List ℕ) (n : ℕ)
+    → map (λ i. without cleared (u64_at bytes (8 * i))) (range_with_len 0 n) ≡ map (λ i. without cleared (u64_at bytes (0 + 8 * i))) (range_with_len 0 n)
+words_by_count cleared bytes n = map_range_same _ _ 0 n (λ i low high. ap (λ at. without cleared (u64_at bytes at)) (omega arith))
 
-pub all_words : (bytes words : List ℕ) (n : ℕ) → n ≡ 512 → length words ≡ 512 → take n words ≡ map (λ i. u64_at bytes (8 * i)) (range_with_len 0 n) → words ≡ words_at bytes 0
+pub all_words : (cleared : ℕ) (bytes words : List ℕ) (n : ℕ) → n ≡ 512 → length words ≡ 512
+    → take n words ≡ map (λ i. without cleared (u64_at bytes (8 * i))) (range_with_len 0 n) → words ≡ words_at cleared bytes 0
 unfolding words_at
-all_words bytes words n all size read = sym (take_all n words (omega arith)) ∙ read ∙ words_by_count bytes n ∙ ap (λ count. map (λ i. u64_at bytes (0 + 8 * i)) (range_with_len 0 count)) all
+all_words cleared bytes words n all size read =
+    sym (take_all n words (omega arith)) ∙ read ∙ words_by_count cleared bytes n ∙ ap (λ count. map (λ i. without cleared (u64_at bytes (0 + 8 * i))) (range_with_len 0 count)) all
 
 none_either : {A : Type 0} (b : Bool) → cond {A = Option A} b None None ≡ None
 none_either true = refl
@@ -33,16 +38,16 @@ none_either false = refl
 pub no_words : (dump : Contents) (frame size : ℕ) → size ≡ length dump.file → frame_offset size dump.segments frame ≡ None → None ≡ words_of_dump dump frame
 unfolding words_of_dump
 no_words dump frame size long lacks =
-    sym (ap (λ place. cond (is_frame frame) (option_map (words_at dump.file) place) None) (ap (λ n. frame_offset n dump.segments frame) (sym long) ∙ lacks) ∙ none_either (is_frame frame))
+    sym (ap (λ place. cond (is_frame frame) (option_map (words_at dump.cleared dump.file) place) None) (ap (λ n. frame_offset n dump.segments frame) (sym long) ∙ lacks) ∙ none_either (is_frame frame))
 
 pub frame_words : (dump : Contents) (frame size offset : ℕ) (part words : List ℕ) → size ≡ length dump.file → is_frame frame ≡ true → frame_offset size dump.segments frame ≡ Some offset
-    → part ≡ part_of dump.file offset 4096 → words ≡ words_at part 0 → Some words ≡ words_of_dump dump frame
+    → part ≡ part_of dump.file offset 4096 → words ≡ words_at dump.cleared part 0 → Some words ≡ words_of_dump dump frame
 unfolding words_of_dump
 frame_words dump frame size offset part words long is has read told =
     let place : frame_offset (length dump.file) dump.segments frame ≡ Some offset = ap (λ n. frame_offset n dump.segments frame) (sym long) ∙ has in
-    let shown = words_shown (part_of dump.file offset 4096) dump.file offset (part_shows dump.file offset 4096) in
-    ap Some (told ∙ ap (λ bytes. words_at bytes 0) read ∙ shown)
-    ∙ sym (ap (λ place. cond (is_frame frame) (option_map (words_at dump.file) place) None) place ∙ ap (λ b. cond {A = Option (List ℕ)} b (Some (words_at dump.file offset)) None) is)
+    let shown = words_shown dump.cleared (part_of dump.file offset 4096) dump.file offset (part_shows dump.file offset 4096) in
+    ap Some (told ∙ ap (λ bytes. words_at dump.cleared bytes 0) read ∙ shown)
+    ∙ sym (ap (λ place. cond (is_frame frame) (option_map (words_at dump.cleared dump.file) place) None) place ∙ ap (λ b. cond {A = Option (List ℕ)} b (Some (words_at dump.cleared dump.file offset)) None) is)
 
 is_some_mapped : {A B : Type 0} (f : A → B) (found : Option A) → is_some found ≡ is_some (option_map f found)
 is_some_mapped f None = refl
@@ -52,9 +57,9 @@ is_some_mapped f (Some x) = refl
 pub frame_there : (dump : Contents) (frame size : ℕ) → size ≡ length dump.file → is_frame frame ≡ true → is_some (frame_offset size dump.segments frame) ≡ is_some (words_of_dump dump frame)
 unfolding words_of_dump
 frame_there dump frame size long is =
-    is_some_mapped (words_at dump.file) (frame_offset size dump.segments frame)
-    ∙ ap (λ n. is_some (option_map (words_at dump.file) (frame_offset n dump.segments frame))) long
-    ∙ sym (ap (λ b. is_some (cond {A = Option (List ℕ)} b (option_map (words_at dump.file) (frame_offset (length dump.file) dump.segments frame)) None)) is)
+    is_some_mapped (words_at dump.cleared dump.file) (frame_offset size dump.segments frame)
+    ∙ ap (λ n. is_some (option_map (words_at dump.cleared dump.file) (frame_offset n dump.segments frame))) long
+    ∙ sym (ap (λ b. is_some (cond {A = Option (List ℕ)} b (option_map (words_at dump.cleared dump.file) (frame_offset (length dump.file) dump.segments frame)) None)) is)
 
 pub aligned_frame : (frame : ℕ) → frame % 4096 ≡ 0 → frame < 2 ^ 52 → is_frame frame ≡ true
 aligned_frame frame aligned below = eq-eqb (address frame) frame (address-multiple frame aligned below)

@@ -1,28 +1,25 @@
 -- The numbers of frames, and memories that are filled place by place.
-use Rattle.std.proofs.Common.{◌≡◌, ◌≢◌, ⊎_elim, ℕ, ◌+◌, ◌*◌, ◌/◌, ◌%◌, ◌^◌, ◌<◌, ◌≤◌, ◌==◌, ◌||◌, Bool, true, false, cond, List, [], ◌∷◌, ◌++◌, length, replicate, take, get_or, Option, Some, None, IsSome, is_some, refl, sym, ap, ap₂, subst, ◌∙◌, arith, eq-eqb, eqb-true, ne_eqb}
+use Rattle.std.proofs.Common.{◌≡◌, ◌≢◌, ⊎_elim, ℕ, ◌+◌, ◌*◌, ◌/◌, ◌%◌, ◌^◌, ◌<◌, ◌==◌, ◌||◌, Bool, true, false, cond, List, [], ◌∷◌, ◌++◌, length, map, drop, take, get_or, Option, Some, None, IsSome, is_some, refl, sym, ap, ap₂, subst, ◌∙◌, arith, eq-eqb, eqb-true, ne_eqb}
 use Rattle.std.specs.Prelude.{Vec}
-use Rattle.std.specs.FinMap.{get, insert, len, get-insert, len-insert, same_map, nat_cmp-IsAntisymmetric}
+use Rattle.std.specs.FinMap.{get, len, get-empty, get-insert}
 use Rattle.std.specs.List.{list_any, dedup, dedup_from}
 use Rattle.std.specs.Cmp.{nat_cmp_total}
 use Rattle.std.specs.List.Sorted.{IsStrictlyIncreasing}
 use Rattle.std.specs.Ordering.{nat_cmp, eq_by_cmp}
 use Rattle.std.proofs.lemmas.Bool.{cases_eq}
-use Rattle.std.proofs.lemmas.List.{length-replicate, take_all}
 use Rattle.std.proofs.lemmas.List.Folds.{Any-from_list_any, list_any_at, list_any_more, list_any-append}
-use Rattle.std.proofs.Math.Bool.{or_assoc, or-false, or-true}
+use Rattle.std.proofs.Math.Bool.{or_assoc, or-false}
 use Rattle.x86_64_model.specs.Entry.{is_frame, address}
 use Rattle.x86_64_model.proofs.Lemmas.Entries.Bits.{same_frame}
 use Rattle.x86_64_model.proofs.Lemmas.Entries.Words.{address-multiple, address_aligned}
 use Rattle.x86_64_model.proofs.Lemmas.Hierarchies.Memories.{same_key, other_key}
 use Rattle.x86_64_model.specs.Memory.{Memory, Words, words_of, identity_places}
-use Rattle.x86_64_tables.specs.PageTable.{zero_words}
-use Rattle.x86_64_tables.specs.PhysMemory.{length_keys, zero_tables_at}
-use Rattle.x86_64_tables.proofs.Places.{get-zero_tables}
+use Rattle.x86_64_tables.specs.PhysMemory.{length_keys, tables_at}
 use Rattle.x86_64_tables.proofs.PlacesInOrder.{keys-tables}
 use Rattle.x86_64_dump.specs.Loaded.{frames_of}
-use Rattle.x86_64_dump.specs.Tables.{is_among, is_in, words_in_frames}
+use Rattle.x86_64_dump.specs.Tables.{is_among, is_in, words_in_frames, AreThere}
 use Rattle.x86_64_dump.proofs.Closed.{none_either}
-use Rattle.x86_64_dump.specs.private.FrameNumbers.{has_number, AreNumbers, HoldsFor}
+use Rattle.x86_64_dump.specs.private.FrameNumbers.{has_number, words_numbered, AreAllThere, AreNumbers, HoldsFor}
 
 -- ---- numbers
 
@@ -80,41 +77,48 @@ list_any-dedup p [] = refl
 list_any-dedup p (x ∷ xs) = list_any-dedup_from p x xs
 
 -- the frame of a number
-pub number_there : (numbers : List ℕ) (i : ℕ) → i < length numbers → AreNumbers numbers → (is_frame (get_or numbers i 0 * 4096) ≡ true) × (has_number numbers (get_or numbers i 0 * 4096) ≡ true)
-number_there numbers i within below =
-    let n = get_or numbers i 0 in (
-      eq-eqb (address (n * 4096)) (n * 4096) (address-multiple (n * 4096) (omega arith) (below i 0 within)),
-      list_any_at (λ m. n * 4096 / 4096 == m) numbers i 0 within (eq-eqb (n * 4096 / 4096) n (omega arith)),
+pub number_there : (numbers : List ℕ) (i d : ℕ) → i < length numbers → AreNumbers numbers → (is_frame (get_or numbers i d * 4096) ≡ true) × (has_number numbers (get_or numbers i d * 4096) ≡ true)
+number_there numbers i d within below =
+    let n = get_or numbers i d in (
+      eq-eqb (address (n * 4096)) (n * 4096) (address-multiple (n * 4096) (omega arith) (below i d within)),
+      list_any_at (λ m. n * 4096 / 4096 == m) numbers i d within (eq-eqb (n * 4096 / 4096) n (omega arith)),
     )
+
+-- if the frames of some levels have words, so have those of the same numbers
+pub all_there : (W : Words) (numbers : List ℕ) (levels : List (List ℕ)) → AreNumbers numbers → ((f : ℕ) → is_frame f ≡ true → has_number numbers f ≡ is_in levels f)
+    → AreThere W levels → AreAllThere W numbers
+all_there W numbers levels below same there i d within =
+    let number = number_there numbers i d within below in
+    there (get_or numbers i d * 4096) (sym (same (get_or numbers i d * 4096) number.0) ∙ number.1)
 
 -- ---- memories
 
--- the tables of the first i numbers are read, and the others are zero
-abbrev pub so_far : Words → (numbers : List ℕ) → (i : ℕ) → (place : ℕ) → Option (List ℕ)
-so_far W numbers i place = cond (list_any (λ n. place == n) (take i numbers)) (W (place * 4096)) (Some zero_words)
-
-pub place_filled : (W : Words) (numbers : List ℕ) (i : ℕ) (memory : Memory) (words : List ℕ) → i < length numbers → Some words ≡ W (get_or numbers i 0 * 4096)
-    → HoldsFor numbers (so_far W numbers i) memory → HoldsFor numbers (so_far W numbers (i + 1)) (insert memory (get_or numbers i 0) words)
-place_filled W numbers i memory words within read held place =
-    get-insert nat_cmp_total memory (get_or numbers i 0) words place ∙ ⊎_elim here elsewhere (cases_eq place (get_or numbers i 0))
+-- one more place in front of others
+one_more : (W : ℕ → Option (List ℕ)) (n : ℕ) (ns : List ℕ) (t : List ℕ) (others : Option (List ℕ)) (place : ℕ) → Some t ≡ W n → others ≡ cond (list_any (λ n. place == n) ns) (W place) None
+    → cond (eq_by_cmp nat_cmp place n) (Some t) others ≡ cond ((place == n) || list_any (λ n. place == n) ns) (W place) None
+one_more W n ns t others place same rest = ⊎_elim here elsewhere (cases_eq place n)
   where
-    one_more : (b : Bool) → (place == get_or numbers i 0) ≡ b → list_any (λ n. place == n) (take (i + 1) numbers) ≡ (list_any (λ n. place == n) (take i numbers) || b)
-    one_more b is = list_any_more (λ n. place == n) numbers i 0 within ∙ ap (λ b. list_any (λ n. place == n) (take i numbers) || b) is
+    here : place ≡ n → cond (eq_by_cmp nat_cmp place n) (Some t) others ≡ cond ((place == n) || list_any (λ n. place == n) ns) (W place) None
+    here is =
+        ap (λ m. cond (eq_by_cmp nat_cmp place m) (Some t) others) (sym is)
+        ∙ ap (λ b. cond b (Some t) others) (same_key place)
+        ∙ same ∙ ap W (sym is)
+        ∙ sym (ap (λ b. cond (b || list_any (λ n. place == n) ns) (W place) None) (eq-eqb place n is))
 
-    here : place ≡ get_or numbers i 0 → cond (eq_by_cmp nat_cmp place (get_or numbers i 0)) (Some words) (get memory place) ≡ cond (list_any (λ n. place == n) numbers) (so_far W numbers (i + 1) place) None
-    here same =
-        let is = eq-eqb place (get_or numbers i 0) same in
-        ap (λ n. cond (eq_by_cmp nat_cmp place n) (Some words) (get memory place)) (sym same)
-        ∙ ap (λ b. cond b (Some words) (get memory place)) (same_key place)
-        ∙ read ∙ ap (λ n. W (n * 4096)) (sym same)
-        ∙ sym (ap₂ (λ a b. cond a (cond b (W (place * 4096)) (Some zero_words)) None) (list_any_at (λ n. place == n) numbers i 0 within is) (one_more true is ∙ or-true (list_any (λ n. place == n) (take i numbers))))
-
-    elsewhere : place ≢ get_or numbers i 0 → cond (eq_by_cmp nat_cmp place (get_or numbers i 0)) (Some words) (get memory place) ≡ cond (list_any (λ n. place == n) numbers) (so_far W numbers (i + 1) place) None
+    elsewhere : place ≢ n → cond (eq_by_cmp nat_cmp place n) (Some t) others ≡ cond ((place == n) || list_any (λ n. place == n) ns) (W place) None
     elsewhere other =
-        ap (λ b. cond b (Some words) (get memory place)) (other_key place (get_or numbers i 0) other)
-        ∙ held place
-        ∙ ap (λ b. cond (list_any (λ n. place == n) numbers) (cond b (W (place * 4096)) (Some zero_words)) None)
-        (sym (one_more false (ne_eqb place (get_or numbers i 0) other) ∙ or-false (list_any (λ n. place == n) (take i numbers))))
+        ap (λ b. cond b (Some t) others) (other_key place n other)
+        ∙ rest
+        ∙ sym (ap (λ b. cond (b || list_any (λ n. place == n) ns) (W place) None) (ne_eqb place n other))
+
+-- the tables at places, one for each
+pub tables_held : (W : ℕ → Option (List ℕ)) (numbers : List ℕ) (tables : List (List ℕ)) → map Some tables ≡ map W numbers → HoldsFor numbers W (tables_at numbers tables)
+tables_held W [] [] same place = get-empty nat_cmp place
+tables_held W [] (t ∷ ts) same place = get-empty nat_cmp place
+tables_held W (n ∷ ns) [] same place = let never : length (map W (n ∷ ns)) ≡ 0 = sym (ap length same) in absurd (omega (arith, never))
+tables_held W (n ∷ ns) (t ∷ ts) same place =
+    get-insert nat_cmp_total (tables_at ns ts) n t place
+    ∙ one_more W n ns t (get (tables_at ns ts) place) place (ap (λ os. get_or os 0 None) same) (tables_held W ns ts (ap (drop 1) same) place)
 
 -- the places of a memory for numbers of frames are such numbers
 pub places_below : (numbers : List ℕ) (tables : ℕ → Option (List ℕ)) (memory : Memory) → AreNumbers numbers → HoldsFor numbers tables memory
@@ -129,32 +133,19 @@ places_below numbers tables memory are held place there = by (list_any (λ n. pl
         subst P (found.3 ∙ sym same) (are found.0 found.1 found.2)
     by false not = let never : false ≡ true = sym (ap is_some (held place ∙ ap (λ b. cond b (tables place) None) not)) ∙ there in cc
 
--- a memory has as many places as there are numbers, which differ
-pub places_counted : (numbers : List ℕ) (memory : Memory) → IsStrictlyIncreasing numbers → HoldsFor numbers (λ _. Some zero_words) memory → len memory ≡ length numbers
-places_counted numbers memory up held =
-    let same : memory ≡ zero_tables_at numbers = same_map nat_cmp_total nat_cmp-IsAntisymmetric memory (zero_tables_at numbers) (λ q. held q ∙ sym (get-zero_tables numbers q)) in
-    ap len same ∙ sym (length_keys (zero_tables_at numbers)) ∙ ap length (keys-tables numbers (replicate (length numbers) zero_words) up (length-replicate (length numbers) zero_words))
-
--- a table in place of another leaves the number of places as it is
-pub places_kept : (memory : Memory) (place : ℕ) (words : List ℕ) → IsSome (get memory place) → len (insert memory place words) ≡ len memory
-places_kept memory place words there = len-insert nat_cmp_total memory place words ∙ ap (λ b. cond b (len memory) (len memory + 1)) there
+-- a memory has as many places as there are numbers, which increase
+pub places_counted : (numbers : List ℕ) (tables : List (List ℕ)) → IsStrictlyIncreasing numbers → length tables ≡ length numbers → len (tables_at numbers tables) ≡ length numbers
+places_counted numbers tables up same = sym (length_keys (tables_at numbers tables)) ∙ ap length (keys-tables numbers tables up same)
 
 -- the memory for all numbers holds the words of their frames
-pub words_filled : (W : Words) (numbers : List ℕ) (i : ℕ) (memory : Memory) (levels : List (List ℕ)) → length numbers ≤ i → ((f : ℕ) → is_frame f ≡ false → W f ≡ None)
-    → ((f : ℕ) → is_frame f ≡ true → has_number numbers f ≡ is_in levels f) → HoldsFor numbers (so_far W numbers i) memory → words_of memory identity_places ≡ words_in_frames levels W
-words_filled W numbers i memory levels all only same held = λ k f. at f k
+pub words_filled : (W : Words) (numbers : List ℕ) (memory : Memory) (levels : List (List ℕ)) → ((f : ℕ) → is_frame f ≡ false → W f ≡ None)
+    → ((f : ℕ) → is_frame f ≡ true → has_number numbers f ≡ is_in levels f) → HoldsFor numbers (words_numbered W) memory → words_of memory identity_places ≡ words_in_frames levels W
+words_filled W numbers memory levels only same held = λ k f. at f k
   where
-    twice : (b : Bool) (o p : Option (List ℕ)) → cond b (cond b o p) None ≡ cond b o None
-    twice true o p = refl
-    twice false o p = refl
-
     frame : (f : ℕ) → is_frame f ≡ true → get memory (f / 4096) ≡ cond (is_in levels f) (W f) None
     frame f is =
         let whole : f / 4096 * 4096 ≡ f = omega (arith, address_aligned f, eqb-true (address f) f is) in
-        held (f / 4096)
-        ∙ ap (λ ns. cond (has_number numbers f) (cond (list_any (λ n. f / 4096 == n) ns) (W (f / 4096 * 4096)) (Some zero_words)) None) (take_all i numbers all)
-        ∙ twice (has_number numbers f) (W (f / 4096 * 4096)) (Some zero_words)
-        ∙ ap₂ (λ b g. cond b (W g) None) (same f is) whole
+        held (f / 4096) ∙ ap₂ (λ b g. cond b (W g) None) (same f is) whole
 
     at : (f : ℕ) → words_of memory identity_places f ≡ words_in_frames levels W f
     at f = elim (is_frame f) as (λ b. is_frame f ≡ b → cond b (get memory (f / 4096)) None ≡ cond (is_in levels f) (W f) None) [

@@ -1,6 +1,6 @@
 -- Dump: the words of physical memory in a file, located by its segments. A file is the list of its bytes.
 -- System V ABI, "Program Header"; its AMD64 supplement.
-use Rattle.std.specs.Prelude.{ℕ, ◌+◌, ◌-◌, ◌*◌, ◌==◌, ◌&&◌, Bool, not, cond, List, length, map, nat_le, nat_lt, Option, None}
+use Rattle.std.specs.Prelude.{ℕ, ◌+◌, ◌-◌, ◌*◌, ◌^◌, ◌==◌, ◌&&◌, Bool, bit_and, not, cond, List, length, map, nat_le, nat_lt, Option, None}
 use Rattle.std.specs.List.{find, list_any, range_with_len}
 use Rattle.std.specs.Option.{option_map}
 use Rattle.x86_64_model.specs.Entry.{is_frame}
@@ -30,19 +30,24 @@ has_frame file_length frame segment = segment.kind == 1 && nat_le segment.addres
 unfoldable pub frame_offset : (file_length : ℕ) → List Segment → (frame : ℕ) → Option ℕ
 frame_offset file_length segments frame = option_map (λ segment. offset_in segment frame) (find (has_frame file_length frame) segments)
 
--- the 512 words of the 4096 bytes from an offset on
-unfoldable pub words_at : (file : List ℕ) → (offset : ℕ) → List ℕ
-words_at file offset = map (λ i. u64_at file (offset + 8 * i)) (range_with_len 0 512)
+-- a word in which some bits are cleared
+abbrev pub without : (bits word : ℕ) → ℕ
+without bits word = bit_and word (2 ^ 64 - 1 - bits)
 
--- a file, its format and its segments
+-- the 512 words of the 4096 bytes from an offset on, in which some bits are cleared
+unfoldable pub words_at : (cleared : ℕ) → (file : List ℕ) → (offset : ℕ) → List ℕ
+words_at cleared file offset = map (λ i. without cleared (u64_at file (offset + 8 * i))) (range_with_len 0 512)
+
+-- a file, its format, its segments, and the bits that are cleared in each word that is read
 pub record Contents : Type 0 where
   pub file : List ℕ
   pub format : Format
   pub segments : List Segment
+  pub cleared : ℕ
 
 -- the words of each frame that the dump has
 unfoldable pub words_of_dump : Contents → Words
-words_of_dump dump frame = cond (is_frame frame) (option_map (words_at dump.file) (frame_offset (length dump.file) dump.segments frame)) None
+words_of_dump dump frame = cond (is_frame frame) (option_map (words_at dump.cleared dump.file) (frame_offset (length dump.file) dump.segments frame)) None
 
 -- whether the file is shorter than its segments say
 abbrev pub is_short : (file_length : ℕ) → List Segment → Bool

@@ -4,15 +4,13 @@ use Rattle.x86_64_dump.specs.VmCoreInfo.{key_name}
 use Rattle.x86_64_dump.specs.declared.error.Fault.{Fault}
 use Rattle.x86_64_dump.specs.declared.error.Fault.TheVariants as faults
 use Rattle.x86_64_dump.specs.declared.vmcoreinfo.KernelFault.{KernelFault}
-use Rattle.x86_64_dump.specs.declared.vmcoreinfo.KernelFault.TheVariants.{Missing, NoNumber, NoFrame, Encrypted}
+use Rattle.x86_64_dump.specs.declared.vmcoreinfo.KernelFault.TheVariants.{Missing, NoNumber, NoFrame}
 
 abbrev pub kernel_fault_text : KernelFault → List ℕ
 kernel_fault_text (Missing key) = codes "the note VMCOREINFO has no line " ++ key_name key ++ codes ": give --cr3"
 kernel_fault_text (NoNumber key) = codes "the note VMCOREINFO has no number below 2^64 behind " ++ key_name key ++ codes ": give --cr3"
 kernel_fault_text NoFrame =
     codes "SYMBOL(swapper_pg_dir) - 0xffffffff80000000 + NUMBER(phys_base) of the note VMCOREINFO is no frame's address: give --cr3"
-kernel_fault_text Encrypted =
-    codes "the memory is encrypted, as NUMBER(sme_mask) of the note VMCOREINFO isn't 0: give --cr3 to go on"
 
 -- where the descriptor of a note begins, and how long it is
 unfoldable pub note_text : (offset size : ℕ) → List ℕ

@@ -76,7 +76,7 @@ segments_of (formats.Unread format) file placement = Err (faults.Unread format)
 
 -- the contents of a file of a format, or why it isn't a dump
 abbrev pub contents_as : Format → (file : List ℕ) → Placement → Result Contents Fault
-contents_as format file placement = after (segments_of format file placement) (λ segments. Ok (record { file = file; format = format; segments = segments }))
+contents_as format file placement = after (segments_of format file placement) (λ segments. Ok (record { file = file; format = format; segments = segments; cleared = 0 }))
 
 -- likewise for the format that the file's beginning has, and a base
 abbrev pub contents_of : (file : List ℕ) → (base : Option ℕ) → Result Contents Fault

@@ -22,7 +22,7 @@ use Rattle.x86_64_dump.specs.declared.vmcoreinfo.Kernel.{Kernel}
 use Rattle.x86_64_dump.specs.declared.vmcoreinfo.KernelFault.{KernelFault}
 use Rattle.x86_64_dump.specs.declared.vmcoreinfo.Shift.{Shift}
 use Rattle.x86_64_dump.specs.declared.vmcoreinfo.Shift.TheVariants.{Up, Down}
-use Rattle.x86_64_dump.specs.declared.vmcoreinfo.KernelFault.TheVariants.{Missing, NoNumber, NoFrame, Encrypted}
+use Rattle.x86_64_dump.specs.declared.vmcoreinfo.KernelFault.TheVariants.{Missing, NoNumber, NoFrame}
 
 -- the text of a note: the first 65536 bytes of its descriptor
 abbrev pub text_of : (file : List ℕ) → Note → List ℕ
@@ -95,7 +95,7 @@ physical symbol shift = if nat_lt symbol 0xffff_ffff_8000_0000 then None else op
 abbrev pub levels_by : (five : ℕ) → Levels
 levels_by five = if five == 1 then Five else Four
 
--- the root of the kernel, or why there is none. Memory that is encrypted can't be read
+-- the root of the kernel, or why there is none
 unfoldable pub kernel_of : (text : List ℕ) → Result Kernel KernelFault
 kernel_of text = and_then (number_in text 16 SwapperPgDir) (λ symbol.
     and_then (ok_or symbol (Missing SwapperPgDir)) (λ symbol.
@@ -103,8 +103,8 @@ kernel_of text = and_then (number_in text 16 SwapperPgDir) (λ symbol.
     and_then (ok_or shift (Missing PhysBase)) (λ shift.
     and_then (number_in text 10 FiveLevels) (λ five.
     and_then (number_in text 10 SmeMask) (λ mask.
-    if not (unwrap_or mask 0 == 0) then Err Encrypted else
-    and_then (ok_or (physical symbol shift) NoFrame) (λ root. Ok (record { root = root; levels = levels_by (unwrap_or five 0) }))))))))
+    and_then (ok_or (physical symbol shift) NoFrame) (λ root.
+    Ok (record { root = root; levels = levels_by (unwrap_or five 0); encryption_mask = unwrap_or mask 0 }))))))))
 
 abbrev pub kernel_by : (file : List ℕ) → (note : Option Note) → Result (Option Kernel) Fault
 kernel_by file None = Ok None
@@ -113,3 +113,11 @@ kernel_by file (Some note) = result_map_both Some faults.VmCoreInfo (kernel_of (
 -- the root of the kernel by the first of the notes VMCOREINFO, if there is one
 abbrev pub kernel_in : Contents → Result (Option Kernel) Fault
 kernel_in dump = kernel_by dump.file (slice_get (notes_of VmCoreInfo dump) 0)
+
+abbrev pub mask_by : Result (Option Kernel) Fault → ℕ
+mask_by (Ok (Some kernel)) = kernel.encryption_mask
+mask_by kernel = 0
+
+-- the dump with the bits cleared in each word by which the kernel marks encrypted memory, as far as the note says them
+abbrev pub decrypted : Contents → Contents
+decrypted dump = record dump { cleared = mask_by (kernel_in dump) }

@@ -23,14 +23,15 @@ use x86_64_tables::page_table::PageTable;
 
 /// The physical memory in a dump file, read frame by frame.
 ///
-/// Contracts see it as its file, its format and its segments. Only the segments are kept in memory, with what finds the one that
-/// has a frame.
+/// Contracts see it as its file, its format, its segments, and the bits that are cleared in each word. Only the segments are kept
+/// in memory, with what finds the one that has a frame.
 #[derive(Drop)]
 pub struct Dump<S: ByteSource> {
     source: S,
     format: Format,
     segments: Vec<Segment>,
     stretches: Vec<Stretch>,
+    cleared: u64,
     ghost order: { AreSorted stretches.items },
     ghost finds: { (frame : ℕ) → frame < 2 ^ 52 → offset_at stretches.items frame
         ≡ frame_offset (S.size source) segments.items frame } by { Prim.hlevel props },
@@ -43,7 +44,7 @@ impl<S: ByteSource> Dump<S> {
     ghost use Rattle.x86_64_dump.specs.Opening.{contents_of, contents_as, Gives, GivesAtOnce};
     ghost use Rattle.x86_64_dump.specs.Opened.{opened, holds};
     ghost use Rattle.x86_64_dump.specs.Notes.{is_of_virtualbox, notes_of, processors_of, register_of};
-    ghost use Rattle.x86_64_dump.specs.VmCoreInfo.{kernel_in};
+    ghost use Rattle.x86_64_dump.specs.VmCoreInfo.{decrypted, kernel_in};
 
     /// Opens a dump and reads which parts of the file are memory.
     ///
@@ -88,6 +89,30 @@ impl<S: ByteSource> Dump<S> {
             format,
             segments,
             stretches,
+            cleared: 0,
+        })
+    }
+
+    /// Returns the dump with the bits cleared in each word that is read by which Linux marks encrypted memory (AMD's SME), as
+    /// `NUMBER(sme_mask)` of its note VMCOREINFO says. If that note is missing or faulty, no bits are.
+    ///
+    /// # Errors
+    ///
+    /// `DumpError::OutOfMemory` if memory allocation fails, `DumpError::Read` if the source can't be read.
+    pub fn decrypted(self, alloc: Global) -> Result<Dump<S>, DumpError>
+        ensures { S.IsKnown → Gives (opened S.bytes) result (Ok (decrypted (opened S.bytes self))) }
+    {
+        let cleared = match self.kernel(alloc) {
+            Ok(Some(kernel)) => kernel.encryption_mask,
+            Ok(None) | Err(DumpError::Fault(_)) => 0,
+            Err(error) => return Err(error),
+        };
+        Ok(Dump {
+            source: self.source,
+            format: self.format,
+            segments: self.segments,
+            stretches: self.stretches,
+            cleared,
         })
     }
 
@@ -145,7 +170,7 @@ impl<S: ByteSource> Dump<S> {
         };
         let mut bytes = [0; 4096];
         self.source.read_exact_at(&mut bytes, offset)?;
-        Ok(Some(words_in(&bytes)))
+        Ok(Some(words_in(&bytes, self.cleared)))
     }
 
     /// Reads the words of a frame into a table and returns true, or returns false if the dump lacks the frame.
@@ -165,7 +190,7 @@ impl<S: ByteSource> Dump<S> {
         };
         let mut bytes = [0; 4096];
         self.source.read_exact_at(&mut bytes, offset)?;
-        set_words(table, &bytes);
+        set_words(table, &bytes, self.cleared);
         Ok(true)
     }
 

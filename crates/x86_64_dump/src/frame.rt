@@ -15,24 +15,24 @@ pub fn is_cut_off(segments: &[Segment], length: u64) -> bool
         && ends_after(segment.offset, segment.size, length))
 }
 
-/// Returns the words of the 4096 bytes of a frame.
-pub fn words_in(bytes: &[u8]) -> [u64; 512]
+/// Returns the words of the 4096 bytes of a frame, with some bits cleared.
+pub fn words_in(bytes: &[u8], cleared: u64) -> [u64; 512]
     requires { length bytes.now ≡ 4096 }
-    ensures { result ≡ words_at bytes.now 0 }
+    ensures { result ≡ words_at cleared bytes.now 0 }
 {
     let mut words = [0; 512];
     for i in 0..512 {
-        words[i] = read_u64(bytes, 8 * i);
+        words[i] = read_u64(bytes, 8 * i) & !cleared;
     }
     words
 }
 
-/// Sets the words of a table to those of the 4096 bytes of a frame.
-pub fn set_words(table: &mut PageTable, bytes: &[u8])
+/// Sets the words of a table to those of the 4096 bytes of a frame, with some bits cleared.
+pub fn set_words(table: &mut PageTable, bytes: &[u8], cleared: u64)
     requires { length bytes.now ≡ 4096 }
-    ensures { table.new ≡ words_at bytes.now 0 }
+    ensures { table.new ≡ words_at cleared bytes.now 0 }
 {
     for i in 0..512 {
-        table[i].set_word(read_u64(bytes, 8 * i));
+        table[i].set_word(read_u64(bytes, 8 * i) & !cleared);
     }
 }

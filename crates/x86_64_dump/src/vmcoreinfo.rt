@@ -23,7 +23,7 @@ pub enum Key {
     PhysBase,
     /// `NUMBER(pgtable_l5_enabled)`: 1 for five levels of tables.
     FiveLevels,
-    /// `NUMBER(sme_mask)`: the bit of entries that says that memory is encrypted, or 0.
+    /// `NUMBER(sme_mask)`: the bit of entries by which the kernel marks encrypted memory, in decimal digits, or 0.
     SmeMask,
 }
 
@@ -57,6 +57,8 @@ pub struct Kernel {
     pub root: PhysFrame<Size4KiB>,
     /// The number of levels of tables.
     pub levels: Levels,
+    /// The bits of entries by which the kernel marks encrypted memory, or 0.
+    pub encryption_mask: u64,
 }
 
 /// Why a text doesn't say where the kernel's root is.
@@ -68,8 +70,6 @@ pub enum KernelFault {
     NoNumber(Key),
     /// The address that the values make isn't that of a frame below 2^52.
     NoFrame,
-    /// The memory is encrypted.
-    Encrypted,
 }
 
 impl Kernel {
@@ -88,13 +88,11 @@ impl Kernel {
         let shift = shift_in(text, Key::PhysBase)?.ok_or(KernelFault::Missing(Key::PhysBase))?;
         let five = number_in(text, 10, Key::FiveLevels)?;
         let mask = number_in(text, 10, Key::SmeMask)?;
-        if mask.unwrap_or(0) != 0 {
-            return Err(KernelFault::Encrypted);
-        }
         let root = physical(symbol, shift).ok_or(KernelFault::NoFrame)?;
         Ok(Kernel {
             root,
             levels: levels_by(five.unwrap_or(0)),
+            encryption_mask: mask.unwrap_or(0),
         })
     }
 }
@@ -246,9 +244,6 @@ impl Display for KernelFault {
             ),
             KernelFault::NoFrame => f.write_str(
                 "SYMBOL(swapper_pg_dir) - 0xffffffff80000000 + NUMBER(phys_base) of the note VMCOREINFO is no frame's address: give --cr3",
-            ),
-            KernelFault::Encrypted => f.write_str(
-                "the memory is encrypted, as NUMBER(sme_mask) of the note VMCOREINFO isn't 0: give --cr3 to go on",
             ),
         }
     }

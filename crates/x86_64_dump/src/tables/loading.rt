@@ -1,15 +1,14 @@
 //! Memories that hold the tables in some frames.
-ghost use Rattle.std.specs.Prelude.{◌≡◌, ◌||◌, ℕ, true, Some, IsSome, IfOk, IfErr, OnOk};
+ghost use Rattle.std.specs.Prelude.{◌≡◌, ◌||◌, ℕ, true, length, map, Some, IsSome, IfOk, IfErr, OnOk};
 ghost use Rattle.std.specs.FinMap as finite;
 ghost use Rattle.std.specs.List.Sorted.{IsStrictlyIncreasing};
 ghost use Rattle.x86_64_dump.specs.Dump.{words_of_dump};
 ghost use Rattle.x86_64_dump.specs.Opened.{opened};
 ghost use Rattle.x86_64_model.specs.Entry.{is_frame};
-ghost use Rattle.x86_64_tables.specs.PageTable.{zero_words};
 ghost use Rattle.x86_64_dump.specs.Loaded.{HoldsTables, MayFail, frames_of, up_to};
 ghost use Rattle.x86_64_dump.specs.Tables.{is_among, is_in, AreThere};
 ghost use Rattle.x86_64_dump.specs.private.TablesRead.{AreOf};
-ghost use Rattle.x86_64_dump.specs.private.FrameNumbers.{has_number, AreNumbers, HoldsFor};
+ghost use Rattle.x86_64_dump.specs.private.FrameNumbers.{has_number, words_numbered, AreAllThere, AreNumbers};
 
 use crate::tables::dump_tables::TablesByLevel;
 use crate::tables::progress::Progress;
@@ -20,7 +19,7 @@ use std::io::{self, ErrorKind};
 use x86_64_page::frame::PhysFrame;
 use x86_64_page::page::{PageSize, Size4KiB};
 use x86_64_tables::page_table::PageTable;
-use x86_64_tables::phys_memory::{FramePlace, PhysMemory, PlacesRefusal};
+use x86_64_tables::phys_memory::PhysMemory;
 
 /// Collects the tables in the frames, reading those that weren't read before, and reports each to `progress`. Each table's place,
 /// its index in memory, is the number of its frame.
@@ -40,13 +39,40 @@ pub fn read_memory<S: ByteSource, G: Progress>(
         (S.IsKnown × AreThere (words_of_dump (opened S.bytes dump.now)) (frames_of frames.now))) }
 {
     let numbers = numbers_of(alloc, frames)?;
-    let mut memory = empty_memory(alloc, &numbers)?;
+    let tables = tables_of(alloc, dump, &numbers, read, progress)?;
+    match PhysMemory::with_tables(numbers, tables) {
+        Some(memory) => Ok(memory),
+        None => unreachable!(),
+    }
+}
+
+/// Reads the tables in the frames of these numbers, in order, those that weren't read before from the dump, and reports each to
+/// `progress`.
+fn tables_of<S: ByteSource, G: Progress>(
+    alloc: Global,
+    dump: &Dump<S>,
+    numbers: &[u64],
+    read: &TablesRead,
+    progress: &mut G,
+) -> Result<Vec<PageTable>, DumpError>
+    requires numbers { AreNumbers numbers.now }
+    requires read { S.IsKnown → AreOf (words_of_dump (opened S.bytes dump.now)) read.now }
+    ensures tables { S.IsKnown → IfOk result (λ tables. map Some tables.items
+        ≡ map (words_numbered (words_of_dump (opened S.bytes dump.now))) numbers.now) }
+    ensures count { IfOk result (λ tables. length tables.items ≡ length numbers.now) }
+    ensures told { OnOk result (G.Told progress.old progress.new (up_to (length numbers.now))) }
+    ensures errors { IfErr result (MayFail (S.IsKnown
+        × AreAllThere (words_of_dump (opened S.bytes dump.now)) numbers.now)) }
+{
+    let mut tables = Vec::with_capacity(alloc, numbers.len())?;
+    let mut table = PageTable::new();
     for (i, number) in numbers.iter().enumerate() {
         let frame = PhysFrame::from_pfn(*number);
-        fill_table(dump, read, frame, &mut memory[FramePlace::new(*number)])?;
+        fill_table(dump, read, frame, &mut table)?;
+        tables.push_reserved(copied(&table)?);
         progress.tables(i + 1);
     }
-    Ok(memory)
+    Ok(tables)
 }
 
 /// Returns the numbers of the frames, in order and each once.
@@ -78,18 +104,6 @@ fn add_numbers(numbers: &mut Vec<u64>, frames: &[PhysFrame<Size4KiB>]) -> Result
     Ok(())
 }
 
-/// Creates a memory with these places, in which all words are 0.
-fn empty_memory(alloc: Global, places: &[u64]) -> Result<PhysMemory, AllocError>
-    requires { IsStrictlyIncreasing places.now }
-    ensures { IfOk result (λ memory. HoldsFor places.now (λ _. Some zero_words) memory) }
-{
-    match PhysMemory::with_places(alloc, places) {
-        Ok(memory) => Ok(memory),
-        Err(PlacesRefusal::Alloc(error)) => Err(error),
-        Err(PlacesRefusal::NotIncreasing) => unreachable!(),
-    }
-}
-
 /// Fills a table with the words of a frame that the dump has. They are copied if they were read before.
 ///
 /// # Errors
@@ -109,7 +123,7 @@ fn fill_table<S: ByteSource>(
         (S.IsKnown × IsSome (words_of_dump (opened S.bytes dump.now) frame))) }
 {
     if let Some(before) = read.table(frame) {
-        copy(before, table)?;
+        *table = copied(before)?;
         return Ok(());
     }
     if dump.read_table(frame, table)? {
@@ -119,10 +133,9 @@ fn fill_table<S: ByteSource>(
     }
 }
 
-/// Copies a table into another.
-fn copy(from: &PageTable, to: &mut PageTable) -> Result<(), AllocError>
-    ensures { OnOk result (to.new ≡ from.now) }
+/// Returns a table with the words of another.
+fn copied(table: &PageTable) -> Result<PageTable, AllocError>
+    ensures { IfOk result (λ copy. copy ≡ table.now) }
 {
-    *to = from.clone()?;
-    Ok(())
+    table.clone()
 }

@@ -1,0 +1,37 @@
+use Rattle.std.proofs.Common.{◌≤◌, ℕ, ◌+◌, ◌++◌, ◌∷◌, List, [], Some, IsSome, length, map, ◌∙◌, sym, ap, ap₂, subst, arith}
+use Rattle.std.proofs.lemmas.List.{map_more, map_push}
+use Rattle.std.proofs.lemmas.List.FromFn.{map-range_with_len_more}
+use Rattle.x86_64_dump.specs.Dump.{words_of_dump}
+use Rattle.x86_64_dump.specs.Opened.{opened}
+use Rattle.x86_64_dump.specs.declared.error.DumpError.{DumpError}
+use Rattle.x86_64_dump.specs.Loaded.{MayFail, up_to}
+use Rattle.x86_64_dump.specs.private.FrameNumbers.{words_numbered, AreAllThere}
+use Rattle.x86_64_dump.proofs.Failing.{fails_as, fails_knowing}
+use Rattle.x86_64_dump.proofs.tables.loading.tables_of.Goals as goal
+
+pub returns-in_err-fill_table-clause-errors : goal.returns-in_err-fill_table-clause-errors
+returns-in_err-fill_table-clause-errors g c =
+    let W = words_of_dump (opened g.S.ByteSource.bytes c.args.dump.now) in
+    let Fails : DumpError → Type 0 = MayFail (g.S.ByteSource.IsKnown × AreAllThere W c.args.numbers.now) in
+    let There : ℕ → Type 0 = λ f. IsSome (W f) in
+    fails_as c.from_residual-in_err-fill_table.result _ Fails c.from_residual-in_err-fill_table.ensures.1 (λ e is. subst Fails (sym is)
+    (fails_knowing (g.S.ByteSource.IsKnown × IsSome (W c.from_pfn-frame.result)) _
+    (λ known. (known.0, subst There (sym c.from_pfn-frame.ensures) (known.1 c.loop-i.i 0 c.loop-i-test.true)))
+    c.in_err-fill_table.field-0.0 c.in_err-fill_table.ensures.errors))
+
+pub loop-i-preserved : goal.loop-i-preserved
+loop-i-preserved g c = record {
+  len = c.push_reserved.ensures.len ∙ ap (λ n. n + 1) c.loop-i.invariant.len;
+  room = let P : ℕ → Type 0 = λ n. length c.args.numbers.now ≤ n in subst P (sym c.push_reserved.ensures.capacity) c.loop-i.invariant.room;
+  tables = λ known.
+      let W = words_of_dump (opened g.S.ByteSource.bytes c.args.dump.now) in
+      let numbers = c.args.numbers.now in
+      let read = ap Some c.in_ok-copied.ensures ∙ c.in_ok-fill_table.ensures.words known ∙ ap W c.from_pfn-frame.ensures in
+      ap (map Some) c.push_reserved.ensures.items ∙ map_push Some c.loop-i.tables.items _
+      ∙ ap₂ (λ front last. front ++ last ∷ []) (c.loop-i.invariant.tables known) read
+      ∙ sym (map_more (words_numbered W) numbers c.loop-i.i 0 c.loop-i-test.true);
+  told =
+      let Told : List ℕ → Type 0 = g.G.Progress.Told c.args.progress.now c.tables.new.self in
+      subst Told (sym (map-range_with_len_more (λ i. i + 1) 0 c.loop-i.i c.loop-i.i (omega arith)))
+      (g.met.G.Progress.both c.args.progress.now c.loop-i.progress c.tables.new.self (up_to c.loop-i.i) ((c.loop-i.i + 1) ∷ []) c.loop-i.invariant.told c.tables.ensures);
+}
