@@ -125,9 +125,5 @@ fn write_lines<L: LevelCount, O: LineOutput>(
     write_flawed::<L, O>(loaded, selection, Flaw::WritableAndExecutable, output)?;
     write_flawed::<L, O>(loaded, selection, Flaw::UserInUpperHalf, output)?;
     write_table_findings::<O>(subject, output)?;
-    if subject.aliases {
-        write_aliases::<L, O>(alloc, loaded, selection, output)
-    } else {
-        Ok(())
-    }
+    write_aliases::<L, O>(alloc, loaded, subject, output)
 }

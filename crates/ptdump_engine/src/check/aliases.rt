@@ -5,8 +5,10 @@ ghost use Rattle.x86_64_model.specs.Mappings.{Mapping, mappings_of};
 ghost use Rattle.ptdump_engine.specs.Aliases.{alias_lines, said_of_mapping};
 ghost use Rattle.ptdump_engine.specs.Loaded.{IsLoaded, words_loaded};
 ghost use Rattle.ptdump_engine.specs.private.Aliasing.{AreOfAll};
+ghost use Rattle.ptdump_engine.specs.private.Checked.{aliases_by};
 
 use crate::check::first_mappings::FirstMappings;
+use crate::check::subject::Subject;
 use crate::findings::Aliased;
 use crate::line_output::LineOutput;
 use crate::loaded::Loaded;
@@ -79,24 +81,43 @@ fn write_alias<L: LevelCount, O: LineOutput>(
     }
 }
 
-/// Writes a line for each mapping that is selected and has an alias.
-pub fn write_aliases<L: LevelCount, O: LineOutput>(
-    alloc: Global,
+/// Writes a line for each mapping that is selected and has an alias, by the first mappings of frames.
+fn write_aliases_by<L: LevelCount, O: LineOutput>(
     loaded: &Loaded<'_, L>,
     selection: &Selection,
+    firsts: &FirstMappings<L>,
     output: &mut O,
 ) -> Result<(), O::Error>
-    requires { IsLoaded loaded.now }
+    requires loaded { IsLoaded loaded.now }
+    requires firsts { AreOfAll L.LEVELS firsts.now
+        (mappings_of L.LEVELS (words_loaded loaded.now) loaded.now.root) }
     ensures { OnOk result (O.Lines output.old output.new (alias_lines L.LEVELS selection.now
         (mappings_of L.LEVELS (words_loaded loaded.now) loaded.now.root))) }
 {
-    let firsts = FirstMappings::of(alloc, loaded)?;
-    let mut lines = AliasLines::new(&firsts, output);
+    let mut lines = AliasLines::new(firsts, output);
     visit_selected_mappings::<L, AliasLines<'_, L, O>>(
         loaded.summaries,
         loaded.root,
         *selection,
         &mut lines,
     )?;
+    Ok(())
+}
+
+/// Writes a line for each mapping that is selected and has an alias, if these are looked for.
+pub fn write_aliases<L: LevelCount, O: LineOutput>(
+    alloc: Global,
+    loaded: &Loaded<'_, L>,
+    subject: &Subject<'_>,
+    output: &mut O,
+) -> Result<(), O::Error>
+    requires { IsLoaded loaded.now }
+    ensures { OnOk result (O.Lines output.old output.new (aliases_by L.LEVELS loaded.now subject.now)) }
+{
+    if !subject.aliases {
+        return Ok(());
+    }
+    let firsts = FirstMappings::of(alloc, loaded)?;
+    write_aliases_by::<L, O>(loaded, &subject.selection, &firsts, output)?;
     Ok(())
 }
