@@ -61,12 +61,12 @@ pub fn write_findings<L: LevelCount, W: Destination>(
     let subject = Subject {
         memory,
         selection: checking.selection,
-        processor: processor_of(checking),
+        aliases: checking.aliases,
+        processor: processor_of(&checking),
         root: loaded.root,
         tables: &tables,
         names: &names,
         reached: &reached,
-        aliases: checking.aliases,
     };
     let count = write_counted::<L, Output<'_, W>>(alloc, loaded, &subject, form, output)?;
     write_as(alloc, form, FindingCount(count), output)?;
@@ -74,8 +74,8 @@ pub fn write_findings<L: LevelCount, W: Destination>(
 }
 
 /// Returns the processor whose reserved bits are looked for.
-fn processor_of(checking: Checking) -> Controls
-    ensures { result ≡ findings.processor_of checking }
+fn processor_of(checking: &Checking) -> Controls
+    ensures { result ≡ findings.processor_of checking.now }
 {
     Controls {
         write_protect: true,
