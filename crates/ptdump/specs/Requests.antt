@@ -28,12 +28,13 @@ AreNumbers texts numbers = All IsNumber texts × (numbers ≡ map number_of text
 abbrev pub values : Found → (name : List ℕ) → List (List ℕ)
 values found name = unwrap_or (option_map raw_values (matched_of found name)) []
 
--- the number of bits of physical addresses is that of --maxphyaddr, the direct map that of --direct-map, and the regions are those of
--- --from and --to
+-- the number of bits of physical addresses is that of --maxphyaddr, the direct map that of --direct-map, the regions are those of
+-- --from and --to, and aliases are found by --aliases
 pub record IsChecking (found : Found) (checking : Checking) : Type 0 where
   pub bits : IsBits (first_value found (codes "maxphyaddr")) checking.physical_bits
   pub direct_map : IsDirectMap (first_value found (codes "direct-map")) checking.direct_map
   pub selection : IsSelection found checking.selection
+  pub aliases : IsFlag (one_text found (codes "aliases")) checking.aliases
 
 -- the command has this name, and what it takes from these arguments
 abbrev pub IsCommand : (name : List ℕ) → Found → Command → Type 0

@@ -37,7 +37,8 @@ fn subcommand<'a>(alloc: Global, help: &CommandHelp) -> Result<Command<'a>, Erro
                 alloc,
                 with_addresses(alloc, command)?
                     .arg(maxphyaddr(alloc))?
-                    .arg(direct_map(alloc))?,
+                    .arg(direct_map(alloc))?
+                    .arg(aliases(alloc))?,
             )?
         }
         Operands::Addresses(text) => command.arg(addresses(alloc, text))?,
@@ -163,6 +164,15 @@ fn direct_map<'a>(alloc: Global) -> Arg<'a> {
         "Addresses where tables may be writable, as FIRST:LAST",
     )
     .value_name("RANGE")
+}
+
+/// Returns the option for frames that are mapped with different rights.
+fn aliases<'a>(alloc: Global) -> Arg<'a> {
+    flag(
+        alloc,
+        "aliases",
+        "Find frames that are mapped with different rights, too",
+    )
 }
 
 /// Returns the argument for the dump.

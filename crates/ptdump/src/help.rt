@@ -292,14 +292,21 @@ several with the same root once, below a line with their numbers and the root.
 --from and --to look only at regions that reach into these addresses, the last
 one included. Findings in tables are listed wherever the tables lead.
 
+--aliases also finds memory that is mapped twice with different rights: for each
+page, the first other one with that memory which is larger, or is as large and
+has a lower address. Linux maps all memory once more in the upper half, so there
+nearly all pages of user code are found.
+
 With --json a line is an object whose finding is \"writable and executable\" or
 \"user reaches upper half\", with what regions --json tells of the region, \"table
 named often\", with table and times, \"table not in the dump\", with table and
 named_by, which has table and index, \"HUGE_PAGE above level three\" or \"reserved
 bits\", with table, index and level, and for the latter word, or \"table mapped
 writable for user\", \"table mapped for user\" or \"table mapped writable outside
-the direct map\", with table and at, the address. The last line is an object with
-findings, their number.
+the direct map\", with table and at, the address, or \"frame mapped with different
+rights\", with frame, at, write, execute and user, and other_at, other_write,
+other_execute and other_user. The last line is an object with findings, their
+number.
 
 Examples:
 

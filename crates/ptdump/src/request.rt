@@ -141,6 +141,7 @@ fn check_of<'a>(alloc: Global, arguments: &ArgMatches<'a>) -> Result<Command, St
         physical_bits,
         direct_map,
         selection,
+        aliases: is_given(arguments, "aliases"),
     }))
 }
 

@@ -27,3 +27,4 @@ pub mod FirstAddresses
 pub mod Noted
 pub mod OnceInOrder
 pub mod Reaches
+pub mod FirstAliases

@@ -19,7 +19,7 @@ use Rattle.ptdump_engine.specs.ReachedTables.{all_reached, first_to, for_user, f
 use Rattle.ptdump_engine.specs.Selections.{is_selected}
 use Rattle.ptdump_engine.specs.Reserved.{lists_mappings, processor, reserved_count, reserved_entries, reserved_line, reserved_note}
 use Rattle.ptdump_engine.specs.WritableTables.{all_writable, writable_at, writable_outside}
-use Rattle.ptdump_engine.specs.Findings.{all_named_often, check_text, entries_in, finding_lines, finds_nothing, flawed_lines, frames_above, flaw_in, flawed_entries, missing, name_by, names_in, names_in_order, processor_of, said_of, table_findings, tables_in_order}
+use Rattle.ptdump_engine.specs.Findings.{aliases_asked, all_named_often, check_text, entries_in, finding_lines, finds_nothing, flawed_lines, frames_above, flaw_in, flawed_entries, missing, name_by, names_in, names_in_order, processor_of, said_of, table_findings, tables_in_order}
 use Rattle.ptdump_engine.specs.InOrder.{placed, in_order}
 use Rattle.ptdump_engine.specs.declared.findings.entry.Table.{Table}
 use Rattle.ptdump_engine.specs.declared.findings.finding.EntryFlaw.{EntryFlaw}
@@ -296,7 +296,7 @@ module _ (T W : Words) where
 
   pub same_lines : (checking : Checking) (L root : ℕ) → mappings_of L T root ≡ mappings_of L W root → SameBelow L T W root → finding_lines checking L T root ≡ finding_lines checking L W root
   unfolding finding_lines
-  same_lines checking L root mapped same = ap₂ (λ ms fs. flawed_lines L WritableAndExecutable (filter (is_selected L checking.selection) (regions_in L ms)) ++ flawed_lines L UserInUpperHalf (filter (is_selected L checking.selection) (regions_in L ms)) ++ map said_of fs) mapped (same_findings checking L root mapped same)
+  same_lines checking L root mapped same = ap₂ (λ ms fs. flawed_lines L WritableAndExecutable (filter (is_selected L checking.selection) (regions_in L ms)) ++ flawed_lines L UserInUpperHalf (filter (is_selected L checking.selection) (regions_in L ms)) ++ map said_of fs ++ aliases_asked checking L ms) mapped (same_findings checking L root mapped same)
 
   -- ---- reserved bits
 

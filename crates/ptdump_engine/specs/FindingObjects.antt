@@ -1,6 +1,6 @@
 -- FindingObjects: findings as JSON objects, whose member "finding" says what is found.
 use Rattle.std.specs.Prelude.{ℕ, List, codes}
-use Rattle.serde_json.specs.Data.{Data, string, object, put, member, no_members}
+use Rattle.serde_json.specs.Data.{Data, boolean, string, object, put, member, no_members}
 use Rattle.x86_64_model.specs.Regions.{Region}
 use Rattle.ptdump_engine.specs.FindingTexts.{flaw_text}
 use Rattle.ptdump_engine.specs.Json.{count, hexadecimal_string, region_members}
@@ -8,6 +8,7 @@ use Rattle.ptdump_engine.specs.declared.findings.entry.Slot.{Slot}
 use Rattle.ptdump_engine.specs.declared.findings.finding.Finding.{Finding}
 use Rattle.ptdump_engine.specs.declared.findings.finding.Finding.TheVariants.{NamedOften, NotInDump, HugePage, ReservedBits, WritableForUser, MappedForUser, WritableOutside}
 use Rattle.ptdump_engine.specs.declared.findings.flaw.Flaw.{Flaw}
+use Rattle.ptdump_engine.specs.declared.findings.aliased.Aliased.{Aliased}
 
 -- a region with a flaw: the object of the region, with the flaw
 abbrev pub json_of_flawed : (L : ℕ) → Flaw → Region → Data
@@ -52,3 +53,17 @@ json_of_finding (WritableOutside frame at) = json_of_mapped (codes "table mapped
 -- the number of findings
 abbrev pub json_of_count : (findings : ℕ) → Data
 json_of_count findings = object (member (codes "findings") (count findings) no_members)
+
+-- a frame that is mapped with different rights
+abbrev pub json_of_aliased : Aliased → Data
+json_of_aliased a = object (
+    member (codes "at") (hexadecimal_string a.at.address)
+    (member (codes "execute") (boolean a.at.rights.execute)
+    (member (codes "finding") (string (codes "frame mapped with different rights"))
+    (member (codes "frame") (hexadecimal_string a.frame)
+    (member (codes "other_at") (hexadecimal_string a.other.address)
+    (member (codes "other_execute") (boolean a.other.rights.execute)
+    (member (codes "other_user") (boolean a.other.rights.user)
+    (member (codes "other_write") (boolean a.other.rights.write)
+    (member (codes "user") (boolean a.at.rights.user)
+    (member (codes "write") (boolean a.at.rights.write) no_members))))))))))

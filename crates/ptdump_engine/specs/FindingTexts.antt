@@ -9,6 +9,9 @@ use Rattle.ptdump_engine.specs.declared.findings.finding.Finding.{Finding}
 use Rattle.ptdump_engine.specs.declared.findings.finding.Finding.TheVariants.{NamedOften, NotInDump, HugePage, ReservedBits, WritableForUser, MappedForUser, WritableOutside}
 use Rattle.ptdump_engine.specs.declared.findings.flaw.Flaw.{Flaw}
 use Rattle.ptdump_engine.specs.declared.findings.flaw.Flaw.TheVariants.{WritableAndExecutable, UserInUpperHalf}
+use Rattle.ptdump_engine.specs.declared.findings.aliased.Aliased.{Aliased}
+use Rattle.ptdump_engine.specs.declared.rights_at.RightsAt.{RightsAt}
+use Rattle.x86_64_tables.specs.Rights.{rights_text}
 
 abbrev pub flaw_text : Flaw → List ℕ
 flaw_text WritableAndExecutable = codes "writable and executable"
@@ -53,3 +56,12 @@ finding_text (WritableOutside frame at) =
 
 abbrev pub count_text : (findings : ℕ) → List ℕ
 count_text findings = codes "findings: " ++ decimal findings
+
+-- rights, and at which address they are allowed
+abbrev pub rights_there_text : RightsAt → List ℕ
+rights_there_text there = rights_text there.rights ++ codes " at " ++ hexadecimal there.address
+
+-- a frame that is mapped with different rights
+abbrev pub aliased_text : Aliased → List ℕ
+aliased_text a =
+    codes "frame " ++ hexadecimal a.frame ++ codes " is mapped " ++ rights_there_text a.at ++ codes ", and " ++ rights_there_text a.other

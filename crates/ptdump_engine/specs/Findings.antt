@@ -7,7 +7,9 @@ use Rattle.x86_64_model.specs.Memory.{Words}
 use Rattle.x86_64_model.specs.PageWalk.{read}
 use Rattle.x86_64_model.specs.Path.{indices}
 use Rattle.x86_64_model.specs.Position.{lower_half}
+use Rattle.x86_64_model.specs.Mappings.{Mapping, mappings_of}
 use Rattle.x86_64_model.specs.Regions.{Region, regions_of}
+use Rattle.ptdump_engine.specs.Aliases.{alias_lines}
 use Rattle.ptdump_engine.specs.FindingObjects.{json_of_count, json_of_finding, json_of_flawed}
 use Rattle.ptdump_engine.specs.FindingTexts.{count_text, finding_text, flawed_text}
 use Rattle.ptdump_engine.specs.InOrder.{in_order}
@@ -145,10 +147,15 @@ table_findings checking L T root = let tables = tables_in_order (tables_by_level
 abbrev pub said_of : Finding → Said
 said_of finding = record { text = finding_text finding; object = json_of_finding finding }
 
--- a line for each finding in the regions that are selected, and in all tables
+-- a line for each selected mapping that has an alias, if these are looked for
+abbrev pub aliases_asked : Checking → (L : ℕ) → List Mapping → List Said
+aliases_asked checking L ms = if checking.aliases then alias_lines L checking.selection ms else []
+
+-- a line for each finding in the regions that are selected, in all tables, and in the mappings that are selected
 unfoldable pub finding_lines : Checking → (L : ℕ) → Words → (root : ℕ) → List Said
 finding_lines checking L T root = let regions = filter (is_selected L checking.selection) (regions_of L T root) in
     flawed_lines L WritableAndExecutable regions ++ flawed_lines L UserInUpperHalf regions ++ map said_of (table_findings checking L T root)
+    ++ aliases_asked checking L (mappings_of L T root)
 
 -- the number of lines, if it is less than 2^64
 abbrev pub line_count : List Said → ℕ

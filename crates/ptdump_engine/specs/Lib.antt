@@ -1,4 +1,5 @@
 pub mod Accesses
+pub mod Aliases
 pub mod Explanations
 pub mod Failure
 pub mod FailureTexts

@@ -1,3 +1,6 @@
+pub mod Aliasing
+pub mod AliasingLaws
+pub mod AliasingLines
 pub mod Alike
 pub mod Ascending
 pub mod Asked

@@ -8,10 +8,13 @@ ghost use Rattle.ptdump_engine.specs.Said.{line_of};
 ghost use Rattle.ptdump_engine.specs.private.Ascending.{Ascend};
 ghost use Rattle.ptdump_engine.specs.private.Checked.{finding_lines_by};
 
+mod aliases;
+mod first_mappings;
 mod regions;
 mod subject;
 mod tables;
 
+use crate::check::aliases::write_aliases;
 use crate::check::regions::write_flawed;
 use crate::check::subject::Subject;
 use crate::check::tables::write_table_findings;
@@ -58,7 +61,8 @@ pub fn write_findings<L: LevelCount, W: Destination>(
     let subject = Subject {
         memory,
         selection: checking.selection,
-        processor: processor_of(checking),
+        aliases: checking.aliases,
+        processor: processor_of(&checking),
         root: loaded.root,
         tables: &tables,
         names: &names,
@@ -70,8 +74,8 @@ pub fn write_findings<L: LevelCount, W: Destination>(
 }
 
 /// Returns the processor whose reserved bits are looked for.
-fn processor_of(checking: Checking) -> Controls
-    ensures { result ≡ findings.processor_of checking }
+fn processor_of(checking: &Checking) -> Controls
+    ensures { result ≡ findings.processor_of checking.now }
 {
     Controls {
         write_protect: true,
@@ -100,12 +104,13 @@ fn write_counted<L: LevelCount, O: Lines>(
         ≡ findings.line_count (finding_lines_by L.LEVELS loaded.now subject.now)) }
 {
     let mut lines = CountedLines::new(alloc, form, output);
-    write_lines::<L, CountedLines<'_, O>>(loaded, subject, &mut lines)?;
+    write_lines::<L, CountedLines<'_, O>>(alloc, loaded, subject, &mut lines)?;
     Ok(lines.count())
 }
 
 /// Writes a line for each finding.
 fn write_lines<L: LevelCount, O: LineOutput>(
+    alloc: Global,
     loaded: &Loaded<'_, L>,
     subject: &Subject<'_>,
     output: &mut O,
@@ -119,5 +124,6 @@ fn write_lines<L: LevelCount, O: LineOutput>(
     let selection = &subject.selection;
     write_flawed::<L, O>(loaded, selection, Flaw::WritableAndExecutable, output)?;
     write_flawed::<L, O>(loaded, selection, Flaw::UserInUpperHalf, output)?;
-    write_table_findings::<O>(subject, output)
+    write_table_findings::<O>(subject, output)?;
+    write_aliases::<L, O>(alloc, loaded, subject, output)
 }

@@ -1,5 +1,6 @@
 //! Findings in page tables, and images of page tables for `pagetab`.
 
+mod aliased;
 mod count;
 mod entry;
 mod finding;
@@ -8,6 +9,7 @@ mod image;
 mod names;
 mod tables;
 
+pub use aliased::Aliased;
 pub use count::FindingCount;
 pub use entry::{Entry, Slot, Table};
 pub use finding::{EntryFlaw, Finding};

@@ -7,6 +7,7 @@ ghost use Rattle.x86_64_mappings.specs.Numbers.{hexadecimal as digits_of};
 ghost use Rattle.ptdump_engine.specs.Json.{json_line};
 ghost use Rattle.ptdump_engine.specs.Lines.{line_in};
 
+mod aliased;
 mod findings;
 mod group;
 mod listed;

@@ -3,12 +3,13 @@ ghost use Rattle.std.specs.Prelude.{◌++◌, List, [], ◌∷◌, IfSome, OnOk}
 ghost use Rattle.ptdump_engine.specs.Said.{Said};
 
 use crate::json_lines::ToJson;
+use std::alloc::AllocError;
 use std::fmt::Display;
 
 /// A destination of lines.
 pub trait LineOutput {
     /// The reason why a line isn't put in.
-    type Error: Drop;
+    type Error: Drop + From<AllocError>;
 
     /// That lines were put in, in order.
     ghost Lines: { Self → Self → List Said → Type 0 };

@@ -58,6 +58,8 @@ pub struct Checking {
     pub direct_map: Option<AddressRange>,
     /// The regions that are looked at. All tables are.
     pub selection: Selection,
+    /// Whether frames are looked for that are mapped with different rights, by the mappings that are selected.
+    pub aliases: bool,
 }
 
 /// The report to write.

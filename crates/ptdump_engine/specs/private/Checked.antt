@@ -1,7 +1,9 @@
 -- Checked: the lines of a check of loaded tables, which are in order.
-use Rattle.std.specs.Prelude.{ℕ, ◌≤◌, ◌++◌, List, filter, map, ⊤}
+use Rattle.std.specs.Prelude.{ℕ, ◌≤◌, ◌++◌, if◌then◌else◌, List, [], filter, map, ⊤}
 use Rattle.x86_64_model.specs.Memory.{identity_places, words_of}
+use Rattle.x86_64_model.specs.Mappings.{mappings_of}
 use Rattle.x86_64_model.specs.Regions.{regions_of}
+use Rattle.ptdump_engine.specs.Aliases.{alias_lines}
 use Rattle.ptdump_engine.specs.Findings.{findings_by, flawed_lines, said_of}
 use Rattle.ptdump_engine.specs.Loaded.{words_loaded}
 use Rattle.ptdump_engine.specs.Said.{Said}
@@ -12,10 +14,15 @@ use Rattle.ptdump_engine.specs.declared.findings.finding.EntryFlaw.TheVariants a
 use Rattle.ptdump_engine.specs.declared.findings.flaw.Flaw.TheVariants.{WritableAndExecutable, UserInUpperHalf}
 use Rattle.ptdump_engine.specs.declared.loaded.Loaded.{Loaded}
 
+-- the lines for mappings with an alias, if these are looked for
+abbrev pub aliases_by : {X : Type 0} → (L : ℕ) → Loaded X → Subject → List Said
+aliases_by L loaded subject = if subject.aliases then alias_lines L subject.selection (mappings_of L (words_loaded loaded) loaded.root) else []
+
 abbrev pub finding_lines_by : {X : Type 0} → (L : ℕ) → Loaded X → Subject → List Said
 finding_lines_by L loaded subject = let regions = filter (is_selected L subject.selection) (regions_of L (words_loaded loaded) loaded.root) in
     flawed_lines L WritableAndExecutable regions ++ flawed_lines L UserInUpperHalf regions
     ++ map said_of (findings_by subject.processor (words_of subject.memory.now identity_places) subject.root subject.tables.now subject.names.now ++ subject.reached.now)
+    ++ aliases_by L loaded subject
 
 -- a processor has at most 52 bits of physical addresses
 abbrev pub HasBits : EntryFlaw → Type 0

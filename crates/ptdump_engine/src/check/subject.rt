@@ -14,6 +14,8 @@ pub struct Subject<'a> {
     pub memory: &'a PhysMemory,
     /// The regions that are looked at.
     pub selection: Selection,
+    /// Whether frames are looked for that are mapped with different rights.
+    pub aliases: bool,
     /// The processor whose reserved bits are looked for.
     pub processor: Controls,
     /// The frame of the root.

@@ -1,8 +1,10 @@
-use Rattle.std.proofs.Common.{◌≡◌, ◌∙◌, ◌==◌, ◌++◌, ℕ, List, filter, length, map, refl, sym, ap, subst}
+use Rattle.std.proofs.Common.{◌≡◌, ◌∙◌, ◌==◌, ◌++◌, ℕ, Bool, if◌then◌else◌, List, [], filter, length, map, refl, sym, ap, ap₂, subst}
 use Rattle.std.specs.List.{flat_map}
 use Rattle.x86_64_dump.specs.Loaded.{frames_of}
 use Rattle.x86_64_model.specs.Memory.{Words, identity_places, words_of}
+use Rattle.x86_64_model.specs.Mappings.{mappings_of}
 use Rattle.x86_64_model.specs.Regions.{regions_of}
+use Rattle.ptdump_engine.specs.Aliases.{alias_lines}
 use Rattle.ptdump_engine.specs.Findings.{check_text, finding_lines, findings_by, flawed_lines, frames_above, line_count, names_in, names_in_order, processor_of, said_of, said_of_count, table_findings, tables_from, tables_in_order}
 use Rattle.ptdump_engine.specs.ReachedTables.{all_reached}
 use Rattle.ptdump_engine.specs.Loaded.{HasAllTables, words_loaded}
@@ -34,17 +36,20 @@ mapped checking L T root tables = all_reached L T root tables ++ all_writable L 
 all_lines : {X : Type 0} (checking : Checking) (L : ℕ) (loaded : Loaded X) (subject : Subject) → HasAllTables L loaded → subject.selection ≡ checking.selection → subject.processor ≡ processor_of checking → subject.memory.now ≡ loaded.tables.now.memory → subject.root ≡ loaded.root
     → subject.tables.now ≡ tables_in_order (frames_of loaded.tables.now.frames.items) → subject.names.now ≡ names_in_order (words_of subject.memory.now identity_places) subject.tables.now
     → subject.reached.now ≡ mapped checking L (words_of subject.memory.now identity_places) subject.root subject.tables.now
+    → subject.aliases ≡ checking.aliases
     → finding_lines_by L loaded subject ≡ finding_lines checking L (words_loaded loaded) loaded.root
 unfolding finding_lines table_findings
-all_lines checking L loaded subject all selection processor memory root tables names reached =
+all_lines checking L loaded subject all selection processor memory root tables names reached aliases =
     let T = words_loaded loaded in
     let rs = regions_of L T loaded.root in
-    let lines_of : Selection → List Finding → List Said = λ s fs.
-    flawed_lines L WritableAndExecutable (filter (is_selected L s) rs) ++ flawed_lines L UserInUpperHalf (filter (is_selected L s) rs) ++ map said_of fs in
-    let lines = lines_of checking.selection in
+    let ms = mappings_of L T loaded.root in
+    let lines_of : Bool → Selection → List Finding → List Said = λ b s fs.
+    flawed_lines L WritableAndExecutable (filter (is_selected L s) rs) ++ flawed_lines L UserInUpperHalf (filter (is_selected L s) rs) ++ map said_of fs
+    ++ (if b then alias_lines L s ms else []) in
+    let lines = lines_of checking.aliases checking.selection in
     let W = words_of subject.memory.now identity_places in
     let found : Words → (root : ℕ) → List Table → List Finding = λ T r ts. findings_by (processor_of checking) T r ts (names_in_order T ts) ++ mapped checking L T r ts in
-    ap (λ s. lines_of s (findings_by subject.processor W subject.root subject.tables.now subject.names.now ++ subject.reached.now)) selection
+    ap₂ (λ b s. lines_of b s (findings_by subject.processor W subject.root subject.tables.now subject.names.now ++ subject.reached.now)) aliases selection
     ∙ ap (λ (p : Controls). lines (findings_by p W subject.root subject.tables.now subject.names.now ++ subject.reached.now)) processor
     ∙ ap (λ ns. lines (findings_by (processor_of checking) W subject.root subject.tables.now ns ++ subject.reached.now)) names
     ∙ ap (λ fs. lines (findings_by (processor_of checking) W subject.root subject.tables.now (names_in_order W subject.tables.now) ++ fs)) reached
@@ -74,7 +79,7 @@ returns-clause-text g c = λ all.
     let L = g.L.LevelCount.LEVELS in
     let loaded = c.args.loaded.now in
     let contents = g.W.Destination.contents in
-    let subject : Subject = record { memory = c.memory-memory.result; selection = c.args.checking.selection; processor = c.processor_of.result; root = loaded.root; tables = c.deref-3.result; names = c.deref-4.result; reached = c.deref-5.result } in
+    let subject : Subject = record { memory = c.memory-memory.result; selection = c.args.checking.selection; processor = c.processor_of.result; root = loaded.root; tables = c.deref-3.result; names = c.deref-4.result; reached = c.deref-5.result; aliases = c.args.checking.aliases } in
     let W = words_of c.memory-memory.result.now identity_places in
     let tables : c.deref-3.result.now ≡ tables_in_order (frames_of loaded.tables.now.frames.items) =
     c.deref-3.ensures.value ∙ c.in_ok-tables.ensures ∙ ap (λ fs. tables_in_order (frames_of fs)) c.frames.ensures in
@@ -82,7 +87,7 @@ returns-clause-text g c = λ all.
     c.deref-4.ensures.value ∙ c.in_ok-names.ensures ∙ ap (names_in_order W) (c.deref.ensures.value ∙ sym c.deref-3.ensures.value) in
     let reached : c.deref-5.result.now ≡ mapped c.args.checking L W loaded.root c.deref-3.result.now =
     c.deref-5.ensures.value ∙ c.in_ok-reached.ensures ∙ ap (mapped c.args.checking L W loaded.root) (c.deref-2.ensures.value ∙ sym c.deref-3.ensures.value) in
-    let same : finding_lines_by L loaded subject ≡ finding_lines c.args.checking L (words_loaded loaded) loaded.root = all_lines c.args.checking L loaded subject all refl c.processor_of.ensures c.memory-memory.ensures refl tables names reached in
+    let same : finding_lines_by L loaded subject ≡ finding_lines c.args.checking L (words_loaded loaded) loaded.root = all_lines c.args.checking L loaded subject all refl c.processor_of.ensures c.memory-memory.ensures refl tables names reached refl in
     let form = c.args.form in
     let end = c.write_as.new.output in
     subst (λ ls. Puts contents c.args.output.now end (flat_map (line_of form) ls ++ line_of form (said_of_count (line_count ls)))) same
@@ -93,7 +98,7 @@ pub returns-clause-nothing : goal.returns-clause-nothing
 returns-clause-nothing g c = λ all.
     let L = g.L.LevelCount.LEVELS in
     let loaded = c.args.loaded.now in
-    let subject : Subject = record { memory = c.memory-memory.result; selection = c.args.checking.selection; processor = c.processor_of.result; root = loaded.root; tables = c.deref-3.result; names = c.deref-4.result; reached = c.deref-5.result } in
+    let subject : Subject = record { memory = c.memory-memory.result; selection = c.args.checking.selection; processor = c.processor_of.result; root = loaded.root; tables = c.deref-3.result; names = c.deref-4.result; reached = c.deref-5.result; aliases = c.args.checking.aliases } in
     let W = words_of c.memory-memory.result.now identity_places in
     let tables : c.deref-3.result.now ≡ tables_in_order (frames_of loaded.tables.now.frames.items) =
     c.deref-3.ensures.value ∙ c.in_ok-tables.ensures ∙ ap (λ fs. tables_in_order (frames_of fs)) c.frames.ensures in
@@ -101,5 +106,5 @@ returns-clause-nothing g c = λ all.
     c.deref-4.ensures.value ∙ c.in_ok-names.ensures ∙ ap (names_in_order W) (c.deref.ensures.value ∙ sym c.deref-3.ensures.value) in
     let reached : c.deref-5.result.now ≡ mapped c.args.checking L W loaded.root c.deref-3.result.now =
     c.deref-5.ensures.value ∙ c.in_ok-reached.ensures ∙ ap (mapped c.args.checking L W loaded.root) (c.deref-2.ensures.value ∙ sym c.deref-3.ensures.value) in
-    let same : finding_lines_by L loaded subject ≡ finding_lines c.args.checking L (words_loaded loaded) loaded.root = all_lines c.args.checking L loaded subject all refl c.processor_of.ensures c.memory-memory.ensures refl tables names reached in
+    let same : finding_lines_by L loaded subject ≡ finding_lines c.args.checking L (words_loaded loaded) loaded.root = all_lines c.args.checking L loaded subject all refl c.processor_of.ensures c.memory-memory.ensures refl tables names reached refl in
     ap (λ n. n == 0) c.in_ok-count.ensures.count ∙ none_counted (length (finding_lines_by L loaded subject)) ∙ ap (λ ls. length ls == 0) same
