@@ -234,10 +234,12 @@ module _ {X : Type 0} (L : ℕ) (firsts : FirstMappings X) (ms : List Mapping) (
       let d = not (same_rights m.rights n.rights) in
       let b = nat_lt n.start m.start in
       let g = pages.0.0 in
-      let there = pages.0.1 in
-      ((λ i. contained_test (leads.start i) (leads.size i) (there.start i) (there.size i) d b)
-      ∙ same_tests f g leads.aligned there.aligned d b
-      ∙ (λ i. alias_test f (sym there.start i) (sym there.size i) d b), all_tested f m leads ns pages.1)
+      let there = pages.0.1 in (
+        (λ i. contained_test (leads.start i) (leads.size i) (there.start i) (there.size i) d b)
+            ∙ same_tests f g leads.aligned there.aligned d b
+            ∙ (λ i. alias_test f (sym there.start i) (sym there.size i) d b),
+        all_tested f m leads ns pages.1,
+      )
 
   find_tested : (f : MappedFrame) → IsAligned f → (m : Mapping) → find (test_at f m) ms ≡ alias_by firsts f m.rights m.start
   find_tested (Size4KiB a) h m = let r = m.rights in let p = m.start in let own = is_other (Size4KiB a) r in let middle = is_other (in_2mib a) r in

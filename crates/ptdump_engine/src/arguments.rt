@@ -30,8 +30,9 @@ pub fn argument_failure(command: &Command, levels: Levels) -> Option<Failure>
         Command::Regions(selection) | Command::Pages { selection, .. } => {
             selection_failure(*selection, levels)
         }
-        Command::Check(checking) => selection_failure(checking.selection, levels)
-            .or(direct_map_failure(checking.direct_map, levels)),
+        Command::Check(checking) => selection_failure(checking.selection, levels).or(
+            direct_map_failure(checking.direct_map, levels),
+        ),
         _ => None,
     }
 }

@@ -45,5 +45,7 @@ pub use engine::run;
 pub use failure::Failure;
 pub use loaded::Loaded;
 pub use output::{Output, OutputError};
-pub use request::{AddressRange, Checking, Command, Form, Levels, Outcome, Request, Selection, WalkOptions};
+pub use request::{
+    AddressRange, Checking, Command, Form, Levels, Outcome, Request, Selection, WalkOptions,
+};
 pub use x86_64_dump::{NoProgress, Progress};

@@ -64,6 +64,7 @@ impl Word {
                 physical_bits: 52,
                 direct_map: None,
                 selection: Selection::ALL,
+                aliases: false,
             }),
             Word::Image => Command::Image,
             Word::Picture => Command::Picture,
