@@ -3,7 +3,7 @@ ghost use Rattle.std.specs.Prelude.{◌≡◌};
 
 use crate::json_lines::ToJson;
 use crate::line_output::LineOutput;
-use std::convert::Infallible;
+use std::alloc::AllocError;
 use std::fmt::Display;
 
 /// A destination of lines that counts them.
@@ -29,7 +29,7 @@ impl LineCount {
 }
 
 impl LineOutput for LineCount {
-    type Error = Infallible;
+    type Error = AllocError;
 
     ghost use Rattle.ptdump_engine.specs.private.LineCounting.{AreAdded};
     ghost use Rattle.ptdump_engine.specs.private.LineCountingLaws.{added_nothing, added_both};
@@ -41,7 +41,7 @@ impl LineOutput for LineCount {
     ghost parts = { λ before between after front back.
         added_both before between after front back };
 
-    fn write_line<T: ToJson + Display + Drop>(&mut self, _item: T) -> Result<(), Infallible> {
+    fn write_line<T: ToJson + Display + Drop>(&mut self, _item: T) -> Result<(), AllocError> {
         self.lines = self.lines.saturating_add(1);
         Ok(())
     }

@@ -1,5 +1,5 @@
 //! Words with reserved bits, at which a processor faults.
-ghost use Rattle.std.specs.Prelude.{◌≡◌, ◌-◌, ◌^◌, OnOk, length, map, min};
+ghost use Rattle.std.specs.Prelude.{◌≡◌, ◌-◌, ◌^◌, IfOk, OnOk, length, map, min};
 ghost use Rattle.x86_64_dump.specs.Loaded.{frames_in, words_in};
 ghost use Rattle.x86_64_model.specs.Memory.{identity_places, words_of};
 ghost use Rattle.ptdump_engine.specs.Findings.{flawed_entries, said_of, tables_from};
@@ -16,6 +16,7 @@ use crate::line_output::LineOutput;
 use crate::loaded::Loaded;
 use crate::output::{Output, OutputError};
 use crate::request::Command;
+use std::alloc::AllocError;
 use x86_64_access::Controls;
 use x86_64_addr::level_count::LevelCount;
 use x86_64_dump::DumpTables;
@@ -48,7 +49,8 @@ pub fn write_reserved<L: LevelCount, E: Destination>(
         (specs.reserved_note command.now L.LEVELS (words_loaded loaded.now) loaded.now.root)) }
 {
     if lists_mappings(command) {
-        return write_count(count_reserved(loaded.tables), notes);
+        let count = count_reserved(loaded.tables)?;
+        return write_count(count, notes);
     }
     Ok(())
 }
@@ -74,15 +76,13 @@ fn write_count<E: Destination>(count: u64, notes: &mut Output<'_, E>) -> Result<
 }
 
 /// Returns the number of words with reserved bits in the tables, or 2^64 - 1 if there are more.
-fn count_reserved(tables: &DumpTables) -> u64
-    ensures { result ≡ min (length (specs.reserved_entries (words_in tables.now)
-        (tables_from 1 (frames_in tables.now)))) (2 ^ 64 - 1) }
+fn count_reserved(tables: &DumpTables) -> Result<u64, AllocError>
+    ensures { IfOk result (λ count. count ≡ min (length (specs.reserved_entries (words_in tables.now)
+        (tables_from 1 (frames_in tables.now)))) (2 ^ 64 - 1)) }
 {
     let mut count = LineCount::new();
-    match write_reserved_entries::<LineCount>(tables, &mut count) {
-        Ok(()) => count.lines(),
-        Err(never) => match never {},
-    }
+    write_reserved_entries::<LineCount>(tables, &mut count)?;
+    Ok(count.lines())
 }
 
 /// Writes a line for each word with reserved bits in the tables.

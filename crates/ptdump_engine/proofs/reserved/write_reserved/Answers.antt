@@ -19,8 +19,8 @@ returns-then-lists_mappings g c = λ all.
     let L = g.L.LevelCount.LEVELS in
     let loaded = c.args.loaded.now in
     let command = c.args.command.now in
-    let count = reserved_count L (words_loaded loaded) loaded.root in
-    let text : reserved_line c.count_reserved.result ≡ reserved_note command L (words_loaded loaded) loaded.root =
-    ap reserved_line (c.count_reserved.ensures ∙ counted L loaded all)
-    ∙ ap (λ lists. if lists then reserved_line count else []) (sym c.if-lists_mappings.true ∙ c.lists_mappings.ensures) in
+    let wanted = reserved_count L (words_loaded loaded) loaded.root in
+    let text : reserved_line c.in_ok-count.count ≡ reserved_note command L (words_loaded loaded) loaded.root =
+    ap reserved_line (c.in_ok-count.ensures ∙ counted L loaded all)
+    ∙ ap (λ lists. if lists then reserved_line wanted else []) (sym c.if-lists_mappings.true ∙ c.lists_mappings.ensures) in
     on_ok c.write_count.result (subst (Puts g.E.Destination.contents c.args.notes.now c.write_count.new.notes) text) c.write_count.ensures
