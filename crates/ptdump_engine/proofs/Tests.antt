@@ -8,7 +8,8 @@ use Rattle.x86_64_dump.specs.Dump.{Contents, words_of_dump}
 use Rattle.x86_64_dump.specs.Notes.{processors_of}
 use Rattle.x86_64_model.specs.Memory.{Words}
 use Rattle.ptdump_engine.specs.Processors.{firsts_of, modes_failure, processors_from}
-use Rattle.ptdump_engine.specs.Program.{address_failure, argument_failure, direct_map_failure, first_failure, is_canonical, is_walk, level_count, order_failure, processors_for, root_failure, reversed_failure, selection_failure, tables_failure}
+use Rattle.ptdump_engine.specs.Program.{address_failure, argument_failure, direct_map_failure, first_failure, is_canonical, is_walk, level_count, order_failure, processors_for, root_failure, reversed_failure, selection_failure, start_for, tables_failure}
+use Rattle.ptdump_engine.specs.Start.{start_of}
 use Rattle.ptdump_engine.specs.Steps.{FailsBy, and_then, unless}
 use Rattle.ptdump_engine.specs.declared.failure.Failure.{Failure}
 use Rattle.ptdump_engine.specs.declared.failure.Failure.TheVariants as failures
@@ -18,6 +19,7 @@ use Rattle.ptdump_engine.specs.declared.request.Command.{Command}
 use Rattle.ptdump_engine.specs.declared.request.Command.TheVariants as commands
 use Rattle.ptdump_engine.specs.declared.request.Request.{Request}
 use Rattle.ptdump_engine.specs.declared.request.Selection.{Selection}
+use Rattle.ptdump_engine.specs.declared.start.Start.{Start}
 
 -- it isn't that of a write
 abbrev IsNoWrite : Failure → Type 0
@@ -96,6 +98,17 @@ root_so command T root = by (is_walk command || is_some (T root))
     by : (b : Bool) → IfSome (cond b None (Some (failures.NoRoot root))) IsNoWrite
     by true = tt
     by false = tt
+
+-- why a request is refused whose arguments are invalid
+pub refused : (request : Request) (dump : Contents) (start : Start) (failure : Failure) → start_of request dump ≡ Ok start
+    → argument_failure start.levels request.command ≡ Some failure → FailsBy false failure (start_for request dump)
+unfolding start_for
+refused request dump start failure starts is =
+    let tested : Start → Result Start Failure = λ start. unless (root_failure request.command (words_of_dump dump) start.root) start in
+    let NoWrite : Option Failure → Type 0 = λ found. IfSome found IsNoWrite in
+    fails_so failure (start_for request dump) (subst NoWrite is (argument_so start.levels request.command))
+    (ap (λ found. and_then found (λ start. and_then (unless (argument_failure start.levels request.command) start) (λ _. tested start))) starts
+    ∙ ap (λ found. and_then (unless found start) (λ _. tested start)) is)
 
 first_so : (request : Request) (T : Words) (ps : List Processor) → IfSome (first_failure request T ps) IsNoWrite
 first_so request T [] = tt
