@@ -1,5 +1,5 @@
 -- Levels whose entries don't have a flaw.
-use Rattle.std.proofs.Common.{◌≡◌, ◌∙◌, ◌<◌, ◌≤◌, ◌^◌, ◌==◌, ◌&&◌, ◌||◌, ℕ, zero, suc, Bool, true, false, true≢false, not, cond, nat_le, nat_lt, List, [], ◌∷◌, Option, None, Some, get_or, option_map, bit_and, refl, ap, ap₂, arith}
+use Rattle.std.proofs.Common.{◌≡◌, ◌∙◌, ◌≤◌, ◌^◌, ◌==◌, ◌&&◌, ◌||◌, ℕ, zero, suc, Bool, true, false, true≢false, not, cond, nat_le, nat_lt, List, [], ◌∷◌, Option, None, Some, option_map, bit_and, refl, ap, ap₂, arith}
 use Rattle.std.proofs.Math.Pow.{pow_mono}
 use Rattle.std.proofs.lemmas.Bool.Decides.{nat_tests}
 use Rattle.std.specs.Int.Bits.{and_zero_r}
