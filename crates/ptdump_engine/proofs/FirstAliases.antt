@@ -1,8 +1,8 @@
 -- First mappings of frames: what they are after one more mapping, and the first alias of a mapping by them.
-use Rattle.std.proofs.Common.{◌≡◌, ◌∙◌, ◌+◌, ◌-◌, ◌%◌, ◌<◌, ◌≤◌, ◌==◌, ◌&&◌, ◌||◌, ◌++◌, ℕ, Bool, true, false, not, cond, nat_eq, nat_le, nat_lt, List, [], ◌∷◌, find, Option, None, Some, IfSome, option_map, option_and_then, refl, sym, ap, ap₂, subst, append-nil, arith}
+use Rattle.std.proofs.Common.{◌≡◌, ◌∙◌, ◌+◌, ◌-◌, ◌%◌, ◌<◌, ◌≤◌, ◌==◌, ◌&&◌, ◌||◌, ◌++◌, ℕ, Bool, true, false, not, cond, nat_eq, nat_le, nat_lt, List, [], ◌∷◌, find, Option, None, Some, IfSome, option_map, option_and_then, refl, sym, ap, ap₂, subst, arith}
 use Rattle.std.proofs.Math.Bool.{and-true, or-false}
 use Rattle.std.proofs.Math.Nat.{mod-eq_of_lt}
-use Rattle.std.proofs.lemmas.Bool.{and_from, and_parts, eq-eqb, eqb-true, false_from_ne_true, le-leb, le-ltb, leb-true, lt-ltb, ltb-false, not-false}
+use Rattle.std.proofs.lemmas.Bool.{and_from, and_parts, eq-eqb, eqb-true, false_from_ne_true, le-leb, le-ltb, leb-true, lt-ltb, ltb-false}
 use Rattle.std.proofs.lemmas.List.Folds.{find-append}
 use Rattle.std.specs.HashMap.{get}
 use Rattle.std.specs.List.{AllByRecursion}
@@ -19,7 +19,7 @@ use Rattle.x86_64_tables.specs.declared.mapper.MappedFrame.TheVariants.{Size4KiB
 use Rattle.ptdump_engine.specs.Aliases.{alias_in, aliased, contains, is_alias, said_of_aliased, said_of_mapping}
 use Rattle.ptdump_engine.specs.declared.check.first_mappings.FirstMappings.{FirstMappings}
 use Rattle.ptdump_engine.specs.declared.check.first_mappings.Firsts.{Firsts}
-use Rattle.ptdump_engine.specs.private.Aliasing.{alias_by, aliased_by, before, earlier, in_1gib, in_2mib, is_frame, is_other, key_of, noted, other_at, other_in, AreOfAll, IsAfter, IsAligned, IsPage, LeadsTo, Takes}
+use Rattle.ptdump_engine.specs.private.Aliasing.{alias_by, aliased_by, before, earlier, in_1gib, in_2mib, is_frame, is_other, key_of, noted, other_in, AreOfAll, IsAligned, IsPage, LeadsTo, Takes}
 
 -- ---- keys
 

@@ -1,5 +1,5 @@
 -- First mappings, and lines for mappings with aliases, after parts of the visits.
-use Rattle.std.proofs.Common.{◌≡◌, ◌∙◌, ◌++◌, ℕ, List, [], refl, sym, ap, subst, append-nil, append_assoc}
+use Rattle.std.proofs.Common.{◌∙◌, ◌++◌, ℕ, List, [], refl, sym, subst, append-nil, append_assoc}
 use Rattle.std.proofs.lemmas.List.Elements.{filter_map-append}
 use Rattle.x86_64_model.specs.Mappings.{Mapping}
 use Rattle.ptdump_engine.specs.Aliases.{said_of_mapping}
@@ -7,7 +7,7 @@ use Rattle.ptdump_engine.specs.Said.{Said}
 use Rattle.ptdump_engine.specs.declared.check.aliases.AliasLines.{AliasLines}
 use Rattle.ptdump_engine.specs.declared.check.first_mappings.FirstMappings.{FirstMappings}
 use Rattle.ptdump_engine.specs.private.Aliasing.{AreOfAll, IsAfter, Takes}
-use Rattle.ptdump_engine.specs.private.AliasingLines.{AreAliased, lines_among}
+use Rattle.ptdump_engine.specs.private.AliasingLines.{AreAliased}
 
 module _ {X : Type 0} where
   pub taken_nothing : (firsts : FirstMappings X) → Takes firsts firsts []

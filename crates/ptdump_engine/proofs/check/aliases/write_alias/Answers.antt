@@ -1,6 +1,6 @@
 use Rattle.std.proofs.Common.{◌≡◌, ◌∙◌, [], None, Some, option_map, sym, ap, subst}
 use Rattle.std.specs.List.{cons_option}
-use Rattle.ptdump_engine.specs.Aliases.{said_of_aliased, said_of_mapping}
+use Rattle.ptdump_engine.specs.Aliases.{said_of_aliased}
 use Rattle.ptdump_engine.specs.private.Aliasing.{alias_by, aliased_by, LeadsTo}
 use Rattle.ptdump_engine.proofs.FirstAliases.{said_by}
 use Rattle.ptdump_engine.proofs.Results.{on_ok}

@@ -1,4 +1,4 @@
-use Rattle.std.proofs.Common.{◌≡◌, ◌∙◌, true, cond, [], ◌∷◌, OnOk, sym, ap, subst}
+use Rattle.std.proofs.Common.{◌≡◌, ◌∙◌, cond, [], ◌∷◌, OnOk, sym, ap, subst}
 use Rattle.std.specs.Vec.{with_items}
 use Rattle.ptdump_engine.specs.declared.reached.search.Found.{Found}
 use Rattle.ptdump_engine.specs.private.Reaching.{sought, Takes}

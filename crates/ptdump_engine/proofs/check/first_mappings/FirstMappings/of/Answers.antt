@@ -1,4 +1,4 @@
-use Rattle.std.proofs.Common.{◌≡◌, [], nat_eq, option_and_then, ap, subst}
+use Rattle.std.proofs.Common.{[], nat_eq, option_and_then, ap, subst}
 use Rattle.std.specs.Map.{lookup}
 use Rattle.x86_64_model.specs.Mappings.{mappings_of}
 use Rattle.x86_64_model.proofs.Lemmas.Mappings.Placed.{mappings_fit}
