@@ -1,17 +1,19 @@
 -- Reasons of texts, and of the arguments that they are from.
-use Rattle.std.proofs.Common.{◌≡◌, ◌<◌, ◌⊎◌, inl, inr, ℕ, List, Option, Some, Result, IfErr, codes, length, get_or, map, sym, subst, refl, ap, ◌∙◌}
+use Rattle.std.proofs.Common.{◌≡◌, ◌<◌, ◌⊎◌, inl, inr, ℕ, List, Option, None, Some, Result, IfErr, codes, length, get_or, map, sym, subst, refl, ap, ◌∙◌}
 use Rattle.std.proofs.lemmas.Result.{IfErr-weaker}
 use Rattle.std.specs.Borrow.{Bor}
 use Rattle.clap.specs.Matches.{first_value}
 use Rattle.clap.specs.declared.parser.matches.Found.{Found}
 use Rattle.ptdump_engine.specs.Accesses.{access_name}
 use Rattle.ptdump_engine.specs.declared.failure.Failure.TheVariants.{OutOfMemory}
+use Rattle.ptdump_engine.specs.declared.request.AddressRange.{AddressRange}
+use Rattle.ptdump.specs.DirectMaps.{IsAddressRange, IsDirectMap}
 use Rattle.ptdump.specs.Options.{option_name}
 use Rattle.ptdump.specs.Placements.{IsRange}
 use Rattle.ptdump.specs.Reasons.{IsNoAddress, IsNoPlacement, IsNoRange, IsNoSetting, IsReason, IsReasonFor}
 use Rattle.ptdump.specs.Requests.{IsUnread, values}
 use Rattle.ptdump.specs.declared.stop.Stop.{Stop}
-use Rattle.ptdump.specs.declared.stop.Stop.TheVariants.{NoCommand, NoAddress, NoNumber, NoRange, BaseAndRanges, NoAccess, NoSetting, Failed}
+use Rattle.ptdump.specs.declared.stop.Stop.TheVariants.{NoCommand, NoAddress, NoNumber, NoRange, BaseAndRanges, NoAccess, NoSetting, NoDirectMap, Failed}
 use Rattle.x86_64_access.specs.declared.request.Access.{Access}
 use Rattle.ptdump.proofs.NumberTexts.{listed_at}
 
@@ -26,6 +28,22 @@ no_range_at texts i d stop below (inr is) (inr none) = subst (IsNoRange (map (λ
 pub no_access_named : (found : Found) (name : Bor (List ℕ)) (stop : Stop) → first_value found (codes "as") ≡ Some name.now → stop ≡ NoAccess name
     → ((access : Access) → name.now ≡ access_name access → ⊥) → IsReason found stop
 no_access_named found name stop given is none = subst (IsReason found) (sym is) (given, none)
+
+-- the text of a direct map denotes no range, or memory allocation failed
+pub no_direct_map : (found : Found) (text : Bor (List ℕ)) (stop : Stop) → first_value found (codes "direct-map") ≡ Some text.now → (stop ≡ Failed OutOfMemory) ⊎ (stop ≡ NoDirectMap text)
+    → IsUnread (IsAddressRange text.now) stop → IsReason found stop
+no_direct_map found text stop given (inl memory) unread = subst (IsReason found) (sym memory) refl
+no_direct_map found text stop given (inr is) (inl memory) = cc
+no_direct_map found text stop given (inr is) (inr none) = subst (IsReason found) (sym is) (given, none)
+
+-- then there is no direct map
+no_range : (text : List ℕ) → ((range : AddressRange) → IsAddressRange text range → ⊥) → (direct_map : Option AddressRange) → IsDirectMap (Some text) direct_map → ⊥
+no_range text none None is = is
+no_range text none (Some range) is = none range is
+
+pub unread_map : (first : Option (List ℕ)) (text : List ℕ) (stop : Stop) → first ≡ Some text → IsUnread (IsAddressRange text) stop → IsUnread (IsDirectMap first) stop
+unread_map first text stop given (inl memory) = inl memory
+unread_map first text stop given (inr none) = inr (subst (λ o. (direct_map : Option AddressRange) → IsDirectMap o direct_map → ⊥) (sym given) (no_range text none))
 
 -- the ranges of a placement aren't read
 pub of_ranges : (base : Option (List ℕ)) (ranges : List (List ℕ)) (stop : Stop) → IsNoRange ranges stop → IsNoPlacement base ranges stop

@@ -1,4 +1,4 @@
--- Writable tables: page tables to which code can write through a mapping that doesn't lie in the direct map, where all are writable.
+-- Writable tables: page tables to which code can write through a mapping that doesn't lie in the direct map.
 use Rattle.std.specs.Prelude.{ℕ, ◌+◌, ◌-◌, true, false, not, List, [], filter, find, Option, Some, None, option_map}
 use Rattle.std.specs.List.{filter_map}
 use Rattle.x86_64_mappings.specs.Wanted.{leads_to}

@@ -112,7 +112,8 @@ fn add_writable<L: LevelCount>(
 ) -> Result<(), AllocError>
     requires { Ascend (λ table. table.frame) tables.now }
     ensures { OnOk result (findings.new.items ≡ findings.old.items
-        ++ writables.all_writable L.LEVELS (words_of memory.now identity_places) root (Some direct_map) tables.now) }
+        ++ writables.all_writable L.LEVELS (words_of memory.now identity_places) root
+        (Some direct_map) tables.now) }
 {
     let frames = frames_in_order(alloc, tables)?;
     let search = Search {
