@@ -1,11 +1,11 @@
 //! Findings in page tables that were read from a dump.
-ghost use Rattle.std.specs.Prelude.{◌≡◌, ◌≤◌, Some};
+ghost use Rattle.std.specs.Prelude.{◌≡◌, ◌≤◌, ◌||◌, false, nat_lt, not, None, Some};
 ghost use Rattle.std.specs.Fmt.{WritesOnOk};
 ghost use Rattle.x86_64_model.specs.Memory.{identity_places, words_of};
 ghost use Rattle.ptdump_engine.specs.FindingTexts.{at_text, for_user_text};
 ghost use Rattle.ptdump_engine.specs.private.Checked.{HasBits};
 
-use crate::findings::entry::{Entry, Slot};
+use crate::findings::entry::{Entry, HIGHEST_OF_PAGES, Slot};
 use crate::findings::names::Name;
 use std::fmt::{Display, Formatter, Result as FmtResult, Write};
 use x86_64_access::Controls;
@@ -14,6 +14,12 @@ use x86_64_page::frame::PhysFrame;
 use x86_64_page::page::Size4KiB;
 use x86_64_tables::page_table::PageTableEntry;
 use x86_64_tables::phys_memory::{IdentityMapping, PhysMemory, table_in};
+
+/// The level of the tables whose entries only map pages of 4KiB.
+const LEVEL_ONE: u64 = 1;
+
+/// The number of bits of the addresses that entries can hold.
+const ADDRESS_BITS: u8 = 52;
 
 /// A problem in page tables.
 #[derive(Clone, Copy)]
@@ -71,6 +77,28 @@ pub enum EntryFlaw {
     HugePage,
     /// Other reserved bits, for a processor with these settings.
     ReservedBits(Controls),
+}
+
+impl EntryFlaw {
+    ghost use Rattle.ptdump_engine.specs.Findings.{flaw_in};
+    ghost use Rattle.ptdump_engine.specs.declared.findings.entry.Entry.{Entry};
+
+    /// Returns false if no entry of a level has the flaw, whatever its word.
+    pub fn may_be_at(self, level: u64) -> bool
+        ensures { result ≡ false → (entry : Entry) → entry.level ≡ level → flaw_in self entry ≡ None }
+    {
+        match self {
+            EntryFlaw::HugePage => level > HIGHEST_OF_PAGES,
+            EntryFlaw::ReservedBits(controls) => level > LEVEL_ONE || is_limited(&controls),
+        }
+    }
+}
+
+/// Returns true if a processor lacks address bits that entries can hold, or `NO_EXECUTE` is off.
+fn is_limited(controls: &Controls) -> bool
+    ensures { result ≡ (nat_lt controls.now.physical_bits 52 || not controls.now.no_execute) }
+{
+    controls.physical_bits < ADDRESS_BITS || !controls.no_execute
 }
 
 impl Finding {
@@ -131,8 +159,7 @@ impl Finding {
         }
     }
 
-    /// Returns the finding of a frame's table, given at which virtual address it is writable outside the direct map, if there is
-    /// one.
+    /// Returns the finding of a frame's table, given at which virtual address it is writable outside the direct map, if there is one.
     pub fn of_writable(frame: PhysFrame<Size4KiB>, address: Option<u64>) -> Option<Finding>
         ensures { result ≡ writable_at frame address }
     {
