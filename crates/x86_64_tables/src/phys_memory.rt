@@ -169,7 +169,8 @@ impl PhysMemory {
     /// Creates a memory with the places of the given numbers and a table at each, in their order. Returns `None` if a number
     /// isn't below the next, or if there aren't as many tables as numbers.
     pub fn with_tables(places: Vec<u64>, tables: Vec<PageTable>) -> Option<PhysMemory>
-        ensures { SomeIff result (IsStrictlyIncreasing places.items × (length tables.items ≡ length places.items))
+        ensures { SomeIff result
+            (IsStrictlyIncreasing places.items × (length tables.items ≡ length places.items))
             (tables_at places.items tables.items) }
     {
         if !is_increasing(&places) || tables.len() != places.len() {
