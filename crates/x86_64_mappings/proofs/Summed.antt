@@ -10,13 +10,14 @@ use Rattle.x86_64_model.specs.Mappings.{Rights, Mapping, every_right, granted}
 use Rattle.x86_64_mappings.specs.declared.summaries.summary.Summary.{Summary}
 use Rattle.x86_64_mappings.specs.Summaries.{summary_of}
 use Rattle.x86_64_mappings.specs.Wanted.{Asked, is_wanted, asked_mappings}
-use Rattle.x86_64_tables.specs.declared.page_table.target.EntryTarget.TheVariants.{Table}
+use Rattle.x86_64_tables.specs.declared.page_table.target.EntryTarget.TheVariants.{Page, Table}
 use Rattle.x86_64_mappings.specs.private.Placed.{placed}
 use Rattle.x86_64_tables.specs.EntryTargets.{target_of}
-use Rattle.x86_64_mappings.specs.private.Targets.{asked_by, asked_on}
-use Rattle.x86_64_tables.specs.Rights.{both}
+use Rattle.x86_64_mappings.specs.private.Targets.{asked_by, asked_on, mapped_by}
+use Rattle.x86_64_tables.specs.Rights.{both, either}
 use Rattle.x86_64_mappings.specs.private.Merged.{joined, lessened}
 use Rattle.x86_64_model.specs.Position.{span}
+use Rattle.x86_64_model.specs.private.Found.{page_from}
 use Rattle.x86_64_mappings.proofs.Tables.{by_table, on_more}
 
 pub summary-append : (ms ns : List Mapping) → summary_of (ms ++ ns) ≡ joined (summary_of ms) (summary_of ns)
@@ -167,3 +168,23 @@ sum_more asked level i words sum part less is one =
     let front = asked_on asked level 0 every_right (take i words) in
     let back = asked_by asked level (0 + i * span level) every_right (get_or words i 0) in
     (λ k. joined (is k) (one (0 + i * span level) k)) ∙ sym (summary-append front back) ∙ ap summary_of (sym (on_more asked level 0 every_right words i less))
+
+-- ---- small pages
+
+-- the summary of small pages, by their number and their rights
+abbrev pub pages_summary : (count : ℕ) → (some all : Rights) → Summary
+pages_summary count some all = record { count = count; bytes = count * 4096; some = some; all = all }
+
+-- one page more, if all mappings are wanted
+pub page_more : (asked : Asked) (i : ℕ) (words : List ℕ) (count : ℕ) (some all r : Rights) → asked.wanted ≡ None → i < length words
+    → Page ≡ target_of 1 (get_or words i 0) → r ≡ granted every_right (get_or words i 0)
+    → pages_summary count some all ≡ summary_of (asked_on asked 1 0 every_right (take i words))
+    → pages_summary (count + 1) (either some r) (both all r) ≡ summary_of (asked_on asked 1 0 every_right (take (i + 1) words))
+page_more asked i words count some all r every less page rights is =
+    let e = get_or words i 0 in
+    let more : (count + 1) * 4096 ≡ count * 4096 + 4096 = omega arith in
+    (λ k. record { count = count + 1; bytes = more k; some = either some r; all = both all r })
+    ∙ sum_more asked 1 i words (pages_summary count some all) (one_summary 4096 r) less is (λ start.
+    of_one (page_from start 1 every_right e) r rights
+    ∙ ap (λ wanted. summary_of (filter (is_wanted wanted) (page_from start 1 every_right e ∷ []))) (sym every)
+    ∙ ap (λ t. summary_of (filter (is_wanted asked.wanted) (mapped_by asked.words 1 start every_right e t))) page)

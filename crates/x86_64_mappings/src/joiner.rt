@@ -36,6 +36,7 @@ impl<L: LevelCount> Joiner<L> {
 
     /// Takes a region that comes after those taken before, and returns the region that was held back if that can't grow
     /// any more.
+    #[inline(always)]
     pub(crate) fn join(&mut self, region: RegionIn<L>) -> Option<RegionIn<L>>
         ensures given { listed result ≡ given_with L.LEVELS self.old region }
         ensures held { self.new ≡ Some (held_with L.LEVELS self.old region) }

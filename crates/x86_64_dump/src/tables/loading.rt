@@ -65,11 +65,10 @@ fn tables_of<S: ByteSource, G: Progress>(
         × AreAllThere (words_of_dump (opened S.bytes dump.now)) numbers.now)) }
 {
     let mut tables = Vec::with_capacity(alloc, numbers.len())?;
-    let mut table = PageTable::new();
     for (i, number) in numbers.iter().enumerate() {
-        let frame = PhysFrame::from_pfn(*number);
-        fill_table(dump, read, frame, &mut table)?;
-        tables.push_reserved(copied(&table)?);
+        let mut table = PageTable::new();
+        fill_table(dump, read, PhysFrame::from_pfn(*number), &mut table)?;
+        tables.push_reserved(table);
         progress.tables(i + 1);
     }
     Ok(tables)

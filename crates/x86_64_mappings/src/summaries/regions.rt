@@ -155,6 +155,7 @@ fn join_small_pages<
 }
 
 /// Joins a page, if it is wanted.
+#[inline(always)]
 fn join_page<L: LevelCount, T, P, V: Visitor<RegionIn<L>>>(
     query: &Query<'_, T, P>,
     page: &MappingIn<L>,
@@ -172,6 +173,7 @@ fn join_page<L: LevelCount, T, P, V: Visitor<RegionIn<L>>>(
 }
 
 /// Visits a region that a joiner hands out, if there is one.
+#[inline(always)]
 fn visit_joined<L: LevelCount, V: Visitor<RegionIn<L>>>(
     joined: Option<RegionIn<L>>,
     visitor: &mut V,

@@ -1,5 +1,5 @@
 //! The summaries of the tables of a memory.
-ghost use Rattle.std.specs.Prelude.{◌≡◌, ◌+◌, ◌<◌, ◌≤◌, ℕ, length, IfOk, IfSome};
+ghost use Rattle.std.specs.Prelude.{◌≡◌, ◌+◌, ◌<◌, ◌≤◌, ℕ, None, length, IfOk, IfSome};
 ghost use Rattle.x86_64_model.specs.Mappings.{every_right};
 ghost use Rattle.x86_64_mappings.specs.Summaries.{summary_of};
 ghost use Rattle.x86_64_mappings.specs.Wanted.{Asked, asked_of, asked_mappings};
@@ -13,7 +13,7 @@ use std::collections::HashMap;
 use std::marker::Model;
 use x86_64_addr::addr::PhysAddr;
 use x86_64_page::frame::PhysFrame;
-use x86_64_page::page::Size4KiB;
+use x86_64_page::page::{PageSize, Size4KiB};
 use x86_64_tables::page_table::{EntryTarget, PageTableEntry, PageTableFlags, Rights, has_flag};
 use x86_64_tables::phys_memory::{PageTableFrameMapping, TableMemory};
 
@@ -138,8 +138,8 @@ fn table_summary<T: TableMemory, P: PageTableFrameMapping>(
         return Some(Summary::NONE);
     };
     let entries = table.as_slice();
-    if below.is_empty() {
-        return small_pages_summary(query, entries);
+    if below.is_empty() && query.wanted.is_none() {
+        return Some(small_pages_summary(entries));
     }
     let mut sum = Summary::NONE;
     for entry in entries {
@@ -148,21 +148,29 @@ fn table_summary<T: TableMemory, P: PageTableFrameMapping>(
     Some(sum)
 }
 
-/// Summarizes the pages by the entries of a table of level one. Returns `None` if the numbers don't fit.
-fn small_pages_summary<T: TableMemory, P: PageTableFrameMapping>(
-    query: &Query<'_, T, P>,
-    entries: &[PageTableEntry],
-) -> Option<Summary>
-    ensures { IfSome result (λ summary. summary ≡ summary_of
-        (asked_on (asked_of T.tables P.places (asking query.now)) 1 0 every_right entries.now)) }
+/// Summarizes the pages by the entries of a table of level one, if all mappings are wanted.
+fn small_pages_summary(entries: &[PageTableEntry]) -> Summary
+    requires { length entries.now ≡ 512 }
+    ensures { (asked : Asked) → asked.wanted ≡ None →
+        result ≡ summary_of (asked_on asked 1 0 every_right entries.now) }
 {
-    let mut sum = Summary::NONE;
+    let mut count = 0;
+    let mut some = Rights::NONE;
+    let mut all = Rights::ALL;
     for entry in entries {
         if has_flag(entry, PageTableFlags::PRESENT) {
-            sum = sum.with(query.page_summary(1, entry))?;
+            let rights = Rights::ALL.below(entry);
+            count += 1;
+            some = some.or(rights);
+            all = all.and(rights);
         }
     }
-    Some(sum)
+    Summary {
+        count,
+        bytes: count * Size4KiB::SIZE,
+        some,
+        all,
+    }
 }
 
 /// Summarizes what an entry of a table maps, given the summaries of the levels below. Returns `None` if the summary of the

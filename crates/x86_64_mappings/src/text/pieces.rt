@@ -13,6 +13,9 @@ use x86_64_tables::page_table::Rights;
 /// The size of a buffer.
 pub(crate) const CAPACITY: usize = 96;
 
+/// The characters of the digits below 16.
+const DIGITS: [u8; 16] = *b"0123456789abcdef";
+
 /// Writes an ASCII character so that it ends at `end`, and returns where it starts.
 #[inline(always)]
 pub(crate) fn put(line: &mut [u8; CAPACITY], end: usize, character: u8) -> usize
@@ -82,12 +85,7 @@ fn digit(number: u64) -> u8
     ensures text { result ≡ digit_glyph false number }
     ensures ascii { result < 128 }
 {
-    let number = number as u8;
-    if number < 10 {
-        b'0' + number
-    } else {
-        b'a' - 10 + number
-    }
+    DIGITS[number as usize]
 }
 
 /// Writes a number of bytes so that it ends at `end`, in the largest of KiB, MiB, GiB and TiB that divides it, and returns

@@ -15,8 +15,8 @@ returns-in_err-fill_table-clause-errors g c =
     let Fails : DumpError → Type 0 = MayFail (g.S.ByteSource.IsKnown × AreAllThere W c.args.numbers.now) in
     let There : ℕ → Type 0 = λ f. IsSome (W f) in
     fails_as c.from_residual-in_err-fill_table.result _ Fails c.from_residual-in_err-fill_table.ensures.1 (λ e is. subst Fails (sym is)
-    (fails_knowing (g.S.ByteSource.IsKnown × IsSome (W c.from_pfn-frame.result)) _
-    (λ known. (known.0, subst There (sym c.from_pfn-frame.ensures) (known.1 c.loop-i.i 0 c.loop-i-test.true)))
+    (fails_knowing (g.S.ByteSource.IsKnown × IsSome (W c.from_pfn.result)) _
+    (λ known. (known.0, subst There (sym c.from_pfn.ensures) (known.1 c.loop-i.i 0 c.loop-i-test.true)))
     c.in_err-fill_table.field-0.0 c.in_err-fill_table.ensures.errors))
 
 pub loop-i-preserved : goal.loop-i-preserved
@@ -26,7 +26,7 @@ loop-i-preserved g c = record {
   tables = λ known.
       let W = words_of_dump (opened g.S.ByteSource.bytes c.args.dump.now) in
       let numbers = c.args.numbers.now in
-      let read = ap Some c.in_ok-copied.ensures ∙ c.in_ok-fill_table.ensures.words known ∙ ap W c.from_pfn-frame.ensures in
+      let read = c.in_ok-fill_table.ensures.words known ∙ ap W c.from_pfn.ensures in
       ap (map Some) c.push_reserved.ensures.items ∙ map_push Some c.loop-i.tables.items _
       ∙ ap₂ (λ front last. front ++ last ∷ []) (c.loop-i.invariant.tables known) read
       ∙ sym (map_more (words_numbered W) numbers c.loop-i.i 0 c.loop-i-test.true);

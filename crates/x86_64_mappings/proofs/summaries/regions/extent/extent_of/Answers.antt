@@ -1,4 +1,4 @@
-use Rattle.std.proofs.Common.{◌≡◌, true, rules, sym, ap, map, ◌∙◌, subst}
+use Rattle.std.proofs.Common.{◌≡◌, true, rules, ap, map, ◌∙◌, subst}
 use Rattle.std.specs.Option.{IfSome}
 use Rattle.std.proofs.lemmas.Bool.{eq-eqb}
 use Rattle.x86_64_model.specs.Regions.{same_rights}
