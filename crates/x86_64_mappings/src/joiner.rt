@@ -41,13 +41,13 @@ impl<L: LevelCount> Joiner<L> {
         ensures given { listed result ≡ given_with L.LEVELS self.old region }
         ensures held { self.new ≡ Some (held_with L.LEVELS self.old region) }
     {
-        let before = self.held;
-        if let Some(held) = before {
+        if let Some(held) = &mut self.held {
             if held.is_followed_by(&region) {
-                self.held = Some(held.grown_to(&region));
+                *held = held.grown_to(&region);
                 return None;
             }
         }
+        let before = self.held;
         self.held = Some(region);
         before
     }
