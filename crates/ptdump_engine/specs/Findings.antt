@@ -119,16 +119,20 @@ flaw_in (flaws.ReservedBits c) e = reserved_bits c e
 abbrev pub flawed_entries : EntryFlaw → Words → List Table → List Finding
 flawed_entries flaw T tables = flat_map (λ t. filter_map (flaw_in flaw) (entries_in T t)) tables
 
--- the processor whose reserved bits are looked for: NO_EXECUTE is on
-abbrev pub processor_of : Checking → Controls
-processor_of checking = record {
+-- the processor whose reserved bits are looked for: it has all 52 bits of physical addresses, so that it lacks no address bit, and NO_EXECUTE is on
+abbrev pub processor : Controls
+processor = record {
   write_protect = true;
   no_execute = true;
   smep = true;
   smap = true;
   ac = false;
-  physical_bits = min checking.physical_bits 52;
+  physical_bits = 52;
 }
+
+-- the processor whose reserved bits a check looks for: it may lack address bits
+abbrev pub processor_of : Checking → Controls
+processor_of checking = record processor { physical_bits = min checking.physical_bits 52 }
 
 -- ---- the report
 

@@ -1,26 +1,14 @@
 -- Reserved: how many words below a root have reserved bits, at which a processor faults, and what standard error says of them.
 use Rattle.std.specs.Prelude.{ℕ, Bool, ◌-◌, ◌^◌, ◌==◌, ◌++◌, if◌then◌else◌, true, false, min, List, [], codes, decimal, length}
-use Rattle.x86_64_access.specs.declared.controls.Controls.{Controls}
 use Rattle.x86_64_dump.specs.Tables.{tables_by_level}
 use Rattle.x86_64_model.specs.Memory.{Words}
-use Rattle.ptdump_engine.specs.Findings.{flawed_entries, tables_from}
+use Rattle.ptdump_engine.specs.Findings.{flawed_entries, processor, tables_from}
 use Rattle.ptdump_engine.specs.Walks.{line}
 use Rattle.ptdump_engine.specs.declared.findings.entry.Table.{Table}
 use Rattle.ptdump_engine.specs.declared.findings.finding.Finding.{Finding}
 use Rattle.ptdump_engine.specs.declared.findings.finding.EntryFlaw.TheVariants as flaws
 use Rattle.ptdump_engine.specs.declared.request.Command.{Command}
 use Rattle.ptdump_engine.specs.declared.request.Command.TheVariants as commands
-
--- the processor: it has all 52 bits of physical addresses, so that it lacks no address bit, and NO_EXECUTE is on
-abbrev pub processor : Controls
-processor = record {
-  write_protect = true;
-  no_execute = true;
-  smep = true;
-  smap = true;
-  ac = false;
-  physical_bits = 52;
-}
 
 -- the entries of these tables with PRESENT and HUGE_PAGE at a level without pages, or with PRESENT and other reserved bits
 abbrev pub reserved_entries : Words → List Table → List Finding

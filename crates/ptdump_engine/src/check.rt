@@ -21,6 +21,7 @@ use crate::check::tables::write_table_findings;
 use crate::counted_lines::CountedLines;
 use crate::destination::Destination;
 use crate::findings::{FindingCount, Flaw, names_in_order, tables_in_order};
+use crate::flawed_entries::PROCESSOR;
 use crate::json_lines::write_as;
 use crate::line_output::LineOutput;
 use crate::lines::Lines;
@@ -31,9 +32,6 @@ use crate::request::{Checking, Form};
 use std::alloc::Global;
 use x86_64_access::Controls;
 use x86_64_addr::level_count::LevelCount;
-
-/// The largest number of bits of a physical address.
-const PHYSICAL_BITS: u8 = 52;
 
 /// Writes a line in a form for each finding and a line with their number, and returns true if there is none. The number is
 /// 2^64 - 1 if there are more.
@@ -73,17 +71,13 @@ pub fn write_findings<L: LevelCount, W: Destination>(
     Ok(count == 0)
 }
 
-/// Returns the processor whose reserved bits are looked for.
+/// Returns the processor whose reserved bits a check looks for.
 fn processor_of(checking: &Checking) -> Controls
     ensures { result ≡ findings.processor_of checking.now }
 {
     Controls {
-        write_protect: true,
-        no_execute: true,
-        smep: true,
-        smap: true,
-        ac: false,
-        physical_bits: checking.physical_bits.min(PHYSICAL_BITS),
+        physical_bits: checking.physical_bits.min(PROCESSOR.physical_bits),
+        ..PROCESSOR
     }
 }
 

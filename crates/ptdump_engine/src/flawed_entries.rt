@@ -8,7 +8,18 @@ ghost use Rattle.ptdump_engine.specs.private.Checked.{HasBits};
 
 use crate::findings::{Entry, EntryFlaw, Finding, Table};
 use crate::line_output::LineOutput;
+use x86_64_access::Controls;
 use x86_64_tables::phys_memory::{IdentityMapping, PhysMemory, table_in};
+
+/// The processor whose reserved bits are looked for: it has all bits of physical addresses.
+pub const PROCESSOR: Controls = Controls {
+    write_protect: true,
+    no_execute: true,
+    smep: true,
+    smap: true,
+    ac: false,
+    physical_bits: 52,
+};
 
 /// Writes a line for each entry of the tables that has `PRESENT` and a flaw.
 pub fn write_flawed_entries<O: LineOutput>(

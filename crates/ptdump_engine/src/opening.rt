@@ -1,5 +1,5 @@
 //! Opens dumps, and says how they are read.
-ghost use Rattle.std.specs.Prelude.{◌≡◌, [], OnOk, Some, string_bytes};
+ghost use Rattle.std.specs.Prelude.{◌≡◌, [], OnOk, string_bytes};
 ghost use Rattle.std.specs.List.{flat_map};
 ghost use Rattle.x86_64_dump.specs.Opened.{opened};
 ghost use Rattle.x86_64_dump.specs.Opening.{Gives};
@@ -9,29 +9,9 @@ ghost use Rattle.ptdump_engine.specs.Walks.{line};
 
 use crate::destination::Destination;
 use crate::output::{Output, OutputError};
-use crate::request::Request;
+use crate::request::{AddressRange, Request};
 use std::alloc::Global;
-use std::fmt::{Display, Formatter, Result as FmtResult, Write};
 use x86_64_dump::{ByteSource, Dump, DumpError, Format, Segment, read_format};
-
-/// The first and the last address of bytes of a raw file.
-#[derive(Clone, Copy)]
-struct AddressRange {
-    first: u64,
-    last: u64,
-}
-
-impl Display for AddressRange {
-    ghost use Rattle.ptdump_engine.specs.Program.{raw_range_text};
-
-    ghost output = { λ range. Some (raw_range_text range.first range.last) };
-
-    fn fmt<W: Write>(&self, f: &mut Formatter<W>) -> FmtResult {
-        let first = self.first;
-        let last = self.last;
-        write!(f, "the file is read as raw memory: 0x{first:x}-0x{last:x}")
-    }
-}
 
 /// Opens a dump as the request says. The bits by which the kernel marks encrypted memory, if it says them, are cleared in each word
 /// that is read.
@@ -112,7 +92,7 @@ fn write_addresses<E: Destination>(
     ensures { OnOk result (Puts E.contents notes.old notes.new (line (program.raw_range_text first last))) }
 {
     let range = AddressRange { first, last };
-    writeln!(notes, "{range}")
+    writeln!(notes, "the file is read as raw memory: {range}")
 }
 
 /// Writes immediately if the file is shorter than its headers say.

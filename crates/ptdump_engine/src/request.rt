@@ -3,6 +3,7 @@
 ghost use Rattle.std.specs.Prelude.{◌≡◌};
 ghost use Rattle.ptdump_engine.specs.Program.{has_roots, is_info, is_of_processors};
 
+use std::fmt::{Display, Formatter, Result as FmtResult, Write};
 use x86_64_access::{Access, Controls};
 pub use x86_64_addr::level_count::Levels;
 use x86_64_dump::Placement;
@@ -39,13 +40,26 @@ impl Selection {
     };
 }
 
-/// The addresses from a first one to a last one, both included.
+/// The addresses from a first one to a last one, both included. As text these are both, joined by `-`.
 #[derive(Clone, Copy, Debug, PartialEq, Eq)]
 pub struct AddressRange {
     /// The first.
     pub first: u64,
     /// The last.
     pub last: u64,
+}
+
+impl Display for AddressRange {
+    ghost use Rattle.std.specs.Prelude.{◌++◌, Some, codes};
+    ghost use Rattle.x86_64_mappings.specs.Numbers.{hexadecimal};
+
+    ghost output = { λ range. Some (hexadecimal range.first ++ codes "-" ++ hexadecimal range.last) };
+
+    fn fmt<W: Write>(&self, f: &mut Formatter<W>) -> FmtResult {
+        let first = self.first;
+        let last = self.last;
+        write!(f, "0x{first:x}-0x{last:x}")
+    }
 }
 
 /// What a check looks for besides what is always a finding.

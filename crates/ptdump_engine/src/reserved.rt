@@ -10,29 +10,18 @@ ghost use Rattle.ptdump_engine.specs.private.Checked.{HasBits};
 
 use crate::destination::Destination;
 use crate::findings::{EntryFlaw, Table};
-use crate::flawed_entries::write_flawed_in;
+use crate::flawed_entries::{PROCESSOR, write_flawed_in};
 use crate::line_count::LineCount;
 use crate::line_output::LineOutput;
 use crate::loaded::Loaded;
 use crate::output::{Output, OutputError};
 use crate::request::Command;
 use std::alloc::AllocError;
-use x86_64_access::Controls;
 use x86_64_addr::level_count::LevelCount;
 use x86_64_dump::DumpTables;
 use x86_64_page::frame::PhysFrame;
 use x86_64_page::page::Size4KiB;
 use x86_64_tables::phys_memory::PhysMemory;
-
-/// The processor whose reserved bits are looked for: it has all bits of physical addresses.
-const PROCESSOR: Controls = Controls {
-    write_protect: true,
-    no_execute: true,
-    smep: true,
-    smap: true,
-    ac: false,
-    physical_bits: 52,
-};
 
 /// Writes how many words have reserved bits, if there are any and the command lists what is mapped. The number is 2^64 - 1 if there
 /// are more.

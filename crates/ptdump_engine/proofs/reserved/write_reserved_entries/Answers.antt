@@ -1,7 +1,7 @@
 use Rattle.std.proofs.Common.{refl}
 use Rattle.x86_64_dump.specs.Loaded.{frames_in, words_in}
-use Rattle.ptdump_engine.specs.Findings.{flawed_entries, said_of, tables_from}
-use Rattle.ptdump_engine.specs.Reserved.{processor, reserved_entries}
+use Rattle.ptdump_engine.specs.Findings.{flawed_entries, processor, said_of, tables_from}
+use Rattle.ptdump_engine.specs.Reserved.{reserved_entries}
 use Rattle.ptdump_engine.specs.declared.findings.finding.EntryFlaw.TheVariants as flaws
 use Rattle.ptdump_engine.proofs.Found.{both_lines}
 use Rattle.ptdump_engine.proofs.Results.{on_ok}
