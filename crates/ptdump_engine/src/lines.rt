@@ -12,6 +12,7 @@ use crate::output::{Output, OutputError};
 use std::alloc::AllocError;
 use std::fmt::Display;
 use x86_64_addr::level_count::LevelCount;
+use x86_64_mappings::text::CAPACITY;
 use x86_64_mappings::{MappingIn, RegionIn, Visitor};
 
 /// A destination for lines of text. It is a trait so that contracts can identify an [`Output`] that a struct has borrowed, once
@@ -56,7 +57,7 @@ impl<L: LevelCount, W: Destination> Visitor<MappingIn<L>> for Output<'_, W> {
 
     /// Writes a line for a mapping.
     fn visit(&mut self, mapping: MappingIn<L>) -> Result<(), OutputError<W>> {
-        writeln!(self, "{mapping}")
+        self.put_line(mapping.text_in(&mut [0; CAPACITY]))
     }
 
     ghost none = { λ output. puts_nothing W.contents output };
@@ -92,7 +93,7 @@ impl<L: LevelCount, W: Destination> Visitor<RegionIn<L>> for Output<'_, W> {
 
     /// Writes a line for a region.
     fn visit(&mut self, region: RegionIn<L>) -> Result<(), OutputError<W>> {
-        writeln!(self, "{region}")
+        self.put_line(region.text_in(&mut [0; CAPACITY]))
     }
 
     ghost none = { λ output. puts_nothing W.contents output };

@@ -98,6 +98,7 @@ impl<'a, W: Destination> Output<'a, W> {
 
 impl<W: Destination> Output<'_, W> {
     ghost use Rattle.ptdump_engine.specs.Output.{Puts};
+    ghost use Rattle.ptdump_engine.specs.Walks.{line};
 
     /// Puts a text in. `write!` and `writeln!` call it.
     ///
@@ -108,10 +109,20 @@ impl<W: Destination> Output<'_, W> {
         ensures { OnOk result (IfSome (D.output text) (Puts W.contents self.old self.new)) }
     {
         self.text.write(text)?;
-        if self.text.len() < PIECE {
-            return Ok(());
-        }
-        self.hand_on()
+        self.hand_on_pieces()
+    }
+
+    /// Puts a text in as a line.
+    ///
+    /// # Errors
+    ///
+    /// `OutputError::OutOfMemory` if memory allocation fails, `OutputError::Write` if a write fails.
+    pub fn put_line(&mut self, text: &str) -> Result<(), OutputError<W>>
+        ensures { OnOk result (Puts W.contents self.old self.new (line text.now)) }
+    {
+        self.text.push_str(text)?;
+        self.text.push('\n')?;
+        self.hand_on_pieces()
     }
 
     /// Passes the rest on, and flushes the writer.
@@ -128,6 +139,16 @@ impl<W: Destination> Output<'_, W> {
             Ok(()) => Ok(()),
             Err(error) => Err(OutputError::Write(Refusal::of(error))),
         }
+    }
+
+    /// Passes on the collected text, if that is a piece.
+    fn hand_on_pieces(&mut self) -> Result<(), OutputError<W>>
+        ensures { OnOk result (Puts W.contents self.old self.new []) }
+    {
+        if self.text.len() < PIECE {
+            return Ok(());
+        }
+        self.hand_on()
     }
 
     /// Passes on the collected text.

@@ -4,10 +4,10 @@ ghost use Rattle.std.specs.Str.{IsAscii};
 ghost use Rattle.x86_64_model.specs.Mappings.{maps_page};
 ghost use Rattle.x86_64_model.specs.Position.{position_count};
 ghost use Rattle.x86_64_model.specs.private.Found.{page_at};
-ghost use Rattle.std.specs.Fmt.{WritesOnOk};
 ghost use Rattle.x86_64_mappings.specs.Texts as texts;
+ghost use Rattle.x86_64_mappings.specs.Texts.{mapping_text};
 
-use crate::text::pieces::{CAPACITY, put, put_hexadecimal, put_rights, put_size, write_from};
+use crate::text::pieces::{CAPACITY, put, put_hexadecimal, put_rights, put_size, text_from};
 use bitflags::Flags;
 use std::fmt::{Display, Formatter, Result as FmtResult, Write};
 use std::marker::Model;
@@ -94,38 +94,46 @@ impl<L: LevelCount> MappingIn<L> {
     }
 }
 
-impl<L: LevelCount> Display for MappingIn<L> {
-    ghost use Rattle.x86_64_mappings.specs.Texts.{mapping_text};
-
-    ghost output = { λ mapping. Some (mapping_text L.LEVELS mapping) };
-
-    fn fmt<W: Write>(&self, f: &mut Formatter<W>) -> FmtResult {
+impl<L: LevelCount> MappingIn<L> {
+    /// Returns the mapping as text in a buffer: its start, its size, the start of its frame, its rights, and its flags.
+    #[inline(always)]
+    pub fn text_in<'a>(&self, buffer: &'a mut [u8; CAPACITY]) -> &'a str
+        ensures { result.now ≡ mapping_text L.LEVELS self.now }
+    {
         let start = self.start.as_u64();
         let frame = self.frame.start_address().as_u64();
         let flags = self.flags.bits();
-        write_line(f, start, self.frame.size(), frame, self.rights, flags)
+        line_in(buffer, start, self.frame.size(), frame, self.rights, flags)
     }
 }
 
-/// Writes a mapping: its start, its size, the start of its frame, its rights, and its flags.
-fn write_line<W: Write>(
-    f: &mut Formatter<W>,
+impl<L: LevelCount> Display for MappingIn<L> {
+    ghost output = { λ mapping. Some (mapping_text L.LEVELS mapping) };
+
+    fn fmt<W: Write>(&self, f: &mut Formatter<W>) -> FmtResult {
+        f.write_str(self.text_in(&mut [0; CAPACITY]))
+    }
+}
+
+/// Returns a mapping as text in a buffer: its start, its size, the start of its frame, its rights, and its flags.
+#[inline(always)]
+fn line_in(
+    buffer: &mut [u8; CAPACITY],
     start: u64,
     size: u64,
     frame: u64,
     rights: Rights,
     flags: u64,
-) -> FmtResult
-    ensures { WritesOnOk W.write_str_gives f.old result
-        (texts.line_text start size frame rights flags) f.new }
+) -> &str
+    ensures { result.now ≡ texts.line_text start size frame rights flags }
 {
-    let mut line = [0; CAPACITY];
-    let first = put_hexadecimal(&mut line, CAPACITY, flags);
-    let first = put(&mut line, first, b' ');
-    let first = put_rights(&mut line, first, rights);
-    let first = put(&mut line, first, b' ');
-    let first = put_place(&mut line, first, start, size, frame);
-    write_from(f, &line, first)
+    *buffer = [0; CAPACITY];
+    let first = put_hexadecimal(buffer, CAPACITY, flags);
+    let first = put(buffer, first, b' ');
+    let first = put_rights(buffer, first, rights);
+    let first = put(buffer, first, b' ');
+    let first = put_place(buffer, first, start, size, frame);
+    text_from(buffer, first)
 }
 
 /// Writes where a mapping starts, its size, and where its frame starts, so that they end at `end`. Returns where they start

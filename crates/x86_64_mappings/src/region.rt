@@ -1,14 +1,11 @@
 //! Regions: consecutive mappings with equal rights.
-ghost use Rattle.std.specs.Fmt.{WritesOnOk};
-ghost use Rattle.std.specs.Prelude.{◌≡◌, ◌+◌, ◌-◌, ◌≤◌, ◌++◌, Some, codes};
-ghost use Rattle.x86_64_mappings.specs.Numbers.{hexadecimal};
-ghost use Rattle.x86_64_mappings.specs.Texts.{size_text};
+ghost use Rattle.std.specs.Prelude.{◌≡◌, ◌+◌, ◌-◌, ◌≤◌, Some};
+ghost use Rattle.x86_64_mappings.specs.Texts.{region_text};
 ghost use Rattle.x86_64_model.specs.Position.{position_count};
 ghost use Rattle.x86_64_model.specs.Regions as model;
-ghost use Rattle.x86_64_tables.specs.Rights.{rights_text};
 
 use crate::mapping::MappingIn;
-use crate::text::pieces::{CAPACITY, put, put_hexadecimal, put_rights, put_size, write_from};
+use crate::text::pieces::{CAPACITY, put, put_hexadecimal, put_rights, put_size, text_from};
 use std::fmt::{Display, Formatter, Result as FmtResult, Write};
 use std::marker::Model;
 use x86_64_addr::addr::VirtAddrIn;
@@ -98,36 +95,28 @@ impl<L: LevelCount> RegionIn<L> {
     }
 }
 
-impl<L: LevelCount> Display for RegionIn<L> {
-    ghost use Rattle.x86_64_mappings.specs.Texts.{region_text};
-
-    ghost output = { λ region. Some (region_text L.LEVELS region) };
-
-    fn fmt<W: Write>(&self, f: &mut Formatter<W>) -> FmtResult {
-        let first = self.first.as_u64();
-        let last = self.last.as_u64();
-        write_line(f, first, last, self.size(), self.rights)
+impl<L: LevelCount> RegionIn<L> {
+    /// Returns the region as text in a buffer: its first and its last address, its size, and its rights.
+    #[inline(always)]
+    pub fn text_in<'a>(&self, buffer: &'a mut [u8; CAPACITY]) -> &'a str
+        ensures { result.now ≡ region_text L.LEVELS self.now }
+    {
+        *buffer = [0; CAPACITY];
+        let start = put_rights(buffer, CAPACITY, self.rights);
+        let start = put(buffer, start, b' ');
+        let start = put_size(buffer, start, self.size());
+        let start = put(buffer, start, b' ');
+        let start = put_hexadecimal(buffer, start, self.last.as_u64());
+        let start = put(buffer, start, b'-');
+        let start = put_hexadecimal(buffer, start, self.first.as_u64());
+        text_from(buffer, start)
     }
 }
 
-/// Writes a region: its first and its last address, its size, and its rights.
-fn write_line<W: Write>(
-    f: &mut Formatter<W>,
-    first: u64,
-    last: u64,
-    size: u64,
-    rights: Rights,
-) -> FmtResult
-    ensures { WritesOnOk W.write_str_gives f.old result (hexadecimal first ++ codes "-" ++ hexadecimal last
-        ++ codes " " ++ size_text size ++ codes " " ++ rights_text rights) f.new }
-{
-    let mut line = [0; CAPACITY];
-    let start = put_rights(&mut line, CAPACITY, rights);
-    let start = put(&mut line, start, b' ');
-    let start = put_size(&mut line, start, size);
-    let start = put(&mut line, start, b' ');
-    let start = put_hexadecimal(&mut line, start, last);
-    let start = put(&mut line, start, b'-');
-    let start = put_hexadecimal(&mut line, start, first);
-    write_from(f, &line, start)
+impl<L: LevelCount> Display for RegionIn<L> {
+    ghost output = { λ region. Some (region_text L.LEVELS region) };
+
+    fn fmt<W: Write>(&self, f: &mut Formatter<W>) -> FmtResult {
+        f.write_str(self.text_in(&mut [0; CAPACITY]))
+    }
 }

@@ -6,7 +6,8 @@ mod numbers;
 pub(crate) mod pieces;
 
 pub use numbers::{parse_number, write_hexadecimal};
-use pieces::{CAPACITY, put_size, write_from};
+pub use pieces::CAPACITY;
+use pieces::{put_size, text_from};
 use std::fmt::{Formatter, Result as FmtResult, Write};
 
 /// Writes a number of bytes in the largest of KiB, MiB, GiB and TiB that divides it. Writes 0 bytes as 0KiB, and rounds down
@@ -16,5 +17,5 @@ pub fn write_size<W: Write>(f: &mut Formatter<W>, bytes: u64) -> FmtResult
 {
     let mut line = [0; CAPACITY];
     let start = put_size(&mut line, CAPACITY, bytes);
-    write_from(f, &line, start)
+    f.write_str(text_from(&line, start))
 }

@@ -113,7 +113,7 @@ fn summarize<T: TableMemory, P: PageTableFrameMapping>(
     requires known { AreLevels (asked_of T.tables P.places (asking query.now)) below.now }
     ensures { IfOk result (IsLevel (asked_of T.tables P.places (asking query.now)) (length below.now + 1)) }
 {
-    let mut level = HashMap::new(alloc);
+    let mut level = HashMap::with_capacity(alloc, frames.len())?;
     for frame in frames {
         if let Some(summary) = table_summary(query, below, *frame) {
             level.insert(frame.start_address().as_u64(), summary)?;

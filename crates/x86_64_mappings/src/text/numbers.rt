@@ -6,7 +6,7 @@ ghost use Rattle.std.specs.Option.{SomeIff};
 ghost use Rattle.std.specs.Str.Parse.{IsNumeral, digits_value};
 ghost use Rattle.x86_64_mappings.specs.Numbers.{IsNumber, number_of, hexadecimal};
 
-use crate::text::pieces::{CAPACITY, put_hexadecimal, write_from};
+use crate::text::pieces::{CAPACITY, put_hexadecimal, text_from};
 use std::fmt::{Formatter, Result as FmtResult, Write};
 
 /// Parses a number below 2^64: decimal digits, or `0x` and hexadecimal digits of either case.
@@ -43,5 +43,5 @@ pub fn write_hexadecimal<W: Write>(f: &mut Formatter<W>, number: u64) -> FmtResu
 {
     let mut line = [0; CAPACITY];
     let start = put_hexadecimal(&mut line, CAPACITY, number);
-    write_from(f, &line, start)
+    f.write_str(text_from(&line, start))
 }

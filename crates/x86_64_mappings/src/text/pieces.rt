@@ -1,17 +1,16 @@
 //! Pieces of a line, which are written into a buffer one before the other, from the end of the line to its start.
-ghost use Rattle.std.specs.Fmt.{WritesOnOk, digit_glyph, digits};
+ghost use Rattle.std.specs.Fmt.{digit_glyph, digits};
 ghost use Rattle.std.specs.Prelude.{◌≡◌, ◌+◌, ◌<◌, ◌≤◌, ◌∷◌, ◌++◌, ◌⊎◌, [], codes, decimal, drop, false, length};
 ghost use Rattle.std.specs.Str.{IsAscii};
 ghost use Rattle.x86_64_mappings.specs.Numbers.{hexadecimal};
 ghost use Rattle.x86_64_mappings.specs.Texts.{size_text};
 ghost use Rattle.x86_64_tables.specs.Rights.{letter_text, rights_text};
 
-use std::fmt::{Formatter, Result as FmtResult, Write};
 use std::str::from_utf8_unchecked;
 use x86_64_tables::page_table::Rights;
 
-/// The size of a buffer.
-pub(crate) const CAPACITY: usize = 96;
+/// The size of a buffer for a line.
+pub const CAPACITY: usize = 96;
 
 /// The characters of the digits below 16.
 const DIGITS: [u8; 16] = *b"0123456789abcdef";
@@ -151,16 +150,12 @@ fn letter(holds: bool, letter: u8) -> u8
     if holds { letter } else { b'-' }
 }
 
-/// Writes the text from `start` on.
+/// Returns the text from `start` on.
 #[inline(always)]
-pub(crate) fn write_from<W: Write>(
-    f: &mut Formatter<W>,
-    line: &[u8; CAPACITY],
-    start: usize,
-) -> FmtResult
+pub(crate) fn text_from(line: &[u8; CAPACITY], start: usize) -> &str
     requires inside { start ≤ 96 }
     requires ascii { IsAscii (drop start line.now) }
-    ensures { WritesOnOk W.write_str_gives f.old result (drop start line.now) f.new }
+    ensures { result.now ≡ drop start line.now }
 {
-    f.write_str(unsafe { from_utf8_unchecked(&line[start..]) })
+    unsafe { from_utf8_unchecked(&line[start..]) }
 }

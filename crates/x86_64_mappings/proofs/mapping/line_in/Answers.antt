@@ -1,7 +1,7 @@
 use Rattle.std.proofs.lemmas.Str.Ascii.{IsAscii-nil}
-use Rattle.x86_64_mappings.proofs.mapping.write_line.Goals as goal
+use Rattle.x86_64_mappings.proofs.mapping.line_in.Goals as goal
 
-pub write_from-requires-clause-ascii : goal.write_from-requires-clause-ascii
-write_from-requires-clause-ascii g c =
+pub text_from-requires-clause-ascii : goal.text_from-requires-clause-ascii
+text_from-requires-clause-ascii c =
     c.put_place-first.ensures.ascii (c.put-first-2.ensures.ascii (c.put_rights-first.ensures.ascii (c.put-first.ensures.ascii
     (c.put_hexadecimal-first.ensures.ascii IsAscii-nil))))
