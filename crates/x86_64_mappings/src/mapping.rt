@@ -92,9 +92,7 @@ impl<L: LevelCount> MappingIn<L> {
     {
         self.frame.size()
     }
-}
 
-impl<L: LevelCount> MappingIn<L> {
     /// Returns the mapping as text in a buffer: its start, its size, the start of its frame, its rights, and its flags.
     #[inline(always)]
     pub fn text_in<'a>(&self, buffer: &'a mut [u8; CAPACITY]) -> &'a str

@@ -93,9 +93,7 @@ impl<L: LevelCount> RegionIn<L> {
     {
         (self.last.position() + 1).saturating_sub(self.first.position())
     }
-}
 
-impl<L: LevelCount> RegionIn<L> {
     /// Returns the region as text in a buffer: its first and its last address, its size, and its rights.
     #[inline(always)]
     pub fn text_in<'a>(&self, buffer: &'a mut [u8; CAPACITY]) -> &'a str
