@@ -8,5 +8,6 @@ mod Summed
 pub mod Joined
 mod Whole
 mod Spans
+mod Runs
 mod Levels
 mod Digits

@@ -25,6 +25,9 @@ span_in_half L n s below aligned =
     (λ l. let least : h * p ≤ k * p = mul-le-mul_right p l in inr (omega (arith, least, start, all)))
     (cases_lt k h)
 
+pub within_half : (L a b s t : ℕ) → a ≤ s → t ≤ b → AreInHalf L a b → AreInHalf L s t
+within_half L a b s t low high half = ⊎_elim (λ l. inl (omega (arith, l, high))) (λ l. inr (omega (arith, l, low))) half
+
 -- ---- the entries of a table
 
 pub count_span : (level : ℕ) → 1 ≤ level → position_count level ≡ 512 * span level

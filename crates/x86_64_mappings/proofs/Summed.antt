@@ -19,6 +19,7 @@ use Rattle.x86_64_mappings.specs.private.Merged.{joined, lessened}
 use Rattle.x86_64_model.specs.Position.{span}
 use Rattle.x86_64_model.specs.private.Found.{page_from}
 use Rattle.x86_64_mappings.proofs.Tables.{by_table, on_more}
+use Rattle.x86_64_mappings.proofs.Visited.{visited_same}
 
 pub summary-append : (ms ns : List Mapping) → summary_of (ms ++ ns) ≡ joined (summary_of ms) (summary_of ns)
 unfolding summary_of
@@ -175,16 +176,30 @@ sum_more asked level i words sum part less is one =
 abbrev pub pages_summary : (count : ℕ) → (some all : Rights) → Summary
 pages_summary count some all = record { count = count; bytes = count * 4096; some = some; all = all }
 
--- one page more, if all mappings are wanted
-pub page_more : (asked : Asked) (i : ℕ) (words : List ℕ) (count : ℕ) (some all r : Rights) → asked.wanted ≡ None → i < length words
-    → Page ≡ target_of 1 (get_or words i 0) → r ≡ granted every_right (get_or words i 0)
+-- the page by an entry of level one
+abbrev small_page_by : (entry : ℕ) → Mapping
+small_page_by e = page_from 0 1 every_right e
+
+-- a wanted page more
+pub page_more : (asked : Asked) (i : ℕ) (words : List ℕ) (count : ℕ) (some all r : Rights) → i < length words
+    → Page ≡ target_of 1 (get_or words i 0) → r ≡ granted every_right (get_or words i 0) → is_wanted asked.wanted (small_page_by (get_or words i 0)) ≡ true
     → pages_summary count some all ≡ summary_of (asked_on asked 1 0 every_right (take i words))
     → pages_summary (count + 1) (either some r) (both all r) ≡ summary_of (asked_on asked 1 0 every_right (take (i + 1) words))
-page_more asked i words count some all r every less page rights is =
+page_more asked i words count some all r less page rights wanted is =
     let e = get_or words i 0 in
     let more : (count + 1) * 4096 ≡ count * 4096 + 4096 = omega arith in
     (λ k. record { count = count + 1; bytes = more k; some = either some r; all = both all r })
     ∙ sum_more asked 1 i words (pages_summary count some all) (one_summary 4096 r) less is (λ start.
-    of_one (page_from start 1 every_right e) r rights
-    ∙ ap (λ wanted. summary_of (filter (is_wanted wanted) (page_from start 1 every_right e ∷ []))) (sym every)
+    of_wanted asked.wanted (small_page_by e) start r rights wanted
     ∙ ap (λ t. summary_of (filter (is_wanted asked.wanted) (mapped_by asked.words 1 start every_right e t))) page)
+
+-- a page that isn't wanted
+pub page_unwanted : (asked : Asked) (i : ℕ) (words : List ℕ) (sum : Summary) → i < length words
+    → Page ≡ target_of 1 (get_or words i 0) → is_wanted asked.wanted (small_page_by (get_or words i 0)) ≡ false
+    → sum ≡ summary_of (asked_on asked 1 0 every_right (take i words)) → sum ≡ summary_of (asked_on asked 1 0 every_right (take (i + 1) words))
+page_unwanted asked i words sum less page unwanted is =
+    let e = get_or words i 0 in
+    let s = 0 + i * span 1 in
+    visited_same asked 1 0 every_right words i less (λ ms. sum ≡ summary_of ms)
+    (ap (λ t. filter (is_wanted asked.wanted) (mapped_by asked.words 1 s every_right e t)) (sym page)
+    ∙ ap (λ b. cond b (page_from s 1 every_right e ∷ []) []) (wanted_at asked.wanted (small_page_by e) s ∙ unwanted)) is

@@ -110,7 +110,7 @@ asked_table asked (suc n) s r f words low there size =
 
 -- ---- entry by entry
 
-on-append : (asked : Asked) (level s : ℕ) (r : Rights) (front back : List ℕ) → asked_on asked level s r (front ++ back) ≡ asked_on asked level s r front ++ asked_on asked level (s + length front * span level) r back
+pub on-append : (asked : Asked) (level s : ℕ) (r : Rights) (front back : List ℕ) → asked_on asked level s r (front ++ back) ≡ asked_on asked level s r front ++ asked_on asked level (s + length front * span level) r back
 on-append asked level s r [] back = ap (λ s. asked_on asked level s r back) (let e : s ≡ s + 0 * span level = omega arith in e)
 on-append asked level s r (e ∷ front) back =
     let start : s + span level + length front * span level ≡ s + suc (length front) * span level = next_start s (length front) (span level) in

@@ -5,3 +5,4 @@ pub mod Targets
 pub mod Known
 pub mod Joined
 pub mod Extents
+pub mod Runs

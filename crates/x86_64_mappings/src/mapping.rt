@@ -93,7 +93,8 @@ impl<L: LevelCount> MappingIn<L> {
         self.frame.size()
     }
 
-    /// Returns the mapping as text in a buffer: its start, its size, the start of its frame, its rights, and its flags.
+    /// Returns the mapping as text in a buffer, which is overwritten: its start, its size, the start of its frame, its rights, and
+    /// its flags.
     #[inline(always)]
     pub fn text_in<'a>(&self, buffer: &'a mut [u8; CAPACITY]) -> &'a str
         ensures { result.now ≡ mapping_text L.LEVELS self.now }

@@ -94,7 +94,7 @@ impl<L: LevelCount> RegionIn<L> {
         (self.last.position() + 1).saturating_sub(self.first.position())
     }
 
-    /// Returns the region as text in a buffer: its first and its last address, its size, and its rights.
+    /// Returns the region as text in a buffer, which is overwritten: its first and its last address, its size, and its rights.
     #[inline(always)]
     pub fn text_in<'a>(&self, buffer: &'a mut [u8; CAPACITY]) -> &'a str
         ensures { result.now ≡ region_text L.LEVELS self.now }

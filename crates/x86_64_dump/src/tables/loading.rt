@@ -66,9 +66,8 @@ fn tables_of<S: ByteSource, G: Progress>(
 {
     let mut tables = Vec::with_capacity(alloc, numbers.len())?;
     for (i, number) in numbers.iter().enumerate() {
-        let mut table = PageTable::new();
-        fill_table(dump, read, PhysFrame::from_pfn(*number), &mut table)?;
-        tables.push_reserved(table);
+        tables.push_reserved(PageTable::new());
+        fill_table(dump, read, PhysFrame::from_pfn(*number), &mut tables[i])?;
         progress.tables(i + 1);
     }
     Ok(tables)

@@ -1,12 +1,12 @@
 //! Visits of regions.
-ghost use Rattle.std.specs.Prelude.{◌≡◌, ◌<◌, ◌≤◌, ◌+◌, ◌*◌, ◌%◌, ◌∷◌, [], OnOk, filter, length};
-ghost use Rattle.x86_64_model.specs.Position.{span as span_of, position_count};
-ghost use Rattle.x86_64_mappings.specs.Wanted.{asked_of, asked_regions, is_wanted};
+ghost use Rattle.std.specs.Prelude.{◌≡◌, ◌<◌, ◌≤◌, ◌+◌, ◌%◌, ◌∷◌, [], None, OnOk, filter, length};
+ghost use Rattle.x86_64_model.specs.Position.{position_count};
+ghost use Rattle.x86_64_mappings.specs.Wanted.{Asked, asked_of, asked_regions, is_wanted};
 ghost use Rattle.x86_64_mappings.specs.private.Joined.{region_between, listed, Joins};
-ghost use Rattle.x86_64_mappings.specs.private.Known.{asking};
 ghost use Rattle.x86_64_mappings.specs.private.Targets.{asked_in, asked_on};
 
 mod extent;
+mod runs;
 
 use crate::joiner::Joiner;
 use crate::summaries::query::Query;
@@ -15,10 +15,11 @@ use crate::summaries::table_summaries::Summaries;
 use crate::summaries::visitor::Visitor;
 use crate::{MappingIn, RegionIn, span};
 use extent::{Extent, extent_of};
+use runs::run_length;
 use x86_64_addr::addr::VirtAddrIn;
 use x86_64_addr::level_count::LevelCount;
 use x86_64_page::frame::PhysFrame;
-use x86_64_page::page::Size4KiB;
+use x86_64_page::page::{PageSize, Size4KiB};
 use x86_64_tables::page_table::{EntryTarget, PageTableEntry, PageTableFlags, Rights, has_flag};
 use x86_64_tables::phys_memory::{PageTableFrameMapping, TableMemory};
 
@@ -59,8 +60,8 @@ fn join_table<L: LevelCount, T: TableMemory, P: PageTableFrameMapping, V: Visito
 ) -> Result<(), V::Error>
     requires low { 1 ≤ table.now.level }
     requires high { table.now.level ≤ L.LEVELS }
-    requires aligned { table.now.start % span_of table.now.level ≡ 0 }
-    requires inside { table.now.start + 512 * span_of table.now.level ≤ position_count L.LEVELS }
+    requires aligned { table.now.start % position_count table.now.level ≡ 0 }
+    requires inside { table.now.start + position_count table.now.level ≤ position_count L.LEVELS }
     ensures { OnOk result (Joins V.Visits L.LEVELS
         (asked_in (asked_of T.tables P.places summaries.now) table.now)
         joiner.old visitor.old joiner.new visitor.new) }
@@ -70,8 +71,8 @@ fn join_table<L: LevelCount, T: TableMemory, P: PageTableFrameMapping, V: Visito
         return Ok(());
     };
     let entries = words.as_slice();
-    if table.level == 1 {
-        return join_small_pages(query, entries, table.start, table.above, joiner, visitor);
+    if table.level == 1 && query.wanted.is_none() {
+        return join_small_pages(entries, table.start, table.above, joiner, visitor);
     }
     let size = span(table.level);
     let mut start = table.start;
@@ -115,7 +116,7 @@ fn join_below<L: LevelCount, T: TableMemory, P: PageTableFrameMapping, V: Visito
     ) {
         Extent::Nothing => Ok(()),
         Extent::Whole(rights) => {
-            let region = region_of_span(table.level, table.start, rights);
+            let region = region_from(table.start, span(table.level + 1), rights);
             visit_joined(joiner.join(region), visitor)
         }
         Extent::Mixture => join_table(summaries, table, joiner, visitor),
@@ -123,13 +124,8 @@ fn join_below<L: LevelCount, T: TableMemory, P: PageTableFrameMapping, V: Visito
 }
 
 /// Joins the pages by the entries of a table of level one, whose span starts at a position, below entries that allow `above`.
-fn join_small_pages<
-    L: LevelCount,
-    T: TableMemory,
-    P: PageTableFrameMapping,
-    V: Visitor<RegionIn<L>>,
->(
-    query: &Query<'_, T, P>,
+/// All mappings are wanted. A run of pages with equal rights is joined at once.
+fn join_small_pages<L: LevelCount, V: Visitor<RegionIn<L>>>(
     entries: &[PageTableEntry],
     start: u64,
     above: Rights,
@@ -137,19 +133,22 @@ fn join_small_pages<
     visitor: &mut V,
 ) -> Result<(), V::Error>
     requires size { length entries.now ≡ 512 }
-    requires aligned { start % span_of 1 ≡ 0 }
-    requires inside { start + 512 * span_of 1 ≤ position_count L.LEVELS }
-    ensures { OnOk result (Joins V.Visits L.LEVELS
-        (asked_on (asked_of T.tables P.places (asking query.now)) 1 start above entries.now)
-        joiner.old visitor.old joiner.new visitor.new) }
+    requires aligned { start % position_count 1 ≡ 0 }
+    requires inside { start + position_count 1 ≤ position_count L.LEVELS }
+    ensures { (asked : Asked) → asked.wanted ≡ None → OnOk result (Joins V.Visits L.LEVELS
+        (asked_on asked 1 start above entries.now) joiner.old visitor.old joiner.new visitor.new) }
 {
-    let mut start = start;
-    for entry in entries {
-        if has_flag(entry, PageTableFlags::PRESENT) {
-            let page = MappingIn::of_page(1, start, entry, above);
-            join_page(query, &page, joiner, visitor)?;
+    let mut index = 0;
+    while index < entries.len() {
+        let run = run_length(&entries[index..]);
+        let first = &entries[index];
+        if has_flag(first, PageTableFlags::PRESENT) {
+            let position = start + index as u64 * Size4KiB::SIZE;
+            let size = run as u64 * Size4KiB::SIZE;
+            let region = region_from(position, size, above.below(first));
+            visit_joined(joiner.join(region), visitor)?;
         }
-        start += 4096;
+        index += run;
     }
     Ok(())
 }
@@ -186,16 +185,15 @@ fn visit_joined<L: LevelCount, V: Visitor<RegionIn<L>>>(
     }
 }
 
-/// Returns the region of the whole span of a table of a level.
-fn region_of_span<L: LevelCount>(level: u64, start: u64, rights: Rights) -> RegionIn<L>
-    requires low { 1 ≤ level }
-    requires high { level < 5 }
-    requires inside { start + position_count level ≤ position_count L.LEVELS }
-    ensures { result ≡ region_between start (start + position_count level) rights }
+/// Returns the region of this many bytes from a position on.
+fn region_from<L: LevelCount>(start: u64, size: u64, rights: Rights) -> RegionIn<L>
+    requires some { 0 < size }
+    requires inside { start + size ≤ position_count L.LEVELS }
+    ensures { result ≡ region_between start (start + size) rights }
 {
     RegionIn {
         first: VirtAddrIn::new_truncate(start),
-        last: VirtAddrIn::new_truncate(start + (span(level + 1) - 1)),
+        last: VirtAddrIn::new_truncate(start + (size - 1)),
         rights,
     }
 }

@@ -1,17 +1,19 @@
 //! The summaries of the tables of a memory.
-ghost use Rattle.std.specs.Prelude.{◌≡◌, ◌+◌, ◌<◌, ◌≤◌, ℕ, None, length, IfOk, IfSome};
+ghost use Rattle.std.specs.Prelude.{◌≡◌, ◌+◌, ◌<◌, ◌≤◌, ℕ, length, IfOk, IfSome};
 ghost use Rattle.x86_64_model.specs.Mappings.{every_right};
 ghost use Rattle.x86_64_mappings.specs.Summaries.{summary_of};
-ghost use Rattle.x86_64_mappings.specs.Wanted.{Asked, asked_of, asked_mappings};
+ghost use Rattle.x86_64_mappings.specs.Wanted.{asked_of, asked_mappings};
 ghost use Rattle.x86_64_mappings.specs.private.Known.{IsLevel, AreLevels, asking};
 ghost use Rattle.x86_64_mappings.specs.private.Targets.{asked_by, asked_on};
 
+use crate::MappingIn;
 use crate::summaries::query::Query;
 use crate::summaries::summary::Summary;
 use std::alloc::{AllocError, Global};
 use std::collections::HashMap;
 use std::marker::Model;
 use x86_64_addr::addr::PhysAddr;
+use x86_64_addr::level_count::FiveLevels;
 use x86_64_page::frame::PhysFrame;
 use x86_64_page::page::{PageSize, Size4KiB};
 use x86_64_tables::page_table::{EntryTarget, PageTableEntry, PageTableFlags, Rights, has_flag};
@@ -138,8 +140,8 @@ fn table_summary<T: TableMemory, P: PageTableFrameMapping>(
         return Some(Summary::NONE);
     };
     let entries = table.as_slice();
-    if below.is_empty() && query.wanted.is_none() {
-        return Some(small_pages_summary(entries));
+    if below.is_empty() {
+        return Some(small_pages_summary(query, entries));
     }
     let mut sum = Summary::NONE;
     for entry in entries {
@@ -148,21 +150,26 @@ fn table_summary<T: TableMemory, P: PageTableFrameMapping>(
     Some(sum)
 }
 
-/// Summarizes the pages by the entries of a table of level one, if all mappings are wanted.
-fn small_pages_summary(entries: &[PageTableEntry]) -> Summary
+/// Summarizes the wanted pages by the entries of a table of level one.
+fn small_pages_summary<T: TableMemory, P: PageTableFrameMapping>(
+    query: &Query<'_, T, P>,
+    entries: &[PageTableEntry],
+) -> Summary
     requires { length entries.now ≡ 512 }
-    ensures { (asked : Asked) → asked.wanted ≡ None →
-        result ≡ summary_of (asked_on asked 1 0 every_right entries.now) }
+    ensures { result ≡ summary_of
+        (asked_on (asked_of T.tables P.places (asking query.now)) 1 0 every_right entries.now) }
 {
     let mut count = 0;
     let mut some = Rights::NONE;
     let mut all = Rights::ALL;
     for entry in entries {
         if has_flag(entry, PageTableFlags::PRESENT) {
-            let rights = Rights::ALL.below(entry);
-            count += 1;
-            some = some.or(rights);
-            all = all.and(rights);
+            let page = MappingIn::<FiveLevels>::of_page(1, 0, entry, Rights::ALL);
+            if query.wants(&page) {
+                count += 1;
+                some = some.or(page.rights);
+                all = all.and(page.rights);
+            }
         }
     }
     Summary {

@@ -1,4 +1,5 @@
-use Rattle.std.proofs.Common.{◌≤◌, ℕ, ◌+◌, ◌++◌, ◌∷◌, List, [], Some, IsSome, length, map, ◌∙◌, sym, ap, ap₂, subst, arith}
+use Rattle.std.proofs.Common.{◌≡◌, ◌≤◌, ℕ, ◌+◌, ◌++◌, ◌∷◌, List, [], Some, IsSome, length, map, set, ◌∙◌, sym, ap, ap₂, subst, arith}
+use Rattle.std.proofs.Math.Seq.{set-append_seam}
 use Rattle.std.proofs.lemmas.List.{map_more, map_push}
 use Rattle.std.proofs.lemmas.List.FromFn.{map-range_with_len_more}
 use Rattle.x86_64_dump.specs.Dump.{words_of_dump}
@@ -27,7 +28,12 @@ loop-i-preserved g c = record {
       let W = words_of_dump (opened g.S.ByteSource.bytes c.args.dump.now) in
       let numbers = c.args.numbers.now in
       let read = c.in_ok-fill_table.ensures.words known ∙ ap W c.from_pfn.ensures in
-      ap (map Some) c.push_reserved.ensures.items ∙ map_push Some c.loop-i.tables.items _
+      let old = c.loop-i.tables.items in
+      let table = c.fill_table.new.table in
+      let written : set c.push_reserved.new.self.items c.loop-i.i table ≡ old ++ table ∷ [] =
+      ap (λ items. set items c.loop-i.i table) c.push_reserved.ensures.items
+      ∙ ap (λ at. set (old ++ c.new.result ∷ []) at table) (sym c.loop-i.invariant.len ∙ c.loop-i.tables.ok.0) ∙ set-append_seam old c.new.result [] table in
+      ap (map Some) written ∙ map_push Some old table
       ∙ ap₂ (λ front last. front ++ last ∷ []) (c.loop-i.invariant.tables known) read
       ∙ sym (map_more (words_numbered W) numbers c.loop-i.i 0 c.loop-i-test.true);
   told =

@@ -1,13 +1,15 @@
-use Rattle.std.proofs.Common.{◌≡◌, ◌≤◌, ◌<◌, ◌+◌, ◌-◌, ◌*◌, ◌%◌, ◌^◌, [], ◌∷◌, None, Some, sym, ap, ap₂, ◌∙◌, subst, subst₂, arith, get_or, length, take, filter, map}
+use Rattle.std.proofs.Common.{suc, ◌≡◌, ◌≤◌, ◌<◌, ◌+◌, ◌-◌, ◌*◌, ◌%◌, ◌^◌, ℕ, not, false, [], ◌∷◌, Option, None, Some, is_some, refl, sym, ap, ap₂, ◌∙◌, subst, subst₂, arith, get_or, length, take, filter, map}
 use Rattle.std.specs.Prelude.{OnOk}
 use Rattle.std.proofs.Math.Pow.{pow_mono}
+use Rattle.std.proofs.lemmas.Bool.{true≢false}
 use Rattle.std.proofs.lemmas.List.{get_or_read, take_all}
 use Rattle.std.proofs.lemmas.Nat.{pow_pos}
 use Rattle.std.proofs.lemmas.Result.{on_ok_weaker}
 use Rattle.x86_64_model.specs.Position.{span, position_count}
 use Rattle.x86_64_model.specs.Mappings.{granted}
+use Rattle.x86_64_model.proofs.Lemmas.Mappings.SpanEnds.{span-next}
 use Rattle.x86_64_mappings.specs.Wanted.{asked_of, asked_mappings, is_wanted}
-use Rattle.x86_64_mappings.specs.private.Joined.{Joins}
+use Rattle.x86_64_mappings.specs.private.Joined.{Joins, region_between}
 use Rattle.x86_64_mappings.specs.private.Placed.{placed}
 use Rattle.x86_64_mappings.specs.private.Targets.{asked_by, asked_in, asked_on}
 use Rattle.x86_64_mappings.proofs.Joined.{joins_none, joins_region, joins_both, joins_whole}
@@ -19,19 +21,18 @@ use Rattle.x86_64_mappings.proofs.summaries.regions.+regions.Goals.{join_table-i
 
 -- ---- a table below the root
 
+-- the span of a table is that of the entry that names it
+span_of_table : (level : ℕ) → span (level + 1) ≡ position_count level
+span_of_table level = ap span (let e : level + 1 ≡ suc level = omega arith in e) ∙ span-next level
+
 pub join_below-join_table-requires : goal.join_below-join_table-requires
 join_below-join_table-requires g t c κs within =
     let level = c.args.table.now.level in
-    let low : 1 ≤ level = c.requires.low in
-    let high = c.requires.high in
-    let size = count_span level low in (
+    let high = c.requires.high in (
       let d : 2 * level + 1 ≡ t = c.decreases in let m : 2 * level < t = omega (arith, d) in m,
       (
         within.0,
-        (
-          within.1.0,
-          (within.1.1.0, (within.1.1.1.0, (within.1.1.1.1, (low, (omega (arith, high), (table_aligned level c.args.table.now.start low c.requires.aligned, omega (arith, size, c.requires.inside))))))),
-        ),
+        (within.1.0, (within.1.1.0, (within.1.1.1.0, (within.1.1.1.1, (c.requires.low, (omega (arith, high), (c.requires.aligned, c.requires.inside))))))),
       ),
     )
 
@@ -49,8 +50,8 @@ join_below-returns-in-Whole g t c =
     let mappings = map (placed c.args.table.now.start c.args.table.now.above) (asked_mappings asked c.args.table.now.level c.args.table.now.frame) in
     on_ok_weaker c.visit_joined.result
     (λ visited. joins_whole g.V.Visitor.Visits L c.args.table.now.start (c.args.table.now.start + position_count c.args.table.now.level) c.in-Whole.rights mappings (omega (arith, some)) (c.in-Whole.ensures.extent asked c.args.table.now.frame c.args.table.now.start c.of.ensures)
-    (span_in_half L c.args.table.now.level c.args.table.now.start c.requires.high c.requires.aligned) c.region_of_span-region.result c.region_of_span-region.ensures _ _ _ _
-    (joins_region g.V.Visitor.Visits L c.region_of_span-region.result _ c.join.result _ _ _ c.join.ensures.given c.join.ensures.held visited))
+    (span_in_half L c.args.table.now.level c.args.table.now.start c.requires.high c.requires.aligned) c.region_from-region.result (c.region_from-region.ensures ∙ ap (λ size. region_between c.args.table.now.start (c.args.table.now.start + size) c.in-Whole.rights) (c.span.ensures ∙ span_of_table c.args.table.now.level)) _ _ _ _
+    (joins_region g.V.Visitor.Visits L c.region_from-region.result _ c.join.result _ _ _ c.join.ensures.given c.join.ensures.held visited))
     c.visit_joined.ensures
 
 -- ---- a table
@@ -65,8 +66,13 @@ join_table-returns-in_default g t c =
     (sym (ap (map (placed c.args.table.now.start c.args.table.now.above)) (asked_none asked c.args.table.now.level c.args.table.now.frame none)))
     (joins_none g.V.Visitor.Visits g.L.LevelCount.LEVELS g.met.V.Visitor.none c.args.joiner.now c.args.visitor.now)
 
-pub join_table-returns-then-table-eq1 : goal.join_table-returns-then-table-eq1
-join_table-returns-then-table-eq1 g t c =
+-- an option that isn't some is none
+is_nothing : (o : Option ℕ) → is_some o ≡ false → o ≡ None
+is_nothing None not_some = refl
+is_nothing (Some x) not_some = absurd (true≢false not_some)
+
+pub join_table-returns-then-is_none : goal.join_table-returns-then-is_none
+join_table-returns-then-is_none g t c =
     let asking_by = asked_of g.T.TableMemory.tables g.P.PageTableFrameMapping.places in
     let asked = asking_by c.args.summaries.now in
     let words = c.as_slice-entries.result.now in
@@ -75,11 +81,11 @@ join_table-returns-then-table-eq1 g t c =
     let there : asked.words c.args.table.now.frame ≡ Some words =
     ap (λ a. (asking_by a).words c.args.table.now.frame) (sym c.query-query.ensures) ∙ sym c.in-Some.ensures ∙ ap Some (sym c.as_slice-entries.ensures.words) in
     let size : length words ≡ 512 = ap length c.as_slice-entries.ensures.words ∙ c.as_slice-entries.ensures.size in
+    let every : asked.wanted ≡ None = ap (λ a. a.wanted) (sym c.query-query.ensures) ∙ is_nothing c.query-query.result.now.wanted (c.is_none.ensures ∙ ap not c.if-is_none.true) in
     subst (λ ms. OnOk c.join_small_pages.result (Joins g.V.Visitor.Visits g.L.LevelCount.LEVELS ms c.args.joiner.now c.args.visitor.now c.join_small_pages.new.joiner c.join_small_pages.new.visitor))
-    (ap (λ a. asked_on (asking_by a) 1 s r words) c.query-query.ensures
-    ∙ ap (λ level. asked_on asked level s r words) (sym c.if-table-eq1.true)
+    (ap (λ level. asked_on asked level s r words) (sym c.if-table-eq1.true)
     ∙ sym (asked_table asked c.args.table.now.level s r c.args.table.now.frame words c.requires.low there size))
-    c.join_small_pages.ensures
+    (c.join_small_pages.ensures asked every)
 
 pub join_table-loop-entry-init : goal.join_table-loop-entry-init
 join_table-loop-entry-init g t c = record {
@@ -96,9 +102,10 @@ join_table-join_below-requires g t c κs within =
     let low : 1 < level = c.in-Table.ensures.table tt in
     let high = c.requires.high in
     let start : c.loop-entry.start ≡ s + i * w = c.loop-entry.invariant.start in
-    let aligned : c.loop-entry.start % w ≡ 0 = ap (λ s. s % w) start ∙ start_aligned s i w c.requires.aligned in
+    let aligned : c.loop-entry.start % w ≡ 0 = ap (λ s. s % w) start ∙ start_aligned s i w (table_aligned level s c.requires.low c.requires.aligned) in
     let size : length c.as_slice-entries.result.now ≡ 512 = ap length c.as_slice-entries.ensures.words ∙ c.as_slice-entries.ensures.size in
-    let inside = start_inside s i w (position_count g.L.LevelCount.LEVELS) (omega (arith, c.loop-entry-test.true, size)) c.requires.inside in
+    let count = count_span level c.requires.low in
+    let inside = start_inside s i w (position_count g.L.LevelCount.LEVELS) (omega (arith, c.loop-entry-test.true, size)) (omega (arith, count, c.requires.inside)) in
     let below = c.below-below.result in
     let level_is : below.level ≡ level - 1 = ap (λ table. table.level) c.below-below.ensures in
     let start_is : below.start ≡ c.loop-entry.start = ap (λ table. table.start) c.below-below.ensures in
@@ -121,7 +128,8 @@ join_table-overflow_add-start g t c =
     let w = span c.args.table.now.level in
     let few : position_count g.L.LevelCount.LEVELS ≤ 2 ^ 57 = pow_mono (let most : 12 + 9 * g.L.LevelCount.LEVELS ≤ 57 = (let five = g.L.LevelCount.at_most_five in omega (arith, five)) in most) in
     let size : length c.as_slice-entries.result.now ≡ 512 = ap length c.as_slice-entries.ensures.words ∙ c.as_slice-entries.ensures.size in
-    let inside = start_inside c.args.table.now.start c.loop-entry.entry-index w (position_count g.L.LevelCount.LEVELS) (omega (arith, c.loop-entry-test.true, size)) c.requires.inside in
+    let count = count_span c.args.table.now.level c.requires.low in
+    let inside = start_inside c.args.table.now.start c.loop-entry.entry-index w (position_count g.L.LevelCount.LEVELS) (omega (arith, c.loop-entry-test.true, size)) (omega (arith, count, c.requires.inside)) in
     omega (arith, c.loop-entry.invariant.start, c.span-size.ensures, inside, few)
 
 pub join_table-loop-entry-preserved : goal.join_table-loop-entry-preserved
@@ -138,7 +146,7 @@ join_table-loop-entry-preserved g t c =
     let less : i < length words = c.loop-entry-test.true in
     let entry : e ≡ get_or words i 0 = get_or_read words i e less c.entry-item.is 0 in
     let start : c.loop-entry.start ≡ s + i * span level = c.loop-entry.invariant.start in
-    let aligned : c.loop-entry.start % span level ≡ 0 = ap (λ s. s % span level) start ∙ start_aligned s i (span level) c.requires.aligned in
+    let aligned : c.loop-entry.start % span level ≡ 0 = ap (λ s. s % span level) start ∙ start_aligned s i (span level) (table_aligned level s c.requires.low c.requires.aligned) in
     let here : asked_by asked level (s + i * span level) r (get_or words i 0) ≡ asked_by asked level c.loop-entry.start r e = (λ k. asked_by asked level (sym start k) r (sym entry k)) in
     let wanted : c.query-query.result.now.wanted ≡ asked.wanted = ap (λ a. a.wanted) c.query-query.ensures in
     let held = c.args.joiner.now in

@@ -1,5 +1,4 @@
-use Rattle.std.proofs.Common.{◌≡◌, ◌<◌, ◌+◌, [], length, get_or, Option, None, Some, is_some, not, false, ℕ, refl, sym, ap, ◌∙◌, subst, arith, eqb-true}
-use Rattle.std.proofs.lemmas.Bool.{true≢false}
+use Rattle.std.proofs.Common.{◌≡◌, ◌<◌, ◌+◌, [], length, get_or, Some, refl, sym, ap, ◌∙◌, subst, arith, eqb-true}
 use Rattle.std.proofs.lemmas.List.{get_or_read, take_all}
 use Rattle.x86_64_mappings.specs.Summaries.{summary_of}
 use Rattle.x86_64_mappings.specs.Wanted.{asked_of, asked_mappings}
@@ -16,20 +15,15 @@ returns-in_default g c =
     let level = length c.args.below.now + 1 in
     of_none (asked_mappings asked level c.args.frame) (asked_none asked level c.args.frame (sym c.table.ensures ∙ none_copied c.table.result c.in_default.not-Some))
 
--- an option that isn't some is none
-is_nothing : (o : Option ℕ) → is_some o ≡ false → o ≡ None
-is_nothing None not_some = refl
-is_nothing (Some x) not_some = absurd (true≢false not_some)
-
-pub returns-then-is_none : goal.returns-then-is_none
-returns-then-is_none g c =
+pub returns-then-is_empty : goal.returns-then-is_empty
+returns-then-is_empty g c =
     let asked = asked_of g.T.TableMemory.tables g.P.PageTableFrameMapping.places (asking c.args.query.now) in
     let words = c.as_slice-entries.result.now in
     let there : asked.words c.args.frame ≡ Some words = sym c.in-Some.ensures ∙ ap Some (sym c.as_slice-entries.ensures.words) in
     let size : length words ≡ 512 = ap length c.as_slice-entries.ensures.words ∙ c.as_slice-entries.ensures.size in
     let level = length c.args.below.now + 1 in
     let lowest : 1 ≡ level = ap (λ n. n + 1) (sym (eqb-true _ _ (sym c.is_empty.ensures ∙ c.if-is_empty.true))) in
-    c.small_pages_summary.ensures asked (is_nothing asked.wanted (c.is_none.ensures ∙ ap not c.if-is_none.true))
+    c.small_pages_summary.ensures
     ∙ ap summary_of (ap (λ level. asked_on asked level 0 every_right words) lowest
     ∙ sym (asked_table asked level 0 every_right c.args.frame words (omega arith) there size)
     ∙ asked_here asked level c.args.frame)
