@@ -43,8 +43,8 @@ loop-index-preserved g c =
     let few : n ≤ length rest = subst (λ rest. n ≤ length rest) past c.run_length-run.ensures.within in
     let many : length run ≡ n = length-take-le n rest few in
     let alike : AreAlike e run = λ k less. ap page_bits (get_or-take n rest k 0 (omega (arith, less, many)))
-        ∙ subst (λ rest. page_bits (get_or rest k 0) ≡ page_bits (get_or rest 0 0)) past (c.run_length-run.ensures.alike k (omega (arith, less, many)))
-        ∙ ap page_bits (get_or-drop i words 0 0 ∙ ap (λ k. get_or words k 0) (let z : i + 0 ≡ i = omega arith in z) ∙ sym entry) in
+    ∙ subst (λ rest. page_bits (get_or rest k 0) ≡ page_bits (get_or rest 0 0)) past (c.run_length-run.ensures.alike k (omega (arith, less, many)))
+    ∙ ap page_bits (get_or-drop i words 0 0 ∙ ap (λ k. get_or words k 0) (let z : i + 0 ≡ i = omega arith in z) ∙ sym entry) in
     let most : i + n ≤ 512 = omega (arith, few, left, less, c.requires.size) in
     record {
       within = omega (arith, most);
