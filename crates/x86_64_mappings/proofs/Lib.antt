@@ -1,6 +1,7 @@
 mod Entries
 mod Steps
 mod Pages
+mod PageBits
 pub mod Placed
 pub mod Tables
 pub mod Visited

@@ -30,6 +30,10 @@ within_half L a b s t low high half = ⊎_elim (λ l. inl (omega (arith, l, high
 
 -- ---- the entries of a table
 
+-- the span of a table is that of the entry that names it
+pub span_of_table : (level : ℕ) → span (level + 1) ≡ position_count level
+span_of_table level = ap span (let e : level + 1 ≡ suc level = omega arith in e) ∙ span-next level
+
 pub count_span : (level : ℕ) → 1 ≤ level → position_count level ≡ 512 * span level
 count_span zero low = absurd (omega arith)
 count_span (suc n) low = count-next n ∙ ap (λ w. 512 * w) (sym (span-next n))

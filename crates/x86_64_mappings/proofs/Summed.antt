@@ -1,11 +1,12 @@
 -- Summaries of mappings, part by part.
-use Rattle.std.proofs.Common.{◌≡◌, ◌<◌, ◌+◌, ◌-◌, ◌*◌, ◌==◌, ℕ, ◌&&◌, ◌||◌, Bool, true, false, cond, List, [], ◌∷◌, ◌++◌, length, get_or, take, map, filter, sum_by, Option, Some, None, refl, sym, ap, ◌∙◌, arith, length-append}
+use Rattle.std.proofs.Common.{◌≡◌, ◌<◌, ◌+◌, ◌-◌, ◌*◌, ◌==◌, ℕ, ◌&&◌, ◌||◌, Bool, true, false, cond, List, [], ◌∷◌, ◌++◌, length, get_or, take, map, filter, sum_by, Option, Some, None, bit_and, bit_or, refl, sym, ap, ◌∙◌, arith, length-append}
 use Rattle.std.specs.List.{list_all, list_any}
 use Rattle.std.proofs.Math.Dec.{eqb-suc-zero}
 use Rattle.std.proofs.lemmas.Bool.{cond-false, true≢false}
 use Rattle.std.proofs.lemmas.List.Sums.{sum_by-append, sum_by-cons}
 use Rattle.std.proofs.lemmas.List.{length-map}
 use Rattle.std.proofs.lemmas.List.Folds.{list_any-append, list_all-append}
+use Rattle.x86_64_model.specs.Entry.{has}
 use Rattle.x86_64_model.specs.Mappings.{Rights, Mapping, every_right, granted}
 use Rattle.x86_64_mappings.specs.declared.summaries.summary.Summary.{Summary}
 use Rattle.x86_64_mappings.specs.Summaries.{summary_of}
@@ -14,10 +15,11 @@ use Rattle.x86_64_tables.specs.declared.page_table.target.EntryTarget.TheVariant
 use Rattle.x86_64_mappings.specs.private.Placed.{placed}
 use Rattle.x86_64_tables.specs.EntryTargets.{target_of}
 use Rattle.x86_64_mappings.specs.private.Targets.{asked_by, asked_on, mapped_by}
-use Rattle.x86_64_tables.specs.Rights.{both, either}
-use Rattle.x86_64_mappings.specs.private.Merged.{joined, lessened}
+use Rattle.x86_64_tables.specs.Rights.{both}
+use Rattle.x86_64_mappings.specs.private.Merged.{joined, lessened, of_bits}
 use Rattle.x86_64_model.specs.Position.{span}
 use Rattle.x86_64_model.specs.private.Found.{page_from}
+use Rattle.x86_64_mappings.proofs.PageBits.{has_either, has_both, lacks_either, lacks_both}
 use Rattle.x86_64_mappings.proofs.Tables.{by_table, on_more}
 use Rattle.x86_64_mappings.proofs.Visited.{visited_same}
 
@@ -172,25 +174,36 @@ sum_more asked level i words sum part less is one =
 
 -- ---- small pages
 
--- the summary of small pages, by their number and their rights
-abbrev pub pages_summary : (count : ℕ) → (some all : Rights) → Summary
-pages_summary count some all = record { count = count; bytes = count * 4096; some = some; all = all }
-
 -- the page by an entry of level one
-abbrev small_page_by : (entry : ℕ) → Mapping
+abbrev pub small_page_by : (entry : ℕ) → Mapping
 small_page_by e = page_from 0 1 every_right e
 
+-- no page
+pub no_bits : of_bits 0 0 0xffff_ffff_ffff_ffff ≡ summary_of []
+unfolding summary_of has
+no_bits = refl
+
+-- the bits of one entry more
+bits_more : (count some all e : ℕ) → of_bits (count + 1) (bit_or some e) (bit_and all e) ≡ joined (of_bits count some all) (one_summary 4096 (granted every_right e))
+bits_more count some all e =
+    let more : (count + 1) * 4096 ≡ count * 4096 + 4096 = omega arith in λ i. record {
+      count = count + 1;
+      bytes = more i;
+      some = record { write = has_either some e 1 i; user = has_either some e 2 i; execute = lacks_either all e 63 i };
+      all = record { write = has_both all e 1 i; user = has_both all e 2 i; execute = lacks_both some e 63 i };
+    }
+
 -- a wanted page more
-pub page_more : (asked : Asked) (i : ℕ) (words : List ℕ) (count : ℕ) (some all r : Rights) → i < length words
-    → Page ≡ target_of 1 (get_or words i 0) → r ≡ granted every_right (get_or words i 0) → is_wanted asked.wanted (small_page_by (get_or words i 0)) ≡ true
-    → pages_summary count some all ≡ summary_of (asked_on asked 1 0 every_right (take i words))
-    → pages_summary (count + 1) (either some r) (both all r) ≡ summary_of (asked_on asked 1 0 every_right (take (i + 1) words))
-page_more asked i words count some all r less page rights wanted is =
+pub page_more : (asked : Asked) (i : ℕ) (words : List ℕ) (count some all : ℕ) → (let e = get_or words i 0 in i < length words
+    → Page ≡ target_of 1 e → is_wanted asked.wanted (small_page_by e) ≡ true
+    → of_bits count some all ≡ summary_of (asked_on asked 1 0 every_right (take i words))
+    → of_bits (count + 1) (bit_or some e) (bit_and all e) ≡ summary_of (asked_on asked 1 0 every_right (take (i + 1) words)))
+page_more asked i words count some all less page wanted is =
     let e = get_or words i 0 in
-    let more : (count + 1) * 4096 ≡ count * 4096 + 4096 = omega arith in
-    (λ k. record { count = count + 1; bytes = more k; some = either some r; all = both all r })
-    ∙ sum_more asked 1 i words (pages_summary count some all) (one_summary 4096 r) less is (λ start.
-    of_wanted asked.wanted (small_page_by e) start r rights wanted
+    let r = granted every_right e in
+    bits_more count some all e
+    ∙ sum_more asked 1 i words (of_bits count some all) (one_summary 4096 r) less is (λ start.
+    of_wanted asked.wanted (small_page_by e) start r refl wanted
     ∙ ap (λ t. summary_of (filter (is_wanted asked.wanted) (mapped_by asked.words 1 start every_right e t))) page)
 
 -- a page that isn't wanted

@@ -1,5 +1,5 @@
 -- Mappings that fill a span and have equal rights leave no gap.
-use Rattle.std.proofs.Common.{suc, ◌≡◌, ◌≤◌, ◌+◌, ◌||◌, ℕ, Bool, true, false, cond, List, [], ◌∷◌, filter, map, inl, inr, refl, sym, ap, ◌∙◌, subst, arith}
+use Rattle.std.proofs.Common.{◌≡◌, ◌≤◌, ◌+◌, ◌||◌, ℕ, Bool, true, false, cond, List, [], ◌∷◌, filter, map, inl, inr, refl, sym, ap, ◌∙◌, subst, arith}
 use Rattle.std.specs.List.{AllByRecursion, list_all, list_any, sum_by}
 use Rattle.std.proofs.lemmas.List.Sums.{sum_by-cons}
 use Rattle.x86_64_model.specs.Lists.{In}
@@ -8,13 +8,13 @@ use Rattle.x86_64_model.specs.Position.{span, position_count}
 use Rattle.x86_64_model.proofs.Lemmas.Lists.All.{all_in, every_in}
 use Rattle.x86_64_model.proofs.Lemmas.Mappings.Chains.{IsChain, chain_wider}
 use Rattle.x86_64_model.proofs.Lemmas.Mappings.Positions.{mappings_chain}
-use Rattle.x86_64_model.proofs.Lemmas.Mappings.SpanEnds.{span-next}
 use Rattle.x86_64_mappings.specs.declared.summaries.summary.Summary.{Summary}
 use Rattle.x86_64_mappings.specs.Summaries.{summary_of}
 use Rattle.x86_64_mappings.specs.Wanted.{Asked, is_wanted, asked_mappings}
 use Rattle.x86_64_mappings.specs.private.Extents.{AreWhole}
 use Rattle.x86_64_mappings.specs.private.Merged.{lessened}
 use Rattle.x86_64_mappings.specs.private.Placed.{placed}
+use Rattle.x86_64_mappings.proofs.Spans.{span_of_table}
 use Rattle.x86_64_mappings.proofs.Summed.{summary-placed}
 
 abbrev pub sizes : List Mapping → ℕ
@@ -102,6 +102,6 @@ unfolding summary_of
 whole_span asked n f s r b is full same =
     let ms = map (placed s r) (asked_mappings asked n f) in
     let its : b ≡ summary_of ms = is ∙ sym (summary-placed s r (asked_mappings asked n f)) in
-    let bytes : sizes ms ≡ position_count n = ap (λ b. b.bytes) (sym its) ∙ full ∙ ap span (let e : n + 1 ≡ suc n = omega arith in e) ∙ span-next n in
+    let bytes : sizes ms ≡ position_count n = ap (λ b. b.bytes) (sym its) ∙ full ∙ span_of_table n in
     let rights : some_rights ms ≡ common_rights ms = ap (λ b. b.some) (sym its) ∙ same ∙ ap (λ b. b.all) its in
     subst (λ rights. AreWhole s (s + position_count n) rights ms) (ap (λ b. b.all) (sym its)) (are_whole s (s + position_count n) ms (asked_chain asked n f s r) (ap (λ z. s + z) bytes) rights)

@@ -1,6 +1,7 @@
 //! Queries: a memory, and which mappings of its tables are wanted.
-ghost use Rattle.std.specs.Prelude.{◌≡◌, ◌<◌, ◌≤◌, ◌∷◌, [], ℕ, true, filter};
+ghost use Rattle.std.specs.Prelude.{◌≡◌, ◌<◌, ◌≤◌, ◌*◌, ◌/◌, ◌∷◌, ◌==◌, [], ℕ, true, bit_and, filter};
 ghost use Rattle.std.specs.Option.{option_copied};
+ghost use Rattle.x86_64_model.specs.Entry.{address};
 ghost use Rattle.x86_64_model.specs.Mappings.{maps_page as page_mapped, every_right};
 ghost use Rattle.x86_64_model.specs.private.Found.{page_from};
 ghost use Rattle.x86_64_mappings.specs.Summaries.{summary_of};
@@ -51,6 +52,20 @@ impl<'a, T, P> Query<'a, T, P> {
         }
     }
 
+    /// Returns the test that tells which pages by entries of level one are wanted.
+    pub(crate) fn small_page_test(&self) -> FrameTest
+        ensures { (entry : ℕ) → (bit_and (address entry) result.mask == result.frame)
+            ≡ is_wanted self.now.wanted (page_from 0 1 every_right entry) }
+    {
+        match self.wanted {
+            Some(address) => FrameTest {
+                mask: u64::MAX,
+                frame: frame_of(address),
+            },
+            None => FrameTest { mask: 0, frame: 0 },
+        }
+    }
+
     /// Returns the summary of the mapping by an entry of a level that maps a page, or of no mappings if it isn't wanted.
     pub(crate) fn page_summary(&self, level: u64, entry: &PageTableEntry) -> Summary
         requires low { 1 ≤ level }
@@ -65,4 +80,32 @@ impl<'a, T, P> Query<'a, T, P> {
             Summary::NONE
         }
     }
+}
+
+/// A test of entries of level one by the frames that they name.
+#[derive(Clone, Copy)]
+pub(crate) struct FrameTest {
+    /// The bits of the frame's address that are tested: all, or none if every entry passes.
+    mask: u64,
+    /// What these bits are in an entry that passes.
+    frame: u64,
+}
+
+impl FrameTest {
+    /// Returns true if an entry passes.
+    #[inline(always)]
+    pub(crate) fn passes(self, entry: &PageTableEntry) -> bool
+        ensures { result ≡ (bit_and (address entry.now) self.mask == self.frame) }
+    {
+        entry.addr().as_u64() & self.mask == self.frame
+    }
+}
+
+/// Returns the start address of the 4KiB frame that contains an address.
+fn frame_of(address: PhysAddr) -> u64
+    ensures { result ≡ address / 4096 * 4096 }
+{
+    PhysFrame::<Size4KiB>::containing_address(address)
+        .start_address()
+        .as_u64()
 }

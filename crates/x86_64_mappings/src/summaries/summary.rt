@@ -1,8 +1,9 @@
 //! Summaries of mappings.
-ghost use Rattle.std.specs.Prelude.{◌≡◌, ◌+◌, IfSome};
+ghost use Rattle.std.specs.Prelude.{◌≡◌, ◌≤◌, ◌+◌, IfSome};
 ghost use Rattle.x86_64_mappings.specs.private.Merged as merged;
 
-use x86_64_tables::page_table::Rights;
+use x86_64_page::page::{PageSize, Size4KiB};
+use x86_64_tables::page_table::{PageTableEntry, Rights};
 
 /// A summary of mappings.
 #[derive(Clone, Copy)]
@@ -35,6 +36,28 @@ impl Summary {
             bytes,
             some: rights,
             all: rights,
+        }
+    }
+
+    /// Returns the summary of pages by entries of level one: their number, the bits that at least one of the entries has, and
+    /// the bits that all have. `NO_EXECUTE` denies a right, the other flags grant one.
+    pub(crate) fn of_small_pages(count: u64, some_bits: u64, all_bits: u64) -> Summary
+        requires { count ≤ 512 }
+        ensures { result ≡ merged.of_bits count some_bits all_bits }
+    {
+        let most = Rights::ALL.below(&PageTableEntry::from_word(some_bits));
+        let least = Rights::ALL.below(&PageTableEntry::from_word(all_bits));
+        Summary {
+            count,
+            bytes: count * Size4KiB::SIZE,
+            some: Rights {
+                execute: least.execute,
+                ..most
+            },
+            all: Rights {
+                execute: most.execute,
+                ..least
+            },
         }
     }
 

@@ -6,16 +6,14 @@ ghost use Rattle.x86_64_mappings.specs.Wanted.{asked_of, asked_mappings};
 ghost use Rattle.x86_64_mappings.specs.private.Known.{IsLevel, AreLevels, asking};
 ghost use Rattle.x86_64_mappings.specs.private.Targets.{asked_by, asked_on};
 
-use crate::MappingIn;
 use crate::summaries::query::Query;
 use crate::summaries::summary::Summary;
 use std::alloc::{AllocError, Global};
 use std::collections::HashMap;
 use std::marker::Model;
 use x86_64_addr::addr::PhysAddr;
-use x86_64_addr::level_count::FiveLevels;
 use x86_64_page::frame::PhysFrame;
-use x86_64_page::page::{PageSize, Size4KiB};
+use x86_64_page::page::Size4KiB;
 use x86_64_tables::page_table::{EntryTarget, PageTableEntry, PageTableFlags, Rights, has_flag};
 use x86_64_tables::phys_memory::{PageTableFrameMapping, TableMemory};
 
@@ -150,7 +148,8 @@ fn table_summary<T: TableMemory, P: PageTableFrameMapping>(
     Some(sum)
 }
 
-/// Summarizes the wanted pages by the entries of a table of level one.
+/// Summarizes the wanted pages by the entries of a table of level one. The loop collects their bits, so that the compiler takes
+/// several entries at once. What the bits say of rights is derived at the end.
 fn small_pages_summary<T: TableMemory, P: PageTableFrameMapping>(
     query: &Query<'_, T, P>,
     entries: &[PageTableEntry],
@@ -159,25 +158,19 @@ fn small_pages_summary<T: TableMemory, P: PageTableFrameMapping>(
     ensures { result ≡ summary_of
         (asked_on (asked_of T.tables P.places (asking query.now)) 1 0 every_right entries.now) }
 {
+    let test = query.small_page_test();
     let mut count = 0;
-    let mut some = Rights::NONE;
-    let mut all = Rights::ALL;
+    let mut some = 0;
+    let mut all = u64::MAX;
     for entry in entries {
-        if has_flag(entry, PageTableFlags::PRESENT) {
-            let page = MappingIn::<FiveLevels>::of_page(1, 0, entry, Rights::ALL);
-            if query.wants(&page) {
-                count += 1;
-                some = some.or(page.rights);
-                all = all.and(page.rights);
-            }
+        if has_flag(entry, PageTableFlags::PRESENT) && test.passes(entry) {
+            let word = entry.word();
+            count += 1;
+            some |= word;
+            all &= word;
         }
     }
-    Summary {
-        count,
-        bytes: count * Size4KiB::SIZE,
-        some,
-        all,
-    }
+    Summary::of_small_pages(count, some, all)
 }
 
 /// Summarizes what an entry of a table maps, given the summaries of the levels below. Returns `None` if the summary of the

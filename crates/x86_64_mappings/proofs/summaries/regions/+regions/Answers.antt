@@ -1,4 +1,4 @@
-use Rattle.std.proofs.Common.{suc, ◌≡◌, ◌≤◌, ◌<◌, ◌+◌, ◌-◌, ◌*◌, ◌%◌, ◌^◌, ℕ, not, false, [], ◌∷◌, Option, None, Some, is_some, refl, sym, ap, ap₂, ◌∙◌, subst, subst₂, arith, get_or, length, take, filter, map}
+use Rattle.std.proofs.Common.{◌≡◌, ◌≤◌, ◌<◌, ◌+◌, ◌-◌, ◌*◌, ◌%◌, ◌^◌, ℕ, not, false, [], ◌∷◌, Option, None, Some, is_some, refl, sym, ap, ap₂, ◌∙◌, subst, subst₂, arith, get_or, length, take, filter, map}
 use Rattle.std.specs.Prelude.{OnOk}
 use Rattle.std.proofs.Math.Pow.{pow_mono}
 use Rattle.std.proofs.lemmas.Bool.{true≢false}
@@ -7,23 +7,18 @@ use Rattle.std.proofs.lemmas.Nat.{pow_pos}
 use Rattle.std.proofs.lemmas.Result.{on_ok_weaker}
 use Rattle.x86_64_model.specs.Position.{span, position_count}
 use Rattle.x86_64_model.specs.Mappings.{granted}
-use Rattle.x86_64_model.proofs.Lemmas.Mappings.SpanEnds.{span-next}
 use Rattle.x86_64_mappings.specs.Wanted.{asked_of, asked_mappings, is_wanted}
 use Rattle.x86_64_mappings.specs.private.Joined.{Joins, region_between}
 use Rattle.x86_64_mappings.specs.private.Placed.{placed}
 use Rattle.x86_64_mappings.specs.private.Targets.{asked_by, asked_in, asked_on}
 use Rattle.x86_64_mappings.proofs.Joined.{joins_none, joins_region, joins_both, joins_whole}
-use Rattle.x86_64_mappings.proofs.Spans.{span_in_half, count_span, table_aligned}
+use Rattle.x86_64_mappings.proofs.Spans.{span_in_half, span_of_table, count_span, table_aligned}
 use Rattle.x86_64_mappings.proofs.Tables.{asked_none, asked_table, by_nothing, by_page, by_table, none_copied}
 use Rattle.x86_64_mappings.proofs.Visited.{next_start, start_inside, start_aligned, visited_more, visited_same}
 use Rattle.x86_64_mappings.proofs.summaries.regions.+regions.Goals as goal
 use Rattle.x86_64_mappings.proofs.summaries.regions.+regions.Goals.{join_table-in-Page+in_ok-join_page-in-Page, join_table-in-Table+in_ok-join_below-in-Table, join_table-in-Nothing}
 
 -- ---- a table below the root
-
--- the span of a table is that of the entry that names it
-span_of_table : (level : ℕ) → span (level + 1) ≡ position_count level
-span_of_table level = ap span (let e : level + 1 ≡ suc level = omega arith in e) ∙ span-next level
 
 pub join_below-join_table-requires : goal.join_below-join_table-requires
 join_below-join_table-requires g t c κs within =

@@ -1,14 +1,15 @@
 use Rattle.std.proofs.Common.{◌≡◌, ◌<◌, ◌≤◌, ◌+◌, ◌-◌, ◌*◌, ◌++◌, true, false, length, get_or, take, drop, sym, ap, ◌∙◌, subst, subst₂, arith, append-nil}
 use Rattle.std.proofs.Math.Seq.{take-add}
-use Rattle.std.proofs.lemmas.List.{get_or-drop, get_or-take, get_or_read, length-drop, length-take-le, take_all, take_rest}
+use Rattle.std.proofs.lemmas.List.{get_or-drop, get_or_read, length-drop, length-take-le, take_all, take_rest}
+use Rattle.std.specs.List.{prefix_len}
 use Rattle.x86_64_model.specs.Entry.{present}
 use Rattle.x86_64_model.specs.Mappings.{granted}
 use Rattle.x86_64_model.specs.Position.{position_count}
 use Rattle.x86_64_mappings.specs.private.Joined.{Joins, region_between}
-use Rattle.x86_64_mappings.specs.private.Runs.{page_bits}
+use Rattle.x86_64_mappings.specs.private.Runs.{is_like}
 use Rattle.x86_64_mappings.specs.private.Targets.{asked_on}
 use Rattle.x86_64_mappings.proofs.Joined.{joins_none, joins_both, joins_region, joins_whole}
-use Rattle.x86_64_mappings.proofs.Runs.{AreAlike, run_whole, run_nothing}
+use Rattle.x86_64_mappings.proofs.Runs.{AreAlike, run_some, run_within, run_alike, run_whole, run_nothing}
 use Rattle.x86_64_mappings.proofs.Spans.{span_in_half, within_half}
 use Rattle.x86_64_mappings.proofs.Tables.{on-append}
 use Rattle.x86_64_mappings.proofs.summaries.regions.join_small_pages.Goals as goal
@@ -19,6 +20,21 @@ loop-index-init g c = record {
   within = omega arith;
   joined = λ asked every. joins_none g.V.Visitor.Visits g.L.LevelCount.LEVELS g.met.V.Visitor.none _ _;
 }
+
+pub overflow_mul-size : goal.overflow_mul-size
+overflow_mul-size g c =
+    let within = run_within c.args.entries.now c.loop-index.index _ c.run_length-run.result c.loop-index-test.true c.run_length-run.ensures in
+    omega (arith, within, c.requires.size)
+
+pub region_from-region-requires-clause-inside : goal.region_from-region-requires-clause-inside
+region_from-region-requires-clause-inside g c =
+    let within = run_within c.args.entries.now c.loop-index.index _ c.run_length-run.result c.loop-index-test.true c.run_length-run.ensures in
+    omega (arith, within, c.requires.size, c.requires.inside)
+
+pub overflow_add-index : goal.overflow_add-index
+overflow_add-index g c =
+    let within = run_within c.args.entries.now c.loop-index.index _ c.run_length-run.result c.loop-index-test.true c.run_length-run.ensures in
+    omega (arith, within, c.requires.size)
 
 pub loop-index-preserved : goal.loop-index-preserved
 loop-index-preserved g c =
@@ -40,14 +56,15 @@ loop-index-preserved g c =
     let old = c.args.visitor.now in
     let left : length rest ≡ length words - i = length-drop i words in
     let past = take_rest words i in
-    let few : n ≤ length rest = subst (λ rest. n ≤ length rest) past c.run_length-run.ensures.within in
-    let many : length run ≡ n = length-take-le n rest few in
-    let alike : AreAlike e run = λ k less. ap page_bits (get_or-take n rest k 0 (omega (arith, less, many)))
-    ∙ subst (λ rest. page_bits (get_or rest k 0) ≡ page_bits (get_or rest 0 0)) past (c.run_length-run.ensures.alike k (omega (arith, less, many)))
-    ∙ ap page_bits (get_or-drop i words 0 0 ∙ ap (λ k. get_or words k 0) (let z : i + 0 ≡ i = omega arith in z) ∙ sym entry) in
-    let most : i + n ≤ 512 = omega (arith, few, left, less, c.requires.size) in
+    let first : get_or rest 0 0 ≡ e = get_or-drop i words 0 0 ∙ ap (λ k. get_or words k 0) (let z : i + 0 ≡ i = omega arith in z) ∙ sym entry in
+    let found : n ≡ prefix_len (is_like (get_or rest 0 0)) rest = c.run_length-run.ensures ∙ ap (λ rest. prefix_len (is_like (get_or rest 0 0)) rest) past in
+    let some = run_some rest (omega (arith, left, less)) in
+    let within : i + n ≤ length words = run_within words i _ n less c.run_length-run.ensures in
+    let many : length run ≡ n = length-take-le n rest (omega (arith, within, left)) in
+    let alike : AreAlike e run = subst (λ n. AreAlike e (take n rest)) (sym (found ∙ ap (λ e. prefix_len (is_like e) rest) first)) (run_alike e rest) in
+    let inside : i + n ≤ 512 = omega (arith, within, c.requires.size) in
     record {
-      within = omega (arith, most);
+      within = omega (arith, inside);
       joined = λ asked every.
           let front = asked_on asked 1 s r (take i words) in
           let back = asked_on asked 1 a r run in
@@ -60,11 +77,11 @@ loop-index-preserved g c =
                 let visited = w.visit_joined.new.visitor in
                 let region = w.region_from-region.result in
                 let there : present e ≡ true = sym c.has_flag.ensures ∙ w.if-has_flag.true in
-                let half = within_half L s (s + position_count 1) a b (omega arith) (omega (arith, most)) (span_in_half L 1 s (let l = g.L.LevelCount.at_least_four in omega (arith, l)) c.requires.aligned) in
+                let half = within_half L s (s + position_count 1) a b (omega arith) (omega (arith, inside)) (span_in_half L 1 s (let l = g.L.LevelCount.at_least_four in omega (arith, l)) c.requires.aligned) in
                 subst₂ (λ h v. Joins visits L (asked_on asked 1 s r (take (i + n) words)) held old h v) (sym w.joiner-is) (sym w.visitor-is)
                 (subst (λ ms. Joins visits L ms held old after visited) (sym more)
                 (joins_both visits L g.met.V.Visitor.both front back held c.loop-index.joiner after old c.loop-index.visitor visited (c.loop-index.invariant.joined asked every)
-                (joins_whole visits L a b (granted r e) back (omega (arith, c.run_length-run.ensures.some)) (run_whole asked a b r e run every there alike (omega (arith, many))) half
+                (joins_whole visits L a b (granted r e) back (omega (arith, some, found)) (run_whole asked a b r e run every there alike (omega (arith, many))) half
                 region (w.region_from-region.ensures ∙ ap (region_between a b) w.below.ensures) _ _ _ _
                 (joins_region visits L region _ w.join.result _ _ _ w.join.ensures.given w.join.ensures.held w.in_ok-visit_joined.ensures))))
             | else-has_flag w ↦
