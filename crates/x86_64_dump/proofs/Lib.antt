@@ -16,3 +16,4 @@ pub mod Lines
 pub mod Digits
 pub mod Merging
 pub mod Stretches
+mod Windows

@@ -1,5 +1,5 @@
 -- The numbers of frames, and memories that are filled place by place.
-use Rattle.std.proofs.Common.{◌≡◌, ◌≢◌, ⊎_elim, ℕ, ◌+◌, ◌*◌, ◌/◌, ◌%◌, ◌^◌, ◌<◌, ◌==◌, ◌||◌, Bool, true, false, cond, List, [], ◌∷◌, ◌++◌, length, map, drop, take, get_or, Option, Some, None, IsSome, is_some, refl, sym, ap, ap₂, subst, ◌∙◌, arith, eq-eqb, eqb-true, ne_eqb}
+use Rattle.std.proofs.Common.{◌≡◌, ◌≢◌, ⊎_elim, ℕ, ◌+◌, ◌*◌, ◌/◌, ◌%◌, ◌^◌, ◌<◌, ◌==◌, ◌||◌, Bool, true, false, cond, List, [], ◌∷◌, ◌++◌, length, map, drop, take, get_or, Option, Some, None, IsSome, is_some, refl, sym, ap, ap₂, subst, ◌∙◌, arith, eq-eqb, eqb-true, ne_eqb, ◌-◌, slice_index}
 use Rattle.std.specs.Prelude.{Vec}
 use Rattle.std.specs.FinMap.{get, len, get-empty, get-insert}
 use Rattle.std.specs.List.{list_any, dedup, dedup_from}
@@ -7,6 +7,7 @@ use Rattle.std.specs.Cmp.{nat_cmp_total}
 use Rattle.std.specs.List.Sorted.{IsStrictlyIncreasing}
 use Rattle.std.specs.Ordering.{nat_cmp, eq_by_cmp}
 use Rattle.std.proofs.lemmas.Bool.{cases_eq}
+use Rattle.std.proofs.lemmas.List.{get_or-drop, take_rest}
 use Rattle.std.proofs.lemmas.List.Folds.{Any-from_list_any, list_any_at, list_any_more, list_any-append}
 use Rattle.std.proofs.Math.Bool.{or_assoc, or-false}
 use Rattle.x86_64_model.specs.Entry.{is_frame, address}
@@ -152,3 +153,9 @@ words_filled W numbers memory levels only same held = λ k f. at f k
       | true ↦ λ is. frame f is
       | false ↦ λ no. sym (ap (λ o. cond (is_in levels f) o None) (only f no) ∙ none_either (is_in levels f))
     ] refl
+
+-- the first number from an index on
+pub number_from : (numbers : List ℕ) (i : ℕ) → slice_index (take (length numbers - i) (drop i numbers)) 0 ≡ get_or numbers i 0
+number_from numbers i =
+    let same : i + 0 ≡ i = omega arith in
+    ap (λ ns. slice_index ns 0) (take_rest numbers i) ∙ get_or-drop i numbers 0 0 ∙ ap (λ n. get_or numbers n 0) same

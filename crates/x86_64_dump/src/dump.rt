@@ -1,8 +1,9 @@
 //! Dump files.
-ghost use Rattle.std.specs.Prelude.{◌≡◌, ◌+◌, ◌≤◌, ◌<◌, ◌^◌, ℕ, true, false, if◌then◌else◌, IsOk, IfOk, IfSome, is_some, Ok, Some, None, length};
+ghost use Rattle.std.specs.Prelude.{◌≡◌, ◌+◌, ◌*◌, ◌≤◌, ◌<◌, ◌^◌, ℕ, true, false, if◌then◌else◌, IsOk, IfOk, OnOk, IfSome, is_some, Ok, Some, None, length};
 ghost use Rattle.std.proofs.Props.{props};
 ghost use Rattle.x86_64_dump.specs.Dump.{frame_offset};
 ghost use Rattle.x86_64_dump.specs.private.Search.{AreSorted, offset_at};
+ghost use Rattle.x86_64_dump.specs.private.Windows.{IsOf, has_frame_at};
 
 use crate::error::{DumpError, Fault};
 use crate::formats::{Format, read_format};
@@ -15,6 +16,7 @@ use crate::search::{Stretch, offset_at, sorted_stretches};
 use crate::segment::Segment;
 use crate::source::ByteSource;
 use crate::vmcoreinfo::Kernel;
+use crate::window::Window;
 use std::alloc::Global;
 use std::io;
 use x86_64_page::frame::PhysFrame;
@@ -173,6 +175,37 @@ impl<S: ByteSource> Dump<S> {
         Ok(Some(words_in(&bytes, self.cleared)))
     }
 
+    /// Reads this many frames from an offset of the file on into a window.
+    ///
+    /// # Errors
+    ///
+    /// The error of the source.
+    pub(crate) fn read_window(
+        &self,
+        window: &mut Window,
+        offset: u64,
+        frames: usize,
+    ) -> io::Result<()>
+        requires few { frames ≤ 8 }
+        requires inside { offset + 4096 * frames ≤ S.size self.now.source }
+        ensures bytes { S.IsKnown → OnOk result (IsOf (S.bytes self.now.source) window.new) }
+        ensures place { OnOk result (
+            (window.new.start ≡ offset) × (length window.new.bytes ≡ 4096 * frames)) }
+        ensures succeeds { S.IsKnown → IsOk result }
+    {
+        window.read(&self.source, offset, frames)
+    }
+
+    /// Sets the words of a table to those of the frame at an offset of the file, which a window has.
+    pub(crate) fn set_table(&self, table: &mut PageTable, window: &Window, offset: u64)
+        requires { has_frame_at window.now offset ≡ true }
+        ensures { S.IsKnown → IsOf (S.bytes self.now.source) window.now → (frame : ℕ) → is_frame frame ≡ true →
+            frame_offset (S.size self.now.source) self.now.segments.items frame ≡ Some offset →
+            Some table.new ≡ words_of_dump (opened S.bytes self.now) frame }
+    {
+        set_words(table, window.frame(offset), self.cleared);
+    }
+
     /// Reads the words of a frame into a table and returns true, or returns false if the dump lacks the frame.
     ///
     /// # Errors
@@ -195,7 +228,7 @@ impl<S: ByteSource> Dump<S> {
     }
 
     /// Returns the offset of a frame in the file, or `None` if the dump lacks it.
-    fn offset_of(&self, frame: PhysFrame<Size4KiB>) -> Option<u64>
+    pub(crate) fn offset_of(&self, frame: PhysFrame<Size4KiB>) -> Option<u64>
         ensures frame { is_frame frame ≡ true }
         ensures offset { result ≡ frame_offset (S.size self.now.source) self.now.segments.items frame }
         ensures inside { IfSome result (λ offset. offset + 4096 ≤ S.size self.now.source) }

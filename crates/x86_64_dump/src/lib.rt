@@ -18,6 +18,7 @@ mod segment;
 mod source;
 mod tables;
 mod vmcoreinfo;
+mod window;
 
 pub use dump::Dump;
 pub use error::{DumpError, Fault};

@@ -1,6 +1,6 @@
 -- The digits of a number, from the last to the first.
-use Rattle.std.proofs.Common.{zero, suc, ◌≡◌, ◌⊎◌, inl, inr, ⊎_elim, ◌<◌, ◌≤◌, ◌+◌, ◌/◌, ◌%◌, ◌^◌, ℕ, List, [], ◌∷◌, ◌++◌, cond, false, length, decimal, refl, sym, ap, ◌∙◌, subst, arith, append_assoc, length-append}
-use Rattle.std.proofs.lemmas.Bool.{cases_lt, eq-eqb, ne_eqb, lt-ltb}
+use Rattle.std.proofs.Common.{zero, suc, ◌≡◌, ◌⊎◌, inl, inr, ⊎_elim, ◌<◌, ◌≤◌, ◌+◌, ◌*◌, ◌/◌, ◌%◌, ◌^◌, ℕ, List, [], ◌∷◌, ◌++◌, cond, false, get_or, length, decimal, refl, sym, ap, ◌∙◌, subst, arith, append_assoc, length-append}
+use Rattle.std.proofs.lemmas.Bool.{cases_lt, eq-eqb, le-ltb, ne_eqb, lt-ltb}
 use Rattle.std.proofs.lemmas.Fmt.{decimal_step, decimal_digit, hex_one_digit}
 use Rattle.std.specs.Fmt.{digits, digits_onto, digit_glyph}
 
@@ -83,3 +83,52 @@ length_one base n is below = ap length (digits_one base n is below)
 pub length_step : (base n : ℕ) → IsBase base → base ≤ n → n < 2 ^ 64
     → length (digits base false n) ≡ length (digits base false (n / base)) + 1
 length_step base n is above small = ap length (digits_step base n is above small) ∙ length-append _ _
+
+-- the glyphs of the two digits in base 16 of this many numbers from one on
+abbrev pub pairs_from : (first count : ℕ) → List ℕ
+pairs_from first zero = []
+pairs_from first (suc count) = digit_glyph false (first / 16) ∷ digit_glyph false (first % 16) ∷ pairs_from (first + 1) count
+
+pair_at : (first count i : ℕ) → i < count → (get_or (pairs_from first count) (2 * i) 0 ≡ digit_glyph false ((first + i) / 16))
+    × (get_or (pairs_from first count) (2 * i + 1) 0 ≡ digit_glyph false ((first + i) % 16))
+pair_at first zero i below = absurd (omega (arith, below))
+pair_at first (suc count) zero below =
+    let same : first ≡ first + 0 = omega arith in
+    (ap (λ n. digit_glyph false (n / 16)) same, ap (λ n. digit_glyph false (n % 16)) same)
+pair_at first (suc count) (suc i) below =
+    let at : 2 * suc i ≡ suc (suc (2 * i)) = omega arith in
+    let after : 2 * suc i + 1 ≡ suc (suc (2 * i + 1)) = omega arith in
+    let same : first + 1 + i ≡ first + suc i = omega arith in
+    let later = pair_at (first + 1) count i (omega (arith, below)) in (
+      ap (λ at. get_or (pairs_from first (suc count)) at 0) at ∙ later.0 ∙ ap (λ n. digit_glyph false (n / 16)) same,
+      ap (λ at. get_or (pairs_from first (suc count)) at 0) after ∙ later.1 ∙ ap (λ n. digit_glyph false (n % 16)) same,
+    )
+
+-- the glyphs of the two digits of a number below 256
+pub pair_high : (n : ℕ) → n < 256 → get_or (pairs_from 0 256) (2 * n) 0 ≡ digit_glyph false (n / 16)
+pair_high n below = let same : 0 + n ≡ n = omega arith in (pair_at 0 256 n below).0 ∙ ap (λ n. digit_glyph false (n / 16)) same
+
+pub pair_low : (n : ℕ) → n < 256 → get_or (pairs_from 0 256) (2 * n + 1) 0 ≡ digit_glyph false (n % 16)
+pair_low n below = let same : 0 + n ≡ n = omega arith in (pair_at 0 256 n below).1 ∙ ap (λ n. digit_glyph false (n % 16)) same
+
+pub glyph_ascii : (d : ℕ) → d < 16 → digit_glyph false d < 128
+glyph_ascii d small = ⊎_elim
+    (λ below. omega (arith, glyph_below_ten d below, below))
+    (λ above. omega (arith, ap (λ t. cond t (48 + d) (87 + d)) (le-ltb d 10 above), small))
+    (cases_lt d 10)
+
+pub pairs_step : (n : ℕ) → 256 ≤ n → n < 2 ^ 64
+    → digits 16 false n ≡ digits 16 false (n / 256) ++ digit_glyph false (n % 256 / 16) ∷ digit_glyph false (n % 256 % 16) ∷ []
+pairs_step n above small =
+    let front : n / 16 / 16 ≡ n / 256 = omega arith in
+    let high : n / 16 % 16 ≡ n % 256 / 16 = omega arith in
+    let low : n % 16 ≡ n % 256 % 16 = omega arith in
+    digits_step 16 n (inr refl) (omega arith) small
+    ∙ ap (λ xs. xs ++ digit_glyph false (n % 16) ∷ []) (digits_step 16 (n / 16) (inr refl) (omega (arith, above)) (omega (arith, small)))
+    ∙ append_assoc (digits 16 false (n / 16 / 16)) (digit_glyph false (n / 16 % 16) ∷ []) (digit_glyph false (n % 16) ∷ [])
+    ∙ ap (λ m. digits 16 false m ++ digit_glyph false (n / 16 % 16) ∷ digit_glyph false (n % 16) ∷ []) front
+    ∙ ap (λ d. digits 16 false (n / 256) ++ digit_glyph false d ∷ digit_glyph false (n % 16) ∷ []) high
+    ∙ ap (λ d. digits 16 false (n / 256) ++ digit_glyph false (n % 256 / 16) ∷ digit_glyph false d ∷ []) low
+
+pub length_pairs : (n : ℕ) → 256 ≤ n → n < 2 ^ 64 → length (digits 16 false n) ≡ length (digits 16 false (n / 256)) + 2
+length_pairs n above small = ap length (pairs_step n above small) ∙ length-append _ _

@@ -1,5 +1,5 @@
 //! Memories that hold the tables in some frames.
-ghost use Rattle.std.specs.Prelude.{◌≡◌, ◌||◌, ℕ, true, length, map, Some, IsSome, IfOk, IfErr, OnOk};
+ghost use Rattle.std.specs.Prelude.{◌≡◌, ◌||◌, ◌<◌, ◌≤◌, ◌+◌, ◌*◌, ℕ, true, length, map, slice_index, Some, IsSome, IfOk, IfErr, OnOk};
 ghost use Rattle.std.specs.FinMap as finite;
 ghost use Rattle.std.specs.List.Sorted.{IsStrictlyIncreasing};
 ghost use Rattle.x86_64_dump.specs.Dump.{words_of_dump};
@@ -9,10 +9,12 @@ ghost use Rattle.x86_64_dump.specs.Loaded.{HoldsTables, MayFail, frames_of, up_t
 ghost use Rattle.x86_64_dump.specs.Tables.{is_among, is_in, AreThere};
 ghost use Rattle.x86_64_dump.specs.private.TablesRead.{AreOf};
 ghost use Rattle.x86_64_dump.specs.private.FrameNumbers.{has_number, words_numbered, AreAllThere, AreNumbers};
+ghost use Rattle.x86_64_dump.specs.private.Windows.{IsOf};
 
 use crate::tables::dump_tables::TablesByLevel;
 use crate::tables::progress::Progress;
 use crate::tables::tables_read::TablesRead;
+use crate::window::{MOST_FRAMES, Window};
 use crate::{ByteSource, Dump, DumpError};
 use std::alloc::{AllocError, Global};
 use std::io::{self, ErrorKind};
@@ -64,10 +66,11 @@ fn tables_of<S: ByteSource, G: Progress>(
     ensures errors { IfErr result (MayFail (S.IsKnown
         × AreAllThere (words_of_dump (opened S.bytes dump.now)) numbers.now)) }
 {
+    let mut window = Window::new();
     let mut tables = Vec::with_capacity(alloc, numbers.len())?;
-    for (i, number) in numbers.iter().enumerate() {
+    for i in 0..numbers.len() {
         tables.push_reserved(PageTable::new());
-        fill_table(dump, read, PhysFrame::from_pfn(*number), &mut tables[i])?;
+        fill_table(dump, read, &numbers[i..], &mut window, &mut tables[i])?;
         progress.tables(i + 1);
     }
     Ok(tables)
@@ -102,7 +105,8 @@ fn add_numbers(numbers: &mut Vec<u64>, frames: &[PhysFrame<Size4KiB>]) -> Result
     Ok(())
 }
 
-/// Fills a table with the words of a frame that the dump has. They are copied if they were read before.
+/// Fills a table with the words in the first of the frames of these numbers, which the dump has. They are copied if they were read
+/// before. Otherwise they come from the window, which is moved to them if it lacks them.
 ///
 /// # Errors
 ///
@@ -111,24 +115,63 @@ fn add_numbers(numbers: &mut Vec<u64>, frames: &[PhysFrame<Size4KiB>]) -> Result
 fn fill_table<S: ByteSource>(
     dump: &Dump<S>,
     read: &TablesRead,
-    frame: PhysFrame<Size4KiB>,
+    numbers: &[u64],
+    window: &mut Window,
     table: &mut PageTable,
 ) -> Result<(), DumpError>
-    requires { S.IsKnown → AreOf (words_of_dump (opened S.bytes dump.now)) read.now }
-    ensures words { S.IsKnown → OnOk result (
-        Some table.new ≡ words_of_dump (opened S.bytes dump.now) frame) }
-    ensures errors { IfErr result (MayFail
-        (S.IsKnown × IsSome (words_of_dump (opened S.bytes dump.now) frame))) }
+    requires some { 0 < length numbers.now }
+    requires numbers { AreNumbers numbers.now }
+    requires read { S.IsKnown → AreOf (words_of_dump (opened S.bytes dump.now)) read.now }
+    requires window { S.IsKnown → IsOf (S.bytes dump.now.source) window.old }
+    ensures words { S.IsKnown → OnOk result (Some table.new
+        ≡ words_numbered (words_of_dump (opened S.bytes dump.now)) (slice_index numbers.now 0)) }
+    ensures window { S.IsKnown → OnOk result (IsOf (S.bytes dump.now.source) window.new) }
+    ensures errors { IfErr result (MayFail (S.IsKnown
+        × IsSome (words_numbered (words_of_dump (opened S.bytes dump.now)) (slice_index numbers.now 0)))) }
 {
+    let frame = PhysFrame::from_pfn(numbers[0]);
     if let Some(before) = read.table(frame) {
         *table = copied(before)?;
         return Ok(());
     }
-    if dump.read_table(frame, table)? {
-        Ok(())
-    } else {
-        Err(DumpError::Read(io::Error::from(ErrorKind::UnexpectedEof)))
+    let Some(offset) = dump.offset_of(frame) else {
+        return Err(DumpError::Read(io::Error::from(ErrorKind::UnexpectedEof)));
+    };
+    if !window.has_frame(offset) {
+        let count = frames_together(dump, read, numbers, offset);
+        dump.read_window(window, offset, count)?;
     }
+    dump.set_table(table, window, offset);
+    Ok(())
+}
+
+/// Returns how many of the frames of these numbers, the first of which is at this offset of the file, follow each other in the file.
+/// Counts up to the first that was read before, and no more than a window has.
+fn frames_together<S: ByteSource>(
+    dump: &Dump<S>,
+    read: &TablesRead,
+    numbers: &[u64],
+    offset: u64,
+) -> usize
+    requires some { 0 < length numbers.now }
+    requires numbers { AreNumbers numbers.now }
+    requires inside { offset + 4096 ≤ S.size dump.now.source }
+    ensures few { result ≤ 8 }
+    ensures some { 0 < result }
+    ensures inside { offset + 4096 * result ≤ S.size dump.now.source }
+{
+    let most = numbers.len().min(MOST_FRAMES);
+    for count in 1..most {
+        let frame = PhysFrame::from_pfn(numbers[count]);
+        let Some(next) = dump.offset_of(frame) else {
+            return count;
+        };
+        let is_next = next.checked_sub(offset) == Some(count as u64 * Size4KiB::SIZE);
+        if !is_next || read.table(frame).is_some() {
+            return count;
+        }
+    }
+    most
 }
 
 /// Returns a table with the words of another.

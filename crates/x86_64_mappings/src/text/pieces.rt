@@ -1,6 +1,6 @@
 //! Pieces of a line, which are written into a buffer one before the other, from the end of the line to its start.
 ghost use Rattle.std.specs.Fmt.{digit_glyph, digits};
-ghost use Rattle.std.specs.Prelude.{◌≡◌, ◌+◌, ◌<◌, ◌≤◌, ◌∷◌, ◌++◌, ◌⊎◌, [], codes, decimal, drop, false, length};
+ghost use Rattle.std.specs.Prelude.{◌≡◌, ◌+◌, ◌<◌, ◌≤◌, ◌/◌, ◌%◌, ◌∷◌, ◌++◌, ◌⊎◌, [], codes, decimal, drop, false, length};
 ghost use Rattle.std.specs.Str.{IsAscii};
 ghost use Rattle.x86_64_mappings.specs.Numbers.{hexadecimal};
 ghost use Rattle.x86_64_mappings.specs.Texts.{size_text};
@@ -14,6 +14,16 @@ pub const CAPACITY: usize = 96;
 
 /// The characters of the digits below 16.
 const DIGITS: [u8; 16] = *b"0123456789abcdef";
+
+/// The characters of the two digits in base 16 of each number below 256.
+const PAIRS: [u8; 512] = *b"000102030405060708090a0b0c0d0e0f101112131415161718191a1b1c1d1e1f\
+    202122232425262728292a2b2c2d2e2f303132333435363738393a3b3c3d3e3f\
+    404142434445464748494a4b4c4d4e4f505152535455565758595a5b5c5d5e5f\
+    606162636465666768696a6b6c6d6e6f707172737475767778797a7b7c7d7e7f\
+    808182838485868788898a8b8c8d8e8f909192939495969798999a9b9c9d9e9f\
+    a0a1a2a3a4a5a6a7a8a9aaabacadaeafb0b1b2b3b4b5b6b7b8b9babbbcbdbebf\
+    c0c1c2c3c4c5c6c7c8c9cacbcccdcecfd0d1d2d3d4d5d6d7d8d9dadbdcdddedf\
+    e0e1e2e3e4e5e6e7e8e9eaebecedeeeff0f1f2f3f4f5f6f7f8f9fafbfcfdfeff";
 
 /// Writes an ASCII character so that it ends at `end`, and returns where it starts.
 #[inline(always)]
@@ -40,9 +50,41 @@ pub(crate) fn put_hexadecimal(line: &mut [u8; CAPACITY], end: usize, number: u64
     ensures short { end ≤ result + 18 }
     ensures ascii { IsAscii (drop end line.old) → IsAscii (drop result line.new) }
 {
-    let start = put_digits(line, end, number, 16);
+    let start = put_hexadecimal_digits(line, end, number);
     let start = put(line, start, b'x');
     put(line, start, b'0')
+}
+
+/// Writes the digits of a number in base 16 so that they end at `end`, two at once, and returns where they start.
+#[inline(always)]
+fn put_hexadecimal_digits(line: &mut [u8; CAPACITY], end: usize, number: u64) -> usize
+    requires room { length (digits 16 false number) ≤ end }
+    requires inside { end ≤ 96 }
+    ensures text { drop result line.new ≡ digits 16 false number ++ drop end line.old }
+    ensures start { result + length (digits 16 false number) ≡ end }
+    ensures ascii { IsAscii (drop end line.old) → IsAscii (drop result line.new) }
+{
+    let mut start = end;
+    let mut left = number;
+    while left >= 256 {
+        let (high, low) = pair(left % 256);
+        start = put(line, start, low);
+        start = put(line, start, high);
+        left /= 256;
+    }
+    put_digits(line, start, left, 16)
+}
+
+/// Returns the characters of the two digits in base 16 of a number below 256.
+#[inline(always)]
+fn pair(number: u64) -> (u8, u8)
+    requires { number < 256 }
+    ensures high { result.0 ≡ digit_glyph false (number / 16) }
+    ensures low { result.1 ≡ digit_glyph false (number % 16) }
+    ensures ascii { (result.0 < 128) × (result.1 < 128) }
+{
+    let at = 2 * number as usize;
+    (PAIRS[at], PAIRS[at + 1])
 }
 
 /// Writes a number in base 10 so that it ends at `end`, and returns where it starts.

@@ -8,26 +8,28 @@ use Rattle.x86_64_dump.specs.declared.error.DumpError.{DumpError}
 use Rattle.x86_64_dump.specs.Loaded.{MayFail, up_to}
 use Rattle.x86_64_dump.specs.private.FrameNumbers.{words_numbered, AreAllThere}
 use Rattle.x86_64_dump.proofs.Failing.{fails_as, fails_knowing}
+use Rattle.x86_64_dump.proofs.Places.{number_from}
 use Rattle.x86_64_dump.proofs.tables.loading.tables_of.Goals as goal
 
 pub returns-in_err-fill_table-clause-errors : goal.returns-in_err-fill_table-clause-errors
 returns-in_err-fill_table-clause-errors g c =
     let W = words_of_dump (opened g.S.ByteSource.bytes c.args.dump.now) in
     let Fails : DumpError → Type 0 = MayFail (g.S.ByteSource.IsKnown × AreAllThere W c.args.numbers.now) in
-    let There : ℕ → Type 0 = λ f. IsSome (W f) in
+    let There : ℕ → Type 0 = λ n. IsSome (words_numbered W n) in
     fails_as c.from_residual-in_err-fill_table.result _ Fails c.from_residual-in_err-fill_table.ensures.1 (λ e is. subst Fails (sym is)
-    (fails_knowing (g.S.ByteSource.IsKnown × IsSome (W c.from_pfn.result)) _
-    (λ known. (known.0, subst There (sym c.from_pfn.ensures) (known.1 c.loop-i.i 0 c.loop-i-test.true)))
+    (fails_knowing (g.S.ByteSource.IsKnown × IsSome (words_numbered W _)) _
+    (λ known. (known.0, subst There (sym (number_from c.args.numbers.now c.loop-i.i)) (known.1 c.loop-i.i 0 c.loop-i-test.true)))
     c.in_err-fill_table.field-0.0 c.in_err-fill_table.ensures.errors))
 
 pub loop-i-preserved : goal.loop-i-preserved
 loop-i-preserved g c = record {
   len = c.push_reserved.ensures.len ∙ ap (λ n. n + 1) c.loop-i.invariant.len;
+  window = c.in_ok-fill_table.ensures.window;
   room = let P : ℕ → Type 0 = λ n. length c.args.numbers.now ≤ n in subst P (sym c.push_reserved.ensures.capacity) c.loop-i.invariant.room;
   tables = λ known.
       let W = words_of_dump (opened g.S.ByteSource.bytes c.args.dump.now) in
       let numbers = c.args.numbers.now in
-      let read = c.in_ok-fill_table.ensures.words known ∙ ap W c.from_pfn.ensures in
+      let read = c.in_ok-fill_table.ensures.words known ∙ ap (words_numbered W) (number_from numbers c.loop-i.i) in
       let old = c.loop-i.tables.items in
       let table = c.fill_table.new.table in
       let written : set c.push_reserved.new.self.items c.loop-i.i table ≡ old ++ table ∷ [] =

@@ -2,20 +2,20 @@ use Rattle.std.proofs.Common.{arith}
 use Rattle.x86_64_mappings.proofs.Digits.{length_hexadecimal}
 use Rattle.x86_64_mappings.proofs.text.pieces.put_hexadecimal.Goals as goal
 
-pub put_digits-start-requires-clause-room : goal.put_digits-start-requires-clause-room
-put_digits-start-requires-clause-room c =
+pub put_hexadecimal_digits-start-requires-clause-room : goal.put_hexadecimal_digits-start-requires-clause-room
+put_hexadecimal_digits-start-requires-clause-room c =
     omega (arith, c.requires.room, length_hexadecimal c.args.number c.ranges.number.fits)
 
 pub put-start-requires-clause-room : goal.put-start-requires-clause-room
 put-start-requires-clause-room c =
-    omega (arith, c.requires.room, c.put_digits-start.ensures.start, length_hexadecimal c.args.number c.ranges.number.fits)
+    omega (arith, c.requires.room, c.put_hexadecimal_digits-start.ensures.start, length_hexadecimal c.args.number c.ranges.number.fits)
 
 pub put-requires-clause-room : goal.put-requires-clause-room
 put-requires-clause-room c =
     omega (
       arith,
       c.requires.room,
-      c.put_digits-start.ensures.start,
+      c.put_hexadecimal_digits-start.ensures.start,
       length_hexadecimal c.args.number c.ranges.number.fits,
       c.put-start.ensures.start,
     )
@@ -24,7 +24,7 @@ pub returns-clause-short : goal.returns-clause-short
 returns-clause-short c =
     omega (
       arith,
-      c.put_digits-start.ensures.start,
+      c.put_hexadecimal_digits-start.ensures.start,
       length_hexadecimal c.args.number c.ranges.number.fits,
       c.put-start.ensures.start,
       c.put.ensures.start,
