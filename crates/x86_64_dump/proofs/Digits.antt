@@ -3,24 +3,18 @@ use Rattle.std.proofs.Common.{◌≡◌, ℕ, zero, suc, ◌<◌, ◌≤◌, ◌
 use Rattle.std.specs.Char.{digit_value, is_digit}
 use Rattle.std.specs.List.{list_all}
 use Rattle.std.specs.Str.Parse.{AllDigits, IsNumeral, digits_value}
+use Rattle.std.proofs.lemmas.Bool.{and_from, and_parts}
 use Rattle.std.proofs.lemmas.Str.{IsUtf8-from_ascii}
 use Rattle.x86_64_dump.specs.VmCoreInfo.{number_of}
 
-both : (a b : Bool) → (a && b) ≡ true → (a ≡ true) × (b ≡ true)
-both true b is = (refl, is)
-both false b is = absurd (true≢false (sym is))
-
-and_both : (a b : Bool) → a ≡ true → b ≡ true → (a && b) ≡ true
-and_both a b one other = ap (λ x. x && b) one ∙ other
-
 tested : (radix : ℕ) (ds : List ℕ) → AllDigits radix ds → list_all (λ d. is_digit d radix) ds ≡ true
 tested radix [] are = refl
-tested radix (d ∷ ds) are = and_both (is_digit d radix) (list_all (λ d. is_digit d radix) ds) (lt-ltb (digit_value d) radix are.0) (tested radix ds are.1)
+tested radix (d ∷ ds) are = and_from (is_digit d radix) (list_all (λ d. is_digit d radix) ds) (lt-ltb (digit_value d) radix are.0) (tested radix ds are.1)
 
 all_digits : (radix : ℕ) (ds : List ℕ) → list_all (λ d. is_digit d radix) ds ≡ true → AllDigits radix ds
 all_digits radix [] are = tt
 all_digits radix (d ∷ ds) are =
-    let parts = both (is_digit d radix) (list_all (λ d. is_digit d radix) ds) are in
+    let parts = and_parts (is_digit d radix) (list_all (λ d. is_digit d radix) ds) are in
     (ltb-true (digit_value d) radix parts.0, all_digits radix ds parts.1)
 
 -- digits are ASCII
@@ -40,7 +34,7 @@ unfolding is_number
 numeral_there radix ds are small =
     let some = not (length ds == 0) in
     let all = list_all (λ d. is_digit d radix) ds in
-    and_both (some && all) (nat_lt (digits_value radix ds) (2 ^ 64)) (and_both some all (ap not (ne_eqb (length ds) 0 (λ none. omega (arith, are.0, none)))) (tested radix ds are.1))
+    and_from (some && all) (nat_lt (digits_value radix ds) (2 ^ 64)) (and_from some all (ap not (ne_eqb (length ds) 0 (λ none. omega (arith, are.0, none)))) (tested radix ds are.1))
     (lt-ltb (digits_value radix ds) (2 ^ 64) small)
 
 some_digit : (ds : List ℕ) → not (length ds == 0) ≡ true → 0 < length ds
@@ -52,8 +46,8 @@ unfolding is_number
 numeral_here radix ds is =
     let some = not (length ds == 0) in
     let all = list_all (λ d. is_digit d radix) ds in
-    let parts = both (some && all) (nat_lt (digits_value radix ds) (2 ^ 64)) is in
-    let first = both some all parts.0 in
+    let parts = and_parts (some && all) (nat_lt (digits_value radix ds) (2 ^ 64)) is in
+    let first = and_parts some all parts.0 in
     ((some_digit ds first.0, all_digits radix ds first.1), ltb-true (digits_value radix ds) (2 ^ 64) parts.1)
 
 -- if the text is read as a number, or if it isn't

@@ -1,11 +1,12 @@
 -- Frames: their offsets, and the words of a part of a file.
-use Rattle.std.proofs.Common.{◌≡◌, ℕ, ◌+◌, ◌*◌, ◌≤◌, ◌<◌, Bool, true, false, cond, List, [], ◌∷◌, Option, Some, None, is_some, map, take, eq-eqb, ◌%◌, ◌^◌, length, refl, ap, sym, subst, ◌∙◌, arith, leb-true, nat_le, IfSome, ◌==◌, ◌&&◌, true≢false}
+use Rattle.std.proofs.Common.{◌≡◌, ℕ, ◌+◌, ◌*◌, ◌≤◌, ◌<◌, Bool, true, false, cond, List, [], ◌∷◌, Option, Some, None, is_some, map, take, eq-eqb, ◌%◌, ◌^◌, length, refl, ap, sym, subst, ◌∙◌, arith, leb-true, nat_le, IfSome, ◌==◌, ◌&&◌}
 use Rattle.std.specs.List.{find, range_with_len}
 use Rattle.std.specs.Option.{option_map}
 use Rattle.x86_64_model.specs.Entry.{is_frame, address}
 use Rattle.x86_64_dump.specs.Numbers.{u64_at}
 use Rattle.x86_64_dump.specs.Dump.{Contents, without, has_frame, frame_offset, offset_in, words_at, words_of_dump}
 use Rattle.x86_64_dump.specs.declared.segment.Segment.{Segment}
+use Rattle.std.proofs.lemmas.Bool.{and_parts}
 use Rattle.std.proofs.lemmas.List.{take_all}
 use Rattle.x86_64_dump.specs.Source.{part_of}
 use Rattle.x86_64_model.proofs.Lemmas.Entries.Words.{address-multiple}
@@ -64,10 +65,6 @@ frame_there dump frame size long is =
 pub aligned_frame : (frame : ℕ) → frame % 4096 ≡ 0 → frame < 2 ^ 52 → is_frame frame ≡ true
 aligned_frame frame aligned below = eq-eqb (address frame) frame (address-multiple frame aligned below)
 
-both : (a b : Bool) → (a && b) ≡ true → (a ≡ true) × (b ≡ true)
-both true b is = (refl, is)
-both false b is = absurd (true≢false (sym is))
-
 -- the offset of a frame leaves room for its bytes
 pub offset_inside : (file_length : ℕ) (segments : List Segment) (frame : ℕ) → IfSome (frame_offset file_length segments frame) (λ offset. offset + 4096 ≤ file_length)
 unfolding frame_offset
@@ -77,7 +74,7 @@ offset_inside file_length (s ∷ l) frame = by (has_frame file_length frame s) r
     by : (b : Bool) → has_frame file_length frame s ≡ b
         → IfSome (option_map (λ segment. offset_in segment frame) (find (has_frame file_length frame) l)) (λ offset. offset + 4096 ≤ file_length)
         → IfSome (option_map (λ segment. offset_in segment frame) (cond b (Some s) (find (has_frame file_length frame) l))) (λ offset. offset + 4096 ≤ file_length)
-    by true has later = leb-true _ _ (both (s.kind == 1 && nat_le s.address frame && nat_le (frame + 4096) (s.address + s.size)) (nat_le (offset_in s frame + 4096) file_length) has).1
+    by true has later = leb-true _ _ (and_parts (s.kind == 1 && nat_le s.address frame && nat_le (frame + 4096) (s.address + s.size)) (nat_le (offset_in s frame + 4096) file_length) has).1
     by false lacks later = later
 
 -- so it is below 2^64, by the stretches too

@@ -16,4 +16,4 @@ pub mod Lines
 pub mod Digits
 pub mod Merging
 pub mod Stretches
-mod Windows
+mod FileParts

@@ -4,4 +4,4 @@ pub mod TablesRead
 pub mod Search
 pub mod Merging
 pub mod Magics
-pub mod Windows
+pub mod FileParts

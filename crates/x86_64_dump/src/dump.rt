@@ -3,9 +3,10 @@ ghost use Rattle.std.specs.Prelude.{◌≡◌, ◌+◌, ◌*◌, ◌≤◌, ◌<
 ghost use Rattle.std.proofs.Props.{props};
 ghost use Rattle.x86_64_dump.specs.Dump.{frame_offset};
 ghost use Rattle.x86_64_dump.specs.private.Search.{AreSorted, offset_at};
-ghost use Rattle.x86_64_dump.specs.private.Windows.{IsOf, has_frame_at};
+ghost use Rattle.x86_64_dump.specs.private.FileParts.{IsOf, has_frame_at};
 
 use crate::error::{DumpError, Fault};
+use crate::file_part::FilePart;
 use crate::formats::{Format, read_format};
 use crate::frame::{is_cut_off, set_words, words_in};
 use crate::note::{Note, NoteKind};
@@ -16,7 +17,6 @@ use crate::search::{Stretch, offset_at, sorted_stretches};
 use crate::segment::Segment;
 use crate::source::ByteSource;
 use crate::vmcoreinfo::Kernel;
-use crate::window::Window;
 use std::alloc::Global;
 use std::io;
 use x86_64_page::frame::PhysFrame;
@@ -175,35 +175,35 @@ impl<S: ByteSource> Dump<S> {
         Ok(Some(words_in(&bytes, self.cleared)))
     }
 
-    /// Reads this many frames from an offset of the file on into a window.
+    /// Reads this many frames from an offset of the file on.
     ///
     /// # Errors
     ///
     /// The error of the source.
-    pub(crate) fn read_window(
+    pub(crate) fn read_part(
         &self,
-        window: &mut Window,
+        part: &mut FilePart,
         offset: u64,
         frames: usize,
     ) -> io::Result<()>
         requires few { frames ≤ 8 }
         requires inside { offset + 4096 * frames ≤ S.size self.now.source }
-        ensures bytes { S.IsKnown → OnOk result (IsOf (S.bytes self.now.source) window.new) }
+        ensures bytes { S.IsKnown → OnOk result (IsOf (S.bytes self.now.source) part.new) }
         ensures place { OnOk result (
-            (window.new.start ≡ offset) × (length window.new.bytes ≡ 4096 * frames)) }
+            (part.new.start ≡ offset) × (length part.new.bytes ≡ 4096 * frames)) }
         ensures succeeds { S.IsKnown → IsOk result }
     {
-        window.read(&self.source, offset, frames)
+        part.read(&self.source, offset, frames)
     }
 
-    /// Sets the words of a table to those of the frame at an offset of the file, which a window has.
-    pub(crate) fn set_table(&self, table: &mut PageTable, window: &Window, offset: u64)
-        requires { has_frame_at window.now offset ≡ true }
-        ensures { S.IsKnown → IsOf (S.bytes self.now.source) window.now → (frame : ℕ) → is_frame frame ≡ true →
+    /// Sets the words of a table to those of the frame at an offset of the file, which a part of the file has.
+    pub(crate) fn set_table(&self, table: &mut PageTable, part: &FilePart, offset: u64)
+        requires { has_frame_at part.now offset ≡ true }
+        ensures { S.IsKnown → IsOf (S.bytes self.now.source) part.now → (frame : ℕ) → is_frame frame ≡ true →
             frame_offset (S.size self.now.source) self.now.segments.items frame ≡ Some offset →
             Some table.new ≡ words_of_dump (opened S.bytes self.now) frame }
     {
-        set_words(table, window.frame(offset), self.cleared);
+        set_words(table, part.frame(offset), self.cleared);
     }
 
     /// Reads the words of a frame into a table and returns true, or returns false if the dump lacks the frame.

@@ -4,6 +4,7 @@
 mod dump;
 mod elf;
 mod error;
+mod file_part;
 mod formats;
 mod frame;
 mod header;
@@ -18,7 +19,6 @@ mod segment;
 mod source;
 mod tables;
 mod vmcoreinfo;
-mod window;
 
 pub use dump::Dump;
 pub use error::{DumpError, Fault};

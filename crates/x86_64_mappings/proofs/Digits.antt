@@ -1,8 +1,10 @@
 -- The digits of a number, from the last to the first.
-use Rattle.std.proofs.Common.{zero, suc, ◌≡◌, ◌⊎◌, inl, inr, ⊎_elim, ◌<◌, ◌≤◌, ◌+◌, ◌*◌, ◌/◌, ◌%◌, ◌^◌, ℕ, List, [], ◌∷◌, ◌++◌, cond, false, get_or, length, decimal, refl, sym, ap, ◌∙◌, subst, arith, append_assoc, length-append}
+use Rattle.std.proofs.Common.{zero, suc, ◌≡◌, ◌⊎◌, inl, inr, ⊎_elim, ◌<◌, ◌≤◌, ◌+◌, ◌-◌, ◌*◌, ◌/◌, ◌%◌, ◌^◌, ℕ, List, [], ◌∷◌, ◌++◌, cond, false, get_or, length, decimal, refl, sym, ap, ap₂, ◌∙◌, subst, arith, drop, append_assoc, length-append}
 use Rattle.std.proofs.lemmas.Bool.{cases_lt, eq-eqb, le-ltb, ne_eqb, lt-ltb}
 use Rattle.std.proofs.lemmas.Fmt.{decimal_step, decimal_digit, hex_one_digit}
+use Rattle.std.proofs.lemmas.List.{get_or-drop}
 use Rattle.std.specs.Fmt.{digits, digits_onto, digit_glyph}
+use Rattle.std.specs.Str.{IsAscii}
 
 -- the last k digits in base 16 at most, before a text
 abbrev onto : (k n : ℕ) → List ℕ → List ℕ
@@ -89,27 +91,30 @@ abbrev pub pairs_from : (first count : ℕ) → List ℕ
 pairs_from first zero = []
 pairs_from first (suc count) = digit_glyph false (first / 16) ∷ digit_glyph false (first % 16) ∷ pairs_from (first + 1) count
 
-pair_at : (first count i : ℕ) → i < count → (get_or (pairs_from first count) (2 * i) 0 ≡ digit_glyph false ((first + i) / 16))
-    × (get_or (pairs_from first count) (2 * i + 1) 0 ≡ digit_glyph false ((first + i) % 16))
-pair_at first zero i below = absurd (omega (arith, below))
-pair_at first (suc count) zero below =
-    let same : first ≡ first + 0 = omega arith in
-    (ap (λ n. digit_glyph false (n / 16)) same, ap (λ n. digit_glyph false (n % 16)) same)
-pair_at first (suc count) (suc i) below =
-    let at : 2 * suc i ≡ suc (suc (2 * i)) = omega arith in
-    let after : 2 * suc i + 1 ≡ suc (suc (2 * i + 1)) = omega arith in
+-- without those of the first i numbers
+pairs_after : (i first count more : ℕ) → count ≡ i + more → drop (2 * i) (pairs_from first count) ≡ pairs_from (first + i) more
+pairs_after zero first count more is = let same : first ≡ first + 0 = omega arith in let rest : count ≡ more = omega (arith, is) in ap₂ pairs_from same rest
+pairs_after (suc i) first zero more is = absurd (omega (arith, is))
+pairs_after (suc i) first (suc count) more is =
+    let after : 2 * suc i ≡ suc (suc (2 * i)) = omega arith in
     let same : first + 1 + i ≡ first + suc i = omega arith in
-    let later = pair_at (first + 1) count i (omega (arith, below)) in (
-      ap (λ at. get_or (pairs_from first (suc count)) at 0) at ∙ later.0 ∙ ap (λ n. digit_glyph false (n / 16)) same,
-      ap (λ at. get_or (pairs_from first (suc count)) at 0) after ∙ later.1 ∙ ap (λ n. digit_glyph false (n % 16)) same,
-    )
+    ap (λ at. drop at (pairs_from first (suc count))) after ∙ pairs_after i (first + 1) count more (omega (arith, is)) ∙ ap (λ n. pairs_from n more) same
+
+pairs_at : (n : ℕ) → n < 256 → drop (2 * n) (pairs_from 0 256) ≡ pairs_from (0 + n) (suc (255 - n))
+pairs_at n below = pairs_after n 0 256 (suc (255 - n)) (omega (arith, below))
 
 -- the glyphs of the two digits of a number below 256
 pub pair_high : (n : ℕ) → n < 256 → get_or (pairs_from 0 256) (2 * n) 0 ≡ digit_glyph false (n / 16)
-pair_high n below = let same : 0 + n ≡ n = omega arith in (pair_at 0 256 n below).0 ∙ ap (λ n. digit_glyph false (n / 16)) same
+pair_high n below =
+    let at : 2 * n ≡ 2 * n + 0 = omega arith in
+    let same : 0 + n ≡ n = omega arith in
+    ap (λ i. get_or (pairs_from 0 256) i 0) at ∙ sym (get_or-drop (2 * n) (pairs_from 0 256) 0 0)
+    ∙ ap (λ xs. get_or xs 0 0) (pairs_at n below) ∙ ap (λ m. digit_glyph false (m / 16)) same
 
 pub pair_low : (n : ℕ) → n < 256 → get_or (pairs_from 0 256) (2 * n + 1) 0 ≡ digit_glyph false (n % 16)
-pair_low n below = let same : 0 + n ≡ n = omega arith in (pair_at 0 256 n below).1 ∙ ap (λ n. digit_glyph false (n % 16)) same
+pair_low n below =
+    let same : 0 + n ≡ n = omega arith in
+    sym (get_or-drop (2 * n) (pairs_from 0 256) 1 0) ∙ ap (λ xs. get_or xs 1 0) (pairs_at n below) ∙ ap (λ m. digit_glyph false (m % 16)) same
 
 pub glyph_ascii : (d : ℕ) → d < 16 → digit_glyph false d < 128
 glyph_ascii d small = ⊎_elim
@@ -132,3 +137,26 @@ pairs_step n above small =
 
 pub length_pairs : (n : ℕ) → 256 ≤ n → n < 2 ^ 64 → length (digits 16 false n) ≡ length (digits 16 false (n / 256)) + 2
 length_pairs n above small = ap length (pairs_step n above small) ∙ length-append _ _
+
+-- of a number, the digits that aren't left stand before what stood there
+abbrev pub AreWritten : (base number left : ℕ) → (end start : ℕ) → (before line : List ℕ) → Type 0
+AreWritten base number left end start before line =
+    (digits base false left ++ drop start line ≡ digits base false number ++ drop end before)
+    × (start + length (digits base false number) ≡ end + length (digits base false left))
+    × (length (digits base false left) ≤ start) × (start ≤ 96)
+    × (IsAscii (drop end before) → IsAscii (drop start line))
+
+-- and so they do if the last of those that are left are put before them
+pub written_on : (base number left rest end start next : ℕ) (glyphs before line new : List ℕ) → AreWritten base number left end start before line
+    → digits base false left ≡ digits base false rest ++ glyphs → drop next new ≡ glyphs ++ drop start line → next + length glyphs ≡ start
+    → (IsAscii (drop start line) → IsAscii (drop next new)) → AreWritten base number rest end next before new
+written_on base number left rest end start next glyphs before line new so step text place ascii =
+    let long : length (digits base false left) ≡ length (digits base false rest) + length glyphs = ap length step ∙ length-append _ _ in
+    let front = digits base false rest in
+    let written = drop start line in (
+      ap (λ xs. front ++ xs) text ∙ sym (append_assoc front glyphs written) ∙ ap (λ xs. xs ++ written) (sym step) ∙ so.0,
+      omega (arith, so.1, long, place),
+      omega (arith, so.2, long, place),
+      omega (arith, so.3, place),
+      λ was. ascii (so.4 was),
+    )

@@ -9,12 +9,12 @@ ghost use Rattle.x86_64_dump.specs.Loaded.{HoldsTables, MayFail, frames_of, up_t
 ghost use Rattle.x86_64_dump.specs.Tables.{is_among, is_in, AreThere};
 ghost use Rattle.x86_64_dump.specs.private.TablesRead.{AreOf};
 ghost use Rattle.x86_64_dump.specs.private.FrameNumbers.{has_number, words_numbered, AreAllThere, AreNumbers};
-ghost use Rattle.x86_64_dump.specs.private.Windows.{IsOf};
+ghost use Rattle.x86_64_dump.specs.private.FileParts.{IsOf};
 
+use crate::file_part::{FilePart, MOST_FRAMES};
 use crate::tables::dump_tables::TablesByLevel;
 use crate::tables::progress::Progress;
 use crate::tables::tables_read::TablesRead;
-use crate::window::{MOST_FRAMES, Window};
 use crate::{ByteSource, Dump, DumpError};
 use std::alloc::{AllocError, Global};
 use std::io::{self, ErrorKind};
@@ -66,11 +66,11 @@ fn tables_of<S: ByteSource, G: Progress>(
     ensures errors { IfErr result (MayFail (S.IsKnown
         × AreAllThere (words_of_dump (opened S.bytes dump.now)) numbers.now)) }
 {
-    let mut window = Window::new();
+    let mut part = FilePart::new();
     let mut tables = Vec::with_capacity(alloc, numbers.len())?;
     for i in 0..numbers.len() {
         tables.push_reserved(PageTable::new());
-        fill_table(dump, read, &numbers[i..], &mut window, &mut tables[i])?;
+        fill_table(dump, read, &numbers[i..], &mut part, &mut tables[i])?;
         progress.tables(i + 1);
     }
     Ok(tables)
@@ -106,7 +106,7 @@ fn add_numbers(numbers: &mut Vec<u64>, frames: &[PhysFrame<Size4KiB>]) -> Result
 }
 
 /// Fills a table with the words in the first of the frames of these numbers, which the dump has. They are copied if they were read
-/// before. Otherwise they come from the window, which is moved to them if it lacks them.
+/// before. Otherwise they come from the part of the file that was read last, or from a new one if that lacks them.
 ///
 /// # Errors
 ///
@@ -116,16 +116,16 @@ fn fill_table<S: ByteSource>(
     dump: &Dump<S>,
     read: &TablesRead,
     numbers: &[u64],
-    window: &mut Window,
+    part: &mut FilePart,
     table: &mut PageTable,
 ) -> Result<(), DumpError>
     requires some { 0 < length numbers.now }
     requires numbers { AreNumbers numbers.now }
     requires read { S.IsKnown → AreOf (words_of_dump (opened S.bytes dump.now)) read.now }
-    requires window { S.IsKnown → IsOf (S.bytes dump.now.source) window.old }
+    requires part { S.IsKnown → IsOf (S.bytes dump.now.source) part.old }
     ensures words { S.IsKnown → OnOk result (Some table.new
         ≡ words_numbered (words_of_dump (opened S.bytes dump.now)) (slice_index numbers.now 0)) }
-    ensures window { S.IsKnown → OnOk result (IsOf (S.bytes dump.now.source) window.new) }
+    ensures part { S.IsKnown → OnOk result (IsOf (S.bytes dump.now.source) part.new) }
     ensures errors { IfErr result (MayFail (S.IsKnown
         × IsSome (words_numbered (words_of_dump (opened S.bytes dump.now)) (slice_index numbers.now 0)))) }
 {
@@ -137,16 +137,16 @@ fn fill_table<S: ByteSource>(
     let Some(offset) = dump.offset_of(frame) else {
         return Err(DumpError::Read(io::Error::from(ErrorKind::UnexpectedEof)));
     };
-    if !window.has_frame(offset) {
+    if !part.has_frame(offset) {
         let count = frames_together(dump, read, numbers, offset);
-        dump.read_window(window, offset, count)?;
+        dump.read_part(part, offset, count)?;
     }
-    dump.set_table(table, window, offset);
+    dump.set_table(table, part, offset);
     Ok(())
 }
 
 /// Returns how many of the frames of these numbers, the first of which is at this offset of the file, follow each other in the file.
-/// Counts up to the first that was read before, and no more than a window has.
+/// Counts up to the first that was read before, and no more than a part has.
 fn frames_together<S: ByteSource>(
     dump: &Dump<S>,
     read: &TablesRead,

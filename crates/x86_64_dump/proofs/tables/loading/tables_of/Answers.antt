@@ -24,7 +24,7 @@ returns-in_err-fill_table-clause-errors g c =
 pub loop-i-preserved : goal.loop-i-preserved
 loop-i-preserved g c = record {
   len = c.push_reserved.ensures.len ∙ ap (λ n. n + 1) c.loop-i.invariant.len;
-  window = c.in_ok-fill_table.ensures.window;
+  part = c.in_ok-fill_table.ensures.part;
   room = let P : ℕ → Type 0 = λ n. length c.args.numbers.now ≤ n in subst P (sym c.push_reserved.ensures.capacity) c.loop-i.invariant.room;
   tables = λ known.
       let W = words_of_dump (opened g.S.ByteSource.bytes c.args.dump.now) in

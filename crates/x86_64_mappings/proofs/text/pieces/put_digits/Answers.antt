@@ -1,6 +1,6 @@
-use Rattle.std.proofs.Common.{◌∷◌, ◌++◌, ◌∙◌, ◌/◌, ◌%◌, [], drop, false, sym, ap, arith, append_assoc}
-use Rattle.std.specs.Fmt.{digits, digit_glyph}
-use Rattle.x86_64_mappings.proofs.Digits.{digits_one, digits_step, length_one, length_step}
+use Rattle.std.proofs.Common.{◌∷◌, ◌++◌, ◌∙◌, ◌/◌, ◌%◌, [], drop, false, sym, ap, arith}
+use Rattle.std.specs.Fmt.{digit_glyph}
+use Rattle.x86_64_mappings.proofs.Digits.{digits_one, digits_step, length_one, length_step, written_on}
 use Rattle.x86_64_mappings.proofs.text.pieces.put_digits.Goals as goal
 
 pub put-start-requires-clause-room : goal.put-start-requires-clause-room
@@ -12,21 +12,11 @@ pub loop-left-preserved : goal.loop-left-preserved
 loop-left-preserved c =
     let l = c.loop-left in
     let base = c.args.base in
-    let written = drop l.start l.line in
-    let front = digits base false (l.left / base) in
     let last = digit_glyph false (l.left % base) ∷ [] in
-    let long = length_step base l.left c.requires.base c.loop-left-test.true l.auto.left-fits.fits in
+    let step = digits_step base l.left c.requires.base c.loop-left-test.true l.auto.left-fits.fits in
     let put = c.put-start.ensures in
-    let text = ap (λ xs. front ++ xs) (put.text ∙ ap (λ d. d ∷ written) c.digit.ensures.text)
-    ∙ sym (append_assoc front last written)
-    ∙ ap (λ xs. xs ++ written) (sym (digits_step base l.left c.requires.base c.loop-left-test.true l.auto.left-fits.fits))
-    ∙ l.invariant.0 in (
-      text,
-      omega (arith, l.invariant.1, long, put.start),
-      omega (arith, l.invariant.2, long, put.start),
-      omega (arith, l.invariant.3, put.start),
-      λ before. put.ascii (l.invariant.4 before),
-    )
+    written_on base c.args.number l.left (l.left / base) c.args.end l.start c.put-start.result last c.args.line.now l.line c.put-start.new.line l.invariant step
+    (put.text ∙ ap (λ d. d ∷ drop l.start l.line) c.digit.ensures.text) put.start put.ascii
 
 pub put-requires-clause-room : goal.put-requires-clause-room
 put-requires-clause-room c =

@@ -1,4 +1,4 @@
--- Windows: parts of a file that were read at once.
+-- FileParts: parts of a file that were read at once.
 use Rattle.std.specs.Prelude.{◌≡◌, ◌+◌, ◌&&◌, ℕ, Bool, List, length, nat_le}
 use Rattle.x86_64_dump.specs.Source.{part_of}
 

@@ -1,14 +1,14 @@
-//! Windows of files.
-ghost use Rattle.std.specs.Prelude.{◌≡◌, ◌+◌, ◌*◌, ◌≤◌, ℕ, List, length, true, IsOk, OnOk};
+//! Parts of files, read at once.
+ghost use Rattle.std.specs.Prelude.{◌≡◌, ◌+◌, ◌*◌, ◌≤◌, ℕ, List, [], length, true, IsOk, IfErr, OnOk};
 ghost use Rattle.x86_64_dump.specs.Source.{part_of};
-ghost use Rattle.x86_64_dump.specs.private.Windows.{IsOf, has_frame_at};
+ghost use Rattle.x86_64_dump.specs.private.FileParts.{IsOf, has_frame_at};
 
 use crate::source::ByteSource;
 use std::io;
 use std::marker::Model;
 use x86_64_page::page::{PageSize, Size4KiB};
 
-/// The largest number of frames in a window.
+/// The largest number of frames in a part.
 pub const MOST_FRAMES: usize = 8;
 
 /// The size of a frame.
@@ -16,7 +16,7 @@ const FRAME_SIZE: usize = Size4KiB::SIZE as usize;
 
 /// A part of a file that was read at once, so that frames that lie together in the file take one read.
 #[derive(Drop)]
-pub struct Window {
+pub struct FilePart {
     /// The bytes. Those behind the first `count` are left from before.
     bytes: [u8; MOST_FRAMES * FRAME_SIZE],
     /// The offset in the file of the first.
@@ -25,30 +25,30 @@ pub struct Window {
     count: usize,
 }
 
-impl Model for Window {
+impl Model for FilePart {
     ghost use Rattle.std.specs.Prelude.{◌≤◌, take};
-    ghost use Rattle.x86_64_dump.specs.private.Windows.{Part};
+    ghost use Rattle.x86_64_dump.specs.private.FileParts.{Part};
 
     ghost Value = { Part };
 
-    ghost view = { λ w. record { start = w.start; bytes = take w.count w.bytes } };
+    ghost view = { λ part. record { start = part.start; bytes = take part.count part.bytes } };
 
-    ghost invariant = { λ w. w.count ≤ 32768 };
+    ghost invariant = { λ part. part.count ≤ 32768 };
 }
 
-impl Window {
-    /// Creates a window that has no bytes yet.
-    pub fn new() -> Window
+impl FilePart {
+    /// Creates a part without bytes.
+    pub fn new() -> FilePart
         ensures { (file : List ℕ) → IsOf file result }
     {
-        Window {
+        FilePart {
             bytes: [0; MOST_FRAMES * FRAME_SIZE],
             start: 0,
             count: 0,
         }
     }
 
-    /// Returns true if the window has the frame at an offset of the file.
+    /// Returns true if the part has the frame at an offset of the file.
     pub fn has_frame(&self, offset: u64) -> bool
         ensures { result ≡ has_frame_at self.now offset }
     {
@@ -57,17 +57,18 @@ impl Window {
             && offset - self.start <= (self.count - FRAME_SIZE) as u64
     }
 
-    /// Reads this many frames from an offset of the file on. The window then has these and no others.
+    /// Reads this many frames from an offset of the file on. The part then has these and no others.
     ///
     /// # Errors
     ///
-    /// The error of the source. The window then has no bytes.
+    /// The error of the source. The part then has no bytes.
     pub fn read<S: ByteSource>(&mut self, source: &S, offset: u64, frames: usize) -> io::Result<()>
         requires { frames ≤ 8 }
         ensures bytes { S.IsKnown → OnOk result (IsOf (S.bytes source.now) self.new) }
         ensures place { OnOk result (
             (self.new.start ≡ offset) × (length self.new.bytes ≡ 4096 * frames)) }
         ensures succeeds { S.IsKnown → offset + 4096 * frames ≤ length (S.bytes source.now) → IsOk result }
+        ensures nothing { IfErr result (λ _. self.new.bytes ≡ []) }
     {
         let count = frames * FRAME_SIZE;
         self.count = 0;

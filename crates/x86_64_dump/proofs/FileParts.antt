@@ -1,16 +1,13 @@
--- Windows: a part of a file as bytes that were read, and a frame in it.
-use Rattle.std.proofs.Common.{◌≡◌, ◌+◌, ◌-◌, ◌≤◌, ◌&&◌, ℕ, Bool, true, false, true≢false, leb-true, nat_le, List, length, take, drop, refl, sym, ap, ◌∙◌, arith, take-take, drop-drop, length-take}
+-- FileParts: a part of a file that was read at once, and a frame in it.
+use Rattle.std.proofs.Common.{◌≡◌, ◌+◌, ◌-◌, ◌≤◌, ◌&&◌, ℕ, true, leb-true, nat_le, List, length, take, drop, sym, ap, ◌∙◌, arith, take-take, drop-drop, length-take}
+use Rattle.std.proofs.lemmas.Bool.{and_parts}
 use Rattle.std.proofs.lemmas.List.{drop-take}
 use Rattle.x86_64_dump.specs.Source.{part_of}
-use Rattle.x86_64_dump.specs.private.Windows.{Part, has_frame_at}
-
-both : (a b : Bool) → (a && b) ≡ true → (a ≡ true) × (b ≡ true)
-both true b is = (refl, is)
-both false b is = absurd (true≢false (sym is))
+use Rattle.x86_64_dump.specs.private.FileParts.{Part, has_frame_at}
 
 pub placed : (part : Part) (offset : ℕ) → has_frame_at part offset ≡ true → (part.start ≤ offset) × (offset + 4096 ≤ part.start + length part.bytes)
 placed part offset has =
-    let each = both (nat_le part.start offset) (nat_le (offset + 4096) (part.start + length part.bytes)) has in
+    let each = and_parts (nat_le part.start offset) (nat_le (offset + 4096) (part.start + length part.bytes)) has in
     (leb-true _ _ each.0, leb-true _ _ each.1)
 
 pub frame_shown : (file bytes : List ℕ) (start offset count : ℕ) → take count bytes ≡ part_of file start (length (take count bytes))
