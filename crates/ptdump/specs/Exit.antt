@@ -1,6 +1,10 @@
 -- The exit status of the program.
 use Rattle.std.specs.Prelude.{ℕ, Result, Ok, Err, if◌then◌else◌}
+use Rattle.clap.specs.declared.error.Error.{Error}
+use Rattle.clap.specs.declared.error.kind.ErrorKind.{ErrorKind}
+use Rattle.clap.specs.declared.error.kind.ErrorKind.TheVariants as kind
 use Rattle.ptdump_engine.specs.Failure.{status_of}
+use Rattle.ptdump_engine.specs.declared.failure.Failure.TheVariants.{OutOfMemory}
 use Rattle.ptdump_engine.specs.declared.request.Outcome.{Outcome}
 use Rattle.ptdump.specs.declared.stop.Stop.{Stop}
 use Rattle.ptdump.specs.declared.stop.Stop.TheVariants.{Help, Usage, NoText, NoCommand, NoAddress, NoNumber, NoLevels, NoRange, BaseAndRanges, NoAccess, NoSetting, NoPhysicalBits, NoDirectMap, NoRights, Unopened, NoLength, Failed}
@@ -29,3 +33,10 @@ stop_status (Failed failure) = status_of failure
 abbrev pub exit_status_of : Result Outcome Stop → ℕ
 exit_status_of (Ok outcome) = if outcome.is_complete then 0 else 1
 exit_status_of (Err stop) = stop_status stop
+
+-- why the program ends if its command line can't be parsed: memory allocation failed, help or the version is asked for, or the words are wrong
+abbrev pub stop_for : ErrorKind → Error → Stop
+stop_for kind.OutOfMemory error = Failed OutOfMemory
+stop_for kind.DisplayHelp error = Help error
+stop_for kind.DisplayVersion error = Help error
+stop_for other error = Usage error

@@ -1,11 +1,13 @@
 //! Prints what the page tables in a dump of physical memory map.
 #![tactic(auto)]
 
-ghost use Rattle.std.specs.Prelude.{◌≡◌, ◌⊎◌};
+ghost use Rattle.std.specs.Prelude.{◌≡◌, ◌⊎◌, [], IfErr, IfOk, Ok, codes, unwrap_or};
 ghost use Rattle.std.specs.Process.{exit_status};
-ghost use Rattle.ptdump.specs.Exit.{exit_status_of};
+ghost use Rattle.clap.specs.Matches.{first_value, found_of};
+ghost use Rattle.ptdump.specs.Exit.{exit_status_of, stop_status};
+ghost use Rattle.ptdump.specs.declared.stop.Stop.TheVariants.{Failed, NoText};
 ghost use Rattle.ptdump_engine.specs.Failure.{status_of};
-ghost use Rattle.ptdump_engine.specs.declared.failure.Failure.TheVariants.{Output};
+ghost use Rattle.ptdump_engine.specs.declared.failure.Failure.TheVariants.{OutOfMemory, Output};
 
 mod asked;
 mod command_line;
@@ -44,7 +46,9 @@ fn words(rt: &HostRuntime) -> io::Result<Vec<String>> {
 }
 
 /// Returns why the words can't be listed: memory allocation failed, or one of them isn't text.
-fn stop_of(error: &io::Error) -> Stop<'static> {
+fn stop_of(error: &io::Error) -> Stop<'static>
+    ensures { (result ≡ Failed OutOfMemory) ⊎ (result ≡ NoText) }
+{
     if error.kind() == ErrorKind::OutOfMemory {
         Stop::Failed(Failure::OutOfMemory)
     } else {
@@ -66,7 +70,9 @@ fn run<'a>(rt: &HostRuntime, words: &'a [String]) -> Result<Outcome, Stop<'a>> {
 }
 
 /// Returns the path of the dump, which the command line requires.
-fn path_of<'a>(arguments: &ArgMatches<'a>) -> &'a str {
+fn path_of<'a>(arguments: &ArgMatches<'a>) -> &'a str
+    ensures { result.now ≡ unwrap_or (first_value (found_of arguments.now) (codes "file")) [] }
+{
     arguments.get_str("file").unwrap_or("")
 }
 
@@ -88,7 +94,9 @@ fn report_on<'a>(rt: &HostRuntime, path: &'a str, request: &Request) -> Result<O
 }
 
 /// Opens a dump, which is standard input if the path is `-`.
-fn open<'a>(rt: &HostRuntime, path: &'a str) -> Result<FileSource, Stop<'a>> {
+fn open<'a>(rt: &HostRuntime, path: &'a str) -> Result<FileSource, Stop<'a>>
+    ensures { IfErr result (λ stop. stop_status stop ≡ 3) }
+{
     let name = if path == "-" { "/dev/stdin" } else { path };
     let file = match File::open(rt, name) {
         Ok(file) => file,
@@ -100,7 +108,9 @@ fn open<'a>(rt: &HostRuntime, path: &'a str) -> Result<FileSource, Stop<'a>> {
 /// Prints the reason if a run stopped early, and returns the exit code. If printing fails, the exit code is that of a failed
 /// write.
 fn report(rt: &(impl Print + Eprint), ended: Result<Outcome, Stop<'_>>) -> ExitCode
-    ensures { (exit_status result ≡ exit_status_of ended.entry) ⊎ (exit_status result ≡ status_of Output) }
+    ensures done { IfOk ended.entry (λ outcome. exit_status result ≡ exit_status_of (Ok outcome)) }
+    ensures stopped { (exit_status result ≡ exit_status_of ended.entry)
+        ⊎ (exit_status result ≡ status_of Output) }
 {
     let told = match &ended {
         Ok(_) => Ok(()),

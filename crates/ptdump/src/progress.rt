@@ -1,4 +1,5 @@
 //! The progress of reading tables, shown on a terminal.
+ghost use Rattle.std.specs.Prelude.{◌≡◌, false};
 
 use ptdump_engine::Progress;
 
@@ -15,7 +16,10 @@ pub struct ProgressLine<'a, R: Eprint> {
 
 impl<'a, R: Eprint> ProgressLine<'a, R> {
     /// Creates a line that shows nothing yet, and never does if standard error isn't a terminal.
-    pub fn new(rt: &'a R, is_terminal: bool) -> Self {
+    pub fn new(rt: &'a R, is_terminal: bool) -> Self
+        ensures terminal { result.is_terminal ≡ is_terminal }
+        ensures shown { result.is_shown ≡ false }
+    {
         ProgressLine {
             rt,
             is_terminal,

@@ -186,12 +186,21 @@ impl<T: Drop> From<AllocFailed<T>> for Stop<'_> {
 }
 
 impl From<Failure> for Stop<'_> {
+    ghost use Rattle.ptdump.specs.declared.stop.Stop.TheVariants.{Failed};
+
+    ghost from_gives = { λ failure stop. stop ≡ Failed failure };
+
     fn from(failure: Failure) -> Self {
         Stop::Failed(failure)
     }
 }
 
 impl From<clap::Error> for Stop<'_> {
+    ghost use Rattle.clap.specs.Values.{kind_of};
+    ghost use Rattle.ptdump.specs.Exit.{stop_for};
+
+    ghost from_gives = { λ error stop. stop ≡ stop_for (kind_of error) error };
+
     fn from(error: clap::Error) -> Self {
         match error.kind() {
             ErrorKind::OutOfMemory => Stop::Failed(Failure::OutOfMemory),

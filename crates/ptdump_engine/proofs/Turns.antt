@@ -1,10 +1,11 @@
 -- Lists that are gone through, with a step for each element.
-use Rattle.std.proofs.Common.{◌≡◌, ◌+◌, ◌<◌, ◌≤◌, ◌++◌, ◌==◌, ℕ, List, [], ◌∷◌, Option, if◌then◌else◌, take, drop, get_or, length, refl, sym, ap, ap₂, subst, false, codes, decimal, arith}
+use Rattle.std.proofs.Common.{◌≡◌, ◌+◌, ◌<◌, ◌≤◌, ◌++◌, ◌==◌, ◌⊎◌, inl, inr, ℕ, List, [], ◌∷◌, Option, if◌then◌else◌, take, drop, get_or, length, refl, sym, ap, ap₂, subst, false, codes, decimal, arith}
 use Rattle.std.proofs.KnownBytes.{Appends-trans}
 use Rattle.std.proofs.lemmas.Bool.Decides.{nat_tests}
 use Rattle.std.proofs.lemmas.List.{drop_all, drop_more}
 use Rattle.std.specs.Io.KnownBytes.{Appends}
 use Rattle.std.specs.List.{enumerate_from, flat_map, join_by}
+use Rattle.ptdump_engine.specs.Program.{EndsTold}
 use Rattle.ptdump_engine.specs.Steps.{InTurn}
 use Rattle.ptdump_engine.specs.private.Roots.{number_at}
 use Rattle.ptdump_engine.proofs.Found.{flat_more}
@@ -19,6 +20,11 @@ module _ {X G : Type 0} (Step : X → G → G → Type 0) where
   -- nothing is left
   pub turn_all : (first now : G) (xs : List X) (i : ℕ) → length xs ≤ i → ((after : G) → InTurn Step (drop i xs) now after → InTurn Step xs first after) → InTurn Step xs first now
   turn_all first now xs i end all = all now (subst (λ ys. InTurn Step ys now now) (sym (drop_all i xs end)) refl)
+
+-- the end is what was told last, if that is so of a first part and of the rest
+pub told_on : {G : Type 0} (Ended : G → G → Type 0) (before now after : G) → EndsTold Ended before now → EndsTold Ended now after → EndsTold Ended before after
+told_on Ended before now after first (inl same) = subst (EndsTold Ended before) (sym same) first
+told_on Ended before now after first (inr last) = inr last
 
 -- one more text is written
 pub appends_more : {X : Type 0} (text : X → List ℕ) (old now new : Option (List ℕ)) (xs : List X) (i : ℕ) (d : X) → i < length xs

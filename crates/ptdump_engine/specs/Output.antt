@@ -1,8 +1,12 @@
 -- Outputs: text that is collected for a writer, and passed to it in large pieces.
-use Rattle.std.specs.Prelude.{◌≡◌, ℕ, List, Option, String, string_bytes}
+use Rattle.std.specs.Prelude.{◌≡◌, ℕ, List, Option, String, string_bytes, ⊤}
 use Rattle.std.specs.Io.KnownBytes.{Appends, append_known}
 use Rattle.std.specs.declared.alloc.Global.{Global}
+use Rattle.ptdump_engine.specs.declared.failure.Failure.{Failure}
+use Rattle.ptdump_engine.specs.declared.failure.Failure.TheVariants as failures
 use Rattle.ptdump_engine.specs.declared.output.Output.{Output}
+use Rattle.ptdump_engine.specs.declared.output.OutputError.{OutputError}
+use Rattle.ptdump_engine.specs.declared.output.OutputError.TheVariants as errors
 
 -- the contents of the writer, followed by the collected text
 abbrev pub put_in : {W : Type 0} → (contents : W → Option (List ℕ)) → Output W (String Global) → Option (List ℕ)
@@ -12,3 +16,13 @@ put_in contents output = append_known (contents output.writer.now) (string_bytes
 pub record Puts {W : Type 0} (contents : W → Option (List ℕ)) (old new : Output W (String Global)) (text : List ℕ) : Type 0 where
   pub writer : new.writer.ghost_name ≡ old.writer.ghost_name
   pub appends : Appends (put_in contents old) (put_in contents new) text
+
+-- the error is not of memory allocation
+abbrev pub IsRefusal : {W : Type 0} → OutputError W → Type 0
+IsRefusal errors.OutOfMemory = ⊥
+IsRefusal (errors.Write refusal) = ⊤
+
+-- the failure of a run that ends for the error
+abbrev pub failure_of : {W : Type 0} → OutputError W → Failure
+failure_of errors.OutOfMemory = failures.OutOfMemory
+failure_of (errors.Write refusal) = failures.Output

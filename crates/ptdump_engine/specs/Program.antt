@@ -327,3 +327,7 @@ ToldAs false false Told Ended request file before after = (o : Opened) × (opene
 
 abbrev pub ToldOfRun : {G : Type 0} (Told : G → G → List ℕ → Type 0) (Ended : G → G → Type 0) → Request → (file : List ℕ) → (before after : G) → Type 0
 ToldOfRun Told Ended request = ToldAs (is_info request.command) (is_of_processors request) Told Ended request
+
+-- what was told last is the end, if anything was told
+abbrev pub EndsTold : {G : Type 0} (Ended : G → G → Type 0) → (before after : G) → Type 0
+EndsTold {G} Ended before after = (after ≡ before) ⊎ ((between : G) × Ended between after)

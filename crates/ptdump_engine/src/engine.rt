@@ -64,6 +64,7 @@ pub fn run<S: ByteSource, W: Destination, E: Destination, G: Progress>(
         program.Notes request.now (S.bytes source) (E.contents errors.old) (E.contents errors.new)) }
     ensures told { S.IsKnown → OnOk result
         (program.ToldOfRun G.Told G.Ended request.now (S.bytes source) progress.old progress.new) }
+    ensures ended { program.EndsTold G.Ended progress.old progress.new }
 {
     let mut notes = Output::new(alloc, errors);
     let dump = open(alloc, source, request)?;
@@ -93,7 +94,8 @@ fn write_source<E: Destination>(
     origin: Origin,
     notes: &mut Output<'_, E>,
 ) -> Result<(), OutputError<E>>
-    ensures { OnOk result (Puts E.contents notes.old notes.new (program.source_text origin)) }
+    ensures text { OnOk result (Puts E.contents notes.old notes.new (program.source_text origin)) }
+    ensures all { OnOk result (string_bytes notes.old.text ≡ [] → string_bytes notes.new.text ≡ []) }
 {
     if matches!(origin, Origin::ByKernel) {
         writeln!(
@@ -158,6 +160,7 @@ pub fn report_from<S: ByteSource, W: Destination, E: Destination, G: Progress>(
     ensures told { S.IsKnown → OnOk result (program.ToldOfTables G.Told G.Ended
         (program.level_count start.now.levels) (words_opened S.bytes dump.now) start.now.root
         progress.old progress.new) }
+    ensures ended { program.EndsTold G.Ended progress.old progress.new }
     ensures errors { S.IsKnown → IfErr result (IsForced (W.may_refuse || E.may_refuse)) }
 {
     match start.levels {
@@ -192,6 +195,7 @@ fn report<L: LevelCount, S: ByteSource, W: Destination, E: Destination, G: Progr
     ensures noted { OnOk result (string_bytes notes.new.text ≡ []) }
     ensures told { S.IsKnown → OnOk result (program.ToldOfTables G.Told G.Ended L.LEVELS
         (words_opened S.bytes dump.now) root progress.old progress.new) }
+    ensures ended { program.EndsTold G.Ended progress.old progress.new }
     ensures errors { S.IsKnown → IfErr result (IsForced (W.may_refuse || E.may_refuse)) }
 {
     let tables = read_tables::<L, S, G>(alloc, dump, root, progress);

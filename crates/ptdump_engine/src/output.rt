@@ -1,6 +1,6 @@
 //! Output that is collected, and passed on in large pieces.
-ghost use Rattle.std.specs.Prelude.{◌≡◌, IfSome, OnOk, string_bytes, [], true};
-ghost use Rattle.ptdump_engine.specs.Steps.{IsForced};
+ghost use Rattle.std.specs.Prelude.{◌≡◌, IfErr, IfSome, OnOk, string_bytes, [], true};
+ghost use Rattle.ptdump_engine.specs.declared.failure.Failure.TheVariants as failures;
 
 use crate::destination::Destination;
 use crate::failure::Failure;
@@ -39,7 +39,8 @@ impl<W: Destination> Refusal<W> {
 
     /// Returns the failure of a run that ends for it.
     pub fn failure(self) -> Failure
-        ensures { IsForced W.may_refuse result }
+        ensures failure { result ≡ failures.Output }
+        ensures refused { W.may_refuse ≡ true }
     {
         let Refusal { destination: _ } = self;
         Failure::Output
@@ -97,7 +98,7 @@ impl<'a, W: Destination> Output<'a, W> {
 }
 
 impl<W: Destination> Output<'_, W> {
-    ghost use Rattle.ptdump_engine.specs.Output.{Puts};
+    ghost use Rattle.ptdump_engine.specs.Output.{IsRefusal, Puts};
     ghost use Rattle.ptdump_engine.specs.Walks.{line};
 
     /// Puts a text in. `write!` and `writeln!` call it.
@@ -133,6 +134,7 @@ impl<W: Destination> Output<'_, W> {
     pub fn finish(&mut self) -> Result<(), OutputError<W>>
         ensures same { OnOk result (Puts W.contents self.old self.new []) }
         ensures all { OnOk result (string_bytes self.new.text ≡ []) }
+        ensures refused { IfErr result IsRefusal }
     {
         self.hand_on()?;
         match self.writer.flush() {
@@ -155,6 +157,7 @@ impl<W: Destination> Output<'_, W> {
     fn hand_on(&mut self) -> Result<(), OutputError<W>>
         ensures same { OnOk result (Puts W.contents self.old self.new []) }
         ensures all { OnOk result (string_bytes self.new.text ≡ []) }
+        ensures refused { IfErr result IsRefusal }
     {
         let text = self.text.as_bytes();
         if let Err(error) = self.writer.write_all(text) {

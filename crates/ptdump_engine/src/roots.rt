@@ -102,6 +102,7 @@ pub fn report_on_processors<S: ByteSource, W: Destination, E: Destination, G: Pr
         (words_opened S.bytes dump.now) processors.now notes.old notes.new) }
     ensures told { S.IsKnown → OnOk result (InTurn (program.ToldOfTablesOf G.Told G.Ended
         (words_opened S.bytes dump.now)) (specs.firsts_of processors.now) progress.old progress.new) }
+    ensures ended { program.EndsTold G.Ended progress.old progress.new }
     ensures errors { S.IsKnown → IfErr result (IsForced (W.may_refuse || E.may_refuse)) }
 {
     let firsts = firsts_of(alloc, processors)?;
@@ -136,6 +137,7 @@ fn write_reports<S: ByteSource, W: Destination, E: Destination, G: Progress>(
     ensures told { S.IsKnown → OnOk result (InTurn
         (program.ToldOfTablesOf G.Told G.Ended (words_opened S.bytes dump.now)) firsts.now
         progress.old progress.new) }
+    ensures ended { program.EndsTold G.Ended progress.old progress.new }
     ensures errors { S.IsKnown → IfErr result (IsForced (W.may_refuse || E.may_refuse)) }
 {
     let mut is_complete = true;
@@ -174,6 +176,7 @@ fn write_report_below<S: ByteSource, W: Destination, E: Destination, G: Progress
         (E.contents notes.old.writer.now) (E.contents notes.new.writer.now)) }
     ensures told { S.IsKnown → OnOk result (program.ToldOfTablesOf G.Told G.Ended
         (words_opened S.bytes dump.now) first.now progress.old progress.new) }
+    ensures ended { program.EndsTold G.Ended progress.old progress.new }
     ensures errors { S.IsKnown → IfErr result (IsForced (W.may_refuse || E.may_refuse)) }
 {
     write_heading(alloc, request.form, processors, first, writer)?;

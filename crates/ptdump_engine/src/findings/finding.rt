@@ -83,7 +83,7 @@ impl EntryFlaw {
     ghost use Rattle.ptdump_engine.specs.Findings.{flaw_in};
     ghost use Rattle.ptdump_engine.specs.declared.findings.entry.Entry.{Entry};
 
-    /// Returns false if no entry of a level has the flaw, whatever its word.
+    /// Returns true if an entry of a level may have the flaw. If it returns false, none has, whatever its word.
     pub fn may_be_at(self, level: u64) -> bool
         ensures { result ≡ false → (entry : Entry) → entry.level ≡ level → flaw_in self entry ≡ None }
     {

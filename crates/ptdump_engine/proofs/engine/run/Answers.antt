@@ -188,7 +188,7 @@ returns-clause-notes g c = λ known.
     let not : is_info request.command ≡ false = sym c.is_info.ensures ∙ c.if-is_info.false in
     let one : is_of_processors request ≡ false = sym c.is_of_processors.ensures ∙ c.if-is_of_processors.false in
     let text = opening_text dump ++ source_text start.origin in
-    let both = puts_both contents c.new-notes.result c.write_opening.new.notes c.write_source.new.notes (opening_text dump) (source_text start.origin) (c.in_ok-write_opening.ensures.text known) c.in_ok-write_source.ensures in
+    let both = puts_both contents c.new-notes.result c.write_opening.new.notes c.write_source.new.notes (opening_text dump) (source_text start.origin) (c.in_ok-write_opening.ensures.text known) c.in_ok-write_source.ensures.text in
     let told = put_first contents c.new-notes.result c.write_source.new.notes text c.new-notes.ensures.empty both in
     let begun : Appends (contents c.args.errors.now) (put_in contents c.write_source.new.notes) text =
     subst (λ e. Appends (contents e) (put_in contents c.write_source.new.notes) text) c.new-notes.ensures.now told in
