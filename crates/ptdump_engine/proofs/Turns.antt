@@ -1,5 +1,5 @@
 -- Lists that are gone through, with a step for each element.
-use Rattle.std.proofs.Common.{◌≡◌, ◌+◌, ◌<◌, ◌≤◌, ◌++◌, ◌==◌, ◌⊎◌, inl, inr, ℕ, List, [], ◌∷◌, Option, if◌then◌else◌, take, drop, get_or, length, refl, sym, ap, ap₂, subst, false, codes, decimal, arith}
+use Rattle.std.proofs.Common.{◌≡◌, ◌+◌, ◌<◌, ◌≤◌, ◌++◌, ◌==◌, inl, inr, ℕ, List, [], ◌∷◌, Option, if◌then◌else◌, take, drop, get_or, length, refl, sym, ap, ap₂, subst, false, codes, decimal, arith}
 use Rattle.std.proofs.KnownBytes.{Appends-trans}
 use Rattle.std.proofs.lemmas.Bool.Decides.{nat_tests}
 use Rattle.std.proofs.lemmas.List.{drop_all, drop_more}
