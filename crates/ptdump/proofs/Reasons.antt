@@ -10,7 +10,7 @@ use Rattle.ptdump_engine.specs.declared.request.AddressRange.{AddressRange}
 use Rattle.ptdump.specs.DirectMaps.{IsAddressRange, IsDirectMap}
 use Rattle.ptdump.specs.Options.{option_name}
 use Rattle.ptdump.specs.Placements.{IsRange}
-use Rattle.ptdump.specs.Reasons.{IsNoAddress, IsNoPlacement, IsNoRange, IsNoSetting, IsReason, IsReasonFor}
+use Rattle.ptdump.specs.Reasons.{IsMistake, IsNoAddress, IsNoPlacement, IsNoRange, IsNoSetting, IsReason, IsReasonFor}
 use Rattle.ptdump.specs.Requests.{IsUnread, values}
 use Rattle.ptdump.specs.declared.stop.Stop.{Stop}
 use Rattle.ptdump.specs.declared.stop.Stop.TheVariants.{NoCommand, NoAddress, NoNumber, NoRange, BaseAndRanges, NoAccess, NoSetting, NoDirectMap, Failed}
@@ -26,8 +26,8 @@ no_range_at texts i d stop below (inr is) (inr none) = subst (IsNoRange (map (λ
 
 -- the name of the access is that of none
 pub no_access_named : (found : Found) (name : Bor (List ℕ)) (stop : Stop) → first_value found (codes "as") ≡ Some name.now → stop ≡ NoAccess name
-    → ((access : Access) → name.now ≡ access_name access → ⊥) → IsReason found stop
-no_access_named found name stop given is none = subst (IsReason found) (sym is) (given, none)
+    → ((access : Access) → name.now ≡ access_name access → ⊥) → IsMistake found stop
+no_access_named found name stop given is none = subst (IsMistake found) (sym is) (given, none)
 
 -- the text of a direct map denotes no range, or memory allocation failed
 pub no_direct_map : (found : Found) (text : Bor (List ℕ)) (stop : Stop) → first_value found (codes "direct-map") ≡ Some text.now → (stop ≡ Failed OutOfMemory) ⊎ (stop ≡ NoDirectMap text)
@@ -57,7 +57,7 @@ of_addresses found (NoAddress text) is = is
 of_addresses found (Failed failure) is = is
 of_addresses found stop is = absurd is
 
-pub of_settings : (found : Found) (stop : Stop) → IsNoSetting (values found (codes "controls")) stop → IsReason found stop
+pub of_settings : (found : Found) (stop : Stop) → IsNoSetting (values found (codes "controls")) stop → IsMistake found stop
 of_settings found (NoSetting word) is = is
 of_settings found stop is = absurd is
 
@@ -68,6 +68,11 @@ of_placement found BaseAndRanges is = is
 of_placement found (Failed failure) is = is
 of_placement found stop is = absurd is
 
+-- a wrong argument is a reason
+pub of_mistake : (found : Found) (stop : Stop) → IsMistake found stop → IsReason found stop
+of_mistake found (Failed failure) is = absurd is
+of_mistake found stop is = is
+
 -- the reason why arguments aren't read, whatever the name of the command
 pub for_any_name : (name : List ℕ) (found : Found) (stop : Stop) → IsReason found stop → IsReasonFor name found stop
 for_any_name name found (NoCommand word) is = absurd is
@@ -75,3 +80,9 @@ for_any_name name found stop is = is
 
 pub reason_for : {T : Type 0} (name : List ℕ) (found : Found) (result : Result T Stop) → IfErr result (IsReason found) → IfErr result (IsReasonFor name found)
 reason_for name found result = IfErr-weaker result (IsReason found) (IsReasonFor name found) (for_any_name name found)
+
+pub mistake_for_any_name : (name : List ℕ) (found : Found) (stop : Stop) → IsMistake found stop → IsReasonFor name found stop
+mistake_for_any_name name found stop is = for_any_name name found stop (of_mistake found stop is)
+
+pub mistake_for : {T : Type 0} (name : List ℕ) (found : Found) (result : Result T Stop) → IfErr result (IsMistake found) → IfErr result (IsReasonFor name found)
+mistake_for name found result = IfErr-weaker result (IsMistake found) (IsReasonFor name found) (mistake_for_any_name name found)

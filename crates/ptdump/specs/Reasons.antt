@@ -39,20 +39,24 @@ IsBadRange texts text = (is_listed texts text ≡ true) × ((range : RawRange) �
 abbrev pub IsBadSetting : (words : List (List ℕ)) → (word : List ℕ) → Type 0
 IsBadSetting words word = (is_listed words word ≡ true) × (is_listed setting_names word ≡ false)
 
--- what is true of the arguments of a command if this is the reason why they aren't read; other reasons come from elsewhere
+-- what is wrong with the arguments of a command; other reasons come from elsewhere
+abbrev pub IsMistake : Found → Stop → Type 0
+IsMistake found (NoAddress text) = IsBadNumber (values found (codes "addresses")) text.now
+IsMistake found (NoNumber option text) = (first_value found (option_name option) ≡ Some text.now) × ¬ (IsNumber text.now)
+IsMistake found (NoLevels number) = HasNumber found (codes "levels") number × ¬ (number ≡ 4) × ¬ (number ≡ 5)
+IsMistake found (NoRange text) = IsBadRange (values found (codes "range")) text.now
+IsMistake found BaseAndRanges = ¬ (first_value found (codes "base") ≡ None) × ¬ (values found (codes "range") ≡ [])
+IsMistake found (NoAccess text) = (first_value found (codes "as") ≡ Some text.now) × ((access : Access) → ¬ (text.now ≡ access_name access))
+IsMistake found (NoSetting word) = IsBadSetting (values found (codes "controls")) word.now
+IsMistake found (NoPhysicalBits bits) = HasNumber found (codes "maxphyaddr") bits × ¬ ((32 ≤ bits) × (bits ≤ 52))
+IsMistake found (NoDirectMap text) = (first_value found (codes "direct-map") ≡ Some text.now) × ((range : AddressRange) → ¬ (IsAddressRange text.now range))
+IsMistake found (NoRights text) = (first_value found (codes "rights") ≡ Some text.now) × (are_letters text.now ≡ false)
+IsMistake found stop = ⊥
+
+-- the reason why the arguments of a command aren't read: one of them is wrong, or memory allocation failed
 abbrev pub IsReason : Found → Stop → Type 0
-IsReason found (NoAddress text) = IsBadNumber (values found (codes "addresses")) text.now
-IsReason found (NoNumber option text) = (first_value found (option_name option) ≡ Some text.now) × ¬ (IsNumber text.now)
-IsReason found (NoLevels number) = HasNumber found (codes "levels") number × ¬ (number ≡ 4) × ¬ (number ≡ 5)
-IsReason found (NoRange text) = IsBadRange (values found (codes "range")) text.now
-IsReason found BaseAndRanges = ¬ (first_value found (codes "base") ≡ None) × ¬ (values found (codes "range") ≡ [])
-IsReason found (NoAccess text) = (first_value found (codes "as") ≡ Some text.now) × ((access : Access) → ¬ (text.now ≡ access_name access))
-IsReason found (NoSetting word) = IsBadSetting (values found (codes "controls")) word.now
-IsReason found (NoPhysicalBits bits) = HasNumber found (codes "maxphyaddr") bits × ¬ ((32 ≤ bits) × (bits ≤ 52))
-IsReason found (NoDirectMap text) = (first_value found (codes "direct-map") ≡ Some text.now) × ((range : AddressRange) → ¬ (IsAddressRange text.now range))
-IsReason found (NoRights text) = (first_value found (codes "rights") ≡ Some text.now) × (are_letters text.now ≡ false)
 IsReason found (Failed failure) = failure ≡ OutOfMemory
-IsReason found stop = ⊥
+IsReason found stop = IsMistake found stop
 
 -- likewise of the name of the command too, which may be that of none
 abbrev pub IsReasonFor : (name : List ℕ) → Found → Stop → Type 0

@@ -4,7 +4,7 @@ ghost use Rattle.std.specs.List.{find, list_any};
 ghost use Rattle.std.specs.Str.{bytes_eq};
 ghost use Rattle.clap.specs.Matches.{first_value, found_of};
 ghost use Rattle.ptdump.specs.Asked.{AreAsked, AreControls, IsAccess, IsBits, is_listed, setting_names, texts_of, usual_names};
-ghost use Rattle.ptdump.specs.Reasons.{IsNoSetting, IsReason};
+ghost use Rattle.ptdump.specs.Reasons.{IsMistake, IsNoSetting};
 ghost use Rattle.ptdump.specs.declared.stop.Stop.TheVariants.{NoAccess};
 ghost use Rattle.ptdump_engine.specs.Accesses.{access_name};
 ghost use Rattle.ptdump_engine.specs.declared.request.WalkOptions.{WalkOptions};
@@ -30,7 +30,7 @@ pub fn options_of<'a>(arguments: &ArgMatches<'a>) -> Result<WalkOptions, Stop<'a
     ensures ok { IfOk result (AreAsked (found_of arguments.now)) }
     ensures err { IfErr result (λ _. (options : WalkOptions) →
         ¬ (AreAsked (found_of arguments.now) options)) }
-    ensures reason { IfErr result (IsReason (found_of arguments.now)) }
+    ensures reason { IfErr result (IsMistake (found_of arguments.now)) }
 {
     let access = access_of(arguments)?;
     let physical_bits = bits_of(arguments)?;
@@ -47,7 +47,7 @@ fn access_of<'a>(arguments: &ArgMatches<'a>) -> Result<Option<Access>, Stop<'a>>
     ensures ok { IfOk result (IsAccess (first_value (found_of arguments.now) (codes "as"))) }
     ensures err { IfErr result (λ _. (access : Option Asked) →
         ¬ (IsAccess (first_value (found_of arguments.now) (codes "as")) access)) }
-    ensures reason { IfErr result (IsReason (found_of arguments.now)) }
+    ensures reason { IfErr result (IsMistake (found_of arguments.now)) }
 {
     let Some(name) = arguments.get_str("as") else {
         return Ok(None);
@@ -107,7 +107,7 @@ pub fn bits_of<'a>(arguments: &ArgMatches<'a>) -> Result<u8, Stop<'a>>
     ensures ok { IfOk result (IsBits (first_value (found_of arguments.now) (codes "maxphyaddr"))) }
     ensures err { IfErr result (λ _. (bits : ℕ) →
         ¬ (IsBits (first_value (found_of arguments.now) (codes "maxphyaddr")) bits)) }
-    ensures reason { IfErr result (IsReason (found_of arguments.now)) }
+    ensures reason { IfErr result (IsMistake (found_of arguments.now)) }
 {
     match option_of(arguments, NumberOption::PhysicalBits)? {
         None => Ok(PHYSICAL_BITS),

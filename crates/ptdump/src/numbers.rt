@@ -4,7 +4,7 @@ ghost use Rattle.std.specs.Result.{OkIff};
 ghost use Rattle.clap.specs.Matches.{first_value, found_of};
 ghost use Rattle.x86_64_mappings.specs.Numbers.{IsNumber, number_of};
 ghost use Rattle.ptdump.specs.Options.{IsOption, option_name};
-ghost use Rattle.ptdump.specs.Reasons.{IsNoAddress, IsReason};
+ghost use Rattle.ptdump.specs.Reasons.{IsMistake, IsNoAddress};
 ghost use Rattle.ptdump.specs.Requests.{AreNumbers, IsUnread};
 ghost use Rattle.ptdump.specs.declared.stop.Stop.TheVariants.{NoNumber};
 
@@ -81,7 +81,7 @@ pub fn option_of<'a>(
     ensures ok { IfOk result (IsOption (first_value (found_of arguments.now) (option_name option))) }
     ensures err { IfErr result (λ _. (number : Option ℕ) →
         ¬ (IsOption (first_value (found_of arguments.now) (option_name option)) number)) }
-    ensures reason { IfErr result (IsReason (found_of arguments.now)) }
+    ensures reason { IfErr result (IsMistake (found_of arguments.now)) }
 {
     match arguments.get_str(option.name()) {
         Some(text) => Ok(Some(number_of(option, text)?)),

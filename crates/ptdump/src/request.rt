@@ -2,7 +2,7 @@
 ghost use Rattle.std.specs.Prelude.{Option, IfOk, IfErr, codes};
 ghost use Rattle.clap.specs.Matches.{first_value, found_of, one_text};
 ghost use Rattle.ptdump.specs.Options.{IsFlag};
-ghost use Rattle.ptdump.specs.Reasons.{IsReason, IsReasonFor};
+ghost use Rattle.ptdump.specs.Reasons.{IsMistake, IsReason, IsReasonFor};
 ghost use Rattle.ptdump.specs.Requests.{AreNumbers, IsCommand, IsLevels, IsRequest, IsUnread, is_json, values};
 ghost use Rattle.x86_64_addr.specs.declared.level_count.Levels.{Levels};
 
@@ -22,7 +22,7 @@ use std::alloc::Global;
 /// # Errors
 ///
 /// `Failure::OutOfMemory` if memory allocation fails, otherwise what is wrong with the words.
-#[tactic(auto, using(crate::proofs::Reasons::for_any_name))]
+#[tactic(auto, using(crate::proofs::Reasons::for_any_name, crate::proofs::Reasons::mistake_for_any_name))]
 pub fn request_of<'a>(
     alloc: Global,
     name: &'a str,
@@ -56,7 +56,7 @@ fn form_of(arguments: &ArgMatches<'_>) -> Form
 }
 
 /// Returns the command with a name and its arguments.
-#[tactic(auto, using(crate::proofs::Names::same_name, crate::proofs::Commands::no_name, crate::proofs::Commands::same_command, crate::proofs::Commands::same_refusal, crate::proofs::Reasons::reason_for))]
+#[tactic(auto, using(crate::proofs::Names::same_name, crate::proofs::Commands::no_name, crate::proofs::Commands::same_command, crate::proofs::Commands::same_refusal, crate::proofs::Reasons::reason_for, crate::proofs::Reasons::mistake_for))]
 fn command_of<'a>(
     alloc: Global,
     name: &'a str,
@@ -91,7 +91,7 @@ fn command_of<'a>(
 fn regions_of<'a>(arguments: &ArgMatches<'a>) -> Result<Command, Stop<'a>>
     ensures ok { IfOk result (IsCommand (codes "regions") (found_of arguments.now)) }
     ensures err { IfErr result (IsUnread (IsCommand (codes "regions") (found_of arguments.now))) }
-    ensures reason { IfErr result (IsReason (found_of arguments.now)) }
+    ensures reason { IfErr result (IsMistake (found_of arguments.now)) }
 {
     Ok(Command::Regions(selection_of(arguments)?))
 }
@@ -100,7 +100,7 @@ fn regions_of<'a>(arguments: &ArgMatches<'a>) -> Result<Command, Stop<'a>>
 fn pages_of<'a>(arguments: &ArgMatches<'a>) -> Result<Command, Stop<'a>>
     ensures ok { IfOk result (IsCommand (codes "pages") (found_of arguments.now)) }
     ensures err { IfErr result (IsUnread (IsCommand (codes "pages") (found_of arguments.now))) }
-    ensures reason { IfErr result (IsReason (found_of arguments.now)) }
+    ensures reason { IfErr result (IsMistake (found_of arguments.now)) }
 {
     Ok(Command::Pages {
         selection: selection_of(arguments)?,
@@ -109,6 +109,7 @@ fn pages_of<'a>(arguments: &ArgMatches<'a>) -> Result<Command, Stop<'a>>
 }
 
 /// Returns the walk that the arguments describe.
+#[tactic(auto, using(crate::proofs::Reasons::of_mistake))]
 fn walk_of<'a>(alloc: Global, arguments: &ArgMatches<'a>) -> Result<Command, Stop<'a>>
     ensures ok { IfOk result (IsCommand (codes "walk") (found_of arguments.now)) }
     ensures err { IfErr result (IsUnread (IsCommand (codes "walk") (found_of arguments.now))) }
@@ -129,6 +130,7 @@ fn search_of<'a>(alloc: Global, arguments: &ArgMatches<'a>) -> Result<Command, S
 }
 
 /// Returns the check that the arguments describe.
+#[tactic(auto, using(crate::proofs::Reasons::of_mistake))]
 fn check_of<'a>(alloc: Global, arguments: &ArgMatches<'a>) -> Result<Command, Stop<'a>>
     ensures ok { IfOk result (IsCommand (codes "check") (found_of arguments.now)) }
     ensures err { IfErr result (IsUnread (IsCommand (codes "check") (found_of arguments.now))) }
@@ -161,7 +163,7 @@ fn levels_of<'a>(arguments: &ArgMatches<'a>) -> Result<Option<Levels>, Stop<'a>>
     ensures ok { IfOk result (IsLevels (first_value (found_of arguments.now) (codes "levels"))) }
     ensures err { IfErr result (λ _. (levels : Option Levels) →
         ¬ (IsLevels (first_value (found_of arguments.now) (codes "levels")) levels)) }
-    ensures reason { IfErr result (IsReason (found_of arguments.now)) }
+    ensures reason { IfErr result (IsMistake (found_of arguments.now)) }
 {
     match option_of(arguments, NumberOption::Levels)? {
         None => Ok(None),

@@ -2,7 +2,7 @@
 ghost use Rattle.std.specs.Prelude.{◌≡◌, nat_eq, IfOk, IfErr, codes};
 ghost use Rattle.std.specs.List.{count_by, list_all};
 ghost use Rattle.clap.specs.Matches.{first_value, found_of};
-ghost use Rattle.ptdump.specs.Reasons.{IsReason};
+ghost use Rattle.ptdump.specs.Reasons.{IsMistake};
 ghost use Rattle.ptdump.specs.Selections.{AreRights, IsSelection, are_letters, is_once};
 ghost use Rattle.ptdump_engine.specs.declared.request.Selection.{Selection};
 ghost use Rattle.x86_64_model.specs.Mappings.{Rights as Allowed};
@@ -22,7 +22,7 @@ pub fn selection_of<'a>(arguments: &ArgMatches<'a>) -> Result<Selection, Stop<'a
     ensures ok { IfOk result (IsSelection (found_of arguments.now)) }
     ensures err { IfErr result (λ _. (selection : Selection) →
         ¬ (IsSelection (found_of arguments.now) selection)) }
-    ensures reason { IfErr result (IsReason (found_of arguments.now)) }
+    ensures reason { IfErr result (IsMistake (found_of arguments.now)) }
 {
     Ok(Selection {
         from: option_of(arguments, NumberOption::From)?,
@@ -36,7 +36,7 @@ fn rights_of<'a>(arguments: &ArgMatches<'a>) -> Result<Rights, Stop<'a>>
     ensures ok { IfOk result (AreRights (first_value (found_of arguments.now) (codes "rights"))) }
     ensures err { IfErr result (λ _. (rights : Allowed) →
         ¬ (AreRights (first_value (found_of arguments.now) (codes "rights")) rights)) }
-    ensures reason { IfErr result (IsReason (found_of arguments.now)) }
+    ensures reason { IfErr result (IsMistake (found_of arguments.now)) }
 {
     let Some(text) = arguments.get_str("rights") else {
         return Ok(Rights::NONE);

@@ -2,7 +2,7 @@ use Rattle.std.proofs.Common.{List, [], ℕ, rules, Option, codes, option_map, u
 use Rattle.clap.specs.Matches.{found_of, matched_of, raw_values}
 use Rattle.ptdump_engine.specs.declared.request.WalkOptions.{WalkOptions}
 use Rattle.ptdump.specs.Asked.{AreAsked, AreControls, usual_names}
-use Rattle.ptdump.specs.Reasons.{IsNoSetting, IsReason}
+use Rattle.ptdump.specs.Reasons.{IsMistake, IsNoSetting}
 use Rattle.ptdump.proofs.Reasons.{of_settings}
 use Rattle.ptdump.proofs.Refusals.{of_any_error}
 use Rattle.ptdump.proofs.asked.options_of.Goals as goal
@@ -17,7 +17,7 @@ returns-in_err-controls-clause-err c =
 pub returns-in_err-controls-clause-reason : goal.returns-in_err-controls-clause-reason
 returns-in_err-controls-clause-reason c =
     let found = found_of c.args.arguments.now in
-    let reason : IsReason found c.in_err-controls.field-0.0 =
+    let reason : IsMistake found c.in_err-controls.field-0.0 =
     of_settings found c.in_err-controls.field-0.0
     (subst (λ (o : Option (List (List ℕ))). IsNoSetting (unwrap_or o []) c.in_err-controls.field-0.0) c.get_strs.ensures c.in_err-controls.ensures.reason) in
     search (rules, reason)
