@@ -81,6 +81,7 @@ for_any_name name found stop is = is
 pub reason_for : {T : Type 0} (name : List ℕ) (found : Found) (result : Result T Stop) → IfErr result (IsReason found) → IfErr result (IsReasonFor name found)
 reason_for name found result = IfErr-weaker result (IsReason found) (IsReasonFor name found) (for_any_name name found)
 
+-- likewise of a wrong argument
 pub mistake_for_any_name : (name : List ℕ) (found : Found) (stop : Stop) → IsMistake found stop → IsReasonFor name found stop
 mistake_for_any_name name found stop is = for_any_name name found stop (of_mistake found stop is)
 

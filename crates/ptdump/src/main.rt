@@ -3,6 +3,7 @@
 
 ghost use Rattle.std.specs.Prelude.{◌≡◌, ◌⊎◌, [], IfErr, IfOk, Ok, codes, unwrap_or};
 ghost use Rattle.std.specs.Process.{exit_status};
+ghost use Rattle.std.specs.IoError.{error_kind};
 ghost use Rattle.clap.specs.Matches.{first_value, found_of};
 ghost use Rattle.ptdump.specs.Exit.{exit_status_of, stop_status};
 ghost use Rattle.ptdump.specs.declared.stop.Stop.TheVariants.{Failed, NoText};
@@ -47,7 +48,8 @@ fn words(rt: &HostRuntime) -> io::Result<Vec<String>> {
 
 /// Returns why the words can't be listed: memory allocation failed, or one of them isn't text.
 fn stop_of(error: &io::Error) -> Stop<'static>
-    ensures { (result ≡ Failed OutOfMemory) ⊎ (result ≡ NoText) }
+    ensures memory { error_kind error.now ≡ ErrorKind.OutOfMemory → result ≡ Failed OutOfMemory }
+    ensures text { ¬ (error_kind error.now ≡ ErrorKind.OutOfMemory) → result ≡ NoText }
 {
     if error.kind() == ErrorKind::OutOfMemory {
         Stop::Failed(Failure::OutOfMemory)
