@@ -138,7 +138,8 @@ pairs_step n above small =
 pub length_pairs : (n : ℕ) → 256 ≤ n → n < 2 ^ 64 → length (digits 16 false n) ≡ length (digits 16 false (n / 256)) + 2
 length_pairs n above small = ap length (pairs_step n above small) ∙ length-append _ _
 
--- of a number, the digits that aren't left stand before what stood there
+-- the digits of what is left and those that are written are together the digits of the number, and behind them is what was
+-- written before
 abbrev pub AreWritten : (base number left : ℕ) → (end start : ℕ) → (before line : List ℕ) → Type 0
 AreWritten base number left end start before line =
     (digits base false left ++ drop start line ≡ digits base false number ++ drop end before)
@@ -146,7 +147,7 @@ AreWritten base number left end start before line =
     × (length (digits base false left) ≤ start) × (start ≤ 96)
     × (IsAscii (drop end before) → IsAscii (drop start line))
 
--- and so they do if the last of those that are left are put before them
+-- likewise after the last digits of what is left are written before the others
 pub written_on : (base number left rest end start next : ℕ) (glyphs before line new : List ℕ) → AreWritten base number left end start before line
     → digits base false left ≡ digits base false rest ++ glyphs → drop next new ≡ glyphs ++ drop start line → next + length glyphs ≡ start
     → (IsAscii (drop start line) → IsAscii (drop next new)) → AreWritten base number rest end next before new
