@@ -1,5 +1,5 @@
 -- The tables by level are closed: each table that a word of one of them names is at the level below, or W lacks it.
-use Rattle.std.proofs.Common.{◌≡◌, ◌⊎◌, inl, inr, ⊎_elim, ℕ, zero, suc, ◌==◌, ◌&&◌, ◌||◌, Bool, true, false, not, cond, List, [], ◌∷◌, ◌++◌, reverse, flat_map, filter_map, get_or, Option, Some, None, IsSome, is_some, option_map, refl, sym, ap, ◌∙◌, subst, eq-eqb, eqb-true}
+use Rattle.std.proofs.Common.{◌≡◌, ◌⊎◌, inl, inr, ℕ, zero, suc, ◌==◌, ◌&&◌, ◌||◌, Bool, true, false, not, cond, List, [], ◌∷◌, ◌++◌, reverse, flat_map, filter_map, get_or, Option, Some, None, IsSome, is_some, option_map, refl, sym, ap, ◌∙◌, subst, eq-eqb, eqb-true}
 use Rattle.std.specs.List.{cons_option, fold}
 use Rattle.std.specs.Option.{unwrap_or}
 use Rattle.std.proofs.lemmas.List.Sorted.{IsPermutation-reverse, list_any-IsPermutation}
@@ -7,9 +7,9 @@ use Rattle.x86_64_model.specs.Entry.{has, present, huge, address}
 use Rattle.x86_64_model.specs.Lists.{In}
 use Rattle.x86_64_model.specs.Memory.{Words}
 use Rattle.x86_64_model.specs.PageWalk.{read}
-use Rattle.x86_64_model.proofs.Lemmas.Lists.Members.{in_left, in_right, in_append, in_flat_map, from_flat_map}
+use Rattle.x86_64_model.proofs.Lemmas.Lists.Members.{in_left, in_right, in_flat_map}
 use Rattle.x86_64_dump.specs.Reached.{SameBelow}
-use Rattle.x86_64_dump.specs.Tables.{table_named, tables_named, is_among, met, each_once, tables_from, if_there, tables_by_level, is_in, words_in_frames, AreThere}
+use Rattle.x86_64_dump.specs.Tables.{table_named, tables_named, is_among, met, each_once, tables_from, if_there, tables_by_level, is_in, words_in_frames}
 
 -- ---- membership as a test
 
@@ -36,12 +36,6 @@ met_has frames f = elim (is_among frames f) as (λ b. is_among frames f ≡ b �
 met_keeps : (frames : List ℕ) (f g : ℕ) → In frames g → In (met frames f) g
 met_keeps frames f g h = elim (is_among frames f) as (λ b. In (cond b frames (frames ++ f ∷ [])) g) [ true ↦ h | false ↦ in_left frames (f ∷ []) g h ]
 
-met_from : (frames : List ℕ) (f g : ℕ) → In (met frames f) g → (f ≡ g) ⊎ In frames g
-met_from frames f g h = elim (is_among frames f) as (λ b. In (cond b frames (frames ++ f ∷ [])) g → (f ≡ g) ⊎ In frames g) [
-  | true ↦ λ h. inr h
-  | false ↦ λ h. ⊎_elim (λ there. inr there) (⊎_elim (λ is. inl is) (λ none. absurd none)) (in_append frames (f ∷ []) g h)
-] h
-
 fold_keeps : (seen frames : List ℕ) (g : ℕ) → In seen g → In (fold met seen frames) g
 fold_keeps seen [] g h = h
 fold_keeps seen (f ∷ frames) g h = fold_keeps (met seen f) frames g (met_keeps seen f g h)
@@ -50,10 +44,6 @@ fold_has : (seen frames : List ℕ) (g : ℕ) → In frames g → In (fold met s
 fold_has seen [] g h = absurd h
 fold_has seen (f ∷ frames) g (inl is) = fold_keeps (met seen f) frames g (subst (In (met seen f)) is (met_has seen f))
 fold_has seen (f ∷ frames) g (inr h) = fold_has (met seen f) frames g h
-
-fold_from : (seen frames : List ℕ) (g : ℕ) → In (fold met seen frames) g → In seen g ⊎ In frames g
-fold_from seen [] g h = inl h
-fold_from seen (f ∷ frames) g h = ⊎_elim (λ h. ⊎_elim (λ is. inr (inl is)) (λ there. inl there) (met_from seen f g h)) (λ h. inr (inr h)) (fold_from (met seen f) frames g h)
 
 -- ---- the tables that words name
 
@@ -68,16 +58,6 @@ named_there W (d ∷ words) e (inr h) is small there = skip (table_named W d) (n
     skip : (o : Option ℕ) → In (filter_map (table_named W) words) (address e) → In (cons_option o (filter_map (table_named W) words)) (address e)
     skip None h = h
     skip (Some f) h = inr h
-
-there_named : (W : Words) (words : List ℕ) (f : ℕ) → In (filter_map (table_named W) words) f → IsSome (W f)
-there_named W [] f h = absurd h
-there_named W (d ∷ words) f h = one W d (filter_map (table_named W) words) f (there_named W words f) (present d && not (huge d)) (is_some (W (address d))) refl h
-  where
-    one : (W : Words) (d : ℕ) (rest : List ℕ) (f : ℕ) → (In rest f → IsSome (W f)) → (b there : Bool) → is_some (W (address d)) ≡ there → In (cons_option (cond (b && there) (Some (address d)) None) rest) f → IsSome (W f)
-    one W d rest f others true true is (inl same) = ap (λ g. is_some (W g)) (sym same) ∙ is
-    one W d rest f others true true is (inr h) = others h
-    one W d rest f others true false is h = others h
-    one W d rest f others false there is h = others h
 
 -- a word that is read and is present is one of the frame's words
 read_in : (words : List ℕ) (i : ℕ) → present (get_or words i 0) ≡ true → In words (get_or words i 0)
@@ -145,26 +125,3 @@ same_below_root L W root T is = same_below L T W (if_there W root) none same roo
     by : (o : Option (List ℕ)) → W root ≡ o → In (if_there W root) root ⊎ (W root ≡ None)
     by None lacks = inr lacks
     by (Some words) has = inl (subst (λ b. In (cond b (root ∷ []) []) root) (sym (ap is_some has)) (inl refl))
-
--- ---- all frames are there
-
-level_there : (n : ℕ) (W : Words) (frames : List ℕ) → ((f : ℕ) → In frames f → IsSome (W f)) → AreThere W (tables_from n W frames)
-level_there zero W frames all f h = let no : false ≡ true = h in cc
-level_there (suc n) W frames all f h = by (is_among frames f) refl h (level_there n W (each_once (flat_map (tables_named W) frames)) below f)
-  where
-    below : (g : ℕ) → In (each_once (flat_map (tables_named W) frames)) g → IsSome (W g)
-    below g h = ⊎_elim (λ none. absurd none) (λ h. let from = from_flat_map (tables_named W) frames g h in there_named W (unwrap_or (W from.0) []) g from.2) (fold_from [] (flat_map (tables_named W) frames) g h)
-
-    by : (b : Bool) → is_among frames f ≡ b → (b || is_in (tables_from n W (each_once (flat_map (tables_named W) frames))) f) ≡ true
-        → (is_in (tables_from n W (each_once (flat_map (tables_named W) frames))) f ≡ true → IsSome (W f)) → IsSome (W f)
-    by true is h later = all f (among_in frames f is)
-    by false is h later = later h
-
-pub levels_are_there : (L : ℕ) (W : Words) (root : ℕ) → AreThere W (tables_by_level L W root)
-unfolding tables_by_level
-levels_are_there L W root f h = level_there L W (if_there W root) (by (is_some (W root)) refl) f (sym (reversed (tables_from L W (if_there W root)) f) ∙ h)
-  where
-    by : (b : Bool) → is_some (W root) ≡ b → (g : ℕ) → In (cond b (root ∷ []) []) g → IsSome (W g)
-    by true is g (inl same) = ap (λ f. is_some (W f)) (sym same) ∙ is
-    by true is g (inr h) = absurd h
-    by false is g h = absurd h

@@ -1,5 +1,5 @@
 -- FileParts: a part of a file that was read at once, and a frame in it.
-use Rattle.std.proofs.Common.{◌≡◌, ◌+◌, ◌-◌, ◌≤◌, ◌&&◌, ℕ, true, leb-true, nat_le, List, length, take, drop, sym, ap, ◌∙◌, arith, take-take, drop-drop, length-take}
+use Rattle.std.proofs.Common.{◌≡◌, ◌+◌, ◌-◌, ◌≤◌, ℕ, true, leb-true, nat_le, List, length, take, drop, sym, ap, ◌∙◌, arith, take-take, drop-drop, length-take}
 use Rattle.std.proofs.lemmas.Bool.{and_parts}
 use Rattle.std.proofs.lemmas.List.{drop-take}
 use Rattle.x86_64_dump.specs.Source.{part_of}
@@ -9,6 +9,17 @@ pub placed : (part : Part) (offset : ℕ) → has_frame_at part offset ≡ true 
 placed part offset has =
     let each = and_parts (nat_le part.start offset) (nat_le (offset + 4096) (part.start + length part.bytes)) has in
     (leb-true _ _ each.0, leb-true _ _ each.1)
+
+pub frame_within : (bytes : List ℕ) (start offset count : ℕ) → (start ≤ offset) × (offset + 4096 ≤ start + length (take count bytes))
+    → let at = offset - start in take (at + 4096 - at) (drop at bytes) ≡ part_of (take count bytes) at 4096
+frame_within bytes start offset count place =
+    let at = offset - start in
+    let few : length (take count bytes) ≤ count = omega (arith, length-take count bytes) in
+    let long : at + 4096 - at ≡ 4096 = omega arith in
+    let rest : at + (count - at) ≡ count = omega (arith, place.0, place.1, few) in
+    ap (λ n. take n (drop at bytes)) long
+    ∙ sym (take-take 4096 (count - at) (drop at bytes) (omega (arith, place.0, place.1, few)))
+    ∙ ap (take 4096) (sym (drop-take at (count - at) bytes) ∙ ap (λ n. drop at (take n bytes)) rest)
 
 pub frame_shown : (file bytes : List ℕ) (start offset count : ℕ) → take count bytes ≡ part_of file start (length (take count bytes))
     → (start ≤ offset) × (offset + 4096 ≤ start + length (take count bytes))

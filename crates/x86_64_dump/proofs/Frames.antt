@@ -41,6 +41,11 @@ unfolding words_of_dump
 no_words dump frame size long lacks =
     sym (ap (λ place. cond (is_frame frame) (option_map (words_at dump.cleared dump.file) place) None) (ap (λ n. frame_offset n dump.segments frame) (sym long) ∙ lacks) ∙ none_either (is_frame frame))
 
+-- a dump has only words of frames
+pub no_frame : (dump : Contents) (f : ℕ) → is_frame f ≡ false → words_of_dump dump f ≡ None
+unfolding words_of_dump
+no_frame dump f lacks = ap (λ b. cond b (option_map (words_at dump.cleared dump.file) (frame_offset (length dump.file) dump.segments f)) None) lacks
+
 pub frame_words : (dump : Contents) (frame size offset : ℕ) (part words : List ℕ) → size ≡ length dump.file → is_frame frame ≡ true → frame_offset size dump.segments frame ≡ Some offset
     → part ≡ part_of dump.file offset 4096 → words ≡ words_at dump.cleared part 0 → Some words ≡ words_of_dump dump frame
 unfolding words_of_dump

@@ -9,7 +9,7 @@ pub mod Closed
 pub mod Listing
 mod Placed
 pub mod Places
-pub mod Failing
+mod Held
 mod Rows
 mod Ranges
 pub mod Lines

@@ -1,5 +1,5 @@
 -- Openings: the segments of an ELF file, step by step, and why they can't be read.
-use Rattle.std.proofs.Common.{◌≡◌, ℕ, List, Option, Some, None, Result, Ok, Err, ap, sym, ◌∙◌, length}
+use Rattle.std.proofs.Common.{◌≡◌, ℕ, Bool, false, true≢false, List, Option, Some, None, Result, Ok, Err, ap, sym, ◌∙◌, length}
 use Rattle.x86_64_dump.specs.Opening.{Gives, GivesAtOnce, elf_segments, header_fault, table_fault, count_of, with_memory}
 use Rattle.x86_64_dump.specs.Placement.{unless}
 use Rattle.x86_64_dump.specs.Dump.{segments_at}
@@ -25,8 +25,16 @@ elf_table file header size count table long told counted tested =
     ∙ ap (λ fault. unless fault (with_memory (segments_at file header.headers count))) (ap (λ n. table_fault n count header) (sym long) ∙ tested)
 
 -- a call that allocates no memory gives what is expected
-pub at_once : {X Y : Type 0} (view : X → Y) (result : Result X DumpError) (found expected : Result Y Fault) → expected ≡ found → GivesAtOnce view result found → Gives view result expected
-at_once view (Ok x) found expected same is = same ∙ is
-at_once view (Err errors.OutOfMemory) found expected same is = tt
-at_once view (Err (errors.Read error)) found expected same is = absurd is
-at_once view (Err (errors.Fault fault)) found expected same is = same ∙ is
+pub at_once : {X Y : Type 0} (may : Bool) (view : X → Y) (result : Result X DumpError) (found expected : Result Y Fault) → expected ≡ found → GivesAtOnce false view result found
+    → Gives may view result expected
+at_once may view (Ok x) found expected same is = same ∙ is
+at_once may view (Err errors.OutOfMemory) found expected same is = tt
+at_once may view (Err (errors.Read error)) found expected same is = absurd (true≢false (sym is))
+at_once may view (Err (errors.Fault fault)) found expected same is = same ∙ is
+
+-- likewise for a call that reads nothing
+pub without_reads : {X Y : Type 0} (may : Bool) (view : X → Y) (result : Result X DumpError) (found : Result Y Fault) → Gives false view result found → Gives may view result found
+without_reads may view (Ok x) found is = is
+without_reads may view (Err errors.OutOfMemory) found is = tt
+without_reads may view (Err (errors.Read error)) found is = absurd (true≢false (sym is))
+without_reads may view (Err (errors.Fault fault)) found is = is

@@ -20,7 +20,7 @@ use Rattle.x86_64_tables.proofs.PlacesInOrder.{keys-tables}
 use Rattle.x86_64_dump.specs.Loaded.{frames_of}
 use Rattle.x86_64_dump.specs.Tables.{is_among, is_in, words_in_frames, AreThere}
 use Rattle.x86_64_dump.proofs.Closed.{none_either}
-use Rattle.x86_64_dump.specs.private.FrameNumbers.{has_number, words_numbered, AreAllThere, AreNumbers, HoldsFor}
+use Rattle.x86_64_dump.specs.private.FrameNumbers.{has_number, words_numbered, AreHeldBy, AreNumbers, HoldsFor}
 
 -- ---- numbers
 
@@ -85,10 +85,10 @@ number_there numbers i d within below =
       list_any_at (λ m. n * 4096 / 4096 == m) numbers i d within (eq-eqb (n * 4096 / 4096) n (omega arith)),
     )
 
--- if the frames of some levels have words, so have those of the same numbers
-pub all_there : (W : Words) (numbers : List ℕ) (levels : List (List ℕ)) → AreNumbers numbers → ((f : ℕ) → is_frame f ≡ true → has_number numbers f ≡ is_in levels f)
-    → AreThere W levels → AreAllThere W numbers
-all_there W numbers levels below same there i d within =
+-- what is true of the frames of some levels is true of those of the same numbers
+pub all_there : (has : ℕ → Bool) (numbers : List ℕ) (levels : List (List ℕ)) → AreNumbers numbers → ((f : ℕ) → is_frame f ≡ true → has_number numbers f ≡ is_in levels f)
+    → AreThere has levels → AreHeldBy has numbers
+all_there has numbers levels below same there i d within =
     let number = number_there numbers i d within below in
     there (get_or numbers i d * 4096) (sym (same (get_or numbers i d * 4096) number.0) ∙ number.1)
 

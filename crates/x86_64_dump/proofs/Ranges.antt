@@ -1,5 +1,5 @@
 -- Ranges: the ranges of a LiME file, read one after another.
-use Rattle.std.proofs.Common.{◌≡◌, ◌∙◌, ◌+◌, ◌≤◌, ◌<◌, ℕ, zero, suc, true, false, cond, List, [], ◌∷◌, ◌++◌, append_assoc, append-nil, length, nat_lt, Result, Ok, Err, refl, ap, sym, arith}
+use Rattle.std.proofs.Common.{◌≡◌, ◌∙◌, ◌+◌, ◌≤◌, ◌<◌, ℕ, zero, suc, Bool, true, false, cond, List, [], ◌∷◌, ◌++◌, append_assoc, append-nil, length, nat_lt, Result, Ok, Err, refl, ap, sym, arith}
 use Rattle.std.proofs.lemmas.Bool.{lt-ltb, le-ltb}
 use Rattle.x86_64_dump.specs.Source.{part_of}
 use Rattle.x86_64_dump.specs.Lime.{after, lime_segments, range_at, range_behind, range_header_at, ranges_from}
@@ -86,7 +86,8 @@ all_ranges file before at end left = sym left.same ∙ ap (λ found. after found
     by (suc most) = ap (λ b. cond b (after (range_at file at) (λ range. after (ranges_from most file (range.offset + range.size)) (λ ranges. Ok (range ∷ ranges)))) (Ok [])) (le-ltb at (length file) end)
 
 -- an error of a step is one of the whole
-pub step_fails : {A B : Type 0} (error : DumpError) (step : Result A Fault) (whole : Result B Fault) → GivesAtOnce (λ (a : A). a) (Err error) step → ((fault : Fault) → step ≡ Err fault → whole ≡ Err fault) → Fails error whole
-step_fails errors.OutOfMemory step whole is fails = tt
-step_fails (errors.Read error) step whole is fails = absurd is
-step_fails (errors.Fault fault) step whole is fails = fails fault is
+pub step_fails : {A B : Type 0} (may : Bool) (error : DumpError) (step : Result A Fault) (whole : Result B Fault) → GivesAtOnce may (λ (a : A). a) (Err error) step
+    → ((fault : Fault) → step ≡ Err fault → whole ≡ Err fault) → Fails may error whole
+step_fails may errors.OutOfMemory step whole is fails = tt
+step_fails may (errors.Read error) step whole is fails = is
+step_fails may (errors.Fault fault) step whole is fails = fails fault is

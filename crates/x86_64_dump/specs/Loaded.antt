@@ -1,5 +1,5 @@
 -- Loaded: the contents of tables that were read, and why tables can't be read.
-use Rattle.std.specs.Prelude.{◌≡◌, ◌+◌, ◌*◌, ◌<◌, ◌^◌, ℕ, IsSome, List, Vec, map, ⊤}
+use Rattle.std.specs.Prelude.{◌≡◌, ◌+◌, ◌*◌, ◌<◌, ◌^◌, ℕ, Bool, true, IsSome, List, Vec, map, ⊤}
 use Rattle.std.specs.FinMap.{get, len}
 use Rattle.std.specs.List.{range_with_len}
 use Rattle.x86_64_model.specs.Memory.{Memory, Words, words_of, identity_places}
@@ -47,8 +47,12 @@ SameWalks L V W root = (position : ℕ) → page_walk L V root position ≡ page
 abbrev pub up_to : (last : ℕ) → List ℕ
 up_to last = map (λ i. i + 1) (range_with_len 0 last)
 
--- an error: memory allocation failed, or the source can't be read, which is impossible if its bytes are known
-abbrev pub MayFail : (known : Type 0) → DumpError → Type 0
-MayFail known errors.OutOfMemory = ⊤
-MayFail known (errors.Read error) = ¬ known
-MayFail known (errors.Fault fault) = ⊥
+-- an observer was told the numbers from 1 on, up to some last one
+abbrev pub Counts : {G : Type 0} → (Told : G → G → List ℕ → Type 0) → (before after : G) → Type 0
+Counts Told before after = (last : ℕ) × Told before after (up_to last)
+
+-- an error: memory allocation failed, or a read, which may fail
+abbrev pub MayFail : (may_fail : Bool) → DumpError → Type 0
+MayFail may errors.OutOfMemory = ⊤
+MayFail may (errors.Read error) = may ≡ true
+MayFail may (errors.Fault fault) = ⊥

@@ -1,6 +1,6 @@
 -- Opened: the contents of an opened dump.
 use Rattle.std.specs.Prelude.{ℕ, Bool, is_some, List}
-use Rattle.x86_64_dump.specs.Dump.{Contents, frame_offset, words_of_dump}
+use Rattle.x86_64_dump.specs.Dump.{Contents, frame_offset, is_short, words_of_dump}
 use Rattle.x86_64_model.specs.Memory.{Words}
 use Rattle.x86_64_dump.specs.declared.dump.Dump.{Dump}
 use Rattle.x86_64_dump.specs.declared.source.ByteSource.{Ghosts}
@@ -16,3 +16,7 @@ words_opened bytes dump = words_of_dump (opened bytes dump)
 -- whether a segment has the frame, in a file of the length that the source reports
 abbrev pub holds : {S : Type 0} → {G : Ghosts S} → (size : S → ℕ) → Dump S G → (frame : ℕ) → Bool
 holds size dump frame = is_some (frame_offset (size dump.source) dump.segments.items frame)
+
+-- whether a segment ends after the file, which has the length that the source reports
+abbrev pub is_cut : {S : Type 0} → {G : Ghosts S} → (size : S → ℕ) → Dump S G → Bool
+is_cut size dump = is_short (size dump.source) dump.segments.items

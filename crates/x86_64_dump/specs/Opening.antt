@@ -1,5 +1,5 @@
 -- Opening: which files are dumps, and their segments. System V ABI, "ELF Header"; a core file has the header of any ELF file.
-use Rattle.std.specs.Prelude.{◌≡◌, ℕ, ◌+◌, ◌*◌, ◌==◌, ◌&&◌, Bool, not, cond, if◌then◌else◌, List, length, nat_lt, Option, None, Some, Result, Ok, Err, ⊤}
+use Rattle.std.specs.Prelude.{◌≡◌, ℕ, ◌+◌, ◌*◌, ◌==◌, ◌&&◌, Bool, true, not, cond, if◌then◌else◌, List, length, nat_lt, Option, None, Some, Result, Ok, Err, ⊤}
 use Rattle.std.specs.List.{list_any}
 use Rattle.x86_64_dump.specs.Formats.{format_of}
 use Rattle.x86_64_dump.specs.Lime.{after, lime_segments}
@@ -82,20 +82,21 @@ contents_as format file placement = after (segments_of format file placement) (�
 abbrev pub contents_of : (file : List ℕ) → (base : Option ℕ) → Result Contents Fault
 contents_of file base = contents_as (format_of file) file (placed_by base)
 
--- an error agrees with the expected result: a fault is the expected one, no read fails, and memory allocation may always fail
-abbrev pub Fails : {Y : Type 0} → DumpError → Result Y Fault → Type 0
-Fails errors.OutOfMemory found = ⊤
-Fails (errors.Read error) found = ⊥
-Fails (errors.Fault fault) found = found ≡ Err fault
+-- an error agrees with the expected result: a fault is the expected one, a read fails only if reads may fail, and memory
+-- allocation may always fail
+abbrev pub Fails : {Y : Type 0} → (may_fail : Bool) → DumpError → Result Y Fault → Type 0
+Fails may errors.OutOfMemory found = ⊤
+Fails may (errors.Read error) found = may ≡ true
+Fails may (errors.Fault fault) found = found ≡ Err fault
 
--- the result, seen by `view`, is the expected one, unless memory allocation fails
-abbrev pub Gives : {X Y : Type 0} → (X → Y) → Result X DumpError → Result Y Fault → Type 0
-Gives view (Ok x) found = found ≡ Ok (view x)
-Gives view (Err error) found = Fails error found
+-- the result, seen by `view`, is the expected one, unless memory allocation fails, or a read, which may fail
+abbrev pub Gives : {X Y : Type 0} → (may_fail : Bool) → (X → Y) → Result X DumpError → Result Y Fault → Type 0
+Gives may view (Ok x) found = found ≡ Ok (view x)
+Gives may view (Err error) found = Fails may error found
 
 -- likewise for a call that allocates no memory
-abbrev pub GivesAtOnce : {X Y : Type 0} → (X → Y) → Result X DumpError → Result Y Fault → Type 0
-GivesAtOnce view (Ok x) found = found ≡ Ok (view x)
-GivesAtOnce view (Err errors.OutOfMemory) found = ⊥
-GivesAtOnce view (Err (errors.Read error)) found = ⊥
-GivesAtOnce view (Err (errors.Fault fault)) found = found ≡ Err fault
+abbrev pub GivesAtOnce : {X Y : Type 0} → (may_fail : Bool) → (X → Y) → Result X DumpError → Result Y Fault → Type 0
+GivesAtOnce may view (Ok x) found = found ≡ Ok (view x)
+GivesAtOnce may view (Err errors.OutOfMemory) found = ⊥
+GivesAtOnce may view (Err (errors.Read error)) found = may ≡ true
+GivesAtOnce may view (Err (errors.Fault fault)) found = found ≡ Err fault

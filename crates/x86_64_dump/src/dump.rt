@@ -1,7 +1,7 @@
 //! Dump files.
-ghost use Rattle.std.specs.Prelude.{◌≡◌, ◌+◌, ◌*◌, ◌≤◌, ◌<◌, ◌^◌, ℕ, true, false, if◌then◌else◌, IsOk, IfOk, OnOk, IfSome, is_some, Ok, Some, None, length};
+ghost use Rattle.std.specs.Prelude.{◌≡◌, ◌+◌, ◌-◌, ◌*◌, ◌≤◌, ◌<◌, ◌^◌, ℕ, true, false, if◌then◌else◌, [], IfOk, IfErr, OnOk, IfSome, is_some, Ok, Some, None, length};
 ghost use Rattle.std.proofs.Props.{props};
-ghost use Rattle.x86_64_dump.specs.Dump.{frame_offset};
+ghost use Rattle.x86_64_dump.specs.Dump.{frame_offset, words_at};
 ghost use Rattle.x86_64_dump.specs.private.Search.{AreSorted, offset_at};
 ghost use Rattle.x86_64_dump.specs.private.FileParts.{IsOf, has_frame_at};
 
@@ -44,7 +44,7 @@ impl<S: ByteSource> Dump<S> {
     ghost use Rattle.x86_64_dump.specs.Dump.{words_of_dump, is_short};
     ghost use Rattle.x86_64_dump.specs.Formats.{is_raw};
     ghost use Rattle.x86_64_dump.specs.Opening.{contents_of, contents_as, Gives, GivesAtOnce};
-    ghost use Rattle.x86_64_dump.specs.Opened.{opened, holds};
+    ghost use Rattle.x86_64_dump.specs.Opened.{opened, holds, is_cut};
     ghost use Rattle.x86_64_dump.specs.Notes.{is_of_virtualbox, notes_of, processors_of, register_of};
     ghost use Rattle.x86_64_dump.specs.VmCoreInfo.{decrypted, kernel_in};
 
@@ -61,7 +61,7 @@ impl<S: ByteSource> Dump<S> {
     /// without memory, a file that is damaged, or one with addresses of its own although there is a base.
     /// `DumpError::OutOfMemory` if memory allocation fails, `DumpError::Read` if the source can't be read.
     pub fn open(alloc: Global, source: S, base: Option<u64>) -> Result<Dump<S>, DumpError>
-        ensures { S.IsKnown → Gives (opened S.bytes) result (contents_of (S.bytes source) base) }
+        ensures { S.IsKnown → Gives S.may_fail (opened S.bytes) result (contents_of (S.bytes source) base) }
     {
         let format = read_format(&source)?;
         let placement = base.map_or(Placement::Unstated, Placement::Base);
@@ -82,7 +82,7 @@ impl<S: ByteSource> Dump<S> {
         placement: &Placement,
     ) -> Result<Dump<S>, DumpError>
         ensures { S.IsKnown →
-            Gives (opened S.bytes) result (contents_as format (S.bytes source) placement.now) }
+            Gives S.may_fail (opened S.bytes) result (contents_as format (S.bytes source) placement.now) }
     {
         let segments = read_segments(alloc, &source, format, placement)?;
         let stretches = sorted_stretches(alloc, &segments, source.len())?;
@@ -102,7 +102,8 @@ impl<S: ByteSource> Dump<S> {
     ///
     /// `DumpError::OutOfMemory` if memory allocation fails, `DumpError::Read` if the source can't be read.
     pub fn decrypted(self, alloc: Global) -> Result<Dump<S>, DumpError>
-        ensures { S.IsKnown → Gives (opened S.bytes) result (Ok (decrypted (opened S.bytes self))) }
+        ensures { S.IsKnown → Gives S.may_fail (opened S.bytes) result
+            (Ok (decrypted (opened S.bytes self))) }
     {
         let cleared = match self.kernel(alloc) {
             Ok(Some(kernel)) => kernel.encryption_mask,
@@ -142,7 +143,8 @@ impl<S: ByteSource> Dump<S> {
     /// Returns true if the file is shorter than its headers say: a segment ends after the file, as in a truncated dump. The frames
     /// that remain can be read.
     pub fn is_short(&self) -> bool
-        ensures { S.IsKnown → result ≡
+        ensures cut { result ≡ is_cut S.size self.now }
+        ensures known { S.IsKnown → result ≡
             is_short (length (opened S.bytes self.now).file) (opened S.bytes self.now).segments }
     {
         is_cut_off(&self.segments, self.source.len())
@@ -165,7 +167,7 @@ impl<S: ByteSource> Dump<S> {
         ensures held { IfOk result (λ words. is_some words ≡ holds S.size self.now frame) }
         ensures words { S.IsKnown →
             IfOk result (λ words. words ≡ words_of_dump (opened S.bytes self.now) frame) }
-        ensures succeeds { S.IsKnown → IsOk result }
+        ensures failed { IfErr result (λ _. S.may_fail ≡ true) }
     {
         let Some(offset) = self.offset_of(frame) else {
             return Ok(None);
@@ -191,7 +193,8 @@ impl<S: ByteSource> Dump<S> {
         ensures bytes { S.IsKnown → OnOk result (IsOf (S.bytes self.now.source) part.new) }
         ensures place { OnOk result (
             (part.new.start ≡ offset) × (length part.new.bytes ≡ 4096 * frames)) }
-        ensures succeeds { S.IsKnown → IsOk result }
+        ensures nothing { IfErr result (λ _. part.new.bytes ≡ []) }
+        ensures failed { IfErr result (λ _. S.may_fail ≡ true) }
     {
         part.read(&self.source, offset, frames)
     }
@@ -199,7 +202,9 @@ impl<S: ByteSource> Dump<S> {
     /// Sets the words of a table to those of the frame at an offset of the file, which a part of the file has.
     pub(crate) fn set_table(&self, table: &mut PageTable, part: &FilePart, offset: u64)
         requires { has_frame_at part.now offset ≡ true }
-        ensures { S.IsKnown → IsOf (S.bytes self.now.source) part.now → (frame : ℕ) → is_frame frame ≡ true →
+        ensures words { table.new ≡ words_at self.now.cleared part.now.bytes (offset - part.now.start) }
+        ensures frame { S.IsKnown → IsOf (S.bytes self.now.source) part.now →
+            (frame : ℕ) → is_frame frame ≡ true →
             frame_offset (S.size self.now.source) self.now.segments.items frame ≡ Some offset →
             Some table.new ≡ words_of_dump (opened S.bytes self.now) frame }
     {
@@ -216,7 +221,7 @@ impl<S: ByteSource> Dump<S> {
             ≡ words_of_dump (opened S.bytes self.now) frame) }
         ensures lacks { IfOk result (λ is_there. is_there ≡ false → table.new ≡ table.old) }
         ensures held { IfOk result (λ is_there. is_there ≡ holds S.size self.now frame) }
-        ensures succeeds { S.IsKnown → IsOk result }
+        ensures failed { IfErr result (λ _. S.may_fail ≡ true) }
     {
         let Some(offset) = self.offset_of(frame) else {
             return Ok(false);
@@ -248,7 +253,7 @@ impl<S: ByteSource> Dump<S> {
     /// `DumpError::OutOfMemory` if memory allocation fails, `DumpError::Read` if the source can't be read.
     pub fn processors(&self, alloc: Global) -> Result<Vec<Note>, DumpError>
         ensures { S.IsKnown →
-            Gives (λ notes. notes.items) result (Ok (processors_of (opened S.bytes self.now))) }
+            Gives S.may_fail (λ notes. notes.items) result (Ok (processors_of (opened S.bytes self.now))) }
     {
         self.notes(alloc, NoteKind::Qemu)
     }
@@ -256,7 +261,7 @@ impl<S: ByteSource> Dump<S> {
     /// Reads the notes of a kind, in order.
     fn notes(&self, alloc: Global, kind: NoteKind) -> Result<Vec<Note>, DumpError>
         ensures { S.IsKnown →
-            Gives (λ notes. notes.items) result (Ok (notes_of kind (opened S.bytes self.now))) }
+            Gives S.may_fail (λ notes. notes.items) result (Ok (notes_of kind (opened S.bytes self.now))) }
     {
         read_notes(alloc, &self.source, &self.segments, kind)
     }
@@ -271,7 +276,7 @@ impl<S: ByteSource> Dump<S> {
     /// memory allocation fails, `DumpError::Read` if the source can't be read.
     pub fn kernel(&self, alloc: Global) -> Result<Option<Kernel>, DumpError>
         ensures { S.IsKnown →
-            Gives (λ kernel. kernel) result (kernel_in (opened S.bytes self.now)) }
+            Gives S.may_fail (λ kernel. kernel) result (kernel_in (opened S.bytes self.now)) }
     {
         let notes = self.notes(alloc, NoteKind::VmCoreInfo)?;
         let Some(note) = notes.first() else {
@@ -291,7 +296,7 @@ impl<S: ByteSource> Dump<S> {
     /// `DumpError::OutOfMemory` if memory allocation fails, `DumpError::Read` if the source can't be read.
     pub fn is_of_virtualbox(&self, alloc: Global) -> Result<bool, DumpError>
         ensures { S.IsKnown →
-            Gives (λ is. is) result (Ok (is_of_virtualbox (opened S.bytes self.now))) }
+            Gives S.may_fail (λ is. is) result (Ok (is_of_virtualbox (opened S.bytes self.now))) }
     {
         let notes = self.notes(alloc, NoteKind::VirtualBox)?;
         Ok(!notes.is_empty())
@@ -304,7 +309,7 @@ impl<S: ByteSource> Dump<S> {
     /// `Fault::NoteCut` if and only if the note lacks it, `DumpError::Read` if the source can't be read.
     pub fn cr0(&self, processor: &Note) -> Result<u64, DumpError>
         ensures { S.IsKnown →
-            GivesAtOnce (λ value. value) result
+            GivesAtOnce S.may_fail (λ value. value) result
             (register_of (opened S.bytes self.now).file processor.now 392) }
     {
         read_register(&self.source, processor, 392)
@@ -317,7 +322,7 @@ impl<S: ByteSource> Dump<S> {
     /// `Fault::NoteCut` if and only if the note lacks it, `DumpError::Read` if the source can't be read.
     pub fn cr3(&self, processor: &Note) -> Result<u64, DumpError>
         ensures { S.IsKnown →
-            GivesAtOnce (λ value. value) result
+            GivesAtOnce S.may_fail (λ value. value) result
             (register_of (opened S.bytes self.now).file processor.now 416) }
     {
         read_register(&self.source, processor, 416)
@@ -330,7 +335,7 @@ impl<S: ByteSource> Dump<S> {
     /// `Fault::NoteCut` if and only if the note lacks it, `DumpError::Read` if the source can't be read.
     pub fn cr4(&self, processor: &Note) -> Result<u64, DumpError>
         ensures { S.IsKnown →
-            GivesAtOnce (λ value. value) result
+            GivesAtOnce S.may_fail (λ value. value) result
             (register_of (opened S.bytes self.now).file processor.now 424) }
     {
         read_register(&self.source, processor, 424)

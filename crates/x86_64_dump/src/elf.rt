@@ -1,5 +1,5 @@
 //! Headers of ELF core files.
-ghost use Rattle.std.specs.Prelude.{◌≡◌, ◌+◌, ◌*◌, ◌/◌, ◌≤◌, ◌<◌, ◌^◌, ◌++◌, length, nat_lt, IsOk, IfOk, IfNone, OnOk, Ok};
+ghost use Rattle.std.specs.Prelude.{◌≡◌, ◌+◌, ◌*◌, ◌/◌, ◌≤◌, ◌<◌, ◌^◌, ◌++◌, length, nat_lt, false, true, IfOk, IfErr, IfNone, OnOk, Ok};
 ghost use Rattle.x86_64_dump.specs.Numbers.{u32_at};
 ghost use Rattle.x86_64_dump.specs.Dump.{segment_at, segments_at};
 ghost use Rattle.x86_64_dump.specs.Opening.{header_of, header_fault, table_fault, count_of, elf_segments, has_memory, with_memory, Gives, GivesAtOnce};
@@ -38,8 +38,8 @@ const COUNT_ELSEWHERE: u16 = 65535;
 
 /// Reads the segments of an ELF file.
 pub fn read_elf<S: ByteSource>(alloc: Global, source: &S) -> Result<Vec<Segment>, DumpError>
-    ensures { S.IsKnown →
-        Gives (λ v. v.items) result (elf_segments (S.bytes source.now) (header_of (S.bytes source.now))) }
+    ensures { S.IsKnown → Gives S.may_fail (λ v. v.items) result
+        (elf_segments (S.bytes source.now) (header_of (S.bytes source.now))) }
 {
     let header = read_header(source)?;
     read_by(alloc, source, &header)
@@ -51,7 +51,8 @@ fn read_by<S: ByteSource>(
     source: &S,
     header: &Header,
 ) -> Result<Vec<Segment>, DumpError>
-    ensures { S.IsKnown → Gives (λ v. v.items) result (elf_segments (S.bytes source.now) header.now) }
+    ensures { S.IsKnown → Gives S.may_fail (λ v. v.items) result
+        (elf_segments (S.bytes source.now) header.now) }
 {
     let length = source.len();
     if let Some(fault) = fault_of_header(header, length) {
@@ -66,7 +67,7 @@ fn read_by<S: ByteSource>(
 
 /// Returns the segments if one of them is memory.
 fn with_memory(segments: Vec<Segment>) -> Result<Vec<Segment>, DumpError>
-    ensures { GivesAtOnce (λ v. v.items) result (with_memory segments.items) }
+    ensures { GivesAtOnce false (λ v. v.items) result (with_memory segments.items) }
 {
     if has_memory(&segments) {
         Ok(segments)
@@ -150,7 +151,7 @@ fn fault_of_table(header: &Header, length: u64, count: u32) -> Option<Fault>
 /// Reads the start of a file as an ELF header, with bytes 0 after the end of the file.
 fn read_header<S: ByteSource>(source: &S) -> io::Result<Header>
     ensures value { S.IsKnown → IfOk result (λ header. header ≡ header_of (S.bytes source.now)) }
-    ensures succeeds { S.IsKnown → IsOk result }
+    ensures failed { IfErr result (λ _. S.may_fail ≡ true) }
 {
     let mut front = [0; 64];
     let present = source.len().min(HEADER_SIZE) as usize;
@@ -180,8 +181,8 @@ fn header_in(front: &[u8]) -> Header
 fn read_count<S: ByteSource>(source: &S, header: &Header) -> io::Result<u32>
     requires { header.now.count ≡ 65535 → header.now.sections + 64 < 2 ^ 64 }
     ensures value { S.IsKnown → IfOk result (λ count. count ≡ count_of (S.bytes source.now) header.now) }
-    ensures succeeds { S.IsKnown → (header.now.count ≡ 65535 →
-        header.now.sections + 64 ≤ length (S.bytes source.now)) → IsOk result }
+    ensures failed { (header.now.count ≡ 65535 → header.now.sections + 64 ≤ S.size source.now) →
+        IfErr result (λ _. S.may_fail ≡ true) }
 {
     if header.count != COUNT_ELSEWHERE {
         return Ok(u32::from(header.count));
@@ -200,7 +201,7 @@ fn read_table<S: ByteSource>(
 ) -> Result<Vec<Segment>, DumpError>
     requires { offset + 56 * count < 2 ^ 64 }
     ensures { S.IsKnown → offset + 56 * count ≤ length (S.bytes source.now) →
-        Gives (λ v. v.items) result (Ok (segments_at (S.bytes source.now) offset count)) }
+        Gives S.may_fail (λ v. v.items) result (Ok (segments_at (S.bytes source.now) offset count)) }
 {
     let mut segments = Vec::new(alloc);
     let mut done = 0;
@@ -227,7 +228,7 @@ fn add_piece<S: ByteSource>(
     requires few { count ≤ 73 }
     requires fits { offset + 56 * count < 2 ^ 64 }
     ensures { S.IsKnown → offset + 56 * count ≤ length (S.bytes source.now) →
-        Gives (λ _. segments.new.items) result
+        Gives S.may_fail (λ _. segments.new.items) result
         (Ok (segments.old.items ++ segments_at (S.bytes source.now) offset count)) }
 {
     let mut bytes = [0; 4088];

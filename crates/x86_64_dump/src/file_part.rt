@@ -1,5 +1,5 @@
 //! Parts of files, read at once.
-ghost use Rattle.std.specs.Prelude.{◌≡◌, ◌+◌, ◌*◌, ◌≤◌, ℕ, List, [], length, true, IsOk, IfErr, OnOk};
+ghost use Rattle.std.specs.Prelude.{◌≡◌, ◌+◌, ◌-◌, ◌*◌, ◌≤◌, ℕ, List, [], length, true, IfErr, OnOk};
 ghost use Rattle.x86_64_dump.specs.Source.{part_of};
 ghost use Rattle.x86_64_dump.specs.private.FileParts.{IsOf, has_frame_at};
 
@@ -67,7 +67,7 @@ impl FilePart {
         ensures bytes { S.IsKnown → OnOk result (IsOf (S.bytes source.now) self.new) }
         ensures place { OnOk result (
             (self.new.start ≡ offset) × (length self.new.bytes ≡ 4096 * frames)) }
-        ensures succeeds { S.IsKnown → offset + 4096 * frames ≤ length (S.bytes source.now) → IsOk result }
+        ensures failed { offset + 4096 * frames ≤ S.size source.now → IfErr result (λ _. S.may_fail ≡ true) }
         ensures nothing { IfErr result (λ _. self.new.bytes ≡ []) }
     {
         let count = frames * FRAME_SIZE;
@@ -82,7 +82,8 @@ impl FilePart {
     pub fn frame(&self, offset: u64) -> &[u8]
         requires { has_frame_at self.now offset ≡ true }
         ensures length { length result.now ≡ 4096 }
-        ensures bytes { (file : List ℕ) → IsOf file self.now → result.now ≡ part_of file offset 4096 }
+        ensures bytes { result.now ≡ part_of self.now.bytes (offset - self.now.start) 4096 }
+        ensures file { (file : List ℕ) → IsOf file self.now → result.now ≡ part_of file offset 4096 }
     {
         let at = (offset - self.start) as usize;
         &self.bytes[at..at + FRAME_SIZE]

@@ -1,5 +1,5 @@
 //! The formats of files, known by the magic numbers that they begin with.
-ghost use Rattle.std.specs.Prelude.{◌≡◌, nat_eq, drop, IsOk, IfOk};
+ghost use Rattle.std.specs.Prelude.{◌≡◌, true, nat_eq, drop, IfOk, IfErr};
 ghost use Rattle.std.specs.List.{starts_with};
 ghost use Rattle.x86_64_dump.specs.Formats.{format_of};
 ghost use Rattle.x86_64_dump.specs.private.Magics.{first_format};
@@ -130,7 +130,7 @@ fn format_of(start: &[u8]) -> Format
 /// Reads the start of a file, and returns the file's format.
 pub fn read_format<S: ByteSource>(source: &S) -> io::Result<Format>
     ensures value { S.IsKnown → IfOk result (λ format. format ≡ format_of (S.bytes source.now)) }
-    ensures succeeds { S.IsKnown → IsOk result }
+    ensures failed { IfErr result (λ _. S.may_fail ≡ true) }
 {
     let mut front = [0; 64];
     let present = source.len().min(START_SIZE) as usize;

@@ -1,5 +1,5 @@
 //! LiME files.
-ghost use Rattle.std.specs.Prelude.{◌≡◌, ◌+◌, ◌≤◌, ◌<◌, ◌^◌, length, IsOk, IfOk};
+ghost use Rattle.std.specs.Prelude.{◌≡◌, ◌+◌, ◌≤◌, ◌<◌, ◌^◌, length, IfOk};
 ghost use Rattle.x86_64_dump.specs.Lime.{lime_segments, range_at, range_behind, range_header_at};
 ghost use Rattle.x86_64_dump.specs.Opening.{Gives, GivesAtOnce};
 
@@ -34,7 +34,7 @@ pub struct RangeHeader {
 
 /// Reads the ranges of a LiME file, as segments of memory.
 pub fn read_lime<S: ByteSource>(alloc: Global, source: &S) -> Result<Vec<Segment>, DumpError>
-    ensures { S.IsKnown → Gives (λ v. v.items) result (lime_segments (S.bytes source.now)) }
+    ensures { S.IsKnown → Gives S.may_fail (λ v. v.items) result (lime_segments (S.bytes source.now)) }
 {
     let length = source.len();
     let mut segments = Vec::new(alloc);
@@ -49,7 +49,8 @@ pub fn read_lime<S: ByteSource>(alloc: Global, source: &S) -> Result<Vec<Segment
 
 /// Reads the range whose header is at an offset.
 fn read_range<S: ByteSource>(source: &S, at: u64) -> Result<Segment, DumpError>
-    ensures range { S.IsKnown → GivesAtOnce (λ range. range) result (range_at (S.bytes source.now) at) }
+    ensures range { S.IsKnown → GivesAtOnce S.may_fail (λ range. range) result
+        (range_at (S.bytes source.now) at) }
     ensures after { IfOk result (λ range. at < range.offset + range.size) }
     ensures inside { IfOk result (λ range. range.offset + range.size ≤ S.size source.now) }
 {

@@ -1,5 +1,5 @@
 //! Notes of a kind.
-ghost use Rattle.std.specs.Prelude.{◌≡◌, ◌+◌, ◌*◌, ◌/◌, ◌≤◌, ◌<◌, ◌^◌, ◌++◌, length, nat_lt, cond, Some, None, IsOk, IfOk, OnOk, Ok};
+ghost use Rattle.std.specs.Prelude.{◌≡◌, ◌+◌, ◌*◌, ◌/◌, ◌≤◌, ◌<◌, ◌^◌, ◌++◌, length, nat_lt, cond, true, Some, None, IfOk, IfErr, OnOk, Ok};
 ghost use Rattle.x86_64_dump.specs.Numbers.{u32_at};
 ghost use Rattle.x86_64_dump.specs.Opening.{Gives, GivesAtOnce};
 ghost use Rattle.x86_64_dump.specs.Notes.{padded, kind_at, note_at, notes_size, is_note_cut, register_of};
@@ -32,7 +32,7 @@ pub fn read_notes<S: ByteSource>(
     segments: &[Segment],
     kind: NoteKind,
 ) -> Result<Vec<Note>, DumpError>
-    ensures { S.IsKnown → Gives (λ v. v.items) result
+    ensures { S.IsKnown → Gives S.may_fail (λ v. v.items) result
         (Ok (notes_within kind (length (S.bytes source.now)) (S.bytes source.now) segments.now)) }
 {
     let length = source.len();
@@ -59,7 +59,7 @@ fn add_from<S: ByteSource>(
 ) -> Result<(), DumpError>
     requires { offset + size < 2 ^ 64 }
     ensures { S.IsKnown → (0 < size → offset + size ≤ length (S.bytes source.now)) →
-        Gives (λ _. notes.new.items) result
+        Gives S.may_fail (λ _. notes.new.items) result
         (Ok (notes.old.items ++ kept_notes kind (size / 12) (S.bytes source.now) offset size)) }
 {
     let mut at = offset;
@@ -105,7 +105,7 @@ fn read_note<S: ByteSource>(source: &S, at: u64, left: u64) -> io::Result<Option
     requires { at + left < 2 ^ 64 }
     ensures value { S.IsKnown → IfOk result (λ note.
         note ≡ cond (is_whole (S.bytes source.now) at left) (Some (note_at (S.bytes source.now) at)) None) }
-    ensures succeeds { S.IsKnown → at + left ≤ length (S.bytes source.now) → IsOk result }
+    ensures failed { at + left ≤ S.size source.now → IfErr result (λ _. S.may_fail ≡ true) }
 {
     if left < HEAD_SIZE {
         return Ok(None);
@@ -137,7 +137,7 @@ fn read_kind<S: ByteSource>(source: &S, at: u64, name_size: u32) -> io::Result<N
     requires { at + 12 + name_size < 2 ^ 64 }
     ensures value { S.IsKnown → name_size ≡ u32_at (S.bytes source.now) at →
         IfOk result (λ kind. kind ≡ kind_at (S.bytes source.now) at) }
-    ensures succeeds { S.IsKnown → at + 12 + name_size ≤ length (S.bytes source.now) → IsOk result }
+    ensures failed { at + 12 + name_size ≤ S.size source.now → IfErr result (λ _. S.may_fail ≡ true) }
 {
     if name_size > LONGEST_NAME {
         return Ok(NoteKind::Other);
@@ -154,7 +154,8 @@ pub fn read_text<S: ByteSource>(
     source: &S,
     note: &Note,
 ) -> Result<Vec<u8>, DumpError>
-    ensures { S.IsKnown → Gives (λ v. v.items) result (Ok (text_of (S.bytes source.now) note.now)) }
+    ensures { S.IsKnown → Gives S.may_fail (λ v. v.items) result
+        (Ok (text_of (S.bytes source.now) note.now)) }
 {
     let size = note
         .size
@@ -179,7 +180,8 @@ fn is_note_cut(note: &Note, at: u64, length: u64) -> bool
 /// Reads the register of eight bytes at an offset of a note's descriptor.
 pub fn read_register<S: ByteSource>(source: &S, note: &Note, at: u64) -> Result<u64, DumpError>
     requires { at < 4096 }
-    ensures { S.IsKnown → GivesAtOnce (λ v. v) result (register_of (S.bytes source.now) note.now at) }
+    ensures { S.IsKnown → GivesAtOnce S.may_fail (λ v. v) result
+        (register_of (S.bytes source.now) note.now at) }
 {
     if is_note_cut(note, at, source.len()) {
         return Err(DumpError::Fault(Fault::NoteCut {

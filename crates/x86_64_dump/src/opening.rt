@@ -11,6 +11,7 @@ use crate::source::ByteSource;
 use std::alloc::Global;
 
 /// Reads the segments of a file of a format, of which a raw one is placed as stated.
+#[tactic(auto, using(crate::proofs::Openings::without_reads))]
 pub fn read_segments<S: ByteSource>(
     alloc: Global,
     source: &S,
@@ -18,7 +19,7 @@ pub fn read_segments<S: ByteSource>(
     placement: &Placement,
 ) -> Result<Vec<Segment>, DumpError>
     ensures { S.IsKnown →
-        Gives (λ v. v.items) result (segments_of format (S.bytes source.now) placement.now) }
+        Gives S.may_fail (λ v. v.items) result (segments_of format (S.bytes source.now) placement.now) }
 {
     match (format, placement) {
         (Format::Raw, _) => raw_segments(alloc, source.len(), placement),

@@ -1,5 +1,5 @@
 //! Sources of bytes, read at offsets.
-ghost use Rattle.std.specs.Prelude.{◌≡◌, ◌+◌, ◌≤◌, ℕ, List, length, IsOk, OnOk, ⊤, [], refl};
+ghost use Rattle.std.specs.Prelude.{◌≡◌, ◌+◌, ◌≤◌, Bool, true, false, ℕ, List, length, IfErr, OnOk, ⊤, [], refl};
 ghost use Rattle.x86_64_dump.specs.Source.{part_of};
 
 use std::fs::File;
@@ -9,7 +9,8 @@ use std::os::unix::fs::FileExt;
 /// A source of bytes that are read at offsets: a file or a slice.
 ///
 /// Its clauses say which bytes a read returns if they are known, as those of a slice are. The bytes of a file aren't known, and
-/// another program may change them meanwhile.
+/// another program may change them meanwhile. They also say whether a read of bytes that the source has may fail, as one of a file
+/// may.
 pub trait ByteSource: Drop {
     /// That its bytes are known, and stay.
     ghost IsKnown: { Type 0 };
@@ -19,6 +20,9 @@ pub trait ByteSource: Drop {
 
     /// Its bytes, if they are known.
     ghost bytes: { Self → List ℕ };
+
+    /// Whether a read of bytes that it has may fail.
+    ghost may_fail: { Bool };
 
     /// Returns the number of its bytes.
     fn len(&self) -> u64
@@ -33,7 +37,7 @@ pub trait ByteSource: Drop {
     fn read_exact_at(&self, buffer: &mut [u8], offset: u64) -> io::Result<()>
         ensures bytes { IsKnown →
             OnOk result (buffer.new ≡ part_of (bytes self.now) offset (length buffer.old)) }
-        ensures succeeds { IsKnown → offset + length buffer.old ≤ length (bytes self.now) → IsOk result };
+        ensures failed { offset + length buffer.old ≤ size self.now → IfErr result (λ _. may_fail ≡ true) };
 
     /// The reported number is the number of known bytes.
     ghost counted: { IsKnown → (source : Self) → size source ≡ length (bytes source) };
@@ -45,6 +49,8 @@ impl ByteSource for &[u8] {
     ghost size = { λ source. length source.now };
 
     ghost bytes = { λ source. source.now };
+
+    ghost may_fail = { false };
 
     ghost counted = { λ _ source. refl };
 
@@ -98,6 +104,8 @@ impl ByteSource for FileSource {
     ghost size = { λ source. source.length };
 
     ghost bytes = { λ _. [] };
+
+    ghost may_fail = { true };
 
     ghost counted = { λ known _. absurd known };
 

@@ -1,5 +1,5 @@
 -- Numbers: frames by their numbers, and memories with tables at some places. A place is the index of a table in memory.
-use Rattle.std.specs.Prelude.{◌≡◌, ◌==◌, ◌/◌, ◌*◌, ◌<◌, ◌^◌, ℕ, Bool, cond, List, All, Option, None, IsSome}
+use Rattle.std.specs.Prelude.{◌≡◌, ◌==◌, ◌/◌, ◌*◌, ◌<◌, ◌^◌, ℕ, Bool, true, cond, List, Vec, All, Option, None}
 use Rattle.std.specs.List.{list_any}
 use Rattle.std.specs.FinMap.{get}
 use Rattle.x86_64_model.specs.Memory.{Memory, Words}
@@ -20,6 +20,14 @@ HoldsFor places tables memory = (place : ℕ) → get memory place ≡ cond (lis
 abbrev pub words_numbered : Words → (number : ℕ) → Option (List ℕ)
 words_numbered W n = W (n * 4096)
 
--- each of these frames has words
-abbrev pub AreAllThere : Words → (numbers : List ℕ) → Type 0
-AreAllThere W numbers = All (λ n. IsSome (words_numbered W n)) numbers
+-- a test is true of each of these frames
+abbrev pub AreHeld : (has : ℕ → Bool) → (frames : List ℕ) → Type 0
+AreHeld has frames = All (λ f. has f ≡ true) frames
+
+-- likewise of the frames of these levels
+abbrev pub AreAllHeld : {A : Type 0} → (has : ℕ → Bool) → (levels : List (Vec ℕ A)) → Type 0
+AreAllHeld has levels = All (λ level. AreHeld has level.items) levels
+
+-- likewise of the frames of these numbers
+abbrev pub AreHeldBy : (has : ℕ → Bool) → (numbers : List ℕ) → Type 0
+AreHeldBy has numbers = AreHeld (λ n. has (n * 4096)) numbers

@@ -4,7 +4,7 @@ ghost use Rattle.std.specs.FinMap as finite;
 ghost use Rattle.x86_64_dump.specs.Opened.{words_opened};
 ghost use Rattle.x86_64_model.specs.Mappings.{mappings_of};
 ghost use Rattle.x86_64_dump.specs.Reached.{SameBelow};
-ghost use Rattle.x86_64_dump.specs.Loaded.{words_in, up_to, AreTables, HasCount, MayFail, SameWalks};
+ghost use Rattle.x86_64_dump.specs.Loaded.{words_in, up_to, AreTables, Counts, HasCount, MayFail, SameWalks};
 
 use crate::tables::levels::read_levels;
 use crate::tables::loading::read_memory;
@@ -81,7 +81,8 @@ pub fn read_tables<L: LevelCount, S: ByteSource, G: Progress>(
         SameWalks L.LEVELS (words_in tables) (words_opened S.bytes dump.now) root) }
     ensures count { S.IsKnown → IfOk result (HasCount L.LEVELS (words_opened S.bytes dump.now) root) }
     ensures told { IfOk result (λ read. G.Told progress.old progress.new (up_to (finite.len read.memory))) }
-    ensures errors { IfErr result (MayFail S.IsKnown) }
+    ensures counted { Counts G.Told progress.old progress.new }
+    ensures errors { IfErr result (MayFail S.may_fail) }
 {
     let mut read = TablesRead::new(alloc);
     let frames = read_levels(alloc, dump, root, L::LEVELS, &mut read)?;

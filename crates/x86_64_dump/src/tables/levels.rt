@@ -1,11 +1,12 @@
 //! The frames of the tables that a root leads to, level by level.
-ghost use Rattle.std.specs.Prelude.{◌≡◌, ◌<◌, IfOk, IfErr, OnOk};
+ghost use Rattle.std.specs.Prelude.{◌≡◌, ◌<◌, true, IfOk, IfErr, IfSome, OnOk};
 ghost use Rattle.std.specs.List.{filter_map, flat_map, fold};
 ghost use Rattle.x86_64_dump.specs.Dump.{words_of_dump};
-ghost use Rattle.x86_64_dump.specs.Opened.{opened};
+ghost use Rattle.x86_64_dump.specs.Opened.{holds, opened};
 ghost use Rattle.x86_64_dump.specs.Loaded.{MayFail, frames_of};
+ghost use Rattle.x86_64_dump.specs.private.FrameNumbers.{AreHeld};
 ghost use Rattle.x86_64_dump.specs.private.TablesRead.{AreOf};
-ghost use Rattle.x86_64_dump.specs.Tables.{table_named, tables_named, met, each_once, tables_by_level, if_there};
+ghost use Rattle.x86_64_dump.specs.Tables.{AreThere, table_named, tables_named, met, each_once, tables_by_level, if_there};
 
 use crate::tables::frame_set::FrameSet;
 use crate::tables::tables_read::TablesRead;
@@ -29,7 +30,8 @@ pub fn read_levels<S: ByteSource>(
     ensures read { S.IsKnown → OnOk result (AreOf (words_of_dump (opened S.bytes dump.now)) read.new) }
     ensures frames { S.IsKnown → IfOk result (λ frames. frames_of frames.items
         ≡ tables_by_level levels (words_of_dump (opened S.bytes dump.now)) root) }
-    ensures errors { IfErr result (MayFail S.IsKnown) }
+    ensures there { IfOk result (λ frames. AreThere (holds S.size dump.now) (frames_of frames.items)) }
+    ensures errors { IfErr result (MayFail S.may_fail) }
 {
     let mut frames = Vec::new(alloc);
     let mut level = root_level(alloc, dump, root)?;
@@ -49,8 +51,9 @@ fn root_level<S: ByteSource>(
     dump: &Dump<S>,
     root: PhysFrame<Size4KiB>,
 ) -> Result<Vec<PhysFrame<Size4KiB>>, AllocError>
-    ensures { S.IsKnown → IfOk result (λ frames.
+    ensures frames { S.IsKnown → IfOk result (λ frames.
         frames.items ≡ if_there (words_of_dump (opened S.bytes dump.now)) root) }
+    ensures held { IfOk result (λ frames. AreHeld (holds S.size dump.now) frames.items) }
 {
     let mut frames = Vec::new(alloc);
     if dump.has_frame(root) {
@@ -70,7 +73,8 @@ fn read_below<S: ByteSource>(
     ensures read { S.IsKnown → OnOk result (AreOf (words_of_dump (opened S.bytes dump.now)) read.new) }
     ensures frames { S.IsKnown → IfOk result (λ below. below.items
         ≡ each_once (flat_map (tables_named (words_of_dump (opened S.bytes dump.now))) frames.now)) }
-    ensures errors { IfErr result (MayFail S.IsKnown) }
+    ensures held { IfOk result (λ below. AreHeld (holds S.size dump.now) below.items) }
+    ensures errors { IfErr result (MayFail S.may_fail) }
 {
     let mut below = FrameSet::new(alloc);
     for frame in frames {
@@ -88,8 +92,10 @@ fn add_named<S: ByteSource>(
     words: &[PageTableEntry],
     below: &mut FrameSet,
 ) -> Result<(), AllocError>
-    ensures { S.IsKnown → OnOk result (below.new ≡ fold met below.old
+    ensures named { S.IsKnown → OnOk result (below.new ≡ fold met below.old
         (filter_map (table_named (words_of_dump (opened S.bytes dump.now))) words.now)) }
+    ensures held { OnOk result (
+        AreHeld (holds S.size dump.now) below.old → AreHeld (holds S.size dump.now) below.new) }
 {
     for word in words {
         if let Some(named) = table_named(dump, word) {
@@ -101,7 +107,8 @@ fn add_named<S: ByteSource>(
 
 /// Returns the frame of the table that a word above level one names, if the dump has it.
 fn table_named<S: ByteSource>(dump: &Dump<S>, word: &PageTableEntry) -> Option<PhysFrame<Size4KiB>>
-    ensures { S.IsKnown → result ≡ table_named (words_of_dump (opened S.bytes dump.now)) word.now }
+    ensures named { S.IsKnown → result ≡ table_named (words_of_dump (opened S.bytes dump.now)) word.now }
+    ensures held { IfSome result (λ frame. holds S.size dump.now frame ≡ true) }
 {
     let frame = word.frame().ok()?;
     if dump.has_frame(frame) {

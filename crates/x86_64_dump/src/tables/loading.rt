@@ -1,14 +1,14 @@
 //! Memories that hold the tables in some frames.
-ghost use Rattle.std.specs.Prelude.{◌≡◌, ◌||◌, ◌<◌, ◌≤◌, ◌+◌, ◌*◌, ℕ, true, length, map, slice_index, Some, IsSome, IfOk, IfErr, OnOk};
+ghost use Rattle.std.specs.Prelude.{◌≡◌, ◌||◌, ◌<◌, ◌≤◌, ◌+◌, ◌*◌, ℕ, true, length, map, slice_index, Some, IfOk, IfErr, OnOk};
 ghost use Rattle.std.specs.FinMap as finite;
 ghost use Rattle.std.specs.List.Sorted.{IsStrictlyIncreasing};
 ghost use Rattle.x86_64_dump.specs.Dump.{words_of_dump};
-ghost use Rattle.x86_64_dump.specs.Opened.{opened};
+ghost use Rattle.x86_64_dump.specs.Opened.{holds, opened};
 ghost use Rattle.x86_64_model.specs.Entry.{is_frame};
-ghost use Rattle.x86_64_dump.specs.Loaded.{HoldsTables, MayFail, frames_of, up_to};
+ghost use Rattle.x86_64_dump.specs.Loaded.{Counts, HoldsTables, MayFail, frames_of, up_to};
 ghost use Rattle.x86_64_dump.specs.Tables.{is_among, is_in, AreThere};
 ghost use Rattle.x86_64_dump.specs.private.TablesRead.{AreOf};
-ghost use Rattle.x86_64_dump.specs.private.FrameNumbers.{has_number, words_numbered, AreAllThere, AreNumbers};
+ghost use Rattle.x86_64_dump.specs.private.FrameNumbers.{has_number, words_numbered, AreHeldBy, AreNumbers};
 ghost use Rattle.x86_64_dump.specs.private.FileParts.{IsOf};
 
 use crate::file_part::{FilePart, MOST_FRAMES};
@@ -17,7 +17,6 @@ use crate::tables::progress::Progress;
 use crate::tables::tables_read::TablesRead;
 use crate::{ByteSource, Dump, DumpError};
 use std::alloc::{AllocError, Global};
-use std::io::{self, ErrorKind};
 use x86_64_page::frame::PhysFrame;
 use x86_64_page::page::{PageSize, Size4KiB};
 use x86_64_tables::page_table::PageTable;
@@ -32,13 +31,14 @@ pub fn read_memory<S: ByteSource, G: Progress>(
     read: &TablesRead,
     progress: &mut G,
 ) -> Result<PhysMemory, DumpError>
-    requires { S.IsKnown → AreOf (words_of_dump (opened S.bytes dump.now)) read.now }
+    requires read { S.IsKnown → AreOf (words_of_dump (opened S.bytes dump.now)) read.now }
+    requires there { AreThere (holds S.size dump.now) (frames_of frames.now) }
     ensures tables { S.IsKnown → IfOk result
         (HoldsTables (frames_of frames.now) (words_of_dump (opened S.bytes dump.now))) }
     ensures told { IfOk result (λ memory.
         G.Told progress.old progress.new (up_to (finite.len memory))) }
-    ensures errors { IfErr result (MayFail
-        (S.IsKnown × AreThere (words_of_dump (opened S.bytes dump.now)) (frames_of frames.now))) }
+    ensures counted { Counts G.Told progress.old progress.new }
+    ensures errors { IfErr result (MayFail S.may_fail) }
 {
     let numbers = numbers_of(alloc, frames)?;
     let tables = tables_of(alloc, dump, &numbers, read, progress)?;
@@ -58,13 +58,14 @@ fn tables_of<S: ByteSource, G: Progress>(
     progress: &mut G,
 ) -> Result<Vec<PageTable>, DumpError>
     requires numbers { AreNumbers numbers.now }
+    requires there { AreHeldBy (holds S.size dump.now) numbers.now }
     requires read { S.IsKnown → AreOf (words_of_dump (opened S.bytes dump.now)) read.now }
     ensures tables { S.IsKnown → IfOk result (λ tables. map Some tables.items
         ≡ map (words_numbered (words_of_dump (opened S.bytes dump.now))) numbers.now) }
     ensures count { IfOk result (λ tables. length tables.items ≡ length numbers.now) }
     ensures told { OnOk result (G.Told progress.old progress.new (up_to (length numbers.now))) }
-    ensures errors { IfErr result (MayFail (S.IsKnown
-        × AreAllThere (words_of_dump (opened S.bytes dump.now)) numbers.now)) }
+    ensures counted { Counts G.Told progress.old progress.new }
+    ensures errors { IfErr result (MayFail S.may_fail) }
 {
     let mut part = FilePart::new();
     let mut tables = Vec::with_capacity(alloc, numbers.len())?;
@@ -121,13 +122,13 @@ fn fill_table<S: ByteSource>(
 ) -> Result<(), DumpError>
     requires some { 0 < length numbers.now }
     requires numbers { AreNumbers numbers.now }
+    requires there { holds S.size dump.now (slice_index numbers.now 0 * 4096) ≡ true }
     requires read { S.IsKnown → AreOf (words_of_dump (opened S.bytes dump.now)) read.now }
     requires part { S.IsKnown → IsOf (S.bytes dump.now.source) part.old }
     ensures words { S.IsKnown → OnOk result (Some table.new
         ≡ words_numbered (words_of_dump (opened S.bytes dump.now)) (slice_index numbers.now 0)) }
     ensures part { S.IsKnown → OnOk result (IsOf (S.bytes dump.now.source) part.new) }
-    ensures errors { IfErr result (MayFail (S.IsKnown
-        × IsSome (words_numbered (words_of_dump (opened S.bytes dump.now)) (slice_index numbers.now 0)))) }
+    ensures errors { IfErr result (MayFail S.may_fail) }
 {
     let frame = PhysFrame::from_pfn(numbers[0]);
     if let Some(before) = read.table(frame) {
@@ -135,7 +136,7 @@ fn fill_table<S: ByteSource>(
         return Ok(());
     }
     let Some(offset) = dump.offset_of(frame) else {
-        return Err(DumpError::Read(io::Error::from(ErrorKind::UnexpectedEof)));
+        unreachable!();
     };
     if !part.has_frame(offset) {
         let count = frames_together(dump, read, numbers, offset);

@@ -48,7 +48,7 @@ impl TablesRead {
             words_read self.new frame ≡ words_of_dump (opened S.bytes dump.now) frame) }
         ensures kept { S.IsKnown → AreOf (words_of_dump (opened S.bytes dump.now)) self.old → OnOk result (
             AreOf (words_of_dump (opened S.bytes dump.now)) self.new) }
-        ensures errors { IfErr result (MayFail S.IsKnown) }
+        ensures errors { IfErr result (MayFail S.may_fail) }
     {
         if self.table(frame).is_some() {
             return Ok(());

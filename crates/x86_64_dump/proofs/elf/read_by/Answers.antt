@@ -23,4 +23,4 @@ returns g c known =
     = elf_table file header _ _ None long (sym c.fault_of_header.ensures.fault ∙ c.in_default.is) (c.in_ok-count.ensures.value known) (sym c.fault_of_table.ensures.fault ∙ c.in_default-fault_of_table.is) in
     let told : Ok (segments_at file header.headers c.in_ok-count.count) ≡ Ok c.in_ok-read_table.field-0.items = c.in_ok-read_table.ensures known (omega arith) in
     let same : segments_at file header.headers c.in_ok-count.count ≡ c.in_ok-read_table.field-0.items = cc in
-    at_once (λ v. v.items) c.with_memory.result _ _ (found ∙ ap with_memory same) c.with_memory.ensures
+    at_once g.S.ByteSource.may_fail (λ v. v.items) c.with_memory.result _ _ (found ∙ ap with_memory same) c.with_memory.ensures

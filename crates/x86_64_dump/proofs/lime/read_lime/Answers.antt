@@ -12,7 +12,7 @@ returns-in_err-range g c known =
     let long = c.len-length.ensures ∙ g.met.S.ByteSource.counted known c.args.source.now in
     let more : c.loop-at.at < length file = omega (arith, c.loop-at-test.true) in
     let is : c.from_residual.result ≡ Err c.in_err-range.field-0.0 = search rules in
-    rw is (step_fails c.in_err-range.field-0.0 (range_at file c.loop-at.at) (lime_segments file) (c.in_err-range.ensures.range known)
+    rw is (step_fails g.S.ByteSource.may_fail c.in_err-range.field-0.0 (range_at file c.loop-at.at) (lime_segments file) (c.in_err-range.ensures.range known)
     (λ fault fails. range_fails file c.loop-at.segments.items c.loop-at.at fault more (c.loop-at.invariant.told known) fails))
 
 pub loop-at-preserved : goal.loop-at-preserved

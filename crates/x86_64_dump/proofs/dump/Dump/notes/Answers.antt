@@ -11,4 +11,4 @@ returns g c known =
     let file = g.S.ByteSource.bytes c.args.self.now.source in
     let told : notes_within c.args.kind (length file) file c.deref.result.now ≡ notes_of c.args.kind (opened g.S.ByteSource.bytes c.args.self.now) =
     ap (notes_within c.args.kind (length file) file) c.deref.ensures.value ∙ within_told c.args.kind (length file) file c.args.self.now.segments.items in
-    subst (λ notes. Gives (λ v. v.items) c.read_notes.result (Ok notes)) told (c.read_notes.ensures known)
+    subst (λ notes. Gives g.S.ByteSource.may_fail (λ v. v.items) c.read_notes.result (Ok notes)) told (c.read_notes.ensures known)

@@ -1,12 +1,12 @@
+use Rattle.std.specs.Prelude.{Vec}
+use Rattle.std.specs.declared.alloc.Global.{Global}
 use Rattle.std.proofs.Common.{◌≡◌, List, ℕ, refl, ◌∙◌, sym, ap, subst}
 use Rattle.x86_64_dump.specs.Dump.{words_of_dump}
-use Rattle.x86_64_dump.specs.Opened.{opened}
-use Rattle.x86_64_dump.specs.declared.error.DumpError.{DumpError}
+use Rattle.x86_64_dump.specs.Opened.{holds, opened}
 use Rattle.x86_64_model.specs.Memory.{words_of, identity_places}
-use Rattle.x86_64_dump.specs.Loaded.{HoldsTables, MayFail, frames_of}
+use Rattle.x86_64_dump.specs.Loaded.{HoldsTables, frames_of}
 use Rattle.x86_64_dump.specs.Tables.{tables_by_level, words_in_frames, AreThere}
-use Rattle.x86_64_dump.proofs.Closed.{same_below_root, levels_are_there}
-use Rattle.x86_64_dump.proofs.Failing.{fails_as, fails_knowing}
+use Rattle.x86_64_dump.proofs.Closed.{same_below_root}
 use Rattle.x86_64_dump.proofs.SameMappings.{same_mappings, same_walks}
 use Rattle.x86_64_dump.proofs.tables.dump_tables.read_tables.Given.{Over}
 use Rattle.x86_64_dump.proofs.tables.dump_tables.read_tables.Goals as goal
@@ -18,15 +18,10 @@ levels : (g : Over) (c : After-read_memory g) → g.S.ByteSource.IsKnown
 levels g c known = ap frames_of c.deref.ensures.value ∙ c.in_ok-frames.ensures.frames known
     ∙ ap (λ n. tables_by_level n (words_of_dump (opened g.S.ByteSource.bytes c.args.dump.now)) c.args.root) c.LEVELS.ensures
 
-pub returns-in_err-memory-clause-errors : goal.returns-in_err-memory-clause-errors
-returns-in_err-memory-clause-errors g c =
-    let W = words_of_dump (opened g.S.ByteSource.bytes c.args.dump.now) in
-    let Fails : DumpError → Type 0 = MayFail g.S.ByteSource.IsKnown in
-    let There : List (List ℕ) → Type 0 = AreThere W in
-    fails_as c.from_residual-in_err-memory.result _ Fails c.from_residual-in_err-memory.ensures.1 (λ e is. subst Fails (sym is)
-    (fails_knowing (g.S.ByteSource.IsKnown × AreThere W (frames_of c.deref.result.now)) _
-    (λ known. (known, subst There (sym (levels g (goal.at.returns-in_err-memory-clause-errors g c).After-read_memory known)) (levels_are_there g.L.LevelCount.LEVELS W c.args.root)))
-    c.in_err-memory.field-0.0 c.in_err-memory.ensures.errors))
+pub read_memory-requires-clause-there : goal.read_memory-requires-clause-there
+read_memory-requires-clause-there g c =
+    let There : List (Vec ℕ Global) → Type 0 = λ frames. AreThere (holds g.S.ByteSource.size c.args.dump.now) (frames_of frames) in
+    subst There (sym c.deref.ensures.value) c.in_ok-frames.ensures.there
 
 pub returns-clause-same : goal.returns-clause-same
 returns-clause-same g c known =
@@ -49,3 +44,6 @@ returns-clause-count g c known =
     let W = words_of_dump (opened g.S.ByteSource.bytes c.args.dump.now) in
     let Holds : List (List ℕ) → Type 0 = λ frames. HoldsTables frames W c.in_ok-memory.memory in
     (c.in_ok-memory.memory, subst Holds (levels g (goal.at.returns-clause-count g c).After-read_memory known) (c.in_ok-memory.ensures.tables known), refl)
+
+pub returns-in_err-frames-clause-counted : goal.returns-in_err-frames-clause-counted
+returns-in_err-frames-clause-counted g c = (0, g.met.G.Progress.none c.args.progress.now)

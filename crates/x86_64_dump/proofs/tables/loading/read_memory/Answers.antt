@@ -1,30 +1,20 @@
 use Rattle.std.proofs.Common.{◌≡◌, ℕ, List, length, map, ◌∙◌, sym, ap, subst}
 use Rattle.std.specs.FinMap.{len}
 use Rattle.x86_64_dump.specs.Dump.{words_of_dump}
-use Rattle.x86_64_dump.specs.Opened.{opened}
-use Rattle.x86_64_dump.specs.declared.error.DumpError.{DumpError}
-use Rattle.x86_64_dump.specs.Loaded.{MayFail, frames_of, up_to}
-use Rattle.x86_64_dump.specs.Tables.{AreThere}
-use Rattle.x86_64_dump.specs.private.FrameNumbers.{words_numbered, AreAllThere, HoldsFor}
+use Rattle.x86_64_dump.specs.Opened.{holds, opened}
+use Rattle.x86_64_dump.specs.Loaded.{frames_of, up_to}
+use Rattle.x86_64_dump.specs.private.FrameNumbers.{words_numbered, AreHeldBy, HoldsFor}
 use Rattle.x86_64_model.specs.Memory.{Memory}
-use Rattle.x86_64_dump.proofs.Failing.{fails_as, fails_knowing, no_frame}
+use Rattle.x86_64_dump.proofs.Frames.{no_frame}
 use Rattle.x86_64_dump.proofs.Places.{all_there, places_below, places_counted, tables_held, words_filled}
 use Rattle.x86_64_dump.proofs.tables.loading.read_memory.Goals as goal
 
-pub returns-in_err-tables-clause-errors : goal.returns-in_err-tables-clause-errors
-returns-in_err-tables-clause-errors g c =
-    let W = words_of_dump (opened g.S.ByteSource.bytes c.args.dump.now) in
-    let levels = frames_of c.args.frames.now in
-    let Fails : DumpError → Type 0 = MayFail (g.S.ByteSource.IsKnown × AreThere W levels) in
-    let Are : List ℕ → Type 0 = AreAllThere W in
-    fails_as c.from_residual-in_err-tables.result _ Fails c.from_residual-in_err-tables.ensures.1 (λ e is. subst Fails (sym is)
-    (fails_knowing (g.S.ByteSource.IsKnown × AreAllThere W c.deref.result.now) _
-    (λ known. (
-      known.0,
-      subst Are (sym c.deref.ensures.value)
-          (all_there W c.in_ok-numbers.numbers.items levels c.in_ok-numbers.ensures.below c.in_ok-numbers.ensures.numbers known.1),
-    ))
-    c.in_err-tables.field-0.0 c.in_err-tables.ensures.errors))
+pub tables_of-requires-clause-there : goal.tables_of-requires-clause-there
+tables_of-requires-clause-there g c =
+    let has = holds g.S.ByteSource.size c.args.dump.now in
+    let Held : List ℕ → Type 0 = AreHeldBy has in
+    subst Held (sym c.deref.ensures.value)
+    (all_there has c.in_ok-numbers.numbers.items (frames_of c.args.frames.now) c.in_ok-numbers.ensures.below c.in_ok-numbers.ensures.numbers c.requires.there)
 
 pub returns-clause-tables : goal.returns-clause-tables
 returns-clause-tables g c known =
@@ -45,3 +35,6 @@ returns-clause-told g c =
     let count : length c.in_ok-tables.tables.items ≡ length numbers = c.in_ok-tables.ensures.count ∙ ap length c.deref.ensures.value in
     subst Told (ap length c.deref.ensures.value ∙ sym (ap len c.in-Some.ensures.1 ∙ places_counted numbers c.in_ok-tables.tables.items c.in_ok-numbers.ensures.increasing count))
     c.in_ok-tables.ensures.told
+
+pub returns-in_err-numbers-clause-counted : goal.returns-in_err-numbers-clause-counted
+returns-in_err-numbers-clause-counted g c = (0, g.met.G.Progress.none c.args.progress.now)

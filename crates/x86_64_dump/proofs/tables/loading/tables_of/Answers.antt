@@ -1,25 +1,18 @@
-use Rattle.std.proofs.Common.{◌≡◌, ◌≤◌, ℕ, ◌+◌, ◌++◌, ◌∷◌, List, [], Some, IsSome, length, map, set, ◌∙◌, sym, ap, ap₂, subst, arith}
+use Rattle.std.proofs.Common.{◌≡◌, ◌≤◌, ℕ, true, ◌+◌, ◌*◌, ◌++◌, ◌∷◌, List, [], Some, length, map, set, ◌∙◌, sym, ap, ap₂, subst, arith}
 use Rattle.std.proofs.Math.Seq.{set-append_seam}
 use Rattle.std.proofs.lemmas.List.{map_more, map_push}
 use Rattle.std.proofs.lemmas.List.FromFn.{map-range_with_len_more}
 use Rattle.x86_64_dump.specs.Dump.{words_of_dump}
-use Rattle.x86_64_dump.specs.Opened.{opened}
-use Rattle.x86_64_dump.specs.declared.error.DumpError.{DumpError}
-use Rattle.x86_64_dump.specs.Loaded.{MayFail, up_to}
-use Rattle.x86_64_dump.specs.private.FrameNumbers.{words_numbered, AreAllThere}
-use Rattle.x86_64_dump.proofs.Failing.{fails_as, fails_knowing}
+use Rattle.x86_64_dump.specs.Opened.{holds, opened}
+use Rattle.x86_64_dump.specs.Loaded.{up_to}
+use Rattle.x86_64_dump.specs.private.FrameNumbers.{words_numbered}
 use Rattle.x86_64_dump.proofs.Places.{number_from}
 use Rattle.x86_64_dump.proofs.tables.loading.tables_of.Goals as goal
 
-pub returns-in_err-fill_table-clause-errors : goal.returns-in_err-fill_table-clause-errors
-returns-in_err-fill_table-clause-errors g c =
-    let W = words_of_dump (opened g.S.ByteSource.bytes c.args.dump.now) in
-    let Fails : DumpError → Type 0 = MayFail (g.S.ByteSource.IsKnown × AreAllThere W c.args.numbers.now) in
-    let There : ℕ → Type 0 = λ n. IsSome (words_numbered W n) in
-    fails_as c.from_residual-in_err-fill_table.result _ Fails c.from_residual-in_err-fill_table.ensures.1 (λ e is. subst Fails (sym is)
-    (fails_knowing (g.S.ByteSource.IsKnown × IsSome (words_numbered W _)) _
-    (λ known. (known.0, subst There (sym (number_from c.args.numbers.now c.loop-i.i)) (known.1 c.loop-i.i 0 c.loop-i-test.true)))
-    c.in_err-fill_table.field-0.0 c.in_err-fill_table.ensures.errors))
+pub fill_table-requires-clause-there : goal.fill_table-requires-clause-there
+fill_table-requires-clause-there g c =
+    let Held : ℕ → Type 0 = λ n. holds g.S.ByteSource.size c.args.dump.now (n * 4096) ≡ true in
+    subst Held (sym (number_from c.args.numbers.now c.loop-i.i)) (c.requires.there c.loop-i.i 0 c.loop-i-test.true)
 
 pub loop-i-preserved : goal.loop-i-preserved
 loop-i-preserved g c = record {
@@ -43,3 +36,12 @@ loop-i-preserved g c = record {
       subst Told (sym (map-range_with_len_more (λ i. i + 1) 0 c.loop-i.i c.loop-i.i (omega arith)))
       (g.met.G.Progress.both c.args.progress.now c.loop-i.progress c.tables.new.self (up_to c.loop-i.i) ((c.loop-i.i + 1) ∷ []) c.loop-i.invariant.told c.tables.ensures);
 }
+
+pub returns-in_err-tables-clause-counted : goal.returns-in_err-tables-clause-counted
+returns-in_err-tables-clause-counted g c = (0, g.met.G.Progress.none c.args.progress.now)
+
+pub returns-in_err-fill_table-clause-counted : goal.returns-in_err-fill_table-clause-counted
+returns-in_err-fill_table-clause-counted g c = (c.loop-i.i, c.loop-i.invariant.told)
+
+pub returns-clause-counted : goal.returns-clause-counted
+returns-clause-counted g c = (c.loop-i.i, c.loop-i.invariant.told)
