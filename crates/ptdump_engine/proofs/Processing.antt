@@ -1,5 +1,5 @@
 -- The processors of a dump, read one by one.
-use Rattle.std.proofs.Common.{◌≡◌, ◌∙◌, ◌+◌, ◌<◌, ◌≤◌, ◌++◌, ℕ, List, [], ◌∷◌, Option, Result, Ok, Err, false, drop, get_or, length, refl, sym, ap, append_assoc, append-nil}
+use Rattle.std.proofs.Common.{◌≡◌, ◌∙◌, ◌+◌, ◌<◌, ◌≤◌, ◌++◌, ℕ, Bool, List, [], ◌∷◌, Option, Result, Ok, Err, false, drop, get_or, length, refl, sym, ap, append_assoc, append-nil}
 use Rattle.std.proofs.lemmas.List.{drop_all, drop_more}
 use Rattle.x86_64_addr.specs.declared.level_count.Levels.{Levels}
 use Rattle.x86_64_dump.specs.Opening.{GivesAtOnce}
@@ -51,11 +51,11 @@ module _ (file : List ℕ) (given : Option Levels) (notes : List Note) where
       next i ps d below so_far ∙ ap (behind i ps) says ∙ onto_more ps (processor_with given i registers) (processors_from file given (i + 1) (drop (i + 1) notes))
 
   -- the next note can't be read
-  pub read_fails : (i : ℕ) (ps : List Processor) (d : Note) (error : DumpError) → i < length notes → AreRead i ps
-      → GivesAtOnce {X = Registers} (λ r. r) (Err error) (registers_of file (get_or notes i d)) → FailsBy false (failure_of error) (processors_from file given 0 notes)
-  read_fails i ps d errors.OutOfMemory below so_far fails = absurd fails
-  read_fails i ps d (errors.Read error) below so_far fails = absurd fails
-  read_fails i ps d (errors.Fault fault) below so_far fails = next i ps d below so_far ∙ ap (behind i ps) fails
+  pub read_fails : (fails : Bool) (i : ℕ) (ps : List Processor) (d : Note) (error : DumpError) → i < length notes → AreRead i ps
+      → GivesAtOnce {X = Registers} fails (λ r. r) (Err error) (registers_of file (get_or notes i d)) → FailsBy fails false (failure_of error) (processors_from file given 0 notes)
+  read_fails fails i ps d errors.OutOfMemory below so_far is = absurd is
+  read_fails fails i ps d (errors.Read error) below so_far is = is
+  read_fails fails i ps d (errors.Fault fault) below so_far is = next i ps d below so_far ∙ ap (behind i ps) is
 
   -- all are read
   pub read_all : (i : ℕ) (ps : List Processor) → length notes ≤ i → AreRead i ps → processors_from file given 0 notes ≡ Ok ps

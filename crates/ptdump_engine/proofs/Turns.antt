@@ -1,11 +1,12 @@
 -- Lists that are gone through, with a step for each element.
-use Rattle.std.proofs.Common.{◌≡◌, ◌+◌, ◌<◌, ◌≤◌, ◌++◌, ◌==◌, inl, inr, ℕ, List, [], ◌∷◌, Option, if◌then◌else◌, take, drop, get_or, length, refl, sym, ap, ap₂, subst, false, codes, decimal, arith}
+use Rattle.std.proofs.Common.{◌≡◌, ◌+◌, ◌<◌, ◌≤◌, ◌++◌, ◌==◌, ℕ, List, [], ◌∷◌, Option, if◌then◌else◌, take, drop, get_or, length, refl, sym, ap, ap₂, subst, false, codes, decimal, arith}
 use Rattle.std.proofs.KnownBytes.{Appends-trans}
 use Rattle.std.proofs.lemmas.Bool.Decides.{nat_tests}
 use Rattle.std.proofs.lemmas.List.{drop_all, drop_more}
 use Rattle.std.specs.Io.KnownBytes.{Appends}
 use Rattle.std.specs.List.{enumerate_from, flat_map, join_by}
-use Rattle.ptdump_engine.specs.Program.{EndsTold}
+use Rattle.x86_64_dump.specs.Loaded.{Counts}
+use Rattle.ptdump_engine.specs.Program.{ToldInTurn, ToldUpTo}
 use Rattle.ptdump_engine.specs.Steps.{InTurn}
 use Rattle.ptdump_engine.specs.private.Roots.{number_at}
 use Rattle.ptdump_engine.proofs.Found.{flat_more}
@@ -21,10 +22,23 @@ module _ {X G : Type 0} (Step : X → G → G → Type 0) where
   pub turn_all : (first now : G) (xs : List X) (i : ℕ) → length xs ≤ i → ((after : G) → InTurn Step (drop i xs) now after → InTurn Step xs first after) → InTurn Step xs first now
   turn_all first now xs i end all = all now (subst (λ ys. InTurn Step ys now now) (sym (drop_all i xs end)) refl)
 
--- the end is what was told last, if that is so of a first part and of the rest
-pub told_on : {G : Type 0} (Ended : G → G → Type 0) (before now after : G) → EndsTold Ended before now → EndsTold Ended now after → EndsTold Ended before after
-told_on Ended before now after first (inl same) = subst (EndsTold Ended before) (sym same) first
-told_on Ended before now after first (inr last) = inr last
+  -- some steps, and then others
+  turn_on : (xs ys : List X) (before now after : G) → InTurn Step xs before now → InTurn Step ys now after → InTurn Step (xs ++ ys) before after
+  turn_on [] ys before now after first rest = subst (λ g. InTurn Step ys g after) first rest
+  turn_on (x ∷ xs) ys before now after (next, step, first) rest = (next, step, turn_on xs ys next now after first rest)
+
+module _ {G : Type 0} (Told : G → G → List ℕ → Type 0) (Ended : G → G → Type 0) where
+  -- nothing is told
+  pub told_nothing : (before : G) → ToldInTurn Told Ended before before
+  told_nothing before = ([], refl)
+
+  -- the tables of one root are told, and the end
+  pub told_once : (before between after : G) → Counts Told before between → Ended between after → ToldInTurn Told Ended before after
+  told_once before between after (count, told) ended = (count ∷ [], (after, (between, told, ended), refl))
+
+  -- likewise of a first part, and of the rest
+  pub told_on : (before now after : G) → ToldInTurn Told Ended before now → ToldInTurn Told Ended now after → ToldInTurn Told Ended before after
+  told_on before now after (first, told) (rest, more) = (first ++ rest, turn_on (ToldUpTo Told Ended) first rest before now after told more)
 
 -- one more text is written
 pub appends_more : {X : Type 0} (text : X → List ℕ) (old now new : Option (List ℕ)) (xs : List X) (i : ℕ) (d : X) → i < length xs

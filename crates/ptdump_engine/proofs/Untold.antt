@@ -160,43 +160,43 @@ start_has_text request dump is = text_then (start_of request dump) _ (start_text
 -- ---- what is told
 
 -- the failure that a call finds is the expected one, if it has a text
-pub shown : (failure : Failure) (found : Result Start Failure) → FailsBy false failure found → IsSome (failure_text failure) → found ≡ Err failure
-shown failures.OutOfMemory found is has = absurd (true≢false (sym has))
-shown failures.Output found is has = absurd (true≢false (sym has))
-shown failures.NoCr3 found is has = is
-shown failures.VirtualBox found is has = is
-shown (failures.NoProcessor cpu count) found is has = is
-shown failures.NoProcessors found is has = is
-shown (failures.WrongMode cpu mode) found is has = is
-shown (failures.NotCanonical address levels) found is has = is
-shown (failures.NotPhysical address) found is has = is
-shown (failures.FromAboveTo from to) found is has = is
-shown (failures.DirectMapReversed first last) found is has = is
-shown (failures.NoRoot root) found is has = is
-shown (failures.Dump fault) found is has = is
-shown (failures.Read error) found is has = is
+pub shown : (fails : Bool) (failure : Failure) (found : Result Start Failure) → FailsBy fails false failure found → IsSome (failure_text failure) → found ≡ Err failure
+shown fails failures.OutOfMemory found is has = absurd (true≢false (sym has))
+shown fails failures.Output found is has = absurd (true≢false (sym has))
+shown fails failures.NoCr3 found is has = is
+shown fails failures.VirtualBox found is has = is
+shown fails (failures.NoProcessor cpu count) found is has = is
+shown fails failures.NoProcessors found is has = is
+shown fails (failures.WrongMode cpu mode) found is has = is
+shown fails (failures.NotCanonical address levels) found is has = is
+shown fails (failures.NotPhysical address) found is has = is
+shown fails (failures.FromAboveTo from to) found is has = is
+shown fails (failures.DirectMapReversed first last) found is has = is
+shown fails (failures.NoRoot root) found is has = is
+shown fails (failures.Dump fault) found is has = is
+shown fails (failures.Read error) found is has = absurd (true≢false (sym has))
 
 untold : (failure : Failure) (found : Result Start Failure) → HasText found → failure_text failure ≡ None → found ≡ Err failure → ⊥
 untold failure found has none is =
     let has_none : IsSome {T = List ℕ} None = subst IsSome none (subst HasText is has) in
     true≢false (sym has_none)
 
--- if it has none, memory allocation failed
-pub unshown : (may : Bool) (failure : Failure) (found : Result Start Failure) → FailsBy false failure found → HasText found → failure_text failure ≡ None → IsForced may failure
-unshown may failures.OutOfMemory found is has none = tt
-unshown may failures.Output found is has none = absurd (true≢false (sym is))
-unshown may failures.NoCr3 found is has none = absurd (untold failures.NoCr3 found has none is)
-unshown may failures.VirtualBox found is has none = absurd (untold failures.VirtualBox found has none is)
-unshown may (failures.NoProcessor cpu count) found is has none = absurd (untold (failures.NoProcessor cpu count) found has none is)
-unshown may failures.NoProcessors found is has none = absurd (untold failures.NoProcessors found has none is)
-unshown may (failures.WrongMode cpu mode) found is has none = absurd (untold (failures.WrongMode cpu mode) found has none is)
-unshown may (failures.NotCanonical address levels) found is has none = absurd (untold (failures.NotCanonical address levels) found has none is)
-unshown may (failures.NotPhysical address) found is has none = absurd (untold (failures.NotPhysical address) found has none is)
-unshown may (failures.FromAboveTo from to) found is has none = absurd (untold (failures.FromAboveTo from to) found has none is)
-unshown may (failures.DirectMapReversed first last) found is has none = absurd (untold (failures.DirectMapReversed first last) found has none is)
-unshown may (failures.NoRoot root) found is has none = absurd (untold (failures.NoRoot root) found has none is)
-unshown may (failures.Dump fault) found is has none = absurd (untold (failures.Dump fault) found has none is)
-unshown may (failures.Read error) found is has none = absurd (untold (failures.Read error) found has none is)
+-- if it has none, memory allocation failed, or a read
+pub unshown : (fails may : Bool) (failure : Failure) (found : Result Start Failure) → FailsBy fails false failure found → HasText found → failure_text failure ≡ None → IsForced fails may failure
+unshown fails may failures.OutOfMemory found is has none = tt
+unshown fails may failures.Output found is has none = absurd (true≢false (sym is))
+unshown fails may failures.NoCr3 found is has none = absurd (untold failures.NoCr3 found has none is)
+unshown fails may failures.VirtualBox found is has none = absurd (untold failures.VirtualBox found has none is)
+unshown fails may (failures.NoProcessor cpu count) found is has none = absurd (untold (failures.NoProcessor cpu count) found has none is)
+unshown fails may failures.NoProcessors found is has none = absurd (untold failures.NoProcessors found has none is)
+unshown fails may (failures.WrongMode cpu mode) found is has none = absurd (untold (failures.WrongMode cpu mode) found has none is)
+unshown fails may (failures.NotCanonical address levels) found is has none = absurd (untold (failures.NotCanonical address levels) found has none is)
+unshown fails may (failures.NotPhysical address) found is has none = absurd (untold (failures.NotPhysical address) found has none is)
+unshown fails may (failures.FromAboveTo from to) found is has none = absurd (untold (failures.FromAboveTo from to) found has none is)
+unshown fails may (failures.DirectMapReversed first last) found is has none = absurd (untold (failures.DirectMapReversed first last) found has none is)
+unshown fails may (failures.NoRoot root) found is has none = absurd (untold (failures.NoRoot root) found has none is)
+unshown fails may (failures.Dump fault) found is has none = absurd (untold (failures.Dump fault) found has none is)
+unshown fails may (failures.Read error) found is has none = is
 
 -- a text that is there
 pub text_or : (text : Option (List ℕ)) (P : List ℕ → Type 0) → IfSome text P → IsSome text → P (unwrap_or text [])

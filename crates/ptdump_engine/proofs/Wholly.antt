@@ -151,16 +151,16 @@ opens request file dump start contents starts =
     ∙ ap (λ found. and_then found (λ start. Ok (record { dump = dump; start = start }))) starts
 
 -- why nothing is opened
-pub no_dump : (may : Bool) (request : Request) (file : List ℕ) (error : DumpError) → Fails error (contents_for request file) → FailsBy may (failure_of error) (opened_for request file)
+pub no_dump : (fails may : Bool) (request : Request) (file : List ℕ) (error : DumpError) → Fails fails error (contents_for request file) → FailsBy fails may (failure_of error) (opened_for request file)
 unfolding opened_for
-no_dump may request file error fails = dump_fails may error (contents_for request file) _ fails
+no_dump fails may request file error is = dump_fails fails may error (contents_for request file) _ is
 
-pub no_start : (may : Bool) (request : Request) (file : List ℕ) (dump : Contents) (failure : Failure) → contents_for request file ≡ Ok dump → FailsBy false failure (start_for request dump)
-    → FailsBy may failure (opened_for request file)
+pub no_start : (fails may : Bool) (request : Request) (file : List ℕ) (dump : Contents) (failure : Failure) → contents_for request file ≡ Ok dump
+    → FailsBy fails false failure (start_for request dump) → FailsBy fails may failure (opened_for request file)
 unfolding opened_for
-no_start may request file dump failure contents fails =
-    subst (λ found. FailsBy {A = Opened} may failure (and_then (of_dump found) (λ dump. and_then (start_for request dump) (λ start. Ok (record { dump = dump; start = start }))))) (sym contents)
-    (fails_then may failure (start_for request dump) (λ start. Ok (record { dump = dump; start = start })) fails)
+no_start fails may request file dump failure contents is =
+    subst (λ found. FailsBy {A = Opened} fails may failure (and_then (of_dump found) (λ dump. and_then (start_for request dump) (λ start. Ok (record { dump = dump; start = start }))))) (sym contents)
+    (fails_then fails may failure (start_for request dump) (λ start. Ok (record { dump = dump; start = start })) is)
 
 -- likewise for the processors of a dump
 pub shows : (request : Request) (file : List ℕ) (dump : Contents) (ps : List Processor) → contents_for request file ≡ Ok dump → processors_for request dump ≡ Ok ps
@@ -170,47 +170,48 @@ shows request file dump ps contents are =
     ap (λ found. and_then (of_dump found) (λ dump. and_then (processors_for request dump) (λ ps. Ok (record { dump = dump; processors = ps })))) contents
     ∙ ap (λ found. and_then found (λ ps. Ok (record { dump = dump; processors = ps }))) are
 
-shows_none : (may : Bool) (request : Request) (file : List ℕ) (error : DumpError) → Fails error (contents_for request file) → FailsBy may (failure_of error) (machine_for request file)
+shows_none : (fails may : Bool) (request : Request) (file : List ℕ) (error : DumpError) → Fails fails error (contents_for request file) → FailsBy fails may (failure_of error) (machine_for request file)
 unfolding machine_for
-shows_none may request file error fails = dump_fails may error (contents_for request file) _ fails
+shows_none fails may request file error is = dump_fails fails may error (contents_for request file) _ is
 
-pub no_processors : (may : Bool) (request : Request) (file : List ℕ) (dump : Contents) (failure : Failure) → contents_for request file ≡ Ok dump
-    → FailsBy false failure (processors_for request dump) → FailsBy may failure (machine_for request file)
+pub no_processors : (fails may : Bool) (request : Request) (file : List ℕ) (dump : Contents) (failure : Failure) → contents_for request file ≡ Ok dump
+    → FailsBy fails false failure (processors_for request dump) → FailsBy fails may failure (machine_for request file)
 unfolding machine_for
-no_processors may request file dump failure contents fails =
-    subst (λ found. FailsBy {A = Machine} may failure (and_then (of_dump found) (λ dump. and_then (processors_for request dump) (λ ps. Ok (record { dump = dump; processors = ps }))))) (sym contents)
-    (fails_then may failure (processors_for request dump) (λ ps. Ok (record { dump = dump; processors = ps })) fails)
+no_processors fails may request file dump failure contents is =
+    subst (λ found. FailsBy {A = Machine} fails may failure (and_then (of_dump found) (λ dump. and_then (processors_for request dump) (λ ps. Ok (record { dump = dump; processors = ps }))))) (sym contents)
+    (fails_then fails may failure (processors_for request dump) (λ ps. Ok (record { dump = dump; processors = ps })) is)
 
--- a run that opened what was asked for reports on it, or fails because of memory or a write
-pub runs_by : (may : Bool) (request : Request) (file : List ℕ) (before after : Option (List ℕ)) (o : Opened) (result : Result Outcome Failure) → opened_for request file ≡ Ok o
-    → IfOk result (λ outcome. ReportsOf request before after outcome o) → IfErr result (IsForced may) → RunsOnTables may request file before after result
-runs_by may request file before after o (Ok outcome) opened reports forced = (o, opened, reports)
-runs_by may request file before after o (Err failure) opened reports forced = (forced_fails may failure (opened_for request file) forced, inl forced)
+-- a run that opened what was asked for reports on it, or fails because of memory, a read or a write
+pub runs_by : (fails may : Bool) (request : Request) (file : List ℕ) (before after : Option (List ℕ)) (o : Opened) (result : Result Outcome Failure) → opened_for request file ≡ Ok o
+    → IfOk result (λ outcome. ReportsOf request before after outcome o) → IfErr result (IsForced fails may) → RunsOnTables fails may request file before after result
+runs_by fails may request file before after o (Ok outcome) opened reports forced = (o, opened, reports)
+runs_by fails may request file before after o (Err failure) opened reports forced = (forced_fails fails may failure (opened_for request file) forced, inl forced)
 
 -- likewise for the processors of a dump
-pub runs_on_all : (may : Bool) (request : Request) (file : List ℕ) (before after : Option (List ℕ)) (m : Machine) (result : Result Outcome Failure) → machine_for request file ≡ Ok m
-    → IfOk result (ReportsAll request (words_of_dump m.dump) m.processors before after) → IfErr result (IsForced may) → RunsOnProcessors may request file before after result
-runs_on_all may request file before after m (Ok outcome) shown reports forced = (m, shown, reports)
-runs_on_all may request file before after m (Err failure) shown reports forced = (forced_fails may failure (machine_for request file) forced, inl forced)
+pub runs_on_all : (fails may : Bool) (request : Request) (file : List ℕ) (before after : Option (List ℕ)) (m : Machine) (result : Result Outcome Failure) → machine_for request file ≡ Ok m
+    → IfOk result (ReportsAll request (words_of_dump m.dump) m.processors before after) → IfErr result (IsForced fails may) → RunsOnProcessors fails may request file before after result
+runs_on_all fails may request file before after m (Ok outcome) shown reports forced = (m, shown, reports)
+runs_on_all fails may request file before after m (Err failure) shown reports forced = (forced_fails fails may failure (machine_for request file) forced, inl forced)
 
 -- likewise if what was asked for is about the dump alone
-pub tells_of : (a b : Bool) (request : Request) (file : List ℕ) (before after : Option (List ℕ)) (dump : Contents) (result : Result Outcome Failure)
+pub tells_of : (fails a b : Bool) (request : Request) (file : List ℕ) (before after : Option (List ℕ)) (dump : Contents) (result : Result Outcome Failure)
     → dump_for request file ≡ Ok dump → OnOk result (Appends before after (info_of request dump)) → IfOk result (λ outcome. outcome.is_complete ≡ true)
-    → IfErr result (IsForced a) → RunsOnDump (a || b) request file before after result
-tells_of a b request file before after dump (Ok outcome) opened written complete forced = (dump, opened, written, complete)
-tells_of a b request file before after dump (Err failure) opened written complete forced =
-    let either = forced_first a b failure forced in
-    (forced_fails (a || b) failure (dump_for request file) either, inl either)
+    → IfErr result (IsForced fails a) → RunsOnDump fails (a || b) request file before after result
+tells_of fails a b request file before after dump (Ok outcome) opened written complete forced = (dump, opened, written, complete)
+tells_of fails a b request file before after dump (Err failure) opened written complete forced =
+    let either = forced_first fails a b failure forced in
+    (forced_fails fails (a || b) failure (dump_for request file) either, inl either)
 
--- a run fails because of memory or a write, whatever was asked for
-pub forced_run : (info all may : Bool) (request : Request) (file : List ℕ) (before after : Option (List ℕ)) (failure : Failure) → IsForced may failure → RunsAs info all may request file before after (Err failure)
-forced_run true all may request file before after failure forced = (forced_fails may failure (dump_for request file) forced, inl forced)
-forced_run false true may request file before after failure forced = (forced_fails may failure (machine_for request file) forced, inl forced)
-forced_run false false may request file before after failure forced = (forced_fails may failure (opened_for request file) forced, inl forced)
+-- a run fails because of memory, a read or a write, whatever was asked for
+pub forced_run : (info all fails may : Bool) (request : Request) (file : List ℕ) (before after : Option (List ℕ)) (failure : Failure) → IsForced fails may failure
+    → RunsAs info all fails may request file before after (Err failure)
+forced_run true all fails may request file before after failure forced = (forced_fails fails may failure (dump_for request file) forced, inl forced)
+forced_run false true fails may request file before after failure forced = (forced_fails fails may failure (machine_for request file) forced, inl forced)
+forced_run false false fails may request file before after failure forced = (forced_fails fails may failure (opened_for request file) forced, inl forced)
 
 -- or because the file is no dump
-pub unopened : (info all may : Bool) (request : Request) (file : List ℕ) (contents : Option (List ℕ)) (error : DumpError) → Fails error (contents_for request file)
-    → RunsAs info all may request file contents contents (Err (failure_of error))
-unopened true all may request file contents error fails = (dump_unread may error (contents_for request file) fails, inr refl)
-unopened false true may request file contents error fails = (shows_none may request file error fails, inr refl)
-unopened false false may request file contents error fails = (no_dump may request file error fails, inr refl)
+pub unopened : (info all fails may : Bool) (request : Request) (file : List ℕ) (contents : Option (List ℕ)) (error : DumpError) → Fails fails error (contents_for request file)
+    → RunsAs info all fails may request file contents contents (Err (failure_of error))
+unopened true all fails may request file contents error is = (dump_unread fails may error (contents_for request file) is, inr refl)
+unopened false true fails may request file contents error is = (shows_none fails may request file error is, inr refl)
+unopened false false fails may request file contents error is = (no_dump fails may request file error is, inr refl)

@@ -198,11 +198,12 @@ abbrev pub ReportsOf : Request → (before after : Option (List ℕ)) → Outcom
 ReportsOf request before after outcome o =
     Reports request (level_count o.start.levels) (words_of_dump o.dump) o.start.root before after outcome
 
--- The result and the output of a run that reports on tables. It fails for its request or its file without writing anything, and
--- for a write only if its writers may refuse one.
-abbrev pub RunsOnTables : (may_refuse : Bool) → Request → (file : List ℕ) → (before after : Option (List ℕ)) → Result Outcome Failure → Type 0
-RunsOnTables may request file before after (Ok outcome) = (o : Opened) × (opened_for request file ≡ Ok o) × ReportsOf request before after outcome o
-RunsOnTables may request file before after (Err failure) = FailsBy may failure (opened_for request file) × (IsForced may failure ⊎ (after ≡ before))
+-- The result and the output of a run that reports on tables. It fails for its request or its file without writing anything, for a
+-- read only if reads may fail, and for a write only if its writers may refuse one.
+abbrev pub RunsOnTables : (may_fail may_refuse : Bool) → Request → (file : List ℕ) → (before after : Option (List ℕ)) → Result Outcome Failure → Type 0
+RunsOnTables may_fail may_refuse request file before after (Ok outcome) = (o : Opened) × (opened_for request file ≡ Ok o) × ReportsOf request before after outcome o
+RunsOnTables may_fail may_refuse request file before after (Err failure) =
+    FailsBy may_fail may_refuse failure (opened_for request file) × (IsForced may_fail may_refuse failure ⊎ (after ≡ before))
 
 -- the report on the tables of a processor, below the numbers of those that have the same
 abbrev pub report_below : Request → Words → List Processor → Processor → List ℕ
@@ -227,30 +228,32 @@ pub record ReportsAll (request : Request) (T : Words) (ps : List Processor) (bef
   pub complete : outcome.is_complete ≡ all_complete request T ps
 
 -- the result and the output of a run that reports on the tables of all processors, as `RunsOnTables` for one root
-abbrev pub RunsOnProcessors : (may_refuse : Bool) → Request → (file : List ℕ) → (before after : Option (List ℕ)) → Result Outcome Failure → Type 0
-RunsOnProcessors may request file before after (Ok outcome) =
+abbrev pub RunsOnProcessors : (may_fail may_refuse : Bool) → Request → (file : List ℕ) → (before after : Option (List ℕ)) → Result Outcome Failure → Type 0
+RunsOnProcessors may_fail may_refuse request file before after (Ok outcome) =
     (m : Machine) × (machine_for request file ≡ Ok m) × ReportsAll request (words_of_dump m.dump) m.processors before after outcome
-RunsOnProcessors may request file before after (Err failure) = FailsBy may failure (machine_for request file) × (IsForced may failure ⊎ (after ≡ before))
+RunsOnProcessors may_fail may_refuse request file before after (Err failure) =
+    FailsBy may_fail may_refuse failure (machine_for request file) × (IsForced may_fail may_refuse failure ⊎ (after ≡ before))
 
 -- what a dump says of its machine, and of the root that other commands take
 abbrev pub info_of : Request → Contents → List ℕ
 info_of request dump = info_in request.form (unwrap_or request.cpu 0) dump (start_for request dump)
 
 -- the result and the output of a run that tells what a file says
-abbrev pub RunsOnDump : (may_refuse : Bool) → Request → (file : List ℕ) → (before after : Option (List ℕ)) → Result Outcome Failure → Type 0
-RunsOnDump may request file before after (Ok outcome) =
+abbrev pub RunsOnDump : (may_fail may_refuse : Bool) → Request → (file : List ℕ) → (before after : Option (List ℕ)) → Result Outcome Failure → Type 0
+RunsOnDump may_fail may_refuse request file before after (Ok outcome) =
     (dump : Contents) × (dump_for request file ≡ Ok dump) × Appends before after (info_of request dump) × (outcome.is_complete ≡ true)
-RunsOnDump may request file before after (Err failure) = FailsBy may failure (dump_for request file) × (IsForced may failure ⊎ (after ≡ before))
+RunsOnDump may_fail may_refuse request file before after (Err failure) =
+    FailsBy may_fail may_refuse failure (dump_for request file) × (IsForced may_fail may_refuse failure ⊎ (after ≡ before))
 
 -- one of these, for a command that is about the dump alone or isn't, and for all processors or one root
-abbrev pub RunsAs : (info all may_refuse : Bool) → Request → (file : List ℕ) → (before after : Option (List ℕ)) → Result Outcome Failure → Type 0
+abbrev pub RunsAs : (info all may_fail may_refuse : Bool) → Request → (file : List ℕ) → (before after : Option (List ℕ)) → Result Outcome Failure → Type 0
 RunsAs true all = RunsOnDump
 RunsAs false true = RunsOnProcessors
 RunsAs false false = RunsOnTables
 
 -- the result and the output of a run on a file
-abbrev pub Runs : (may_refuse : Bool) → Request → (file : List ℕ) → (before after : Option (List ℕ)) → Result Outcome Failure → Type 0
-Runs may request = RunsAs (is_info request.command) (is_of_processors request) may request
+abbrev pub Runs : (may_fail may_refuse : Bool) → Request → (file : List ℕ) → (before after : Option (List ℕ)) → Result Outcome Failure → Type 0
+Runs may_fail may_refuse request = RunsAs (is_info request.command) (is_of_processors request) may_fail may_refuse request
 
 -- ---- standard error, and the progress
 
@@ -328,6 +331,10 @@ ToldAs false false Told Ended request file before after = (o : Opened) × (opene
 abbrev pub ToldOfRun : {G : Type 0} (Told : G → G → List ℕ → Type 0) (Ended : G → G → Type 0) → Request → (file : List ℕ) → (before after : G) → Type 0
 ToldOfRun Told Ended request = ToldAs (is_info request.command) (is_of_processors request) Told Ended request
 
--- what was told last is the end, if anything was told
-abbrev pub EndsTold : {G : Type 0} (Ended : G → G → Type 0) → (before after : G) → Type 0
-EndsTold {G} Ended before after = (after ≡ before) ⊎ ((between : G) × Ended between after)
+-- an observer was told the numbers from 1 up to a count, and then of the end
+abbrev pub ToldUpTo : {G : Type 0} (Told : G → G → List ℕ → Type 0) (Ended : G → G → Type 0) → (count : ℕ) → (before after : G) → Type 0
+ToldUpTo {G} Told Ended count before after = (between : G) × Told before between (up_to count) × Ended between after
+
+-- likewise for some counts in turn, or told nothing
+abbrev pub ToldInTurn : {G : Type 0} (Told : G → G → List ℕ → Type 0) (Ended : G → G → Type 0) → (before after : G) → Type 0
+ToldInTurn Told Ended before after = (counts : List ℕ) × InTurn (ToldUpTo Told Ended) counts before after

@@ -17,27 +17,29 @@ abbrev pub unless : {A : Type 0} → Option Failure → A → Result A Failure
 unless None a = Ok a
 unless (Some failure) a = Err failure
 
--- memory allocation failed, or a write, which may be refused
-abbrev pub IsForced : (may_refuse : Bool) → Failure → Type 0
-IsForced may failures.OutOfMemory = ⊤
-IsForced may failures.Output = may ≡ true
-IsForced may failure = ⊥
+-- memory allocation failed, or a read, which may fail, or a write, which may be refused
+abbrev pub IsForced : (may_fail may_refuse : Bool) → Failure → Type 0
+IsForced may_fail may_refuse failures.OutOfMemory = ⊤
+IsForced may_fail may_refuse (failures.Read error) = may_fail ≡ true
+IsForced may_fail may_refuse failures.Output = may_refuse ≡ true
+IsForced may_fail may_refuse failure = ⊥
 
--- a call fails with the expected failure, unless memory allocation failed, or a write, which may be refused
-abbrev pub FailsBy : {A : Type 0} → (may_refuse : Bool) → Failure → Result A Failure → Type 0
-FailsBy may failures.OutOfMemory found = ⊤
-FailsBy may failures.Output found = may ≡ true
-FailsBy may failure found = found ≡ Err failure
+-- a call fails with the expected failure, unless it is forced to fail in one of these ways
+abbrev pub FailsBy : {A : Type 0} → (may_fail may_refuse : Bool) → Failure → Result A Failure → Type 0
+FailsBy may_fail may_refuse failures.OutOfMemory found = ⊤
+FailsBy may_fail may_refuse (failures.Read error) found = may_fail ≡ true
+FailsBy may_fail may_refuse failures.Output found = may_refuse ≡ true
+FailsBy may_fail may_refuse failure found = found ≡ Err failure
 
--- a call that writes nothing returns the expected result, unless memory allocation failed
-abbrev pub Finds : {A : Type 0} → Result A Failure → Result A Failure → Type 0
-Finds (Ok a) found = found ≡ Ok a
-Finds (Err failure) found = FailsBy false failure found
+-- a call that writes nothing returns the expected result, unless memory allocation failed, or a read, which may fail
+abbrev pub Finds : {A : Type 0} → (may_fail : Bool) → Result A Failure → Result A Failure → Type 0
+Finds may_fail (Ok a) found = found ≡ Ok a
+Finds may_fail (Err failure) found = FailsBy may_fail false failure found
 
 -- likewise of a result that is seen by `view`
-abbrev pub FindsAs : {A B : Type 0} → (view : A → B) → Result A Failure → Result B Failure → Type 0
-FindsAs view (Ok a) found = found ≡ Ok (view a)
-FindsAs view (Err failure) found = FailsBy false failure found
+abbrev pub FindsAs : {A B : Type 0} → (may_fail : Bool) → (view : A → B) → Result A Failure → Result B Failure → Type 0
+FindsAs may_fail view (Ok a) found = found ≡ Ok (view a)
+FindsAs may_fail view (Err failure) found = FailsBy may_fail false failure found
 
 -- one step after the other, one for each item
 abbrev pub InTurn : {X G : Type 0} (Step : X → G → G → Type 0) → List X → (before after : G) → Type 0

@@ -12,6 +12,9 @@ pub trait Destination {
     /// The bytes that were written, if they are known.
     ghost contents: { Self → Option (List ℕ) };
 
+    /// That it keeps back nothing of what was written.
+    ghost IsPassedOn: { Self → Type 0 };
+
     /// Whether it may refuse a write.
     ghost may_refuse: { Bool };
 
@@ -31,6 +34,7 @@ pub trait Destination {
     /// The reason why the destination refuses it.
     fn flush(&mut self) -> Result<()>
         ensures bytes { OnOk result (Keeps (contents self.old) (contents self.new)) }
+        ensures passed { OnOk result (IsPassedOn self.new) }
         ensures refused { IfErr result (λ _. may_refuse ≡ true) };
 }
 
@@ -38,6 +42,8 @@ impl Destination for Stdout {
     ghost use Rattle.std.specs.Prelude.{None, true};
 
     ghost contents = { λ _. None };
+
+    ghost IsPassedOn = { λ _. Unit {0} };
 
     ghost may_refuse = { true };
 
@@ -55,6 +61,8 @@ impl Destination for Stderr {
 
     ghost contents = { λ _. None };
 
+    ghost IsPassedOn = { λ _. Unit {0} };
+
     ghost may_refuse = { true };
 
     fn write_all(&mut self, bytes: &[u8]) -> Result<()> {
@@ -63,5 +71,25 @@ impl Destination for Stderr {
 
     fn flush(&mut self) -> Result<()> {
         Write::flush(self)
+    }
+}
+
+/// All bytes are kept in memory. A write is refused if memory allocation fails.
+impl Destination for Vec<u8> {
+    ghost use Rattle.std.specs.Prelude.{Some, true};
+
+    ghost contents = { λ bytes. Some bytes.items };
+
+    ghost IsPassedOn = { λ _. Unit {0} };
+
+    ghost may_refuse = { true };
+
+    fn write_all(&mut self, bytes: &[u8]) -> Result<()> {
+        self.extend_from_slice(bytes)?;
+        Ok(())
+    }
+
+    fn flush(&mut self) -> Result<()> {
+        Ok(())
     }
 }

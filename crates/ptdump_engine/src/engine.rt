@@ -49,7 +49,7 @@ use x86_64_tables::phys_memory::IdentityMapping;
 /// A failure if the file isn't a dump, the start of page walks can't be determined, an address is invalid, or the root isn't in
 /// the dump, all before anything is written to `writer`; likewise for each root of the processors, if the report is on all of them. A
 /// walk reports a missing root itself. A failure if memory allocation, a read or a write fails.
-#[tactic(auto, using(crate::proofs::Wholly::forced_run, crate::proofs::Failing::forced_first, crate::proofs::Failing::forced_second))]
+#[tactic(auto, using(crate::proofs::Wholly::forced_run, crate::proofs::Turns::told_nothing, crate::proofs::Failing::first_write, crate::proofs::Failing::second_write))]
 pub fn run<S: ByteSource, W: Destination, E: Destination, G: Progress>(
     alloc: Global,
     source: S,
@@ -58,13 +58,13 @@ pub fn run<S: ByteSource, W: Destination, E: Destination, G: Progress>(
     errors: &mut E,
     progress: &mut G,
 ) -> Result<Outcome, Failure>
-    ensures run { S.IsKnown → program.Runs (W.may_refuse || E.may_refuse) request.now (S.bytes source)
-        (W.contents writer.old) (W.contents writer.new) result }
+    ensures run { S.IsKnown → program.Runs S.may_fail (W.may_refuse || E.may_refuse) request.now
+        (S.bytes source) (W.contents writer.old) (W.contents writer.new) result }
     ensures notes { S.IsKnown → OnOk result (program.is_image request.now.command ≡ false →
         program.Notes request.now (S.bytes source) (E.contents errors.old) (E.contents errors.new)) }
     ensures told { S.IsKnown → OnOk result
         (program.ToldOfRun G.Told G.Ended request.now (S.bytes source) progress.old progress.new) }
-    ensures ended { program.EndsTold G.Ended progress.old progress.new }
+    ensures counted { program.ToldInTurn G.Told G.Ended progress.old progress.new }
 {
     let mut notes = Output::new(alloc, errors);
     let dump = open(alloc, source, request)?;
@@ -118,7 +118,8 @@ pub fn start_for<S: ByteSource>(
     dump: &Dump<S>,
     request: &Request,
 ) -> Result<Start, Failure>
-    ensures start { S.IsKnown → Finds result (program.start_for request.now (opened S.bytes dump.now)) }
+    ensures start { S.IsKnown → Finds S.may_fail result
+        (program.start_for request.now (opened S.bytes dump.now)) }
     ensures arguments { IfOk result (λ start.
         program.argument_failure start.levels request.now.command ≡ None) }
 {
@@ -160,8 +161,8 @@ pub fn report_from<S: ByteSource, W: Destination, E: Destination, G: Progress>(
     ensures told { S.IsKnown → OnOk result (program.ToldOfTables G.Told G.Ended
         (program.level_count start.now.levels) (words_opened S.bytes dump.now) start.now.root
         progress.old progress.new) }
-    ensures ended { program.EndsTold G.Ended progress.old progress.new }
-    ensures errors { S.IsKnown → IfErr result (IsForced (W.may_refuse || E.may_refuse)) }
+    ensures counted { program.ToldInTurn G.Told G.Ended progress.old progress.new }
+    ensures errors { IfErr result (IsForced S.may_fail (W.may_refuse || E.may_refuse)) }
 {
     match start.levels {
         Levels::Four => report::<FourLevels, S, W, E, G>(
@@ -175,7 +176,7 @@ pub fn report_from<S: ByteSource, W: Destination, E: Destination, G: Progress>(
 
 /// Reads the tables that a root leads to, and writes a command's report on them, how many of their words have reserved bits, and the
 /// totals.
-#[tactic(auto, using(crate::proofs::Failing::forced_first, crate::proofs::Failing::forced_second))]
+#[tactic(auto, using(crate::proofs::Failing::forced_first, crate::proofs::Failing::forced_second, crate::proofs::Failing::first_write, crate::proofs::Failing::second_write))]
 fn report<L: LevelCount, S: ByteSource, W: Destination, E: Destination, G: Progress>(
     alloc: Global,
     dump: &Dump<S>,
@@ -195,8 +196,8 @@ fn report<L: LevelCount, S: ByteSource, W: Destination, E: Destination, G: Progr
     ensures noted { OnOk result (string_bytes notes.new.text ≡ []) }
     ensures told { S.IsKnown → OnOk result (program.ToldOfTables G.Told G.Ended L.LEVELS
         (words_opened S.bytes dump.now) root progress.old progress.new) }
-    ensures ended { program.EndsTold G.Ended progress.old progress.new }
-    ensures errors { S.IsKnown → IfErr result (IsForced (W.may_refuse || E.may_refuse)) }
+    ensures counted { program.ToldInTurn G.Told G.Ended progress.old progress.new }
+    ensures errors { IfErr result (IsForced S.may_fail (W.may_refuse || E.may_refuse)) }
 {
     let tables = read_tables::<L, S, G>(alloc, dump, root, progress);
     progress.end();
@@ -216,7 +217,7 @@ fn report<L: LevelCount, S: ByteSource, W: Destination, E: Destination, G: Progr
 }
 
 /// Writes a command's whole report, and returns true if the request is fulfilled.
-#[tactic(auto, using(crate::proofs::Failing::forced_first, crate::proofs::Failing::forced_second))]
+#[tactic(auto, using(crate::proofs::Failing::forced_first, crate::proofs::Failing::forced_second, crate::proofs::Failing::first_write, crate::proofs::Failing::second_write))]
 fn write_whole<L: LevelCount, S: ByteSource, W: Destination, E: Destination>(
     alloc: Global,
     dump: &Dump<S>,
@@ -234,7 +235,7 @@ fn write_whole<L: LevelCount, S: ByteSource, W: Destination, E: Destination>(
     ensures complete { S.IsKnown → IfOk result (λ is. is
         ≡ program.completeness_of request.now.command L.LEVELS (words_loaded loaded.now) loaded.now.root) }
     ensures notes { OnOk result (program.is_image request.now.command ≡ false → notes.new ≡ notes.old) }
-    ensures errors { S.IsKnown → IfErr result (IsForced (W.may_refuse || E.may_refuse)) }
+    ensures errors { IfErr result (IsForced S.may_fail (W.may_refuse || E.may_refuse)) }
 {
     let mut output = Output::new(alloc, writer);
     let is_complete = write_report(alloc, dump, loaded, request, &mut output, notes)?;
@@ -243,7 +244,7 @@ fn write_whole<L: LevelCount, S: ByteSource, W: Destination, E: Destination>(
 }
 
 /// Writes a command's report, and returns true if the request is fulfilled.
-#[tactic(auto, using(crate::proofs::Failing::forced_first, crate::proofs::Failing::forced_second))]
+#[tactic(auto, using(crate::proofs::Failing::forced_first, crate::proofs::Failing::forced_second, crate::proofs::Failing::first_write, crate::proofs::Failing::second_write))]
 fn write_report<L: LevelCount, S: ByteSource, W: Destination, E: Destination>(
     alloc: Global,
     dump: &Dump<S>,
@@ -261,7 +262,7 @@ fn write_report<L: LevelCount, S: ByteSource, W: Destination, E: Destination>(
     ensures complete { S.IsKnown → IfOk result (λ is. is
         ≡ program.completeness_of request.now.command L.LEVELS (words_loaded loaded.now) loaded.now.root) }
     ensures notes { OnOk result (program.is_image request.now.command ≡ false → notes.new ≡ notes.old) }
-    ensures errors { S.IsKnown → IfErr result (IsForced (W.may_refuse || E.may_refuse)) }
+    ensures errors { IfErr result (IsForced S.may_fail (W.may_refuse || E.may_refuse)) }
 {
     let form = request.form;
     match &request.command {

@@ -224,11 +224,12 @@ impl<T: Drop> From<AllocFailed<T>> for Failure {
 }
 
 impl<W: Destination> From<OutputError<W>> for Failure {
-    ghost use Rattle.std.specs.Prelude.{◌≡◌};
+    ghost use Rattle.std.specs.Prelude.{◌≡◌, false};
     ghost use Rattle.ptdump_engine.specs.Output.{failure_of};
     ghost use Rattle.ptdump_engine.specs.Steps.{IsForced};
 
-    ghost from_gives = { λ error failure. IsForced W.may_refuse failure × (failure ≡ failure_of error) };
+    ghost from_gives = { λ error failure.
+        IsForced false W.may_refuse failure × (failure ≡ failure_of error) };
 
     fn from(error: OutputError<W>) -> Failure {
         match error {

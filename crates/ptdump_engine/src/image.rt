@@ -19,7 +19,7 @@ use x86_64_dump::{ByteSource, Dump};
 ///
 /// `Failure::Read` if the dump can't be read, `Failure::OutOfMemory` if memory allocation fails, `Failure::Output` if a write
 /// fails.
-#[tactic(auto, using(crate::proofs::Failing::forced_first, crate::proofs::Failing::forced_second))]
+#[tactic(auto, using(crate::proofs::Failing::forced_first, crate::proofs::Failing::forced_second, crate::proofs::Failing::first_write, crate::proofs::Failing::second_write))]
 pub fn write_image<L: LevelCount, S: ByteSource, W: Destination, E: Destination>(
     alloc: Global,
     dump: &Dump<S>,
@@ -27,7 +27,7 @@ pub fn write_image<L: LevelCount, S: ByteSource, W: Destination, E: Destination>
     output: &mut Output<'_, W>,
     errors: &mut Output<'_, E>,
 ) -> Result<(), Failure>
-    ensures { S.IsKnown → IfErr result (IsForced (W.may_refuse || E.may_refuse)) }
+    ensures { IfErr result (IsForced S.may_fail (W.may_refuse || E.may_refuse)) }
 {
     let image = Image::read(alloc, dump, loaded.root, L::LEVELS)?;
     write_words(dump, &image, output)?;
@@ -35,12 +35,13 @@ pub fn write_image<L: LevelCount, S: ByteSource, W: Destination, E: Destination>
 }
 
 /// Writes the lines of an image.
+#[tactic(auto, using(crate::proofs::Failing::forced_write))]
 fn write_words<S: ByteSource, W: Destination>(
     dump: &Dump<S>,
     image: &Image,
     output: &mut Output<'_, W>,
 ) -> Result<(), Failure>
-    ensures { S.IsKnown → IfErr result (IsForced W.may_refuse) }
+    ensures { IfErr result (IsForced S.may_fail W.may_refuse) }
 {
     for table in image.tables() {
         if let Some(words) = dump.read_frame(table.frame).map_err(Failure::Read)? {
@@ -53,12 +54,13 @@ fn write_words<S: ByteSource, W: Destination>(
 
 /// Writes the report on an image: the old address of each table, what is left out, why `pagetab` refuses the image, and the
 /// command line that reads it.
+#[tactic(auto, using(crate::proofs::Failing::forced_write))]
 fn write_report<S: ByteSource, E: Destination>(
     dump: &Dump<S>,
     image: &Image,
     errors: &mut Output<'_, E>,
 ) -> Result<(), Failure>
-    ensures { S.IsKnown → IfErr result (IsForced E.may_refuse) }
+    ensures { IfErr result (IsForced S.may_fail E.may_refuse) }
 {
     writeln!(errors, "new         old               level")?;
     write_rows(image, image.tables(), errors)?;
@@ -91,12 +93,13 @@ fn write_rows<E: Destination>(
 }
 
 /// Writes why `pagetab` refuses entries.
+#[tactic(auto, using(crate::proofs::Failing::forced_write))]
 fn write_refusals<S: ByteSource, E: Destination>(
     dump: &Dump<S>,
     image: &Image,
     errors: &mut Output<'_, E>,
 ) -> Result<(), Failure>
-    ensures { S.IsKnown → IfErr result (IsForced E.may_refuse) }
+    ensures { IfErr result (IsForced S.may_fail E.may_refuse) }
 {
     for table in image.tables() {
         if let Some(words) = dump.read_frame(table.frame).map_err(Failure::Read)? {

@@ -1,5 +1,5 @@
 //! What a dump says of its machine.
-ghost use Rattle.std.specs.Prelude.{◌≡◌, ◌⊎◌, None, true, IfOk, IfErr, IfSome, IsSome, Ok, OnOk, string_bytes};
+ghost use Rattle.std.specs.Prelude.{◌≡◌, ◌⊎◌, None, false, true, IfOk, IfErr, IfSome, IsSome, Ok, OnOk, string_bytes};
 ghost use Rattle.std.specs.Io.KnownBytes.{Appends};
 ghost use Rattle.std.specs.List.{flat_map};
 ghost use Rattle.std.specs.Option.{unwrap_or};
@@ -33,6 +33,7 @@ use x86_64_dump::{ByteSource, Dump, DumpError, Fault, Format, Note, Segment};
 /// # Errors
 ///
 /// `Failure::OutOfMemory` if memory allocation fails, `Failure::Output` if a write fails, `Failure::Read` if the dump can't be read.
+#[tactic(auto, using(crate::proofs::Failing::forced_write))]
 pub fn write_info<S: ByteSource, W: Destination>(
     alloc: Global,
     dump: &Dump<S>,
@@ -43,7 +44,7 @@ pub fn write_info<S: ByteSource, W: Destination>(
     ensures written { S.IsKnown → OnOk result (Appends (W.contents writer.old) (W.contents writer.new)
         (info_of request.now (opened S.bytes dump.now))) }
     ensures complete { IfOk result (λ outcome. outcome.is_complete ≡ true) }
-    ensures errors { S.IsKnown → IfErr result (IsForced W.may_refuse) }
+    ensures errors { S.IsKnown → IfErr result (IsForced S.may_fail W.may_refuse) }
 {
     let mut output = Output::new(alloc, writer);
     write_lines(alloc, dump, request, &mut output)?;
@@ -52,7 +53,7 @@ pub fn write_info<S: ByteSource, W: Destination>(
 }
 
 /// Writes all lines.
-#[tactic(auto, unfolding(crate::specs::Info::info_in))]
+#[tactic(auto, using(crate::proofs::Failing::forced_write), unfolding(crate::specs::Info::info_in))]
 fn write_lines<S: ByteSource, W: Destination>(
     alloc: Global,
     dump: &Dump<S>,
@@ -62,7 +63,7 @@ fn write_lines<S: ByteSource, W: Destination>(
     requires { is_info request.now.command ≡ true }
     ensures text { S.IsKnown → OnOk result (Puts W.contents output.old output.new
         (info_of request.now (opened S.bytes dump.now))) }
-    ensures errors { S.IsKnown → IfErr result (IsForced W.may_refuse) }
+    ensures errors { S.IsKnown → IfErr result (IsForced S.may_fail W.may_refuse) }
 {
     let form = request.form;
     write_format(alloc, form, dump.format(), output)?;
@@ -135,7 +136,7 @@ fn write_processors<S: ByteSource, W: Destination>(
 ) -> Result<(), Failure>
     ensures text { S.IsKnown → OnOk result (Puts W.contents output.old output.new
         (info.processor_lines form (opened S.bytes dump.now).file notes.now)) }
-    ensures errors { S.IsKnown → IfErr result (IsForced W.may_refuse) }
+    ensures errors { S.IsKnown → IfErr result (IsForced S.may_fail W.may_refuse) }
 {
     for (cpu, note) in notes.iter().enumerate() {
         write_noted(alloc, form, dump, cpu, note, output)?;
@@ -144,6 +145,7 @@ fn write_processors<S: ByteSource, W: Destination>(
 }
 
 /// Writes the line of the processor that has a note.
+#[tactic(auto, using(crate::proofs::Failing::forced_write))]
 fn write_noted<S: ByteSource, W: Destination>(
     alloc: Global,
     form: Form,
@@ -155,7 +157,7 @@ fn write_noted<S: ByteSource, W: Destination>(
     ensures text { S.IsKnown → OnOk result (Puts W.contents output.old output.new
         (info.processor_line form cpu (info.known_registers
         (info.registers_of (opened S.bytes dump.now).file note.now)))) }
-    ensures errors { S.IsKnown → IfErr result (IsForced W.may_refuse) }
+    ensures errors { S.IsKnown → IfErr result (IsForced S.may_fail W.may_refuse) }
 {
     match Registers::read(dump, note) {
         Ok(registers) => Ok(write_processor(alloc, form, cpu, Some(registers), output)?),
@@ -182,6 +184,7 @@ fn write_processor<W: Destination>(
 // ---- roots
 
 /// Writes what the note VMCOREINFO says of the kernel, if there is one.
+#[tactic(auto, using(crate::proofs::Failing::forced_write))]
 fn write_kernel<S: ByteSource, W: Destination>(
     alloc: Global,
     form: Form,
@@ -190,7 +193,7 @@ fn write_kernel<S: ByteSource, W: Destination>(
 ) -> Result<(), Failure>
     ensures text { S.IsKnown → OnOk result (Puts W.contents output.old output.new
         (info.kernel_line form (kernel_in (opened S.bytes dump.now)))) }
-    ensures errors { S.IsKnown → IfErr result (IsForced W.may_refuse) }
+    ensures errors { S.IsKnown → IfErr result (IsForced S.may_fail W.may_refuse) }
 {
     match dump.kernel(alloc) {
         Ok(None) => Ok(()),
@@ -228,6 +231,7 @@ fn text_of<D: Display>(alloc: Global, value: &D) -> Result<String, AllocError>
 }
 
 /// Writes the root that other commands take, or why they find none.
+#[tactic(auto, using(crate::proofs::Failing::forced_write))]
 fn write_root<S: ByteSource, W: Destination>(
     alloc: Global,
     dump: &Dump<S>,
@@ -238,7 +242,7 @@ fn write_root<S: ByteSource, W: Destination>(
     ensures text { S.IsKnown → OnOk result (Puts W.contents output.old output.new
         (info.root_line request.now.form (unwrap_or request.now.cpu 0)
         (start_for request.now (opened S.bytes dump.now)))) }
-    ensures errors { S.IsKnown → IfErr result (IsForced W.may_refuse) }
+    ensures errors { S.IsKnown → IfErr result (IsForced S.may_fail W.may_refuse) }
 {
     match start_for(alloc, dump, request) {
         Ok(start) => {
@@ -273,7 +277,7 @@ fn write_failure<W: Destination>(
     ensures told { OnOk result (IsSome (failure_text failure)) }
     ensures text { OnOk result (IfSome (failure_text failure)
         (λ text. Puts W.contents output.old output.new (info.no_root_line form text))) }
-    ensures errors { IfErr result (λ error. IsForced W.may_refuse error
+    ensures errors { IfErr result (λ error. IsForced false W.may_refuse error
         ⊎ ((failure_text failure ≡ None) × (error ≡ failure))) }
 {
     if failure.is_of_start() {

@@ -24,7 +24,8 @@ pub fn open<S: ByteSource>(
     source: S,
     request: &Request,
 ) -> Result<Dump<S>, DumpError>
-    ensures { S.IsKnown → Gives (opened S.bytes) result (program.contents_for request.now (S.bytes source)) }
+    ensures { S.IsKnown → Gives S.may_fail (opened S.bytes) result
+        (program.contents_for request.now (S.bytes source)) }
 {
     let format = if request.is_raw {
         Format::Raw

@@ -134,6 +134,7 @@ impl<W: Destination> Output<'_, W> {
     pub fn finish(&mut self) -> Result<(), OutputError<W>>
         ensures same { OnOk result (Puts W.contents self.old self.new []) }
         ensures all { OnOk result (string_bytes self.new.text ≡ []) }
+        ensures passed { OnOk result (W.IsPassedOn self.new.writer.now) }
         ensures refused { IfErr result IsRefusal }
     {
         self.hand_on()?;

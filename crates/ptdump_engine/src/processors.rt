@@ -92,7 +92,7 @@ pub fn read_processors<S: ByteSource>(
     dump: &Dump<S>,
     given: Option<Levels>,
 ) -> Result<Vec<Processor>, Failure>
-    ensures { S.IsKnown → FindsAs (λ processors. processors.items) result
+    ensures { S.IsKnown → FindsAs S.may_fail (λ processors. processors.items) result
         (specs.processors_from (opened S.bytes dump.now).file given 0
         (processors_of (opened S.bytes dump.now))) }
 {
@@ -107,7 +107,7 @@ fn read_notes<S: ByteSource>(
     notes: &[Note],
     given: Option<Levels>,
 ) -> Result<Vec<Processor>, Failure>
-    ensures { S.IsKnown → FindsAs (λ processors. processors.items) result
+    ensures { S.IsKnown → FindsAs S.may_fail (λ processors. processors.items) result
         (specs.processors_from (opened S.bytes dump.now).file given 0 notes.now) }
 {
     let mut processors = Vec::new(alloc);

@@ -33,7 +33,7 @@ impl Registers {
     /// `Fault::NoteCut` if and only if the note lacks one of them, `DumpError::Read` if the source can't be read.
     #[tactic(auto, unfolding(crate::specs::Info::registers_of))]
     pub fn read<S: ByteSource>(dump: &Dump<S>, note: &Note) -> Result<Registers, DumpError>
-        ensures { S.IsKnown → GivesAtOnce (λ registers. registers) result
+        ensures { S.IsKnown → GivesAtOnce S.may_fail (λ registers. registers) result
             (info.registers_of (opened S.bytes dump.now).file note.now) }
     {
         Ok(Registers {

@@ -37,7 +37,7 @@ pub fn processors_for<S: ByteSource>(
     dump: &Dump<S>,
     request: &Request,
 ) -> Result<Vec<Processor>, Failure>
-    ensures { S.IsKnown → FindsAs (λ processors. processors.items) result
+    ensures { S.IsKnown → FindsAs S.may_fail (λ processors. processors.items) result
         (program.processors_for request.now (opened S.bytes dump.now)) }
 {
     let processors = read_processors(alloc, dump, request.levels)?;
@@ -85,6 +85,7 @@ fn tables_failure<S: ByteSource>(
 }
 
 /// Reports on the tables of all processors, on those of several once.
+#[tactic(auto, using(crate::proofs::Turns::told_nothing))]
 pub fn report_on_processors<S: ByteSource, W: Destination, E: Destination, G: Progress>(
     alloc: Global,
     dump: &Dump<S>,
@@ -102,8 +103,8 @@ pub fn report_on_processors<S: ByteSource, W: Destination, E: Destination, G: Pr
         (words_opened S.bytes dump.now) processors.now notes.old notes.new) }
     ensures told { S.IsKnown → OnOk result (InTurn (program.ToldOfTablesOf G.Told G.Ended
         (words_opened S.bytes dump.now)) (specs.firsts_of processors.now) progress.old progress.new) }
-    ensures ended { program.EndsTold G.Ended progress.old progress.new }
-    ensures errors { S.IsKnown → IfErr result (IsForced (W.may_refuse || E.may_refuse)) }
+    ensures counted { program.ToldInTurn G.Told G.Ended progress.old progress.new }
+    ensures errors { IfErr result (IsForced S.may_fail (W.may_refuse || E.may_refuse)) }
 {
     let firsts = firsts_of(alloc, processors)?;
     write_left_out(processors, notes)?;
@@ -137,8 +138,8 @@ fn write_reports<S: ByteSource, W: Destination, E: Destination, G: Progress>(
     ensures told { S.IsKnown → OnOk result (InTurn
         (program.ToldOfTablesOf G.Told G.Ended (words_opened S.bytes dump.now)) firsts.now
         progress.old progress.new) }
-    ensures ended { program.EndsTold G.Ended progress.old progress.new }
-    ensures errors { S.IsKnown → IfErr result (IsForced (W.may_refuse || E.may_refuse)) }
+    ensures counted { program.ToldInTurn G.Told G.Ended progress.old progress.new }
+    ensures errors { IfErr result (IsForced S.may_fail (W.may_refuse || E.may_refuse)) }
 {
     let mut is_complete = true;
     for first in firsts {
@@ -152,7 +153,7 @@ fn write_reports<S: ByteSource, W: Destination, E: Destination, G: Progress>(
 
 /// Reports on the tables of a processor, below the numbers of the processors that have the same, and returns true if the request is
 /// fulfilled.
-#[tactic(auto, using(crate::proofs::Failing::forced_first, crate::proofs::Failing::forced_second))]
+#[tactic(auto, using(crate::proofs::Failing::forced_first, crate::proofs::Failing::forced_second, crate::proofs::Failing::first_write, crate::proofs::Failing::second_write, crate::proofs::Turns::told_nothing))]
 fn write_report_below<S: ByteSource, W: Destination, E: Destination, G: Progress>(
     alloc: Global,
     dump: &Dump<S>,
@@ -176,8 +177,8 @@ fn write_report_below<S: ByteSource, W: Destination, E: Destination, G: Progress
         (E.contents notes.old.writer.now) (E.contents notes.new.writer.now)) }
     ensures told { S.IsKnown → OnOk result (program.ToldOfTablesOf G.Told G.Ended
         (words_opened S.bytes dump.now) first.now progress.old progress.new) }
-    ensures ended { program.EndsTold G.Ended progress.old progress.new }
-    ensures errors { S.IsKnown → IfErr result (IsForced (W.may_refuse || E.may_refuse)) }
+    ensures counted { program.ToldInTurn G.Told G.Ended progress.old progress.new }
+    ensures errors { IfErr result (IsForced S.may_fail (W.may_refuse || E.may_refuse)) }
 {
     write_heading(alloc, request.form, processors, first, writer)?;
     let outcome = report_from(alloc, dump, &first.start, request, writer, notes, progress)?;

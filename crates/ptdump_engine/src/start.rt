@@ -56,7 +56,7 @@ pub fn start_of<S: ByteSource>(
     dump: &Dump<S>,
     request: &Request,
 ) -> Result<Start, Failure>
-    ensures { S.IsKnown → Finds result (starts.start_of request.now (opened S.bytes dump.now)) }
+    ensures { S.IsKnown → Finds S.may_fail result (starts.start_of request.now (opened S.bytes dump.now)) }
 {
     let note = needed_note(alloc, dump, request)?;
     start_with(alloc, dump, request, note)
@@ -69,7 +69,7 @@ fn start_with<S: ByteSource>(
     request: &Request,
     note: Option<Note>,
 ) -> Result<Start, Failure>
-    ensures { S.IsKnown → Finds result
+    ensures { S.IsKnown → Finds S.may_fail result
         (starts.start_with request.now (opened S.bytes dump.now) request.now.cr3 note) }
 {
     match (request.cr3, note) {
@@ -104,7 +104,7 @@ fn kernel_start<S: ByteSource>(
     dump: &Dump<S>,
     levels: Option<Levels>,
 ) -> Result<Start, Failure>
-    ensures { S.IsKnown → Finds result (starts.kernel_start (opened S.bytes dump.now) levels) }
+    ensures { S.IsKnown → Finds S.may_fail result (starts.kernel_start (opened S.bytes dump.now) levels) }
 {
     if let Some(kernel) = dump.kernel(alloc)? {
         return Ok(Start {
@@ -126,7 +126,7 @@ fn needed_note<S: ByteSource>(
     dump: &Dump<S>,
     request: &Request,
 ) -> Result<Option<Note>, Failure>
-    ensures { S.IsKnown → Finds result (starts.note_needed request.now (opened S.bytes dump.now)) }
+    ensures { S.IsKnown → Finds S.may_fail result (starts.note_needed request.now (opened S.bytes dump.now)) }
 {
     if request.cr3.is_some() && request.levels.is_some() {
         return Ok(None);
@@ -152,7 +152,8 @@ fn note_of(notes: &[Note], cpu: u64) -> Result<Option<Note>, Failure>
 /// Reads the CR3 of a processor in 64-bit paging from its note.
 #[tactic(auto, unfolding(crate::specs::Start::cr3_in))]
 fn cr3_in<S: ByteSource>(dump: &Dump<S>, cpu: u64, note: &Note) -> Result<u64, Failure>
-    ensures { S.IsKnown → Finds result (starts.cr3_in (opened S.bytes dump.now).file cpu note.now) }
+    ensures { S.IsKnown → Finds S.may_fail result
+        (starts.cr3_in (opened S.bytes dump.now).file cpu note.now) }
 {
     let cr3 = dump.cr3(note)?;
     let cr0 = dump.cr0(note)?;
@@ -169,7 +170,8 @@ fn levels_of<S: ByteSource>(
     given: Option<Levels>,
     note: Option<Note>,
 ) -> Result<Levels, Failure>
-    ensures { S.IsKnown → Finds result (starts.levels_of (opened S.bytes dump.now).file given note) }
+    ensures { S.IsKnown → Finds S.may_fail result
+        (starts.levels_of (opened S.bytes dump.now).file given note) }
 {
     match (given, note) {
         (Some(levels), _) => Ok(levels),

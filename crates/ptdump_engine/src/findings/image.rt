@@ -1,5 +1,6 @@
 //! Images of page tables for `pagetab`.
 ghost use Rattle.std.specs.Prelude.{◌≡◌, ◌+◌, ◌*◌, ◌^◌, ◌<◌, false, IfErr};
+ghost use Rattle.x86_64_dump.specs.Loaded.{MayFail};
 ghost use Rattle.x86_64_model.specs.Entry.{flags};
 
 mod report;
@@ -76,7 +77,7 @@ impl Image {
         root: PhysFrame<Size4KiB>,
         levels: u64,
     ) -> Result<Image, DumpError>
-        ensures { S.IsKnown → IfErr result (λ error. error ≡ DumpError.OutOfMemory) }
+        ensures { IfErr result (MayFail S.may_fail) }
     {
         let mut image = Image::new(alloc, root, levels)?;
         let mut current = Vec::new(alloc);
@@ -125,7 +126,7 @@ impl Image {
         below: u64,
         next: &mut Vec<Table>,
     ) -> Result<(), DumpError>
-        ensures { S.IsKnown → IfErr result (λ error. error ≡ DumpError.OutOfMemory) }
+        ensures { IfErr result (MayFail S.may_fail) }
     {
         let Some(words) = dump.read_frame(table.frame)? else {
             return Ok(());

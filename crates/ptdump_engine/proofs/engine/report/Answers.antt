@@ -7,13 +7,17 @@ use Rattle.x86_64_dump.specs.Loaded.{words_in, IsTableCount}
 use Rattle.x86_64_model.specs.Mappings.{Mapping}
 use Rattle.std.specs.declared.alloc.Global.{Global}
 use Rattle.ptdump_engine.specs.Output.{Puts, put_in}
+use Rattle.ptdump_engine.specs.Program.{ToldInTurn}
 use Rattle.ptdump_engine.specs.Reserved.{reserved_note}
 use Rattle.ptdump_engine.specs.Totals.{IsMapped, totals_text}
 use Rattle.ptdump_engine.specs.Walks.{line}
 use Rattle.ptdump_engine.specs.declared.output.Output.{Output}
 use Rattle.ptdump_engine.proofs.SameTables.{same_note, same_tables}
 use Rattle.ptdump_engine.proofs.Wholly.{puts_both, same_report, same_completeness, written_rest}
+use Rattle.ptdump_engine.proofs.Turns.{told_once}
+use Rattle.ptdump_engine.proofs.engine.report.Given.{Over}
 use Rattle.ptdump_engine.proofs.engine.report.Goals as goal
+use Rattle.ptdump_engine.proofs.engine.report.Goals.{After-end}
 
 pub returns-clause-written : goal.returns-clause-written
 returns-clause-written g c = λ known.
@@ -68,3 +72,25 @@ write_whole-requires-clause-tables g c = λ known.
     let T = words_in c.in_ok-tables.tables in
     let W = words_of_dump (opened g.S.ByteSource.bytes c.args.dump.now) in
     (c.in_ok-tables.ensures.tables known).frames ∙ sym (same_tables T W L c.args.root (c.in_ok-tables.ensures.same known))
+
+-- the tables were told, and the end
+counted : (g : Over) (c : After-end g) → ToldInTurn g.G.Progress.Told g.G.Progress.Ended c.args.progress.now c.end.new.self
+counted g c = told_once g.G.Progress.Told g.G.Progress.Ended c.args.progress.now c.read_tables-tables.new.progress c.end.new.self c.read_tables-tables.ensures.counted c.end.ensures
+
+pub returns-in_err-tables-clause-counted : goal.returns-in_err-tables-clause-counted
+returns-in_err-tables-clause-counted g c = counted g (goal.at.returns-in_err-tables-clause-counted g c).After-end
+
+pub returns-in_err-summaries-clause-counted : goal.returns-in_err-summaries-clause-counted
+returns-in_err-summaries-clause-counted g c = counted g (goal.at.returns-in_err-summaries-clause-counted g c).After-end
+
+pub returns-in_err-is_complete-clause-counted : goal.returns-in_err-is_complete-clause-counted
+returns-in_err-is_complete-clause-counted g c = counted g (goal.at.returns-in_err-is_complete-clause-counted g c).After-end
+
+pub returns-in_err-write_reserved-clause-counted : goal.returns-in_err-write_reserved-clause-counted
+returns-in_err-write_reserved-clause-counted g c = counted g (goal.at.returns-in_err-write_reserved-clause-counted g c).After-end
+
+pub returns-in_err-write_totals-clause-counted : goal.returns-in_err-write_totals-clause-counted
+returns-in_err-write_totals-clause-counted g c = counted g (goal.at.returns-in_err-write_totals-clause-counted g c).After-end
+
+pub returns-clause-counted : goal.returns-clause-counted
+returns-clause-counted g c = counted g (goal.at.returns-clause-counted g c).After-end

@@ -15,8 +15,9 @@ use Rattle.ptdump_engine.proofs.engine.run.Goals as goal
 
 pub returns-in_err-dump-clause-run : goal.returns-in_err-dump-clause-run
 returns-in_err-dump-clause-run g c = λ known.
+    let fails = g.S.ByteSource.may_fail in
     let is : c.from_residual.result ≡ Err (failure_of c.in_err-dump.field-0.0) = search rules in
-    rw is (unopened (is_info c.args.request.now.command) (is_of_processors c.args.request.now) (g.W.Destination.may_refuse || g.E.Destination.may_refuse) c.args.request.now (g.S.ByteSource.bytes c.args.source)
+    rw is (unopened (is_info c.args.request.now.command) (is_of_processors c.args.request.now) fails (g.W.Destination.may_refuse || g.E.Destination.may_refuse) c.args.request.now (g.S.ByteSource.bytes c.args.source)
     (g.W.Destination.contents c.args.writer.now) c.in_err-dump.field-0.0 (c.in_err-dump.ensures known))
 
 -- ---- a command that is about the dump alone
@@ -26,11 +27,12 @@ returns-then-is_info-clause-run g c = λ known.
     let request = c.args.request.now in
     let file = g.S.ByteSource.bytes c.args.source in
     let contents = g.W.Destination.contents in
+    let fails = g.S.ByteSource.may_fail in
     let a = g.W.Destination.may_refuse in
     let b = g.E.Destination.may_refuse in
     let is : is_info request.command ≡ true = sym c.is_info.ensures ∙ c.if-is_info.true in
-    subst (λ info. RunsAs info (is_of_processors request) (a || b) request file (contents c.args.writer.now) (contents c.write_info.new.writer) c.write_info.result) (sym is)
-    (tells_of a b request file (contents c.args.writer.now) (contents c.write_info.new.writer) (opened g.S.ByteSource.bytes c.in_ok-dump.dump) c.write_info.result
+    subst (λ info. RunsAs info (is_of_processors request) fails (a || b) request file (contents c.args.writer.now) (contents c.write_info.new.writer) c.write_info.result) (sym is)
+    (tells_of fails a b request file (contents c.args.writer.now) (contents c.write_info.new.writer) (opened g.S.ByteSource.bytes c.in_ok-dump.dump) c.write_info.result
     (ap of_dump (c.in_ok-dump.ensures known)) (c.write_info.ensures.written known) c.write_info.ensures.complete (c.write_info.ensures.errors known))
 
 pub returns-then-is_info-clause-notes : goal.returns-then-is_info-clause-notes
@@ -62,15 +64,16 @@ pub returns-in_err-processors-clause-run : goal.returns-in_err-processors-clause
 returns-in_err-processors-clause-run g c = λ known.
     let request = c.args.request.now in
     let file = g.S.ByteSource.bytes c.args.source in
+    let fails = g.S.ByteSource.may_fail in
     let may = g.W.Destination.may_refuse || g.E.Destination.may_refuse in
     let contents = g.W.Destination.contents in
     let not : is_info request.command ≡ false = sym c.is_info.ensures ∙ c.if-is_info.false in
     let all : is_of_processors request ≡ true = sym c.is_of_processors.ensures ∙ c.if-is_of_processors.true in
     let is : c.from_residual-in_err-processors.result ≡ Err c.in_err-processors.field-0.0 = search rules in
-    subst (λ info. RunsAs info (is_of_processors request) may request file (contents c.args.writer.now) (contents c.args.writer.now) c.from_residual-in_err-processors.result) (sym not)
-    (subst (λ all. RunsAs false all may request file (contents c.args.writer.now) (contents c.args.writer.now) c.from_residual-in_err-processors.result) (sym all)
+    subst (λ info. RunsAs info (is_of_processors request) fails may request file (contents c.args.writer.now) (contents c.args.writer.now) c.from_residual-in_err-processors.result) (sym not)
+    (subst (λ all. RunsAs false all fails may request file (contents c.args.writer.now) (contents c.args.writer.now) c.from_residual-in_err-processors.result) (sym all)
     (rw is (
-      no_processors may request file (opened g.S.ByteSource.bytes c.in_ok-dump.dump) c.in_err-processors.field-0.0 (c.in_ok-dump.ensures known) (c.in_err-processors.ensures known),
+      no_processors fails may request file (opened g.S.ByteSource.bytes c.in_ok-dump.dump) c.in_err-processors.field-0.0 (c.in_ok-dump.ensures known) (c.in_err-processors.ensures known),
       inr refl,
     )))
 
@@ -78,18 +81,19 @@ pub returns-then-is_of_processors-clause-run : goal.returns-then-is_of_processor
 returns-then-is_of_processors-clause-run g c = λ known.
     let request = c.args.request.now in
     let file = g.S.ByteSource.bytes c.args.source in
+    let fails = g.S.ByteSource.may_fail in
     let may = g.W.Destination.may_refuse || g.E.Destination.may_refuse in
     let contents = g.W.Destination.contents in
     let m : Machine = record { dump = opened g.S.ByteSource.bytes c.in_ok-dump.dump; processors = c.in_ok-processors.processors.items } in
     let not : is_info request.command ≡ false = sym c.is_info.ensures ∙ c.if-is_info.false in
     let all : is_of_processors request ≡ true = sym c.is_of_processors.ensures ∙ c.if-is_of_processors.true in
-    subst (λ info. RunsAs info (is_of_processors request) may request file (contents c.args.writer.now) (contents c.report_on_processors.new.writer) c.report_on_processors.result) (sym not)
-    (subst (λ all. RunsAs false all may request file (contents c.args.writer.now) (contents c.report_on_processors.new.writer) c.report_on_processors.result) (sym all)
-    (runs_on_all may request file (contents c.args.writer.now) (contents c.report_on_processors.new.writer) m c.report_on_processors.result
+    subst (λ info. RunsAs info (is_of_processors request) fails may request file (contents c.args.writer.now) (contents c.report_on_processors.new.writer) c.report_on_processors.result) (sym not)
+    (subst (λ all. RunsAs false all fails may request file (contents c.args.writer.now) (contents c.report_on_processors.new.writer) c.report_on_processors.result) (sym all)
+    (runs_on_all fails may request file (contents c.args.writer.now) (contents c.report_on_processors.new.writer) m c.report_on_processors.result
     (shows request file m.dump m.processors (c.in_ok-dump.ensures known) (c.in_ok-processors.ensures known))
     (subst (λ ps. IfOk c.report_on_processors.result (ReportsAll request (words_of_dump m.dump) ps (contents c.args.writer.now) (contents c.report_on_processors.new.writer)))
     c.deref.ensures.value (c.report_on_processors.ensures.written known))
-    (c.report_on_processors.ensures.errors known)))
+    c.report_on_processors.ensures.errors))
 
 pub returns-then-is_of_processors-clause-notes : goal.returns-then-is_of_processors-clause-notes
 returns-then-is_of_processors-clause-notes g c = λ known.
@@ -137,15 +141,16 @@ pub returns-in_err-start-clause-run : goal.returns-in_err-start-clause-run
 returns-in_err-start-clause-run g c = λ known.
     let request = c.args.request.now in
     let file = g.S.ByteSource.bytes c.args.source in
+    let fails = g.S.ByteSource.may_fail in
     let may = g.W.Destination.may_refuse || g.E.Destination.may_refuse in
     let contents = g.W.Destination.contents in
     let not : is_info request.command ≡ false = sym c.is_info.ensures ∙ c.if-is_info.false in
     let one : is_of_processors request ≡ false = sym c.is_of_processors.ensures ∙ c.if-is_of_processors.false in
     let is : c.from_residual-in_err-start.result ≡ Err c.in_err-start.field-0.0 = search rules in
-    subst (λ info. RunsAs info (is_of_processors request) may request file (contents c.args.writer.now) (contents c.args.writer.now) c.from_residual-in_err-start.result) (sym not)
-    (subst (λ all. RunsAs false all may request file (contents c.args.writer.now) (contents c.args.writer.now) c.from_residual-in_err-start.result) (sym one)
+    subst (λ info. RunsAs info (is_of_processors request) fails may request file (contents c.args.writer.now) (contents c.args.writer.now) c.from_residual-in_err-start.result) (sym not)
+    (subst (λ all. RunsAs false all fails may request file (contents c.args.writer.now) (contents c.args.writer.now) c.from_residual-in_err-start.result) (sym one)
     (rw is (
-      no_start may request file (opened g.S.ByteSource.bytes c.in_ok-dump.dump) c.in_err-start.field-0.0 (c.in_ok-dump.ensures known) (c.in_err-start.ensures.start known),
+      no_start fails may request file (opened g.S.ByteSource.bytes c.in_ok-dump.dump) c.in_err-start.field-0.0 (c.in_ok-dump.ensures known) (c.in_err-start.ensures.start known),
       inr refl,
     )))
 
@@ -155,15 +160,16 @@ returns-clause-run g c = λ known.
     let file = g.S.ByteSource.bytes c.args.source in
     let dump = opened g.S.ByteSource.bytes c.in_ok-dump.dump in
     let start = c.in_ok-start.start in
+    let fails = g.S.ByteSource.may_fail in
     let may = g.W.Destination.may_refuse || g.E.Destination.may_refuse in
     let contents = g.W.Destination.contents in
     let not : is_info request.command ≡ false = sym c.is_info.ensures ∙ c.if-is_info.false in
     let one : is_of_processors request ≡ false = sym c.is_of_processors.ensures ∙ c.if-is_of_processors.false in
-    subst (λ info. RunsAs info (is_of_processors request) may request file (contents c.args.writer.now) (contents c.report_from.new.writer) c.report_from.result) (sym not)
-    (subst (λ all. RunsAs false all may request file (contents c.args.writer.now) (contents c.report_from.new.writer) c.report_from.result) (sym one)
-    (runs_by may request file (contents c.args.writer.now) (contents c.report_from.new.writer) (record { dump = dump; start = start }) c.report_from.result
+    subst (λ info. RunsAs info (is_of_processors request) fails may request file (contents c.args.writer.now) (contents c.report_from.new.writer) c.report_from.result) (sym not)
+    (subst (λ all. RunsAs false all fails may request file (contents c.args.writer.now) (contents c.report_from.new.writer) c.report_from.result) (sym one)
+    (runs_by fails may request file (contents c.args.writer.now) (contents c.report_from.new.writer) (record { dump = dump; start = start }) c.report_from.result
     (opens request file dump start (c.in_ok-dump.ensures known) (c.in_ok-start.ensures.start known))
-    (c.report_from.ensures.written known) (c.report_from.ensures.errors known)))
+    (c.report_from.ensures.written known) c.report_from.ensures.errors))
 
 pub returns-clause-told : goal.returns-clause-told
 returns-clause-told g c = λ known.

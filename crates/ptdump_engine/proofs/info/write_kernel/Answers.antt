@@ -14,7 +14,7 @@ returns-in_ok-write_fault-in-Err-Fault-clause-text g c = λ known.
     let contents = g.W.Destination.contents in
     let dump = opened g.S.ByteSource.bytes c.args.dump.now in
     let fault = c.in-Err-Fault.fault in
-    let failed : kernel_in dump ≡ Err fault = subst (λ error. Fails error (kernel_in dump)) c.in-Err-Fault.field-0-is (c.in-Err-Fault.ensures known) in
+    let failed : kernel_in dump ≡ Err fault = subst (λ error. Fails g.S.ByteSource.may_fail error (kernel_in dump)) c.in-Err-Fault.field-0-is (c.in-Err-Fault.ensures known) in
     let has : FaultHasText {A = Option Kernel} (Err fault) = subst FaultHasText failed (kernel_has_text dump) in
     subst (λ found. Puts contents c.args.output.now c.write_fault.new.output (kernel_line c.args.form found)) (sym failed)
     (text_or (fault_text fault) (λ text. Puts contents c.args.output.now c.write_fault.new.output (no_kernel_line c.args.form text))

@@ -17,7 +17,7 @@ loop-cpu-preserved g c = λ known.
 pub returns-in_err-registers : goal.returns-in_err-registers
 returns-in_err-registers g c = λ known.
     let is : c.from_residual.result ≡ Err (failure_of c.in_err-registers.field-0.0) = search rules in
-    rw is (read_fails (g.S.ByteSource.bytes c.args.dump.now.source) c.args.given c.args.notes.now c.loop-cpu.cpu c.loop-cpu.processors.items _ c.in_err-registers.field-0.0 c.loop-cpu-test.true
+    rw is (read_fails (g.S.ByteSource.bytes c.args.dump.now.source) c.args.given c.args.notes.now g.S.ByteSource.may_fail c.loop-cpu.cpu c.loop-cpu.processors.items _ c.in_err-registers.field-0.0 c.loop-cpu-test.true
     (c.loop-cpu.invariant known) (c.in_err-registers.ensures known))
 
 pub returns : goal.returns

@@ -14,5 +14,5 @@ returns-in-Some-first_failure g c = λ known.
     let modes : modes_failure ps ≡ None = search rules in
     let firsts : c.deref-3.result.now ≡ firsts_of ps = c.deref-3.ensures.value ∙ c.in_ok-firsts.ensures ∙ ap firsts_of c.deref-2.ensures.value in
     let first : first_failure request (words_of_dump dump) c.deref-3.result.now ≡ Some c.in-Some-first_failure.failure = search rules in
-    no_tables request dump ps c.in-Some-first_failure.failure (c.in_ok-processors.ensures known) modes
+    no_tables g.S.ByteSource.may_fail request dump ps c.in-Some-first_failure.failure (c.in_ok-processors.ensures known) modes
     (ap (first_failure request (words_of_dump dump)) (sym firsts) ∙ first)

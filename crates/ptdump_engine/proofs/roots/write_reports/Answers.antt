@@ -1,20 +1,20 @@
-use Rattle.std.proofs.Common.{◌∙◌, ◌&&◌, inl, refl, sym, ap, ap₂, subst}
+use Rattle.std.proofs.Common.{◌∙◌, ◌&&◌, refl, sym, ap, ap₂, subst}
 use Rattle.std.specs.Io.KnownBytes.{Appends}
 use Rattle.std.proofs.KnownBytes.{Appends-nil}
 use Rattle.std.proofs.lemmas.List.Folds.{list_all_more}
 use Rattle.x86_64_dump.specs.Dump.{words_of_dump}
 use Rattle.x86_64_dump.specs.Opened.{opened}
 use Rattle.ptdump_engine.specs.Program.{EndsByTotalsOf, ToldOfTablesOf, is_complete_for, report_below}
-use Rattle.ptdump_engine.proofs.Turns.{appends_more, told_on, turn_all, turn_more}
+use Rattle.ptdump_engine.proofs.Turns.{appends_more, told_nothing, told_on, turn_all, turn_more}
 use Rattle.ptdump_engine.proofs.roots.write_reports.Goals as goal
 
 pub loop-first-init : goal.loop-first-init
-loop-first-init g c = (c.requires.noted, inl refl, λ known. (refl, Appends-nil _, refl, λ after all. all, λ after all. all))
+loop-first-init g c = (c.requires.noted, told_nothing g.G.Progress.Told g.G.Progress.Ended c.args.progress.now, λ known. (refl, Appends-nil _, refl, λ after all. all, λ after all. all))
 
 pub loop-first-preserved : goal.loop-first-preserved
 loop-first-preserved g c = (
   c.in_ok-is_fulfilled.ensures.noted,
-  told_on g.G.Progress.Ended c.args.progress.now c.loop-first.progress c.write_report_below.new.progress c.loop-first.invariant.1 c.write_report_below.ensures.ended,
+  told_on g.G.Progress.Told g.G.Progress.Ended c.args.progress.now c.loop-first.progress c.write_report_below.new.progress c.loop-first.invariant.1 c.write_report_below.ensures.counted,
   λ known.
       let T = words_of_dump (opened g.S.ByteSource.bytes c.args.dump.now) in
       let request = c.args.request.now in
@@ -50,3 +50,7 @@ returns-clause-told g c = λ known.
     let (name, written, complete, totals, told) = c.loop-first.invariant.2 known in
     turn_all (ToldOfTablesOf g.G.Progress.Told g.G.Progress.Ended (words_of_dump (opened g.S.ByteSource.bytes c.args.dump.now))) _ _ c.args.firsts.now c.loop-first.first-index
     c.loop-first-test.false told
+
+pub returns-in_err-is_fulfilled-clause-counted : goal.returns-in_err-is_fulfilled-clause-counted
+returns-in_err-is_fulfilled-clause-counted g c =
+    told_on g.G.Progress.Told g.G.Progress.Ended c.args.progress.now c.loop-first.progress c.write_report_below.new.progress c.loop-first.invariant.1 c.write_report_below.ensures.counted

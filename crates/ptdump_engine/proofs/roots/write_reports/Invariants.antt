@@ -4,7 +4,7 @@ use Rattle.std.specs.List.{flat_map, list_all}
 use Rattle.std.specs.String.{string_bytes}
 use Rattle.x86_64_dump.specs.Dump.{words_of_dump}
 use Rattle.x86_64_dump.specs.Opened.{opened}
-use Rattle.ptdump_engine.specs.Program.{EndsByTotalsOf, EndsTold, ToldOfTablesOf, is_complete_for, report_below}
+use Rattle.ptdump_engine.specs.Program.{EndsByTotalsOf, ToldInTurn, ToldOfTablesOf, is_complete_for, report_below}
 use Rattle.ptdump_engine.specs.Steps.{InTurn}
 use Rattle.ptdump_engine.proofs.roots.write_reports.Given as goal
 
@@ -16,7 +16,7 @@ invariant-loop-first g l =
     let left = drop l.first-index l.firsts in
     let errors = g.E.Destination.contents in
     let told = ToldOfTablesOf g.G.Progress.Told g.G.Progress.Ended T in
-    (string_bytes l.notes.text ≡ []) × EndsTold g.G.Progress.Ended l.fn.progress l.progress
+    (string_bytes l.notes.text ≡ []) × ToldInTurn g.G.Progress.Told g.G.Progress.Ended l.fn.progress l.progress
     × (g.S.ByteSource.IsKnown → (l.notes.writer.ghost_name ≡ l.fn.notes.writer.ghost_name)
     × Appends (g.W.Destination.contents l.fn.writer) (g.W.Destination.contents l.writer) (flat_map (report_below l.request T l.processors) done)
     × (l.is_complete ≡ list_all (is_complete_for l.request T) done)
