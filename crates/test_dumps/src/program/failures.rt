@@ -16,15 +16,17 @@ struct BrokenSource<'a> {
 }
 
 impl<'a> ByteSource for BrokenSource<'a> {
-    ghost use Rattle.std.specs.Prelude.{[], length};
+    ghost use Rattle.std.specs.Prelude.{length, refl, true, ⊤};
 
-    ghost IsKnown = { ⊥ };
+    ghost IsKnown = { ⊤ };
 
     ghost size = { λ source. length source.bytes.now };
 
-    ghost bytes = { λ _. [] };
+    ghost bytes = { λ source. source.bytes.now };
 
-    ghost counted = { λ known _. absurd known };
+    ghost may_fail = { true };
+
+    ghost counted = { λ _ _. refl };
 
     fn len(&self) -> u64 {
         self.bytes.len() as u64

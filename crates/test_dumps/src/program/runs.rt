@@ -136,6 +136,8 @@ impl Destination for Sink {
 
     ghost contents = { λ _. None };
 
+    ghost IsPassedOn = { λ _. Unit {0} };
+
     ghost may_refuse = { true };
 
     fn write_all(&mut self, bytes: &[u8]) -> io::Result<()> {
