@@ -4,7 +4,7 @@ use Rattle.std.specs.Prelude.{Vec}
 use Rattle.std.proofs.lemmas.List.Elements.{All-push}
 use Rattle.std.proofs.lemmas.List.Sorted.{All-permutation, IsPermutation-reverse}
 use Rattle.x86_64_dump.specs.Loaded.{frames_of}
-use Rattle.x86_64_dump.specs.Tables.{AreThere, is_among, is_in, met}
+use Rattle.x86_64_dump.specs.Tables.{is_among, is_in, met}
 use Rattle.x86_64_dump.specs.private.FrameNumbers.{AreAllHeld, AreHeld}
 
 -- one more frame that is held
@@ -24,7 +24,7 @@ among_held has (g ∷ frames) f held is = by (f == g) refl is (among_held has fr
     by false _ later rest = rest later
 
 -- all frames of some levels
-pub all_held : {A : Type 0} (has : ℕ → Bool) (levels : List (Vec ℕ A)) → AreAllHeld has levels → AreThere has (frames_of levels)
+pub all_held : {A : Type 0} (has : ℕ → Bool) (levels : List (Vec ℕ A)) → AreAllHeld has levels → (f : ℕ) → is_in (frames_of levels) f ≡ true → has f ≡ true
 all_held has [] held f is = absurd (true≢false (sym is))
 all_held has (level ∷ levels) held f is = by (is_among level.items f) refl is (all_held has levels (λ i d below. held (suc i) d (omega (arith, below))) f)
   where
@@ -40,7 +40,7 @@ more_held {A} has levels more level pushed held is =
     subst P (sym pushed) (All-push (λ level. AreHeld has level.items) levels level held is)
 
 -- and in the other order
-pub turned_held : {A : Type 0} (has : ℕ → Bool) (levels turned : List (Vec ℕ A)) → turned ≡ reverse levels → AreAllHeld has levels → AreThere has (frames_of turned)
+pub turned_held : {A : Type 0} (has : ℕ → Bool) (levels turned : List (Vec ℕ A)) → turned ≡ reverse levels → AreAllHeld has levels → AreAllHeld has turned
 turned_held {A} has levels turned is held =
     let P : List (Vec ℕ A) → Type 0 = AreAllHeld has in
-    all_held has turned (subst P (sym is) (All-permutation (λ level. AreHeld has level.items) levels (reverse levels) (IsPermutation-reverse levels) held))
+    subst P (sym is) (All-permutation (λ level. AreHeld has level.items) levels (reverse levels) (IsPermutation-reverse levels) held)

@@ -18,7 +18,7 @@ use Rattle.x86_64_model.specs.Memory.{Memory, Words, words_of, identity_places}
 use Rattle.x86_64_tables.specs.PhysMemory.{length_keys, tables_at}
 use Rattle.x86_64_tables.proofs.PlacesInOrder.{keys-tables}
 use Rattle.x86_64_dump.specs.Loaded.{frames_of}
-use Rattle.x86_64_dump.specs.Tables.{is_among, is_in, words_in_frames, AreThere}
+use Rattle.x86_64_dump.specs.Tables.{is_among, is_in, words_in_frames}
 use Rattle.x86_64_dump.proofs.Closed.{none_either}
 use Rattle.x86_64_dump.specs.private.FrameNumbers.{has_number, words_numbered, AreHeldBy, AreNumbers, HoldsFor}
 
@@ -87,7 +87,7 @@ number_there numbers i d within below =
 
 -- what is true of the frames of some levels is true of those of the same numbers
 pub all_there : (has : ℕ → Bool) (numbers : List ℕ) (levels : List (List ℕ)) → AreNumbers numbers → ((f : ℕ) → is_frame f ≡ true → has_number numbers f ≡ is_in levels f)
-    → AreThere has levels → AreHeldBy has numbers
+    → ((f : ℕ) → is_in levels f ≡ true → has f ≡ true) → AreHeldBy has numbers
 all_there has numbers levels below same there i d within =
     let number = number_there numbers i d within below in
     there (get_or numbers i d * 4096) (sym (same (get_or numbers i d * 4096) number.0) ∙ number.1)

@@ -1,5 +1,6 @@
 -- Formats: the formats of files, by the magic numbers that they begin with. System V ABI, "ELF Identification"; LiME, "lime.h";
--- makedumpfile, "makedumpfile.h", "diskdump_mod.h"; VMware's states as crash reads them, "vmware_vmss.h"; RFC 1952, RFC 8878.
+-- AVML, "image.rs"; makedumpfile, "makedumpfile.h", "diskdump_mod.h"; VMware's states as crash reads them, "vmware_vmss.h"; RFC 1952,
+-- RFC 8878.
 use Rattle.std.specs.Prelude.{ℕ, Bool, true, false, List, [], ◌∷◌, ◌++◌, codes, drop, nat_eq, option_map, unwrap_or}
 use Rattle.std.specs.List.{find, starts_with}
 use Rattle.x86_64_dump.specs.declared.formats.Format.{Format}
@@ -25,6 +26,7 @@ abbrev pub rows : List Row
 rows =
     row 0 (0x7f ∷ codes "ELF") formats.Elf
     ∷ row 0 (codes "EMiL") formats.Lime
+    ∷ unread_row 0 (codes "AVML") unread.Avml
     ∷ unread_row 0 (codes "makedumpfile" ++ 0 ∷ 0 ∷ 0 ∷ 0 ∷ []) unread.Flattened
     ∷ unread_row 0 (codes "KDUMP   ") unread.Kdump
     ∷ unread_row 0 (codes "DISKDUMP") unread.Kdump

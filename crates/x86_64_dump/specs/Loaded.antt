@@ -51,7 +51,7 @@ up_to last = map (λ i. i + 1) (range_with_len 0 last)
 abbrev pub Counts : {G : Type 0} → (Told : G → G → List ℕ → Type 0) → (before after : G) → Type 0
 Counts Told before after = (last : ℕ) × Told before after (up_to last)
 
--- an error: memory allocation failed, or a read, which may fail
+-- an error: memory allocation failed, or a read, if reads may fail
 abbrev pub MayFail : (may_fail : Bool) → DumpError → Type 0
 MayFail may errors.OutOfMemory = ⊤
 MayFail may (errors.Read error) = may ≡ true

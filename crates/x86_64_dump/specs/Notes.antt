@@ -1,5 +1,6 @@
--- Notes: the notes of a core file, by their kinds. System V ABI, "Note Section": a note is the size of its name, the size of its
--- descriptor, a type, the name and the descriptor. The last two are each padded to a multiple of four bytes.
+-- Notes: the notes of a core file, by their kinds. Linux, elf(5), "Notes (Nhdr)": a note is the size of its name, the size of its
+-- descriptor, a type, the name and the descriptor. The first three have four bytes each, and the last two are each padded to a
+-- multiple of four bytes, also in 64-bit files.
 use Rattle.std.specs.Prelude.{ℕ, zero, suc, ◌+◌, ◌-◌, ◌*◌, ◌/◌, ◌++◌, ◌==◌, ◌||◌, Bool, true, false, not, codes, cond, if◌then◌else◌, min, List, [], ◌∷◌, length, nat_lt, nat_le, Result, Ok, Err}
 use Rattle.std.specs.List.{filter, flat_map, take_while}
 use Rattle.std.specs.Str.{bytes_eq}
@@ -88,6 +89,10 @@ is_of_virtualbox dump = not (length (notes_of VirtualBox dump) == 0)
 abbrev pub is_note_cut : (file_length : ℕ) → Note → (at : ℕ) → Bool
 is_note_cut file_length note at = nat_lt note.size (at + 8) || nat_lt file_length (note.offset + (at + 8))
 
+-- the fault of such a note
+abbrev pub note_cut : Note → (at : ℕ) → Fault
+note_cut note at = faults.NoteCut note.offset note.size (at + 8)
+
 -- the register of eight bytes at an offset of a note's descriptor
 unfoldable pub register_of : (file : List ℕ) → Note → (at : ℕ) → Result ℕ Fault
-register_of file note at = if is_note_cut (length file) note at then Err (faults.NoteCut note.offset note.size (at + 8)) else Ok (u64_at file (note.offset + at))
+register_of file note at = if is_note_cut (length file) note at then Err (note_cut note at) else Ok (u64_at file (note.offset + at))

@@ -89,7 +89,7 @@ Fails may errors.OutOfMemory found = ⊤
 Fails may (errors.Read error) found = may ≡ true
 Fails may (errors.Fault fault) found = found ≡ Err fault
 
--- the result, seen by `view`, is the expected one, unless memory allocation fails, or a read, which may fail
+-- the result, seen by `view`, is the expected one, unless memory allocation fails, or a read, if reads may fail
 abbrev pub Gives : {X Y : Type 0} → (may_fail : Bool) → (X → Y) → Result X DumpError → Result Y Fault → Type 0
 Gives may view (Ok x) found = found ≡ Ok (view x)
 Gives may view (Err error) found = Fails may error found

@@ -1,5 +1,5 @@
 -- Tables: the frames of the tables that a root leads to, level by level.
-use Rattle.std.specs.Prelude.{◌≡◌, true, ℕ, zero, suc, ◌==◌, ◌&&◌, Bool, not, cond, List, [], ◌∷◌, ◌++◌, reverse, Option, None, Some, is_some}
+use Rattle.std.specs.Prelude.{ℕ, zero, suc, ◌==◌, ◌&&◌, Bool, not, cond, List, [], ◌∷◌, ◌++◌, reverse, Option, None, Some, is_some}
 use Rattle.std.specs.List.{filter_map, flat_map, fold, list_any}
 use Rattle.std.specs.Option.{unwrap_or}
 use Rattle.x86_64_model.specs.Entry.{present, huge, address}
@@ -45,7 +45,3 @@ is_in levels f = list_any (λ frames. is_among frames f) levels
 -- the words of these frames only
 abbrev pub words_in_frames : (levels : List (List ℕ)) → Words → Words
 words_in_frames levels W f = cond (is_in levels f) (W f) None
-
--- a test is true of all of these frames
-abbrev pub AreThere : (has : ℕ → Bool) → (levels : List (List ℕ)) → Type 0
-AreThere has levels = (f : ℕ) → is_in levels f ≡ true → has f ≡ true

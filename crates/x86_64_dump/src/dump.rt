@@ -1,5 +1,5 @@
 //! Dump files.
-ghost use Rattle.std.specs.Prelude.{◌≡◌, ◌+◌, ◌-◌, ◌*◌, ◌≤◌, ◌<◌, ◌^◌, ℕ, true, false, if◌then◌else◌, [], IfOk, IfErr, OnOk, IfSome, is_some, Ok, Some, None, length};
+ghost use Rattle.std.specs.Prelude.{◌≡◌, ◌+◌, ◌-◌, ◌*◌, ◌≤◌, ◌<◌, ◌^◌, ℕ, true, false, if◌then◌else◌, [], IfOk, IfErr, OnOk, IfSome, is_some, Ok, Err, Some, None, length};
 ghost use Rattle.std.proofs.Props.{props};
 ghost use Rattle.x86_64_dump.specs.Dump.{frame_offset, words_at};
 ghost use Rattle.x86_64_dump.specs.private.Search.{AreSorted, offset_at};
@@ -45,7 +45,8 @@ impl<S: ByteSource> Dump<S> {
     ghost use Rattle.x86_64_dump.specs.Formats.{is_raw};
     ghost use Rattle.x86_64_dump.specs.Opening.{contents_of, contents_as, Gives, GivesAtOnce};
     ghost use Rattle.x86_64_dump.specs.Opened.{opened, holds, is_cut};
-    ghost use Rattle.x86_64_dump.specs.Notes.{is_of_virtualbox, notes_of, processors_of, register_of};
+    ghost use Rattle.x86_64_dump.specs.Notes.{is_note_cut, is_of_virtualbox, note_cut, notes_of, processors_of, register_of};
+    ghost use Rattle.x86_64_dump.specs.declared.error.DumpError.TheVariants as errors;
     ghost use Rattle.x86_64_dump.specs.VmCoreInfo.{decrypted, kernel_in};
 
     /// Opens a dump and reads which parts of the file are memory.
@@ -57,9 +58,9 @@ impl<S: ByteSource> Dump<S> {
     ///
     /// # Errors
     ///
-    /// `DumpError::Fault` if and only if the file is of a format that isn't read, an ELF file that isn't such a core file, one
-    /// without memory, a file that is damaged, or one with addresses of its own although there is a base.
-    /// `DumpError::OutOfMemory` if memory allocation fails, `DumpError::Read` if the source can't be read.
+    /// `DumpError::Fault` if the file is of a format that isn't read, an ELF file that isn't such a core file, one without memory, one
+    /// whose headers, or LiME's ranges, are damaged or cut off, or one with addresses of its own although there is a base.
+    /// `DumpError::OutOfMemory` if memory allocation fails, `DumpError::Read` if a read fails.
     pub fn open(alloc: Global, source: S, base: Option<u64>) -> Result<Dump<S>, DumpError>
         ensures { S.IsKnown → Gives S.may_fail (opened S.bytes) result (contents_of (S.bytes source) base) }
     {
@@ -167,7 +168,7 @@ impl<S: ByteSource> Dump<S> {
         ensures held { IfOk result (λ words. is_some words ≡ holds S.size self.now frame) }
         ensures words { S.IsKnown →
             IfOk result (λ words. words ≡ words_of_dump (opened S.bytes self.now) frame) }
-        ensures failed { IfErr result (λ _. S.may_fail ≡ true) }
+        ensures failed { IfErr result (λ _. (S.may_fail ≡ true) × (holds S.size self.now frame ≡ true)) }
     {
         let Some(offset) = self.offset_of(frame) else {
             return Ok(None);
@@ -221,7 +222,7 @@ impl<S: ByteSource> Dump<S> {
             ≡ words_of_dump (opened S.bytes self.now) frame) }
         ensures lacks { IfOk result (λ is_there. is_there ≡ false → table.new ≡ table.old) }
         ensures held { IfOk result (λ is_there. is_there ≡ holds S.size self.now frame) }
-        ensures failed { IfErr result (λ _. S.may_fail ≡ true) }
+        ensures failed { IfErr result (λ _. (S.may_fail ≡ true) × (holds S.size self.now frame ≡ true)) }
     {
         let Some(offset) = self.offset_of(frame) else {
             return Ok(false);
@@ -238,6 +239,7 @@ impl<S: ByteSource> Dump<S> {
         ensures offset { result ≡ frame_offset (S.size self.now.source) self.now.segments.items frame }
         ensures inside { IfSome result (λ offset. offset + 4096 ≤ S.size self.now.source) }
     {
+        // Its contract says that offsets in the file are below 2^64.
         let _length = self.source.len();
         let address = frame.start_address().as_u64();
         offset_at(&self.stretches, address)
@@ -272,8 +274,8 @@ impl<S: ByteSource> Dump<S> {
     ///
     /// # Errors
     ///
-    /// `Fault::VmCoreInfo` if and only if there is such a note, and it doesn't say where the root is. `DumpError::OutOfMemory` if
-    /// memory allocation fails, `DumpError::Read` if the source can't be read.
+    /// `Fault::VmCoreInfo` if there is such a note, and it doesn't say the root, the levels and the mask. `DumpError::OutOfMemory` if
+    /// memory allocation fails, `DumpError::Read` if a read fails.
     pub fn kernel(&self, alloc: Global) -> Result<Option<Kernel>, DumpError>
         ensures { S.IsKnown →
             Gives S.may_fail (λ kernel. kernel) result (kernel_in (opened S.bytes self.now)) }
@@ -306,11 +308,12 @@ impl<S: ByteSource> Dump<S> {
     ///
     /// # Errors
     ///
-    /// `Fault::NoteCut` if and only if the note lacks it, `DumpError::Read` if the source can't be read.
+    /// `Fault::NoteCut` if and only if the note, or the file, ends before, `DumpError::Read` if a read fails.
     pub fn cr0(&self, processor: &Note) -> Result<u64, DumpError>
-        ensures { S.IsKnown →
-            GivesAtOnce S.may_fail (λ value. value) result
+        ensures value { S.IsKnown → GivesAtOnce S.may_fail (λ value. value) result
             (register_of (opened S.bytes self.now).file processor.now 392) }
+        ensures cut { is_note_cut (S.size self.now.source) processor.now 392 ≡ true →
+            result ≡ Err (errors.Fault (note_cut processor.now 392)) }
     {
         read_register(&self.source, processor, 392)
     }
@@ -319,11 +322,12 @@ impl<S: ByteSource> Dump<S> {
     ///
     /// # Errors
     ///
-    /// `Fault::NoteCut` if and only if the note lacks it, `DumpError::Read` if the source can't be read.
+    /// `Fault::NoteCut` if and only if the note, or the file, ends before, `DumpError::Read` if a read fails.
     pub fn cr3(&self, processor: &Note) -> Result<u64, DumpError>
-        ensures { S.IsKnown →
-            GivesAtOnce S.may_fail (λ value. value) result
+        ensures value { S.IsKnown → GivesAtOnce S.may_fail (λ value. value) result
             (register_of (opened S.bytes self.now).file processor.now 416) }
+        ensures cut { is_note_cut (S.size self.now.source) processor.now 416 ≡ true →
+            result ≡ Err (errors.Fault (note_cut processor.now 416)) }
     {
         read_register(&self.source, processor, 416)
     }
@@ -332,11 +336,12 @@ impl<S: ByteSource> Dump<S> {
     ///
     /// # Errors
     ///
-    /// `Fault::NoteCut` if and only if the note lacks it, `DumpError::Read` if the source can't be read.
+    /// `Fault::NoteCut` if and only if the note, or the file, ends before, `DumpError::Read` if a read fails.
     pub fn cr4(&self, processor: &Note) -> Result<u64, DumpError>
-        ensures { S.IsKnown →
-            GivesAtOnce S.may_fail (λ value. value) result
+        ensures value { S.IsKnown → GivesAtOnce S.may_fail (λ value. value) result
             (register_of (opened S.bytes self.now).file processor.now 424) }
+        ensures cut { is_note_cut (S.size self.now.source) processor.now 424 ≡ true →
+            result ≡ Err (errors.Fault (note_cut processor.now 424)) }
     {
         read_register(&self.source, processor, 424)
     }

@@ -137,7 +137,7 @@ pub enum Fault {
         /// The number of bytes that the descriptor needs, all of them within the file.
         needed: u64,
     },
-    /// Linux's note VMCOREINFO doesn't say where the kernel's root is.
+    /// Linux's note VMCOREINFO doesn't say the kernel's root, its levels and the encryption mask.
     VmCoreInfo(KernelFault),
 }
 

@@ -24,6 +24,8 @@ pub enum Format {
 /// A format that isn't read.
 #[derive(Clone, Copy, Debug, PartialEq, Eq)]
 pub enum UnreadFormat {
+    /// LiME's ranges, as AVML compresses them.
+    Avml,
     /// The stream that makedumpfile writes into a pipe.
     Flattened,
     /// The compressed dump of kdump and diskdump.
@@ -53,9 +55,10 @@ pub struct Magic(usize, &'static [u8], Format);
 const START_SIZE: u64 = 64;
 
 /// The magic numbers. The first one that a file has tells its format.
-const MAGICS: [Magic; 19] = [
+const MAGICS: [Magic; 20] = [
     Magic(0, b"\x7fELF", Format::Elf),
     Magic(0, b"EMiL", Format::Lime),
+    Magic(0, b"AVML", Format::Unread(UnreadFormat::Avml)),
     Magic(
         0,
         b"makedumpfile\0\0\0\0",
@@ -120,7 +123,7 @@ fn first_format(magics: &[Magic], start: &[u8]) -> Option<Format>
         .map(|magic| magic.2)
 }
 
-/// Returns the format of a file with these first bytes, of which it has at most 64, or more.
+/// Returns the format of a file with these first bytes: at least 64, or all that it has.
 fn format_of(start: &[u8]) -> Format
     ensures { result ≡ format_of start.now }
 {
@@ -142,6 +145,9 @@ pub fn read_format<S: ByteSource>(source: &S) -> io::Result<Format>
 impl Display for UnreadFormat {
     fn fmt<W: Write>(&self, f: &mut Formatter<W>) -> FmtResult {
         f.write_str(match self {
+            UnreadFormat::Avml => {
+                "the file is one that AVML compressed: write it without compression, by `avml-convert`"
+            }
             UnreadFormat::Flattened => {
                 "the file is a flattened dump, as makedumpfile writes it into a pipe: write it back with `makedumpfile -R`"
             }

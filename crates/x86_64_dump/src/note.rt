@@ -1,6 +1,6 @@
 //! Notes of core files.
 
-/// The location of a note in a core file. System V ABI, "Note Section".
+/// The location of a note in a core file. Linux, elf(5), "Notes (Nhdr)".
 #[derive(Clone, Copy, Debug, PartialEq, Eq)]
 pub struct Note {
     /// Its kind.

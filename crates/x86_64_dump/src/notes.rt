@@ -1,8 +1,9 @@
 //! Notes of a kind.
-ghost use Rattle.std.specs.Prelude.{◌≡◌, ◌+◌, ◌*◌, ◌/◌, ◌≤◌, ◌<◌, ◌^◌, ◌++◌, length, nat_lt, cond, true, Some, None, IfOk, IfErr, OnOk, Ok};
+ghost use Rattle.std.specs.Prelude.{◌≡◌, ◌+◌, ◌*◌, ◌/◌, ◌≤◌, ◌<◌, ◌^◌, ◌++◌, length, nat_lt, cond, true, Some, None, IfOk, IfErr, OnOk, Ok, Err};
+ghost use Rattle.x86_64_dump.specs.declared.error.DumpError.TheVariants as errors;
 ghost use Rattle.x86_64_dump.specs.Numbers.{u32_at};
 ghost use Rattle.x86_64_dump.specs.Opening.{Gives, GivesAtOnce};
-ghost use Rattle.x86_64_dump.specs.Notes.{padded, kind_at, note_at, notes_size, is_note_cut, register_of};
+ghost use Rattle.x86_64_dump.specs.Notes.{padded, kind_at, note_at, note_cut, notes_size, is_note_cut, register_of};
 ghost use Rattle.x86_64_dump.specs.VmCoreInfo.{text_of};
 ghost use Rattle.x86_64_dump.specs.private.NotesLeft.{is_whole, if_kept, kept_notes, notes_within};
 
@@ -180,8 +181,10 @@ fn is_note_cut(note: &Note, at: u64, length: u64) -> bool
 /// Reads the register of eight bytes at an offset of a note's descriptor.
 pub fn read_register<S: ByteSource>(source: &S, note: &Note, at: u64) -> Result<u64, DumpError>
     requires { at < 4096 }
-    ensures { S.IsKnown → GivesAtOnce S.may_fail (λ v. v) result
+    ensures value { S.IsKnown → GivesAtOnce S.may_fail (λ v. v) result
         (register_of (S.bytes source.now) note.now at) }
+    ensures cut { is_note_cut (S.size source.now) note.now at ≡ true →
+        result ≡ Err (errors.Fault (note_cut note.now at)) }
 {
     if is_note_cut(note, at, source.len()) {
         return Err(DumpError::Fault(Fault::NoteCut {

@@ -10,7 +10,7 @@ use std::os::unix::fs::FileExt;
 ///
 /// Its clauses say which bytes a read returns if they are known, as those of a slice are. The bytes of a file aren't known, and
 /// another program may change them meanwhile. They also say whether a read of bytes that the source has may fail, as one of a file
-/// may.
+/// may. A call that is proved for all sources swallows no failed read, since it knows nothing of the bytes then.
 pub trait ByteSource: Drop {
     /// That its bytes are known, and stay.
     ghost IsKnown: { Type 0 };
@@ -86,7 +86,7 @@ impl FileSource {
     ///
     /// # Errors
     ///
-    /// An error if the length of the file can't be read, and if it is no regular file, if its end can't be seeked.
+    /// An error if the length of the file can't be read, or if it is neither a regular file nor a folder and its end can't be seeked.
     pub fn new(mut file: File) -> io::Result<FileSource> {
         let about = file.metadata()?;
         let length = if about.is_file() || about.is_dir() {

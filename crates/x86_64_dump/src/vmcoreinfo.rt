@@ -19,7 +19,7 @@ const KERNEL_MAP: u64 = 0xffff_ffff_8000_0000;
 pub enum Key {
     /// `SYMBOL(swapper_pg_dir)`: the virtual address of the root, in hexadecimal digits.
     SwapperPgDir,
-    /// `NUMBER(phys_base)`: how far the kernel is from the start of physical memory, in decimal digits, perhaps after a minus.
+    /// `NUMBER(phys_base)`: the physical address for which 0xffffffff80000000 stands, in decimal digits, perhaps after a minus.
     PhysBase,
     /// `NUMBER(pgtable_l5_enabled)`: 1 for five levels of tables.
     FiveLevels,
@@ -61,7 +61,7 @@ pub struct Kernel {
     pub encryption_mask: u64,
 }
 
-/// Why a text doesn't say where the kernel's root is.
+/// Why a text doesn't say the kernel's root, its levels and the encryption mask.
 #[derive(Clone, Copy, Debug, PartialEq, Eq)]
 pub enum KernelFault {
     /// No line has the key.

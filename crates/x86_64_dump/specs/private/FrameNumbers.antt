@@ -1,4 +1,5 @@
--- Numbers: frames by their numbers, and memories with tables at some places. A place is the index of a table in memory.
+-- FrameNumbers: frames that a dump has, frames by their numbers, and memories with tables at some places. A place is the index of a
+-- table in memory.
 use Rattle.std.specs.Prelude.{◌≡◌, ◌==◌, ◌/◌, ◌*◌, ◌<◌, ◌^◌, ℕ, Bool, true, cond, List, Vec, All, Option, None}
 use Rattle.std.specs.List.{list_any}
 use Rattle.std.specs.FinMap.{get}

@@ -16,7 +16,7 @@ place_of segment = record { address = segment.address; offset = segment.offset }
 abbrev pub offset_from : (address : ℕ) → Place → ℕ
 offset_from address place = place.offset + (address - place.address)
 
--- the place of an address by a stretch, if the stretches before it say another
+-- the place of an address after one more stretch: the stretch's if it doesn't begin after the address, or else the place before
 abbrev pub place_after : (address : ℕ) → (before : Option Place) → Stretch → Option Place
 place_after address before stretch = cond (nat_le stretch.from address) stretch.place before
 

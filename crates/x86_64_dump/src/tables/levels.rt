@@ -4,9 +4,9 @@ ghost use Rattle.std.specs.List.{filter_map, flat_map, fold};
 ghost use Rattle.x86_64_dump.specs.Dump.{words_of_dump};
 ghost use Rattle.x86_64_dump.specs.Opened.{holds, opened};
 ghost use Rattle.x86_64_dump.specs.Loaded.{MayFail, frames_of};
-ghost use Rattle.x86_64_dump.specs.private.FrameNumbers.{AreHeld};
+ghost use Rattle.x86_64_dump.specs.private.FrameNumbers.{AreAllHeld, AreHeld};
 ghost use Rattle.x86_64_dump.specs.private.TablesRead.{AreOf};
-ghost use Rattle.x86_64_dump.specs.Tables.{AreThere, table_named, tables_named, met, each_once, tables_by_level, if_there};
+ghost use Rattle.x86_64_dump.specs.Tables.{table_named, tables_named, met, each_once, tables_by_level, if_there};
 
 use crate::tables::frame_set::FrameSet;
 use crate::tables::tables_read::TablesRead;
@@ -30,7 +30,7 @@ pub fn read_levels<S: ByteSource>(
     ensures read { S.IsKnown → OnOk result (AreOf (words_of_dump (opened S.bytes dump.now)) read.new) }
     ensures frames { S.IsKnown → IfOk result (λ frames. frames_of frames.items
         ≡ tables_by_level levels (words_of_dump (opened S.bytes dump.now)) root) }
-    ensures there { IfOk result (λ frames. AreThere (holds S.size dump.now) (frames_of frames.items)) }
+    ensures there { IfOk result (λ frames. AreAllHeld (holds S.size dump.now) frames.items) }
     ensures errors { IfErr result (MayFail S.may_fail) }
 {
     let mut frames = Vec::new(alloc);

@@ -6,9 +6,9 @@ ghost use Rattle.x86_64_dump.specs.Dump.{words_of_dump};
 ghost use Rattle.x86_64_dump.specs.Opened.{holds, opened};
 ghost use Rattle.x86_64_model.specs.Entry.{is_frame};
 ghost use Rattle.x86_64_dump.specs.Loaded.{Counts, HoldsTables, MayFail, frames_of, up_to};
-ghost use Rattle.x86_64_dump.specs.Tables.{is_among, is_in, AreThere};
+ghost use Rattle.x86_64_dump.specs.Tables.{is_among, is_in};
 ghost use Rattle.x86_64_dump.specs.private.TablesRead.{AreOf};
-ghost use Rattle.x86_64_dump.specs.private.FrameNumbers.{has_number, words_numbered, AreHeldBy, AreNumbers};
+ghost use Rattle.x86_64_dump.specs.private.FrameNumbers.{has_number, words_numbered, AreAllHeld, AreHeldBy, AreNumbers};
 ghost use Rattle.x86_64_dump.specs.private.FileParts.{IsOf};
 
 use crate::file_part::{FilePart, MOST_FRAMES};
@@ -32,7 +32,7 @@ pub fn read_memory<S: ByteSource, G: Progress>(
     progress: &mut G,
 ) -> Result<PhysMemory, DumpError>
     requires read { S.IsKnown → AreOf (words_of_dump (opened S.bytes dump.now)) read.now }
-    requires there { AreThere (holds S.size dump.now) (frames_of frames.now) }
+    requires there { AreAllHeld (holds S.size dump.now) frames.now }
     ensures tables { S.IsKnown → IfOk result
         (HoldsTables (frames_of frames.now) (words_of_dump (opened S.bytes dump.now))) }
     ensures told { IfOk result (λ memory.
@@ -111,8 +111,7 @@ fn add_numbers(numbers: &mut Vec<u64>, frames: &[PhysFrame<Size4KiB>]) -> Result
 ///
 /// # Errors
 ///
-/// `DumpError::OutOfMemory` if memory allocation fails, else `DumpError::Read` with the error of the read, or of the kind
-/// `UnexpectedEof` if the dump lacks the frame.
+/// `DumpError::OutOfMemory` if memory allocation fails, `DumpError::Read` if the read fails.
 fn fill_table<S: ByteSource>(
     dump: &Dump<S>,
     read: &TablesRead,

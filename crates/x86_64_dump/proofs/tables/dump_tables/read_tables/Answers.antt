@@ -5,7 +5,8 @@ use Rattle.x86_64_dump.specs.Dump.{words_of_dump}
 use Rattle.x86_64_dump.specs.Opened.{holds, opened}
 use Rattle.x86_64_model.specs.Memory.{words_of, identity_places}
 use Rattle.x86_64_dump.specs.Loaded.{HoldsTables, frames_of}
-use Rattle.x86_64_dump.specs.Tables.{tables_by_level, words_in_frames, AreThere}
+use Rattle.x86_64_dump.specs.Tables.{tables_by_level, words_in_frames}
+use Rattle.x86_64_dump.specs.private.FrameNumbers.{AreAllHeld}
 use Rattle.x86_64_dump.proofs.Closed.{same_below_root}
 use Rattle.x86_64_dump.proofs.SameMappings.{same_mappings, same_walks}
 use Rattle.x86_64_dump.proofs.tables.dump_tables.read_tables.Given.{Over}
@@ -20,7 +21,7 @@ levels g c known = ap frames_of c.deref.ensures.value ∙ c.in_ok-frames.ensures
 
 pub read_memory-requires-clause-there : goal.read_memory-requires-clause-there
 read_memory-requires-clause-there g c =
-    let There : List (Vec ℕ Global) → Type 0 = λ frames. AreThere (holds g.S.ByteSource.size c.args.dump.now) (frames_of frames) in
+    let There : List (Vec ℕ Global) → Type 0 = AreAllHeld (holds g.S.ByteSource.size c.args.dump.now) in
     subst There (sym c.deref.ensures.value) c.in_ok-frames.ensures.there
 
 pub returns-clause-same : goal.returns-clause-same

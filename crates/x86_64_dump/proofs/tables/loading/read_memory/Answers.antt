@@ -6,6 +6,7 @@ use Rattle.x86_64_dump.specs.Loaded.{frames_of, up_to}
 use Rattle.x86_64_dump.specs.private.FrameNumbers.{words_numbered, AreHeldBy, HoldsFor}
 use Rattle.x86_64_model.specs.Memory.{Memory}
 use Rattle.x86_64_dump.proofs.Frames.{no_frame}
+use Rattle.x86_64_dump.proofs.Held.{all_held}
 use Rattle.x86_64_dump.proofs.Places.{all_there, places_below, places_counted, tables_held, words_filled}
 use Rattle.x86_64_dump.proofs.tables.loading.read_memory.Goals as goal
 
@@ -14,7 +15,7 @@ tables_of-requires-clause-there g c =
     let has = holds g.S.ByteSource.size c.args.dump.now in
     let Held : List ℕ → Type 0 = AreHeldBy has in
     subst Held (sym c.deref.ensures.value)
-    (all_there has c.in_ok-numbers.numbers.items (frames_of c.args.frames.now) c.in_ok-numbers.ensures.below c.in_ok-numbers.ensures.numbers c.requires.there)
+    (all_there has c.in_ok-numbers.numbers.items (frames_of c.args.frames.now) c.in_ok-numbers.ensures.below c.in_ok-numbers.ensures.numbers (all_held has c.args.frames.now c.requires.there))
 
 pub returns-clause-tables : goal.returns-clause-tables
 returns-clause-tables g c known =
