@@ -58,8 +58,8 @@ impl<S: ByteSource> Dump<S> {
     ///
     /// # Errors
     ///
-    /// `DumpError::Fault` if the file is of a format that isn't read, an ELF file that isn't such a core file, one without memory, one
-    /// whose headers, or LiME's ranges, are damaged or cut off, or one with addresses of its own although there is a base.
+    /// `DumpError::Fault` if the file is of a format that isn't read, an ELF file that isn't such a core file, one without memory,
+    /// one whose headers, or LiME's ranges, are damaged or cut off, or one with addresses of its own although there is a base.
     /// `DumpError::OutOfMemory` if memory allocation fails, `DumpError::Read` if a read fails.
     pub fn open(alloc: Global, source: S, base: Option<u64>) -> Result<Dump<S>, DumpError>
         ensures { S.IsKnown → Gives S.may_fail (opened S.bytes) result (contents_of (S.bytes source) base) }
@@ -274,8 +274,8 @@ impl<S: ByteSource> Dump<S> {
     ///
     /// # Errors
     ///
-    /// `Fault::VmCoreInfo` if there is such a note, and it doesn't say the root, the levels and the mask. `DumpError::OutOfMemory` if
-    /// memory allocation fails, `DumpError::Read` if a read fails.
+    /// `Fault::VmCoreInfo` if there is such a note, and it doesn't say the root, the levels and the mask.
+    /// `DumpError::OutOfMemory` if memory allocation fails, `DumpError::Read` if a read fails.
     pub fn kernel(&self, alloc: Global) -> Result<Option<Kernel>, DumpError>
         ensures { S.IsKnown →
             Gives S.may_fail (λ kernel. kernel) result (kernel_in (opened S.bytes self.now)) }

@@ -86,7 +86,8 @@ impl FileSource {
     ///
     /// # Errors
     ///
-    /// An error if the length of the file can't be read, or if it is neither a regular file nor a folder and its end can't be seeked.
+    /// An error if the length of the file can't be read. For files that are neither regular files nor folders, an error if the end
+    /// can't be seeked.
     pub fn new(mut file: File) -> io::Result<FileSource> {
         let about = file.metadata()?;
         let length = if about.is_file() || about.is_dir() {
