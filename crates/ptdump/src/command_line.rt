@@ -1,4 +1,6 @@
 //! The command line that the program accepts.
+ghost use Rattle.std.specs.Prelude.{◌≡◌, Some};
+ghost use Rattle.clap.specs.declared.builder.action.ArgAction.TheVariants.{SetTrue};
 
 use crate::help::{COMMANDS, CommandHelp, MORE, Operands};
 use clap::{Arg, ArgAction, Command, Error};
@@ -194,7 +196,10 @@ fn addresses<'a>(alloc: Global, help: &'static str) -> Arg<'a> {
 }
 
 /// Returns an option without a value.
-fn flag<'a>(alloc: Global, name: &'static str, help: &'static str) -> Arg<'a> {
+fn flag<'a>(alloc: Global, name: &'static str, help: &'static str) -> Arg<'a>
+    ensures name { (result.id ≡ name.entry) × (result.long ≡ Some name.entry) }
+    ensures action { result.action ≡ Some SetTrue }
+{
     Arg::new(alloc, name)
         .long(name)
         .action(ArgAction::SetTrue)
@@ -202,6 +207,8 @@ fn flag<'a>(alloc: Global, name: &'static str, help: &'static str) -> Arg<'a> {
 }
 
 /// Returns an option that takes a number.
-fn option<'a>(alloc: Global, name: &'static str, help: &'static str) -> Arg<'a> {
+fn option<'a>(alloc: Global, name: &'static str, help: &'static str) -> Arg<'a>
+    ensures { (result.id ≡ name.entry) × (result.long ≡ Some name.entry) }
+{
     Arg::new(alloc, name).long(name).value_name("N").help(help)
 }

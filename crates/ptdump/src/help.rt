@@ -45,7 +45,7 @@ FILE is a dump of an x86-64 machine's physical memory, or - for standard input:
 
 A file is raw if its first bytes are those of no format, or with --raw, and
 standard error says so. Known and refused are compressed kdumps, makedumpfile's
-flattened dumps, LiME's version 2 (AVML), crash dumps of Windows, states of
+flattened dumps, AVML's compressed files, crash dumps of Windows, states of
 VMware, and what gzip, xz, zstd, lz4, bzip2 and zip have packed.
 
 Page tables are found by CR3. QEMU's cores have it, and how many levels there
@@ -382,9 +382,10 @@ begin if they have the same options, or why they find none. No tables are read.
 
 With --json a line is an object with one member: format, a string, or an object:
 memory (first, last, bytes), processor (cpu, cr0, cr3, cr4, mode, and levels if
-paging is 64-bit), kernel (root, levels), or root (address, levels, and origin:
-\"--cr3\", \"kernel\", or \"processor\", with cpu). Addresses and registers are
-strings in hexadecimal. For what isn't known, error is a string that says why.
+paging is 64-bit), kernel (root, levels, encryption_mask), or root (address,
+levels, and origin: \"--cr3\", \"kernel\", or \"processor\", with cpu). Addresses
+and registers are strings in hexadecimal. For what isn't known, error is a
+string that says why.
 
 Examples:
 

@@ -1,7 +1,7 @@
 //! Prints what the page tables in a dump of physical memory map.
 #![tactic(auto)]
 
-ghost use Rattle.std.specs.Prelude.{◌≡◌, ◌⊎◌, [], IfErr, IfOk, Ok, codes, unwrap_or};
+ghost use Rattle.std.specs.Prelude.{◌≡◌, ◌⊎◌, if◌then◌else◌, [], IfErr, IfOk, Ok, codes, is_ok, unwrap_or};
 ghost use Rattle.std.specs.Process.{exit_status};
 ghost use Rattle.std.specs.IoError.{error_kind};
 ghost use Rattle.clap.specs.Matches.{first_value, found_of};
@@ -118,8 +118,15 @@ fn report(rt: &(impl Print + Eprint), ended: Result<Outcome, Stop<'_>>) -> ExitC
         Ok(_) => Ok(()),
         Err(stop) => stop.tell(rt),
     };
+    code_after(&ended, &told)
+}
+
+/// Returns the exit code for the end of a run, or that of a failed write if the reason wasn't printed.
+fn code_after(ended: &Result<Outcome, Stop<'_>>, told: &io::Result<()>) -> ExitCode
+    ensures { exit_status result ≡ (if is_ok told.now then exit_status_of ended.now else status_of Output) }
+{
     match told {
-        Ok(()) => exit_code(&ended),
+        Ok(()) => exit_code(ended),
         Err(_) => ExitCode::from(Failure::Output.status()),
     }
 }

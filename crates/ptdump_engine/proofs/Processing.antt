@@ -8,7 +8,7 @@ use Rattle.x86_64_dump.specs.declared.error.DumpError.TheVariants as errors
 use Rattle.x86_64_dump.specs.declared.error.Fault.{Fault}
 use Rattle.x86_64_dump.specs.declared.note.Note.{Note}
 use Rattle.ptdump_engine.specs.Failure.{failure_of}
-use Rattle.ptdump_engine.specs.Info.{registers_of}
+use Rattle.ptdump_engine.specs.Start.{registers_of}
 use Rattle.ptdump_engine.specs.Processors.{processor_with, processors_from}
 use Rattle.ptdump_engine.specs.Steps.{FailsBy, and_then, of_dump}
 use Rattle.ptdump_engine.specs.declared.failure.Failure.{Failure}

@@ -10,6 +10,7 @@ use Rattle.x86_64_dump.specs.VmCoreInfo.{kernel_by, kernel_in, kernel_of, text_o
 use Rattle.x86_64_dump.specs.declared.error.Fault.{Fault}
 use Rattle.x86_64_dump.specs.declared.error.Fault.TheVariants as faults
 use Rattle.x86_64_dump.specs.declared.note.Note.{Note}
+use Rattle.x86_64_dump.specs.Lime.{after}
 use Rattle.x86_64_dump.specs.declared.note.NoteKind.TheVariants.{VmCoreInfo}
 use Rattle.x86_64_dump.specs.declared.vmcoreinfo.Kernel.{Kernel}
 use Rattle.x86_64_dump.specs.declared.vmcoreinfo.KernelFault.{KernelFault}
@@ -17,7 +18,7 @@ use Rattle.x86_64_addr.specs.declared.level_count.Levels.{Levels}
 use Rattle.x86_64_model.specs.Memory.{Words}
 use Rattle.ptdump_engine.specs.FailureTexts.{failure_text}
 use Rattle.ptdump_engine.specs.Program.{argument_failure, is_info, is_walk, root_failure, start_for}
-use Rattle.ptdump_engine.specs.Start.{cr3_by, cr3_in, kernel_start, levels_of, mode_of, note_needed, note_of, start_at, start_by, start_of, start_with}
+use Rattle.ptdump_engine.specs.Start.{cr3_by, cr3_in, kernel_start, levels_of, mode_of, note_needed, note_of, registers_of, start_at, start_by, start_of, start_with}
 use Rattle.ptdump_engine.specs.Steps.{FailsBy, IsForced, and_then, of_dump, unless}
 use Rattle.ptdump_engine.specs.declared.failure.Failure.{Failure}
 use Rattle.ptdump_engine.specs.declared.failure.Failure.TheVariants as failures
@@ -57,6 +58,17 @@ register_text file note at = by (is_note_cut (length file) note at)
     by : (b : Bool) → FaultHasText (cond b (Err (faults.NoteCut note.offset note.size (at + 8))) (Ok (u64_at file (note.offset + at))))
     by true = refl
     by false = tt
+
+text_after : {A B : Type 0} (found : Result A Fault) (next : A → Result B Fault) → FaultHasText found → ((a : A) → FaultHasText (next a)) → FaultHasText (after found next)
+text_after (Ok a) next has more = more a
+text_after (Err fault) next has more = has
+
+registers_text : (file : List ℕ) (note : Note) → FaultHasText (registers_of file note)
+unfolding registers_of
+registers_text file note =
+    text_after (register_of file note 416) _ (register_text file note 416) (λ cr3.
+    text_after (register_of file note 392) _ (register_text file note 392) (λ cr0.
+    text_after (register_of file note 424) _ (register_text file note 424) (λ cr4. tt)))
 
 -- ---- Linux's note
 
@@ -108,10 +120,8 @@ mode_text cpu cr3 Paging32 = refl
 cr3_text : (file : List ℕ) (cpu : ℕ) (note : Note) → HasText (cr3_in file cpu note)
 unfolding cr3_in
 cr3_text file cpu note =
-    text_then (of_dump (register_of file note 416)) _ (text_of_dump (register_of file note 416) (register_text file note 416)) (λ cr3.
-    text_then (of_dump (register_of file note 392)) _ (text_of_dump (register_of file note 392) (register_text file note 392)) (λ cr0.
-    text_then (of_dump (register_of file note 424)) _ (text_of_dump (register_of file note 424) (register_text file note 424)) (λ cr4.
-    mode_text cpu cr3 (mode_of cr0 cr4))))
+    text_then (of_dump (registers_of file note)) _ (text_of_dump (registers_of file note) (registers_text file note)) (λ registers.
+    mode_text cpu registers.cr3 (mode_of registers.cr0 registers.cr4))
 
 levels_text : (file : List ℕ) (given : Option Levels) (note : Option Note) → HasText (levels_of file given note)
 levels_text file (Some levels) _ = tt

@@ -77,7 +77,7 @@ name_by slot e = cond (present e && not (huge e)) (Some (record { frame = addres
 unfoldable pub names_in : Words → (frame : ℕ) → List Name
 names_in T f = filter_map (λ i. option_and_then (name_by (record { table = f; index = i })) (read T f i)) indices
 
--- the frames of the tables above level one, each once
+-- of tables that are in order, the frames of those above level one, each once
 abbrev pub frames_above : List Table → List ℕ
 frames_above tables = dedup (λ f g. f == g) (map (λ t. t.frame) (filter (λ t. nat_lt 1 t.level) tables))
 

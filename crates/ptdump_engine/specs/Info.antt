@@ -4,8 +4,7 @@ use Rattle.std.specs.Prelude.{ℕ, ◌++◌, ◌==◌, ◌&&◌, not, if◌then�
 use Rattle.std.specs.List.{enumerate_from, flat_map}
 use Rattle.x86_64_dump.specs.Dump.{Contents}
 use Rattle.x86_64_dump.specs.FaultTexts.{fault_text}
-use Rattle.x86_64_dump.specs.Lime.{after}
-use Rattle.x86_64_dump.specs.Notes.{processors_of, register_of}
+use Rattle.x86_64_dump.specs.Notes.{processors_of}
 use Rattle.x86_64_dump.specs.VmCoreInfo.{kernel_in}
 use Rattle.x86_64_dump.specs.declared.error.Fault.{Fault}
 use Rattle.x86_64_dump.specs.declared.formats.Format.{Format}
@@ -17,6 +16,7 @@ use Rattle.ptdump_engine.specs.InfoObjects.{json_of_format, json_of_kernel, json
 use Rattle.ptdump_engine.specs.InfoTexts.{format_text, kernel_text, memory_text, no_kernel_text, no_root_text, processor_text, root_text}
 use Rattle.ptdump_engine.specs.Lines.{line_in}
 use Rattle.ptdump_engine.specs.MemoryRanges.{last_address}
+use Rattle.ptdump_engine.specs.Start.{registers_of}
 use Rattle.ptdump_engine.specs.declared.failure.Failure.{Failure}
 use Rattle.ptdump_engine.specs.declared.registers.Registers.{Registers}
 use Rattle.ptdump_engine.specs.declared.request.Form.{Form}
@@ -31,12 +31,6 @@ memory_line form s = if s.kind == 1 && not (s.size == 0)
     then line_in form (memory_text s.address (last_address s) s.size) (json_of_memory s.address (last_address s) s.size) else []
 
 -- ---- processors
-
--- the control registers of a processor by its note, which may be too short
-unfoldable pub registers_of : (file : List ℕ) → Note → Result Registers Fault
-registers_of file note = after (register_of file note 392) (λ cr0.
-    after (register_of file note 416) (λ cr3.
-    after (register_of file note 424) (λ cr4. Ok (record { cr0 = cr0; cr3 = cr3; cr4 = cr4 }))))
 
 abbrev pub known_registers : Result Registers Fault → Option Registers
 known_registers (Ok registers) = Some registers

@@ -33,7 +33,8 @@ mapping_line Json has_names L m = json_line (json_of_mapping L m)
 abbrev pub found_line : Form → (physical address : ℕ) → Rights → List ℕ
 found_line form a at rights = line_in form (rights_at_text at rights) (json_of_found a at rights)
 
--- the walk to position p, its explanation and the access if they are asked for
+-- the walk to position p, and the access if it is asked for. Text also says at which words a processor faults, and explains the
+-- walk if that is asked for
 abbrev pub walk_lines : Form → (L : ℕ) → Words → (root : ℕ) → WalkOptions → (p : ℕ) → List ℕ
 walk_lines Text L T root asked p = walk_text asked.controls (walk_of L T root p)
     ++ (if asked.explains then explanation_text (walk_of L T root p) else []) ++ asked_text asked.controls asked.access L T root p

@@ -1,4 +1,4 @@
--- Names: the flags of a mapping by the names that the processor manuals give them.
+-- Names: the flags of a mapping by the names that the processor manuals give them, where W stands for R/W, and U for U/S.
 -- Intel SDM vol. 3A, "4-Level Paging and 5-Level Paging"; AMD APM vol. 2, "Page-Translation-Table Entry Fields".
 use Rattle.std.specs.Prelude.{ℕ, ◌++◌, ◌==◌, ◌/◌, ◌%◌, ◌^◌, bit_and, not, Bool, cond, if◌then◌else◌, List, [], ◌∷◌, codes, decimal, filter}
 use Rattle.std.specs.List.{join_by}
@@ -14,7 +14,7 @@ pub record Flag : Type 0 where
 abbrev pub flag : (bit : ℕ) → (name : List ℕ) → Flag
 flag bit name = record { bit = bit; name = name }
 
--- the flags that a page's entry may have, in the order of their names. Bit 7 of a 4KiB page's entry is PAT, and of a larger one's PS
+-- the flags that a page's entry may have, in the order in which their names are written. Bit 7 of a 4KiB page's entry is PAT, and of a larger one's PS
 unfoldable pub flags_of : (is_large : Bool) → List Flag
 flags_of is_large =
     flag 0x1 (codes "P") ∷ flag 0x2 (codes "W") ∷ flag 0x4 (codes "U") ∷ flag 0x20 (codes "A") ∷ flag 0x40 (codes "D")

@@ -9,9 +9,8 @@ use Rattle.x86_64_dump.specs.declared.note.Note.{Note}
 use Rattle.x86_64_mappings.specs.Numbers.{hexadecimal}
 use Rattle.x86_64_model.specs.Entry.{address}
 use Rattle.ptdump_engine.specs.FailureTexts.{mode_told}
-use Rattle.ptdump_engine.specs.Info.{registers_of}
 use Rattle.ptdump_engine.specs.Json.{count, hexadecimal_string, json_line}
-use Rattle.ptdump_engine.specs.Start.{levels_by, mode_of}
+use Rattle.ptdump_engine.specs.Start.{levels_by, mode_of, registers_of}
 use Rattle.ptdump_engine.specs.Steps.{and_then, of_dump}
 use Rattle.ptdump_engine.specs.Walks.{line}
 use Rattle.ptdump_engine.specs.declared.failure.Failure.{Failure}
@@ -44,7 +43,7 @@ abbrev pub is_64_bit : Mode → Bool
 is_64_bit Paging64 = true
 is_64_bit mode = false
 
--- whether a processor is in 64-bit paging, and so has tables
+-- whether a processor is in 64-bit paging, and so has tables that are read here
 abbrev pub has_tables : Processor → Bool
 has_tables p = is_64_bit p.mode
 

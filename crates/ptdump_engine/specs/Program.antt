@@ -65,10 +65,11 @@ abbrev pub selection_failure : Levels → Selection → Option Failure
 selection_failure levels s =
     option_or (address_failure levels s.from) (option_or (address_failure levels s.to) (order_failure s.from s.to))
 
--- why a direct map can't be left out, if there is one: an end isn't canonical, or the first address is above the last
+-- a first address above the last one, as a failure
 abbrev pub reversed_failure : AddressRange → Option Failure
 reversed_failure range = if nat_lt range.last range.first then Some (failures.DirectMapReversed range.first range.last) else None
 
+-- why a direct map can't be used, if there is one: an end isn't canonical, or the first address is above the last
 abbrev pub direct_map_failure : Levels → Option AddressRange → Option Failure
 direct_map_failure levels None = None
 direct_map_failure levels (Some range) = option_or (address_failure levels (Some range.first))
@@ -169,7 +170,7 @@ machine_for request file = and_then (dump_for request file) (λ dump.
 
 -- ---- the output
 
--- the report of a command in a form, or None if it isn't specified here
+-- the report of a command on tables in a form, or None if it isn't specified here. `info` is about the dump alone (`info_of`)
 abbrev pub report_in : Form → Command → (L : ℕ) → Words → (root : ℕ) → Option (List ℕ)
 report_in form (commands.Regions selection) L T root = Some (regions_text selection form L T root)
 report_in form (commands.Pages selection has_names) L T root = Some (pages_text selection has_names form L T root)

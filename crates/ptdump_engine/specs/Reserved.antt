@@ -14,7 +14,8 @@ use Rattle.ptdump_engine.specs.declared.request.Command.TheVariants as commands
 abbrev pub reserved_entries : Words → List Table → List Finding
 reserved_entries T tables = flawed_entries flaws.HugePage T tables ++ flawed_entries (flaws.ReservedBits processor) T tables
 
--- their number in the tables that a root leads to, with L levels of tables, if it is less than 2^64
+-- their number in the tables that a root leads to, with L levels of tables, if it is less than 2^64. A word counts once for each
+-- level at which its table is
 unfoldable pub reserved_count : (L : ℕ) → Words → (root : ℕ) → ℕ
 reserved_count L T root = min (length (reserved_entries T (tables_from 1 (tables_by_level L T root)))) (2 ^ 64 - 1)
 

@@ -4,8 +4,10 @@
 use Rattle.std.specs.Prelude.{ℕ, ◌||◌, not, if◌then◌else◌, List, [], ◌∷◌, length, slice_get, Option, None, Some, is_none, Result, Ok, Err}
 use Rattle.std.specs.Option.{option_map_or, unwrap_or}
 use Rattle.x86_64_dump.specs.Dump.{Contents}
+use Rattle.x86_64_dump.specs.Lime.{after}
 use Rattle.x86_64_dump.specs.Notes.{is_of_virtualbox, processors_of, register_of}
 use Rattle.x86_64_dump.specs.VmCoreInfo.{kernel_in}
+use Rattle.x86_64_dump.specs.declared.error.Fault.{Fault}
 use Rattle.x86_64_dump.specs.declared.note.Note.{Note}
 use Rattle.x86_64_dump.specs.declared.vmcoreinfo.Kernel.{Kernel}
 use Rattle.x86_64_model.specs.Entry.{address, has}
@@ -15,6 +17,7 @@ use Rattle.x86_64_addr.specs.declared.level_count.Levels.{Levels}
 use Rattle.x86_64_addr.specs.declared.level_count.Levels.TheVariants.{Four, Five}
 use Rattle.ptdump_engine.specs.declared.mode.Mode.{Mode}
 use Rattle.ptdump_engine.specs.declared.mode.Mode.TheVariants.{NoPaging, Paging32, Paging64}
+use Rattle.ptdump_engine.specs.declared.registers.Registers.{Registers}
 use Rattle.ptdump_engine.specs.declared.request.Request.{Request}
 use Rattle.ptdump_engine.specs.declared.start.Origin.{Origin}
 use Rattle.ptdump_engine.specs.declared.start.Origin.TheVariants.{ByRequest, ByProcessor, ByKernel}
@@ -39,11 +42,15 @@ abbrev pub cr3_by : (cpu cr3 : ℕ) → Mode → Result ℕ Failure
 cr3_by cpu cr3 Paging64 = Ok cr3
 cr3_by cpu cr3 mode = Err (failures.WrongMode cpu mode)
 
+-- the control registers of a processor by its note, which may be too short
+unfoldable pub registers_of : (file : List ℕ) → Note → Result Registers Fault
+registers_of file note = after (register_of file note 416) (λ cr3.
+    after (register_of file note 392) (λ cr0.
+    after (register_of file note 424) (λ cr4. Ok (record { cr0 = cr0; cr3 = cr3; cr4 = cr4 }))))
+
 -- the CR3 of a processor by its note; the processor must be in 64-bit paging
 unfoldable pub cr3_in : (file : List ℕ) → (cpu : ℕ) → Note → Result ℕ Failure
-cr3_in file cpu note = and_then (of_dump (register_of file note 416)) (λ cr3.
-    and_then (of_dump (register_of file note 392)) (λ cr0.
-    and_then (of_dump (register_of file note 424)) (λ cr4. cr3_by cpu cr3 (mode_of cr0 cr4))))
+cr3_in file cpu note = and_then (of_dump (registers_of file note)) (λ registers. cr3_by cpu registers.cr3 (mode_of registers.cr0 registers.cr4))
 
 abbrev pub level_count : Levels → ℕ
 level_count Four = 4

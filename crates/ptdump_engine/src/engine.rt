@@ -1,5 +1,5 @@
 //! The run of the program.
-ghost use Rattle.std.specs.Prelude.{◌≡◌, ◌||◌, [], false, None, OnOk, IfOk, IfErr, IfSome, string_bytes};
+ghost use Rattle.std.specs.Prelude.{◌≡◌, ◌⊎◌, ◌||◌, [], false, None, OnOk, IfOk, IfErr, IfSome, string_bytes};
 ghost use Rattle.std.specs.FinMap as finite;
 ghost use Rattle.std.specs.Io.KnownBytes.{Appends};
 ghost use Rattle.x86_64_dump.specs.Opened.{opened, words_opened};
@@ -65,6 +65,8 @@ pub fn run<S: ByteSource, W: Destination, E: Destination, G: Progress>(
     ensures told { S.IsKnown → OnOk result
         (program.ToldOfRun G.Told G.Ended request.now (S.bytes source) progress.old progress.new) }
     ensures counted { program.ToldInTurn G.Told G.Ended progress.old progress.new }
+    ensures untold { IfErr result (λ failure. IsForced S.may_fail (W.may_refuse || E.may_refuse) failure
+        ⊎ (progress.new ≡ progress.old)) }
 {
     let mut notes = Output::new(alloc, errors);
     let dump = open(alloc, source, request)?;

@@ -10,6 +10,7 @@ ghost use Rattle.ptdump_engine.specs.FailureTexts.{failure_text};
 ghost use Rattle.ptdump_engine.specs.Info as info;
 ghost use Rattle.ptdump_engine.specs.Output.{Puts};
 ghost use Rattle.ptdump_engine.specs.Program.{info_of, is_info, start_for};
+ghost use Rattle.ptdump_engine.specs.Start.{registers_of};
 ghost use Rattle.ptdump_engine.specs.Steps.{IsForced};
 
 mod items;
@@ -156,7 +157,7 @@ fn write_noted<S: ByteSource, W: Destination>(
 ) -> Result<(), Failure>
     ensures text { S.IsKnown → OnOk result (Puts W.contents output.old output.new
         (info.processor_line form cpu (info.known_registers
-        (info.registers_of (opened S.bytes dump.now).file note.now)))) }
+        (registers_of (opened S.bytes dump.now).file note.now)))) }
     ensures errors { S.IsKnown → IfErr result (IsForced S.may_fail W.may_refuse) }
 {
     match Registers::read(dump, note) {

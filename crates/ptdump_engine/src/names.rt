@@ -64,7 +64,7 @@ struct Flag {
     name: &'static str,
 }
 
-/// Returns the flags that a page's entry may have, in the order of their names.
+/// Returns the flags that a page's entry may have, in the order in which their names are written.
 #[tactic(auto, unfolding(crate::specs::Names::flags_of))]
 fn flags_of(is_large: bool) -> [Flag; 11]
     ensures { map named result ≡ names.flags_of is_large }

@@ -1,5 +1,5 @@
 //! Output that is collected, and passed on in large pieces.
-ghost use Rattle.std.specs.Prelude.{◌≡◌, IfErr, IfSome, OnOk, string_bytes, [], true};
+ghost use Rattle.std.specs.Prelude.{◌≡◌, ◌<◌, IfErr, IfSome, OnOk, length, string_bytes, [], true};
 ghost use Rattle.ptdump_engine.specs.declared.failure.Failure.TheVariants as failures;
 
 use crate::destination::Destination;
@@ -107,7 +107,8 @@ impl<W: Destination> Output<'_, W> {
     ///
     /// `OutputError::OutOfMemory` if memory allocation fails, `OutputError::Write` if a write fails.
     pub fn write_fmt<D: Display + Drop>(&mut self, text: D) -> Result<(), OutputError<W>>
-        ensures { OnOk result (IfSome (D.output text) (Puts W.contents self.old self.new)) }
+        ensures text { OnOk result (IfSome (D.output text) (Puts W.contents self.old self.new)) }
+        ensures small { OnOk result (length (string_bytes self.new.text) < 0x1_0000) }
     {
         self.text.write(text)?;
         self.hand_on_pieces()
@@ -119,7 +120,8 @@ impl<W: Destination> Output<'_, W> {
     ///
     /// `OutputError::OutOfMemory` if memory allocation fails, `OutputError::Write` if a write fails.
     pub fn put_line(&mut self, text: &str) -> Result<(), OutputError<W>>
-        ensures { OnOk result (Puts W.contents self.old self.new (line text.now)) }
+        ensures text { OnOk result (Puts W.contents self.old self.new (line text.now)) }
+        ensures small { OnOk result (length (string_bytes self.new.text) < 0x1_0000) }
     {
         self.text.push_str(text)?;
         self.text.push('\n')?;
@@ -146,7 +148,8 @@ impl<W: Destination> Output<'_, W> {
 
     /// Passes on the collected text, if that is a piece.
     fn hand_on_pieces(&mut self) -> Result<(), OutputError<W>>
-        ensures { OnOk result (Puts W.contents self.old self.new []) }
+        ensures same { OnOk result (Puts W.contents self.old self.new []) }
+        ensures small { OnOk result (length (string_bytes self.new.text) < 0x1_0000) }
     {
         if self.text.len() < PIECE {
             return Ok(());

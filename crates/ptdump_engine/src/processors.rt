@@ -38,7 +38,7 @@ impl Processor {
         }
     }
 
-    /// Returns true if it is in 64-bit paging, and so has tables.
+    /// Returns true if it is in 64-bit paging, and so has tables that are read here.
     pub fn has_tables(&self) -> bool
         ensures { result ≡ specs.has_tables self.now }
     {

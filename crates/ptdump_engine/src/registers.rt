@@ -3,7 +3,6 @@ ghost use Rattle.std.specs.Prelude.{◌≡◌, Some};
 ghost use Rattle.std.specs.Fmt.{WritesOnOk};
 ghost use Rattle.x86_64_dump.specs.Opened.{opened};
 ghost use Rattle.x86_64_dump.specs.Opening.{GivesAtOnce};
-ghost use Rattle.ptdump_engine.specs.Info as info;
 ghost use Rattle.ptdump_engine.specs.InfoTexts as texts;
 ghost use Rattle.ptdump_engine.specs.Start as starts;
 
@@ -30,17 +29,16 @@ impl Registers {
     ///
     /// # Errors
     ///
-    /// `Fault::NoteCut` if and only if the note lacks one of them, `DumpError::Read` if the source can't be read.
-    #[tactic(auto, unfolding(crate::specs::Info::registers_of))]
+    /// `Fault::NoteCut` if the note, or the file, ends before one of them does, `DumpError::Read` if a read fails.
+    #[tactic(auto, unfolding(crate::specs::Start::registers_of))]
     pub fn read<S: ByteSource>(dump: &Dump<S>, note: &Note) -> Result<Registers, DumpError>
         ensures { S.IsKnown → GivesAtOnce S.may_fail (λ registers. registers) result
-            (info.registers_of (opened S.bytes dump.now).file note.now) }
+            (starts.registers_of (opened S.bytes dump.now).file note.now) }
     {
-        Ok(Registers {
-            cr0: dump.cr0(note)?,
-            cr3: dump.cr3(note)?,
-            cr4: dump.cr4(note)?,
-        })
+        let cr3 = dump.cr3(note)?;
+        let cr0 = dump.cr0(note)?;
+        let cr4 = dump.cr4(note)?;
+        Ok(Registers { cr0, cr3, cr4 })
     }
 }
 

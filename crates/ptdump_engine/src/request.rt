@@ -12,7 +12,8 @@ use x86_64_tables::page_table::Rights;
 /// What is asked of the walk to each address, beside its words and its end.
 #[derive(Clone, Copy, Debug, PartialEq, Eq)]
 pub struct WalkOptions {
-    /// What the processor is set to, which says at which words it faults. More than 52 bits of physical addresses count as 52.
+    /// What the processor is set to, which says at which words it faults. Text says these, and JSON only what comes of the access.
+    /// More than 52 bits of physical addresses count as 52.
     pub controls: Controls,
     /// Whether the report also says how large the page is, and which words take rights away, which only text can do.
     pub explains: bool,
@@ -128,7 +129,8 @@ impl Command {
 pub enum Form {
     /// Lines of text.
     Text,
-    /// A JSON object a line: for each region, mapping, walk, finding or address that is found, and for each thing that a dump says.
+    /// A JSON object a line: for each region, mapping, walk, finding or address that is found, for the number of findings, for a
+    /// group of processors, and for each thing that a dump says.
     Json,
 }
 

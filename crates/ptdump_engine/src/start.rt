@@ -8,6 +8,7 @@ ghost use Rattle.ptdump_engine.specs.Steps.{Finds};
 
 use crate::failure::Failure;
 use crate::mode::Mode;
+use crate::registers::Registers;
 use crate::request::{Levels, Request};
 use std::alloc::Global;
 use x86_64_addr::addr::PhysAddr;
@@ -155,11 +156,9 @@ fn cr3_in<S: ByteSource>(dump: &Dump<S>, cpu: u64, note: &Note) -> Result<u64, F
     ensures { S.IsKnown → Finds S.may_fail result
         (starts.cr3_in (opened S.bytes dump.now).file cpu note.now) }
 {
-    let cr3 = dump.cr3(note)?;
-    let cr0 = dump.cr0(note)?;
-    let cr4 = dump.cr4(note)?;
-    match Mode::of(cr0, cr4) {
-        Mode::Paging64 => Ok(cr3),
+    let registers = Registers::read(dump, note)?;
+    match Mode::of(registers.cr0, registers.cr4) {
+        Mode::Paging64 => Ok(registers.cr3),
         mode => Err(Failure::WrongMode { cpu, mode }),
     }
 }

@@ -54,7 +54,7 @@ fn add_tables(
     Ok(())
 }
 
-/// Returns the frames of the tables above level one, each once.
+/// Returns the frames of the tables above level one, each once if the tables are in the order of their frames.
 pub fn frames_above_level_one(
     alloc: Global,
     tables: &[Table],

@@ -1,4 +1,4 @@
-use Rattle.std.proofs.Common.{rules, ◌≡◌, ◌∙◌, ◌||◌, ◌++◌, IfOk, OnOk, true, false, inr, refl, sym, ap, subst, Err}
+use Rattle.std.proofs.Common.{rules, ◌≡◌, ◌∙◌, ◌||◌, ◌++◌, IfOk, OnOk, true, false, inl, inr, refl, sym, ap, subst, Err}
 use Rattle.std.proofs.KnownBytes.{Appends-trans}
 use Rattle.x86_64_dump.specs.Dump.{words_of_dump}
 use Rattle.x86_64_dump.specs.Opened.{opened}
@@ -9,7 +9,7 @@ use Rattle.ptdump_engine.specs.Steps.{InTurn, of_dump}
 use Rattle.std.specs.Io.KnownBytes.{Appends}
 use Rattle.ptdump_engine.specs.Output.{put_in}
 use Rattle.ptdump_engine.specs.private.Roots.{AreNoted}
-use Rattle.ptdump_engine.proofs.Results.{on_ok}
+use Rattle.ptdump_engine.proofs.Results.{if_err, on_ok}
 use Rattle.ptdump_engine.proofs.Wholly.{no_processors, no_start, opens, put_first, puts_both, runs_by, runs_on_all, shows, tells_of, unopened, written_at_once}
 use Rattle.ptdump_engine.proofs.engine.run.Goals as goal
 
@@ -211,3 +211,11 @@ returns-clause-notes g c = λ known.
     (subst (λ all. NotesAs false all request file (contents c.args.errors.now) (contents c.report_from.new.notes.writer.now)) (sym one) tables) in
     search (rules, noted))
     (c.report_from.ensures.totals known)
+
+-- ---- what the observer isn't told
+
+pub returns-then-is_of_processors-clause-untold : goal.returns-then-is_of_processors-clause-untold
+returns-then-is_of_processors-clause-untold g c = if_err c.report_on_processors.result (λ failure forced. inl forced) c.report_on_processors.ensures.errors
+
+pub returns-clause-untold : goal.returns-clause-untold
+returns-clause-untold g c = if_err c.report_from.result (λ failure forced. inl forced) c.report_from.ensures.errors

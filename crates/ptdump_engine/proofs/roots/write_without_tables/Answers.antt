@@ -11,4 +11,4 @@ pub returns : goal.returns
 returns g c =
     on_ok c.writeln.result (subst (Puts g.E.Destination.contents c.args.notes.now c.writeln.new.self)
     (sym (ap (λ text. codes "processor " ++ text) (in_five (decimal c.args.cpu) (codes " ") (mode_told c.args.mode) (codes ": it is left out") (10 ∷ [])))))
-    c.writeln.ensures
+    c.writeln.ensures.text

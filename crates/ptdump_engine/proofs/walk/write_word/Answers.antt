@@ -12,5 +12,5 @@ returns g c =
     let faults : faults_at c.args.controls c.args.read ≡ true = search (rules, c.faults_at.ensures) in
     on_ok c.writeln-2.result (λ put. subst (λ (b : Bool). Puts contents c.args.output.now c.writeln-2.new.self
     (line (word_text c.args.read) ++ (if b then line (codes "reserved bits: a processor faults here") else []))) (sym faults)
-    (puts_both contents c.args.output.now c.writeln.new.self c.writeln-2.new.self _ _ c.in_ok-writeln.ensures put))
-    c.writeln-2.ensures
+    (puts_both contents c.args.output.now c.writeln.new.self c.writeln-2.new.self _ _ c.in_ok-writeln.ensures.text put))
+    c.writeln-2.ensures.text
