@@ -8,7 +8,7 @@ use Rattle.ptdump_engine.specs.declared.request.Command.TheVariants.{Regions, Pa
 use Rattle.ptdump_engine.specs.declared.request.Form.{Form}
 use Rattle.ptdump_engine.specs.declared.request.Form.TheVariants.{Text, Json}
 use Rattle.x86_64_addr.specs.declared.level_count.Levels.{Levels}
-use Rattle.x86_64_addr.specs.declared.level_count.Levels.TheVariants.{Four, Five}
+use Rattle.ptdump_engine.specs.Start.{level_count}
 use Rattle.ptdump_engine.specs.declared.request.Request.{Request}
 use Rattle.ptdump_engine.specs.declared.failure.Failure.TheVariants.{OutOfMemory}
 use Rattle.ptdump.specs.Asked.{AreAsked, IsBits}
@@ -47,13 +47,9 @@ IsCommand name found Image = name ≡ codes "image"
 IsCommand name found Picture = name ≡ codes "picture"
 IsCommand name found Info = name ≡ codes "info"
 
-abbrev pub count : Levels → ℕ
-count Four = 4
-count Five = 5
-
 -- the number of levels is None if its text is missing, and is the number of its text otherwise
 abbrev pub IsLevels : (text : Option (List ℕ)) → Option Levels → Type 0
-IsLevels text levels = IsOption text (option_map count levels)
+IsLevels text levels = IsOption text (option_map level_count levels)
 
 abbrev pub is_json : Form → Bool
 is_json Text = false
