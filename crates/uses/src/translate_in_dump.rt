@@ -1,5 +1,5 @@
 //! Walks to an address in a dump.
-ghost use Rattle.std.specs.Prelude.{◌≡◌, None, Ok, IfErr, IfOk, option_map};
+ghost use Rattle.std.specs.Prelude.{◌≡◌, None, Ok, IfErr, IfOk, false, option_map};
 ghost use Rattle.x86_64_dump.specs.Dump.{Contents, words_of_dump};
 ghost use Rattle.x86_64_dump.specs.Opening.{Fails, contents_of};
 ghost use Rattle.x86_64_model.specs.PageWalk.{page_walk as walk};
@@ -19,7 +19,7 @@ pub fn walk_in_dump(
 ) -> Result<Option<Walked>, DumpError>
     ensures walk { IfOk result (λ walked. (dump : Contents) → contents_of file.now None ≡ Ok dump →
         option_map walked_of walked ≡ walk 4 (words_of_dump dump) root address) }
-    ensures errors { IfErr result (λ error. Fails error (contents_of file.now None)) }
+    ensures errors { IfErr result (λ error. Fails false error (contents_of file.now None)) }
 {
     let dump = Dump::open(alloc, file, None)?;
     let tables = read_tables::<FourLevels, _, _>(alloc, &dump, root, &mut NoProgress)?;
