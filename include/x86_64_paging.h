@@ -93,12 +93,14 @@
  * it may have cached, before what a call let go is used again. x64_flush_after tells it by this
  * table:
  *
- *   x64_unmap, x64_update_flags  the page (INVLPG of its first address), if the status is X64_OK
+ *   x64_unmap, x64_update_flags  the page (INVLPG of its first address), if the status is X64_OK,
+ *                                also before a smaller page is mapped there
  *   x64_unmap_range, x64_update_flags_range
  *                                each page that was looked at, or everything, global pages too, if
  *                                the status is X64_OK or X64_MORE
  *   x64_set_table_flags          everything, global pages too, if the status is X64_OK
- *   x64_clean_up                 tables (any INVLPG, or a load of CR3), before the next map, if the
+ *   x64_clean_up                 tables (any INVLPG, or a load of CR3), before the next map or
+ *                                x64_new_space, and before you take a free frame yourself, if the
  *                                status is X64_OK. If EFER.TCE is set (AMD), INVLPG isn't enough
  *   x64_map, x64_map_range       nothing; but everything, global pages too, if the parent flags
  *                                have X64_NO_EXECUTE, also if the call was refused, but not by
@@ -682,8 +684,9 @@ uint32_t x64_clean_up(const x64_hierarchy *hierarchy, x64_table *tables, size_t 
  *
  * A caller who knows more may flush less. Nothing has to be flushed after a map if x64_entries
  * reads the same entries above the page before the call and after it; nor after x64_update_flags if
- * the entry isn't 0, has each of X64_PRESENT, X64_WRITABLE and X64_USER_ACCESSIBLE that it had, and
- * hasn't got X64_NO_EXECUTE.
+ * the entry isn't 0, has each of X64_PRESENT, X64_WRITABLE, X64_USER_ACCESSIBLE, X64_ACCESSED and
+ * X64_DIRTY that it had, hasn't got X64_NO_EXECUTE, and has the bits 3, 4, 7, 8 and 59 to 62 as
+ * they were: caching, X64_GLOBAL and the protection key.
  */
 X64_NODISCARD
 uint32_t x64_flush_after(uint32_t call, uint64_t parent_flags, uint32_t status);

@@ -62,8 +62,8 @@ module _ (stay : SpacesStay) (halves : SharedHalvesStay) (below : CallsKeepBelow
           (λ same q s. ap (λ m. entry (paths (one laid_in m)) q) same)
           done);
       apart = λ spaces member are. kept_below (λ i. false) spaces member are (λ q s. let z : true ≡ false = sym s ∙ none_shared q in cc);
-      kernel = λ shared spaces member are entries spare. stay shared spaces one member mapping (omega (arith, high)) serves m n pool rest are keeps (⊎_elim
-          (λ led. root_stays shared one high no_flags take_back gives serves m n pool rest calls are_calls fits led entries spare)
+      kernel = λ shared spaces member are spare. stay shared spaces one member mapping (omega (arith, high)) serves m n pool rest are keeps (⊎_elim
+          (λ led. root_stays shared one high no_flags take_back gives serves m n pool rest calls are_calls fits led spare)
           (λ same i s. ap (λ m. entry (paths (one laid_in m)) (i ∷ [])) same)
           done);
     }

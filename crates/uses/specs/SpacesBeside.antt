@@ -1,8 +1,7 @@
 -- What calls on one address space leave of those beside it.
-use Rattle.std.specs.Prelude.{◌≡◌, ◌≢◌, ℕ, Bool, true, false, List, [], ◌∷◌}
+use Rattle.std.specs.Prelude.{◌≡◌, ◌≢◌, ℕ, Bool, false, List, [], ◌∷◌}
 use Rattle.std.specs.List.{AllByRecursion}
 use Rattle.x86_64_model.specs.Call.{Call}
-use Rattle.x86_64_model.specs.Entry.{used}
 use Rattle.x86_64_model.specs.Layout.{Layout}
 use Rattle.x86_64_model.specs.Lists.{In}
 use Rattle.x86_64_model.specs.Mapper.{◌laid_in◌, Hierarchy, paths}
@@ -26,7 +25,6 @@ pub record LeavesSpaces {Lent : Type 0} (one : Hierarchy Lent) (store : Store) (
   -- So too, whichever calls these are, if no index is shared.
   pub apart : (spaces : List Layout) → In spaces one.layout → AreSpaces (λ i. false) one.memory store.serves store.frames spaces
       → AreSpaces (λ i. false) n store.serves rest spaces × OthersStay spaces one.layout one.memory n
-  -- If the root's entries at the shared indices are used, and no call changes one, all are address spaces again.
+  -- If no call changes the root's entries at the shared indices, all are address spaces again.
   pub kernel : (shared : ℕ → Bool) (spaces : List Layout) → In spaces one.layout → AreSpaces shared one.memory store.serves store.frames spaces
-      → ((i : ℕ) → shared i ≡ true → used (entry (paths one) (i ∷ [])) ≡ true)
       → AllByRecursion (SparesRoot one.layout.levels shared (λ i. entry (paths one) (i ∷ []))) calls → AreSpaces shared n store.serves rest spaces

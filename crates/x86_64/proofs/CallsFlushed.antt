@@ -3,7 +3,7 @@ use Rattle.std.proofs.Common.{zero, suc, inl, inr, ◌≡◌, ◌++◌, ℕ, Boo
 use Rattle.std.proofs.lemmas.Bool.{and_from}
 use Rattle.std.proofs.lemmas.List.{append-nil}
 use Rattle.x86_64_model.specs.Call as machine
-use Rattle.x86_64_model.specs.Flushing.{Due, PageDue, TablesDue, WindowDue, AllDue, flush_after, if_accepted, if_allowed, if_window}
+use Rattle.x86_64_model.specs.Flushing.{Due, PageDue, TablesDue, WindowDue, BelowDue, flush_after, if_accepted, if_allowed, if_window, below_due}
 use Rattle.x86_64_model.specs.Lists.{In}
 use Rattle.x86_64_model.specs.Machine.{step}
 use Rattle.x86_64_model.specs.Mapper.{machine_of, state_in}
@@ -29,73 +29,76 @@ begins_taken (suc n) (i ∷ q) = and_from _ _ (eq-eqb i i refl) (begins_taken n 
 
 -- no page is due
 abbrev NoPage : List Due → Type 0
-NoPage due = (q : List ℕ) → In due (PageDue q) → ⊥
+NoPage due = (q : List ℕ) (frame : ℕ) → In due (PageDue q frame) → ⊥
 
 none_in_window : (small : Bool) (window : Option Window) → NoPage (cond small [] (if_window window))
-none_in_window true window q i = i
-none_in_window false None q i = i
-none_in_window false (Some w) q (inl e) = cc
-none_in_window false (Some w) q (inr i) = i
+none_in_window true window q frame i = i
+none_in_window false None q frame i = i
+none_in_window false (Some w) q frame (inl e) = cc
+none_in_window false (Some w) q frame (inr i) = i
 
-only_all : (b : Bool) → NoPage (cond b (AllDue ∷ []) [])
-only_all true q (inl e) = cc
-only_all true q (inr i) = i
-only_all false q i = i
+none_below : (window : Option Window) (r : List ℕ) → NoPage (below_due window r)
+none_below window r q frame (inl e) = cc
+none_below window r q frame (inr i) = none_in_window false window q frame i
+
+none_marked : (b : Bool) (window : Option Window) (r : List ℕ) → NoPage (cond b (below_due window r) [])
+none_marked true window r q frame i = none_below window r q frame i
+none_marked false window r q frame i = i
 
 allowed : (r : machine.Reply) (due : List Due) → NoPage due → NoPage (if_allowed r due)
-allowed machine.NotAllowed due none q i = i
-allowed (machine.Answered a) due none q i = none q i
-allowed (machine.Position t) due none q i = none q i
-allowed (machine.Address a) due none q i = none q i
-allowed machine.Cleaned due none q i = none q i
+allowed machine.NotAllowed due none q frame i = i
+allowed (machine.Answered a) due none q frame i = none q frame i
+allowed (machine.Position t) due none q frame i = none q frame i
+allowed (machine.Address a) due none q frame i = none q frame i
+allowed machine.Cleaned due none q frame i = none q frame i
 
 abbrev page_of_due : Due → List ℕ
-page_of_due (PageDue q) = q
+page_of_due (PageDue q frame) = q
 page_of_due TablesDue = []
 page_of_due WindowDue = []
-page_of_due AllDue = []
+page_of_due (BelowDue q) = []
 
 module _ (L : ℕ) (window : Option Window) (r : machine.Reply) where
-  accepted : (due : List Due) (page : ℕ) → InPages L due page → InPages L (if_accepted r due) page
-  accepted due page each q i = by r i
+  accepted : (due : ℕ → List Due) (page : ℕ) → ((f : ℕ) → InPages L (due f) page) → InPages L (if_accepted r due) page
+  accepted due page each q frame i = by r i
     where
-      by : (r : machine.Reply) → In (if_accepted r due) (PageDue q) → begins q (page_path L page) ≡ true
-      by (machine.Answered (Done f)) i = each q i
+      by : (r : machine.Reply) → In (if_accepted r due) (PageDue q frame) → begins q (page_path L page) ≡ true
+      by (machine.Answered (Done f)) i = each f q frame i
       by (machine.Answered (Refused why)) i = absurd i
       by machine.NotAllowed i = absurd i
       by (machine.Position t) i = absurd i
       by (machine.Address a) i = absurd i
       by machine.Cleaned i = absurd i
 
-  changed : (level page : ℕ) (small : Bool) → InPages L (PageDue (path_at L level page) ∷ cond small [] (if_window window)) page
-  changed level page small q (inl e) = subst (λ q. begins q (page_path L page) ≡ true) (ap page_of_due e) (begins_taken _ (page_path L page))
-  changed level page small q (inr i) = absurd (none_in_window small window q i)
+  changed : (level page f : ℕ) (small : Bool) → InPages L (PageDue (path_at L level page) f ∷ cond small [] (if_window window)) page
+  changed level page f small q frame (inl e) = subst (λ q. begins q (page_path L page) ≡ true) (ap page_of_due e) (begins_taken _ (page_path L page))
+  changed level page f small q frame (inr i) = absurd (none_in_window small window q frame i)
 
   in_page : (level : ℕ) (call : PageCall) → InPages L (flush_after L window (page_call L level call) r) (unwrap_or (page_of L call) 0)
-  in_page level (MapTo page frame flags) q i = absurd i
-  in_page level (MapToWithTableFlags page frame flags more) q i = absurd (allowed r _ (only_all _) q i)
-  in_page level (IdentityMap frame flags) q i = absurd i
-  in_page level (Unmap page) q i = accepted _ page (changed level page (is_small L (path_at L level page))) q i
-  in_page level (UpdateFlags page flags) q i = accepted _ page (changed level page (is_small L (path_at L level page))) q i
-  in_page level (SetFlags at page flags) q i = accepted _ page (λ q i. absurd (only_all true q i)) q i
-  in_page level (TranslatePage page) q i = absurd i
+  in_page level (MapTo page start flags) q frame i = absurd i
+  in_page level (MapToWithTableFlags page start flags more) q frame i = absurd (allowed r _ (none_marked _ window _) q frame i)
+  in_page level (IdentityMap start flags) q frame i = absurd i
+  in_page level (Unmap page) q frame i = accepted _ page (λ f. changed level page f (is_small L (path_at L level page))) q frame i
+  in_page level (UpdateFlags page flags) q frame i = accepted _ page (λ f. changed level page f (is_small L (path_at L level page))) q frame i
+  in_page level (SetFlags at page flags) q frame i = accepted _ page (λ f q frame i. absurd (none_below window _ q frame i)) q frame i
+  in_page level (TranslatePage page) q frame i = absurd i
 
   cleaned : NoPage (TablesDue ∷ if_window window)
-  cleaned q (inl e) = cc
-  cleaned q (inr i) = none_in_window false window q i
+  cleaned q frame (inl e) = cc
+  cleaned q frame (inr i) = none_in_window false window q frame i
 
   in_pages : (call : MapperCall) → InPages L (flush_after L window (machine_call L call) r) (unwrap_or (page_start L call) 0)
-  in_pages (Of4KiB call) q i = in_page 1 call q i
-  in_pages (Of2MiB call) q i = in_page 2 call q i
-  in_pages (Of1GiB call) q i = in_page 3 call q i
-  in_pages (Translate p) q i = absurd i
-  in_pages (TranslateAddr p) q i = absurd i
-  in_pages CleanUp q i = absurd (cleaned q i)
-  in_pages (CleanUpRange low high) q i = absurd (cleaned q i)
+  in_pages (Of4KiB call) q frame i = in_page 1 call q frame i
+  in_pages (Of2MiB call) q frame i = in_page 2 call q frame i
+  in_pages (Of1GiB call) q frame i = in_page 3 call q frame i
+  in_pages (Translate p) q frame i = absurd i
+  in_pages (TranslateAddr p) q frame i = absurd i
+  in_pages CleanUp q frame i = absurd (cleaned q frame i)
+  in_pages (CleanUpRange low high) q frame i = absurd (cleaned q frame i)
 
-  some_in_pages : (loses : Bool) (call : MapperCall) → InPages L (cond loses (flush_after L window (machine_call L call) r) []) (unwrap_or (page_start L call) 0)
-  some_in_pages true call q i = in_pages call q i
-  some_in_pages false call q i = absurd i
+  pub some_in_pages : (loses : Bool) (call : MapperCall) → InPages L (cond loses (flush_after L window (machine_call L call) r) []) (unwrap_or (page_start L call) 0)
+  some_in_pages true call q frame i = in_pages call q frame i
+  some_in_pages false call q frame i = absurd i
 
 -- ---- a call with its flush
 
@@ -111,7 +114,7 @@ arises_by_flushed_calls l take_back serves m n pool rest call reply loses is fit
     let p = unwrap_or (page_start l.levels call) 0 in
     let ready = arises_by_caching l take_back serves m pool [] before first arises early in
     let called : Arises l take_back serves n rest first (due ++ []) =
-    arises_by_calls l take_back serves m n pool rest first [] asked loses ready is (λ i. absurd i) kept_all fits (ap (λ (a : AfterStep Reply). a.state) stepped) free kept in
+    arises_by_calls l take_back serves m n pool rest first [] asked loses ready is (λ i. absurd i) (λ q r frame i. absurd i) kept_all fits (ap (λ (a : AfterStep Reply). a.state) stepped) free kept in
     let waiting = arises_by_caching l take_back serves n rest due first second (subst (λ due. Arises l take_back serves n rest first due) (append-nil due) called) late in
     let is_told : flush ≡ told due = tells l.window r refl (ap (λ (a : AfterStep Reply). a.reply) stepped) in
     subst (λ due. Arises l take_back serves n rest after due) (none_left (settles l.levels (executed (told due) p)) due ((flushes_settle l.levels due p).settled (some_in_pages l.levels l.window r loses call)))

@@ -1,12 +1,12 @@
 -- What has to be flushed after a call is told by its reply, settles all that is due, and is the least that does.
-use Rattle.std.proofs.Common.{◌≡◌, inl, inr, ◌<◌, ◌≤◌, ℕ, nat_lt, Bool, true, false, cond, List, [], ◌∷◌, Option, Some, None, option_map, Result, Err, refl, sym, ap, ◌∙◌, subst, arith, eq-eqb, ne_eqb}
+use Rattle.std.proofs.Common.{◌≡◌, inl, inr, ◌<◌, ◌≤◌, ℕ, nat_lt, Bool, true, false, cond, List, [], ◌∷◌, take, Option, Some, None, option_map, Result, Err, refl, sym, ap, ◌∙◌, subst, arith, eq-eqb, ne_eqb}
 use Rattle.std.specs.Option.{is_some}
 use Rattle.std.proofs.lemmas.Option.{same_Some}
 use Rattle.x86_64_model.specs.Call as machine
 use Rattle.x86_64_model.specs.Entry.{no_execute}
-use Rattle.x86_64_model.specs.Flushing.{Due, PageDue, TablesDue, WindowDue, AllDue, Invlpg, flush_after, if_window}
+use Rattle.x86_64_model.specs.Flushing.{Due, PageDue, TablesDue, WindowDue, BelowDue, Invlpg, flush_after, if_window, page_due, below_due}
 use Rattle.x86_64_model.specs.Lists.{In}
-use Rattle.x86_64_model.specs.Path.{begins, is_small, path_at}
+use Rattle.x86_64_model.specs.Path.{begins, front_at, is_small, path_at}
 use Rattle.x86_64_model.specs.Position.{page_path}
 use Rattle.x86_64_model.specs.Refusal.{Answer, Done, Refused}
 use Rattle.x86_64_model.specs.Window.{Window}
@@ -40,19 +40,24 @@ abbrev flush_where : {S : Type 0} → (takes_execute shown : Bool) → Option (S
 flush_where takes shown None = Nothing
 flush_where takes shown (Some answer) = page_flush takes shown answer
 
-marked : (b : Bool) → told (cond b (AllDue ∷ []) []) ≡ cond b Everything Nothing
-marked true = refl
-marked false = refl
+-- all items below a path are due
+below : (q : List ℕ) (window : Option Window) → told (below_due window q) ≡ Everything
+below q None = refl
+below q (Some w) = refl
+
+marked : (b : Bool) (q : List ℕ) (window : Option Window) → told (cond b (below_due window q) []) ≡ cond b Everything Nothing
+marked true q window = below q window
+marked false q window = refl
 
 cleaned : (window : Option Window) → told (TablesDue ∷ if_window window) ≡ cond (is_some window) Everything Tables
 cleaned None = refl
 cleaned (Some w) = refl
 
 -- a page's entry was changed
-changed : (q : List ℕ) (small : Bool) (window : Option Window) → told (PageDue q ∷ cond small [] (if_window window)) ≡ cond (cond small false (is_some window)) Everything Page
-changed q true window = refl
-changed q false None = refl
-changed q false (Some w) = refl
+changed : (q : List ℕ) (frame : ℕ) (small : Bool) (window : Option Window) → told (PageDue q frame ∷ cond small [] (if_window window)) ≡ cond (cond small false (is_some window)) Everything Page
+changed q frame true window = refl
+changed q frame false None = refl
+changed q frame false (Some w) = refl
 
 not_allowed : (L level : ℕ) (window : Option Window) (call : PageCall) → told (flush_after L window (page_call L level call) machine.NotAllowed) ≡ Nothing
 not_allowed L level window (MapTo page frame flags) = refl
@@ -76,22 +81,22 @@ module _ (S : Type 0) (L level : ℕ) (small : Bool) (is : (page : ℕ) → is_s
   abbrev shown : Bool
   shown = cond small false (is_some window)
 
-  changed_at : (page : ℕ) → told (PageDue (path_at L level page) ∷ cond (is_small L (path_at L level page)) [] (if_window window)) ≡ cond shown Everything Page
-  changed_at page = ap (λ b. told (PageDue (path_at L level page) ∷ cond b [] (if_window window))) (is page) ∙ changed (path_at L level page) small window
+  changed_at : (page frame : ℕ) → told (page_due L window (path_at L level page) frame) ≡ cond shown Everything Page
+  changed_at page frame = ap (λ b. told (PageDue (path_at L level page) frame ∷ cond b [] (if_window window))) (is page) ∙ changed (path_at L level page) frame small window
 
   answer_tells : (call : PageCall) (a : Answer) (o : Option (SizeReply S)) → size_answer call (machine.Answered a) ≡ Some o
       → told (flush_after L window (page_call L level call) (machine.Answered a)) ≡ flush_where (page_takes call) shown o
   answer_tells (MapTo page frame flags) (Done f) = by_answer shown false Nothing _ refl
   answer_tells (MapTo page frame flags) (Refused why) = by_refusal shown false Nothing size_reply.Map (map_error why) (λ w. refl)
-  answer_tells (MapToWithTableFlags page frame flags more) (Done f) = by_answer shown (no_execute more) _ _ (marked (no_execute more))
-  answer_tells (MapToWithTableFlags page frame flags more) (Refused why) = by_refusal shown (no_execute more) _ size_reply.Map (map_error why) (λ w. marked (no_execute more))
+  answer_tells (MapToWithTableFlags page frame flags more) (Done f) = by_answer shown (no_execute more) _ _ (marked (no_execute more) (take 1 (path_at L level page)) window)
+  answer_tells (MapToWithTableFlags page frame flags more) (Refused why) = by_refusal shown (no_execute more) _ size_reply.Map (map_error why) (λ w. marked (no_execute more) (take 1 (path_at L level page)) window)
   answer_tells (IdentityMap frame flags) (Done f) = by_answer shown false Nothing _ refl
   answer_tells (IdentityMap frame flags) (Refused why) = by_refusal shown false Nothing size_reply.Map (map_error why) (λ w. refl)
-  answer_tells (Unmap page) (Done f) = by_answer shown false _ _ (changed_at page)
+  answer_tells (Unmap page) (Done f) = by_answer shown false _ _ (changed_at page f)
   answer_tells (Unmap page) (Refused why) = by_refusal shown false Nothing size_reply.Unmap (unmap_error why) (λ w. refl)
-  answer_tells (UpdateFlags page flags) (Done f) = by_answer shown false _ _ (changed_at page)
+  answer_tells (UpdateFlags page flags) (Done f) = by_answer shown false _ _ (changed_at page f)
   answer_tells (UpdateFlags page flags) (Refused why) = by_refusal shown false Nothing size_reply.Update (update_error why) (λ w. refl)
-  answer_tells (SetFlags at page flags) (Done f) = by_answer shown false Everything _ refl
+  answer_tells (SetFlags at page flags) (Done f) = by_answer shown false _ _ (below (front_at L at (path_at L level page)) window)
   answer_tells (SetFlags at page flags) (Refused why) = by_refusal shown false Nothing size_reply.TableFlags (update_error why) (λ w. refl)
   answer_tells (TranslatePage page) (Done f) = by_answer shown false Nothing _ refl
   answer_tells (TranslatePage page) (Refused why) = by_refusal shown false Nothing size_reply.Frame (translate_error why) (λ w. refl)
@@ -179,45 +184,45 @@ told_at_least [] d i = absurd i
 told_at_least (e ∷ due) d (inl is) = subst (λ d. rank (told_of d) ≤ rank (told (e ∷ due))) is (larger_left (told_of e) (told due))
 told_at_least (e ∷ due) d (inr i) = let rest = told_at_least due d i in let right = larger_right (told_of e) (told due) in omega (arith, rest, right)
 
-settles_from : (L : ℕ) (f : Flush) (p : ℕ) (d : Due) → rank (told_of d) ≤ rank f → ((q : List ℕ) → d ≡ PageDue q → begins q (page_path L p) ≡ true) → settles L (executed f p) d ≡ true
-settles_from L Nothing p (PageDue q) r page = absurd (omega (arith, r))
+settles_from : (L : ℕ) (f : Flush) (p : ℕ) (d : Due) → rank (told_of d) ≤ rank f → ((q : List ℕ) (frame : ℕ) → d ≡ PageDue q frame → begins q (page_path L p) ≡ true) → settles L (executed f p) d ≡ true
+settles_from L Nothing p (PageDue q frame) r page = absurd (omega (arith, r))
 settles_from L Nothing p TablesDue r page = absurd (omega (arith, r))
 settles_from L Nothing p WindowDue r page = absurd (omega (arith, r))
-settles_from L Nothing p AllDue r page = absurd (omega (arith, r))
-settles_from L Tables p (PageDue q) r page = absurd (omega (arith, r))
+settles_from L Nothing p (BelowDue q) r page = absurd (omega (arith, r))
+settles_from L Tables p (PageDue q frame) r page = absurd (omega (arith, r))
 settles_from L Tables p TablesDue r page = refl
 settles_from L Tables p WindowDue r page = absurd (omega (arith, r))
-settles_from L Tables p AllDue r page = absurd (omega (arith, r))
-settles_from L Page p (PageDue q) r page = page q refl
+settles_from L Tables p (BelowDue q) r page = absurd (omega (arith, r))
+settles_from L Page p (PageDue q frame) r page = page q frame refl
 settles_from L Page p TablesDue r page = refl
 settles_from L Page p WindowDue r page = absurd (omega (arith, r))
-settles_from L Page p AllDue r page = absurd (omega (arith, r))
+settles_from L Page p (BelowDue q) r page = absurd (omega (arith, r))
 settles_from L Everything p d r page = refl
 
 rank_from : (L : ℕ) (f : Flush) (p : ℕ) (d : Due) → settles L (executed f p) d ≡ true → rank (told_of d) ≤ rank f
 rank_from L Nothing p d s = cc
-rank_from L Tables p (PageDue q) s = cc
+rank_from L Tables p (PageDue q frame) s = cc
 rank_from L Tables p TablesDue s = omega arith
 rank_from L Tables p WindowDue s = cc
-rank_from L Tables p AllDue s = cc
-rank_from L Page p (PageDue q) s = omega arith
+rank_from L Tables p (BelowDue q) s = cc
+rank_from L Page p (PageDue q frame) s = omega arith
 rank_from L Page p TablesDue s = omega arith
 rank_from L Page p WindowDue s = cc
-rank_from L Page p AllDue s = cc
-rank_from L Everything p (PageDue q) s = omega arith
+rank_from L Page p (BelowDue q) s = cc
+rank_from L Everything p (PageDue q frame) s = omega arith
 rank_from L Everything p TablesDue s = omega arith
 rank_from L Everything p WindowDue s = omega arith
-rank_from L Everything p AllDue s = omega arith
+rank_from L Everything p (BelowDue q) s = omega arith
 
 any_page : (L any : ℕ) (d : Due) → rank (told_of d) ≤ 1 → settles L (Some (Invlpg any)) d ≡ true
-any_page L any (PageDue q) r = absurd (omega (arith, r))
+any_page L any (PageDue q frame) r = absurd (omega (arith, r))
 any_page L any TablesDue r = refl
 any_page L any WindowDue r = absurd (omega (arith, r))
-any_page L any AllDue r = absurd (omega (arith, r))
+any_page L any (BelowDue q) r = absurd (omega (arith, r))
 
 pub flushes_settle : FlushesSettle
 flushes_settle L due p = record {
-  settled = λ within d i. settles_from L (told due) p d (told_at_least due d i) (λ q is. within q (subst (In due) is i));
+  settled = λ within d i. settles_from L (told due) p d (told_at_least due d i) (λ q frame is. within q frame (subst (In due) is i));
   tables = λ is any d i. any_page L any d (subst (λ f. rank (told_of d) ≤ rank f) is (told_at_least due d i));
 }
 

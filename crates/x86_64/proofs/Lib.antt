@@ -15,6 +15,7 @@ pub mod CallsFlushed
 pub mod Processors
 pub mod OneEntry
 pub mod SeveralProcessors
+pub mod SwitchingProcessors
 pub mod Offsets
 pub mod EmptyRoots
 pub mod CleanUpSteps

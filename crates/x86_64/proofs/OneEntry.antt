@@ -48,7 +48,18 @@ call_changes m s (TranslateAddress p) q is = cc
 call_changes m s (CleanUp low high) q is = cc
 
 nothing_lost : (e : ℕ) → used e ≡ true → LosesNothing e e
-nothing_lost e is = record { is_used = is; is_present = λ h. h; same_huge = refl; same_address = refl; write = λ h. h; user = λ h. h; execute = λ h. h }
+nothing_lost e is = record {
+  is_used = is;
+  is_present = λ h. h;
+  same_huge = refl;
+  same_address = refl;
+  same_kind = refl;
+  accessed = λ h. h;
+  dirty = λ h. h;
+  write = λ h. h;
+  user = λ h. h;
+  execute = λ h. h;
+}
 
 others_stay : (M N : PathMap) (q : List ℕ) → Changes M q N → (used (entry M q) ≡ true → LosesNothing (entry M q) (entry N q)) → (p : List ℕ) → used (entry M p) ≡ true → LosesNothing (entry M p) (entry N p)
 others_stay M N q (inl same) one p is = subst (λ N. LosesNothing (entry M p) (entry N p)) (sym same) (nothing_lost _ is)

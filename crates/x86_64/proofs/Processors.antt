@@ -3,7 +3,7 @@ use Rattle.std.proofs.Common.{◌≡◌, ℕ, Bool, List, [], ◌∷◌, ◌++�
 use Rattle.x86_64_model.specs.Caches.{Cached}
 use Rattle.x86_64_model.specs.Call.{Call, IsCall, parent_flags_of}
 use Rattle.x86_64_model.specs.Flushing as kernel
-use Rattle.x86_64_model.specs.Flushing.{Due, TablesDue, System, Event, Makes, Writes, Flushes, Changes, MayHappen, MayMake, AllMayHappen, after_event, after_events, flush_after, fresh}
+use Rattle.x86_64_model.specs.Flushing.{Due, PageDue, TablesDue, System, Event, Makes, Writes, Flushes, Changes, MayHappen, MayMake, AllMayHappen, after_event, after_events, flush_after, mapped_by, fresh}
 use Rattle.x86_64_model.specs.Layout.{Layout}
 use Rattle.x86_64_model.specs.Laws.Caches.{CachesInTurn, Happens}
 use Rattle.x86_64_model.specs.Laws.Steps.{FitsState}
@@ -11,6 +11,7 @@ use Rattle.x86_64_model.specs.Lists.{In}
 use Rattle.x86_64_model.specs.Machine.{Machine, State, step}
 use Rattle.x86_64_model.specs.Mapper.{◌laid_in◌, machine_of, state_in, PoolFits, words}
 use Rattle.x86_64_model.specs.Memory.{Memory, Words}
+use Rattle.x86_64_model.specs.Path.{is_below}
 use Rattle.x86_64_model.proofs.Lemmas.Caches.Runs.{flushes_are_enough}
 use Rattle.x86_64_model.proofs.Lemmas.Caches.Whole.{calls_may_happen}
 use Rattle.x86_64.specs.FlushesDue.{settles}
@@ -76,12 +77,13 @@ module _ (l : Layout) (take_back : List ℕ → ℕ → List ℕ) (serves : ℕ 
   -- ---- a call
 
   called : (m n : Memory) (pool rest : List ℕ) (cached : List Cached) (due : List Due) (call : Call) (loses : Bool) → As (system_in l m pool cached due) → IsCall l.levels call
-      → (In due TablesDue → parent_flags_of call ≡ None) → (loses ≡ false → NoneLoses machine (state_in l m pool) call) → PoolFits (l laid_in m) serves pool
+      → (In due TablesDue → parent_flags_of call ≡ None) → ((q r : List ℕ) (frame : ℕ) → In due (PageDue q frame) → mapped_by l.levels call ≡ Some r → is_below q r ≡ false)
+      → (loses ≡ false → NoneLoses machine (state_in l m pool) call) → PoolFits (l laid_in m) serves pool
       → (step machine (state_in l m pool) call).state ≡ state_in l n rest → KeepsFree l m pool (back_by machine (state_in l m pool) call) n rest → PoolFits (l laid_in n) serves rest
       → As (system_in l n rest cached (cond loses (flush_after l.levels l.window call (step machine (state_in l m pool) call).reply) [] ++ due))
-  called m n pool rest cached due call loses a is waits kept_all fits steps free kept =
+  called m n pool rest cached due call loses a is waits apart kept_all fits steps free kept =
       let now = system_in l m pool cached due in
-      let makes : MayMake machine now call loses = record { done = refl; is_call = is; kept = kept_all; waits = waits } in
+      let makes : MayMake machine now call loses = record { done = refl; is_call = is; kept = kept_all; waits = waits; apart = apart } in
       let made = one_more machine l.root serves now a (Makes call loses) makes in
       let after = step machine (state_in l m pool) call in
       let next = run_calls_are_events l take_back serves m n pool rest call steps free kept in
@@ -114,8 +116,8 @@ arises_by_caching l take_back serves m pool due before after a caches =
     from_now l take_back serves m pool after due (caches_in_turn l take_back serves m pool due before caches.0 after (to_now l take_back serves m pool before due a) caches.1)
 
 pub arises_by_calls : ArisesByCalls
-arises_by_calls l take_back serves m n pool rest cached due call loses a is waits kept_all fits steps free kept =
-    from_now l take_back serves n rest cached _ (called l take_back serves m n pool rest cached due call loses (to_now l take_back serves m pool cached due a) is waits kept_all fits steps free kept)
+arises_by_calls l take_back serves m n pool rest cached due call loses a is waits apart kept_all fits steps free kept =
+    from_now l take_back serves n rest cached _ (called l take_back serves m n pool rest cached due call loses (to_now l take_back serves m pool cached due a) is waits apart kept_all fits steps free kept)
 
 pub arises_by_flushes : ArisesByFlushes
 arises_by_flushes l take_back serves m pool due f before after a left =

@@ -2,7 +2,7 @@
 use Rattle.std.specs.Prelude.{◌≡◌, ◌≤◌, ℕ, nat_lt, Bool, true, false, cond, List, [], ◌∷◌, Option, Some, None, option_map}
 use Rattle.x86_64_model.specs.Call as machine
 use Rattle.x86_64_model.specs.Flushing as kernel
-use Rattle.x86_64_model.specs.Flushing.{Due, PageDue, TablesDue, WindowDue, AllDue, Invlpg, LoadCr3, FlushAll, flush_after}
+use Rattle.x86_64_model.specs.Flushing.{Due, PageDue, TablesDue, WindowDue, BelowDue, Invlpg, LoadCr3, FlushAll, flush_after}
 use Rattle.x86_64_model.specs.Lists.{In}
 use Rattle.x86_64_model.specs.Path.{begins}
 use Rattle.x86_64_model.specs.Position.{page_path}
@@ -14,10 +14,10 @@ use Rattle.x86_64.specs.declared.flushing.Flush.TheVariants.{Nothing, Tables, Pa
 
 -- the flush for one thing that is due
 abbrev pub told_of : Due → Flush
-told_of (PageDue q) = Page
+told_of (PageDue q frame) = Page
 told_of TablesDue = Tables
 told_of WindowDue = Everything
-told_of AllDue = Everything
+told_of (BelowDue q) = Everything
 
 -- how much a flush drops: INVLPG drops all items of tables, too
 abbrev pub rank : Flush → ℕ
@@ -57,7 +57,7 @@ settles L (Some f) due = kernel.settles L f due
 
 -- the position lies in each page that is due
 abbrev pub InPages : (L : ℕ) → List Due → (position : ℕ) → Type 0
-InPages L due p = (q : List ℕ) → In due (PageDue q) → begins q (page_path L p) ≡ true
+InPages L due p = (q : List ℕ) (frame : ℕ) → In due (PageDue q frame) → begins q (page_path L p) ≡ true
 
 -- The answer settles all that is due, in the pages that are. For tables INVLPG of any address does, too.
 pub record ToldSettles (L : ℕ) (due : List Due) (p : ℕ) : Type 0 where

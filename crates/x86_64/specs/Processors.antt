@@ -4,7 +4,7 @@ use Rattle.x86_64_model.specs.Caches.{Way, Cached, MayAccess, walk}
 use Rattle.x86_64_model.specs.Call.{Call, IsCall, parent_flags_of}
 use Rattle.x86_64_model.specs.Flushing as kernel
 use Rattle.x86_64_model.specs.Entry.{used}
-use Rattle.x86_64_model.specs.Flushing.{Due, TablesDue, Event, System, LosesNothing, flush_after, survives}
+use Rattle.x86_64_model.specs.Flushing.{Due, PageDue, TablesDue, Event, System, LosesNothing, flush_after, mapped_by, survives}
 use Rattle.x86_64_model.specs.Layout.{Layout}
 use Rattle.x86_64_model.specs.Laws.Caches.{CachesInTurn, Happens, WalksThere}
 use Rattle.x86_64_model.specs.Laws.Steps.{FitsState}
@@ -12,6 +12,7 @@ use Rattle.x86_64_model.specs.Lists.{In}
 use Rattle.x86_64_model.specs.Machine.{Machine, IsMachine, State, step}
 use Rattle.x86_64_model.specs.Mapper.{◌laid_in◌, machine_of, state_in, PoolFits, paths, words}
 use Rattle.x86_64_model.specs.Memory.{Memory, Words}
+use Rattle.x86_64_model.specs.Path.{is_below}
 use Rattle.x86_64_model.specs.PathMap.{entry}
 use Rattle.x86_64_model.specs.Window.{Window}
 use Rattle.x86_64.specs.Asked.{MapperCall, machine_call}
@@ -65,11 +66,12 @@ ArisesByCaching = (l : Layout) (take_back : List ℕ → ℕ → List ℕ) (serv
     → Arises l take_back serves m pool before due → CachesOften l.levels l.root (words (l laid_in m)) before after → Arises l take_back serves m pool after due
 
 -- A call as `run_call` ensures it makes due what the model says, or nothing if no used entry loses anything. No map may begin
--- while tables are due.
+-- while tables are due, and no map of a smaller page where a larger one is due.
 abbrev pub ArisesByCalls : Type 0
 ArisesByCalls = (l : Layout) (take_back : List ℕ → ℕ → List ℕ) (serves : ℕ → Bool) (m n : Memory) (pool rest : List ℕ) (cached : List Cached) (due : List Due) (call : Call) (loses : Bool)
     → let machine = machine_of l take_back in
-    Arises l take_back serves m pool cached due → IsCall l.levels call → (In due TablesDue → parent_flags_of call ≡ None) → (loses ≡ false → NoneLoses machine (state_in l m pool) call) → PoolFits (l laid_in m) serves pool
+    Arises l take_back serves m pool cached due → IsCall l.levels call → (In due TablesDue → parent_flags_of call ≡ None)
+    → ((q r : List ℕ) (frame : ℕ) → In due (PageDue q frame) → mapped_by l.levels call ≡ Some r → is_below q r ≡ false) → (loses ≡ false → NoneLoses machine (state_in l m pool) call) → PoolFits (l laid_in m) serves pool
     → (step machine (state_in l m pool) call).state ≡ state_in l n rest → KeepsFree l m pool (back_by machine (state_in l m pool) call) n rest → PoolFits (l laid_in n) serves rest
     → Arises l take_back serves n rest cached (cond loses (flush_after l.levels l.window call (step machine (state_in l m pool) call).reply) [] ++ due)
 

@@ -26,9 +26,10 @@ pub enum Flush {
     /// Nothing.
     Nothing,
     /// All cached tables: execute `INVLPG` of any address, or load CR3, on every processor that uses the root, before
-    /// the next map. If EFER.TCE is set (AMD), `INVLPG` isn't enough.
+    /// the next map or `new_space`. If EFER.TCE is set (AMD), `INVLPG` isn't enough.
     Tables,
-    /// The call's page: execute `INVLPG` of an address in it, on every processor that uses the root.
+    /// The call's page: execute `INVLPG` of an address in it, on every processor that uses the root, also before a smaller
+    /// page is mapped there.
     Page,
     /// Everything, global pages too, on every processor that uses the root: for example clear CR4.PGE and set it again.
     Everything,
@@ -122,8 +123,8 @@ pub fn flush_after<L: LevelCount, P5: LevelFiveFlags<L>>(
 /// Returns what has to be flushed after a call with this reply, if the caller knows whether a used entry loses anything:
 /// `Nothing` if none does, otherwise what [`flush_after`] returns.
 ///
-/// A used entry loses something if it becomes unused, leads elsewhere, or no longer grants what it granted, as
-/// [`loses`] tests for one entry.
+/// A used entry loses something if it becomes unused, leads elsewhere, is of another kind, loses a mark, or no longer grants
+/// what it granted, as [`loses`] tests for one entry.
 pub fn flush_after_change<L: LevelCount, P5: LevelFiveFlags<L>>(
     call: &CallIn<L, P5>,
     reply: &ReplyIn<L>,
@@ -139,6 +140,9 @@ pub fn flush_after_change<L: LevelCount, P5: LevelFiveFlags<L>>(
     }
 }
 
+/// The bits of an entry that say how it is cached, and its protection key: `WRITE_THROUGH`, `NO_CACHE`, `GLOBAL`, 59 to 62.
+const KIND_MASK: u64 = 0x7800_0000_0000_0118;
+
 /// Returns true if an entry has a flag that another lacks.
 ///
 /// Requires that the flag has none of the bits 12 to 51.
@@ -149,8 +153,9 @@ fn lacks(old: &PageTableEntry, new: &PageTableEntry, flag: PageTableFlags) -> bo
     has_flag(old, flag) & !has_flag(new, flag)
 }
 
-/// Returns true if a used entry loses something by becoming another: it becomes unused, leads elsewhere, or no longer
-/// grants what it granted (`PRESENT`, `WRITABLE`, `USER_ACCESSIBLE`, or the lack of `NO_EXECUTE`).
+/// Returns true if a used entry loses something by becoming another: it becomes unused, leads elsewhere, is of another kind
+/// (`WRITE_THROUGH`, `NO_CACHE`, `GLOBAL`, the protection key in bits 59 to 62), loses a mark (`ACCESSED`, `DIRTY`), or no
+/// longer grants what it granted (`PRESENT`, `WRITABLE`, `USER_ACCESSIBLE`, or the lack of `NO_EXECUTE`).
 ///
 /// If a call changes only entries that lose nothing, nothing has to be flushed after it.
 pub fn loses(old: &PageTableEntry, new: &PageTableEntry) -> bool
@@ -160,9 +165,12 @@ pub fn loses(old: &PageTableEntry, new: &PageTableEntry) -> bool
     let huge_differs = has_flag(old, PageTableFlags::HUGE_PAGE)
         != has_flag(new, PageTableFlags::HUGE_PAGE);
     let leads_elsewhere = new.is_unused() | (old.addr() != new.addr()) | huge_differs;
+    let is_other_kind = old.word() & KIND_MASK != new.word() & KIND_MASK;
+    let loses_mark = lacks(old, new, PageTableFlags::ACCESSED)
+        | lacks(old, new, PageTableFlags::DIRTY);
     let grants_less = lacks(old, new, PageTableFlags::PRESENT)
         | lacks(old, new, PageTableFlags::WRITABLE)
         | lacks(old, new, PageTableFlags::USER_ACCESSIBLE)
         | lacks(new, old, PageTableFlags::NO_EXECUTE);
-    !old.is_unused() & (leads_elsewhere | grants_less)
+    !old.is_unused() & (leads_elsewhere | is_other_kind | loses_mark | grants_less)
 }

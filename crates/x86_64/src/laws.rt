@@ -9,6 +9,7 @@ ghost use Rattle.x86_64.specs.PlacesStay.{PlacesStay, OffsetsFitStill};
 ghost use Rattle.x86_64.specs.Processors.{ArisesFirst, ArisesByCaching, ArisesByCalls, ArisesByFlushes, ArisesByFlushedCalls, FlushedAccessesGo};
 ghost use Rattle.x86_64.specs.RangeFlushes.{RangeFlushesSuffice};
 ghost use Rattle.x86_64.specs.SeveralProcessors.{EachIsFlushed, AllSeeTheSame};
+ghost use Rattle.x86_64.specs.SwitchingProcessors.{ReachedFirst, ReachedByEvents, ReachedByCalls, ReachedByFlushes, ReachedByFlushedCalls, ReachedAccessesGo};
 ghost use Rattle.x86_64.specs.ToldReplies.{RepliesTell};
 
 /// A reply determines the machine's reply to the call, for any number of levels, except for the frame in the
@@ -54,7 +55,8 @@ pub fn flushes_settle_what_is_due()
 /// Beside a processor that caches at any moment between calls: what [`run_call`](crate::run_call) ensures of a call, and
 /// then the flush that [`flush_after`](crate::flushing::flush_after) returns, leave nothing due, and then each access goes
 /// with the page walk, with no right more. So this holds after any calls with their flushes, from empty caches on. Several
-/// calls may come before one flush, if tables are flushed before the next map.
+/// calls may come before one flush, if tables are flushed before the next map, and a large page before a smaller one is
+/// mapped there.
 pub fn flushed_calls_leave_no_stale_item()
     ensures first { ArisesFirst }
     ensures caching { ArisesByCaching }
@@ -69,6 +71,20 @@ pub fn flushed_calls_leave_no_stale_item()
 pub fn several_processors_are_flushed_each()
     ensures each { EachIsFlushed }
     ensures same { AllSeeTheSame }
+{}
+
+/// The same beside a processor that switches between address spaces of one memory, with loads of CR3, PCIDs and global pages,
+/// and marks entries: what [`run_call`](crate::run_call) ensures of a call on one of them, and then the flush that
+/// [`flush_after`](crate::flushing::flush_after) returns, leave nothing due, if the kernel gives up each other PCID that holds a
+/// root that the call reaches: the next load of CR3 with this PCID keeps no items. If nothing is due, each access goes with the
+/// page walk from the current root, with no right more.
+pub fn flushed_calls_leave_no_stale_item_of_a_space()
+    ensures first { ReachedFirst }
+    ensures events { ReachedByEvents }
+    ensures calls { ReachedByCalls }
+    ensures flushes { ReachedByFlushes }
+    ensures both { ReachedByFlushedCalls }
+    ensures accesses { ReachedAccessesGo }
 {}
 
 /// If the entry that `update_flags` or a change of a table's flags writes loses nothing, as

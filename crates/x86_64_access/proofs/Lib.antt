@@ -5,5 +5,6 @@ mod Marks
 mod MarkedHierarchies
 mod MarkedCaches
 mod MarkingProcessors
+mod SwitchingMarks
 mod RightsTable
 mod Corners

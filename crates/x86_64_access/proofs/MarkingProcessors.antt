@@ -3,8 +3,8 @@ use Rattle.std.proofs.Common.{◌≡◌, inl, inr, ◌<◌, ◌+◌, ◌%◌, �
 use Rattle.std.proofs.lemmas.Option.{same_Some}
 use Rattle.x86_64_model.specs.Arrivals.{NoWorse}
 use Rattle.x86_64_model.specs.Caches.{Cached, Page, Table, Way, MayAccess, walk, walked_in}
-use Rattle.x86_64_model.specs.Entry.{present}
-use Rattle.x86_64_model.specs.Flushing.{AllDue, Due, IsDone, PageDue, System, TablesDue, WindowDue, after_event, concerns, fresh}
+use Rattle.x86_64_model.specs.Entry.{LeadAlike, present}
+use Rattle.x86_64_model.specs.Flushing.{BelowDue, Due, IsDone, PageDue, System, TablesDue, WindowDue, after_event, concerns, fresh, loosens}
 use Rattle.x86_64_model.specs.Hierarchy.{IsValid, paths_of}
 use Rattle.x86_64_model.specs.Laws.Caches.{WalksThere}
 use Rattle.x86_64_model.specs.Laws.Steps.{FitsState}
@@ -13,13 +13,13 @@ use Rattle.x86_64_model.specs.Machine.{IsMachine, Machine, State}
 use Rattle.x86_64_model.specs.Memory.{Words, word}
 use Rattle.x86_64_model.specs.PageWalk.{Walked, page_walk}
 use Rattle.x86_64_model.specs.Path.{level_of}
-use Rattle.x86_64_model.specs.PathMap.{HasUsedAlone, PathMap, entry, table_at, table_of}
+use Rattle.x86_64_model.specs.PathMap.{HasUsedAlone, PathMap, entry, table_at}
 use Rattle.x86_64_model.specs.Pool.{IsOwn}
 use Rattle.x86_64_model.specs.Position.{page_path, span}
 use Rattle.x86_64_model.specs.Window.{IsValidFor, SelfEntry, Window, begins_with, entry_at, outside_window, windowed}
-use Rattle.x86_64_model.proofs.Lemmas.Caches.Agrees.{Agrees, leads}
-use Rattle.x86_64_model.proofs.Lemmas.Caches.Kept.{Kept, agrees_kept, kept_same}
-use Rattle.x86_64_model.proofs.Lemmas.Caches.Runs.{event_safe, fresh_safe, goes, reads_tables}
+use Rattle.x86_64_model.proofs.Lemmas.Caches.Items as items
+use Rattle.x86_64_model.proofs.Lemmas.Caches.Kept.{LooseAt}
+use Rattle.x86_64_model.proofs.Lemmas.Caches.Runs.{event_safe, fresh_safe, goes, reads_tables, stale_or_not, unreached}
 use Rattle.x86_64_model.proofs.Lemmas.Caches.Safe.{IsSafe, Safe}
 use Rattle.x86_64_model.proofs.Lemmas.Caches.Walks.{walks_with_rights}
 use Rattle.x86_64_model.proofs.Lemmas.Caches.Windowed.{AsBefore, Becomes, HasWindow, Made, Marked, Reflagged, Remapped, Removed}
@@ -27,6 +27,7 @@ use Rattle.x86_64_model.proofs.Lemmas.Entries.Bits.{zero_absent}
 use Rattle.x86_64_model.proofs.Lemmas.Hierarchies.Exists.{held_is_paths_of}
 use Rattle.x86_64_model.proofs.Lemmas.Hierarchies.Trees.{IsHierarchy}
 use Rattle.x86_64_model.proofs.Lemmas.Machines.States.{Aside, IsSound}
+use Rattle.x86_64_model.proofs.Lemmas.Switches.Marks.{becomes_marked, item_marked}
 use Rattle.x86_64_access.specs.Marks.{GetsMarks, OnlyMarks, window_in}
 use Rattle.x86_64_access.specs.MarkingProcessors.{AllMarkingMayHappen, FlushesAreEnoughWithMarks, IsCovered, IsReached, MarkingEvent, MarkingMayHappen, Marks, MarksMayHappen, MayMark, Other, after_all_marking, after_marking, held_by, machine_in}
 use Rattle.x86_64_access.proofs.MarkedHierarchies.{entries_marked, outside_marked, same_table_of, same_used, self_still, valid_still}
@@ -35,30 +36,21 @@ use Rattle.x86_64_access.proofs.Marks.{same_address, same_has}
 -- ---- one entry
 
 -- an absent entry gets no marks
-zero_stays : (e g : ℕ) → GetsMarks e g → e ≡ 0 → g ≡ 0
+pub zero_stays : (e g : ℕ) → GetsMarks e g → e ≡ 0 → g ≡ 0
 zero_stays e g (inl same) z = same ∙ z
 zero_stays e g (inr (here, bits, marks, is)) z = absurd (true≢false (sym here ∙ ap present z ∙ zero_absent))
 
--- marks of both keep what is kept
-kept_marked : (e f e' f' : ℕ) → GetsMarks e e' → GetsMarks f f' → (present e ≡ true → Kept e f) → present e' ≡ true → Kept e' f'
-kept_marked e f e' f' x y k here = let kept = k (sym (same_has e e' 0x1 x refl) ∙ here) in record {
-  is_present = same_has f f' 0x1 y refl ∙ kept.is_present;
-  same_huge = same_has f f' 0x80 y refl ∙ kept.same_huge ∙ sym (same_has e e' 0x80 x refl);
-  same_address = same_address f f' y ∙ kept.same_address ∙ sym (same_address e e' x);
-  grants = λ r h. let g = kept.grants r (record {
-    write = λ w. sym (same_has e e' 0x2 x refl) ∙ h.write w;
-    user = λ u. sym (same_has e e' 0x4 x refl) ∙ h.user u;
-    execute = λ n. sym (same_has e e' 0x8000_0000_0000_0000 x refl) ∙ h.execute n;
-  }) in record {
-    write = λ w. same_has f f' 0x2 y refl ∙ g.write w;
-    user = λ u. same_has f f' 0x4 y refl ∙ g.user u;
-    execute = λ n. same_has f f' 0x8000_0000_0000_0000 y refl ∙ g.execute n;
-  };
+-- what gets marks leads where it led, with the same rights
+pub alike : (e g : ℕ) → GetsMarks e g → LeadAlike e g
+alike e g gets = record {
+  same_used = same_used e g gets;
+  same_present = same_has e g 0x1 gets refl;
+  same_huge = same_has e g 0x80 gets refl;
+  same_address = same_address e g gets;
+  same_write = same_has e g 0x2 gets refl;
+  same_user = same_has e g 0x4 gets refl;
+  same_execute = same_has e g 0x8000_0000_0000_0000 gets refl;
 }
-
--- a present entry with marks is kept
-kept_with_marks : (e g : ℕ) → GetsMarks e g → present e ≡ true → Kept e g
-kept_with_marks e g gets here = kept_marked e e e g (inl refl) gets (λ h. kept_same e e h refl) here
 
 one_of_two : (b : Bool) (x y x' y' : ℕ) → GetsMarks x x' → GetsMarks y y' → GetsMarks (cond b x y) (cond b x' y')
 one_of_two true x y x' y' h k = h
@@ -76,12 +68,12 @@ same_begins (Some a) U root [] = refl
 same_begins (Some a) U root (i ∷ q) = refl
 
 same_concerns : (L : ℕ) (v : Option Window) (U : Words) (root : ℕ) (due : Due) (p : ℕ) → concerns L (window_in U root v) due p ≡ concerns L v due p
-same_concerns L v U root (PageDue q) p = refl
+same_concerns L v U root (PageDue q frame) p = refl
 same_concerns L v U root TablesDue p = refl
 same_concerns L v U root WindowDue p = same_begins v U root (page_path L p)
-same_concerns L v U root AllDue p = refl
+same_concerns L v U root (BelowDue q) p = refl
 
-same_outside : (v : Option Window) (U T : Words) (root : ℕ) → outside_window (window_in U root v) root T ≡ outside_window v root T
+pub same_outside : (v : Option Window) (U T : Words) (root : ℕ) → outside_window (window_in U root v) root T ≡ outside_window v root T
 same_outside None U T root = refl
 same_outside (Some a) U T root = refl
 
@@ -89,7 +81,7 @@ again : (v : Option Window) (T U : Words) (root : ℕ) → window_in U root (win
 again None T U root = refl
 again (Some a) T U root = refl
 
-own_self : (v : Option Window) (T : Words) (root : ℕ) → SelfEntry T root v → v ≡ window_in T root v
+pub own_self : (v : Option Window) (T : Words) (root : ℕ) → SelfEntry T root v → v ≡ window_in T root v
 own_self None T root self = refl
 own_self (Some a) T root self = ap (λ x. Some (record { index = a.index; self_entry = x })) self.is_word
 
@@ -104,7 +96,7 @@ module _ (T U : Words) (root : ℕ) (only : OnlyMarks T U) (M N : PathMap) (gets
     through (i ∷ []) = one_of_two (i == a.index) _ _ _ _ self_marked (gets (i ∷ []))
     through (i ∷ j ∷ q) = one_of_two (i == a.index) _ _ _ _ (through (j ∷ q)) (gets (i ∷ j ∷ q))
 
-  seen_marked : (v : Option Window) → SelfEntry T root v → (q : List ℕ) → GetsMarks (entry_at v M q) (entry_at (window_in U root v) N q)
+  pub seen_marked : (v : Option Window) → SelfEntry T root v → (q : List ℕ) → GetsMarks (entry_at v M q) (entry_at (window_in U root v) N q)
   unfolding entry_at
   seen_marked None self q = gets q
   seen_marked (Some a) self q = through a self.is_word q
@@ -116,7 +108,7 @@ module _ (L root : ℕ) (M N : PathMap) (gets : (q : List ℕ) → GetsMarks (en
   same_table [] = refl
   same_table (i ∷ q) = same_table_of L (i ∷ q) (entry M (i ∷ q)) (entry N (i ∷ q)) (gets (i ∷ q))
 
-  led : (q : List ℕ) (f : ℕ) → table_at L root N q ≡ Some f → table_at L root M q ≡ Some f
+  pub led : (q : List ℕ) (f : ℕ) → table_at L root N q ≡ Some f → table_at L root M q ≡ Some f
   led q f t = sym (same_table q) ∙ t
 
   hierarchy_marked : HasUsedAlone N → IsHierarchy L root M → IsHierarchy L root N
@@ -135,7 +127,7 @@ module _ (L root : ℕ) (M N : PathMap) (gets : (q : List ℕ) → GetsMarks (en
   aside_marked None U a = tt
   aside_marked (Some w) U a = zero_stays _ _ (gets (w.index ∷ [])) a
 
-  own_before : (pool : List ℕ) (f : ℕ) → IsOwn L root N pool f → IsOwn L root M pool f
+  pub own_before : (pool : List ℕ) (f : ℕ) → IsOwn L root N pool f → IsOwn L root M pool f
   own_before pool f (inl free) = inl free
   own_before pool f (inr (q, t)) = inr (q, led q f t)
 
@@ -153,18 +145,35 @@ module _ (L root : ℕ) (M N : PathMap) (gets : (q : List ℕ) → GetsMarks (en
     served = λ f own. sound.served f (own_before pool f own);
   }
 
--- ---- how an entry changes, after marks of what it is and of what it becomes
+-- ---- the index of the window decides, whatever its self-entry is
 
-module _ (L : ℕ) (v w : Option Window) (due : List Due) (had : HasWindow v due → HasWindow w due) (pool q : List ℕ) where
-  becomes_marked : (e f e' f' : ℕ) → GetsMarks e e' → GetsMarks f f' → Becomes L v due pool q e f → Becomes L w due pool q e' f'
-  becomes_marked e f e' f' x y (AsBefore is) = Marked (kept_marked e f e' f' x y (λ h. kept_same e f h is))
-      (same_table_of L q f f' y ∙ ap (table_of L q) is ∙ sym (same_table_of L q e e' x))
-  becomes_marked e f e' f' x y (Made u) = Made (same_used e e' x ∙ u)
-  becomes_marked e f e' f' x y (Marked k same) = Marked (kept_marked e f e' f' x y k)
-      (same_table_of L q f f' y ∙ same ∙ sym (same_table_of L q e e' x))
-  becomes_marked e f e' f' x y (Remapped none d h) = Remapped (same_table_of L q e e' x ∙ none) d (λ l. had (h l))
-  becomes_marked e f e' f' x y (Reflagged same d) = Reflagged (same_table_of L q f f' y ∙ same ∙ sym (same_table_of L q e e' x)) d
-  becomes_marked e f e' f' x y (Removed z d h g names free) = Removed (zero_stays f f' y z) d (had h) g (same_table_of L q e e' x ∙ names) free
+becomes_seen : (L : ℕ) (v w : Option Window) (due : List Due) (pool q : List ℕ) (e f : ℕ) → (HasWindow v due → HasWindow w due)
+    → Becomes L v due pool q e f → Becomes L w due pool q e f
+becomes_seen L v w due pool q e f had (AsBefore is) = AsBefore is
+becomes_seen L v w due pool q e f had (Made u) = Made u
+becomes_seen L v w due pool q e f had (Marked k same) = Marked k same
+becomes_seen L v w due pool q e f had (Remapped none d h) = Remapped none d (λ l. had (h l))
+becomes_seen L v w due pool q e f had (Reflagged same r d b h) = Reflagged same r d b (had h)
+becomes_seen L v w due pool q e f had (Removed z d h g names free) = Removed z d (had h) g names free
+
+module _ (v : Option Window) (U : Words) (root : ℕ) (due : List Due) where
+  loosens_still : (d : Due) (x : List ℕ) → loosens v d x ≡ true → loosens (window_in U root v) d x ≡ true
+  loosens_still (PageDue q frame) x l = l
+  loosens_still TablesDue x l = l
+  loosens_still WindowDue x l = same_begins v U root x ∙ l
+  loosens_still (BelowDue q) x l = l
+
+  loose_still : (x : List ℕ) → LooseAt v due x → LooseAt (window_in U root v) due x
+  loose_still x (d, i, l) = (d, i, loosens_still d x l)
+
+  -- an item is safe still
+  safe_seen : (L : ℕ) (pool : List ℕ) (T : Words) (E : List ℕ → ℕ) (c : Cached) → items.Safe L root v due pool T E c → items.Safe L root (window_in U root v) due pool T E c
+  safe_seen L pool T E c (inl a) = inl a
+  safe_seen L pool T E (Table t) (inr (inl x)) = inr (inl x)
+  safe_seen L pool T E (Table t) (inr (inr x)) = inr (inr (loose_still t.path x.0, x.1))
+  safe_seen L pool T E (Page w) (inr (inl (f, inl d, there))) = inr (inl (f, inl d, there))
+  safe_seen L pool T E (Page w) (inr (inl (f, inr d, there))) = inr (inl (f, inr (d.0, same_begins v U root w.path ∙ d.1), there))
+  safe_seen L pool T E (Page w) (inr (inr x)) = inr (inr (loose_still w.path x.0, x.1))
 
 -- ---- marks
 
@@ -207,31 +216,21 @@ module _ (m : Machine) (levels : 0 < m.levels) (root : ℕ) (serves : ℕ → Bo
     self = self_still m.window root s.words U only safe.valid.self;
   }
 
-  leads_still : (q : List ℕ) (f : ℕ) → leads L root (entry_at m.window M) q ≡ Some f → leads L root (entry_at marked.window N) q ≡ Some f
-  leads_still [] f t = t
-  leads_still (i ∷ q) f t = same_table_of L (i ∷ q) _ _ (seen (i ∷ q)) ∙ t
-
-  agrees_still : (c : Cached) → Agrees L root (entry_at m.window M) c → Agrees L root (entry_at marked.window N) c
-  agrees_still c a = agrees_kept L root (entry_at m.window M) (entry_at marked.window N) c a (λ i q b here. kept_with_marks _ _ (seen (i ∷ q)) here)
-
   module _ (called : PathMap) (may : MayMark s called U) where
     abbrev after : System
     after = after_marking m root s (Marks called U)
 
     item_safe : (c : Cached) → Safe m root s c → Safe marked root after c
-    item_safe (Table t) (inl a) = inl (agrees_still (Table t) a)
-    item_safe (Table t) (inr (inl x)) = inr (inl (x.0, x.1, λ i. zero_stays _ _ (only.words t.frame i) (x.2 i)))
-    item_safe (Table t) (inr (inr x)) = inr (inr (x.0, leads_still t.path t.frame x.1))
-    item_safe (Page w) (inl a) = inl (agrees_still (Page w) a)
-    item_safe (Page w) (inr (inl (inl d))) = inr (inl (inl d))
-    item_safe (Page w) (inr (inl (inr x))) = inr (inl (inr (x.0, same_begins m.window U root w.path ∙ x.1)))
-    item_safe (Page w) (inr (inr d)) = inr (inr d)
+    item_safe c x = safe_seen m.window U root s.due L s.state.pool U (entry_at marked.window N) c
+        (item_marked L root m.window s.due s.state.pool s.words U (entry_at m.window M) (entry_at marked.window N)
+        (λ q. alike _ _ (seen q)) (λ f zeros i. zero_stays _ _ (only.words f i) (zeros i)) c x)
 
     pub marks_safe : IsSafe marked root serves after
     marks_safe = record {
       sound = sound_marked L root s.state.paths called may.paths m.window U serves s.state.pool may.used_alone safe.sound;
       valid = valid_marked;
-      moves = λ q. becomes_marked L m.window marked.window s.due (window_had m.window U root s.due) s.state.pool q _ _ _ _ (gets q) (may.paths q) (safe.moves q);
+      moves = λ q. becomes_seen L m.window marked.window s.due s.state.pool q _ _ (window_had m.window U root s.due)
+          (becomes_marked L m.window s.due s.state.pool q _ _ _ _ (alike _ _ (gets q)) (alike _ _ (may.paths q)) (safe.moves q));
       items = λ c i. item_safe c (safe.items c i);
     }
 
@@ -286,6 +285,8 @@ module _ (m : Machine) (is : IsMachine m) (levels : 0 < m.levels) (root : ℕ) (
               user_kept = there.4.user;
             },
           );
+      stale = stale_or_not (machine_in s.words root m) (is_machine s.words) levels root serves s safe;
+      let_go = unreached (machine_in s.words root m) (is_machine s.words) levels root serves s safe;
       reads = reads_tables (machine_in s.words root m) (is_machine s.words) levels root serves s safe;
     }
 

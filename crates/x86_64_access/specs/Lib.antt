@@ -4,6 +4,7 @@ pub mod Accesses
 pub mod Laws
 pub mod Marks
 pub mod MarkingProcessors
+pub mod SwitchingMarks
 pub mod RightsTable
 pub mod Corners
 pub mod private

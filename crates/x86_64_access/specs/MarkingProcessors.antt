@@ -1,10 +1,10 @@
 -- A processor that sets ACCESSED and DIRTY, and caches, while a kernel makes calls and flushes: what has to be flushed suffices.
-use Rattle.std.specs.Prelude.{◌≡◌, ◌⊎◌, ◌<◌, ℕ, Bool, false, List, [], ◌∷◌, Some, IsSome}
+use Rattle.std.specs.Prelude.{◌≡◌, ◌≢◌, ◌⊎◌, ◌<◌, ℕ, Bool, false, List, [], ◌∷◌, Some, IsSome}
 use Rattle.x86_64_model.specs.Arrivals.{KeepsArrival}
 use Rattle.x86_64_model.specs.Caches.{Way, MayAccess, MayRead, walk, walked_in}
 use Rattle.x86_64_model.specs.Flushing.{Due, Event, HasZeros, IsDone, MayHappen, System, TablesDue, after_event, concerns, fresh}
 use Rattle.x86_64_model.specs.Hierarchy.{paths_of}
-use Rattle.x86_64_model.specs.Laws.Caches.{WalksThere}
+use Rattle.x86_64_model.specs.Laws.Caches.{IsLetGo, IsStale, WalksThere}
 use Rattle.x86_64_model.specs.Laws.Steps.{FitsState}
 use Rattle.x86_64_model.specs.Lists.{In}
 use Rattle.x86_64_model.specs.Machine.{IsMachine, Machine, State}
@@ -12,7 +12,7 @@ use Rattle.x86_64_model.specs.Memory.{Words}
 use Rattle.x86_64_model.specs.PageWalk.{page_walk}
 use Rattle.x86_64_model.specs.PathMap.{HasUsedAlone, PathMap, entry}
 use Rattle.x86_64_model.specs.Pool.{IsTable}
-use Rattle.x86_64_model.specs.Window.{outside_window}
+use Rattle.x86_64_model.specs.Window.{entry_at, outside_window}
 use Rattle.x86_64_access.specs.Marks.{GetsMarks, OnlyMarks, window_in}
 
 -- ---- a kernel and a processor
@@ -66,13 +66,19 @@ pub record IsReached (m : Machine) (root : ℕ) (T : Words) (s : State) (events 
 -- ---- laws
 
 -- What holds at a moment. Each access at a position (the number of an address counted without the gap) goes with the page walk in the
--- present words, if nothing that is due concerns the position. So the page walk arrives at the same address, with no right less. And the
--- processor reads only words of tables of the hierarchy, and until a clean up is flushed words 0 of frames that it freed.
+-- present words, if nothing that is due concerns the position. So the page walk arrives at the same address, with no right less. While
+-- something is due, it goes there, or to a page that is due, as it was. So no access reaches an address that was let go, and whose
+-- pages were flushed since. And the processor reads only words of tables of the hierarchy, and until a clean up is flushed words 0 of
+-- frames that it freed.
 pub record IsCovered (m : Machine) (root : ℕ) (now : System) : Type 0 where
   pub goes : (p : ℕ) → ((due : Due) → In now.due due → concerns m.levels m.window due p ≡ false)
       → (w : Way) → MayAccess m.levels root now.words now.cache p w → WalksThere (walk m.levels now.words root p) w
   pub arrives : (p : ℕ) → ((due : Due) → In now.due due → concerns m.levels m.window due p ≡ false)
       → (w : Way) → MayAccess m.levels root now.words now.cache p w → KeepsArrival (Some (walked_in m.levels p w)) (page_walk m.levels now.words root p)
+  pub stale : (p : ℕ) (w : Way) → MayAccess m.levels root now.words now.cache p w → let window = window_in now.words root m.window in
+      WalksThere (walk m.levels now.words root p) w ⊎ IsStale m.levels window now.due (entry_at window now.paths) w
+  pub let_go : (address : ℕ) → (let window = window_in now.words root m.window in IsLetGo m.levels window now.due (entry_at window now.paths) address)
+      → (p : ℕ) (w : Way) → MayAccess m.levels root now.words now.cache p w → (walked_in m.levels p w).address ≢ address
   pub reads : (t : Way) → MayRead root now.cache t
       → (IsTable m.levels root now.paths t.frame × IsSome (now.words t.frame)) ⊎ (In now.due TablesDue × In now.state.pool t.frame × HasZeros now.words t.frame)
 

@@ -3,6 +3,7 @@ ghost use Rattle.x86_64_access.specs.Corners.{MissingEntriesFault, NoExecuteIsRe
 ghost use Rattle.x86_64_access.specs.MarkingProcessors.{FlushesAreEnoughWithMarks, MarksMayHappen};
 ghost use Rattle.x86_64_access.specs.Marks.{AccessesLeaveMarks, AccessesStay, CachesStay, FitsStay, WalksStay};
 ghost use Rattle.x86_64_access.specs.RightsTable.{CodesAreListed, RightsAreListed};
+ghost use Rattle.x86_64_access.specs.SwitchingMarks.{MarksMaySwitch};
 ghost use Rattle.x86_64_access.specs.Laws.{ArriveWhereWalksDo, WalksAllowedArrive};
 
 /// An access that arrives does so where the page walk does.
@@ -53,6 +54,12 @@ pub fn flushes_are_enough_with_marks()
 /// If all calls are done, any marks may happen, and then all calls are done.
 pub fn marks_may_happen()
     ensures { MarksMayHappen }
+{}
+
+/// Marks of address spaces may happen while no call is under way, beside a processor that switches between them, and leave
+/// these address spaces. The self-entries, and the roots' entries at the indices that roots share, have their marks before.
+pub fn marks_of_address_spaces_may_happen()
+    ensures { MarksMaySwitch }
 {}
 
 /// An access is allowed if and only if the table of rights says so, which lists all cases.

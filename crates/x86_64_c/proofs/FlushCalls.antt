@@ -1,14 +1,14 @@
 -- What is due after each call is what the rule of flushes says by the status.
-use Rattle.std.proofs.Common.{◌≡◌, ◌≤◌, ◌==◌, ◌||◌, ◌&&◌, ℕ, Bool, true, false, true≢false, not, nat_le, nat_lt, cond, Some, List, [], ◌∷◌, refl, sym, ap, ◌∙◌, subst, arith}
+use Rattle.std.proofs.Common.{◌≡◌, ◌≤◌, ◌==◌, ◌||◌, ◌&&◌, ℕ, Bool, true, false, true≢false, not, nat_le, nat_lt, cond, Some, List, [], ◌∷◌, take, refl, sym, ap, ◌∙◌, subst, arith}
 use Rattle.std.proofs.lemmas.Bool.{eqb-true}
 use Rattle.std.proofs.lemmas.Bool.Decides.{nat_tests}
 use Rattle.x86_64_model.specs.Call.{Call, MapTo, MapToWithTableFlags, IdentityMap, Unmap, UpdateFlags, SetFlags, TranslatePage, Translate, TranslateAddress, CleanUp, Reply, NotAllowed, Answered, Position, Address, Cleaned}
 use Rattle.x86_64_model.specs.Entry.{no_execute}
-use Rattle.x86_64_model.specs.Flushing.{PageDue, AllDue, if_accepted, if_allowed}
+use Rattle.x86_64_model.specs.Flushing.{PageDue, BelowDue, if_accepted, if_allowed}
 use Rattle.x86_64_model.specs.Machine.{Machine, State, do_call, step}
 use Rattle.x86_64_model.specs.MapRule.{map_call}
 use Rattle.x86_64_model.specs.PageRules.{unmap, update_flags, set_flags}
-use Rattle.x86_64_model.specs.Path.{is_small}
+use Rattle.x86_64_model.specs.Path.{front_at, is_small}
 use Rattle.x86_64_model.specs.Refusal.{Answer, Done, Refused, PageNotMapped, ParentEntryHugePage, InvalidFrameAddress, PageAlreadyMapped, FrameAllocationFailed}
 use Rattle.x86_64_model.specs.Window.{entry_at}
 use Rattle.x86_64_model.proofs.Lemmas.Machines.Effects.{step_cases}
@@ -30,19 +30,19 @@ of_map more (Refused (InvalidFrameAddress a)) = refl
 of_map more (Refused (PageAlreadyMapped frame)) = refl
 of_map more (Refused FrameAllocationFailed) = refl
 
-map_due : (b : Bool) → cond b 3 0 ≡ rank (told (cond b (AllDue ∷ []) []))
-map_due true = refl
-map_due false = refl
+map_due : (b : Bool) (q : List ℕ) → cond b 3 0 ≡ rank (told (cond b (BelowDue q ∷ []) []))
+map_due true q = refl
+map_due false q = refl
 
 mapped : (L more frame given : ℕ) (q : List ℕ) (answer : Answer) → Agrees 0 more L (MapToWithTableFlags q frame given more) (Answered answer)
-mapped L more frame given q answer = of_map more answer ∙ map_due (no_execute more)
+mapped L more frame given q answer = of_map more answer ∙ map_due (no_execute more) _
 
-page_due : (b : Bool) (q : List ℕ) → 2 ≡ rank (told (PageDue q ∷ cond b [] []))
-page_due true q = refl
-page_due false q = refl
+page_due : (b : Bool) (q : List ℕ) (frame : ℕ) → 2 ≡ rank (told (PageDue q frame ∷ cond b [] []))
+page_due true q frame = refl
+page_due false q frame = refl
 
 unmapped : (L more : ℕ) (q : List ℕ) (answer : Answer) → Agrees 1 more L (Unmap q) (Answered answer)
-unmapped L more q (Done frame) = page_due (is_small L q) q
+unmapped L more q (Done frame) = page_due (is_small L q) q frame
 unmapped L more q (Refused PageNotMapped) = refl
 unmapped L more q (Refused ParentEntryHugePage) = refl
 unmapped L more q (Refused (InvalidFrameAddress a)) = refl
@@ -50,7 +50,7 @@ unmapped L more q (Refused (PageAlreadyMapped frame)) = refl
 unmapped L more q (Refused FrameAllocationFailed) = refl
 
 updated : (L more given : ℕ) (q : List ℕ) (answer : Answer) → Agrees 2 more L (UpdateFlags q given) (Answered answer)
-updated L more given q (Done frame) = page_due (is_small L q) q
+updated L more given q (Done frame) = page_due (is_small L q) q frame
 updated L more given q (Refused PageNotMapped) = refl
 updated L more given q (Refused ParentEntryHugePage) = refl
 updated L more given q (Refused (InvalidFrameAddress a)) = refl
@@ -65,7 +65,7 @@ set L more level given q (Refused (InvalidFrameAddress a)) = refl
 set L more level given q (Refused (PageAlreadyMapped frame)) = refl
 set L more level given q (Refused FrameAllocationFailed) = refl
 
-page_most : (b : Bool) (q : List ℕ) (r : Reply) → rank (told (if_accepted r (PageDue q ∷ cond b [] []))) ≤ 2
+page_most : (b : Bool) (q : List ℕ) (r : Reply) → rank (told (if_accepted r (λ frame. PageDue q frame ∷ cond b [] []))) ≤ 2
 page_most b q NotAllowed = omega arith
 page_most true q (Answered (Done frame)) = omega arith
 page_most false q (Answered (Done frame)) = omega arith
@@ -138,31 +138,31 @@ unfolding most
 due_most L (MapTo q frame given) reply kind more asked = cc
 due_most L (MapToWithTableFlags q frame given flags) reply kind more asked =
     subst (λ k. flush_number L (MapToWithTableFlags q frame given flags) reply ≤ most k more) (some_is 0 kind asked.kind_is)
-    (subst (λ f. flush_number L (MapToWithTableFlags q frame given flags) reply ≤ after_map f) asked.flags_are (by (no_execute flags) reply))
+    (subst (λ f. flush_number L (MapToWithTableFlags q frame given flags) reply ≤ after_map f) asked.flags_are (by (no_execute flags) (take 1 q) reply))
   where
-    by : (b : Bool) (r : Reply) → rank (told (if_allowed r (cond b (AllDue ∷ []) []))) ≤ cond b 3 0
-    by true NotAllowed = omega arith
-    by true (Answered a) = omega arith
-    by true (Position t) = omega arith
-    by true (Address a) = omega arith
-    by true Cleaned = omega arith
-    by false NotAllowed = omega arith
-    by false (Answered a) = omega arith
-    by false (Position t) = omega arith
-    by false (Address a) = omega arith
-    by false Cleaned = omega arith
+    by : (b : Bool) (path : List ℕ) (r : Reply) → rank (told (if_allowed r (cond b (BelowDue path ∷ []) []))) ≤ cond b 3 0
+    by true path NotAllowed = omega arith
+    by true path (Answered a) = omega arith
+    by true path (Position t) = omega arith
+    by true path (Address a) = omega arith
+    by true path Cleaned = omega arith
+    by false path NotAllowed = omega arith
+    by false path (Answered a) = omega arith
+    by false path (Position t) = omega arith
+    by false path (Address a) = omega arith
+    by false path Cleaned = omega arith
 due_most L (IdentityMap level frame given) reply kind more asked = cc
 due_most L (Unmap q) reply kind more asked = subst (λ k. flush_number L (Unmap q) reply ≤ most k more) (some_is 1 kind asked.kind_is) (page_most (is_small L q) q reply)
 due_most L (UpdateFlags q given) reply kind more asked = subst (λ k. flush_number L (UpdateFlags q given) reply ≤ most k more) (some_is 2 kind asked.kind_is) (page_most (is_small L q) q reply)
-due_most L (SetFlags level q given) reply kind more asked = subst (λ k. flush_number L (SetFlags level q given) reply ≤ most k more) (some_is 3 kind asked.kind_is) (by reply)
+due_most L (SetFlags level q given) reply kind more asked = subst (λ k. flush_number L (SetFlags level q given) reply ≤ most k more) (some_is 3 kind asked.kind_is) (by (front_at L level q) reply)
   where
-    by : (r : Reply) → rank (told (if_accepted r (AllDue ∷ []))) ≤ 3
-    by NotAllowed = omega arith
-    by (Answered (Done frame)) = omega arith
-    by (Answered (Refused why)) = omega arith
-    by (Position t) = omega arith
-    by (Address a) = omega arith
-    by Cleaned = omega arith
+    by : (path : List ℕ) (r : Reply) → rank (told (if_accepted r (λ frame. BelowDue path ∷ []))) ≤ 3
+    by path NotAllowed = omega arith
+    by path (Answered (Done frame)) = omega arith
+    by path (Answered (Refused why)) = omega arith
+    by path (Position t) = omega arith
+    by path (Address a) = omega arith
+    by path Cleaned = omega arith
 due_most L (TranslatePage q) reply kind more asked = cc
 due_most L (Translate p) reply kind more asked = cc
 due_most L (TranslateAddress p) reply kind more asked = cc

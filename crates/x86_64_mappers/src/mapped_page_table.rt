@@ -1,5 +1,6 @@
 //! The mapper that finds page tables by a frame mapping.
-ghost use Rattle.std.specs.Prelude.{◌≡◌, ◌↔◌, Some, IfOk, IsTrue};
+ghost use Rattle.std.specs.Prelude.{◌≡◌, ◌<◌, ◌↔◌, Some, IfOk, OnErr, IsTrue};
+ghost use Rattle.std.specs.FinMap.{len};
 ghost use Rattle.x86_64_model.specs.Mapper.{◌laid_in◌, Valid};
 ghost use Rattle.x86_64_mappers.specs.Layouts.{direct_at, root_table, HasRoot};
 
@@ -172,9 +173,11 @@ impl<'a, P: PageTableFrameMapping, T: TableMemory> Direct<'a, P, FourLevels, T> 
     ///
     /// # Errors
     ///
-    /// `AllocError` if memory allocation fails.
+    /// `AllocError` if memory allocation fails. A memory without places needs no allocation.
     pub fn is_valid(&self, alloc: Global) -> Result<bool, AllocError>
-        ensures { IfOk result (λ valid. IsTrue valid ↔ Valid (⟦<Self as Tables>⟧.hierarchy self.now)) }
+        ensures decides { IfOk result (λ valid. IsTrue valid
+            ↔ Valid (⟦<Self as Tables>⟧.hierarchy self.now)) }
+        ensures needs_memory { OnErr result (0 < len (⟦<Self as Tables>⟧.hierarchy self.now).memory) }
     {
         is_valid_hierarchy(alloc, self.memory, &self.mapping, self.root)
     }
@@ -205,9 +208,11 @@ impl<'a, P: PageTableFrameMapping, T: TableMemory> Direct<'a, P, FiveLevels, T> 
     ///
     /// # Errors
     ///
-    /// `AllocError` if memory allocation fails.
+    /// `AllocError` if memory allocation fails. A memory without places needs no allocation.
     pub fn is_valid(&self, alloc: Global) -> Result<bool, AllocError>
-        ensures { IfOk result (λ valid. IsTrue valid ↔ Valid (⟦<Self as Tables>⟧.hierarchy self.now)) }
+        ensures decides { IfOk result (λ valid. IsTrue valid
+            ↔ Valid (⟦<Self as Tables>⟧.hierarchy self.now)) }
+        ensures needs_memory { OnErr result (0 < len (⟦<Self as Tables>⟧.hierarchy self.now).memory) }
     {
         is_valid_hierarchy_57(alloc, self.memory, &self.mapping, self.root)
     }

@@ -3,6 +3,7 @@ pub mod CleanUps
 pub mod Entries
 pub mod Hierarchies
 pub mod Lists
+pub mod Live
 pub mod Machines
 pub mod Mappings
 pub mod Maps
@@ -10,6 +11,7 @@ pub mod Pairs
 pub mod Paths
 pub mod Runs
 pub mod Spaces
+pub mod Switches
 pub mod Tables
 pub mod Walks
 pub mod Worked

@@ -52,3 +52,14 @@ no_address given = address given == 0
 pub record IsParentFlags (given : ℕ) : Type 0 where
   pub no_address : address given ≡ 0
   pub not_huge : bit_and given 0x80 ≡ 0
+
+-- Two entries lead to the same, with the same rights: they differ at most in ACCESSED, DIRTY, and what no
+-- walk reads.
+pub record LeadAlike (e f : ℕ) : Type 0 where
+  pub same_used : used f ≡ used e
+  pub same_present : present f ≡ present e
+  pub same_huge : huge f ≡ huge e
+  pub same_address : address f ≡ address e
+  pub same_write : writable f ≡ writable e
+  pub same_user : user f ≡ user e
+  pub same_execute : no_execute f ≡ no_execute e

@@ -1,10 +1,10 @@
 -- What has to be flushed after each call, and a processor that caches while a kernel makes calls and flushes.
 -- Intel SDM vol. 3A, "Invalidation of TLBs and Paging-Structure Caches".
-use Rattle.std.specs.Prelude.{◌≡◌, ◌⊎◌, ℕ, Bool, true, false, not, cond, List, [], ◌∷◌, ◌++◌, filter, Option, Some, None}
+use Rattle.std.specs.Prelude.{◌≡◌, ◌⊎◌, ℕ, Bool, true, false, not, cond, List, [], ◌∷◌, ◌++◌, filter, take, bit_and, Option, Some, None}
 use Rattle.x86_64_model.specs.Lists.{In}
 use Rattle.x86_64_model.specs.Position.{page_path}
-use Rattle.x86_64_model.specs.Path.{begins, is_small}
-use Rattle.x86_64_model.specs.Entry.{used, present, writable, user, huge, no_execute, address}
+use Rattle.x86_64_model.specs.Path.{begins, is_below, is_small, front_at, path_at}
+use Rattle.x86_64_model.specs.Entry.{has, used, present, writable, user, huge, no_execute, address}
 use Rattle.x86_64_model.specs.Memory.{Words, word}
 use Rattle.x86_64_model.specs.Window.{Window, begins_with, IsValidFor}
 use Rattle.x86_64_model.specs.Refusal.{Done, Refused}
@@ -15,15 +15,17 @@ use Rattle.x86_64_model.specs.Caches.{Cached, Table, Page, Caches}
 
 -- ---- what has to be flushed
 
--- The TLB items of a page, all items of tables, the TLB items of all pages in the recursive window, or all items.
+-- The TLB items of a page, which was in this frame, all items of tables, the TLB items of all pages in the recursive window, or all
+-- items of the paths that begin with this one.
 pub data Due : Type 0 where
-  PageDue : (page : List ℕ) → Due
+  PageDue : (page : List ℕ) → (frame : ℕ) → Due
   TablesDue : Due
   WindowDue : Due
-  AllDue : Due
+  BelowDue : (path : List ℕ) → Due
 
-abbrev pub if_accepted : Reply → List Due → List Due
-if_accepted (Answered (Done frame)) due = due
+-- An accepted call answers with the address of the entry as it was.
+abbrev pub if_accepted : Reply → (ℕ → List Due) → List Due
+if_accepted (Answered (Done frame)) due = due frame
 if_accepted (Answered (Refused why)) due = []
 if_accepted NotAllowed due = []
 if_accepted (Position t) due = []
@@ -42,16 +44,23 @@ abbrev pub if_window : Option Window → List Due
 if_window None = []
 if_window (Some w) = WindowDue ∷ []
 
+-- The recursive window shows the entry of a 2MiB or 1GiB page as smaller pages, and tables as pages.
+abbrev pub page_due : (L : ℕ) → Option Window → (page : List ℕ) → (frame : ℕ) → List Due
+page_due L window q frame = PageDue q frame ∷ cond (is_small L q) [] (if_window window)
+
+abbrev pub below_due : Option Window → (path : List ℕ) → List Due
+below_due window q = BelowDue q ∷ if_window window
+
 -- A map makes absent entries used, which no cache has, and adds rights to its parents. But it takes the right to execute from
--- them if its parent flags have NO_EXECUTE, even if it is refused. A clean up removes tables that caches may name. The recursive
--- window shows these tables, and the entry of a 2MiB or 1GiB page, as smaller pages.
+-- them if its parent flags have NO_EXECUTE, even if it is refused: they are below the page's first index. A clean up removes tables
+-- that caches may name.
 abbrev pub flush_after : (L : ℕ) → Option Window → Call → Reply → List Due
 flush_after L window (MapTo q frame given) reply = []
-flush_after L window (MapToWithTableFlags q frame given parent_flags) reply = if_allowed reply (cond (no_execute parent_flags) (AllDue ∷ []) [])
+flush_after L window (MapToWithTableFlags q frame given parent_flags) reply = if_allowed reply (cond (no_execute parent_flags) (below_due window (take 1 q)) [])
 flush_after L window (IdentityMap level frame given) reply = []
-flush_after L window (Unmap q) reply = if_accepted reply (PageDue q ∷ cond (is_small L q) [] (if_window window))
-flush_after L window (UpdateFlags q given) reply = if_accepted reply (PageDue q ∷ cond (is_small L q) [] (if_window window))
-flush_after L window (SetFlags level q given) reply = if_accepted reply (AllDue ∷ [])
+flush_after L window (Unmap q) reply = if_accepted reply (λ frame. page_due L window q frame)
+flush_after L window (UpdateFlags q given) reply = if_accepted reply (λ frame. page_due L window q frame)
+flush_after L window (SetFlags level q given) reply = if_accepted reply (λ frame. below_due window (front_at L level q))
 flush_after L window (TranslatePage q) reply = []
 flush_after L window (Translate p) reply = []
 flush_after L window (TranslateAddress p) reply = []
@@ -60,10 +69,17 @@ flush_after L window (CleanUp low high) reply = TablesDue ∷ if_window window
 -- Whether an access at a position may be wrong as long as this is due. Items of freed tables lead nowhere, since these tables have
 -- only words 0.
 abbrev pub concerns : (L : ℕ) → Option Window → Due → (position : ℕ) → Bool
-concerns L window (PageDue q) p = begins q (page_path L p)
+concerns L window (PageDue q frame) p = begins q (page_path L p)
 concerns L window TablesDue p = false
 concerns L window WindowDue p = begins_with window (page_path L p)
-concerns L window AllDue p = true
+concerns L window (BelowDue q) p = begins q (page_path L p)
+
+-- Whether items on a path may have rights that its entries don't grant any longer, as long as this is due.
+abbrev pub loosens : Option Window → Due → (path : List ℕ) → Bool
+loosens window (PageDue q frame) x = false
+loosens window TablesDue x = false
+loosens window WindowDue x = begins_with window x
+loosens window (BelowDue q) x = begins q x
 
 -- All words of a frame are 0.
 abbrev pub HasZeros : Words → (frame : ℕ) → Type 0
@@ -90,14 +106,14 @@ survives L FlushAll c = false
 -- Whether this is due no longer after a flush.
 abbrev pub settles : (L : ℕ) → Flush → Due → Bool
 settles L FlushAll due = true
-settles L (Invlpg p) (PageDue q) = begins q (page_path L p)
+settles L (Invlpg p) (PageDue q frame) = begins q (page_path L p)
 settles L (Invlpg p) TablesDue = true
 settles L (Invlpg p) WindowDue = false
-settles L (Invlpg p) AllDue = false
-settles L LoadCr3 (PageDue q) = false
+settles L (Invlpg p) (BelowDue q) = false
+settles L LoadCr3 (PageDue q frame) = false
 settles L LoadCr3 TablesDue = true
 settles L LoadCr3 WindowDue = false
-settles L LoadCr3 AllDue = false
+settles L LoadCr3 (BelowDue q) = false
 
 -- ---- a kernel and a processor
 
@@ -131,23 +147,37 @@ after_event m s (Changes items) = record { state = s.state; paths = s.paths; wor
 abbrev pub IsDone : System → Type 0
 IsDone s = s.paths ≡ s.state.paths
 
--- A used entry e that becomes f loses nothing: it leads where it led, and grants what it granted.
+-- A used entry e that becomes f loses nothing: it leads where it led, and grants what it granted. WRITE_THROUGH, NO_CACHE, GLOBAL and
+-- the protection key (bits 3, 4, 8 and 59 to 62) stay, as the PAT bit does, which is HUGE_PAGE at level one and a bit of the address
+-- above. What has ACCESSED or DIRTY keeps it, since a processor that has cached the entry doesn't set it again.
 pub record LosesNothing (e f : ℕ) : Type 0 where
   pub is_used : used f ≡ true
   pub is_present : present e ≡ true → present f ≡ true
   pub same_huge : huge f ≡ huge e
   pub same_address : address f ≡ address e
+  pub same_kind : bit_and f 0x7800_0000_0000_0118 ≡ bit_and e 0x7800_0000_0000_0118
+  pub accessed : has e 0x20 ≡ true → has f 0x20 ≡ true
+  pub dirty : has e 0x40 ≡ true → has f 0x40 ≡ true
   pub write : writable e ≡ true → writable f ≡ true
   pub user : user e ≡ true → user f ≡ true
   pub execute : no_execute e ≡ false → no_execute f ≡ false
 
--- A call may begin when the last one is done, but no map before the tables of a clean up are flushed. If the kernel learns that no
--- used entry loses anything, none does.
+-- The page that a call maps, if it is a map.
+abbrev pub mapped_by : (L : ℕ) → Call → Option (List ℕ)
+mapped_by L (MapTo q frame given) = Some q
+mapped_by L (MapToWithTableFlags q frame given parent_flags) = Some q
+mapped_by L (IdentityMap level frame given) = Some (path_at L level frame)
+mapped_by L call = None
+
+-- A call may begin when the last one is done, but no map before the tables of a clean up are flushed, and no map of a smaller page
+-- where a larger one is due: a processor may keep the larger one in parts, and one INVLPG drops all of them only as long as no
+-- smaller page is mapped there. If the kernel learns that no used entry loses anything, none does.
 pub record MayMake (m : Machine) (s : System) (call : Call) (loses : Bool) : Type 0 where
   pub done : IsDone s
   pub is_call : IsCall m.levels call
   pub kept : loses ≡ false → (q : List ℕ) → used (entry s.state.paths q) ≡ true → LosesNothing (entry s.state.paths q) (entry (step m s.state call).state.paths q)
   pub waits : In s.due TablesDue → parent_flags_of call ≡ None
+  pub apart : (q r : List ℕ) (frame : ℕ) → In s.due (PageDue q frame) → mapped_by m.levels call ≡ Some r → is_below q r ≡ false
 
 -- At each moment of a call the words are a valid hierarchy, in which each entry is as it was or as it will be. A table that is
 -- removed has only words 0 and, as a free frame, keeps them until tables are flushed. All other memory may change at any time.

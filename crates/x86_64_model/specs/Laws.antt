@@ -13,5 +13,12 @@ pub mod Pairs
 pub mod Validity
 pub mod Pools
 pub mod Spaces
+pub mod Switches
+pub mod SwitchedSpaces
+pub mod Globals
+pub mod Locality
+pub mod EntriesInPlace
+pub mod Splits
+pub mod Live
 pub mod Ranges
 pub mod Worked

@@ -34,6 +34,11 @@ pub mod Conserved
 pub mod Store
 pub mod PageCalls
 pub mod Spaces
+pub mod Tags
+pub mod Switches
+pub mod MaySwitch
+pub mod Turns
+pub mod Live
 pub mod Arrivals
 pub mod Standing
 pub mod private

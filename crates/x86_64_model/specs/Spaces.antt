@@ -31,6 +31,20 @@ pub record AreSpaces (shared : ℕ → Bool) (m : Memory) (serves : ℕ → Bool
   pub own_roots : (a b : Layout) → In spaces a → In spaces b → a.root ≡ b.root → a ≡ b
   pub share : (a b : Layout) → In spaces a → In spaces b → a.root ≢ b.root → Shares shared a m pool b
 
+-- ---- spaces that share in pairs
+
+-- Which indices two roots share. An index that they share belongs to both alike, and so it does for all roots that share it. So a
+-- kernel's root and its user's root may share one half, and all kernel's roots the other one.
+pub record IsSharing (sharing : (root other : ℕ) → ℕ → Bool) : Type 0 where
+  pub symmetric : (a b i : ℕ) → sharing a b i ≡ true → sharing b a i ≡ true
+  pub transitive : (a b c i : ℕ) → sharing a b i ≡ true → sharing b c i ≡ true → sharing a c i ≡ true
+
+-- Address spaces with one pool: it fits each, no two have one root, and any two share the indices that their roots share.
+pub record ArePaired (sharing : (root other : ℕ) → ℕ → Bool) (m : Memory) (serves : ℕ → Bool) (pool : List ℕ) (spaces : List Layout) : Type 0 where
+  pub fits : (a : Layout) → In spaces a → PoolFits (a laid_in m) serves pool
+  pub own_roots : (a b : Layout) → In spaces a → In spaces b → a.root ≡ b.root → a ≡ b
+  pub share : (a b : Layout) → In spaces a → In spaces b → a.root ≢ b.root → Shares (sharing a.root b.root) a m pool b
+
 -- ---- calls
 
 -- The call changes nothing below a shared index: its page begins with none, and no span of one overlaps the range of a clean up.
@@ -51,8 +65,8 @@ abbrev pub HasFlags : (shared : ℕ → Bool) → (root_entry : ℕ → ℕ) →
 HasFlags shared root_entry [] given = Unit {0}
 HasFlags shared root_entry (i ∷ q) given = shared i ≡ true → bit_or (root_entry i) given ≡ root_entry i
 
--- The call changes no entry of the root at a shared index, if these are used: a map adds no flag to one, no flags are set at the
--- highest level, and no span of one overlaps the range of a clean up.
+-- The call changes no entry of the root at a shared index: a map adds no flag to one, no flags are set at the highest level, and
+-- no span of one overlaps the range of a clean up.
 abbrev pub SparesRoot : (L : ℕ) (shared : ℕ → Bool) → (root_entry : ℕ → ℕ) → Call → Type 0
 SparesRoot L shared root_entry (MapTo q frame given) = HasFlags shared root_entry q (parent_part given)
 SparesRoot L shared root_entry (MapToWithTableFlags q frame given parent_flags) = HasFlags shared root_entry q parent_flags

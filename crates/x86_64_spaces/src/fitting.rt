@@ -1,5 +1,5 @@
 //! Tests of whether address spaces share what they should, and whether a pool fits them.
-ghost use Rattle.std.specs.Prelude.{◌≡◌, ◌≤◌, ◌+◌, ◌↔◌, ℕ, if◌then◌else◌, length, reverse, replicate, IfOk, IsTrue, Some, None, [], false, true};
+ghost use Rattle.std.specs.Prelude.{◌≡◌, ◌<◌, ◌≤◌, ◌+◌, ◌↔◌, ℕ, if◌then◌else◌, length, reverse, replicate, IfOk, OnErr, IsTrue, Some, None, [], false, true};
 ghost use Rattle.std.specs.FinMap as map;
 ghost use Rattle.x86_64_model.specs.Lists.{In};
 ghost use Rattle.x86_64_model.specs.Pool.{serves_below};
@@ -29,7 +29,7 @@ use x86_64_tables::phys_memory::{
 ///
 /// # Errors
 ///
-/// `AllocError` if memory allocation fails.
+/// `AllocError` if memory allocation fails. No hierarchy, or a memory without places, needs no allocation.
 pub fn spaces_fit<L: LevelCount, T: TableMemory, P: PageTableFrameMapping>(
     alloc: Global,
     memory: &T,
@@ -38,9 +38,11 @@ pub fn spaces_fit<L: LevelCount, T: TableMemory, P: PageTableFrameMapping>(
     shared: SharedIndices,
     pool: &FramePool,
 ) -> Result<bool, AllocError>
-    ensures { let all = spaces_in L.LEVELS (P.places mapping.now) (T.tables memory.now) spaces.now in
+    ensures decides { let all = spaces_in L.LEVELS (P.places mapping.now) (T.tables memory.now) spaces.now in
         IfOk result (λ fit. IsTrue fit
         ↔ ShareAndFit (indices_of shared) all (serves_below pool.now.limit) pool.now.frames) }
+    ensures needs_memory { OnErr result
+        ((0 < length spaces.now) × (0 < map.len (T.tables memory.now))) }
 {
     let Some(first) = spaces.first() else {
         return Ok(true);

@@ -107,7 +107,7 @@ fn check_flushes<L: LevelCount, P5: LevelFiveFlags<L>>(rt: impl Test, rows: &[Ro
 }
 
 /// A word before a change and after it, and whether it loses something.
-const CHANGES: [(u64, u64, bool); 12] = [
+const CHANGES: [(u64, u64, bool); 22] = [
     (0x5003, 0x5003, false),
     (0x5001, 0x5007, false),
     (0x8000_0000_0000_5001, 0x5001, false),
@@ -120,6 +120,16 @@ const CHANGES: [(u64, u64, bool); 12] = [
     (0x5003, 0x6003, true),
     (0x5003, 0x5083, true),
     (0x5003, 0x8000_0000_0000_5003, true),
+    (0x5003, 0x5063, false),
+    (0x5023, 0x5003, true),
+    (0x5063, 0x5023, true),
+    (0x5003, 0x500b, true),
+    (0x5013, 0x5003, true),
+    (0x5003, 0x5103, true),
+    (0x0800_0000_0000_5003, 0x5003, true),
+    (0x5003, 0x4000_0000_0000_5003, true),
+    (0x5003, 0x5203, false),
+    (0x5003, 0x0400_0000_0000_5003, false),
 ];
 
 /// Asserts that a call names no index of level four.

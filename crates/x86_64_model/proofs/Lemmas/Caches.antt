@@ -2,9 +2,12 @@ pub mod Accesses
 pub mod Agrees
 pub mod Calls
 pub mod Filled
+pub mod Items
 pub mod Kept
+pub mod Moved
 pub mod Runs
 pub mod Safe
+pub mod Stale
 pub mod Unflushed
 pub mod Walks
 pub mod Whole

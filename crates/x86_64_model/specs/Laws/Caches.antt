@@ -1,17 +1,20 @@
 -- Laws of caches: what has to be flushed after each call suffices.
-use Rattle.std.specs.Prelude.{◌≡◌, ◌⊎◌, ◌<◌, ℕ, Bool, true, false, List, [], ◌∷◌, replicate, Option, Some, None, IsSome, option_map}
+use Rattle.std.specs.Prelude.{◌≡◌, ◌⊎◌, ◌≢◌, ◌<◌, ◌+◌, ◌&&◌, nat_le, nat_lt, ℕ, Bool, true, false, List, [], ◌∷◌, replicate, Option, Some, None, IsSome, option_map}
 use Rattle.std.specs.FinMap.{empty, insert}
 use Rattle.std.specs.Ordering.{nat_cmp}
 use Rattle.x86_64_model.specs.Lists.{In}
 use Rattle.x86_64_model.specs.Position.{page_path}
 use Rattle.x86_64_model.specs.PathMap.{put}
+use Rattle.x86_64_model.specs.Path.{level_of, span_size, begins}
+use Rattle.x86_64_model.specs.Entry.{used, present}
+use Rattle.x86_64_model.specs.Mappings.{maps_page}
 use Rattle.x86_64_model.specs.Memory.{Words, Memory, words_of, identity_places}
 use Rattle.x86_64_model.specs.Pool.{IsTable}
-use Rattle.x86_64_model.specs.Window.{IsValidFor}
-use Rattle.x86_64_model.specs.PageWalk.{page_walk}
+use Rattle.x86_64_model.specs.Window.{Window, begins_with, entry_at, IsValidFor}
+use Rattle.x86_64_model.specs.PageWalk.{page_start, page_walk}
 use Rattle.x86_64_model.specs.Machine.{Machine, IsMachine, State, step}
 use Rattle.x86_64_model.specs.Caches.{Way, start, AtMost, Cached, Table, Page, found, Caches, MayRead, MayAccess, walk_from, walk, walked_in}
-use Rattle.x86_64_model.specs.Flushing.{Due, TablesDue, AllDue, flush_after, concerns, HasZeros, Invlpg, survives, System, Event, Makes, MayMake, MayWrite, after_event, AllMayHappen, after_events, fresh}
+use Rattle.x86_64_model.specs.Flushing.{Due, PageDue, TablesDue, WindowDue, BelowDue, flush_after, concerns, HasZeros, Invlpg, survives, System, Event, Makes, MayMake, MayWrite, after_event, AllMayHappen, after_events, fresh}
 use Rattle.x86_64_model.specs.MapRule.{map_call}
 use Rattle.x86_64_model.specs.CleanUp.{clean_up}
 use Rattle.x86_64_model.specs.Refusal.{Done}
@@ -68,6 +71,48 @@ OnlyTablesAreRead = (m : Machine) (root : ℕ) (T : Words) (serves : ℕ → Boo
     → (events : List Event) (now : System) → Happens m root T s events now
     → (t : Way) → MayRead root now.cache t
     → (IsTable m.levels root now.paths t.frame × IsSome (now.words t.frame)) ⊎ (In now.due TablesDue × In now.state.pool t.frame × HasZeros now.words t.frame)
+
+-- ---- where accesses go while something is due
+
+-- The entry at the page's path maps it, present or not.
+pub record IsMapped (L : ℕ) (E : List ℕ → ℕ) (page : Way) : Type 0 where
+  pub is_used : used (E page.path) ≡ true
+  pub maps : maps_page (level_of L page.path) (E page.path) ≡ true
+  pub frame : page.frame ≡ page_start (level_of L page.path) (E page.path)
+
+-- A page that may be cached still: it is due, and its frame is the one that it had when a call let it go. Or all items on its path
+-- are due, and its entry maps it, so that at most rights are wrong. Or it lies in the recursive window, which is due.
+pub data IsStale (L : ℕ) (window : Option Window) (due : List Due) (E : List ℕ → ℕ) (page : Way) : Type 0 where
+  WasThere : (frame : ℕ) → In due (PageDue page.path frame) → page.frame ≡ page_start (level_of L page.path) frame → IsStale L window due E page
+  HadRights : (q : List ℕ) → In due (BelowDue q) → begins q page.path ≡ true → IsMapped L E page → IsStale L window due E page
+  InWindow : In due WindowDue → begins_with window page.path ≡ true → IsStale L window due E page
+
+-- At every moment, also during calls, each access goes with the page walk in the present words, or to a page that is due.
+abbrev pub StaleAccessesAreOld : Type 0
+StaleAccessesAreOld = (m : Machine) (root : ℕ) (T : Words) (serves : ℕ → Bool) (s : State) → FitsState m T root serves s
+    → (events : List Event) (now : System) → Happens m root T s events now
+    → (p : ℕ) (w : Way) → MayAccess m.levels root now.words now.cache p w
+    → WalksThere (walk m.levels now.words root p) w ⊎ IsStale m.levels m.window now.due (entry_at m.window now.paths) w
+
+-- Whether an address lies in a page in this frame.
+abbrev pub in_page : (L : ℕ) (path : List ℕ) (frame address : ℕ) → Bool
+in_page L q frame a = nat_le frame a && nat_lt a (frame + span_size L q)
+
+-- The address lies in no page of a present entry, and in no page that is due, as it was. Nor does it lie in a page of an entry,
+-- present or not, below which all items are due.
+pub record IsLetGo (L : ℕ) (window : Option Window) (due : List Due) (E : List ℕ → ℕ) (address : ℕ) : Type 0 where
+  pub unmapped : (q : List ℕ) → present (E q) ≡ true → maps_page (level_of L q) (E q) ≡ true → in_page L q (page_start (level_of L q) (E q)) address ≡ false
+  pub none_loose : (q r : List ℕ) → In due (BelowDue q) → begins q r ≡ true → used (E r) ≡ true → maps_page (level_of L r) (E r) ≡ true
+      → in_page L r (page_start (level_of L r) (E r)) address ≡ false
+  pub not_due : (q : List ℕ) (frame : ℕ) → In due (PageDue q frame) → in_page L q (page_start (level_of L q) frame) address ≡ false
+  pub window_flushed : In due WindowDue → ⊥
+
+-- So no access reaches an address that was let go, and whose pages were flushed since: its frame may be used for anything.
+abbrev pub LetGoIsUnreached : Type 0
+LetGoIsUnreached = (m : Machine) (root : ℕ) (T : Words) (serves : ℕ → Bool) (s : State) → FitsState m T root serves s
+    → (events : List Event) (now : System) → Happens m root T s events now
+    → (address : ℕ) → IsLetGo m.levels m.window now.due (entry_at m.window now.paths) address
+    → (p : ℕ) (w : Way) → MayAccess m.levels root now.words now.cache p w → (walked_in m.levels p w).address ≢ address
 
 -- ---- calls as a whole
 
@@ -130,7 +175,7 @@ pub record UnflushedNoExecute : Type 0 where
   pub maps : (map_call 4 small_mapped [] 0x8000_0000_0000_0003 0 (0 ∷ 0 ∷ 0 ∷ 2 ∷ []) 0x6000 3).paths
       ≡ put (put (put (put small_mapped (0 ∷ []) 0x8000_0000_0000_2003) (0 ∷ 0 ∷ []) 0x8000_0000_0000_3003) (0 ∷ 0 ∷ 0 ∷ []) 0x8000_0000_0000_4003) (0 ∷ 0 ∷ 0 ∷ 2 ∷ []) 0x6003
   pub left : survives 4 (Invlpg 0x2000) (Page executable_page) ≡ true
-  pub due : flush_after 4 None (MapToWithTableFlags (0 ∷ 0 ∷ 0 ∷ 2 ∷ []) 0x6000 3 0x8000_0000_0000_0003) (Answered (Done 0x6000)) ≡ AllDue ∷ []
+  pub due : flush_after 4 None (MapToWithTableFlags (0 ∷ 0 ∷ 0 ∷ 2 ∷ []) 0x6000 3 0x8000_0000_0000_0003) (Answered (Done 0x6000)) ≡ BelowDue (0 ∷ []) ∷ []
 
 -- ---- a table that is named before it is cleared
 

@@ -15,7 +15,7 @@ use Rattle.x86_64_model.specs.Path.{is_below}
 use Rattle.x86_64_model.specs.PathMap.{PathMap, entry}
 use Rattle.x86_64_model.specs.Pool.{TakesBack}
 use Rattle.x86_64_model.specs.Position.{page_path}
-use Rattle.x86_64_model.specs.Spaces.{is_shared, Shares, AreSpaces, Avoids, SparesRoot}
+use Rattle.x86_64_model.specs.Spaces.{is_shared, Shares, AreSpaces, IsSharing, ArePaired, Avoids, SparesRoot}
 use Rattle.x86_64_model.specs.Window.{SelfEntry, outside_window, begins_with}
 
 -- After the memory m became n, the second hierarchy is valid. Below the shared indices it is as the first one is now, elsewhere as
@@ -93,13 +93,12 @@ CallsKeepBelow = (shared : ℕ → Bool) (layout : Layout) → IsParentFlags lay
     → PoolFits (layout laid_in m) serves pool → Led layout take_back m pool calls n rest
     → AllByRecursion (Avoids layout.levels shared) calls → KeepsBelow shared layout m n
 
--- Calls that spare the root's entries at the shared indices leave these, if they are used.
+-- Calls that spare the root's entries at the shared indices leave these.
 abbrev pub CallsKeepRootEntries : Type 0
 CallsKeepRootEntries = (shared : ℕ → Bool) (layout : Layout) → 3 < layout.levels → IsParentFlags layout.added_flags
     → (take_back : List ℕ → ℕ → List ℕ) → TakesBack take_back
     → (serves : ℕ → Bool) (m n : Memory) (pool rest : List ℕ) (calls : List Call) → AllCalls layout.levels calls
     → PoolFits (layout laid_in m) serves pool → Led layout take_back m pool calls n rest
-    → ((i : ℕ) → shared i ≡ true → used (entry (paths (layout laid_in m)) (i ∷ [])) ≡ true)
     → AllByRecursion (SparesRoot layout.levels shared (λ i. entry (paths (layout laid_in m)) (i ∷ []))) calls → KeepsRootEntries shared layout m n
 
 -- A clean up keeps the root's entry at an index if something below it is used and isn't a present table entry, for example a page.
@@ -121,6 +120,22 @@ SpacesStay = (shared : ℕ → Bool) (spaces : List Layout) (one : Layout) → I
     → (serves : ℕ → Bool) (m n : Memory) (pool rest : List ℕ)
     → AreSpaces shared m serves pool spaces → KeepsPool one serves m pool n rest → KeepsRootEntries shared one m n
     → AreSpaces shared n serves rest spaces
+
+-- ---- pairs
+
+-- Address spaces that all share the same indices share them in pairs.
+abbrev pub SpacesArePaired : Type 0
+SpacesArePaired = (shared : ℕ → Bool) (m : Memory) (serves : ℕ → Bool) (pool : List ℕ) (spaces : List Layout)
+    → AreSpaces shared m serves pool spaces → ArePaired (λ a b. shared) m serves pool spaces
+
+-- What calls on one of many address spaces keep is enough for all to stay, also if they share in pairs, if they left the root's
+-- entries at the indices that it shares with any.
+abbrev pub PairedSpacesStay : Type 0
+PairedSpacesStay = (sharing : (root other : ℕ) → ℕ → Bool) → IsSharing sharing → (spaces : List Layout) (one : Layout) → In spaces one → IsMapping one.places → 0 < one.levels
+    → (serves : ℕ → Bool) (m n : Memory) (pool rest : List ℕ)
+    → ArePaired sharing m serves pool spaces → KeepsPool one serves m pool n rest
+    → ((b : Layout) → In spaces b → one.root ≢ b.root → KeepsRootEntries (sharing one.root b.root) one m n)
+    → ArePaired sharing n serves rest spaces
 
 -- ---- one more, or one less
 

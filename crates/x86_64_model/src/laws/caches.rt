@@ -1,5 +1,5 @@
 // Laws of the processor's caches.
-ghost use Rattle.x86_64_model.specs.Laws.Caches.{WalksWithRights, WalksAreCached, FlushesAreEnough, AccessesAreWalks, OnlyTablesAreRead, CallsMayHappen, UnflushedCleanUp, UnflushedNoExecute, UnclearedTable};
+ghost use Rattle.x86_64_model.specs.Laws.Caches.{WalksWithRights, WalksAreCached, FlushesAreEnough, AccessesAreWalks, OnlyTablesAreRead, StaleAccessesAreOld, LetGoIsUnreached, CallsMayHappen, UnflushedCleanUp, UnflushedNoExecute, UnclearedTable};
 
 /// The walk with all rights is the page walk.
 #[tactic(auto, using(crate::proofs::Lemmas::Caches::Walks::walks_with_rights))]
@@ -26,6 +26,16 @@ pub fn accesses_are_page_walks()
 /// The processor reads only words of tables of the hierarchy, and until a clean up is flushed also words 0 of free frames.
 pub fn processors_read_only_tables()
     ensures { OnlyTablesAreRead }
+{}
+
+/// Each access goes with the page walk, or to a page that is due, in the frame that it had when a call let it go.
+pub fn stale_accesses_go_where_pages_were()
+    ensures { StaleAccessesAreOld }
+{}
+
+/// No access reaches an address that no entry maps, if no page is due that had it: its frame may be used for anything.
+pub fn frames_let_go_are_not_reached()
+    ensures { LetGoIsUnreached }
 {}
 
 /// A call may happen as one change of the words, if they hold the next state and free frames are as a call leaves them.

@@ -1,5 +1,5 @@
 // Laws of address spaces: hierarchies that share the tables below some indices of the highest level.
-ghost use Rattle.x86_64_model.specs.Laws.Spaces.{SharedEntriesAreTheSame, SharedTablesStay, SharedHalvesStay, SharedWalksAreTheSame, WalksStay, CallsKeepBelow, CallsKeepRootEntries, PinnedEntriesStay, OneIsASpace, SpacesStay, NewSpaces, SpacesAreGivenUp, NoFrameIsLost, SyncedSpaces, FewerAreShared};
+ghost use Rattle.x86_64_model.specs.Laws.Spaces.{SharedEntriesAreTheSame, SharedTablesStay, SharedHalvesStay, SharedWalksAreTheSame, WalksStay, CallsKeepBelow, CallsKeepRootEntries, PinnedEntriesStay, OneIsASpace, SpacesStay, SpacesArePaired, PairedSpacesStay, NewSpaces, SpacesAreGivenUp, NoFrameIsLost, SyncedSpaces, FewerAreShared};
 
 /// Two hierarchies that share have the same entries below the shared indices.
 pub fn shared_entries_are_the_same()
@@ -67,4 +67,15 @@ pub fn spaces_are_given_up()
 pub fn synced_spaces_share_more()
     ensures fewer { FewerAreShared }
     ensures more { SyncedSpaces }
+{}
+
+/// Address spaces that all share the same indices share them in pairs.
+pub fn address_spaces_are_paired()
+    ensures { SpacesArePaired }
+{}
+
+/// Address spaces that share in pairs stay so, after calls on one that left the root's entries at the indices that it shares
+/// with any.
+pub fn paired_spaces_stay()
+    ensures { PairedSpacesStay }
 {}

@@ -2,7 +2,7 @@
 use Rattle.std.proofs.Common.{◌≡◌, ◌≢◌, ◌⊎◌, inl, inr, ⊎_elim, ◌<◌, ℕ, ◌==◌, Bool, true, false, not, cond, List, [], ◌∷◌, ◌++◌, length, Some, None, Option, IsSome, refl, sym, ap, ap₂, ◌∙◌, subst, arith, eqb-true, append_assoc}
 use Rattle.std.proofs.lemmas.Bool.{and_parts, and_from, eqb-false, or_parts, not-true}
 use Rattle.std.proofs.lemmas.Option.{same_Some}
-use Rattle.x86_64_model.specs.Entry.{present, writable, user, huge, no_execute, address, names_table}
+use Rattle.x86_64_model.specs.Entry.{present, writable, user, huge, no_execute, address}
 use Rattle.x86_64_model.specs.PathMap.{table_of}
 use Rattle.x86_64_model.specs.Memory.{Words, word}
 use Rattle.x86_64_model.specs.Path.{level_of, begins}
@@ -101,11 +101,6 @@ abbrev pub Agrees : (L root : ℕ) → (List ℕ → ℕ) → Cached → Type 0
 Agrees L root E (Table t) = AgreesTable L root E t
 Agrees L root E (Page w) = AgreesPage L E w
 
--- a table item names the table to which the map's entry at its path leads
-abbrev pub NamesTable : (L root : ℕ) → (List ℕ → ℕ) → Cached → Type 0
-NamesTable L root E (Table t) = leads L root E t.path ≡ Some t.frame
-NamesTable L root E (Page w) = Unit {0}
-
 pub start_agrees : (L root : ℕ) (E : List ℕ → ℕ) → 0 < L → AgreesTable L root E (start root)
 start_agrees L root E l = record {
   way = record { short = l; is_present = λ i c h. cc; not_huge = λ i c h. cc };
@@ -129,7 +124,7 @@ led_cases L t i e c P page table is = by (present e) (maps_page (level_of L (t.p
     by true false false page table is = subst P (same_Some _ _ is) (table refl refl refl)
     by false m h page table is = cc
 
-not_level_one : (level e : ℕ) → maps_page level e ≡ false → level ≢ 1
+pub not_level_one : (level e : ℕ) → maps_page level e ≡ false → level ≢ 1
 not_level_one level e h = eqb-false level 1 (or_parts _ _ h).0
 
 module _ (L : ℕ) (E : List ℕ → ℕ) (q : List ℕ) (j : ℕ) where
@@ -187,19 +182,3 @@ module _ (L : ℕ) (T : Words) (root : ℕ) (E : List ℕ → ℕ) (r : Reads L 
   -- what is found at a table that agrees, agrees
   pub finds : (t : Way) (i : ℕ) (c : Cached) → AgreesTable L root E t → found L T t i ≡ Some c → Agrees L root E c
   finds t i c a is = found_agrees L root E t i c a (sym (found_is t i (agrees_leads L root E t a)) ∙ is)
-
-  -- what is found at any table of the hierarchy is a page, or another table of it
-  pub finds_table : 0 < L → (t : Way) (i : ℕ) (c : Cached) → leads L root E t.path ≡ Some t.frame → found L T t i ≡ Some c → NamesTable L root E c
-  finds_table levels t i c there is = let e = E (t.path ++ i ∷ []) in led_cases L t i e c (NamesTable L root E)
-      (λ h m. tt)
-      (λ h m g. let not_one = not_level_one _ e m in let short = table_short t.path there in
-      let l : length (t.path ++ i ∷ []) < L = omega (arith, one_more t.path i) in leads_over t.path (names e h g) l)
-      (sym (found_is t i there) ∙ is)
-    where
-      table_short : (q : List ℕ) → leads L root E q ≡ Some t.frame → length q < L
-      table_short [] h = levels
-      table_short (j ∷ q) h = (table_of_gives L (j ∷ q) _ t.frame h).high
-
-      leads_over : (q : List ℕ) → names_table (E (q ++ i ∷ [])) ≡ true → length (q ++ i ∷ []) < L → leads L root E (q ++ i ∷ []) ≡ Some (address (E (q ++ i ∷ [])))
-      leads_over [] n l = named L (i ∷ []) _ n l
-      leads_over (j ∷ q) n l = named L (j ∷ q ++ i ∷ []) _ n l

@@ -1,36 +1,30 @@
 -- Lists of events: what has to be flushed after calls is enough, and the processor reads only words of tables.
-use Rattle.std.proofs.Common.{zero, suc, ◌≡◌, ◌⊎◌, inl, inr, ⊎_elim, ◌<◌, ◌+◌, ◌-◌, ◌%◌, ℕ, Bool, true, false, List, [], ◌∷◌, length, Some, None, Option, IsSome, option_map, option_and_then, refl, sym, ap, ◌∙◌, subst}
+use Rattle.std.proofs.Common.{◌≡◌, ◌≢◌, ◌⊎◌, inl, inr, ⊎_elim, ◌<◌, ◌+◌, ◌%◌, ℕ, Bool, true, false, List, [], ◌∷◌, Some, IsSome, option_map, refl, sym, ap, ◌∙◌, subst}
+use Rattle.std.proofs.lemmas.Option.{same_Some}
 use Rattle.x86_64_model.specs.Lists.{In}
 use Rattle.x86_64_model.specs.Memory.{Words}
 use Rattle.x86_64_model.specs.PathMap.{entry}
 use Rattle.x86_64_model.specs.Path.{level_of, begins}
 use Rattle.x86_64_model.specs.Pool.{IsTable}
-use Rattle.x86_64_model.specs.Position.{span, index, page_path}
-use Rattle.x86_64_model.specs.Window.{Window, entry_at, begins_with}
+use Rattle.x86_64_model.specs.Position.{span, page_path}
+use Rattle.x86_64_model.specs.Window.{entry_at}
 use Rattle.x86_64_model.specs.Machine.{Machine, IsMachine, State}
-use Rattle.x86_64_model.specs.Caches.{Way, Table, Page, MayRead, MayAccess, then_on, walk_from, walk, walked_in}
-use Rattle.x86_64_model.specs.Flushing.{Due, PageDue, TablesDue, WindowDue, AllDue, HasZeros, concerns, System, Event, Makes, Writes, Flushes, Changes, after_event, MayHappen, AllMayHappen, after_events, fresh}
-use Rattle.x86_64_model.specs.Laws.Caches.{FlushesAreEnough, AccessesAreWalks, OnlyTablesAreRead, WalksThere}
+use Rattle.x86_64_model.specs.Caches.{Way, Table, Page, MayRead, MayAccess, walk, walked_in}
+use Rattle.x86_64_model.specs.Flushing.{Due, TablesDue, HasZeros, concerns, System, Event, Makes, Writes, Flushes, Changes, after_event, MayHappen, AllMayHappen, after_events, fresh}
+use Rattle.x86_64_model.specs.Laws.Caches.{FlushesAreEnough, AccessesAreWalks, OnlyTablesAreRead, WalksThere, IsStale, StaleAccessesAreOld, IsLetGo, LetGoIsUnreached}
 use Rattle.x86_64_model.specs.Laws.Steps.{FitsState}
-use Rattle.std.proofs.lemmas.Option.{same_Some}
 use Rattle.x86_64_model.specs.PageWalk.{Walked, page_walk}
 use Rattle.x86_64_model.specs.Arrivals.{NoWorse}
 use Rattle.x86_64_model.proofs.Lemmas.Caches.Walks.{walks_with_rights}
-use Rattle.x86_64_model.proofs.Lemmas.Paths.Begins.{from_begins}
 use Rattle.x86_64_model.proofs.Lemmas.Machines.Fitting.{sound_of_fits}
 use Rattle.x86_64_model.proofs.Lemmas.Machines.States.{step_sound}
 use Rattle.x86_64_model.proofs.Lemmas.Walks.Agrees.{reads}
 use Rattle.x86_64_model.proofs.Lemmas.Walks.Walked.{Reads}
-use Rattle.x86_64_model.proofs.Lemmas.Caches.Agrees.{AgreesTable, leads, agrees_leads, start_agrees, table_there}
-use Rattle.x86_64_model.proofs.Lemmas.Caches.Accesses.{walks_on, hits}
-use Rattle.x86_64_model.proofs.Lemmas.Caches.Safe.{IsSafe, Safe, make_keeps, make_moves, write_keeps, write_moves, flush_keeps, change_keeps, none_found}
+use Rattle.x86_64_model.proofs.Lemmas.Caches.Agrees.{leads, agrees_leads, table_there}
+use Rattle.x86_64_model.proofs.Lemmas.Caches.Items.{Access, hit_goes, walk_goes}
+use Rattle.x86_64_model.proofs.Lemmas.Caches.Stale.{stale, settled_stale, walked_path, let_go}
+use Rattle.x86_64_model.proofs.Lemmas.Caches.Safe.{IsSafe, Safe, make_keeps, make_moves, write_keeps, write_moves, flush_keeps, change_keeps, table_safe}
 use Rattle.x86_64_model.proofs.Lemmas.Caches.Windowed.{AsBefore, seen_table}
-
--- where a path that lies in the window begins, so does what it begins
-window_front : (window : Option Window) (q p : List ℕ) → begins q p ≡ true → begins_with window q ≡ true → begins_with window p ≡ true
-window_front None q p b h = cc
-window_front (Some w) [] p b h = cc
-window_front (Some w) (i ∷ q) p b h = let more = from_begins (i ∷ q) p b in ap (begins_with (Some w)) more.1 ∙ h
 
 module _ (m : Machine) (is : IsMachine m) (levels : 0 < m.levels) (root : ℕ) (serves : ℕ → Bool) where
   pub event_safe : (s : System) → IsSafe m root serves s → (e : Event) → MayHappen m root s e → IsSafe m root serves (after_event m s e)
@@ -74,28 +68,22 @@ module _ (m : Machine) (is : IsMachine m) (levels : 0 < m.levels) (root : ℕ) (
     r : Reads m.levels s.words root E
     r = reads m.levels s.words root s.paths m.window safe.valid
 
-    -- a walk from a table with only words 0 leads nowhere
-    nowhere : (p n : ℕ) (t : Way) → HasZeros s.words t.frame → walk_from m.levels s.words p n t ≡ None
-    unfolding walk_from
-    nowhere p zero t z = refl
-    nowhere p (suc n) t z = ap (option_and_then (then_on (λ on. walk_from m.levels s.words p n on))) (none_found m root serves s safe t (index (suc n) p) (z (index (suc n) p)))
+    pub stale_or_not : (p : ℕ) (w : Way) → MayAccess m.levels root s.words s.cache p w → WalksThere (walk m.levels s.words root p) w ⊎ IsStale m.levels m.window s.due E w
+    stale_or_not p w may = ⊎_elim (λ goes. inl goes) (λ x. inr (stale m.levels m.window s.due E w x)) (by may)
+      where
+        by : MayAccess m.levels root s.words s.cache p w → Access m.levels root s.words E r levels m.window s.due s.state.pool p w
+        by (inl (there, on)) = hit_goes m.levels root s.words E r levels m.window s.due s.state.pool p w (safe.items (Page w) there) on
+        by (inr (t, may, on, arrives)) = walk_goes m.levels root s.words E r levels m.window s.due s.state.pool p t w (table_safe m root serves s safe levels t may) on arrives
+
+    pub on_path : (p : ℕ) (w : Way) → MayAccess m.levels root s.words s.cache p w → begins w.path (page_path m.levels p) ≡ true
+    on_path p w (inl (there, on)) = on
+    on_path p w (inr (t, may, on, arrives)) = walked_path m.levels s.words p t w on arrives
 
     pub goes : (p : ℕ) → ((due : Due) → In s.due due → concerns m.levels m.window due p ≡ false) → (w : Way) → MayAccess m.levels root s.words s.cache p w → WalksThere (walk m.levels s.words root p) w
-    goes p settled w (inl (there, on)) = by (safe.items (Page w) there)
-      where
-        by : Safe m root s (Page w) → WalksThere (walk m.levels s.words root p) w
-        by (inl a) = hits m.levels s.words root E r p w a on
-        by (inr (inl (inl due))) = absurd (let t : true ≡ false = sym on ∙ settled (PageDue w.path) due in cc)
-        by (inr (inl (inr x))) = absurd (let t : true ≡ false = sym (window_front m.window w.path (page_path m.levels p) on x.1) ∙ settled WindowDue x.0 in cc)
-        by (inr (inr due)) = absurd (let t : true ≡ false = settled AllDue due in cc)
-    goes p settled w (inr (t, may, on, arrives)) = ⊎_elim
-        (λ e. walks_on m.levels s.words root E r p t w (subst (AgreesTable m.levels root E) (sym e) (start_agrees m.levels root E levels)) on arrives)
-        (λ there. by (safe.items (Table t) there)) may
-      where
-        by : Safe m root s (Table t) → WalksThere (walk m.levels s.words root p) w
-        by (inl a) = walks_on m.levels s.words root E r p t w a on arrives
-        by (inr (inl x)) = absurd (let n : None ≡ Some w = sym (nowhere p (m.levels - length t.path) t x.2) ∙ arrives in cc)
-        by (inr (inr x)) = absurd (let t : true ≡ false = settled AllDue x.0 in cc)
+    goes p settled w may = ⊎_elim (λ goes. goes) (λ x. absurd (settled_stale m.levels m.window s.due E w p (on_path p w may) settled x)) (stale_or_not p w may)
+
+    pub unreached : (a : ℕ) → IsLetGo m.levels m.window s.due E a → (p : ℕ) (w : Way) → MayAccess m.levels root s.words s.cache p w → (walked_in m.levels p w).address ≢ a
+    unreached a free p w may = let_go m.levels m.window s.due s.words root E r levels a free p w (stale_or_not p w may)
 
     pub reads_tables : (t : Way) → MayRead root s.cache t → (IsTable m.levels root s.paths t.frame × IsSome (s.words t.frame)) ⊎ (In s.due TablesDue × In s.state.pool t.frame × HasZeros s.words t.frame)
     reads_tables t may = ⊎_elim
@@ -115,6 +103,18 @@ flushes_are_enough m root T serves s fits events now ran = subst
     (λ now. (p : ℕ) → ((due : Due) → In now.due due → concerns m.levels m.window due p ≡ false) → (w : Way) → MayAccess m.levels root now.words now.cache p w → WalksThere (walk m.levels now.words root p) w)
     ran.ends
     (goes m ran.machine ran.levels root serves (after_events m (fresh s T) events) (events_safe m ran.machine ran.levels root serves events (fresh s T) (fresh_safe m ran.machine ran.levels root serves T s fits) ran.happen))
+
+pub stale_accesses_are_old : StaleAccessesAreOld
+stale_accesses_are_old m root T serves s fits events now ran = subst
+    (λ now. (p : ℕ) (w : Way) → MayAccess m.levels root now.words now.cache p w → WalksThere (walk m.levels now.words root p) w ⊎ IsStale m.levels m.window now.due (entry_at m.window now.paths) w)
+    ran.ends
+    (stale_or_not m ran.machine ran.levels root serves (after_events m (fresh s T) events) (events_safe m ran.machine ran.levels root serves events (fresh s T) (fresh_safe m ran.machine ran.levels root serves T s fits) ran.happen))
+
+pub let_go_is_unreached : LetGoIsUnreached
+let_go_is_unreached m root T serves s fits events now ran = subst
+    (λ now. (a : ℕ) → IsLetGo m.levels m.window now.due (entry_at m.window now.paths) a → (p : ℕ) (w : Way) → MayAccess m.levels root now.words now.cache p w → (walked_in m.levels p w).address ≢ a)
+    ran.ends
+    (unreached m ran.machine ran.levels root serves (after_events m (fresh s T) events) (events_safe m ran.machine ran.levels root serves events (fresh s T) (fresh_safe m ran.machine ran.levels root serves T s fits) ran.happen))
 
 pub only_tables_are_read : OnlyTablesAreRead
 only_tables_are_read m root T serves s fits events now ran = subst

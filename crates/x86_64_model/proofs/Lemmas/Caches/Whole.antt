@@ -13,9 +13,10 @@ use Rattle.x86_64_model.specs.Laws.Steps.{FitsState}
 use Rattle.x86_64_model.proofs.Lemmas.Hierarchies.Trees.{table_of_gives, used_table, some_not_none}
 use Rattle.x86_64_model.proofs.Lemmas.Machines.Fitting.{sound_of_fits}
 use Rattle.x86_64_model.proofs.Lemmas.Caches.Calls.{call_does}
+use Rattle.x86_64_model.proofs.Lemmas.Caches.Kept.{target_table}
 use Rattle.x86_64_model.proofs.Lemmas.Caches.Windowed.{Becomes, AsBefore, Made, Marked, Remapped, Reflagged, Removed}
 
-same_zeros : (T U : Words) (f : ℕ) → U f ≡ T f → HasZeros T f → HasZeros U f
+pub same_zeros : (T U : Words) (f : ℕ) → U f ≡ T f → HasZeros T f → HasZeros U f
 unfolding word
 same_zeros T U f same zeros i = ap (λ o. cond (nat_lt i 512) (word_in o i) 0) same ∙ zeros i
 
@@ -24,7 +25,7 @@ in_or_not [] f = inr (λ i. absurd i)
 in_or_not (g ∷ fs) f = ⊎_elim (λ e. inl (inl e)) (λ n. ⊎_elim (λ i. inl (inr i)) (λ k. inr (⊎_elim n k)) (in_or_not fs f)) (cases_eq g f)
 
 -- a frame that is free after a call
-free_after : (m : Machine) (root : ℕ) (T U : Words) (s : State) (call : Call) → IsAfterCall m root T U s call → (f : ℕ) → In (step m s call).state.pool f → HasZeros U f ⊎ (In s.pool f × (U f ≡ T f))
+pub free_after : (m : Machine) (root : ℕ) (T U : Words) (s : State) (call : Call) → IsAfterCall m root T U s call → (f : ℕ) → In (step m s call).state.pool f → HasZeros U f ⊎ (In s.pool f × (U f ≡ T f))
 free_after m root T U s call after f i = ⊎_elim (λ back. inl (after.came_back f i back)) (λ n. inr (after.was_free f i n, after.same_words f i n)) (in_or_not (freed_by m.levels s call) f)
 
 module _ (m : Machine) (is : IsMachine m) (root : ℕ) (serves : ℕ → Bool) (s : System) (fits : FitsState m s.words root serves s.state) (call : Call) (loses : Bool) (may : MayMake m s call loses)
@@ -40,9 +41,9 @@ module _ (m : Machine) (is : IsMachine m) (root : ℕ) (serves : ℕ → Bool) (
       by : Becomes m.levels m.window (flush_after m.levels m.window call (step m s.state call).reply ++ s.due) (step m s.state call).state.pool (i ∷ q) (entry s.state.paths (i ∷ q)) (entry (step m s.state call).state.paths (i ∷ q)) → HasZeros U f
       by (AsBefore e) = gone _ (ap (table_of m.levels (i ∷ q)) e ∙ t) n
       by (Made u) = absurd (let x : true ≡ false = sym (used_table _ (table_of_gives m.levels (i ∷ q) _ f t).is_table) ∙ u in cc)
-      by (Marked k same) = gone _ (same ∙ t) n
+      by (Marked k same) = gone _ (target_table m.levels (i ∷ q) _ _ same ∙ t) n
       by (Remapped none d w) = gone _ t none
-      by (Reflagged same d) = gone _ (same ∙ t) n
+      by (Reflagged same r d b w) = gone _ (target_table m.levels (i ∷ q) _ _ same ∙ t) n
       by (Removed z d w g names free) = ⊎_elim (λ zeros. zeros)
           (λ x. absurd (fits.no_table f x.0 (i ∷ q, t)))
           (free_after m root s.words U s.state call after f (subst (In (step m s.state call).state.pool) (same_Some _ _ (sym names ∙ t)) free))

@@ -5,18 +5,19 @@ use Rattle.x86_64_model.specs.Entry.{used, present, address, names_table}
 use Rattle.x86_64_model.specs.Lists.{In}
 use Rattle.x86_64_model.specs.Memory.{Words}
 use Rattle.x86_64_model.specs.PathMap.{PathMap, entry, table_of, table_at}
-use Rattle.x86_64_model.specs.Path.{paths_below}
+use Rattle.x86_64_model.specs.Path.{paths_below, begins}
 use Rattle.x86_64_model.specs.CleanUp.{is_removed, clean_up}
 use Rattle.x86_64_model.specs.Pool.{IsTable}
 use Rattle.x86_64_model.specs.Window.{Window, windowed, entry_at, begins_with, SelfEntry}
-use Rattle.x86_64_model.specs.Flushing.{Due, PageDue, TablesDue, WindowDue, AllDue, HasZeros}
+use Rattle.x86_64_model.specs.Flushing.{Due, PageDue, TablesDue, WindowDue, BelowDue, HasZeros}
 use Rattle.x86_64_model.proofs.Lemmas.Walks.Agrees.{named}
 use Rattle.x86_64_model.proofs.Lemmas.Walks.Walked.{names}
 use Rattle.x86_64_model.proofs.Lemmas.Hierarchies.Trees.{IsTree, table_of_gives, some_not_none}
 use Rattle.x86_64_model.proofs.Lemmas.Lists.Members.{in_filter, in_map}
 use Rattle.x86_64_model.proofs.Lemmas.CleanUps.Frames.{listed}
 use Rattle.x86_64_model.proofs.Lemmas.Caches.Agrees.{leads}
-use Rattle.x86_64_model.proofs.Lemmas.Caches.Kept.{Kept, Moves, Stays, Begins, Grew, Leaf, Flags, Freed}
+use Rattle.x86_64_model.proofs.Lemmas.Caches.Kept.{Kept, SameTarget}
+use Rattle.x86_64_model.proofs.Lemmas.Caches.Moved.{Moves, Stays, Begins, Grew, Leaf, Flags, Freed}
 
 -- ---- tables of entries at longer paths
 
@@ -28,11 +29,6 @@ long_table : (L : ℕ) (q : List ℕ) (e : ℕ) → L ≤ length q → table_of 
 unfolding table_of
 long_table L q e l = cond-false _ (Some (address e)) None (and_right (names_table e) _ (⊎_elim (λ t. absurd (let k = ltb-true (length q) L t in omega arith)) (λ f. f) (cases_Bool (nat_lt (length q) L))))
 
-longer_same : (L : ℕ) (y q : List ℕ) (e f : ℕ) → length y < length q → table_of L y f ≡ table_of L y e → table_of L q f ≡ table_of L q e
-longer_same L y q e f l same = ⊎_elim
-    (λ k. short_table L y q f k (omega arith) ∙ same ∙ sym (short_table L y q e k (omega arith)))
-    (λ k. long_table L q f k ∙ sym (long_table L q e k)) (cases_lt (length q) L)
-
 -- ---- entries of the path map
 
 -- the window is due, if there is one
@@ -43,30 +39,30 @@ HasWindow window due = (w : Window) → window ≡ Some w → In due WindowDue
 pub data Becomes (L : ℕ) (window : Option Window) (due : List Due) (pool : List ℕ) (q : List ℕ) (e f : ℕ) : Type 0 where
   AsBefore : f ≡ e → Becomes L window due pool q e f
   Made : used e ≡ false → Becomes L window due pool q e f
-  Marked : (present e ≡ true → Kept e f) → table_of L q f ≡ table_of L q e → Becomes L window due pool q e f
-  Remapped : table_of L q e ≡ None → In due (PageDue q) → (length q < L → HasWindow window due) → Becomes L window due pool q e f
-  Reflagged : table_of L q f ≡ table_of L q e → In due AllDue → Becomes L window due pool q e f
+  Marked : (present e ≡ true → Kept e f) → SameTarget e f → Becomes L window due pool q e f
+  Remapped : table_of L q e ≡ None → In due (PageDue q (address e)) → (length q < L → HasWindow window due) → Becomes L window due pool q e f
+  Reflagged : SameTarget e f → (r : List ℕ) → In due (BelowDue r) → begins r q ≡ true → HasWindow window due → Becomes L window due pool q e f
   Removed : f ≡ 0 → In due TablesDue → HasWindow window due → (g : ℕ) → table_of L q e ≡ Some g → In pool g → Becomes L window due pool q e f
 
 module _ (L : ℕ) (window : Option Window) (due : List Due) (pool : List ℕ) where
   -- outside the window
-  outside : (q : List ℕ) (e f : ℕ) → Becomes L window due pool q e f → Moves L window due pool q e f
+  pub outside : (q : List ℕ) (e f : ℕ) → Becomes L window due pool q e f → Moves L window due pool q e f
   outside q e f (AsBefore is) = Stays is
   outside q e f (Made u) = Begins u
   outside q e f (Marked k same) = Grew k same
   outside q e f (Remapped n d w) = Leaf n (inl d)
-  outside q e f (Reflagged same d) = Flags same d
+  outside q e f (Reflagged same r d b w) = Flags same (BelowDue r, d, b)
   outside q e f (Removed z d w g is i) = Freed z d g is i
 
   -- through the window the entry at y is seen at a longer path
   inside : (w : Window) → window ≡ Some w → (y q : List ℕ) (e f : ℕ) → begins_with window q ≡ true → length y < length q → length q ≤ L → Becomes L window due pool y e f → Moves L window due pool q e f
   inside w is y q e f within l top (AsBefore same) = Stays same
   inside w is y q e f within l top (Made u) = Begins u
-  inside w is y q e f within l top (Marked k same) = Grew k (longer_same L y q e f l same)
+  inside w is y q e f within l top (Marked k same) = Grew k same
   inside w is y q e f within l top (Remapped n d has) = Leaf
       (⊎_elim (λ k. short_table L y q e k (omega arith) ∙ n) (λ k. long_table L q e k) (cases_lt (length q) L))
       (inr (has (omega arith) w is, within))
-  inside w is y q e f within l top (Reflagged same d) = Flags (longer_same L y q e f l same) d
+  inside w is y q e f within l top (Reflagged same r d b has) = Flags same (WindowDue, has w is, within)
   inside w is y q e f within l top (Removed z d has g names i) = ⊎_elim
       (λ k. Freed z d g (short_table L y q e k (omega arith) ∙ names) i)
       (λ k. Leaf (long_table L q e k) (inr (has w is, within))) (cases_lt (length q) L)

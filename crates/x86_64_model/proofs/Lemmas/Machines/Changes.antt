@@ -1,6 +1,6 @@
 -- What a call on one entry writes: nothing, or one entry, which names the same table as before.
 use Rattle.std.proofs.Common.{◌≡◌, ◌≢◌, ⊎_elim, ◌<◌, ◌≤◌, ℕ, zero, suc, ◌==◌, ◌&&◌, ◌||◌, Bool, true, false, not, cond, List, [], ◌∷◌, length, take, Some, None, Option, nat_lt, nat_le, bit_or, refl, sym, ap, ap₂, ◌∙◌, subst, arith, eqb-true, ◌+◌, ◌-◌, ltb-true, length-take-le}
-use Rattle.std.proofs.lemmas.Bool.{or_cases, leb-false, not-true, not-false}
+use Rattle.std.proofs.lemmas.Bool.{or_cases, leb-false, not-true, not-false, cases_Bool}
 use Rattle.x86_64_model.specs.Entry.{used, present, huge, address, names_table, no_address}
 use Rattle.x86_64_model.specs.PathMap.{PathMap, entry, put, table_of}
 use Rattle.x86_64_model.specs.Window.{Window, entry_at, begins_with}
@@ -9,8 +9,8 @@ use Rattle.x86_64_model.specs.PageRules.{AfterChange, refused_or, unmap, update_
 use Rattle.x86_64_model.specs.MapRule.{leaf_entry}
 use Rattle.x86_64_model.specs.Path.{level_of, front_at, IsPage}
 use Rattle.x86_64_model.specs.Allowed.{refuses, both_or_none, set_flags_allowed}
-use Rattle.x86_64_model.proofs.Lemmas.Entries.Bits.{address_or, address_address, used_present, only_flags}
-use Rattle.x86_64_model.proofs.Lemmas.Hierarchies.Changes.{unused_no_table, unnamed}
+use Rattle.x86_64_model.proofs.Lemmas.Entries.Bits.{address_or, address_address, used_present, used_from, only_flags}
+use Rattle.x86_64_model.proofs.Lemmas.Hierarchies.Changes.{unused_no_table, unnamed, zero_not_huge}
 use Rattle.x86_64_model.proofs.Lemmas.Maps.Frames.{used_or}
 use Rattle.x86_64_model.proofs.Lemmas.Walks.Agrees.{named}
 use Rattle.x86_64_model.proofs.Lemmas.Hierarchies.Trees.{IsHierarchy}
@@ -99,6 +99,12 @@ begins_take (Some w) zero q l h = absurd (omega arith)
 begins_take (Some w) (suc n) [] l h = refl
 begins_take (Some w) (suc n) (i ∷ q) l h = h
 
+-- the word w leads where the used entry e leads
+pub record LeadsAlike (e w : ℕ) : Type 0 where
+  pub is_used : used w ≡ true
+  pub same_huge : huge w ≡ huge e
+  pub same_address : address w ≡ address e
+
 module _ (L : ℕ) (window : Option Window) (root : ℕ) (M : PathMap) (h : IsHierarchy L root M) (level : ℕ) (page : List ℕ) (given : ℕ) (low : 2 ≤ level) (top : level ≤ L) (is : IsPage L page) (out : begins_with window page ≡ false) where
   -- the path of the entry
   abbrev pub at_level : List ℕ
@@ -108,11 +114,12 @@ module _ (L : ℕ) (window : Option Window) (root : ℕ) (M : PathMap) (h : IsHi
   table_nonzero [] a b t z = absurd (omega arith)
   table_nonzero (i ∷ q) a b t z = h.not_zero i q (named L (i ∷ q) (entry M (i ∷ q)) t b ∙ ap Some z)
 
-  pub set_flags_change : no_address given ≡ true → set_flags_allowed L (entry_at window M) M level page given ≡ true → (P : AfterChange → Type 0) → ((why : Refusal) → P (record { paths = M; answer = Refused why }))
-      → (IsChange L window M (front_at L level page) (bit_or (address (entry M (front_at L level page))) given) → P (record { paths = put M (front_at L level page) (bit_or (address (entry M (front_at L level page))) given); answer = Done (address (entry M (front_at L level page))) }))
+  -- with whatever flags, it leads where it led
+  pub set_flags_kept : no_address given ≡ true → set_flags_allowed L (entry_at window M) M level page given ≡ true → (P : AfterChange → Type 0) → ((why : Refusal) → P (record { paths = M; answer = Refused why }))
+      → (IsChange L window M (front_at L level page) (bit_or (address (entry M (front_at L level page))) given) → LeadsAlike (entry M (front_at L level page)) (bit_or (address (entry M (front_at L level page))) given) → P (record { paths = put M (front_at L level page) (bit_or (address (entry M (front_at L level page))) given); answer = Done (address (entry M (front_at L level page))) }))
       → P (set_flags L (entry_at window M) M level page given)
   unfolding set_flags
-  set_flags_change plain may P fails works = elim (nat_le level (level_of L page)) as (λ b. nat_le level (level_of L page) ≡ b → P (cond b (record { paths = M; answer = Refused ParentEntryHugePage }) (refused_or M (first_stop (entry_at window M) at_level)
+  set_flags_kept plain may P fails works = elim (nat_le level (level_of L page)) as (λ b. nat_le level (level_of L page) ≡ b → P (cond b (record { paths = M; answer = Refused ParentEntryHugePage }) (refused_or M (first_stop (entry_at window M) at_level)
       (refused_or M (refused_if (not (used (entry_at window M at_level))) PageNotMapped None) (record { paths = put M at_level (bit_or (address (entry_at window M at_level)) given); answer = Done (address (entry_at window M at_level)) }))))) [
         | true ↦ λ _. fails _
         | false ↦ λ l. refused_by P M (first_stop (entry_at window M) at_level) _ fails (λ s.
@@ -130,6 +137,13 @@ module _ (L : ℕ) (window : Option Window) (root : ℕ) (M : PathMap) (h : IsHi
               outside = o;
               same_table = set_same_table L at_level (entry M at_level) given u a same (table_nonzero at_level (omega arith) (omega arith));
               low = λ up. set_huge _ given ∙ same ∙ h.none_huge at_level up;
+            }) (record {
+              is_used = ⊎_elim
+                  (λ big. used_from _ (λ z. let t : true ≡ false = sym (set_huge (entry M at_level) given ∙ same ∙ big) ∙ ap huge z ∙ zero_not_huge in cc))
+                  (λ plain. used_or (address (entry M at_level)) given (table_nonzero at_level (omega (arith, size, above)) (omega (arith, size, low)) (ap₂ (λ u h. u && not h) u plain)))
+                  (cases_Bool (huge (entry M at_level)));
+              same_huge = set_huge (entry M at_level) given ∙ same;
+              same_address = set_address (entry M at_level) given a;
             }))))
       ] refl
     where
@@ -148,3 +162,8 @@ module _ (L : ℕ) (window : Option Window) (root : ℕ) (M : PathMap) (h : IsHi
             (λ e. equal _ _ e ∙ ap huge at)
             (or_cases _ _ m)
       ] refl may
+
+  pub set_flags_change : no_address given ≡ true → set_flags_allowed L (entry_at window M) M level page given ≡ true → (P : AfterChange → Type 0) → ((why : Refusal) → P (record { paths = M; answer = Refused why }))
+      → (IsChange L window M (front_at L level page) (bit_or (address (entry M (front_at L level page))) given) → P (record { paths = put M (front_at L level page) (bit_or (address (entry M (front_at L level page))) given); answer = Done (address (entry M (front_at L level page))) }))
+      → P (set_flags L (entry_at window M) M level page given)
+  set_flags_change plain may P fails works = set_flags_kept plain may P fails (λ c k. works c)

@@ -40,7 +40,7 @@ word_of_used L T root M holds q u = ⊎_elim
     (some.0, l.1, record { above = l.0; path = l.2; leads = some.1; small = last.0 }, sym (ap (entry M) l.2 ∙ holds.entries l.0 l.1 ∙ ap (λ t. entry_in T t l.1) some.1)))
     (last_of q)
 
-within_words : (T : Words) (f i : ℕ) (words : List ℕ) → T f ≡ Some words → used (word T f i) ≡ true → i < length words
+pub within_words : (T : Words) (f i : ℕ) (words : List ℕ) → T f ≡ Some words → used (word T f i) ≡ true → i < length words
 unfolding word
 within_words T f i words is u = ⊎_elim (λ l. l) (λ l. absurd (let t : false ≡ true = sym (ap used (past l) ∙ zero_not_used) ∙ u in cc)) (cases_lt i (length words))
   where
@@ -51,7 +51,7 @@ within_words T f i words is u = ⊎_elim (λ l. l) (λ l. absurd (let t : false 
 
 module _ (window : Option Window) (T : Words) (root f i w : ℕ) (apart : (v : Window) → window ≡ Some v → f ≡ root → i ≢ v.index) where
   -- the path map sees the word as it is
-  word_outside : word (outside_window window root T) f i ≡ word T f i
+  pub word_outside : word (outside_window window root T) f i ≡ word T f i
   word_outside = by window apart
     where
       by : (o : Option Window) → ((v : Window) → o ≡ Some v → f ≡ root → i ≢ v.index) → word (outside_window o root T) f i ≡ word T f i
@@ -59,7 +59,7 @@ module _ (window : Option Window) (T : Words) (root f i w : ℕ) (apart : (v : W
       by (Some v) n = ⊎_elim (λ r. word-set_index T root v.index 0 f i (n v refl r)) (λ r. word-set_frame T root v.index 0 f i r) (cases_eq f root)
 
   -- and the self-entry stays
-  self_after : SelfEntry T root window → SelfEntry (set_word T f i w) root window
+  pub self_after : SelfEntry T root window → SelfEntry (set_word T f i w) root window
   self_after = by window apart
     where
       by : (o : Option Window) → ((v : Window) → o ≡ Some v → f ≡ root → i ≢ v.index) → SelfEntry T root o → SelfEntry (set_word T f i w) root o
@@ -71,7 +71,7 @@ module _ (window : Option Window) (T : Words) (root f i w : ℕ) (apart : (v : W
 module _ (L : ℕ) (window : Option Window) (T : Words) (root : ℕ) (M : PathMap) (valid : IsValidFor L window T root M) (p : List ℕ) (i f : ℕ)
     (leads : table_at L root M p ≡ Some f) (small : i < 512) (out : begins_with window (p ++ i ∷ []) ≡ false) where
   -- outside the window the word is not the self-entry
-  not_self : (v : Window) → window ≡ Some v → f ≡ root → i ≢ v.index
+  pub not_self : (v : Window) → window ≡ Some v → f ≡ root → i ≢ v.index
   not_self v is at same =
       let top : p ≡ [] = valid.valid.own_frames p [] root (leads ∙ ap Some at) refl in
       let t : (i == v.index) ≡ false = sym (ap₂ (λ w p. begins_with w (p ++ i ∷ [])) is top) ∙ out in

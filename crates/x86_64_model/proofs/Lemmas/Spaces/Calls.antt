@@ -1,8 +1,8 @@
 -- Which calls change nothing below shared indices, and which leave the root's entries there.
-use Rattle.std.proofs.Common.{zero, suc, ◌≡◌, ◌≢◌, ⊎_elim, ◌≤◌, ◌<◌, ◌+◌, ◌-◌, ℕ, ◌==◌, ◌&&◌, nat_lt, not, Bool, true, false, cond, List, [], ◌∷◌, length, take, Option, bit_or, refl, sym, ap, ◌∙◌, arith, eq-eqb, ne_eqb}
+use Rattle.std.proofs.Common.{zero, suc, ◌≡◌, ◌≢◌, ⊎_elim, ◌||◌, find, map, Some, ◌≤◌, ◌<◌, ◌+◌, ◌-◌, ℕ, ◌==◌, ◌&&◌, nat_lt, not, Bool, true, false, cond, List, [], ◌∷◌, length, take, Option, bit_or, refl, sym, ap, ◌∙◌, arith, eq-eqb, ne_eqb}
 use Rattle.std.specs.List.{AllByRecursion}
-use Rattle.std.proofs.lemmas.Bool.{and_parts, not-true, cases_Bool, cases_eq}
-use Rattle.x86_64_model.specs.Allowed.{allowed}
+use Rattle.std.proofs.lemmas.Bool.{and_parts, or_cases, not-true, cases_Bool, cases_eq}
+use Rattle.x86_64_model.specs.Allowed.{none_absent, parents_present, allowed}
 use Rattle.x86_64_model.specs.Call.{IsCall, Call, MapTo, MapToWithTableFlags, IdentityMap, Unmap, UpdateFlags, SetFlags, TranslatePage, Translate, TranslateAddress, CleanUp}
 use Rattle.x86_64_model.specs.CleanUp.{meets, in_range, is_removed, clean_up}
 use Rattle.x86_64_model.specs.Entry.{IsParentFlags, used, present, huge}
@@ -16,15 +16,16 @@ use Rattle.x86_64_model.specs.PathMap.{PathMap, entry, put}
 use Rattle.x86_64_model.specs.Pool.{TakesBack}
 use Rattle.x86_64_model.specs.Spaces.{is_shared, Avoids, HasFlags, SparesRoot}
 use Rattle.x86_64_model.specs.Window.{Window}
+use Rattle.x86_64_model.proofs.Lemmas.Entries.Bits.{unused_absent}
 use Rattle.x86_64_model.proofs.Lemmas.CleanUps.Keys.{entry-cleaned}
 use Rattle.x86_64_model.proofs.Lemmas.CleanUps.Removed.{removed_gives, in_range_parts}
 use Rattle.x86_64_model.proofs.Lemmas.Hierarchies.Trees.{IsTree, IsHierarchy}
 use Rattle.x86_64_model.proofs.Lemmas.Lists.All.{all_mapped}
 use Rattle.x86_64_model.proofs.Lemmas.Machines.Changes.{unmap_change, update_change, set_flags_change}
-use Rattle.x86_64_model.proofs.Lemmas.Machines.Effects.{machine, step_cases}
+use Rattle.x86_64_model.proofs.Lemmas.Machines.Effects.{machine, map_may, page_at_level, step_cases}
 use Rattle.x86_64_model.proofs.Lemmas.Machines.Fitting.{sound_of_fits}
 use Rattle.x86_64_model.proofs.Lemmas.Machines.States.{IsSound, step_sound}
-use Rattle.x86_64_model.proofs.Lemmas.Maps.Accepted.{map_leaves}
+use Rattle.x86_64_model.proofs.Lemmas.Maps.Accepted.{map_leaves, added_there}
 use Rattle.x86_64_model.proofs.Lemmas.Maps.Rights.{map_grows}
 use Rattle.x86_64_model.proofs.Lemmas.Maps.Trees.{page_descends, parents_begin}
 use Rattle.x86_64_model.proofs.Lemmas.Paths.Puts.{entry-put_other}
@@ -38,14 +39,14 @@ parents_shared : (shared : ℕ → Bool) (q : List ℕ) → is_shared shared q �
 parents_shared shared [] h = tt
 parents_shared shared (i ∷ q) h = all_mapped (λ p. (s : List ℕ) × (p ≡ i ∷ s)) (λ p. is_shared shared p ≡ false) (λ p x. ap (is_shared shared) x.1 ∙ h) (parents (i ∷ q)) (parents_begin i q)
 
-front_shared : (shared : ℕ → Bool) (n : ℕ) (q : List ℕ) → 1 ≤ n → is_shared shared q ≡ false → is_shared shared (take n q) ≡ false
+pub front_shared : (shared : ℕ → Bool) (n : ℕ) (q : List ℕ) → 1 ≤ n → is_shared shared q ≡ false → is_shared shared (take n q) ≡ false
 front_shared shared zero q l h = absurd (omega arith)
 front_shared shared (suc n) [] l h = refl
 front_shared shared (suc n) (i ∷ q) l h = h
 
 -- ---- what maps and clean ups leave
 
-map_avoids : (shared : ℕ → Bool) (L root more added : ℕ) (q : List ℕ) (frame given : ℕ) (M : PathMap) (supply : List ℕ) → IsTree L root M → is_shared shared q ≡ false
+pub map_avoids : (shared : ℕ → Bool) (L root more added : ℕ) (q : List ℕ) (frame given : ℕ) (M : PathMap) (supply : List ℕ) → IsTree L root M → is_shared shared q ≡ false
     → (r : List ℕ) → is_shared shared r ≡ true → entry (map_call L M supply more added q frame given).paths r ≡ entry M r
 map_avoids shared L root more added q frame given M supply tree off r on =
     map_leaves more added q (leaf_entry L q frame given) frame r (differ shared r q on off) M supply (parents q) (page_descends L root M tree q)
@@ -96,7 +97,7 @@ module _ (shared : ℕ → Bool) (L : ℕ) (window : Option Window) (root added 
   done_avoids (TranslateAddress p) is h off = refl
   done_avoids (CleanUp low high) is h off = clean_up_avoids shared L s.paths low high off r on
 
-  step_avoids : (call : Call) → IsCall L call → Avoids L shared call → Same (step (machine L window added take_back) s call).state.paths
+  pub step_avoids : (call : Call) → IsCall L call → Avoids L shared call → Same (step (machine L window added take_back) s call).state.paths
   step_avoids call is off = step_cases (machine L window added take_back) s call (λ after. Same after.state.paths) (λ h. done_avoids call is h off) refl
 
 run_avoids : (shared : ℕ → Bool) (L : ℕ) (window : Option Window) (root : ℕ) (serves : ℕ → Bool) (added : ℕ) → IsParentFlags added → (take_back : List ℕ → ℕ → List ℕ) → TakesBack take_back
@@ -123,23 +124,44 @@ two_indices (suc (suc n)) (a ∷ []) i l k e = absurd (omega arith)
 two_indices (suc (suc n)) (a ∷ b ∷ q) i l k e = cc
 
 module _ (shared : ℕ → Bool) (L : ℕ) (four : 3 < L) (window : Option Window) (root added : ℕ) (take_back : List ℕ → ℕ → List ℕ) (s : State) (hierarchy : IsHierarchy L root s.paths)
-    (E : ℕ → ℕ) (i : ℕ) (on : shared i ≡ true) (is_used : used (entry s.paths (i ∷ [])) ≡ true) (now : entry s.paths (i ∷ []) ≡ E i) where
+    (E : ℕ → ℕ) (i : ℕ) (on : shared i ≡ true) (now : entry s.paths (i ∷ []) ≡ E i) where
   abbrev Kept : PathMap → Type 0
   Kept N = entry N (i ∷ []) ≡ entry s.paths (i ∷ [])
 
-  maps_spare : (q : List ℕ) (frame given more : ℕ) → HasFlags shared E q more → Kept (map_call L s.paths s.pool more added q frame given).paths
-  maps_spare q frame given more has = ⊎_elim (λ e. e) (λ e. by q has e)
-      (map_grows more added q (leaf_entry L q frame given) frame s.paths s.pool (parents q) (page_descends L root s.paths hierarchy.tree q) (i ∷ []) is_used)
-    where
-      elsewhere : (q : List ℕ) → is_shared (λ k. k == i) q ≡ false → Kept (map_call L s.paths s.pool more added q frame given).paths
-      elsewhere q off = map_avoids (λ k. k == i) L root more added q frame given s.paths s.pool hierarchy.tree off (i ∷ []) (eq-eqb i i refl)
+  -- no map of a page with another first index changes the root's entry
+  elsewhere : (q : List ℕ) (frame given more : ℕ) → is_shared (λ k. k == i) q ≡ false → Kept (map_call L s.paths s.pool more added q frame given).paths
+  elsewhere q frame given more off = map_avoids (λ k. k == i) L root more added q frame given s.paths s.pool hierarchy.tree off (i ∷ []) (eq-eqb i i refl)
 
+  -- a map below an entry that isn't used isn't allowed, if it adds no flag to it
+  not_allowed : (q : List ℕ) (more : ℕ) → IsPage L q → parents_present s.paths more q ≡ true → HasFlags shared E q more → used (entry s.paths (i ∷ [])) ≡ false → is_shared (λ k. k == i) q ≡ false
+  not_allowed [] more page may has none = refl
+  not_allowed (j ∷ q) more page may has none = ⊎_elim (λ same. absurd (by q page may (λ h. has h) same)) (λ n. ne_eqb j i n) (cases_eq j i)
+    where
+      absent : j ≡ i → present (entry s.paths (j ∷ [])) ≡ false
+      absent same = ap (λ j. present (entry s.paths (j ∷ []))) same ∙ unused_absent _ none
+
+      by : (q : List ℕ) → IsPage L (j ∷ q) → parents_present s.paths more (j ∷ q) ≡ true → (shared j ≡ true → bit_or (E j) more ≡ E j) → j ≡ i → ⊥
+      by [] page may has same = let least = page.at_least in omega (arith, least, four)
+      by (k ∷ q) page may has same = ⊎_elim
+          (λ h. let t : true ≡ false = sym (added_there (E j) more 0x1 h) ∙ ap present (has (ap shared same ∙ on) ∙ ap E same ∙ sym now) ∙ unused_absent _ none in cc)
+          (λ h. let first : none_absent s.paths (find (λ p. not (present (entry s.paths p)) || huge (entry s.paths p)) (parents (j ∷ k ∷ q))) ≡ false
+          = ap (λ b. none_absent s.paths (cond (not b || huge (entry s.paths (j ∷ []))) (Some (j ∷ [])) (find (λ p. not (present (entry s.paths p)) || huge (entry s.paths p)) (map (λ p. j ∷ p) (parents (k ∷ q)))))) (absent same) ∙ absent same in
+          let t : true ≡ false = sym h ∙ first in cc)
+          (or_cases _ _ may)
+
+  maps_spare : (q : List ℕ) (frame given more : ℕ) → IsPage L q → parents_present s.paths more q ≡ true → HasFlags shared E q more → Kept (map_call L s.paths s.pool more added q frame given).paths
+  maps_spare q frame given more page may has = ⊎_elim
+      (λ is_used. ⊎_elim (λ e. e) (λ e. by q has e)
+      (map_grows more added q (leaf_entry L q frame given) frame s.paths s.pool (parents q) (page_descends L root s.paths hierarchy.tree q) (i ∷ []) is_used))
+      (λ none. elsewhere q frame given more (not_allowed q more page may has none))
+      (cases_Bool (used (entry s.paths (i ∷ []))))
+    where
       by : (q : List ℕ) → HasFlags shared E q more → entry (map_call L s.paths s.pool more added q frame given).paths (i ∷ []) ≡ bit_or (entry s.paths (i ∷ [])) more
           → Kept (map_call L s.paths s.pool more added q frame given).paths
-      by [] has e = elsewhere [] refl
+      by [] has e = elsewhere [] frame given more refl
       by (j ∷ q) has e = ⊎_elim
           (λ same. e ∙ ap (λ x. bit_or x more) (now ∙ ap E (sym same)) ∙ has (ap shared same ∙ on) ∙ ap E same ∙ sym now)
-          (λ n. elsewhere (j ∷ q) (ne_eqb j i n))
+          (λ n. elsewhere (j ∷ q) frame given more (ne_eqb j i n))
           (cases_eq j i)
 
   put_longer : (q : List ℕ) (w : ℕ) → IsPage L q → Kept (put s.paths q w)
@@ -147,9 +169,10 @@ module _ (shared : ℕ → Bool) (L : ℕ) (four : 3 < L) (window : Option Windo
 
   done_spares : (call : Call) → IsCall L call → allowed L window s.paths call ≡ true → SparesRoot L shared E call → Kept (do_call (machine L window added take_back) s call).state.paths
   unfolding do_call
-  done_spares (MapTo q frame given) is h spares = maps_spare q frame given (parent_part given) spares
-  done_spares (MapToWithTableFlags q frame given more) is h spares = maps_spare q frame given more spares
-  done_spares (IdentityMap level frame given) is h spares = maps_spare (path_at L level frame) frame given (parent_part given) spares
+  done_spares (MapTo q frame given) is h spares = maps_spare q frame given (parent_part given) is (map_may L window s.paths q given _ h).parents spares
+  done_spares (MapToWithTableFlags q frame given more) is h spares = maps_spare q frame given more is (map_may L window s.paths q given _ h).parents spares
+  done_spares (IdentityMap level frame given) is h spares = maps_spare (path_at L level frame) frame given (parent_part given) (page_at_level L level frame is.0 is.1 is.2)
+      (map_may L window s.paths (path_at L level frame) given _ (and_parts _ _ h).1).parents spares
   done_spares (Unmap q) is h spares = unmap_change L window s.paths q is (not-true _ h) (λ c. Kept c.paths) (λ why. refl) (λ c. put_longer q _ is)
   done_spares (UpdateFlags q given) is h spares = update_change L window s.paths q is (not-true _ (and_parts _ _ h).1) given (λ c. Kept c.paths) (λ why. refl) (λ c. put_longer q _ is)
   done_spares (SetFlags level q given) is h spares = let a = and_parts _ _ h in let b = and_parts _ _ a.0 in let top = is.1 in let page = is.2 in let least = page.at_least in
@@ -167,18 +190,18 @@ module _ (shared : ℕ → Bool) (L : ℕ) (four : 3 < L) (window : Option Windo
   step_spares call is spares = step_cases (machine L window added take_back) s call (λ after. Kept after.state.paths) (λ h. done_spares call is h spares) refl
 
 run_spares : (shared : ℕ → Bool) (L : ℕ) → 3 < L → (window : Option Window) (root : ℕ) (serves : ℕ → Bool) (added : ℕ) → IsParentFlags added → (take_back : List ℕ → ℕ → List ℕ) → TakesBack take_back
-    → (E : ℕ → ℕ) (i : ℕ) → shared i ≡ true → used (E i) ≡ true
+    → (E : ℕ → ℕ) (i : ℕ) → shared i ≡ true
     → (calls : List Call) → AllCalls L calls → AllByRecursion (SparesRoot L shared E) calls → (s : State) → IsSound L window root serves s → entry s.paths (i ∷ []) ≡ E i
     → entry (state_after (machine L window added take_back) s calls).paths (i ∷ []) ≡ E i
-run_spares shared L four window root serves added adds take_back gives E i on is_used [] is spares s sound now = now
-run_spares shared L four window root serves added adds take_back gives E i on is_used (call ∷ calls) is spares s sound now =
-    run_spares shared L four window root serves added adds take_back gives E i on is_used calls is.1 spares.1 _ (step_sound L window root serves s sound added adds take_back gives call is.0)
-    (step_spares shared L four window root added take_back s sound.hierarchy E i on (ap used now ∙ is_used) now call is.0 spares.0 ∙ now)
+run_spares shared L four window root serves added adds take_back gives E i on [] is spares s sound now = now
+run_spares shared L four window root serves added adds take_back gives E i on (call ∷ calls) is spares s sound now =
+    run_spares shared L four window root serves added adds take_back gives E i on calls is.1 spares.1 _ (step_sound L window root serves s sound added adds take_back gives call is.0)
+    (step_spares shared L four window root added take_back s sound.hierarchy E i on now call is.0 spares.0 ∙ now)
 
 pub calls_keep_root_entries : CallsKeepRootEntries
-calls_keep_root_entries shared layout four adds take_back gives serves m n pool rest calls are fits led is_used spares i on =
+calls_keep_root_entries shared layout four adds take_back gives serves m n pool rest calls are fits led spares i on =
     ap (λ (s : State). entry s.paths (i ∷ [])) led
-    ∙ run_spares shared layout.levels four layout.window layout.root serves layout.added_flags adds take_back gives (λ i. entry (paths (layout laid_in m)) (i ∷ [])) i on (is_used i on) calls are spares (state_in layout m pool)
+    ∙ run_spares shared layout.levels four layout.window layout.root serves layout.added_flags adds take_back gives (λ i. entry (paths (layout laid_in m)) (i ∷ [])) i on calls are spares (state_in layout m pool)
     (sound_of_fits layout.levels layout.window (words (layout laid_in m)) layout.root serves (state_in layout m pool) fits) refl
 
 -- ---- what keeps an entry of the root in a clean up

@@ -68,7 +68,7 @@ module _ (shared : ℕ → Bool) (spaces : List Layout) (first new : Layout) (me
   levels_of : (a : Layout) → In spaces a → 0 < a.levels
   levels_of a i = subst (λ n. 0 < n) (sym (alike a i).1) some
 
-  old_paths : (a : Layout) → In spaces a → paths (a laid_in m) ≡ paths (a laid_in n)
+  pub old_paths : (a : Layout) → In spaces a → paths (a laid_in m) ≡ paths (a laid_in n)
   old_paths a i = unchanged_paths a (levels_of a i) m n (are.fits a i).valid (same_tables a i)
 
   old_valid : (a : Layout) → In spaces a → Valid (a laid_in n)

@@ -5,8 +5,8 @@ use Rattle.x86_64_spaces.proofs.Chosen.{first_in}
 use Rattle.x86_64_spaces.proofs.Sound.{fits_at}
 use Rattle.x86_64_spaces.proofs.fitting.spaces_fit.Goals as goal
 
-pub returns : goal.returns
-returns g c =
+pub returns-clause-decides : goal.returns-clause-decides
+returns-clause-decides g c =
     let m = g.T.TableMemory.tables c.args.memory.now in let places = g.P.PageTableFrameMapping.places c.args.mapping.now in
     let mapping = g.met.P.PageTableFrameMapping.is_mapping c.args.mapping.now in
     let first = c.in-Some.first.now in let spaces = c.args.spaces.now in

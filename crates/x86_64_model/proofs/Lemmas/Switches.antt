@@ -1,0 +1,13 @@
+pub mod Alike
+pub mod Calls
+pub mod Dues
+pub mod Events
+pub mod Globals
+pub mod Layouts
+pub mod Makes
+pub mod Marks
+pub mod NewOnes
+pub mod Processors
+pub mod Runs
+pub mod Safe
+pub mod Writes

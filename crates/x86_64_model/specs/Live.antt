@@ -1,0 +1,80 @@
+-- Live tables: a processor marks entries as accessed and dirty at any moment, and a kernel or a hypervisor
+-- exchanges entries, each in one locked step. Intel SDM vol. 3A, "Accessed and Dirty Flags"; AMD APM vol.
+-- 2, "Accessed (A) Bit" and "Dirty (D) Bit".
+use Rattle.std.specs.Prelude.{ℕ, List, [], ◌∷◌, bit_and, bit_or}
+use Rattle.x86_64_model.specs.Laws.EntriesInPlace.{IsInPlace, MayReplace, with_word}
+use Rattle.x86_64_model.specs.Layout.{Layout}
+use Rattle.x86_64_model.specs.Mapper.{◌laid_in◌, paths, words}
+use Rattle.x86_64_model.specs.Memory.{Memory, word}
+use Rattle.x86_64_model.specs.PathMap.{PathMap, entry, put}
+
+-- ---- of entries
+
+pub data Happening : Type 0 where
+  -- A processor adds a mark to the entry at a path: ACCESSED (0x20), or ACCESSED and DIRTY (0x60).
+  Marks : (path : List ℕ) (mark : ℕ) → Happening
+  -- A kernel puts another word in the place of the entry at a path, and learns the entry. The word may
+  -- depend on it, as in a loop that compares and exchanges until it succeeds.
+  Exchanges : (path : List ℕ) (next : ℕ → ℕ) → Happening
+
+-- The flags of an exchange by masks: those not kept are cleared, then those given are set.
+abbrev pub by_masks : (keep given : ℕ) → (entry : ℕ) → ℕ
+by_masks keep given e = bit_or (bit_and e keep) given
+
+abbrev pub path_of : Happening → List ℕ
+path_of (Marks q mark) = q
+path_of (Exchanges q next) = q
+
+abbrev pub next_word : Happening → (entry : ℕ) → ℕ
+next_word (Marks q mark) e = bit_or e mark
+next_word (Exchanges q next) e = next e
+
+abbrev pub after_happening : PathMap → Happening → PathMap
+after_happening paths h = put paths (path_of h) (next_word h (entry paths (path_of h)))
+
+abbrev pub after_happenings : PathMap → List Happening → PathMap
+after_happenings paths [] = paths
+after_happenings paths (h ∷ hs) = after_happenings (after_happening paths h) hs
+
+-- What the exchanges learned, in order: the paths, and the entries that were there.
+abbrev pub learned : PathMap → List Happening → List (List ℕ × ℕ)
+learned paths [] = []
+learned paths (Marks q mark ∷ hs) = learned (after_happening paths (Marks q mark)) hs
+learned paths (Exchanges q next ∷ hs) = (q, entry paths q) ∷ learned
+    (after_happening paths (Exchanges q next)) hs
+
+-- ---- of words
+
+-- A happening, and the word that it changes.
+pub record Placed : Type 0 where
+  pub what : Happening
+  pub frame : ℕ
+  pub index : ℕ
+
+abbrev pub after_placed : Layout → Memory → Placed → Memory
+after_placed l m x = with_word l m x.frame x.index
+    (next_word x.what (word (words (l laid_in m)) x.frame x.index))
+
+abbrev pub after_all_placed : Layout → Memory → List Placed → Memory
+after_all_placed l m [] = m
+after_all_placed l m (x ∷ xs) = after_all_placed l (after_placed l m x) xs
+
+-- The word is that of the entry, which the new word may replace.
+abbrev pub MayHappen : Layout → Memory → Placed → Type 0
+MayHappen l m x = IsInPlace l m (path_of x.what) x.frame x.index
+    × MayReplace l.levels (path_of x.what) (entry (paths (l laid_in m)) (path_of x.what))
+    (next_word x.what (entry (paths (l laid_in m)) (path_of x.what)))
+
+abbrev pub AllMayHappen : Layout → Memory → List Placed → Type 0
+AllMayHappen l m [] = Unit {0}
+AllMayHappen l m (x ∷ xs) = MayHappen l m x × AllMayHappen l (after_placed l m x) xs
+
+abbrev pub with_learned : Happening → (entry : ℕ) → List (List ℕ × ℕ) → List (List ℕ × ℕ)
+with_learned (Marks q mark) e more = more
+with_learned (Exchanges q next) e more = (q, e) ∷ more
+
+-- What the exchanges read in memory, in order.
+abbrev pub words_learned : Layout → Memory → List Placed → List (List ℕ × ℕ)
+words_learned l m [] = []
+words_learned l m (x ∷ xs) = with_learned x.what (word (words (l laid_in m)) x.frame x.index)
+    (words_learned l (after_placed l m x) xs)

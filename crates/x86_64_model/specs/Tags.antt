@@ -1,0 +1,104 @@
+-- What a processor caches of several address spaces: items of PCIDs, and global translations. Loads of CR3,
+-- INVLPG and INVPCID. Intel SDM vol. 3A, "Process-Context Identifiers (PCIDs)", "Global Pages", "Operations
+-- that Invalidate TLBs and Paging-Structure Caches".
+use Rattle.std.specs.Prelude.{◌≡◌, ◌⊎◌, ◌==◌, ◌&&◌, ℕ, Bool, true, false, not, cond, List, filter, map, Some}
+use Rattle.x86_64_model.specs.Lists.{In}
+use Rattle.x86_64_model.specs.Position.{page_path}
+use Rattle.x86_64_model.specs.Path.{begins}
+use Rattle.x86_64_model.specs.Entry.{has}
+use Rattle.x86_64_model.specs.Memory.{Words, word}
+use Rattle.x86_64_model.specs.Caches.{Way, Cached, Table, Page, MayRead, found}
+use Rattle.x86_64_model.specs.Flushing as one
+use Rattle.x86_64_model.specs.Flushing.{Due, PageDue, TablesDue, WindowDue, BelowDue}
+
+-- ---- items
+
+-- An item is associated with a PCID, or is a global translation, which serves whatever PCID is current.
+-- Without PCIDs (CR4.PCIDE = 0) the current one is always 0.
+pub data Tag : Type 0 where
+  Of : (pcid : ℕ) → Tag
+  Global : Tag
+
+pub record Tagged : Type 0 where
+  pub tag : Tag
+  pub item : Cached
+
+-- Whether items with this tag serve while a PCID is current.
+abbrev pub is_current : (pcid : ℕ) → Tag → Bool
+is_current pcid (Of c) = c == pcid
+is_current pcid Global = true
+
+-- The items that serve while a PCID is current.
+abbrev pub usable : (pcid : ℕ) → List Tagged → List Cached
+usable pcid cache = map (λ c. c.item) (filter (λ c. is_current pcid c.tag) cache)
+
+-- GLOBAL: the page may become a global translation.
+abbrev pub global : (entry : ℕ) → Bool
+global e = has e 0x100
+
+-- A new item is of the current PCID, or a global translation, if it is a page whose entry has GLOBAL.
+abbrev pub MayTag : (pcid entry : ℕ) → Cached → Tag → Type 0
+MayTag pcid e (Table t) tag = tag ≡ Of pcid
+MayTag pcid e (Page w) tag = (tag ≡ Of pcid) ⊎ ((tag ≡ Global) × (global e ≡ true))
+
+-- At any moment the processor may drop items and make others: each item after it was there before, or is
+-- found in a word of a table from which the processor may read on, the current root's or a cached one that
+-- serves.
+abbrev pub CachesTagged : (L root pcid : ℕ) → Words → (before after : List Tagged) → Type 0
+CachesTagged L root pcid T before after = (c : Tagged) → In after c → In before c
+    ⊎ ((t : Way) × (i : ℕ) × MayRead root (usable pcid before) t × (found L T t i ≡ Some c.item)
+    × MayTag pcid (word T t.frame i) c.item c.tag)
+
+-- ---- flushes
+
+-- INVLPG of an address, given by its position (its number counted without the gap), and INVPCID of its four
+-- kinds: of an address with a PCID, of a PCID, of everything, and of everything but global translations. A
+-- change of CR4.PGE is as `InvpcidAll`.
+pub data TaggedFlush : Type 0 where
+  Invlpg : (position : ℕ) → TaggedFlush
+  InvpcidAddress : (pcid position : ℕ) → TaggedFlush
+  InvpcidContext : (pcid : ℕ) → TaggedFlush
+  InvpcidAll : TaggedFlush
+  InvpcidAllButGlobal : TaggedFlush
+
+abbrev pub is_global : Tag → Bool
+is_global (Of c) = false
+is_global Global = true
+
+abbrev pub is_of : (pcid : ℕ) → Tag → Bool
+is_of pcid (Of c) = pcid == c
+is_of pcid Global = false
+
+abbrev pub is_page_at : (L position : ℕ) → Cached → Bool
+is_page_at L p (Table t) = false
+is_page_at L p (Page w) = begins w.path (page_path L p)
+
+abbrev pub is_due_at : (L position : ℕ) → Due → Bool
+is_due_at L p (PageDue q frame) = begins q (page_path L p)
+is_due_at L p TablesDue = false
+is_due_at L p WindowDue = false
+is_due_at L p (BelowDue q) = false
+
+-- Whether an item may be left after a flush. INVLPG drops what it drops for one root, of the current PCID and
+-- of global translations. INVPCID of an address drops the page there, of its PCID alone. It isn't counted on
+-- that it drops tables.
+abbrev pub is_left : (L current : ℕ) → TaggedFlush → Tag → Cached → Bool
+is_left L current (Invlpg p) tag c = cond (is_current current tag) (one.survives L (one.Invlpg p) c) true
+is_left L current (InvpcidAddress pcid p) tag c = not (is_of pcid tag && is_page_at L p c)
+is_left L current (InvpcidContext pcid) tag c = not (is_of pcid tag)
+is_left L current InvpcidAll tag c = false
+is_left L current InvpcidAllButGlobal tag c = is_global tag
+
+-- Whether this is due no longer for the items with a tag after a flush.
+abbrev pub is_settled : (L current : ℕ) → TaggedFlush → Tag → Due → Bool
+is_settled L current (Invlpg p) tag due = is_current current tag && one.settles L (one.Invlpg p) due
+is_settled L current (InvpcidAddress pcid p) tag due = is_of pcid tag && is_due_at L p due
+is_settled L current (InvpcidContext pcid) tag due = is_of pcid tag
+is_settled L current InvpcidAll tag due = true
+is_settled L current InvpcidAllButGlobal tag due = not (is_global tag)
+
+-- Whether items with a tag may be left after a load of CR3 with this PCID. If bit 63 is set, all may. If not,
+-- or without PCIDs, all items of this PCID are dropped, but no global translation.
+abbrev pub is_left_by_load : (pcid : ℕ) → (keeps : Bool) → Tag → Bool
+is_left_by_load pcid true tag = true
+is_left_by_load pcid false tag = not (is_of pcid tag)

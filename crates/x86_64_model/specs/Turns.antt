@@ -1,0 +1,62 @@
+-- Several processors that read and write words of one memory in turn, each word at once, as aligned words
+-- are read and written. Intel SDM vol. 3A, "Guaranteed Atomic Operations".
+use Rattle.std.specs.Prelude.{◌≡◌, ◌⊎◌, ℕ, ◌==◌, List, [], ◌∷◌, filter, Option, Some, None}
+use Rattle.x86_64_model.specs.Memory.{Words, word, set_word}
+
+-- What a processor does to a word of a frame: it reads it, which shows it a value, it writes a value, or it
+-- exchanges the word that it sees for another at once (an exchange, or a compare and exchange that
+-- succeeds).
+pub data Touch : Type 0 where
+  Reads : (frame index seen : ℕ) → Touch
+  Writes : (frame index value : ℕ) → Touch
+  Exchanges : (frame index seen value : ℕ) → Touch
+
+abbrev pub frame_of : Touch → ℕ
+frame_of (Reads f i seen) = f
+frame_of (Writes f i w) = f
+frame_of (Exchanges f i seen w) = f
+
+abbrev pub index_of : Touch → ℕ
+index_of (Reads f i seen) = i
+index_of (Writes f i w) = i
+index_of (Exchanges f i seen w) = i
+
+-- What is seen is there.
+abbrev pub Sees : Words → Touch → Type 0
+Sees tables (Reads f i seen) = word tables f i ≡ seen
+Sees tables (Writes f i w) = Unit {0}
+Sees tables (Exchanges f i seen w) = word tables f i ≡ seen
+
+abbrev pub after_touch : Words → Touch → Words
+after_touch tables (Reads f i seen) = tables
+after_touch tables (Writes f i w) = set_word tables f i w
+after_touch tables (Exchanges f i seen w) = set_word tables f i w
+
+-- A turn of a processor.
+pub record Turn : Type 0 where
+  pub processor : ℕ
+  pub touch : Touch
+
+-- Turns in order: each sees what is there then.
+abbrev pub AllSee : Words → List Turn → Type 0
+AllSee tables [] = Unit {0}
+AllSee tables (t ∷ ts) = Sees tables t.touch × AllSee (after_touch tables t.touch) ts
+
+abbrev pub after_turns : Words → List Turn → Words
+after_turns tables [] = tables
+after_turns tables (t ∷ ts) = after_turns (after_touch tables t.touch) ts
+
+-- The turns of one processor.
+abbrev pub turns_of : (processor : ℕ) → List Turn → List Turn
+turns_of k turns = filter (λ t. t.processor == k) turns
+
+abbrev pub OnlyReads : Touch → Type 0
+OnlyReads (Reads f i seen) = Unit {0}
+OnlyReads (Writes f i w) = ⊥
+OnlyReads (Exchanges f i seen w) = ⊥
+
+-- The turn touches a word of its processor's own, or reads one that is nobody's, such as a word of a shared
+-- table.
+abbrev pub KeepsApart : (owner : (frame i : ℕ) → Option ℕ) → Turn → Type 0
+KeepsApart owner t = (owner (frame_of t.touch) (index_of t.touch) ≡ Some t.processor)
+    ⊎ (OnlyReads t.touch × (owner (frame_of t.touch) (index_of t.touch) ≡ None))
