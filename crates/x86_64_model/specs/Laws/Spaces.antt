@@ -114,7 +114,6 @@ OneIsASpace = (shared : ℕ → Bool) (one : Layout) (serves : ℕ → Bool) (m 
     → AreSpaces shared m serves pool (one ∷ [])
 
 -- What calls on one of many address spaces keep is enough for all to stay, if they left the root's entries at the shared indices.
--- All others keep what they have elsewhere.
 abbrev pub SpacesStay : Type 0
 SpacesStay = (shared : ℕ → Bool) (spaces : List Layout) (one : Layout) → In spaces one → IsMapping one.places → 0 < one.levels
     → (serves : ℕ → Bool) (m n : Memory) (pool rest : List ℕ)
