@@ -89,39 +89,115 @@
  *
  * TABLES THAT A PROCESSOR USES
  *
- * The library executes no privileged instruction. Each processor that uses the root must flush what
- * it may have cached, before what a call let go is used again. x64_flush_after tells it by this
- * table:
+ * A processor caches what its page walks find: pages in the TLB, and tables on the way to them. The
+ * library executes no privileged instruction, so the caller flushes. What a call makes due depends
+ * on its status, and x64_flush_after returns it:
  *
- *   x64_unmap, x64_update_flags  the page (INVLPG of its first address), if the status is X64_OK,
- *                                also before a smaller page is mapped there
- *   x64_unmap_range, x64_update_flags_range
- *                                each page that was looked at, or everything, global pages too, if
- *                                the status is X64_OK or X64_MORE
- *   x64_set_table_flags          everything, global pages too, if the status is X64_OK
- *   x64_clean_up                 tables (any INVLPG, or a load of CR3), before the next map or
- *                                x64_new_space, and before you take a free frame yourself, if the
- *                                status is X64_OK. If EFER.TCE is set (AMD), INVLPG isn't enough
- *   x64_map, x64_map_range       nothing; but everything, global pages too, if the parent flags
- *                                have X64_NO_EXECUTE, also if the call was refused, but not by
- *                                X64_NOT_ALLOWED or an X64_BAD_ status
- *   x64_new_space                nothing
- *   x64_give_up_space            before the call: no processor uses the root any more
+ *   call                      status            due
+ *   x64_unmap                 X64_OK            the page: INVLPG of an address in it
+ *   x64_update_flags          X64_OK            the page
+ *   x64_unmap_range           X64_OK, X64_MORE  each page that was looked at, by an INVLPG of its
+ *                                               own
+ *   x64_update_flags_range    X64_OK            each page, by an INVLPG of its own
+ *   x64_set_table_flags       X64_OK            everything, global pages too: a change of CR4.PGE,
+ *                                               or INVPCID of everything
+ *   x64_clean_up              X64_OK            tables: any INVLPG, or a load of CR3 with bit 63
+ *                                               clear. If EFER.TCE is set (AMD), INVLPG isn't
+ *                                               enough
+ *   x64_map, x64_map_range    any               nothing; but everything, global pages too, if the
+ *                                               parent flags have X64_NO_EXECUTE, unless the status
+ *                                               is X64_NOT_ALLOWED or an X64_BAD_ status
+ *   x64_new_space             any               nothing
+ *   x64_give_up_space         any               nothing; but before the call no processor uses the
+ *                                               root, and no PCID holds it (see below)
  *
- * Below shared entries of address spaces, these are all processors that use one of the roots.
+ * After any other status nothing is due. A flush of everything settles all that is due. An INVLPG
+ * settles tables and its own page, and no other page.
  *
- * A load of CR3 drops no page with X64_GLOBAL. PCIDs are left out: INVLPG and a load of CR3 concern
- * the current one. It is proved of the model (flushes_after_calls_are_enough) that these flushes
- * suffice for a processor that caches, and (flushes_are_enough_with_marks) marks entries, at any
- * moment.
+ * Who flushes: each processor that uses the root. If the page of the call, or a part of its range,
+ * lies below entries that roots share, each processor that uses one of these roots.
  *
- * A call assumes that nothing else writes to the tables while it runs. A processor sets ACCESSED
- * and DIRTY in entries that it uses, and such a bit may be lost if it is set while a call writes
- * the same entry.
+ * When: several calls may be made before their flushes. A flush waits no longer than this:
  *
- * A map clears a new table before it writes the entry that names it, so a processor that walks the
- * tables meanwhile finds no old words there. This order is that of the source, which a compiler
- * may change. Frames that x64_clean_up puts back into the pool hold zeros.
+ *   any flush   until a frame that a call let go, a page's or a table's, is used for something
+ *               else. Before the flush an access may still reach the frame that the page had when
+ *               the call was made. Afterwards none does.
+ *   a page      until a smaller page is mapped there.
+ *   tables      until the next x64_map, x64_map_range or x64_new_space with this pool, on whatever
+ *               root, and until the caller takes a free frame. A freed table may become another
+ *               table or a root, which the processor would walk as the old one.
+ *
+ * PCIDs (CR4.PCIDE): a PCID holds the root with which CR3 was last loaded under it. INVLPG flushes
+ * for the PCID that is current, and global pages. A load of CR3 flushes for the PCID that it loads,
+ * if bit 63 is clear. For each other PCID that holds one of the roots above, there is INVPCID: of
+ * an address for a page, or of a PCID for all that it has. Or the PCID is given up: the next load
+ * of CR3 with it has bit 63 clear. That bit may be set only if the PCID holds the root that is
+ * loaded, and wasn't given up. Neither kind of INVPCID flushes global pages, and that of an address
+ * isn't counted on to flush tables.
+ *
+ * X64_GLOBAL: no load of CR3 flushes a page whose entry has it. So give it, in flags and in parent
+ * flags, only to pages below entries that all roots share. Any page may have it if there is one
+ * root.
+ *
+ * Faults after "nothing": a processor may have cached a page before it got more rights. An access
+ * may then fault once, though the tables allow it (x64_access tells). The handler returns, since a
+ * fault drops what is cached there (Intel SDM vol. 3A, 4.10.4.1), or it flushes the page first.
+ *
+ * SMEP and SMAP: with these, X64_USER_ACCESSIBLE takes rights from a supervisor, which the rows
+ * above don't count. A page may get it by x64_update_flags; and pages whose own entries have it may
+ * get it by a map that adds it to the entries above them. A supervisor may go on there by what is
+ * cached, until the page, or everything, is flushed. So flush it, or have no pages of users and of
+ * supervisors below one entry.
+ *
+ * What is proved: laws of a model, in which a processor may cache any present word at any moment.
+ * Each function is proved to do what the model's call does, so the laws are about these calls.
+ *
+ *   flushed_calls_leave_no_stale_item (crates/x86_64/src/laws.rt)
+ *       Rows of calls on one root, with these flushes, which may be late: afterwards each access
+ *       goes where the page walk in the present words goes, with no right more (to write, to
+ *       execute, and for users).
+ *   flushed_calls_leave_no_stale_item_of_a_space (there)
+ *       The same of roots that share entries, with loads of CR3 and global pages, if other PCIDs
+ *       are given up, or everything is flushed.
+ *   flushes_are_enough_with_switches, switching_processors_are_flushed_each (crates/x86_64_model)
+ *       The same with INVPCID, and on several processors.
+ *   new_roots_may_happen, given_up_roots_may_happen (crates/x86_64_model)
+ *       The rows of x64_new_space and x64_give_up_space.
+ *   stale_accesses_go_where_pages_were_with_switches,
+ *   frames_let_go_are_not_reached_with_switches (crates/x86_64_model)
+ *       What accesses reach before and after a flush.
+ *   calls_keep_globals_below_shared_indices (crates/x86_64_model)
+ *       The condition on X64_GLOBAL, for all calls later.
+ *   marks_of_address_spaces_may_happen (crates/x86_64_access)
+ *       A processor may set X64_ACCESSED and X64_DIRTY between calls.
+ *
+ * What isn't proved: what a processor sees between two writes of one call. The model's laws hold
+ * then, too, if at each moment the tables are a valid hierarchy, with each entry as it was or as it
+ * will be. The source writes so: a map clears a new table before it writes the entry that names it,
+ * and a clean up looks for entries in a table before it clears the one that names it. A compiler
+ * may change the order. Frames that x64_clean_up puts back into the pool hold zeros. The model
+ * leaves out memory types, protection keys, nested paging, ASIDs and INVLPGB, and that a large page
+ * may be cached in parts.
+ *
+ * WHAT ELSE READS AND WRITES TABLES
+ *
+ * Calls on one hierarchy must not run at the same time, nor calls with one pool, unless all of them
+ * only read. Calls on hierarchies that own no frame in common may, if each has a pool of its own.
+ * So may calls on address spaces with pools of their own, as long as their pages and ranges lie
+ * below entries that aren't shared. Proved are laws of the model: it is as if such calls were made
+ * one after another, in any order (turns_are_as_if_alone, calls_commute). That the functions read
+ * no words of others is read in their source. That they write none is proved.
+ *
+ * Between calls the caller may exchange the word of an entry that names no table for another such
+ * word: at level 1 any for any; at levels 2 and 3 words with X64_HUGE_PAGE, and 0. x64_entries
+ * finds the word. Then the hierarchy is valid and the pool fits as before (entries_may_change, a
+ * law). By the manuals its page is due then, if the old word has X64_PRESENT; no law says so.
+ *
+ * x64_update_flags, x64_unmap and x64_access with mark read an entry and then write it. A bit that
+ * a processor or a guest sets in between is lost, and an entry that a guest takes away in between
+ * comes back (reading_and_writing_loses_marks). If a word is changed only by exchanges, each in one
+ * locked step, no bit is lost: it is in the entry, or an exchange returned it
+ * (marks_are_never_lost).
  *
  * WHAT IS NOT PROVED
  *
@@ -197,8 +273,8 @@ enum {
 /* What has to be flushed after a call. Each flush drops what those before it drop. */
 enum {
     X64_FLUSH_NOTHING = 0,   /* nothing */
-    X64_FLUSH_TABLES = 1,    /* cached tables: any INVLPG or a load of CR3, before the next map */
-    X64_FLUSH_PAGE = 2,      /* the page, or each one of a range: INVLPG of an address in it */
+    X64_FLUSH_TABLES = 1,    /* cached tables: any INVLPG, or a load of CR3; before the next map */
+    X64_FLUSH_PAGE = 2,      /* the page, or each one of a range: an INVLPG for each */
     X64_FLUSH_EVERYTHING = 3 /* everything, global pages too */
 };
 
@@ -225,7 +301,7 @@ enum {
 #define X64_ACCESSED UINT64_C(0x20)       /* the processor used the entry */
 #define X64_DIRTY UINT64_C(0x40)          /* the processor wrote to the page */
 #define X64_HUGE_PAGE UINT64_C(0x80)      /* at levels 3 and 2: the entry maps a page */
-#define X64_GLOBAL UINT64_C(0x100)        /* the page stays in the TLB if CR3 changes */
+#define X64_GLOBAL UINT64_C(0x100)        /* the page stays in the TLB if CR3 is loaded */
 #define X64_NO_EXECUTE UINT64_C(0x8000000000000000) /* instructions aren't fetched */
 
 /* The sizes of pages, in bytes. */
@@ -483,8 +559,15 @@ uint32_t x64_spaces_fit(uint64_t first, uint64_t levels, const x64_table *tables
  * rights that all entries grant don't suffice. Reserved are bits 13 to 29 of a page of 1 GiB, bits
  * 13 to 20 of one of 2 MiB, X64_HUGE_PAGE above level 3, and what the fields of x64_controls say.
  * The error code has bit 0 if the entry has X64_PRESENT, bit 1 for a write, bit 2 for a user, bit 3
- * for a reserved bit, and bit 4 for a fetch if no_execute or smep is on. Protection keys and shadow
- * stacks are left out.
+ * for a reserved bit, and bit 4 for a fetch if no_execute or smep is on.
+ *
+ * Left out are, or have to be done by the caller:
+ *   - protection keys, shadow stacks and HLAT (another root, which the VMCS names);
+ *   - processors without pages of 1 GiB, to which X64_HUGE_PAGE at level 3 is a reserved bit;
+ *   - bit 8 of entries at levels 4 and 5, which is reserved on AMD's processors;
+ *   - LAM and AMD's UAI: clear the ignored bits of the address before;
+ *   - LASS, by which an access faults before any entry is read;
+ *   - what a processor reads as a supervisor by itself, such as descriptors: pass user = 0, ac = 0.
  *
  * If request->mark is set and the access arrives, each entry that was read gets X64_ACCESSED, and
  * that of the page X64_DIRTY for a write. Otherwise no table changes.
@@ -529,7 +612,8 @@ uint32_t x64_access(const x64_hierarchy *hierarchy, x64_table *tables, size_t ta
  * page's entry hasn't changed, but parent flags may have been added to entries above it, and new
  * tables may have been made. With X64_PARENT_ENTRY_HUGE_PAGE the entry of the larger page got the
  * parent flags, too, so that page may have more rights than before. New tables are part of the
- * hierarchy, and x64_clean_up frees them if they are empty.
+ * hierarchy, and x64_clean_up frees them if they are empty. If the parent flags have
+ * X64_USER_ACCESSIBLE, see SMEP and SMAP above.
  */
 X64_NODISCARD
 uint32_t x64_map(const x64_hierarchy *hierarchy, x64_table *tables, size_t table_count,
@@ -680,13 +764,15 @@ uint32_t x64_clean_up(const x64_hierarchy *hierarchy, x64_table *tables, size_t 
  *
  * It is proved that this is the least flush that settles all that the model makes due after a call
  * (flush_after in crates/x86_64_model/specs/Flushing.antt), and of the model that such flushes are
- * enough (flushes_after_calls_are_enough). For a range it settles what is due after each page.
+ * enough (see there). For a range X64_FLUSH_PAGE settles what each page makes due, by an INVLPG for
+ * each.
  *
  * A caller who knows more may flush less. Nothing has to be flushed after a map if x64_entries
  * reads the same entries above the page before the call and after it; nor after x64_update_flags if
  * the entry isn't 0, has each of X64_PRESENT, X64_WRITABLE, X64_USER_ACCESSIBLE, X64_ACCESSED and
  * X64_DIRTY that it had, hasn't got X64_NO_EXECUTE, and has the bits 3, 4, 7, 8 and 59 to 62 as
- * they were: caching, X64_GLOBAL and the protection key.
+ * they were: caching, X64_GLOBAL and the protection key. With SMEP or SMAP it must not have got
+ * X64_USER_ACCESSIBLE either.
  */
 X64_NODISCARD
 uint32_t x64_flush_after(uint32_t call, uint64_t parent_flags, uint32_t status);

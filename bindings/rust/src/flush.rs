@@ -35,17 +35,18 @@ pub enum Call {
     CleanUp,
 }
 
-/// What has to be flushed after a call by each processor that uses the root, before what the call let go is used again. Each flush drops
-/// what those before it drop.
+/// What has to be flushed after a call by each processor that uses the root. Each flush drops what those before it drop. The chapter "Tables
+/// that a processor uses" of `x86_64_paging.h` says how long a flush may wait, and what PCIDs, global pages, SMEP and SMAP ask for.
 #[derive(Clone, Copy, Debug, PartialEq, Eq, PartialOrd, Ord, Hash)]
 pub enum Flush {
     /// Nothing.
     Nothing,
-    /// All cached tables, before the next map: `INVLPG` of any address, or a load of CR3. If EFER.TCE is set (AMD), `INVLPG` isn't enough.
+    /// All cached tables: `INVLPG` of any address, or a load of CR3. It comes before the next map or new space with the pool, and before a
+    /// free frame is used otherwise. If EFER.TCE is set (AMD), `INVLPG` isn't enough.
     Tables,
-    /// The page, or each page of a range that was looked at: `INVLPG` of an address in it.
+    /// The page, or each page of a range that was looked at: an `INVLPG` for each, also before a smaller page is mapped there.
     Page,
-    /// Everything, global pages too.
+    /// Everything, global pages too: a change of CR4.PGE, or `INVPCID` of everything.
     Everything,
 }
 

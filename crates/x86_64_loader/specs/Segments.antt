@@ -79,8 +79,8 @@ abbrev pub AllStand : {Lent : Type 0} → Hierarchy Lent → List PageMapping �
 AllStand h pages = AllByRecursion (λ x. Stands h x.level x.page x.frame x.flags) pages
 
 -- The segment starts at the start of a page, its positions exist, and its pages stand, so each is mapped with all of its flags.
--- The page walk of each of its addresses arrives at the first frame's start plus the offset in the segment, with exactly the
--- rights of its flags.
+-- The page walk of each of its addresses arrives at the first frame's start plus the offset in the segment, with the rights to write
+-- and of user code that its flags say.
 pub record IsLoaded {Lent : Type 0} (pages_of : Segment → List PageMapping) (h : Hierarchy Lent) (s : Segment) : Type 0 where
   pub aligned : s.page % 0x1000 ≡ 0
   pub there : (offset : ℕ) → offset < size_of s → s.page + offset < 2 ^ 48

@@ -22,7 +22,7 @@ use x86_64::structures::paging::{FrameAllocator, Size2MiB, Size4KiB};
 /// If it succeeds, each page is mapped with all of its flags. The page walk of each address of a segment arrives at
 /// the first frame's start plus the address's offset in the segment. It has the right to write if and only if
 /// `WRITABLE` is among the flags, and that of a user if and only if `USER_ACCESSIBLE` is. No two segments have an
-/// address in common.
+/// address in common. `NO_EXECUTE` of an entry above, which was there before, forbids fetches whatever the flags say.
 ///
 /// It succeeds if no page of a segment has a used entry or lies in a larger page, no two segments have an address in
 /// common, and the allocator has as many frames as [`frames_needed`](crate::frames_needed) returns.
