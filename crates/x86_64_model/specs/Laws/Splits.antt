@@ -67,7 +67,8 @@ pub record HasParts (path : List ℕ) (t : ℕ) (part : ℕ → ℕ) (M N : Path
   pub elsewhere : (q : List ℕ) → q ≢ path → ((j : ℕ) → q ≢ path ++ j ∷ []) → entry N q ≡ entry M q
 
 -- A kernel may split a 2MiB or 1GiB page into 512 smaller ones, in a frame from its pool: it writes the
--- table, and then the entry. No access is changed, outside the recursive window.
+-- table, and then the entry. Each walk arrives as before, with the same rights, outside the recursive
+-- window.
 abbrev pub PagesMayBeSplit : Type 0
 PagesMayBeSplit = (l : Layout) → IsMapping l.places → 0 < l.levels
     → (serves : ℕ → Bool) (m : Memory) (g : ℕ) (rest : List ℕ) → PoolFits (l laid_in m) serves (g ∷ rest)
@@ -87,9 +88,9 @@ pub record IsJoined (path : List ℕ) (e : ℕ) (M N : PathMap) : Type 0 where
   pub below : (j : ℕ) → entry N (path ++ j ∷ []) ≡ 0
   pub elsewhere : (q : List ℕ) → q ≢ path → ((j : ℕ) → q ≢ path ++ j ∷ []) → entry N q ≡ entry M q
 
--- A kernel may join 512 pages that are the parts of a larger one, by one write. No access is changed,
--- outside the recursive window. The frame of their table goes back to the pool. Caches may name it until
--- tables are flushed.
+-- A kernel may join 512 pages that are the parts of a larger one, by one write. Each walk arrives as
+-- before, with the same rights, outside the recursive window. The frame of their table goes back to the
+-- pool. Caches may name it until tables are flushed.
 abbrev pub PagesMayBeJoined : Type 0
 PagesMayBeJoined = (l : Layout) → IsMapping l.places → 0 < l.levels
     → (serves : ℕ → Bool) (m : Memory) (pool : List ℕ) → PoolFits (l laid_in m) serves pool
