@@ -34,7 +34,8 @@ use Rattle.x86_64.specs.declared.flushing.Flush.TheVariants.{Nothing, Tables, Pa
 
 -- The address spaces with these layouts, the memory and its free frames, and the processor arose by events that may happen, and no
 -- call is under way: by calls, new spaces, loads of CR3, flushes, and by what the processor caches and marks, from empty caches on.
-pub record IsReached (k : Kernel) (places : Places) (m : Memory) (pool : List ℕ) (layouts : List Layout) (s : Switching) : Type 0 where
+pub record IsReached (k : Kernel) (places : Places) (m : Memory) (pool : List ℕ) (layouts : List Layout)
+    (s : Switching) : Type 0 where
   pub start : Switching
   pub events : List SwitchEvent
   pub switches : Switches k start events (between k (words_of m places) pool layouts s)
@@ -49,21 +50,26 @@ pub record NoneDue (s : Switching) : Type 0 where
 -- A call on one of the address spaces led, as `run_call` ensures it, from the memory m and a pool to the memory n and the rest of
 -- the pool. The root's entries at the indices that it shares stay. It reaches its own root, and each root with which it shares an
 -- index that it doesn't avoid.
-pub record RunsOn (k : Kernel) (places : Places) (sharing : (root other : ℕ) → ℕ → Bool) (m : Memory) (pool : List ℕ) (n : Memory)
-    (rest : List ℕ) (layouts : List Layout) (one : Layout) (call : MapperCall) (reply : Reply) (loses : Bool) (reaches : ℕ → Bool) (everywhere : Bool) : Type 0 where
-  pub steps : step_by (machine_of one k.take_back) (state_in one m pool) call ≡ record { state = state_in one n rest; reply = Some reply }
+pub record RunsOn (k : Kernel) (places : Places) (sharing : (root other : ℕ) → ℕ → Bool) (m : Memory)
+    (pool : List ℕ) (n : Memory)
+    (rest : List ℕ) (layouts : List Layout) (one : Layout) (call : MapperCall) (reply : Reply)
+    (loses : Bool) (reaches : ℕ → Bool) (everywhere : Bool) : Type 0 where
+  pub steps : step_by (machine_of one k.take_back) (state_in one m pool) call
+      ≡ record { state = state_in one n rest; reply = Some reply }
   pub free : KeepsFree one m pool (back_by (machine_of one k.take_back) (state_in one m pool) (machine_call one.levels call)) n rest
   pub keeps : KeepsPool one k.serves m pool n rest
   pub is_call : IsCall one.levels (machine_call one.levels call)
   pub adds : IsParentFlags one.added_flags
-  pub loses_nothing : loses ≡ false → NoneLoses (machine_of one k.take_back) (state_in one m pool) (machine_call one.levels call)
+  pub loses_nothing : loses ≡ false
+      → NoneLoses (machine_of one k.take_back) (state_in one m pool) (machine_call one.levels call)
   pub is_sharing : IsSharing sharing
   pub all_share : AllShare k sharing
   pub there : In layouts one
   pub are : ArePaired sharing m k.serves pool layouts
   pub before : MaySwitchIn k places (words_of m places) layouts
   pub later : MaySwitchIn k places (words_of n places) layouts
-  pub root_entries : (b : Layout) → In layouts b → one.root ≢ b.root → KeepsRootEntries (sharing one.root b.root) one m n
+  pub root_entries : (b : Layout) → In layouts b → one.root ≢ b.root
+      → KeepsRootEntries (sharing one.root b.root) one m n
   pub unreached : (b : Layout) → In layouts b → reaches b.root ≡ false
       → (one.root ≢ b.root) × Avoids one.levels (sharing one.root b.root) (machine_call one.levels call)
   pub avoids : everywhere ≡ false → Avoids one.levels k.shared (machine_call one.levels call)
@@ -95,7 +101,8 @@ executed_here Everything p = InvpcidAll ∷ []
 -- what is left was there before, and survives the flush, if there is one
 abbrev pub LeftHere : (L : ℕ) → Switching → List TaggedFlush → (after : List Tagged) → Type 0
 LeftHere L s [] after = after ≡ s.cache
-LeftHere L s (f ∷ more) after = (c : Tagged) → In after c → In s.cache c × (is_left L s.pcid f c.tag c.item ≡ true)
+LeftHere L s (f ∷ more) after = (c : Tagged) → In after c
+    → In s.cache c × (is_left L s.pcid f c.tag c.item ≡ true)
 
 -- The other PCIDs that hold a root that the call reaches, unless everything is flushed: the kernel no longer counts on their items.
 -- So the next load of CR3 with one of them may not keep them (bit 63).
@@ -112,13 +119,16 @@ flush_events fs after given_up = map (λ f. Flushes f after) fs ++ map Abandons 
 abbrev pub ReachedFirst : Type 0
 ReachedFirst = (k : Kernel) (places : Places) → IsMapping places → 0 < k.levels → TakesBack k.take_back
     → (sharing : (root other : ℕ) → ℕ → Bool) → AllShare k sharing
-    → (m : Memory) (pool : List ℕ) (layouts : List Layout) → ArePaired sharing m k.serves pool layouts → MaySwitchIn k places (words_of m places) layouts
+    → (m : Memory) (pool : List ℕ) (layouts : List Layout) → ArePaired sharing m k.serves pool layouts
+    → MaySwitchIn k places (words_of m places) layouts
     → (one : Layout) → In layouts one → (pcid : ℕ)
-    → let s = started_in k (words_of m places) pool layouts one pcid in IsReached k places m pool layouts s × NoneDue s
+    → let s = started_in k (words_of m places) pool layouts one pcid in IsReached k places m pool layouts s
+    × NoneDue s
 
 -- Any events that may happen lead on: what the processor caches, marks and loads, and what the kernel does.
 abbrev pub ReachedByEvents : Type 0
-ReachedByEvents = (k : Kernel) (places : Places) (m n : Memory) (pool rest : List ℕ) (layouts later : List Layout) (s t : Switching)
+ReachedByEvents = (k : Kernel) (places : Places) (m n : Memory) (pool rest : List ℕ)
+    (layouts later : List Layout) (s t : Switching)
     → IsReached k places m pool layouts s
     → (events : List SwitchEvent) → let now = between k (words_of m places) pool layouts s in
     AllMaySwitch k now events → after_switches k now events ≡ between k (words_of n places) rest later t
@@ -128,39 +138,52 @@ ReachedByEvents = (k : Kernel) (places : Places) (m n : Memory) (pool rest : Lis
 -- smaller page where a larger one is due.
 abbrev pub ReachedByCalls : Type 0
 ReachedByCalls = (k : Kernel) (places : Places) → IsMapping places → 0 < k.levels → TakesBack k.take_back
-    → (sharing : (root other : ℕ) → ℕ → Bool) (m n : Memory) (pool rest : List ℕ) (layouts : List Layout) (one : Layout)
-    → (call : MapperCall) (reply : Reply) (loses : Bool) (reaches : ℕ → Bool) (everywhere : Bool) (s : Switching)
+    → (sharing : (root other : ℕ) → ℕ → Bool) (m n : Memory) (pool rest : List ℕ) (layouts : List Layout)
+    (one : Layout)
+    → (call : MapperCall) (reply : Reply) (loses : Bool) (reaches : ℕ → Bool) (everywhere : Bool)
+    (s : Switching)
     → RunsOn k places sharing m pool n rest layouts one call reply loses reaches everywhere
     → IsReached k places m pool layouts s
     → ((c : ℕ) → In (s.due (Of c)) TablesDue → parent_flags_of (machine_call one.levels call) ≡ None)
-    → ((tag : Tag) (q r : List ℕ) (frame : ℕ) → In (s.due tag) (PageDue q frame) → mapped_by one.levels (machine_call one.levels call) ≡ Some r → is_below q r ≡ false)
+    → ((tag : Tag) (q r : List ℕ) (frame : ℕ) → In (s.due tag) (PageDue q frame)
+    → mapped_by one.levels (machine_call one.levels call) ≡ Some r → is_below q r ≡ false)
     → IsReached k places n rest layouts (with_due (made_by k one m pool call loses) reaches everywhere s)
 
 -- If all that is due is among this, its flush leaves nothing due.
 abbrev pub ReachedByFlushes : Type 0
-ReachedByFlushes = (k : Kernel) (places : Places) (m : Memory) (pool : List ℕ) (layouts : List Layout) (s : Switching)
+ReachedByFlushes = (k : Kernel) (places : Places) (m : Memory) (pool : List ℕ) (layouts : List Layout)
+    (s : Switching)
     → IsReached k places m pool layouts s → s.under_way ≡ []
     → (due : List Due) → ((tag : Tag) (d : Due) → In (s.due tag) d → In due d)
     → ((c : ℕ) (d : Due) → In (s.due (Of c)) d → is_held s.reaches (s.holder c) ≡ true)
     → (p : ℕ) → InPages k.levels due p
-    → (after : List Tagged) → LeftHere k.levels s (executed_here (told due) p) after → (given_up : List ℕ) → AreGivenUp s (told due) given_up
+    → (after : List Tagged) → LeftHere k.levels s (executed_here (told due) p) after → (given_up : List ℕ)
+    → AreGivenUp s (told due) given_up
     → let t = after_switches k s (flush_events (executed_here (told due) p) after given_up) in IsReached k places m pool layouts t × NoneDue t
 
 -- A call as `run_call` ensures it leaves nothing due if the flush follows that `flush_after` tells, or `flush_after_change` if it
 -- may be that no used entry loses anything.
 abbrev pub ReachedByFlushedCalls : Type 0
-ReachedByFlushedCalls = (k : Kernel) (places : Places) → IsMapping places → 0 < k.levels → TakesBack k.take_back
-    → (sharing : (root other : ℕ) → ℕ → Bool) (m n : Memory) (pool rest : List ℕ) (layouts : List Layout) (one : Layout)
-    → (call : MapperCall) (reply : Reply) (loses : Bool) (reaches : ℕ → Bool) (everywhere : Bool) (s : Switching)
+ReachedByFlushedCalls = (k : Kernel) (places : Places) → IsMapping places → 0 < k.levels
+    → TakesBack k.take_back
+    → (sharing : (root other : ℕ) → ℕ → Bool) (m n : Memory) (pool rest : List ℕ) (layouts : List Layout)
+    (one : Layout)
+    → (call : MapperCall) (reply : Reply) (loses : Bool) (reaches : ℕ → Bool) (everywhere : Bool)
+    (s : Switching)
     → RunsOn k places sharing m pool n rest layouts one call reply loses reaches everywhere
     → IsReached k places m pool layouts s → NoneDue s
-    → (flush : Flush) → TellsFlush one.levels call reply (option_map (λ (w : Window). w.index) one.window) loses flush
+    → (flush : Flush)
+    → TellsFlush one.levels call reply (option_map (λ (w : Window). w.index) one.window) loses flush
     → let p = unwrap_or (page_start one.levels call) 0 in let called = with_due (made_by k one m pool call loses) reaches everywhere s in
-    (after : List Tagged) → LeftHere k.levels called (executed_here flush p) after → (given_up : List ℕ) → AreGivenUp called flush given_up
+    (after : List Tagged) → LeftHere k.levels called (executed_here flush p) after → (given_up : List ℕ)
+        → AreGivenUp called flush given_up
     → let t = after_switches k called (flush_events (executed_here flush p) after given_up) in IsReached k places n rest layouts t × NoneDue t
 
 -- If nothing is due for the items that serve, each access goes with the page walk from the current root.
 abbrev pub ReachedAccessesGo : Type 0
-ReachedAccessesGo = (k : Kernel) (places : Places) (m : Memory) (pool : List ℕ) (layouts : List Layout) (s : Switching)
-    → IsReached k places m pool layouts s → due_here s ≡ [] → (one : Layout) → In layouts one → one.root ≡ s.root
-    → (p : ℕ) (w : Way) → MayAccess k.levels s.root (words_of m places) (usable s.pcid s.cache) p w → WalksThere (walk k.levels (words_of m places) s.root p) w
+ReachedAccessesGo = (k : Kernel) (places : Places) (m : Memory) (pool : List ℕ) (layouts : List Layout)
+    (s : Switching)
+    → IsReached k places m pool layouts s → due_here s ≡ [] → (one : Layout) → In layouts one
+    → one.root ≡ s.root
+    → (p : ℕ) (w : Way) → MayAccess k.levels s.root (words_of m places) (usable s.pcid s.cache) p w
+    → WalksThere (walk k.levels (words_of m places) s.root p) w

@@ -13,7 +13,8 @@ use Rattle.x86_64_access.specs.Marks.{OnlyMarks}
 -- The words of roots that get no marks, since they have them: the self-entry, and entries at the indices that a root shares.
 abbrev pub RootsStay : (sharing : (root other : ℕ) → ℕ → Bool) → (before after : Words) → List Layout → Type 0
 RootsStay sharing T U layouts = (l : Layout) → In layouts l → (i : ℕ)
-    → (begins_with l.window (i ∷ []) ≡ true) ⊎ ((b : Layout) × In layouts b × (l.root ≢ b.root) × (sharing l.root b.root i ≡ true))
+    → (begins_with l.window (i ∷ []) ≡ true)
+    ⊎ ((b : Layout) × In layouts b × (l.root ≢ b.root) × (sharing l.root b.root i ≡ true))
     → word U l.root i ≡ word T l.root i
 
 -- The event of marks that led to these words.

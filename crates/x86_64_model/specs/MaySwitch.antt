@@ -19,7 +19,8 @@ use Rattle.x86_64_model.specs.Switches.{Kernel, Space, AreHeld, Switching, Switc
 -- caller's and will be, at the same path: so with tables that they share. It stays from roots that the call
 -- doesn't reach. If the kernel learns that nothing changes below entries that all share, the call avoids
 -- these.
-pub record MayMakeOn (k : Kernel) (s : Switching) (a : Space) (call : Call) (loses : Bool) (reaches : ℕ → Bool)
+pub record MayMakeOn (k : Kernel) (s : Switching) (a : Space) (call : Call) (loses : Bool)
+    (reaches : ℕ → Bool)
     (everywhere : Bool) (next : Space → PathMap) : Type 0 where
   pub there : In s.spaces a
   pub done : AreDone s

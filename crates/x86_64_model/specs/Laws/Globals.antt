@@ -19,7 +19,8 @@ GlobalsBelow L shared paths = (q : List ℕ) → maps_page (level_of L q) (entry
 -- The flags of the call have GLOBAL only if its page is below a shared index. So have its parent flags, which
 -- an entry of a larger page above may get.
 abbrev pub GlobalIsShared : (L : ℕ) → (shared : ℕ → Bool) → Call → Type 0
-GlobalIsShared L shared (MapTo q frame given) = is_shared shared q ≡ false → global (leaf_entry L q frame given) ≡ false
+GlobalIsShared L shared (MapTo q frame given) = is_shared shared q ≡ false
+    → global (leaf_entry L q frame given) ≡ false
 GlobalIsShared L shared (MapToWithTableFlags q frame given parent_flags) = is_shared shared q ≡ false
     → (global (leaf_entry L q frame given) ≡ false) × (global parent_flags ≡ false)
 GlobalIsShared L shared (IdentityMap level frame given) = is_shared shared (path_at L level frame) ≡ false

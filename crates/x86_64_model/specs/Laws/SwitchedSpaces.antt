@@ -163,7 +163,8 @@ NewSpacesMaySwitch = (k : Kernel) (places : Places) → IsMapping places → 0 <
     → (shared : ℕ → Bool) → ((i : ℕ) → k.shared i ≡ true → shared i ≡ true)
     → (m n : Memory) (rest : List ℕ) (layouts : List Layout) (first new : Layout) → In layouts first
     → AreSpaces shared m k.serves (new.root ∷ rest) layouts → IsNewRoot shared first m n new
-    → MaySwitchIn k places (words_of m places) layouts → MaySwitchIn k places (words_of n places) (new ∷ layouts)
+    → MaySwitchIn k places (words_of m places) layouts
+    → MaySwitchIn k places (words_of n places) (new ∷ layouts)
     → (s : Switching) → ((c : ℕ) → In (s.due (Of c)) TablesDue → ⊥) → ((c : ℕ) → s.holder c ≢ Some new.root)
     → let U = words_of n places in let now = between k (words_of m places) (new.root ∷ rest) layouts s in
     let events = new_events k U rest new in
@@ -176,9 +177,11 @@ end_events k pool gone = Ends gone.root ∷ Pools (k.take_back pool gone.root) �
 
 -- It may, if no PCID holds its root, which no other space has.
 abbrev pub GivenUpMaySwitch : Type 0
-GivenUpMaySwitch = (k : Kernel) → TakesBack k.take_back → (T : Words) (pool : List ℕ) (gone : Layout) (layouts : List Layout)
+GivenUpMaySwitch = (k : Kernel) → TakesBack k.take_back → (T : Words) (pool : List ℕ) (gone : Layout)
+    (layouts : List Layout)
     → ((l : Layout) → In layouts l → l.root ≢ gone.root)
     → (s : Switching) → ((c : ℕ) → s.holder c ≢ Some gone.root)
     → let now = between k T pool (gone ∷ layouts) s in let events = end_events k pool gone in
     AllMaySwitch k now events
-    × (after_switches k now events ≡ between k T (k.take_back pool gone.root) layouts (after_switches k now events))
+    × (after_switches k now events
+    ≡ between k T (k.take_back pool gone.root) layouts (after_switches k now events))

@@ -25,7 +25,8 @@ pub record IsStarted (k : Kernel) (s : Switching) : Type 0 where
 
 -- A list of events from there on: calls on spaces, writes, new spaces and given up ones, loads of CR3,
 -- flushes, and what the processor caches at any moment.
-pub record Switches (k : Kernel) (start : Switching) (events : List SwitchEvent) (now : Switching) : Type 0 where
+pub record Switches (k : Kernel) (start : Switching) (events : List SwitchEvent)
+    (now : Switching) : Type 0 where
   pub gives : TakesBack k.take_back
   pub levels : 0 < k.levels
   pub started : IsStarted k start
