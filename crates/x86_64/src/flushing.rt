@@ -26,7 +26,8 @@ pub enum Flush {
     /// Nothing.
     Nothing,
     /// All cached tables: execute `INVLPG` of any address, or load CR3, on every processor that uses the root, before
-    /// the next map or `new_space`. If EFER.TCE is set (AMD), `INVLPG` isn't enough.
+    /// the next map or `new_space` with the pool, and before a free frame is used otherwise. If EFER.TCE is set (AMD),
+    /// `INVLPG` isn't enough.
     Tables,
     /// The call's page: execute `INVLPG` of an address in it, on every processor that uses the root, also before a smaller
     /// page is mapped there.
@@ -157,7 +158,9 @@ fn lacks(old: &PageTableEntry, new: &PageTableEntry, flag: PageTableFlags) -> bo
 /// (`WRITE_THROUGH`, `NO_CACHE`, `GLOBAL`, the protection key in bits 59 to 62), loses a mark (`ACCESSED`, `DIRTY`), or no
 /// longer grants what it granted (`PRESENT`, `WRITABLE`, `USER_ACCESSIBLE`, or the lack of `NO_EXECUTE`).
 ///
-/// If a call changes only entries that lose nothing, nothing has to be flushed after it.
+/// If a call changes only entries that lose nothing, nothing has to be flushed after it. Until a processor drops what it
+/// cached, an access may fault that the entry allows now. Rights of supervisors under SMEP and SMAP aren't counted: there
+/// an entry that gets `USER_ACCESSIBLE` takes rights from them, so that its page has to be flushed, too.
 pub fn loses(old: &PageTableEntry, new: &PageTableEntry) -> bool
     ensures nothing { result ≡ false → used old.now ≡ true → LosesNothing old.now new.now }
     ensures something { result ≡ true → (used old.now ≡ true) × (LosesNothing old.now new.now → ⊥) }
