@@ -90,7 +90,7 @@ void kernel_main(uint64_t information_at, uint64_t levels) {
     const uint32_t *information = (const uint32_t *)(DIRECT + information_at);
     const char *text = (const char *)(DIRECT + information[4]);
     uint64_t seed = next_number(&text), accesses = next_number(&text);
-    left_out = (enum flush)next_number(&text);
+    left_out = (uint32_t)next_number(&text);
     set_gates();
     make_kernel_space(0x100000 + UINT64_C(1024) * information[2], levels);
     if (seed != 0)

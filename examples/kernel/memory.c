@@ -3,36 +3,38 @@
 
 /* All spaces share the upper half: the indices of the root from SHARED_FROM up to, but not including, SHARED_TO. */
 enum { SHARED_FROM = 256, SHARED_TO = 512, FRAMES_AT = 0x800000, FRAMES_END = 0x1000000, MOST_SINGLE_FLUSHES = 32 };
-enum flush left_out = NOTHING;
+uint32_t left_out = X64_FLUSH_NOTHING;
 x64_hierarchy kernel_space;
 size_t free_tables = TABLE_COUNT;
 static uint64_t pool[TABLE_COUNT];
 uint8_t uses[FRAMES_END / X64_SIZE_4KIB]; /* how many pages each frame is mapped to */
 
-/* Flushes what the library's header says of a call, if it was done, and returns its status. For TABLES the INVLPG of any page does. */
-static uint32_t flush(enum flush due, const x64_page *first, uint64_t count, uint32_t status) {
-    if (due == left_out || (status != X64_OK && status != X64_MORE))
-        return status;
-    if (due != EVERYTHING && count <= MOST_SINGLE_FLUSHES) {
-        for (uint64_t k = 0; k < count; k++)
-            __asm__ volatile("invlpg (%0)" : : "r"(first->start + k * first->size) : "memory");
-        return status;
-    }
+static void flush_everything(void) {
     uint64_t cr4, pge = 0x80; /* that CR4.PGE changes flushes everything, global pages too */
     __asm__ volatile("mov %%cr4, %0" : "=r"(cr4));
     __asm__ volatile("mov %0, %%cr4" : : "r"(cr4 & ~pge) : "memory");
     __asm__ volatile("mov %0, %%cr4" : : "r"(cr4 | pge) : "memory");
+}
+
+/* Flushes what x64_flush_after says of a call on some pages, before any other call, and returns its status. For X64_FLUSH_TABLES the
+ * INVLPG of any page does. */
+static uint32_t flush(uint32_t call, uint64_t parent_flags, const x64_page *first, uint64_t count, uint32_t status) {
+    uint32_t due = x64_flush_after(call, parent_flags, status);
+    if (due == X64_FLUSH_NOTHING || due == left_out)
+        return status;
+    if (due == X64_FLUSH_EVERYTHING || count > MOST_SINGLE_FLUSHES)
+        flush_everything();
+    else
+        for (uint64_t k = 0; k < count; k++)
+            __asm__ volatile("invlpg (%0)" : : "r"(first->start + k * first->size) : "memory");
     return status;
 }
 
-/* Maps pages. Only X64_NO_EXECUTE in the entries above them takes a right away, also if a map is refused. */
 uint32_t map(const x64_hierarchy *space, const x64_map_request *request, uint64_t count) {
     uint64_t done;
     uint32_t status = count == 1 ? x64_map(space, tables, TABLE_COUNT, pool, TABLE_COUNT, &free_tables, request)
                                  : x64_map_range(space, tables, TABLE_COUNT, pool, TABLE_COUNT, &free_tables, request, count, &done);
-    if ((request->parent_flags & X64_NO_EXECUTE) && status != X64_NOT_ALLOWED && status < X64_BAD_LEVELS)
-        flush(EVERYTHING, &request->page, count, X64_OK);
-    return status;
+    return flush(X64_CALL_MAP, request->parent_flags, &request->page, count, status);
 }
 
 /* Unmaps pages, at most MOST_PAGES. */
@@ -41,22 +43,23 @@ uint32_t unmap(const x64_hierarchy *space, const x64_page *first, uint64_t count
     *frame_count = 1;
     uint32_t status = count == 1 ? x64_unmap(space, tables, TABLE_COUNT, first, frames)
                                  : x64_unmap_range(space, tables, TABLE_COUNT, first, count, frames, MOST_PAGES, frame_count, &done);
-    return flush(PAGES, first, count, status);
+    return flush(X64_CALL_UNMAP, 0, first, count, status);
 }
 
 uint32_t update_flags(const x64_hierarchy *space, const x64_page *first, uint64_t count, uint64_t flags) {
     uint64_t changed;
-    return flush(PAGES, first, count, count == 1 ? x64_update_flags(space, tables, TABLE_COUNT, first, flags)
-                                                 : x64_update_flags_range(space, tables, TABLE_COUNT, first, count, flags, &changed));
+    uint32_t status = count == 1 ? x64_update_flags(space, tables, TABLE_COUNT, first, flags)
+                                 : x64_update_flags_range(space, tables, TABLE_COUNT, first, count, flags, &changed);
+    return flush(X64_CALL_UPDATE_FLAGS, 0, first, count, status);
 }
 
 uint32_t set_table_flags(const x64_hierarchy *space, const x64_page *page, uint64_t level, uint64_t flags) {
-    return flush(EVERYTHING, page, 1, x64_set_table_flags(space, tables, TABLE_COUNT, page, level, flags));
+    return flush(X64_CALL_SET_TABLE_FLAGS, 0, page, 1, x64_set_table_flags(space, tables, TABLE_COUNT, page, level, flags));
 }
 
 uint32_t clean_up(const x64_hierarchy *space, uint64_t first, uint64_t last) {
     uint32_t status = x64_clean_up(space, tables, TABLE_COUNT, pool, TABLE_COUNT, &free_tables, first, last);
-    return flush(TABLES, &(x64_page){first, X64_SIZE_4KIB}, 1, status);
+    return flush(X64_CALL_CLEAN_UP, 0, &(x64_page){first, X64_SIZE_4KIB}, 1, status);
 }
 
 /* Loads CR3. This flushes all pages but global ones, which only the kernel has. */
@@ -106,7 +109,7 @@ void make_kernel_space(uint64_t memory_size, uint64_t levels) {
     map_kernel(data_start, data_end, X64_SIZE_4KIB, KERNEL, X64_WRITABLE | X64_NO_EXECUTE);
     check_fit(&kernel_space, 1);
     use_space(&kernel_space);
-    flush(EVERYTHING, NULL, 0, X64_OK); /* CR4.PGE is on from now on */
+    flush_everything(); /* CR4.PGE is on from now on */
     print("kernel: %lu MiB of memory, %lu levels; %lu tables are free\n", memory_size >> 20, levels, (uint64_t)free_tables);
 }
 
