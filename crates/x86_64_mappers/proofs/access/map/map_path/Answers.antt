@@ -1,4 +1,5 @@
-use Rattle.std.proofs.Common.{◌≡◌, ◌∙◌, ◌-◌, true, length, get_or, sym, subst}
+use Rattle.std.proofs.Common.{arith, ◌≡◌, ◌∙◌, ◌-◌, true, length, get_or, sym, subst}
+use Rattle.std.proofs.lemmas.List.{length-take}
 use Rattle.std.proofs.lemmas.Result.{err_from_is_err_and}
 use Rattle.x86_64_model.specs.Allowed.{parents_present}
 use Rattle.x86_64_model.specs.Mapper.{◌laid_in◌, paths}
@@ -71,3 +72,18 @@ returns g c =
           (map_answer c.args.frame c.set_leaf.result) (g.M.Tables.hierarchy c.set_leaf.new.mapper).memory (rw c.create_tables.ensures.layout at c.set_leaf.ensures.set));
       serves = c.create_tables.ensures.made.serves;
     }
+
+pub overflow_sub-last : goal.overflow_sub-last
+overflow_sub-last g c = omega (arith, c.requires.levels, g.met.M.Tables.at_least_four c.args.mapper.now, g.S.PageSize.high)
+
+pub offset_bounds-path-last : goal.offset_bounds-path-last
+offset_bounds-path-last g c = omega (arith, c.requires.levels, g.met.M.Tables.at_least_four c.args.mapper.now, g.S.PageSize.high)
+
+pub bounds-path-last : goal.bounds-path-last
+bounds-path-last g c = omega (arith, c.requires.levels, g.met.M.Tables.at_least_four c.args.mapper.now, g.S.PageSize.high)
+
+pub create_tables-requires-clause-short : goal.create_tables-requires-clause-short
+create_tables-requires-clause-short g c = omega (arith, length-take (length c.args.path.now - 1) c.args.path.now, c.requires.levels, g.met.M.Tables.at_least_four c.args.mapper.now, g.S.PageSize.high, g.S.PageSize.low)
+
+pub set_leaf-requires-clause-short : goal.set_leaf-requires-clause-short
+set_leaf-requires-clause-short g c = rw c.create_tables.ensures.layout (omega (arith, length-take (length c.args.path.now - 1) c.args.path.now, c.requires.levels, g.met.M.Tables.at_least_four c.args.mapper.now, g.S.PageSize.high, g.S.PageSize.low))
