@@ -26,7 +26,7 @@ static x64_table memory[FRAMES];
 static uint64_t pool[FRAMES];
 static x64_space space; /* its root is in CR3, too */
 
-static size_t rows, failed, arrived;
+static size_t rows, failed;
 
 static void wants(const char *what, uint64_t is, uint64_t wanted) {
     rows++;
@@ -141,7 +141,8 @@ static void use(uint64_t address) {
     for (uint32_t k = 0; k < 6; k++) {
         x64_access_request access = {address, k / 2, k % 2, true};
         x64_outcome outcome;
-        arrived += x64_space_access(&space, &controls, &access, &outcome) == X64_OK;
+        if (x64_space_access(&space, &controls, &access, &outcome) > X64_PAGE_FAULT)
+            abort();
         keep_way(root_table(), address);
         for (size_t n = 0, count = item_count; n < count; n++)
             if (serves(&cache[n], address))
@@ -209,7 +210,7 @@ static enum verdict worst(uint64_t address) {
 
 /* ---- the kernel */
 
-/* Pages of the lower half, which each root has for itself; and what is the end of it. */
+/* Pages of the lower half, which each root has for itself, and where pages are mapped to. */
 enum { PAGE = 0x1000, LARGE = 0x200000, FRAME = 0x40000000 };
 
 static uint64_t high(void) {
@@ -296,9 +297,12 @@ static bool may_stay(uint64_t before, uint64_t after) {
     return (before & kept & ~after) == 0 && !(after & X64_NO_EXECUTE) && ((before ^ after) & KIND) == 0 && !is_added;
 }
 
-/* Sets the flags of a page that the processor uses. Then nothing is flushed, or there is a fault, or the page is flushed. */
+/* What follows: nothing, a fault at the page after which the access is made again, or its flush. */
+enum after { NOTHING, FAULT, FLUSH };
+
+/* Sets the flags of a page that the processor uses. */
 static void try_update(const struct update *row, uint64_t levels) {
-    for (int after = 0; after < 3; after++) {
+    for (enum after after = NOTHING; after <= FLUSH; after++) {
         x64_translation now = {0};
         start(levels);
         controls.smep = row->smep;
@@ -310,12 +314,12 @@ static void try_update(const struct update *row, uint64_t levels) {
         wants(row->what, x64_space_update_flags(&space, PAGE, X64_SIZE_4KIB, flags), X64_OK);
         wants("whether it may stay cached", may_stay(now.flags, flags), row->unflushed != ASTRAY);
         wants("the flush after it", x64_flush_after(X64_CALL_UPDATE_FLAGS, 0, X64_OK), X64_FLUSH_PAGE);
-        if (after == 1)
+        if (after == FAULT)
             fault(PAGE);
-        else if (after == 2)
+        else if (after == FLUSH)
             invlpg(PAGE);
-        if (after != 1 || row->unflushed == FAULTS_ONCE)
-            wants(row->what, worst(PAGE), after == 0 ? row->unflushed : AGREES);
+        if (after != FAULT || row->unflushed == FAULTS_ONCE)
+            wants(row->what, worst(PAGE), after == NOTHING ? row->unflushed : AGREES);
     }
 }
 
@@ -323,12 +327,12 @@ static void try_update(const struct update *row, uint64_t levels) {
 
 enum flush { NONE, INVLPG, LOAD_CR3, EVERYTHING, FLUSHES };
 
-static void flush(enum flush flush, uint64_t page) {
-    if (flush == INVLPG)
+static void flush(enum flush kind, uint64_t page) {
+    if (kind == INVLPG)
         invlpg(page);
-    else if (flush == LOAD_CR3)
+    else if (kind == LOAD_CR3)
         load_cr3(space.root);
-    else if (flush == EVERYTHING)
+    else if (kind == EVERYTHING)
         flush_everything();
 }
 
@@ -344,9 +348,8 @@ static void take_frames(uint64_t count) {
 /* Who takes a frame of a table that was freed, before or after cached tables are flushed: a map, a new root, or the caller. */
 enum taker { MAP, NEW_SPACE, CALLER, TAKERS };
 
-/* Frees tables that the processor has cached, lets a frame be taken, and returns the worst of accesses that met these tables. */
+/* Frees tables that the processor has cached, lets one of their frames be taken, and returns the worst of accesses that come to it. */
 static enum verdict take_freed(enum taker taker, enum flush due) {
-    uint64_t root;
     map_page(PAGE);
     unmap(PAGE, X64_SIZE_4KIB);
     invlpg(PAGE);
@@ -357,6 +360,7 @@ static enum verdict take_freed(enum taker taker, enum flush due) {
     if (taker == MAP) {
         map_page(PAGE + top_size());
     } else if (taker == NEW_SPACE) {
+        uint64_t root;
         wants("new_space", x64_space_new(&space, SHARED_FROM, SHARED_TO, &root), X64_OK);
         return worst(SHARED_FROM * (top_size() / 512)); /* the new root's first shared entry, seen as one of a level below */
     } else {
@@ -390,14 +394,13 @@ static enum verdict switch_after(uint64_t page, uint64_t flags, uint64_t levels)
 static void try_global_pages(uint64_t levels) {
     wants("a page of one space", switch_after(PAGE, 0, levels), AGREES);
     wants("a global page of one space", switch_after(PAGE, X64_GLOBAL, levels), ASTRAY);
-    start(levels);
     wants("a global page of all spaces", switch_after(high() + PAGE, X64_GLOBAL, levels), AGREES);
 }
 
 /* ---- rows: several calls before one flush */
 
-/* Unmaps two global pages, and flushes once; or one of them, and then all tables that are empty. Returns the worst of accesses there. */
-static enum verdict unmap_two(enum flush once, uint64_t flushed, uint64_t levels) {
+/* Unmaps two global pages, frees their tables, and then flushes so many times. Returns the worst of accesses there. */
+static enum verdict unmap_two(enum flush kind, uint64_t times, uint64_t levels) {
     start(levels);
     for (uint64_t k = 0; k < 2; k++) {
         wants("map", map(PAGE + k * 4096, X64_SIZE_4KIB, X64_PRESENT | RIGHTS | X64_GLOBAL, PARENTS), X64_OK);
@@ -406,8 +409,8 @@ static enum verdict unmap_two(enum flush once, uint64_t flushed, uint64_t levels
     unmap(PAGE, X64_SIZE_4KIB);
     unmap(PAGE + 4096, X64_SIZE_4KIB);
     clean_up();
-    for (uint64_t k = 0; k < flushed; k++)
-        flush(once, PAGE + k * 4096);
+    for (uint64_t k = 0; k < times; k++)
+        flush(kind, PAGE + k * 4096);
     enum verdict one = worst(PAGE), other = worst(PAGE + 4096);
     return one > other ? one : other;
 }
