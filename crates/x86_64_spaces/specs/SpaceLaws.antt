@@ -1,9 +1,10 @@
--- A law of the layouts of address spaces.
-use Rattle.std.specs.Prelude.{◌≡◌, ℕ, Bool, List}
+-- Laws of address spaces: their layouts, and the indices that they share.
+use Rattle.std.specs.Prelude.{◌≡◌, ◌<◌, ◌≤◌, ◌↔◌, ℕ, Bool, true, List}
 use Rattle.x86_64_model.specs.Memory.{Memory, Places}
 use Rattle.x86_64_model.specs.Spaces.{AreSpaces}
 use Rattle.x86_64_spaces.specs.declared.space.Space.{Space}
-use Rattle.x86_64_spaces.specs.SpaceLayouts.{layouts_of}
+use Rattle.x86_64_spaces.specs.declared.space.SharedIndices.{SharedIndices}
+use Rattle.x86_64_spaces.specs.SpaceLayouts.{indices_of, layouts_of}
 
 -- If the layouts of address spaces in the memory m are those of address spaces in n, they are the layouts in n. So what is proved
 -- of the ones in m, after calls that led from m to n, holds of the ones in n.
@@ -11,3 +12,7 @@ abbrev pub LayoutsStay : Type 0
 LayoutsStay = (shared : ℕ → Bool) (levels : ℕ) (places : Places) (m n : Memory) (serves : ℕ → Bool) (pool : List ℕ) (spaces : List Space)
     → AreSpaces shared n serves pool (layouts_of levels places m spaces)
     → layouts_of levels places m spaces ≡ layouts_of levels places n spaces
+
+-- The indices are those of the upper half of the address space, at which the highest bit of an address is set.
+abbrev pub IsUpperHalf : SharedIndices → Type 0
+IsUpperHalf shared = (i : ℕ) → indices_of shared i ≡ true ↔ 256 ≤ i × i < 512

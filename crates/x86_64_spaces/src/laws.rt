@@ -1,9 +1,16 @@
-//! A law of address spaces, beside those in `x86_64_model::laws::spaces`.
-ghost use Rattle.x86_64_spaces.specs.SpaceLaws.{LayoutsStay};
+//! Laws of address spaces, beside those in `x86_64_model::laws::spaces`.
+ghost use Rattle.x86_64_spaces.specs.SpaceLaws.{IsUpperHalf, LayoutsStay};
+
+use crate::space::SharedIndices;
 
 /// The layouts of address spaces before calls are their layouts afterwards. So the laws of the model, which speak of layouts, lead
 /// from what a test or [`new_space`](crate::new_space) says before calls to what it says afterwards.
 #[tactic(auto, using(crate::proofs::SpacesStay::layouts_stay))]
 pub fn layouts_stay()
     ensures { LayoutsStay }
+{}
+
+/// [`SharedIndices::UPPER_HALF`] is the indices from 256 to 511.
+pub fn upper_half_has_256_to_511()
+    ensures { IsUpperHalf SharedIndices.UPPER_HALF }
 {}
