@@ -1,7 +1,6 @@
 -- The flush records of calls: one item for the token of each accepted call, in order, and no others.
-use Rattle.std.specs.Prelude.{◌≡◌, ◌==◌, ◌⊎◌, ◌<◌, ◌≤◌, ◌+◌, ℕ, false, cond, take, drop, length, List, [], ◌∷◌, ◌++◌, Result, Ok, Err, Vec, vec_len}
+use Rattle.std.specs.Prelude.{◌≡◌, ◌==◌, ℕ, false, cond, take, drop, List, [], ◌∷◌, ◌++◌, Result, Ok, Err}
 use Rattle.std.specs.List.{AllByRecursion}
-use Rattle.std.specs.Vec.{vec_capacity}
 use Rattle.x86_64_model.specs.Arrivals.{KeepsArrival}
 use Rattle.x86_64_model.specs.Flush as flush
 use Rattle.x86_64_model.specs.Layout.{Layout}
@@ -15,7 +14,7 @@ use Rattle.x86_64_model.specs.Store.{Store}
 use Rattle.x86_64_model.specs.Window.{begins_with, IsValidFor}
 use Rattle.x86_64_tables.specs.declared.mapper.recorder.FlushItem.{FlushItem}
 use Rattle.x86_64_tables.specs.declared.mapper.recorder.FlushItem.TheVariants.{Page, Page57, All}
-use Rattle.x86_64_tables.specs.FlushRecorder.{Recorded, page_item}
+use Rattle.x86_64_tables.specs.FlushRecorder.{page_item}
 use Rattle.x86_64.specs.Asked.{MapperCall, calls_by}
 use Rattle.x86_64.specs.Runs.{machine_of, state_with, appended}
 use Rattle.x86_64.specs.Replies.{SizeReply, Reply}
@@ -85,14 +84,3 @@ FlushesSuffice asks l take_back start calls replies U =
 pub record Flushed {C Lent : Type 0} (asks : C → MapperCall) (h : Hierarchy Lent) (store : Store) (calls : List C) (replies_before replies_now : List Reply) (before now : List FlushItem) (after : Hierarchy Lent) : Type 0 where
   pub items : now ≡ before ++ items_told h.layout.levels (appended replies_before replies_now)
   pub suffice : FlushesSuffice asks h.layout store.take_back (state_with h store) calls (appended replies_before replies_now) (words (h.layout laid_in after.memory))
-
--- Memory for one more reply and one more item for each of these calls was refused.
-pub record RoomRefused {C A : Type 0} (calls : List C) (replies replies_now : Vec Reply A) (recorder recorder_now : Recorded) : Type 0 where
-  -- The list of replies or the recorder had no room for them.
-  pub needed : (vec_capacity replies < vec_len replies + length calls) ⊎ (recorder.room < length calls)
-  -- No reply was appended, and nothing was recorded.
-  pub items : replies_now.items ≡ replies.items
-  pub recorder_stays : recorder_now ≡ recorder
-  -- The list of replies keeps its capacity. Or it lacked room and has it now, and the memory for the recorder was refused.
-  pub capacity : (vec_capacity replies_now ≡ vec_capacity replies)
-      ⊎ ((recorder.room < length calls) × (vec_capacity replies < vec_capacity replies_now) × (vec_len replies + length calls ≤ vec_capacity replies_now))

@@ -1,13 +1,15 @@
 //! Lists of calls whose TLB flushes are recorded.
-ghost use Rattle.std.specs.Prelude.{◌≡◌, OnOk, OnErr};
+ghost use Rattle.std.specs.Prelude.{◌≡◌, ◌+◌, ◌<◌, ◌≤◌, ◌⊎◌, [], length, vec_len, IfOk, OnOk, OnErr};
+ghost use Rattle.std.specs.Vec.{vec_capacity};
 ghost use Rattle.x86_64_model.specs.Store.{Fits, Kept, store_of};
 ghost use Rattle.x86_64.specs.Calls.{asks};
-ghost use Rattle.x86_64.specs.Flushes.{Flushed, RoomRefused};
+ghost use Rattle.x86_64.specs.Flushes.{Flushed};
 ghost use Rattle.x86_64.specs.Runs.{Ran};
 
 use super::serve_all;
 use crate::call_values::{CallIn, LevelFiveFlags, ReplyIn};
 use std::alloc::AllocError;
+use std::cmp::max;
 use x86_64_addr::level_count::LevelCount;
 use x86_64_mappers::calls::TableAccess;
 use x86_64_tables::frame_alloc::FrameStore;
@@ -22,8 +24,7 @@ use x86_64_tables::mapper::{FlushRecorder, TablesIn};
 ///
 /// # Errors
 ///
-/// `AllocError` if memory allocation fails for the replies or for the items. Then nothing changes, except that the
-/// list of replies keeps its reserved room if it was the room for the items that was refused.
+/// `AllocError` if memory allocation fails for the replies or for the items. Then nothing changes.
 pub fn run_flushed<
     L: LevelCount,
     P5: LevelFiveFlags<L>,
@@ -42,13 +43,64 @@ pub fn run_flushed<
     ensures flushed { OnOk result (
         Flushed (asks P5.bits) (M.hierarchy mapper.old) (store_of F.FrameStore frames.old) calls.now
         replies.old.items replies.new.items recorder.old.items recorder.new.items (M.hierarchy mapper.new)) }
-    ensures unchanged { OnErr result ((mapper.new ≡ mapper.old) × (frames.new ≡ frames.old)) }
-    ensures room { OnErr result (RoomRefused calls.now replies.old replies.new recorder.old recorder.new) }
+    ensures unchanged { OnErr result ((replies.new ≡ replies.old) × (recorder.new ≡ recorder.old)
+        × (mapper.new ≡ mapper.old) × (frames.new ≡ frames.old)) }
+    ensures needs_room { OnErr result ((vec_capacity replies.old < vec_len replies.old + length calls.now)
+        ⊎ (recorder.old.room < length calls.now)) }
     ensures keeps { Kept (M.hierarchy mapper.old) (store_of F.FrameStore frames.old)
         (M.hierarchy mapper.new) (store_of F.FrameStore frames.new) }
 {
-    replies.reserve(calls.len())?;
-    recorder.reserve(calls.len())?;
+    make_room(replies, recorder, calls.len())?;
     serve_all(mapper, frames, calls, replies, recorder);
     Ok(())
+}
+
+/// Makes room for a number of further replies and as many items.
+///
+/// # Errors
+///
+/// `AllocError` if memory allocation fails for the replies or for the items. Then nothing changes: a list of replies that
+/// has to grow moves only once the recorder has room.
+fn make_room<L: LevelCount>(
+    replies: &mut Vec<ReplyIn<L>>,
+    recorder: &mut FlushRecorder,
+    count: usize,
+) -> Result<(), AllocError>
+    ensures items { replies.new.items ≡ replies.old.items }
+    ensures recorded { recorder.new.items ≡ recorder.old.items }
+    ensures room { OnOk result (vec_len replies.new + count ≤ vec_capacity replies.new) }
+    ensures recorder_room { OnOk result (count ≤ recorder.new.room) }
+    ensures unchanged { OnErr result ((replies.new ≡ replies.old) × (recorder.new ≡ recorder.old)) }
+    ensures needs_room { OnErr result ((vec_capacity replies.old < vec_len replies.old + count)
+        ⊎ (recorder.old.room < count)) }
+{
+    if count <= replies.capacity() - replies.len() {
+        return recorder.reserve(count);
+    }
+    let mut larger = larger(replies, count)?;
+    recorder.reserve(count)?;
+    if larger.append(replies).is_err() {
+        unreachable!()
+    }
+    *replies = larger;
+    Ok(())
+}
+
+/// Returns an empty list with room for the given replies and for a number of further ones. It doubles their room at
+/// least, so that lists that follow one another rarely have to move.
+///
+/// # Errors
+///
+/// `AllocError` if memory allocation fails.
+fn larger<L: LevelCount>(
+    replies: &Vec<ReplyIn<L>>,
+    count: usize,
+) -> Result<Vec<ReplyIn<L>>, AllocError>
+    ensures items { IfOk result (λ list. list.items ≡ []) }
+    ensures room { IfOk result (λ list. vec_len replies.now + count ≤ vec_capacity list) }
+{
+    match replies.len().checked_add(max(replies.len(), count)) {
+        Some(room) => Vec::with_capacity(*replies.allocator(), room),
+        None => Err(AllocError),
+    }
 }
