@@ -1,5 +1,7 @@
 //! Laws of calls and replies, as public functions with empty bodies. The machine is the abstract mapper of the
 //! specification, which goes from state to state with each call.
+ghost use Rattle.std.specs.Prelude.{◌≡◌, ◌<◌, ◌≤◌, ℕ, [], ◌∷◌};
+ghost use Rattle.x86_64_tables.specs.FlushRecorder.{flush_range, page_items, range_items};
 ghost use Rattle.x86_64.specs.CallEvents.{RunCallsAreEvents};
 ghost use Rattle.x86_64.specs.EmptyRoots.{EmptyRootsAreSpaces, EmptyRootsShareNothing, TwoEmptyRoots};
 ghost use Rattle.x86_64.specs.EveryWord.{EveryWordIsDecided};
@@ -11,6 +13,8 @@ ghost use Rattle.x86_64.specs.RangeFlushes.{RangeFlushesSuffice};
 ghost use Rattle.x86_64.specs.SeveralProcessors.{EachIsFlushed, AllSeeTheSame};
 ghost use Rattle.x86_64.specs.SwitchingProcessors.{ReachedFirst, ReachedByEvents, ReachedByCalls, ReachedByFlushes, ReachedByFlushedCalls, ReachedAccessesGo};
 ghost use Rattle.x86_64.specs.ToldReplies.{RepliesTell};
+
+use x86_64_tables::mapper::{FlushItem, MOST_PAGE_ITEMS};
 
 /// A reply determines the machine's reply to the call, for any number of levels, except for the frame in the
 /// machine's reply to a map or to a change of flags.
@@ -99,4 +103,14 @@ pub fn one_entry_decides_a_change_of_flags()
 /// still arrives at the same address, with no right lost.
 pub fn flushes_of_ranges_suffice()
     ensures { RangeFlushesSuffice }
+{}
+
+/// The flush of the token of a range of up to 32 pages records one item for each page, in order, and that of a longer
+/// range records [`FlushItem::All`] alone.
+pub fn ranges_of_up_to_32_pages_are_flushed_by_page()
+    ensures limit { MOST_PAGE_ITEMS ≡ 32 }
+    ensures each { (levels size page count : ℕ) → count ≤ 32
+        → range_items levels size MOST_PAGE_ITEMS (flush_range page count) ≡ page_items levels size page count }
+    ensures all { (levels size page count : ℕ) → 32 < count
+        → range_items levels size MOST_PAGE_ITEMS (flush_range page count) ≡ FlushItem.All ∷ [] }
 {}
