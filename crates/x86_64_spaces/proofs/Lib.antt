@@ -1,3 +1,5 @@
+pub mod Groups
+pub mod AllSharing
 pub mod Parts
 pub mod Spots
 pub mod Chosen

@@ -1,6 +1,5 @@
 -- The steps of the loop that marks the tables below some indices of a root.
-use Rattle.std.specs.Bool.{beq}
-use Rattle.std.proofs.Common.{◌≡◌, ◌<◌, ◌≤◌, ◌+◌, ◌-◌, ℕ, suc, Bool, true, false, cond, not, List, [], ◌∷◌, ◌++◌, Some, None, Option, option_and_then, refl, sym, ap, ◌∙◌, arith}
+use Rattle.std.proofs.Common.{◌≡◌, ◌<◌, ◌≤◌, ◌+◌, ◌-◌, ℕ, suc, Bool, true, false, cond, List, [], ◌∷◌, ◌++◌, Some, None, Option, option_and_then, refl, sym, ap, ◌∙◌, arith}
 use Rattle.std.specs.List.{flat_map, range_with_len}
 use Rattle.x86_64_model.specs.Entry.{address, names_table}
 use Rattle.x86_64_model.specs.Memory.{Words, word}
@@ -8,20 +7,7 @@ use Rattle.x86_64_model.specs.Path.{indices}
 use Rattle.x86_64_model.specs.private.Marks.{mark_one, mark_all}
 use Rattle.x86_64_model.specs.private.Tables.{tables_from}
 use Rattle.x86_64_model.proofs.Lemmas.Tables.Marked.{mark_all-append}
-use Rattle.x86_64_spaces.specs.private.SpaceTables.{chosen, part, parts_where}
-
--- an index is chosen if it is shared or not, as asked
-pub is_chosen : (shared : ℕ → Bool) (asked : Bool) (i : ℕ) (b : Bool) → b ≡ shared i → beq b asked ≡ true → chosen shared asked i ≡ true
-is_chosen shared true i true e h = sym e
-is_chosen shared true i false e h = let t : false ≡ true = h in cc
-is_chosen shared false i true e h = let t : false ≡ true = h in cc
-is_chosen shared false i false e h = ap not (sym e)
-
-pub not_chosen : (shared : ℕ → Bool) (asked : Bool) (i : ℕ) (b : Bool) → b ≡ shared i → beq b asked ≡ false → chosen shared asked i ≡ false
-not_chosen shared true i true e h = let t : true ≡ false = h in cc
-not_chosen shared true i false e h = sym e
-not_chosen shared false i true e h = ap not (sym e)
-not_chosen shared false i false e h = let t : true ≡ false = h in cc
+use Rattle.x86_64_spaces.specs.private.SpaceTables.{part, parts_where}
 
 module _ (test : ℕ → Bool) (n : ℕ) (T : Words) (f : ℕ) where
   -- the tables from an index on

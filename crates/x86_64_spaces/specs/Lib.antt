@@ -1,4 +1,5 @@
 pub mod SpaceLayouts
+pub mod SpaceGroups
 pub mod Room
 pub mod SpaceCalls
 pub mod SpaceLaws

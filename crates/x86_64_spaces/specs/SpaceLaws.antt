@@ -1,9 +1,10 @@
 -- Laws of address spaces: their layouts, and the indices that they share.
 use Rattle.std.specs.Prelude.{◌≡◌, ◌<◌, ◌≤◌, ◌↔◌, ℕ, Bool, true, List}
 use Rattle.x86_64_model.specs.Memory.{Memory, Places}
-use Rattle.x86_64_model.specs.Spaces.{AreSpaces}
+use Rattle.x86_64_model.specs.Spaces.{AreSpaces, IsSharing}
 use Rattle.x86_64_spaces.specs.declared.space.Space.{Space}
 use Rattle.x86_64_spaces.specs.declared.space.SharedIndices.{SharedIndices}
+use Rattle.x86_64_spaces.specs.SpaceGroups.{Grouped, sharing_of}
 use Rattle.x86_64_spaces.specs.SpaceLayouts.{indices_of, layouts_of}
 
 -- If the layouts of address spaces in the memory m are those of address spaces in n, they are the layouts in n. So what is proved
@@ -16,3 +17,7 @@ LayoutsStay = (shared : ℕ → Bool) (levels : ℕ) (places : Places) (m n : Me
 -- The indices are those of the upper half of the address space, at which the highest bit of an address is set.
 abbrev pub IsUpperHalf : SharedIndices → Type 0
 IsUpperHalf shared = (i : ℕ) → indices_of shared i ≡ true ↔ 256 ≤ i × i < 512
+
+-- Roots that share an index as they are in one group share it both ways, and with all that share it.
+abbrev pub GroupsShare : Type 0
+GroupsShare = (spaces : List Grouped) → IsSharing (sharing_of spaces)

@@ -1,15 +1,15 @@
 //! Tests of whether address spaces share what they should, and whether a pool fits them.
-ghost use Rattle.std.specs.Prelude.{◌≡◌, ◌<◌, ◌≤◌, ◌+◌, ◌↔◌, ℕ, if◌then◌else◌, length, reverse, replicate, IfOk, OnErr, IsTrue, Some, None, [], false, true};
+ghost use Rattle.std.specs.Prelude.{◌≡◌, ◌<◌, ◌≤◌, ◌+◌, ◌↔◌, ℕ, if◌then◌else◌, length, reverse, replicate, IfOk, OnErr, IsTrue, Some, None, map, [], false, true};
 ghost use Rattle.std.specs.FinMap as map;
-ghost use Rattle.x86_64_model.specs.Lists.{In};
 ghost use Rattle.x86_64_model.specs.Pool.{serves_below};
 ghost use Rattle.x86_64_model.specs.private.Marks.{spot_of, mark_all};
-ghost use Rattle.x86_64_spaces.specs.Room.{spaces_in, ShareAndFit, ShareWithRoom};
+ghost use Rattle.x86_64_spaces.specs.Room.{spaces_in, ShareAndFit, SharePaired, ShareWithRoom, SharePairedWithRoom};
+ghost use Rattle.x86_64_spaces.specs.SpaceGroups.{grouped, spaces_of, sharing_of};
 ghost use Rattle.x86_64_spaces.specs.SpaceLayouts.{indices_of, spaces_at};
-ghost use Rattle.x86_64_spaces.specs.private.SpaceTables.{tested, seen_words, all_tables, tables_of, tables_below, slot_of, IsLike, AreSound};
+ghost use Rattle.x86_64_spaces.specs.private.SpaceTables.{tested, grouped_at, all_tables, tables_of, tables_below, slot_of, HasSharedWords, IsLike, AreSound};
 
-use crate::space::{SharedIndices, Space};
-use crate::space_list::{Roots, SpaceList};
+use crate::space::{GroupedSpace, SharedIndices, Space};
+use crate::space_list::{Groups, Roots, Sharing, SpaceList, owner, owns};
 use std::alloc::{AllocError, Global};
 use std::marker::PhantomData;
 use x86_64_addr::level_count::LevelCount;
@@ -44,18 +44,66 @@ pub fn spaces_fit<L: LevelCount, T: TableMemory, P: PageTableFrameMapping>(
     ensures needs_memory { OnErr result
         ((0 < length spaces.now) × (0 < map.len (T.tables memory.now))) }
 {
-    let Some(first) = spaces.first() else {
+    list_fits_pool::<L, _, _, _>(alloc, memory, mapping, &Sharing { spaces, shared }, pool)
+}
+
+/// Returns whether hierarchies are address spaces that share in pairs the tables below some indices, and a pool fits each.
+///
+/// Two roots share the indices at which both are in one group. So processes may each have a kernel's root and a user's root that
+/// share the user's half, where all kernel's roots share the other one, and all roots one entry of it. Each group is the roots
+/// that share an index, so sharing is symmetric and transitive ([`groups_share`](crate::laws::groups_share)).
+///
+/// This is defined as for [`spaces_fit`], but for the indices that two roots share.
+///
+/// The test meets each table once, terminates for any words, and allocates only one mark for each place. For each index of each
+/// root that is in a group, it goes through the roots before it, to the first one in this group.
+///
+/// # Errors
+///
+/// `AllocError` if memory allocation fails. No hierarchy, or a memory without places, needs no allocation.
+pub fn grouped_spaces_fit<'a, L: LevelCount, T: TableMemory, P: PageTableFrameMapping>(
+    alloc: Global,
+    memory: &T,
+    mapping: &P,
+    spaces: &'a [GroupedSpace<'a>],
+    pool: &FramePool,
+) -> Result<bool, AllocError>
+    ensures decides { let groups = map grouped spaces.now in
+        let all = spaces_in L.LEVELS (P.places mapping.now) (T.tables memory.now) (spaces_of groups) in
+        IfOk result (λ fit. IsTrue fit
+        ↔ SharePaired (sharing_of groups) all (serves_below pool.now.limit) pool.now.frames) }
+    ensures needs_memory { OnErr result
+        ((0 < length spaces.now) × (0 < map.len (T.tables memory.now))) }
+{
+    list_fits_pool::<L, _, _, _>(alloc, memory, mapping, &Groups { spaces }, pool)
+}
+
+/// Returns what `grouped_spaces_fit` returns, for any kind of list.
+fn list_fits_pool<L: LevelCount, T: TableMemory, P: PageTableFrameMapping, S: SpaceList>(
+    alloc: Global,
+    memory: &T,
+    mapping: &P,
+    spaces: &S,
+    pool: &FramePool,
+) -> Result<bool, AllocError>
+    ensures decides { let groups = S.spaces spaces.now in
+        let all = spaces_in L.LEVELS (P.places mapping.now) (T.tables memory.now) (spaces_of groups) in
+        IfOk result (λ fit. IsTrue fit
+        ↔ SharePaired (sharing_of groups) all (serves_below pool.now.limit) pool.now.frames) }
+    ensures needs_memory { OnErr result
+        ((0 < length (S.spaces spaces.now)) × (0 < map.len (T.tables memory.now))) }
+{
+    if spaces.count() == 0 {
         return Ok(true);
-    };
+    }
     let mut marks = clear_marks(alloc, memory)?;
     let test = SpacesTest::<L, _, _> {
         memory,
         mapping,
-        shared,
         levels: PhantomData,
         limit: pool.limit(),
     };
-    Ok(test.is_sound_by(first, &spaces, pool, &mut marks))
+    Ok(test.is_sound_by(spaces, pool, &mut marks))
 }
 
 /// Returns whether hierarchies are address spaces that share the tables below some indices, a pool fits each, and an array has room
@@ -79,7 +127,8 @@ pub fn spaces_fit_by_marks<L: LevelCount, T: TableMemory, P: PageTableFrameMappi
     ensures { let all = spaces_in L.LEVELS (P.places mapping.now) (T.tables memory.now) spaces.now in
         IsTrue result ↔ ShareWithRoom (indices_of shared) all capacity (reverse frames.now) }
 {
-    list_fits::<L, _, _, _>(memory, mapping, &spaces, shared, frames, capacity, marks)
+    let spaces = Sharing { spaces, shared };
+    list_fits::<L, _, _, _>(memory, mapping, &spaces, frames, capacity, marks)
 }
 
 /// Returns what [`spaces_fit_by_marks`] returns for the spaces without a recursive index whose roots have these addresses.
@@ -99,28 +148,49 @@ pub fn roots_fit_by_marks<L: LevelCount, T: TableMemory, P: PageTableFrameMappin
         (spaces_in L.LEVELS (P.places mapping.now) (T.tables memory.now) (spaces_at roots.now))
         capacity (reverse frames.now) }
 {
-    match Roots::of(roots) {
+    match Roots::of(roots, shared) {
         Some(spaces) => {
-            list_fits::<L, _, _, _>(memory, mapping, &spaces, shared, frames, capacity, marks)
+            list_fits::<L, _, _, _>(memory, mapping, &spaces, frames, capacity, marks)
         }
         None => false,
     }
 }
 
-/// Returns what `spaces_fit_by_marks` returns, for any kind of list.
-fn list_fits<L: LevelCount, T: TableMemory, P: PageTableFrameMapping, S: SpaceList>(
+/// Returns whether hierarchies are address spaces that share in pairs the tables below some indices, a pool fits each, and an array
+/// has room for every frame that the pool may ever hold. Takes no memory.
+///
+/// This is defined as for [`grouped_spaces_fit`], and for the frames, the capacity and the marks as for [`spaces_fit_by_marks`].
+///
+/// Requires that there are as many marks as places. They may be set or not. The test ends for any words and any addresses.
+pub fn grouped_spaces_fit_by_marks<'a, L: LevelCount, T: TableMemory, P: PageTableFrameMapping>(
     memory: &T,
     mapping: &P,
-    spaces: &S,
-    shared: SharedIndices,
+    spaces: &'a [GroupedSpace<'a>],
     frames: &[u64],
     capacity: usize,
     marks: &mut [bool],
 ) -> bool
     requires { length marks.old ≡ map.len (T.tables memory.now) }
-    ensures { IsTrue result ↔ ShareWithRoom (indices_of shared)
-        (spaces_in L.LEVELS (P.places mapping.now) (T.tables memory.now) (S.spaces spaces.now))
-        capacity (reverse frames.now) }
+    ensures { let groups = map grouped spaces.now in
+        let all = spaces_in L.LEVELS (P.places mapping.now) (T.tables memory.now) (spaces_of groups) in
+        IsTrue result ↔ SharePairedWithRoom (sharing_of groups) all capacity (reverse frames.now) }
+{
+    list_fits::<L, _, _, _>(memory, mapping, &Groups { spaces }, frames, capacity, marks)
+}
+
+/// Returns what `grouped_spaces_fit_by_marks` returns, for any kind of list.
+fn list_fits<L: LevelCount, T: TableMemory, P: PageTableFrameMapping, S: SpaceList>(
+    memory: &T,
+    mapping: &P,
+    spaces: &S,
+    frames: &[u64],
+    capacity: usize,
+    marks: &mut [bool],
+) -> bool
+    requires { length marks.old ≡ map.len (T.tables memory.now) }
+    ensures { let groups = S.spaces spaces.now in
+        let all = spaces_in L.LEVELS (P.places mapping.now) (T.tables memory.now) (spaces_of groups) in
+        IsTrue result ↔ SharePairedWithRoom (sharing_of groups) all capacity (reverse frames.now) }
 {
     if spaces.count() == 0 {
         return true;
@@ -129,11 +199,10 @@ fn list_fits<L: LevelCount, T: TableMemory, P: PageTableFrameMapping, S: SpaceLi
     let test = SpacesTest::<L, _, _> {
         memory,
         mapping,
-        shared,
         levels: PhantomData,
         limit: FRAME_COUNT,
     };
-    test.has_room_by(&spaces.space_at(0), spaces, frames, capacity, marks)
+    test.has_room_by(spaces, frames, capacity, marks)
 }
 
 /// Address spaces to be tested. The frames that may be met are the roots, and those with numbers from 1 to `limit` - 1.
@@ -141,7 +210,6 @@ fn list_fits<L: LevelCount, T: TableMemory, P: PageTableFrameMapping, S: SpaceLi
 struct SpacesTest<'a, L, T, P> {
     memory: &'a T,
     mapping: &'a P,
-    shared: SharedIndices,
     levels: PhantomData<L>,
     limit: u64,
 }
@@ -149,96 +217,87 @@ struct SpacesTest<'a, L, T, P> {
 impl<'a, L: LevelCount, T: TableMemory, P: PageTableFrameMapping> SpacesTest<'a, L, T, P> {
     /// Returns true if the spaces are alike, and each of their tables and each frame of the pool is met once, is in the memory, and
     /// may be met, by marks that are all clear at first.
-    fn is_sound_by<S: SpaceList>(
-        &self,
-        first: &Space,
-        spaces: &S,
-        pool: &FramePool,
-        marks: &mut [bool],
-    ) -> bool
+    fn is_sound_by<S: SpaceList>(&self, spaces: &S, pool: &FramePool, marks: &mut [bool]) -> bool
         requires clear { marks.old ≡ replicate (length (map.keys (T.tables self.now.memory.now))) false }
-        requires first { In (S.spaces spaces.now) first.now }
-        ensures { IsTrue result ↔ AreSound (tested L.LEVELS T.tables P.places self.now) first.now
-            (S.spaces spaces.now) pool.now.frames }
+        requires some { 0 < length (S.spaces spaces.now) }
+        ensures { let test = tested L.LEVELS T.tables P.places self.now in
+            IsTrue result ↔ AreSound test (S.spaces spaces.now) pool.now.frames }
     {
-        if !self.mark_spaces(first, spaces, marks) {
+        if !self.mark_spaces(spaces, marks) {
             return false;
         }
-        self.of(first).mark_pool(marks, pool)
+        self.test_at(spaces, 0).mark_pool(marks, pool)
     }
 
     /// Returns what `is_sound_by` returns for a pool of these frames, and false if the capacity is below the number of all tables
     /// and frames.
     fn has_room_by<S: SpaceList>(
         &self,
-        first: &Space,
         spaces: &S,
         frames: &[u64],
         capacity: usize,
         marks: &mut [bool],
     ) -> bool
         requires clear { marks.old ≡ replicate (length (map.keys (T.tables self.now.memory.now))) false }
-        requires first { In (S.spaces spaces.now) first.now }
+        requires some { 0 < length (S.spaces spaces.now) }
         ensures { let test = tested L.LEVELS T.tables P.places self.now in let list = S.spaces spaces.now in
-            IsTrue result ↔ (AreSound test first.now list frames.now
-            × (length (all_tables test first.now list) + length frames.now ≤ capacity)) }
+            IsTrue result ↔ (AreSound test list frames.now
+            × (length (all_tables test list) + length frames.now ≤ capacity)) }
     {
-        if !self.mark_spaces(first, spaces, marks) {
+        if !self.mark_spaces(spaces, marks) {
             return false;
         }
-        if !self.of(first).mark_frames(marks, frames) {
+        if !self.test_at(spaces, 0).mark_frames(marks, frames) {
             return false;
         }
         count_set(marks) <= capacity
     }
 
-    /// Marks the tables below the shared indices of the first root, and then each root and its own tables. Returns false if one of
-    /// them can't be marked, or a space isn't like the first one.
-    fn mark_spaces<S: SpaceList>(&self, first: &Space, spaces: &S, marks: &mut [bool]) -> bool
+    /// Marks each root and its own tables. Returns false if one of them can't be marked, or a space isn't like those before it.
+    fn mark_spaces<S: SpaceList>(&self, spaces: &S, marks: &mut [bool]) -> bool
         requires clear { marks.old ≡ replicate (length (map.keys (T.tables self.now.memory.now))) false }
-        requires first { In (S.spaces spaces.now) first.now }
         ensures tells { IsTrue result
-            ↔ AreSound (tested L.LEVELS T.tables P.places self.now) first.now (S.spaces spaces.now) [] }
+            ↔ AreSound (tested L.LEVELS T.tables P.places self.now) (S.spaces spaces.now) [] }
         ensures marks { let test = tested L.LEVELS T.tables P.places self.now in
             IsTrue result → mark_all (spot_of test.memory test.places) marks.old
-            (all_tables test first.now (S.spaces spaces.now)) ≡ Some marks.new }
+            (all_tables test (S.spaces spaces.now)) ≡ Some marks.new }
     {
-        if !self.mark_parts(first, true, marks) {
-            return false;
-        }
         for n in 0..spaces.count() {
-            let space = spaces.space_at(n);
-            if !self.is_alike(first, &space) {
+            if !self.is_alike(spaces, n) {
                 return false;
             }
-            if !self.mark_own(&space, marks) {
+            if !self.mark_own(spaces, n, marks) {
                 return false;
             }
         }
         true
     }
 
-    /// Returns true if a root names itself at the recursive index, if there is one, no word above level three has `HUGE_PAGE`, and
-    /// the root has the words of the first one at the shared indices.
-    fn is_alike(&self, first: &Space, space: &Space) -> bool
-        ensures { IsTrue result ↔ IsLike (tested L.LEVELS T.tables P.places self.now) first.now space.now }
+    /// Returns true if the `n`-th root names itself at the recursive index, if there is one, no word above level three has
+    /// `HUGE_PAGE`, and the root has the words of the roots before it at the indices that they share.
+    fn is_alike<S: SpaceList>(&self, spaces: &S, n: usize) -> bool
+        requires { n < length (S.spaces spaces.now) }
+        ensures { let test = tested L.LEVELS T.tables P.places self.now in let list = S.spaces spaces.now in
+            IsTrue result ↔ IsLike test list (grouped_at list n) }
     {
-        let view = self.of(space).view;
+        let root = spaces.space_at(n).root;
+        let view = self.test_at(spaces, n).view;
         view.names_itself()
-            && view.none_huge(space.root, view.levels_below())
-            && self.has_words_of(first, space)
+            && view.none_huge(root, view.levels_below())
+            && self.has_shared_words(spaces, n)
     }
 
-    /// Returns true if a root has the words of the first one at the shared indices.
-    fn has_words_of(&self, first: &Space, space: &Space) -> bool
-        ensures { let test = tested L.LEVELS T.tables P.places self.now in
-            IsTrue result ↔ ((i : ℕ) → test.shared i ≡ true
-            → seen_words test space.now i ≡ seen_words test first.now i) }
+    /// Returns true if the `n`-th root has the words of the roots before it at the indices that they share.
+    fn has_shared_words<S: SpaceList>(&self, spaces: &S, n: usize) -> bool
+        requires { n < length (S.spaces spaces.now) }
+        ensures { let test = tested L.LEVELS T.tables P.places self.now in let list = S.spaces spaces.now in
+            IsTrue result ↔ HasSharedWords test list (grouped_at list n) }
     {
-        let (view, first_view) = (self.of(space).view, self.of(first).view);
+        let space = spaces.space_at(n);
         for index in 0..512 {
-            if self.shared.contains(index)
-                && view.word(space.root, index) != first_view.word(first.root, index)
+            let first = owner(spaces, n, index);
+            if space.word(self.memory, self.mapping, index)
+                != first.word(self.memory, self.mapping, index)
             {
                 return false;
             }
@@ -246,32 +305,38 @@ impl<'a, L: LevelCount, T: TableMemory, P: PageTableFrameMapping> SpacesTest<'a,
         true
     }
 
-    /// Marks a root and its own tables. Returns false if one of them can't be marked.
-    fn mark_own(&self, space: &Space, marks: &mut [bool]) -> bool
-        requires { length marks.old ≡ length (map.keys (T.tables self.now.memory.now)) }
+    /// Marks the `n`-th root and its own tables. Returns false if one of them can't be marked.
+    fn mark_own<S: SpaceList>(&self, spaces: &S, n: usize, marks: &mut [bool]) -> bool
+        requires marks { length marks.old ≡ length (map.keys (T.tables self.now.memory.now)) }
+        requires within { n < length (S.spaces spaces.now) }
         ensures { let test = tested L.LEVELS T.tables P.places self.now in
+            let list = S.spaces spaces.now in let space = grouped_at list n in
             (if result then Some marks.new else None)
-            ≡ mark_all (slot_of test space.now) marks.old (tables_of test space.now) }
+            ≡ mark_all (slot_of test space) marks.old (tables_of test list space) }
     {
-        if !self.of(space).mark(marks, space.root) {
+        let root = spaces.space_at(n).root;
+        if !self.test_at(spaces, n).mark(marks, root) {
             return false;
         }
-        self.mark_parts(space, false, marks)
+        self.mark_parts(spaces, n, marks)
     }
 
-    /// Marks the tables below the root's indices that are shared, or below those that aren't. Returns false if one of them can't be
+    /// Marks the tables below the indices of the `n`-th root that none before it shares. Returns false if one of them can't be
     /// marked.
-    fn mark_parts(&self, space: &Space, is_shared: bool, marks: &mut [bool]) -> bool
-        requires { length marks.old ≡ length (map.keys (T.tables self.now.memory.now)) }
+    fn mark_parts<S: SpaceList>(&self, spaces: &S, n: usize, marks: &mut [bool]) -> bool
+        requires marks { length marks.old ≡ length (map.keys (T.tables self.now.memory.now)) }
+        requires within { n < length (S.spaces spaces.now) }
         ensures { let test = tested L.LEVELS T.tables P.places self.now in
+            let list = S.spaces spaces.now in let space = grouped_at list n in
             (if result then Some marks.new else None)
-            ≡ mark_all (slot_of test space.now) marks.old (tables_below test is_shared space.now) }
+            ≡ mark_all (slot_of test space) marks.old (tables_below test list space) }
     {
-        let test = self.of(space);
+        let root = spaces.space_at(n).root;
+        let test = self.test_at(spaces, n);
         let levels = test.view.levels_below() - 1;
         for index in 0..512 {
-            if self.shared.contains(index) == is_shared {
-                if let Some(below) = test.view.table_below(space.root, index) {
+            if owns(spaces, n, index) {
+                if let Some(below) = test.view.table_below(root, index) {
                     if !test.mark_tables(marks, below, levels) {
                         return false;
                     }
@@ -281,19 +346,21 @@ impl<'a, L: LevelCount, T: TableMemory, P: PageTableFrameMapping> SpacesTest<'a,
         true
     }
 
-    /// Returns the test of one of the hierarchies.
-    fn of(&self, space: &Space) -> HierarchyTest<'a, L, T, P>
-        ensures { result ≡ record {
+    /// Returns the test of the `n`-th hierarchy.
+    fn test_at<S: SpaceList>(&self, spaces: &S, n: usize) -> HierarchyTest<'a, L, T, P>
+        requires { n < length (S.spaces spaces.now) }
+        ensures { let space = (grouped_at (S.spaces spaces.now) n).space in result ≡ record {
           limit = self.now.limit;
           view = record {
             memory = self.now.memory;
             mapping = self.now.mapping;
-            root = space.now.root;
-            recursive = space.now.recursive;
+            root = space.root;
+            recursive = space.recursive;
             levels = record {};
           };
         } }
     {
+        let space = spaces.space_at(n);
         space.view(self.memory, self.mapping).test(self.limit)
     }
 }

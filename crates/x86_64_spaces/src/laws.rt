@@ -1,5 +1,5 @@
 //! Laws of address spaces, beside those in `x86_64_model::laws::spaces`.
-ghost use Rattle.x86_64_spaces.specs.SpaceLaws.{IsUpperHalf, LayoutsStay};
+ghost use Rattle.x86_64_spaces.specs.SpaceLaws.{GroupsShare, IsUpperHalf, LayoutsStay};
 
 use crate::space::SharedIndices;
 
@@ -13,4 +13,11 @@ pub fn layouts_stay()
 /// [`SharedIndices::UPPER_HALF`] is the indices from 256 to 511.
 pub fn upper_half_has_256_to_511()
     ensures { IsUpperHalf SharedIndices.UPPER_HALF }
+{}
+
+/// Groups are a sharing, of which the laws of the model speak: roots that share an index share it both ways, and with all that
+/// share it.
+#[tactic(auto, using(crate::proofs::Groups::groups_share))]
+pub fn groups_share()
+    ensures { GroupsShare }
 {}

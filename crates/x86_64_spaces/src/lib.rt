@@ -9,7 +9,10 @@ mod making;
 mod space;
 mod space_list;
 
-pub use fitting::{roots_fit_by_marks, spaces_fit, spaces_fit_by_marks};
+pub use fitting::{
+    grouped_spaces_fit, grouped_spaces_fit_by_marks, roots_fit_by_marks, spaces_fit,
+    spaces_fit_by_marks,
+};
 pub use giving_up::{GiveUpError, give_up_space};
 pub use making::new_space;
-pub use space::{SharedIndices, Space};
+pub use space::{GroupIndices, GroupedSpace, SharedIndices, Space};

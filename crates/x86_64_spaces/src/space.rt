@@ -1,4 +1,4 @@
-//! An address space, and the indices that address spaces share.
+//! An address space, and the indices that address spaces share, all alike or in groups.
 ghost use Rattle.std.specs.Prelude.{◌≡◌, ◌<◌};
 
 use x86_64_addr::index::PageTableIndex;
@@ -38,6 +38,41 @@ pub struct Space {
     pub root: PhysFrame<Size4KiB>,
     /// The recursive index.
     pub recursive: Option<PageTableIndex>,
+}
+
+/// A range of indices of the highest level, and the group in which a root is there.
+#[derive(Clone, Copy, Debug, PartialEq)]
+pub struct GroupIndices {
+    /// The indices.
+    pub indices: SharedIndices,
+    /// The number of the group, which has no other meaning.
+    pub group: u64,
+}
+
+/// An address space whose root shares each index with the roots that are in one group with it there. A root is in the group of
+/// the first range that has the index, and shares the index with no other root if none has it.
+#[derive(Clone, Copy, Debug)]
+pub struct GroupedSpace<'a> {
+    /// The address space.
+    pub space: Space,
+    /// The ranges of indices at which the root is in a group.
+    pub groups: &'a [GroupIndices],
+}
+
+impl<'a> GroupedSpace<'a> {
+    ghost use Rattle.x86_64_spaces.specs.SpaceGroups.{grouped};
+
+    /// Returns the group in which the root is at an index, if it is in one there.
+    pub fn group(&self, index: usize) -> Option<u64>
+        ensures { result ≡ (grouped self.now).group index }
+    {
+        for range in self.groups {
+            if range.indices.contains(index) {
+                return Some(range.group);
+            }
+        }
+        None
+    }
 }
 
 impl Space {

@@ -1,5 +1,5 @@
--- The tables of address spaces as one list: those below the shared indices once, and then the root and the other tables of each.
-use Rattle.std.specs.Prelude.{◌≡◌, ◌⊎◌, ◌-◌, ℕ, suc, Bool, true, cond, not, List, [], ◌∷◌, ◌++◌, Option, IsSome}
+-- The tables of address spaces as one list: the root of each, and the tables below those of its indices that no earlier one shares.
+use Rattle.std.specs.Prelude.{◌≡◌, ◌⊎◌, ◌-◌, ◌==◌, ℕ, suc, Bool, true, cond, List, [], ◌∷◌, ◌++◌, Option, None, IsSome, get_or}
 use Rattle.std.specs.List.{flat_map}
 use Rattle.x86_64_model.specs.Entry.{address, names_table}
 use Rattle.x86_64_model.specs.Lists.{In, EachOnce}
@@ -10,7 +10,8 @@ use Rattle.x86_64_model.specs.private.Tables.{tables_from, without_word, NoneHug
 use Rattle.x86_64_model.specs.Window.{SelfEntry}
 use Rattle.x86_64_spaces.specs.declared.fitting.SpacesTest.{SpacesTest}
 use Rattle.x86_64_spaces.specs.declared.space.Space.{Space}
-use Rattle.x86_64_spaces.specs.SpaceLayouts.{indices_of, roots_of}
+use Rattle.x86_64_spaces.specs.SpaceGroups.{Grouped, spaces_of, are_one}
+use Rattle.x86_64_spaces.specs.SpaceLayouts.{roots_of}
 use Rattle.x86_64_tables.specs.SelfEntries.{window_in}
 use Rattle.x86_64_tables.specs.Views.{mark_slot}
 
@@ -30,44 +31,54 @@ part n T f i = cond (names_table (word T f i)) (tables_from n T (address (word T
 abbrev pub parts_where : (test : ℕ → Bool) → (n : ℕ) → Words → (frame : ℕ) → List ℕ
 parts_where test n T f = flat_map (λ i. cond (test i) (part n T f i) []) indices
 
--- The test for the shared indices, or for the others.
-abbrev pub chosen : (shared : ℕ → Bool) → (is_shared : Bool) → (i : ℕ) → Bool
-chosen shared is_shared i = cond is_shared (shared i) (not (shared i))
+-- ---- who has the tables below an index
 
--- The tables below the shared indices.
-abbrev pub shared_tables : (shared : ℕ → Bool) → (n : ℕ) → Words → Space → List ℕ
-shared_tables shared n T space = parts_where shared n (seen_by T space) space.root
+-- The n-th space of a list.
+abbrev pub grouped_at : List Grouped → (n : ℕ) → Grouped
+grouped_at spaces n = get_or spaces n (record { space = record { root = 0; recursive = None }; group = λ i. None })
 
--- The root and the tables that it doesn't share.
-abbrev pub own_tables : (shared : ℕ → Bool) → (n : ℕ) → Words → Space → List ℕ
-own_tables shared n T space = space.root ∷ parts_where (λ i. not (shared i)) n (seen_by T space) space.root
+-- The first space whose root is in a group at an index, or the given one if there is none.
+abbrev pub first_in : List Grouped → (group : Option ℕ) → (index : ℕ) → Grouped → Grouped
+first_in [] g i s = s
+first_in (t ∷ spaces) g i s = cond (are_one (t.group i) g) t (first_in spaces g i s)
 
--- The tables below the shared indices of the first space, and then the root and the own tables of each.
-abbrev pub space_tables : (shared : ℕ → Bool) → (n : ℕ) → Words → (first : Space) → (spaces : List Space) → List ℕ
-space_tables shared n T first spaces = shared_tables shared n T first ++ flat_map (own_tables shared n T) spaces
+-- The first space that shares an index with a space, which may be this one.
+abbrev pub owner : List Grouped → Grouped → (index : ℕ) → Grouped
+owner spaces s i = first_in spaces (s.group i) i s
 
--- The root has its self-entry if there is a recursive index, and the words of the first root at the shared indices. No word above
--- level three is huge.
-pub record IsAlike (shared : ℕ → Bool) (n : ℕ) (T : Words) (first space : Space) : Type 0 where
-  pub self : SelfEntry T space.root (window_in T space.root space.recursive)
-  pub none_huge : NoneHuge (suc n) (seen_by T space) space.root
-  pub alike : (i : ℕ) → shared i ≡ true → word (seen_by T space) space.root i ≡ word (seen_by T first) first.root i
+-- Whether no earlier space shares an index with a space.
+abbrev pub owns : List Grouped → Grouped → (index : ℕ) → Bool
+owns spaces s i = (owner spaces s i).space.root == s.space.root
+
+-- The root and the tables below the indices that no earlier space shares with it.
+abbrev pub own_tables : List Grouped → (n : ℕ) → Words → Grouped → List ℕ
+own_tables spaces n T s = s.space.root ∷ parts_where (owns spaces s) n (seen_by T s.space) s.space.root
+
+-- The root and the own tables of each space.
+abbrev pub space_tables : List Grouped → (n : ℕ) → Words → List ℕ
+space_tables spaces n T = flat_map (own_tables spaces n T) spaces
+
+-- The root has its self-entry if there is a recursive index, and at each index the word of the first root that shares the index. No
+-- word above level three is huge.
+pub record IsAlike (spaces : List Grouped) (n : ℕ) (T : Words) (s : Grouped) : Type 0 where
+  pub self : SelfEntry T s.space.root (window_in T s.space.root s.space.recursive)
+  pub none_huge : NoneHuge (suc n) (seen_by T s.space) s.space.root
+  pub alike : (i : ℕ) → word (seen_by T s.space) s.space.root i ≡ word (seen_by T (owner spaces s i).space) (owner spaces s i).space.root i
 
 -- All spaces are alike. Their tables and the frames of a pool are each in the memory and met once, and all but the roots are served.
-pub record SoundSpaces (shared : ℕ → Bool) (n : ℕ) (T : Words) (first : Space) (spaces : List Space) (serves : ℕ → Bool) (pool : List ℕ) : Type 0 where
-  pub alike : (s : Space) → In spaces s → IsAlike shared n T first s
-  pub each_once : EachOnce (space_tables shared n T first spaces ++ pool)
-  pub in_memory : (f : ℕ) → In (space_tables shared n T first spaces ++ pool) f → IsSome (T f)
-  pub served : (f : ℕ) → In (space_tables shared n T first spaces ++ pool) f → In (roots_of spaces) f ⊎ (serves f ≡ true)
+pub record SoundSpaces (spaces : List Grouped) (n : ℕ) (T : Words) (serves : ℕ → Bool) (pool : List ℕ) : Type 0 where
+  pub alike : (s : Grouped) → In spaces s → IsAlike spaces n T s
+  pub each_once : EachOnce (space_tables spaces n T ++ pool)
+  pub in_memory : (f : ℕ) → In (space_tables spaces n T ++ pool) f → IsSome (T f)
+  pub served : (f : ℕ) → In (space_tables spaces n T ++ pool) f → In (roots_of (spaces_of spaces)) f ⊎ (serves f ≡ true)
 
 -- ---- what a test looks at
 
--- The tables in a memory and where frames lie in it, the shared indices, the number of levels of tables below those that a root
--- names, and the end of the numbers of frames that may be met.
+-- The tables in a memory and where frames lie in it, the number of levels of tables below those that a root names, and the end of
+-- the numbers of frames that may be met.
 pub record Tested : Type 0 where
   pub memory : Memory
   pub places : Places
-  pub shared : (index : ℕ) → Bool
   pub levels : ℕ
   pub limit : ℕ
 
@@ -77,7 +88,6 @@ abbrev pub tested : {L T P : Type 0} → (levels : ℕ) → (tables : T → Memo
 tested levels tables places test = record {
   memory = tables test.memory.now;
   places = places test.mapping.now;
-  shared = indices_of test.shared;
   levels = (levels - 1) - 1;
   limit = test.limit;
 }
@@ -90,26 +100,30 @@ tested_words test = words_of test.memory test.places
 abbrev pub seen_words : Tested → Space → (index : ℕ) → ℕ
 seen_words test space = root_words test.memory test.places space
 
--- The space is like the first one.
-abbrev pub IsLike : Tested → (first space : Space) → Type 0
-IsLike test first space = IsAlike test.shared test.levels (tested_words test) first space
+-- A space is like those before it.
+abbrev pub IsLike : Tested → List Grouped → Grouped → Type 0
+IsLike test spaces s = IsAlike spaces test.levels (tested_words test) s
+
+-- The root has the words of the roots before it at the indices that they share.
+abbrev pub HasSharedWords : Tested → List Grouped → Grouped → Type 0
+HasSharedWords test spaces s = (i : ℕ) → seen_words test s.space i ≡ seen_words test (owner spaces s i).space i
 
 -- The spaces and a pool are sound.
-abbrev pub AreSound : Tested → (first : Space) → List Space → (pool : List ℕ) → Type 0
-AreSound test first spaces pool = SoundSpaces test.shared test.levels (tested_words test) first spaces (serves_below test.limit) pool
+abbrev pub AreSound : Tested → List Grouped → (pool : List ℕ) → Type 0
+AreSound test spaces pool = SoundSpaces spaces test.levels (tested_words test) (serves_below test.limit) pool
 
 -- The tables of the spaces.
-abbrev pub all_tables : Tested → (first : Space) → List Space → List ℕ
-all_tables test first spaces = space_tables test.shared test.levels (tested_words test) first spaces
+abbrev pub all_tables : Tested → List Grouped → List ℕ
+all_tables test spaces = space_tables spaces test.levels (tested_words test)
 
 -- The root of a space and its own tables.
-abbrev pub tables_of : Tested → Space → List ℕ
-tables_of test space = own_tables test.shared test.levels (tested_words test) space
+abbrev pub tables_of : Tested → List Grouped → Grouped → List ℕ
+tables_of test spaces s = own_tables spaces test.levels (tested_words test) s
 
--- The tables of a space below the shared indices, or below the others.
-abbrev pub tables_below : Tested → (is_shared : Bool) → Space → List ℕ
-tables_below test is_shared space = parts_where (chosen test.shared is_shared) test.levels (seen_by (tested_words test) space) space.root
+-- The tables of a space below the indices that no earlier space shares.
+abbrev pub tables_below : Tested → List Grouped → Grouped → List ℕ
+tables_below test spaces s = parts_where (owns spaces s) test.levels (seen_by (tested_words test) s.space) s.space.root
 
 -- The index of a frame's mark while a space is tested.
-abbrev pub slot_of : Tested → Space → (frame : ℕ) → Option ℕ
-slot_of test space = mark_slot test.memory test.places space.root test.limit
+abbrev pub slot_of : Tested → Grouped → (frame : ℕ) → Option ℕ
+slot_of test s = mark_slot test.memory test.places s.space.root test.limit

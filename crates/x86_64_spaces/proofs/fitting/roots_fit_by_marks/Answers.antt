@@ -1,5 +1,6 @@
 use Rattle.std.proofs.Common.{◌≡◌, true, false, reverse}
-use Rattle.x86_64_spaces.specs.SpaceLayouts.{indices_of}
+use Rattle.x86_64_spaces.specs.SpaceLayouts.{indices_of, spaces_at}
+use Rattle.x86_64_spaces.proofs.AllSharing.{room_alike}
 use Rattle.x86_64_spaces.proofs.FitsRoom.{all_frames}
 use Rattle.x86_64_spaces.proofs.fitting.roots_fit_by_marks.Goals as goal
 
@@ -11,4 +12,8 @@ returns-in-None g c = (
 )
 
 pub returns-in-Some : goal.returns-in-Some
-returns-in-Some g c = rw c.in-Some.ensures.roots at c.list_fits.ensures
+returns-in-Some g c =
+    let m = g.T.TableMemory.tables c.args.memory.now in let places = g.P.PageTableFrameMapping.places c.args.mapping.now in
+    let same = room_alike (indices_of c.args.shared) g.L.LevelCount.LEVELS places m (spaces_at c.args.roots.now) (reverse c.args.frames.now) c.args.capacity in
+    let tells = rw (c.in-Some.ensures.roots.0, c.in-Some.ensures.roots.1) at c.list_fits.ensures in
+    (λ t. same.0 (tells.0 t), λ x. tells.1 (same.1 x))
