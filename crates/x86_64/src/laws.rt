@@ -110,7 +110,8 @@ pub fn flushes_of_ranges_suffice()
 pub fn ranges_of_up_to_32_pages_are_flushed_by_page()
     ensures limit { MOST_PAGE_ITEMS ≡ 32 }
     ensures each { (levels size page count : ℕ) → count ≤ 32
-        → range_items levels size MOST_PAGE_ITEMS (flush_range page count) ≡ page_items levels size page count }
+        → range_items levels size MOST_PAGE_ITEMS (flush_range page count)
+        ≡ page_items levels size page count }
     ensures all { (levels size page count : ℕ) → 32 < count
         → range_items levels size MOST_PAGE_ITEMS (flush_range page count) ≡ FlushItem.All ∷ [] }
 {}

@@ -59,8 +59,8 @@ pub fn run_flushed<
 ///
 /// # Errors
 ///
-/// `AllocError` if memory allocation fails for the replies or for the items. Then nothing changes: a list of replies that
-/// has to grow moves only once the recorder has room.
+/// `AllocError` if memory allocation fails for the replies or for the items. Then nothing changes: replies that lack room
+/// move to a larger list only once the recorder has room.
 fn make_room<L: LevelCount>(
     replies: &mut Vec<ReplyIn<L>>,
     recorder: &mut FlushRecorder,
@@ -86,8 +86,8 @@ fn make_room<L: LevelCount>(
     Ok(())
 }
 
-/// Returns an empty list with room for the given replies and for a number of further ones. It doubles their room at
-/// least, so that lists that follow one another rarely have to move.
+/// Returns an empty list with room for the given replies and for a number of further ones. It has room for at least twice
+/// as many as are given, so that many short lists of calls rarely move the replies.
 ///
 /// # Errors
 ///
