@@ -3,7 +3,7 @@ use Rattle.x86_64_model.specs.Allowed.{parents_present}
 use Rattle.x86_64_model.specs.Call.{Answered}
 use Rattle.x86_64_model.specs.Entry.{IsParentFlags}
 use Rattle.x86_64_model.specs.Layout.{Layout}
-use Rattle.x86_64_model.specs.Mapper.{◌laid_in◌, paths}
+use Rattle.x86_64_model.specs.Mapper.{◌laid_in◌, paths, SupplyFits}
 use Rattle.x86_64_model.specs.Path.{path_at}
 use Rattle.x86_64_model.specs.Position.{span}
 use Rattle.x86_64_model.specs.Refusal.{Refused, PageAlreadyMapped}
@@ -235,3 +235,36 @@ returns-clause-maps g c =
       maps = ends_run h supply r c.args.count (accepted r c.args.count) after rest inv.layout inv.lent (subst (λ k. IsRun h.layout h.memory supply r k (accepted r k) after.memory rest) all inv.run);
       serves = inv.serves;
     }
+
+pub page_after-requires : goal.page_after-requires
+page_after-requires g c = page_there (g.M.Tables.hierarchy c.args.mapper.now).layout.levels g.L.LevelCount.LEVELS g.S.PageSize.LEVEL g.S.PageSize.SIZE c.args.page c.parts.done g.S.PageSize.size
+    (g.met.M.TablesIn.level_count c.args.mapper.now) (c.requires.may.pages c.parts.done c.parts-test.true)
+
+pub overflow_sub-indices : goal.overflow_sub-indices
+overflow_sub-indices g c = omega (arith, ap length c.indices-indices.ensures, c.path_of_page-path.ensures.levels, g.met.M.Tables.at_least_four c.parts.mapper, g.S.PageSize.high)
+
+pub offset_bounds-indices-indices : goal.offset_bounds-indices-indices
+offset_bounds-indices-indices g c = omega (arith, c.indices-indices.type_inv.1)
+
+pub bounds-indices-indices : goal.bounds-indices-indices
+bounds-indices-indices g c = omega (arith, ap length c.indices-indices.ensures, c.path_of_page-path.ensures.levels, g.met.M.Tables.at_least_four c.parts.mapper, g.S.PageSize.high)
+
+pub add-from-requires : goal.add-from-requires
+add-from-requires g c = subst (λ z. c.args.frame + c.parts.done * z < 2 ^ 52) (sym g.S.PageSize.size) (c.requires.may.frames c.parts.done c.parts-test.true)
+
+pub map_part-requires-clause-levels : goal.map_part-requires-clause-levels
+map_part-requires-clause-levels g c = omega (arith, ap length c.indices-indices.ensures, c.path_of_page-path.ensures.levels)
+
+pub map_part-requires-clause-ready : goal.map_part-requires-clause-ready
+map_part-requires-clause-ready g c = subst (λ (l : Layout). SupplyFits (l laid_in (g.M.Tables.hierarchy c.parts.mapper).memory) (g.A.FrameAllocator.supply c.parts.frame_allocator)) (sym c.parts.invariant.layout) c.parts.invariant.run.owned.ready
+
+pub map_part-requires-clause-within : goal.map_part-requires-clause-within
+map_part-requires-clause-within g c =
+    let q = c.indices-indices.result.now in
+    let levels = (g.M.Tables.hierarchy c.parts.mapper).layout.levels in
+    let long : length q ≡ levels + 1 - g.S.PageSize.LEVEL = omega (arith, ap length c.indices-indices.ensures, c.path_of_page-path.ensures.levels) in
+    part_fits q levels g.S.PageSize.LEVEL c.index-indices-indices.result c.from-room.result (c.args.count - c.parts.done) c.min-part.result long g.S.PageSize.high (g.met.M.Tables.at_least_four c.parts.mapper) c.index-indices-indices.is c.from-room.ensures.0 c.min-part.ensures c.from-room.ensures.1
+
+pub new-requires : goal.new-requires
+new-requires g c = λ k less. page_there (g.M.Tables.hierarchy c.args.mapper.now).layout.levels g.L.LevelCount.LEVELS g.S.PageSize.LEVEL g.S.PageSize.SIZE c.args.page k g.S.PageSize.size
+    (g.met.M.TablesIn.level_count c.args.mapper.now) (c.requires.may.pages k less)
