@@ -87,6 +87,10 @@
  * X64_ACCESSED among the parent flags, and make the others by x64_new_space. No further test is
  * needed then.
  *
+ * Roots may also share in pairs, for example a kernel's root and a user's root of each process. It
+ * is proved of the model that calls keep this, too (paired_spaces_stay). But x64_spaces_fit knows
+ * one range for all roots; grouped_spaces_fit in crates/x86_64_spaces tests it.
+ *
  * TABLES THAT A PROCESSOR USES
  *
  * A processor caches what its page walks find: pages in the TLB, and tables on the way to them. The
