@@ -2,7 +2,9 @@
 #include "kernel.h"
 
 /* Pages are mapped to the second GiB of memory, the sandbox. */
-enum { SANDBOX = 0x40000000, ACCESSES_PER_CALL = 8, MOST_SHOWN = 5, TRAP_FLAG = 0x100, WAS_PRESENT = 1, WAS_RESERVED = 8 };
+enum { SANDBOX = 0x40000000, ACCESSES_PER_CALL = 8, MOST_SHOWN = 5, TRAP_FLAG = 0x100, AC = 0x40000, WAS_PRESENT = 1, WAS_RESERVED = 8 };
+/* How much higher the judge's code is mapped a second time, for ring 0, which can't run a page of ring 3 with SMEP. */
+enum { COPY = 0x20000000 };
 extern const uint8_t judge_code[], write_code[];
 static x64_controls controls = {.write_protect = true, .no_execute = true};
 static x64_hierarchy space;
@@ -24,6 +26,16 @@ static uint64_t some_page(void) {
     return position * X64_SIZE_4KIB;
 }
 
+/* Goes on to the next page that is mapped, if there is one in the lower half. */
+static void find_mapped(x64_page *page) {
+    x64_mapping mapping;
+    uint64_t next;
+    size_t count;
+    uint32_t status = x64_mappings(&space, tables, TABLE_COUNT, page->start, &mapping, 1, &count, &next);
+    if (status <= X64_MORE && count == 1 && mapping.start < DIRECT)
+        *page = (x64_page){mapping.start, mapping.size};
+}
+
 /* Returns any flags but X64_HUGE_PAGE. */
 static uint64_t some_flags(void) {
     uint64_t flags = below(UINT32_MAX) << 52 | (below(UINT32_MAX) & 0xf78);
@@ -31,11 +43,22 @@ static uint64_t some_flags(void) {
     return below(10) ? flags & ~X64_NO_EXECUTE : flags;
 }
 
-/* Returns how many bits physical addresses of this processor have. */
-static uint8_t physical_bits(void) {
-    uint32_t eax = 0x80000008, ebx, ecx, edx;
-    __asm__("cpuid" : "+a"(eax), "=b"(ebx), "=c"(ecx), "=d"(edx));
-    return (uint8_t)eax;
+static void cpuid(uint32_t leaf, uint32_t *eax, uint32_t *ebx) {
+    uint32_t ecx = 0, edx;
+    __asm__("cpuid" : "=a"(*eax), "=b"(*ebx), "+c"(ecx), "=d"(edx) : "a"(leaf));
+}
+
+/* Turns SMEP and SMAP on, if the processor has them, and asks how many bits its physical addresses have. */
+static void set_controls(void) {
+    uint32_t eax, ebx;
+    uint64_t cr4;
+    cpuid(7, &eax, &ebx);
+    controls.smep = ebx >> 7 & 1;
+    controls.smap = ebx >> 20 & 1;
+    __asm__ volatile("mov %%cr4, %0" : "=r"(cr4));
+    __asm__ volatile("mov %0, %%cr4" : : "r"(cr4 | (uint64_t)controls.smep << 20 | (uint64_t)controls.smap << 21) : "memory");
+    cpuid(0x80000008, &eax, &ebx);
+    controls.physical_bits = (uint8_t)eax;
 }
 
 /* Returns a frame in the sandbox, now and then with an address bit that the processor doesn't have, which is reserved. */
@@ -44,11 +67,23 @@ static uint64_t some_frame(uint64_t size) {
     return ((SANDBOX + below(8) * X64_SIZE_2MIB + below(8) * X64_SIZE_4KIB) & ~(size - 1)) | reserved;
 }
 
+/* Adds rights to a page. The header says that nothing has to be flushed, unless users get it while SMEP or SMAP is on. */
+static void add_rights(const x64_page *page) {
+    x64_translation old;
+    if (x64_translate(&space, tables, TABLE_COUNT, page->start, &old) != X64_OK || old.size != page->size)
+        return;
+    uint64_t flags = (old.flags | X64_USER_ACCESSIBLE | (below(2) ? X64_WRITABLE : 0)) & ~X64_NO_EXECUTE;
+    if (flags & ~old.flags & X64_USER_ACCESSIBLE)
+        check("x64_update_flags", update_flags(&space, page, 1, flags));
+    else
+        check("x64_update_flags", x64_update_flags(&space, tables, TABLE_COUNT, page, flags));
+}
+
 /* Makes a call on a number of pages, from one on, or on that page alone. */
 static void make_call(const x64_page *page, uint64_t count) {
     static uint64_t frames[MOST_PAGES];
     size_t frame_count;
-    uint64_t choice = below(8);
+    uint64_t choice = below(10);
     x64_map_request request = {*page, some_frame(page->size), some_flags(), X64_PRESENT | X64_WRITABLE | X64_USER_ACCESSIBLE};
     if (choice == 0) {
         update_flags(&space, page, count, some_flags());
@@ -57,9 +92,13 @@ static void make_call(const x64_page *page, uint64_t count) {
     } else if (choice == 2) {
         unmap(&space, page, count, frames, &frame_count);
         clean_up(&space, page->start, below(2) ? page->start : last_page());
+    } else if (choice < 5) {
+        add_rights(page);
     } else {
         request.parent_flags = below(4) ? request.parent_flags : some_flags();
         map(&space, &request, count);
+        if (request.parent_flags & X64_USER_ACCESSIBLE)
+            flush_everything(); /* with SMEP and SMAP this may take rights from ring 0, on all pages below the same entries */
     }
 }
 
@@ -74,8 +113,9 @@ static uint64_t address_near(const x64_page *first, uint64_t count) {
 /* Lets the processor make an access. Before it %rax is a word, which a write writes. A fetch ends after an instruction. */
 static void let_access(struct registers *registers, const x64_access_request *request, uint64_t word) {
     bool is_fetch = request->kind == X64_FETCH;
-    uint64_t code = (uint64_t)(request->kind == X64_WRITE ? write_code : judge_code);
-    *registers = (struct registers){.rip = is_fetch ? request->address : code, .rflags = is_fetch ? TRAP_FLAG : 0,
+    uint64_t code = (uint64_t)(request->kind == X64_WRITE ? write_code : judge_code) + (request->user ? 0 : COPY);
+    uint64_t flags = (is_fetch ? TRAP_FLAG : 0) | (controls.ac ? AC : 0);
+    *registers = (struct registers){.rip = is_fetch ? request->address : code, .rflags = flags,
                                     .cs = request->user ? USER_CODE : CODE, .ss = request->user ? USER_DATA : DATA,
                                     .rdi = request->address, .rax = word};
     run(registers);
@@ -94,6 +134,7 @@ static bool compare(const x64_access_request *request, bool is_falsified) {
     x64_access_request asked = *request;
     x64_outcome outcome;
     struct registers after;
+    controls.ac = below(2);
     asked.kind = is_falsified && asked.kind == X64_WRITE ? X64_READ : asked.kind;
     uint32_t status = x64_access(&space, tables, TABLE_COUNT, &controls, &asked, &outcome);
     if (status != X64_OK) {
@@ -119,8 +160,10 @@ uint64_t judge(uint64_t seed, uint64_t accesses, bool is_falsified) {
     static const char *const kinds[] = {"a read", "a write", "a fetch"};
     uint64_t count = 0, differences = 0;
     x64_page page = {(uint64_t)judge_code, X64_SIZE_4KIB};
+    x64_map_request copy = {{page.start + COPY, page.size}, page.start - KERNEL, X64_PRESENT, X64_PRESENT | X64_ACCESSED};
     state = seed * UINT64_C(0x9e3779b97f4a7c15);
-    controls.physical_bits = physical_bits();
+    set_controls();
+    check("x64_map", map(&kernel_space, &copy, 1));
     check("x64_update_flags", update_flags(&kernel_space, &page, 1, X64_PRESENT | X64_USER_ACCESSIBLE));
     space = new_space();
     use_space(&space);
@@ -128,6 +171,8 @@ uint64_t judge(uint64_t seed, uint64_t accesses, bool is_falsified) {
         if (k % ACCESSES_PER_CALL == 0) {
             page.size = below(2) ? X64_SIZE_4KIB : below(3) ? X64_SIZE_2MIB : X64_SIZE_1GIB;
             page.start = some_page() & ~(page.size - 1);
+            if (below(2))
+                find_mapped(&page);
             count = page.size == X64_SIZE_1GIB ? 1 : below(2) ? 1 + below(31) : below(2) ? 1 : 1 + below(500);
         } else if (k % ACCESSES_PER_CALL == ACCESSES_PER_CALL / 2) {
             make_call(&page, count); /* half of the accesses come before it, so that something is cached */

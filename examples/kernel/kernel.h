@@ -46,6 +46,7 @@ uint64_t take_frames(uint64_t count);
 
 /* memory.c: calls of the library with the flushes that x64_flush_after tells. The judge may leave one of these out, to see it noticed. */
 extern uint32_t left_out;
+void flush_everything(void);
 uint32_t map(const x64_hierarchy *space, const x64_map_request *request, uint64_t count);
 uint32_t unmap(const x64_hierarchy *space, const x64_page *first, uint64_t count, uint64_t frames[MOST_PAGES], size_t *frame_count);
 uint32_t update_flags(const x64_hierarchy *space, const x64_page *first, uint64_t count, uint64_t flags);

@@ -9,7 +9,7 @@ size_t free_tables = TABLE_COUNT;
 static uint64_t pool[TABLE_COUNT];
 uint8_t uses[FRAMES_END / X64_SIZE_4KIB]; /* how many pages each frame is mapped to */
 
-static void flush_everything(void) {
+void flush_everything(void) {
     uint64_t cr4, pge = 0x80; /* that CR4.PGE changes flushes everything, global pages too */
     __asm__ volatile("mov %%cr4, %0" : "=r"(cr4));
     __asm__ volatile("mov %0, %%cr4" : : "r"(cr4 & ~pge) : "memory");
