@@ -1,5 +1,6 @@
 pub mod Groups
 pub mod AllSharing
+pub mod EachSharing
 pub mod Parts
 pub mod Spots
 pub mod Chosen

@@ -1,5 +1,5 @@
 //! Laws of address spaces, beside those in `x86_64_model::laws::spaces`.
-ghost use Rattle.x86_64_spaces.specs.SpaceLaws.{GroupsShare, IsUpperHalf, LayoutsStay};
+ghost use Rattle.x86_64_spaces.specs.SpaceLaws.{GroupsShare, IsUpperHalf, LayoutsStay, SharingsAreGroups};
 
 use crate::space::SharedIndices;
 
@@ -20,4 +20,10 @@ pub fn upper_half_has_256_to_511()
 #[tactic(auto, using(crate::proofs::Groups::groups_share))]
 pub fn groups_share()
     ensures { GroupsShare }
+{}
+
+/// Each sharing is one by groups. So groups say of roots which indices they share in pairs as well as any other way would.
+#[tactic(auto, using(crate::proofs::EachSharing::sharings_are_groups))]
+pub fn sharings_are_groups()
+    ensures { SharingsAreGroups }
 {}
