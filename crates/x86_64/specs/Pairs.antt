@@ -1,5 +1,5 @@
 -- Two mappers that reply alike to one list of calls: what is asked of each and of both, and what is left of them.
-use Rattle.std.specs.Prelude.{◌≡◌, ℕ, ⊤, false, List, [], ◌∷◌, Option, Some, None, Vec, Result, IfOk}
+use Rattle.std.specs.Prelude.{◌≡◌, ℕ, ⊤, false, List, [], Option, Some, None, Vec, Result, IfOk}
 use Rattle.std.specs.List.{AllByRecursion}
 use Rattle.x86_64_model.specs.Alike.{Alike}
 use Rattle.x86_64_model.specs.Mapper.{Hierarchy, paths}
