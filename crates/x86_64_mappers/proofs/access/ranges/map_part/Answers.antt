@@ -1,4 +1,5 @@
-use Rattle.std.proofs.Common.{◌≡◌, ◌-◌, ◌∙◌, length, get_or, subst}
+use Rattle.std.proofs.Common.{arith, ◌≡◌, ◌≤◌, ◌-◌, ◌+◌, ◌∙◌, length, get_or, sym, subst}
+use Rattle.std.proofs.lemmas.List.{length-take}
 use Rattle.std.proofs.lemmas.Result.{err_from_is_err_and}
 use Rattle.x86_64_mappers.specs.private.RangeSteps.{AreLeavesSet}
 use Rattle.x86_64_mappers.proofs.Map.MapEnds.{outside_front}
@@ -32,3 +33,26 @@ returns-clause-maps g c =
       };
       serves = c.create_tables.ensures.made.serves;
     }
+
+pub overflow_sub-last : goal.overflow_sub-last
+overflow_sub-last g c = omega (arith, c.requires.levels, g.met.M.Tables.at_least_four c.args.mapper.now, g.S.PageSize.high)
+
+pub offset_bounds-path-last : goal.offset_bounds-path-last
+offset_bounds-path-last g c = omega (arith, c.requires.levels, g.met.M.Tables.at_least_four c.args.mapper.now, g.S.PageSize.high)
+
+pub bounds-path-last : goal.bounds-path-last
+bounds-path-last g c = omega (arith, c.requires.levels, g.met.M.Tables.at_least_four c.args.mapper.now, g.S.PageSize.high)
+
+pub create_tables-requires-clause-short : goal.create_tables-requires-clause-short
+create_tables-requires-clause-short g c = omega (arith, length-take (length c.args.path.now - 1) c.args.path.now, c.requires.levels, g.met.M.Tables.at_least_four c.args.mapper.now, g.S.PageSize.high, g.S.PageSize.low)
+
+pub set_leaves-requires-clause-short : goal.set_leaves-requires-clause-short
+set_leaves-requires-clause-short g c = rw c.create_tables.ensures.layout (omega (arith, length-take (length c.args.path.now - 1) c.args.path.now, c.requires.levels, g.met.M.Tables.at_least_four c.args.mapper.now, g.S.PageSize.high, g.S.PageSize.low))
+
+pub set_leaves-requires-clause-within : goal.set_leaves-requires-clause-within
+set_leaves-requires-clause-within g c =
+    let l = (g.M.Tables.hierarchy c.args.mapper.now).layout in
+    let q = c.args.path.now in
+    let size = has_last_index q (some_index_of l.levels q g.S.PageSize.LEVEL c.requires.levels (page_below_root l.levels g.S.PageSize.LEVEL (g.met.M.Tables.at_least_four c.args.mapper.now) g.S.PageSize.high)) in
+    let index : c.from-first.result ≡ get_or q (length q - 1) 0 = c.from-first.ensures.0 ∙ last_item q c.index-path-last.result size c.index-path-last.is in
+    subst (λ i. i + c.args.count ≤ 512) (sym index) c.requires.within
