@@ -1,4 +1,4 @@
-use Rattle.std.proofs.Common.{◌≡◌, ◌<◌, inl, inr, bit_or, refl, sym, ap, ◌∙◌, subst, false, arith, get_or}
+use Rattle.std.proofs.Common.{◌≡◌, ◌<◌, inl, inr, bit_or, refl, sym, ap, ◌∙◌, subst, false, arith, get_or, length}
 use Rattle.std.proofs.lemmas.List.{get_or_read}
 use Rattle.x86_64_model.specs.Entry.{used}
 use Rattle.x86_64_model.specs.Layout.{Layout}
@@ -77,3 +77,24 @@ returns-clause-made g c =
           (supply_first _ _ f c.in-Some.ensures.first c.in-Some.ensures.rest) c.link_table.ensures.linked);
       serves = c.in-Some.ensures.serves;
     }
+
+pub returns-then-not-is_unused-clause-index : goal.returns-then-not-is_unused-clause-index
+returns-then-not-is_unused-clause-index g c = subst (λ i. i < 512) (get_or_read c.args.parents.now c.args.k c.index-parents-k.result c.requires.within c.index-parents-k.is 0) c.entry_mut-entry.ensures.index
+
+pub returns-then-not-is_unused-clause-layout : goal.returns-then-not-is_unused-clause-layout
+returns-then-not-is_unused-clause-layout g c = g.met.M.TableAccess.keeps_layout c.args.mapper.now c.args.table _
+
+pub returns-in_default-clause-index : goal.returns-in_default-clause-index
+returns-in_default-clause-index g c = subst (λ i. i < 512) (get_or_read c.args.parents.now c.args.k c.index-parents-k.result c.requires.within c.index-parents-k.is 0) c.entry_mut-entry.ensures.index
+
+pub returns-in_default-clause-layout : goal.returns-in_default-clause-layout
+returns-in_default-clause-layout g c = g.met.M.TableAccess.keeps_layout c.args.mapper.now c.args.table _
+
+pub link_table-requires-clause-short : goal.link_table-requires-clause-short
+link_table-requires-clause-short g c = subst (λ (l : Layout). length c.args.parents.now < l.levels) (sym (g.met.M.TableAccess.keeps_layout c.args.mapper.now c.args.table _)) c.requires.short
+
+pub returns-clause-index : goal.returns-clause-index
+returns-clause-index g c = subst (λ i. i < 512) (get_or_read c.args.parents.now c.args.k c.index-parents-k.result c.requires.within c.index-parents-k.is 0) c.entry_mut-entry.ensures.index
+
+pub returns-clause-layout : goal.returns-clause-layout
+returns-clause-layout g c = c.link_table.ensures.layout ∙ g.met.M.TableAccess.keeps_layout c.args.mapper.now c.args.table _
