@@ -64,9 +64,6 @@
  * the tables and the pool, it is enough to test them once. Each call checks its other arguments
  * itself, and returns an X64_BAD_ status if one is wrong, whatever the tables hold.
  *
- * Calls on the same memory must not run at the same time. Calls that only read the tables may: they
- * write nothing but their out parameters and marks. This is tested, but not proved.
- *
  * ADDRESS SPACES
  *
  * Hierarchies that fit together are address spaces: each has a root of its own, all have one pool,
@@ -150,8 +147,8 @@
  * SMEP and SMAP: with these, X64_USER_ACCESSIBLE takes rights from a supervisor, which the rows
  * above don't count. A page may get it by x64_update_flags; and pages whose own entries have it may
  * get it by a map that adds it to the entries above them. A supervisor may go on there by what is
- * cached, until the page, or everything, is flushed. So flush it, or have no pages of users and of
- * supervisors below one entry.
+ * cached. So flush the page after such a change, and everything after such a map. Or have no pages
+ * of users and of supervisors below one entry, with X64_USER_ACCESSIBLE there from the start.
  *
  * What is proved: laws of a model, in which a processor may cache any present word at any moment.
  * Each function is proved to do what the model's call does, so the laws are about these calls.
@@ -173,7 +170,8 @@
  *   calls_keep_globals_below_shared_indices (crates/x86_64_model)
  *       The condition on X64_GLOBAL, for all calls later.
  *   marks_of_address_spaces_may_happen (crates/x86_64_access)
- *       A processor may set X64_ACCESSED and X64_DIRTY between calls.
+ *       A processor may set X64_ACCESSED and X64_DIRTY between calls, if shared entries of the
+ *       roots have X64_ACCESSED from the start.
  *
  * What isn't proved: what a processor sees between two writes of one call. The model's laws hold
  * then, too, if at each moment the tables are a valid hierarchy, with each entry as it was or as it
@@ -186,22 +184,23 @@
  * WHAT ELSE READS AND WRITES TABLES
  *
  * Calls on one hierarchy must not run at the same time, nor calls with one pool, unless all of them
- * only read. Calls on hierarchies that own no frame in common may, if each has a pool of its own.
- * So may calls on address spaces with pools of their own, as long as their pages and ranges lie
- * below entries that aren't shared. Proved are laws of the model: it is as if such calls were made
- * one after another, in any order (turns_are_as_if_alone, calls_commute). That the functions read
- * no words of others is read in their source. That they write none is proved.
+ * only read tables: these write nothing but their out parameters and marks. Calls on hierarchies
+ * that own no frame in common may, if each has a pool of its own. So may calls on address spaces
+ * with pools of their own, as long as their pages and ranges lie below entries that aren't shared.
+ * Proved are laws of the model: it is as if such calls were made one after another, in any order
+ * (turns_are_as_if_alone, calls_commute). That the functions read no words of others is read in
+ * their source. That they write none is proved.
  *
  * Between calls the caller may exchange the word of an entry that names no table for another such
  * word: at level 1 any for any; at levels 2 and 3 words with X64_HUGE_PAGE, and 0. x64_entries
  * finds the word. Then the hierarchy is valid and the pool fits as before (entries_may_change, a
  * law). By the manuals its page is due then, if the old word has X64_PRESENT; no law says so.
  *
- * x64_update_flags, x64_unmap and x64_access with mark read an entry and then write it. A bit that
- * a processor or a guest sets in between is lost, and an entry that a guest takes away in between
- * comes back (reading_and_writing_loses_marks). If a word is changed only by exchanges, each in one
- * locked step, no bit is lost: it is in the entry, or an exchange returned it
- * (marks_are_never_lost).
+ * Calls that change an entry, such as x64_update_flags, x64_unmap and x64_access with mark, read it
+ * and then write it. A bit that a processor or a guest sets in between is lost, and an entry that a
+ * guest takes away in between comes back (reading_and_writing_loses_marks). If a word is changed
+ * only by exchanges, each in one locked step, no bit is lost: it is in the entry, or an exchange
+ * returned it (marks_are_never_lost).
  *
  * WHAT IS NOT PROVED
  *
