@@ -144,11 +144,12 @@
  * may then fault once, though the tables allow it (x64_access tells). The handler returns, since a
  * fault drops what is cached there (Intel SDM vol. 3A, 4.10.4.1), or it flushes the page first.
  *
- * SMEP and SMAP: with these, X64_USER_ACCESSIBLE takes rights from a supervisor, which the rows
- * above don't count. A page may get it by x64_update_flags; and pages whose own entries have it may
- * get it by a map that adds it to the entries above them. A supervisor may go on there by what is
- * cached. So flush the page after such a change, and everything after such a map. Or have no pages
- * of users and of supervisors below one entry, with X64_USER_ACCESSIBLE there from the start.
+ * SMEP and SMAP: with these, X64_USER_ACCESSIBLE takes rights from a supervisor, which the model
+ * doesn't count. Pages whose own entries have it may get it by a map that adds it to the entries
+ * above them, and a supervisor may go on there by what is cached. So flush everything after such a
+ * map. Or have no pages of users and of supervisors below one entry, and X64_USER_ACCESSIBLE in the
+ * entries above users' pages from the start. After an x64_update_flags that gives it to a page,
+ * always flush the page.
  *
  * What is proved: laws of a model, in which a processor may cache any present word at any moment.
  * Each function is proved to do what the model's call does, so the laws are about these calls.
