@@ -1,6 +1,10 @@
-//! Tests of address spaces that share the upper half, with four levels of page tables and with five.
+//! Tests of address spaces that share the upper half, or share in pairs, with four levels of page tables and with five.
 use crate::prelude::*;
-use x86_64_spaces::{SharedIndices, Space, spaces_fit, spaces_fit_by_marks};
+use test_support::Hoard;
+use x86_64_spaces::{
+    GroupIndices, GroupedSpace, SharedIndices, Space, grouped_spaces_fit,
+    grouped_spaces_fit_by_marks, spaces_fit, spaces_fit_by_marks,
+};
 
 /// The words of two spaces, which share the tables in frames 0x3000 and 0x4000. Frames 0x5000 and 0x6000 have a table of each.
 const TWO: [u64; 15] = [
@@ -136,4 +140,121 @@ fn arrays_have_room_for_all_spaces(rt: HostRuntime) {
         let found = fit_in::<FourLevels>(rt, &memory, &BOTH, frames, capacity);
         assert_equal_in(rt, (frames, capacity), found, wanted);
     }
+}
+
+/// The words of two processes, each with a kernel's root, in frames 0x1000 and 0x3000, and a user's root, in frames 0x2000 and
+/// 0x4000. Each process has a table below index 0, both kernel's roots have one below index 256, and all roots one below 511.
+const PROCESSES: [u64; 30] = [
+    0x1000, 0, 0x7003, 0x1000, 256, 0x5003, 0x1000, 511, 0x6003, 0x2000, 0, 0x7003, 0x2000, 511,
+    0x6003, 0x3000, 0, 0x8003, 0x3000, 256, 0x5003, 0x3000, 511, 0x6003, 0x4000, 0, 0x8003, 0x4000,
+    511, 0x6003,
+];
+
+/// Returns a range of indices, and the group in which roots are there.
+fn group(from: u16, to: u16, group: u64) -> GroupIndices {
+    GroupIndices {
+        indices: SharedIndices { from, to },
+        group,
+    }
+}
+
+/// Returns the space below a root that is in groups.
+fn member<'a>(root: u64, groups: &'a [GroupIndices]) -> GroupedSpace<'a> {
+    let root = frame_at(root);
+    GroupedSpace {
+        space: Space {
+            root,
+            recursive: None,
+        },
+        groups,
+    }
+}
+
+/// Returns whether the processes share what they should, and a pool of these frames fits them, with memory for the test and with
+/// an array of a capacity.
+fn processes_fit<L: LevelCount>(
+    rt: impl Test,
+    memory: &PhysMemory,
+    frames: &[u64],
+    capacity: usize,
+) -> (bool, bool) {
+    let (all, kernels) = (group(511, 512, 0), group(256, 512, 1));
+    let (first, second) = (group(0, 256, 2), group(0, 256, 3));
+    let (first_kernel, second_kernel) = ([all, kernels, first], [all, kernels, second]);
+    let (first_user, second_user) = ([all, first], [all, second]);
+    let spaces = [
+        member(0x1000, &first_kernel),
+        member(0x2000, &first_user),
+        member(0x3000, &second_kernel),
+        member(0x4000, &second_user),
+    ];
+    let (mapping, pool) = (IdentityMapping, pool_with(rt, 16, frames));
+    let tested = grouped_spaces_fit::<L, _, _>(rt.alloc(), memory, &mapping, &spaces, &pool);
+    let mut marks = unwrap(rt, vec![in rt.alloc(); true; memory.len()]);
+    let tested_in = grouped_spaces_fit_by_marks::<L, _, _>(
+        memory, &mapping, &spaces, frames, capacity, &mut marks,
+    );
+    (unwrap(rt, tested), tested_in)
+}
+
+/// More words, the frames of a pool, and whether the processes share what they should and the pool fits them.
+const PAIRED: [(&[u64], &[u64], bool); 10] = [
+    (&[], &[0x9000], true),
+    // An index at which the first user's root is in no group belongs to it alone.
+    (&[0x2000, 256, 0x9003], &[], true),
+    // A root lacks a table that it shares, or has another one.
+    (&[0x4000, 511, 0], &[], false),
+    (&[0x2000, 0, 0x9003], &[], false),
+    (&[0x3000, 256, 0x9003], &[], false),
+    (&[0x3000, 511, 0x6001], &[], false),
+    // A table is in two spaces that don't share it.
+    (&[0x2000, 256, 0x5003], &[], false),
+    (&[0x3000, 0, 0x7003, 0x4000, 0, 0x7003], &[], false),
+    (&[0x3000, 1, 0x2003, 0x4000, 1, 0x2003], &[], false),
+    // A free frame is a table.
+    (&[], &[0x8000], false),
+];
+
+#[test]
+fn processes_share_in_pairs(rt: HostRuntime) {
+    for (words, frames, wanted) in PAIRED {
+        let mut memory = memory_of(rt, 16, &PROCESSES);
+        set_words(rt, &mut memory, words);
+        let four = processes_fit::<FourLevels>(rt, &memory, frames, 16);
+        let five = processes_fit::<FiveLevels>(rt, &memory, frames, 16);
+        assert_equal_in(
+            rt,
+            (words, frames),
+            (four, five),
+            ((wanted, wanted), (wanted, wanted)),
+        );
+    }
+    // There are eight tables.
+    let memory = memory_of(rt, 16, &PROCESSES);
+    let found = [8, 7].map(|capacity| processes_fit::<FourLevels>(rt, &memory, &[], capacity).1);
+    assert_equal(rt, found, [true, false]);
+}
+
+#[test]
+fn spaces_are_tested_where_there_is_memory(rt: HostRuntime) {
+    // There are so many places that a test needs a block of its own for their marks.
+    let memory = memory_of(rt, 4096, &TWO);
+    let (spaces, pool) = (spaces_at(rt, &BOTH), pool_with(rt, 16, &[]));
+    let (mapping, half) = (IdentityMapping, SharedIndices::UPPER_HALF);
+    let all = [group(half.from, half.to, 0)];
+    let grouped = [member(0x1000, &all), member(0x2000, &all)];
+    let hoard = unwrap(rt, Hoard::past(rt.alloc(), &[]));
+    let refused = (
+        spaces_fit::<FourLevels, _, _>(rt.alloc(), &memory, &mapping, &spaces, half, &pool),
+        grouped_spaces_fit::<FourLevels, _, _>(rt.alloc(), &memory, &mapping, &grouped, &pool),
+        // No space needs no memory.
+        spaces_fit::<FourLevels, _, _>(rt.alloc(), &memory, &mapping, &[], half, &pool),
+    );
+    drop(hoard);
+    let tested = (
+        spaces_fit::<FourLevels, _, _>(rt.alloc(), &memory, &mapping, &spaces, half, &pool),
+        grouped_spaces_fit::<FourLevels, _, _>(rt.alloc(), &memory, &mapping, &grouped, &pool),
+    );
+    assert_equal(rt, refused, (Err(AllocError), Err(AllocError), Ok(true)));
+    assert_equal(rt, tested, (Ok(true), Ok(true)));
 }
