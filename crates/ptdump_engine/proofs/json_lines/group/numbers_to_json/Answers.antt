@@ -1,0 +1,14 @@
+use Rattle.std.proofs.Common.{◌≡◌, ◌∙◌, ap, sym, map, take, get_or, ◌++◌, ◌∷◌, []}
+use Rattle.std.proofs.lemmas.List.{map-append, take_more}
+use Rattle.serde_json.specs.View.{view}
+use Rattle.ptdump_engine.specs.Json.{count}
+use Rattle.ptdump_engine.proofs.json_lines.group.numbers_to_json.Goals as goal
+
+pub loop-number-preserved : goal.loop-number-preserved
+loop-number-preserved c =
+    let i = c.loop-number.number-index in
+    let numbers = c.args.numbers.now in
+    let so_far = c.loop-number.values.items in
+    let both : map view so_far ++ (view c.from.result ∷ []) ≡ map count (take i numbers) ++ (count (get_or numbers i 0) ∷ []) = cc (c.loop-number.invariant, c.from.ensures) in
+    ap (map view) c.in_ok-push.ensures.items ∙ map-append view so_far (c.from.result ∷ []) ∙ both
+    ∙ sym (ap (map count) (take_more numbers i 0 c.loop-number-test.true) ∙ map-append count (take i numbers) (get_or numbers i 0 ∷ []))
