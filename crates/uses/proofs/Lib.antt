@@ -1,3 +1,6 @@
 pub mod SpaceRuns
 pub mod ProcessCalls
 pub mod FirstEntry
+pub mod KernelRuns
+pub mod KernelCalls
+pub mod PageUnmaps

@@ -30,7 +30,7 @@ none_shared : (q : List ℕ) → is_shared (λ i. false) q ≡ false
 none_shared [] = refl
 none_shared (i ∷ q) = refl
 
-no_flags : IsParentFlags 0
+pub no_flags : IsParentFlags 0
 unfolding address
 no_flags = record { no_address = refl; not_huge = refl }
 

@@ -3,3 +3,4 @@ pub mod PageMaps
 pub mod InUse
 pub mod SpacesBeside
 pub mod Processes
+pub mod SwitchingKernel

@@ -14,4 +14,5 @@ pub mod porting;
 pub mod processes;
 pub mod run_in_space;
 pub mod run_list;
+pub mod switching_kernel;
 pub mod translate_in_dump;

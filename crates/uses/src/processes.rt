@@ -143,7 +143,7 @@ fn free_tables<T: TableMemory>(memory: &mut T, process: PhysFrame<Size4KiB>, poo
 }
 
 /// Returns whether a page is in the upper half of the address space, which is the kernel's.
-fn is_kernels(page: Page<Size4KiB>) -> bool
+pub fn is_kernels(page: Page<Size4KiB>) -> bool
     ensures { result ≡ is_kernels (index 4 page) }
 {
     usize::from(page.p4_index()) >= 256

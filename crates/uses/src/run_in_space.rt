@@ -6,7 +6,7 @@ ghost use Rattle.uses.specs.SpacesBeside.{LeavesSpaces};
 ghost use Rattle.x86_64_model.specs.Store.{Fits, store_of};
 ghost use Rattle.x86_64.specs.Asked.{calls_by, machine_call};
 ghost use Rattle.x86_64.specs.Calls.{asks};
-ghost use Rattle.x86_64.specs.Runs.{Ran, Stepped};
+ghost use Rattle.x86_64.specs.Runs.{LeavesFree, Ran, Stepped};
 
 use std::alloc::AllocError;
 use x86_64::structures::paging::mapper::{MappedPageTableIn, PageTableFrameMapping};
@@ -80,6 +80,9 @@ pub fn call_on<
         (store_of F.FrameStore frames.old) }
     ensures step { let h = hierarchy_at L.LEVELS (P.places mapping) root in
         Stepped (h (T.tables memory.old)) (store_of F.FrameStore frames.old) (asks P5.bits call) result
+        (h (T.tables memory.new)) (F.supply frames.new) }
+    ensures free { let h = hierarchy_at L.LEVELS (P.places mapping) root in
+        LeavesFree (h (T.tables memory.old)) (store_of F.FrameStore frames.old) (asks P5.bits call)
         (h (T.tables memory.new)) (F.supply frames.new) }
     ensures beside { LeavesSpaces (hierarchy_at L.LEVELS (P.places mapping) root (T.tables memory.old))
         (store_of F.FrameStore frames.old) (machine_call L.LEVELS (asks P5.bits call) ∷ [])
