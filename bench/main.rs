@@ -52,7 +52,7 @@ fn main(rt: HostRuntime) -> io::Result<ExitCode> {
         (Some(workload), b"4KiB") => compare::<Size4KiB>(&rt, workload),
         (Some(workload), b"2MiB") => compare::<Size2MiB>(&rt, workload),
         _ => {
-            eprintln!(rt; "usage: x86_64_bench [PAGES contiguous|scattered [4KiB|2MiB]]")?;
+            eprintln!(rt; "usage: tools/bench [PAGES contiguous|scattered [4KiB|2MiB]]")?;
             Ok(ExitCode::from(5))
         }
     }

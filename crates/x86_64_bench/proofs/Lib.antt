@@ -1,2 +1,0 @@
-mod Allowed
-mod CleanUps

@@ -1,5 +1,0 @@
-use Rattle.x86_64_model.specs.Mapper.{Valid}
-use Rattle.x86_64_bench.proofs.rounds.unmap_all.Given as goal
-
-abbrev pub invariant-loop-k : goal.invariant-loop-k
-invariant-loop-k g l = Valid (g.M.Tables.hierarchy l.mapper)
