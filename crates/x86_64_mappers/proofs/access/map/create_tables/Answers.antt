@@ -1,5 +1,9 @@
-use Rattle.std.proofs.Common.{Ok, refl, ◌∙◌, arith, get_or}
+use Rattle.std.proofs.Common.{◌≡◌, ◌<◌, Ok, refl, sym, subst, false, ◌∙◌, arith, get_or, length}
 use Rattle.std.proofs.lemmas.Result.{err_from_is_err_and}
+use Rattle.x86_64_model.specs.Layout.{Layout}
+use Rattle.x86_64_model.specs.Mapper.{◌laid_in◌, SupplyFits}
+use Rattle.x86_64_model.specs.Window.{begins_with}
+use Rattle.x86_64_mappers.specs.private.OpenWay.{IsOpenWay}
 use Rattle.x86_64_mappers.proofs.Map.Down.{made, turn, stop}
 use Rattle.x86_64_mappers.specs.private.Results.{create_refusal}
 use Rattle.x86_64_mappers.proofs.Map.OpenWays.{open_end, open_next}
@@ -54,3 +58,23 @@ returns-clause-reached g c =
     let inv = c.loop-k.invariant in
     rw inv.layout (open_end (g.M.Tables.hierarchy c.args.mapper.now).layout (g.M.Tables.hierarchy c.loop-k.mapper).memory inv.down.owned.ready.valid c.args.parent_flags.0 c.args.parents.now c.requires.outside
     c.loop-k.k inv.done c.loop-k-test.false c.loop-k.table inv.way)
+
+pub create_next_table-requires-clause-ready : goal.create_next_table-requires-clause-ready
+create_next_table-requires-clause-ready g c =
+    subst (λ (l : Layout). SupplyFits (l laid_in (g.M.Tables.hierarchy c.loop-k.mapper).memory) (g.A.FrameAllocator.supply c.loop-k.frame_allocator)) (sym c.loop-k.invariant.layout) c.loop-k.invariant.down.owned.ready
+
+pub create_next_table-requires-clause-short : goal.create_next_table-requires-clause-short
+create_next_table-requires-clause-short g c = subst (λ (l : Layout). length c.args.parents.now < l.levels) (sym c.loop-k.invariant.layout) c.requires.short
+
+pub create_next_table-requires-clause-outside : goal.create_next_table-requires-clause-outside
+create_next_table-requires-clause-outside g c = subst (λ (l : Layout). begins_with l.window c.args.parents.now ≡ false) (sym c.loop-k.invariant.layout) c.requires.outside
+
+pub create_next_table-requires-clause-way : goal.create_next_table-requires-clause-way
+create_next_table-requires-clause-way g c =
+    subst (λ (l : Layout). IsOpenWay l (g.M.Tables.hierarchy c.loop-k.mapper).memory c.args.parent_flags.0 c.args.parents.now c.loop-k.k c.loop-k.table) (sym c.loop-k.invariant.layout) c.loop-k.invariant.way
+
+pub returns-in_err-table-clause-layout : goal.returns-in_err-table-clause-layout
+returns-in_err-table-clause-layout g c = c.create_next_table.ensures.layout ∙ c.loop-k.invariant.layout
+
+pub returns-in_err-table-clause-lent : goal.returns-in_err-table-clause-lent
+returns-in_err-table-clause-lent g c = c.create_next_table.ensures.lent ∙ c.loop-k.invariant.lent

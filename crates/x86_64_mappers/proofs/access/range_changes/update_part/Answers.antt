@@ -1,4 +1,5 @@
-use Rattle.std.proofs.Common.{◌≡◌, ◌+◌, inr, length, replicate, refl, sym, ap, ◌∙◌}
+use Rattle.std.proofs.Common.{arith, ◌≡◌, ◌≤◌, ◌-◌, ◌+◌, subst, inr, length, replicate, refl, sym, ap, ◌∙◌}
+use Rattle.std.proofs.lemmas.List.{length-take}
 use Rattle.std.specs.FinMap.{insert}
 use Rattle.std.specs.Option.{is_some}
 use Rattle.x86_64_model.specs.Call.{Answered}
@@ -40,3 +41,36 @@ returns-clause-changes g c =
           (g.met.M.TableAccess.puts s c.in-Ok.table _ (ap is_some c.table_mut-entries.ensures.value) ∙ ap (insert h.memory (h.layout.places.place c.in-Ok.table)) c.update_entries-changed.ensures.words),
       c.update_entries-changed.ensures.changed,
     )
+
+pub find_part-part-requires-clause-path : goal.find_part-part-requires-clause-path
+find_part-part-requires-clause-path g c = c.indices-indices.ensures ∙ c.path_of_page-path.ensures.path
+
+pub find_part-part-requires-clause-levels : goal.find_part-part-requires-clause-levels
+find_part-part-requires-clause-levels g c = ap (λ q. length q + g.S.PageSize.LEVEL) c.indices-indices.ensures ∙ c.path_of_page-path.ensures.levels
+
+pub overflow_sub-last : goal.overflow_sub-last
+overflow_sub-last g c = omega (arith, ap length c.indices-indices.ensures, c.path_of_page-path.ensures.levels, g.met.M.Tables.at_least_four c.args.mapper.now, g.S.PageSize.high)
+
+pub table_mut-entries-requires-clause-reached : goal.table_mut-entries-requires-clause-reached
+table_mut-entries-requires-clause-reached g c = rw c.in-Ok.is at c.find_part-part.ensures.reached
+
+pub table_mut-entries-requires-clause-short : goal.table_mut-entries-requires-clause-short
+table_mut-entries-requires-clause-short g c = omega (arith, length-take (length c.indices-indices.result.now - 1) c.indices-indices.result.now, ap length c.indices-indices.ensures, c.path_of_page-path.ensures.levels, g.met.M.Tables.at_least_four c.args.mapper.now, g.S.PageSize.high, g.S.PageSize.low)
+
+pub offset_bounds-indices-last : goal.offset_bounds-indices-last
+offset_bounds-indices-last g c = omega (arith, c.indices-indices.type_inv.1)
+
+pub bounds-indices-last : goal.bounds-indices-last
+bounds-indices-last g c = omega (arith, ap length c.indices-indices.ensures, c.path_of_page-path.ensures.levels, g.met.M.Tables.at_least_four c.args.mapper.now, g.S.PageSize.high)
+
+pub update_entries-changed-requires : goal.update_entries-changed-requires
+update_entries-changed-requires g c =
+    let levels = (g.M.Tables.hierarchy c.args.mapper.now).layout.levels in
+    let level = g.S.PageSize.LEVEL in
+    let path = c.indices-indices.result.now in
+    let size = has_last_index path (some_index_of levels path level (ap (λ q. length q + level) c.indices-indices.ensures ∙ c.path_of_page-path.ensures.levels) (page_below_root levels level (g.met.M.Tables.at_least_four c.args.mapper.now) g.S.PageSize.high)) in
+    let index : c.from.result ≡ last_index path = c.from.ensures.0 ∙ last_item path c.index-indices-last.result size c.index-indices-last.is in
+    subst (λ i. i + c.find_part-part.result.pages ≤ 512) (sym index) (rw c.in-Ok.is at c.find_part-part.ensures.fits)
+
+pub returns-clause-layout : goal.returns-clause-layout
+returns-clause-layout g c = g.met.M.TableAccess.keeps_layout c.args.mapper.now c.in-Ok.table _
