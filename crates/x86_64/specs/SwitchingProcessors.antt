@@ -176,7 +176,7 @@ ReachedByFlushedCalls = (k : Kernel) (places : Places) → IsMapping places → 
     → TellsFlush one.levels call reply (option_map (λ (w : Window). w.index) one.window) loses flush
     → let p = unwrap_or (page_start one.levels call) 0 in let called = with_due (made_by k one m pool call loses) reaches everywhere s in
     (after : List Tagged) → LeftHere k.levels called (executed_here flush p) after → (given_up : List ℕ)
-        → AreGivenUp called flush given_up
+    → AreGivenUp called flush given_up
     → let t = after_switches k called (flush_events (executed_here flush p) after given_up) in IsReached k places n rest layouts t × NoneDue t
 
 -- If nothing is due for the items that serve, each access goes with the page walk from the current root.
