@@ -1,14 +1,14 @@
 -- The layouts of address spaces stay, since their roots keep their self-entries.
-use Rattle.std.proofs.Common.{◌≡◌, inl, inr, ℕ, List, [], ◌∷◌, map, Some, None, Option, refl, ap, ap₂}
+use Rattle.std.proofs.Common.{◌≡◌, inl, inr, ℕ, Bool, List, [], ◌∷◌, map, Some, None, Option, refl, ap, ap₂}
 use Rattle.x86_64_model.specs.Layout.{Layout}
-use Rattle.x86_64_model.specs.Mapper.{◌laid_in◌, Valid}
+use Rattle.x86_64_model.specs.Mapper.{◌laid_in◌, PoolFits, Valid}
 use Rattle.x86_64_model.specs.Lists.{In}
 use Rattle.x86_64_model.specs.Memory.{Memory, Places, words_of}
 use Rattle.x86_64_model.specs.Window.{Window, SelfEntry}
 use Rattle.x86_64_model.proofs.Lemmas.Lists.Members.{in_map}
 use Rattle.x86_64_spaces.specs.declared.space.Space.{Space}
-use Rattle.x86_64_spaces.specs.SpaceLaws.{LayoutsStay}
-use Rattle.x86_64_spaces.specs.SpaceLayouts.{layout_of, flags_added}
+use Rattle.x86_64_spaces.specs.SpaceLaws.{LayoutsStay, PairedLayoutsStay}
+use Rattle.x86_64_spaces.specs.SpaceLayouts.{layout_of, layouts_of, flags_added}
 use Rattle.x86_64_tables.specs.SelfEntries.{window_in}
 
 same_window : (m n : Memory) (places : Places) (root : ℕ) (recursive : Option ℕ) → SelfEntry (words_of n places) root (window_in (words_of m places) root recursive)
@@ -25,7 +25,14 @@ same_layouts : (f g : Space → Layout) (spaces : List Space) → ((s : Space) �
 same_layouts f g [] same = refl
 same_layouts f g (s ∷ spaces) same = ap₂ (λ l ls. l ∷ ls) (same s (inl refl)) (same_layouts f g spaces (λ t i. same t (inr i)))
 
-pub layouts_stay : LayoutsStay
-layouts_stay shared levels places m n serves pool spaces are =
+all_stay : (levels : ℕ) (places : Places) (m n : Memory) (serves : ℕ → Bool) (pool : List ℕ) (spaces : List Space)
+    → ((a : Layout) → In (layouts_of levels places m spaces) a → PoolFits (a laid_in n) serves pool) → layouts_of levels places m spaces ≡ layouts_of levels places n spaces
+all_stay levels places m n serves pool spaces fits =
     same_layouts (layout_of levels places m) (layout_of levels places n) spaces
-    (λ s i. same_layout levels places m n s (are.fits (layout_of levels places m s) (in_map (layout_of levels places m) spaces s i)).valid)
+    (λ s i. same_layout levels places m n s (fits (layout_of levels places m s) (in_map (layout_of levels places m) spaces s i)).valid)
+
+pub layouts_stay : LayoutsStay
+layouts_stay shared levels places m n serves pool spaces are = all_stay levels places m n serves pool spaces are.fits
+
+pub paired_layouts_stay : PairedLayoutsStay
+paired_layouts_stay sharing levels places m n serves pool spaces are = all_stay levels places m n serves pool spaces are.fits

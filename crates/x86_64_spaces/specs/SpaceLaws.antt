@@ -2,7 +2,7 @@
 use Rattle.std.specs.Prelude.{◌≡◌, ◌<◌, ◌≤◌, ◌↔◌, ℕ, Bool, true, List}
 use Rattle.x86_64_model.specs.Lists.{In}
 use Rattle.x86_64_model.specs.Memory.{Memory, Places}
-use Rattle.x86_64_model.specs.Spaces.{AreSpaces, IsSharing}
+use Rattle.x86_64_model.specs.Spaces.{AreSpaces, ArePaired, IsSharing}
 use Rattle.x86_64_spaces.specs.declared.space.Space.{Space}
 use Rattle.x86_64_spaces.specs.declared.space.SharedIndices.{SharedIndices}
 use Rattle.x86_64_spaces.specs.SpaceGroups.{Grouped, spaces_of, sharing_of}
@@ -13,6 +13,12 @@ use Rattle.x86_64_spaces.specs.SpaceLayouts.{indices_of, layouts_of, roots_of}
 abbrev pub LayoutsStay : Type 0
 LayoutsStay = (shared : ℕ → Bool) (levels : ℕ) (places : Places) (m n : Memory) (serves : ℕ → Bool) (pool : List ℕ) (spaces : List Space)
     → AreSpaces shared n serves pool (layouts_of levels places m spaces)
+    → layouts_of levels places m spaces ≡ layouts_of levels places n spaces
+
+-- The same of address spaces that share in pairs.
+abbrev pub PairedLayoutsStay : Type 0
+PairedLayoutsStay = (sharing : (root other : ℕ) → ℕ → Bool) (levels : ℕ) (places : Places) (m n : Memory) (serves : ℕ → Bool) (pool : List ℕ) (spaces : List Space)
+    → ArePaired sharing n serves pool (layouts_of levels places m spaces)
     → layouts_of levels places m spaces ≡ layouts_of levels places n spaces
 
 -- The indices are those of the upper half of the address space, at which the highest bit of an address is set.

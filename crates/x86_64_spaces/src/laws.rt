@@ -1,5 +1,5 @@
 //! Laws of address spaces, beside those in `x86_64_model::laws::spaces`.
-ghost use Rattle.x86_64_spaces.specs.SpaceLaws.{GroupsShare, IsUpperHalf, LayoutsStay, SharingsAreGroups};
+ghost use Rattle.x86_64_spaces.specs.SpaceLaws.{GroupsShare, IsUpperHalf, LayoutsStay, PairedLayoutsStay, SharingsAreGroups};
 
 use crate::space::SharedIndices;
 
@@ -8,6 +8,12 @@ use crate::space::SharedIndices;
 #[tactic(auto, using(crate::proofs::SpacesStay::layouts_stay))]
 pub fn layouts_stay()
     ensures { LayoutsStay }
+{}
+
+/// The same of address spaces that share in pairs, as a test by groups says of them.
+#[tactic(auto, using(crate::proofs::SpacesStay::paired_layouts_stay))]
+pub fn paired_layouts_stay()
+    ensures { PairedLayoutsStay }
 {}
 
 /// [`SharedIndices::UPPER_HALF`] is the indices from 256 to 511.
