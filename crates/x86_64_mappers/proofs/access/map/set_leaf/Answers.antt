@@ -12,3 +12,15 @@ returns-then-not-is_unused-clause-set g c =
       refl,
       unchanged (g.M.Tables.hierarchy s).layout.places (g.M.Tables.hierarchy s).memory c.args.table c.args.index entry.result.now entry.ensures.value _ (g.met.M.Tables.is_mapping s).distinct entry.ensures.index (entry.ensures.set _),
     )
+
+pub returns-then-not-is_unused-clause-index : goal.returns-then-not-is_unused-clause-index
+returns-then-not-is_unused-clause-index g c = c.entry_mut-entry.ensures.index
+
+pub returns-then-not-is_unused-clause-layout : goal.returns-then-not-is_unused-clause-layout
+returns-then-not-is_unused-clause-layout g c = g.met.M.TableAccess.keeps_layout c.args.mapper.now c.args.table _
+
+pub returns-clause-index : goal.returns-clause-index
+returns-clause-index g c = c.entry_mut-entry.ensures.index
+
+pub returns-clause-layout : goal.returns-clause-layout
+returns-clause-layout g c = g.met.M.TableAccess.keeps_layout c.args.mapper.now c.args.table _

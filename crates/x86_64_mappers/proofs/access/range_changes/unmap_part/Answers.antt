@@ -74,3 +74,18 @@ unmap_entries-requires g c =
 
 pub returns-clause-layout : goal.returns-clause-layout
 returns-clause-layout g c = g.met.M.TableAccess.keeps_layout c.args.mapper.now c.in-Ok.table _
+
+pub returns-clause-lent : goal.returns-clause-lent
+returns-clause-lent g c = g.met.M.TableAccess.keeps_lent c.args.mapper.now c.in-Ok.table _
+
+pub returns-in-Err-clause-within : goal.returns-in-Err-clause-within
+returns-in-Err-clause-within g c = c.find_part-part.ensures.within
+
+pub returns-in-Err-clause-some : goal.returns-in-Err-clause-some
+returns-in-Err-clause-some g c = c.find_part-part.ensures.some
+
+pub returns-clause-within : goal.returns-clause-within
+returns-clause-within g c = c.find_part-part.ensures.within
+
+pub returns-clause-some : goal.returns-clause-some
+returns-clause-some g c = c.find_part-part.ensures.some
