@@ -177,7 +177,7 @@ pub record IsUnreached (s : KernelState) (frame : ℕ) : Type 0 where
   pub first : NeverReaches s.memory s.first frame
   pub second : NeverReaches s.memory s.second frame
 
--- While no page is late, no access goes to a frame that no process maps.
+-- While nothing is late, no access goes to a frame that no process maps.
 abbrev pub UnmappedIsUnreached : Type 0
 UnmappedIsUnreached = (s : KernelState) → Runs s → s.late ≡ None → (frame : ℕ) → IsUnmapped s.processes s.memory frame → IsUnreached s frame
 

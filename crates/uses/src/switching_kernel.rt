@@ -1,5 +1,5 @@
-//! A kernel with several processes, between whose address spaces two processors switch. It unmaps pages, flushes them
-//! later, all at once, and lets go of their frames only then.
+//! A kernel with several processes, between whose address spaces two processors switch. It unmaps pages, flushes them all
+//! at once later, and uses their frames for other things only then.
 ghost use Rattle.std.specs.Prelude.{◌≡◌, ℕ, Some, None, IfOk, OnOk};
 ghost use Rattle.uses.specs.Owned.{hierarchy};
 ghost use Rattle.uses.specs.SpacesBeside.{OthersStay};
@@ -39,7 +39,7 @@ pub trait SwitchingProcessor {
     fn cache<T: TableMemory>(&mut self, memory: &T)
         ensures { CachesIn (T.tables memory.now) (Self.state self.old) (Self.state self.new) };
 
-    /// Returns the root that was loaded last with a PCID, by the kernel's table for this processor. `None` if it isn't there.
+    /// Returns the root that was loaded last with a PCID, or `None` if the kernel's table for this processor lacks it.
     fn loaded(&self, pcid: u16) -> Option<PhysFrame<Size4KiB>>
         ensures { result ≡ (Self.state self.now).loaded pcid };
 
@@ -131,8 +131,8 @@ pub struct Kernel<T, C> {
 impl<T: TableMemory, C: SwitchingProcessor> Kernel<T, C> {
     /// Starts both processors with a process.
     ///
-    /// Requires that the processes have address spaces that share the upper half, which `spaces_fit` tests, and that each root
-    /// has one PCID. Only pages of the upper half may have `GLOBAL`.
+    /// Requires that the processes have address spaces that share the upper half, as `spaces_fit` tests, that each root has
+    /// one PCID, and that only pages of the upper half have `GLOBAL`.
     pub fn start(
         processes: Vec<Process>,
         memory: T,
@@ -186,7 +186,11 @@ impl<T: TableMemory, C: SwitchingProcessor> Kernel<T, C> {
     pub fn flush_late(&mut self)
         requires { Runs (state_of T.tables C.state self.old) }
         ensures runs { Runs (state_of T.tables C.state self.new) }
-        ensures flushed { self.new ≡ record self.old { late = None; first = self.new.first; second = self.new.second } }
+        ensures flushed { self.new ≡ record self.old {
+          late = None;
+          first = self.new.first;
+          second = self.new.second;
+        } }
         ensures unreached { (frame : ℕ) → IsUnmapped self.new.processes.items (T.tables self.new.memory) frame
             → IsUnreached (state_of T.tables C.state self.new) frame }
     {
@@ -199,7 +203,11 @@ impl<T: TableMemory, C: SwitchingProcessor> Kernel<T, C> {
     fn flush(&mut self)
         requires { Runs (state_of T.tables C.state self.old) }
         ensures runs { Runs (state_of T.tables C.state self.new) }
-        ensures flushed { self.new ≡ record self.old { late = None; first = self.new.first; second = self.new.second } }
+        ensures flushed { self.new ≡ record self.old {
+          late = None;
+          first = self.new.first;
+          second = self.new.second;
+        } }
     {
         let Some(pcid) = self.late else {
             return;
@@ -215,8 +223,9 @@ impl<T: TableMemory, C: SwitchingProcessor> Kernel<T, C> {
         requires process { In self.old.processes.items process.now }
         requires own { IsOwnCall self.old.late process.now (machine_call 4 (asks no_bits call)) }
         ensures runs { Runs (state_of T.tables C.state self.new) }
-        ensures step { Stepped (hierarchy process.now.root (T.tables self.old.memory)) (pool_store self.old.pool)
-            (asks no_bits call) result (hierarchy process.now.root (T.tables self.new.memory)) self.new.pool.frames }
+        ensures step { let h = hierarchy process.now.root in
+            Stepped (h (T.tables self.old.memory)) (pool_store self.old.pool) (asks no_bits call) result
+            (h (T.tables self.new.memory)) self.new.pool.frames }
         ensures others { OthersStay (spaces_of self.old.processes.items) (space_of process.now)
             (T.tables self.old.memory) (T.tables self.new.memory) }
         ensures same { (self.new.processes ≡ self.old.processes) × (self.new.late ≡ self.old.late) }
@@ -231,7 +240,7 @@ impl<T: TableMemory, C: SwitchingProcessor> Kernel<T, C> {
         )
     }
 
-    /// Maps a page of a process's own half to a frame, and returns the reply, which is `NotAllowed` for another page, and for
+    /// Maps a page of a process's own half to a frame, and returns the reply. It is `NotAllowed` for another page, and for
     /// the flag `GLOBAL`.
     pub fn map_page(
         &mut self,
@@ -255,8 +264,8 @@ impl<T: TableMemory, C: SwitchingProcessor> Kernel<T, C> {
         )
     }
 
-    /// Unmaps a page of a process's own half, and returns its frame. Nothing is flushed yet, so processors may still access
-    /// the frame.
+    /// Unmaps a page of a process's own half, and returns its frame. Nothing is flushed yet, so that processors may still
+    /// access the frame.
     pub fn unmap_page(
         &mut self,
         process: &Process,
@@ -266,7 +275,8 @@ impl<T: TableMemory, C: SwitchingProcessor> Kernel<T, C> {
         requires process { In self.old.processes.items process.now }
         ensures runs { Runs (state_of T.tables C.state self.new) }
         ensures same { self.new.processes ≡ self.old.processes }
-        ensures less { LessIsMapped self.old.processes.items (T.tables self.old.memory) (T.tables self.new.memory) }
+        ensures less { LessIsMapped self.old.processes.items
+            (T.tables self.old.memory) (T.tables self.new.memory) }
         ensures unmapped { (frame : ℕ) → result ≡ Some frame
             → IsMappedOnce self.old.processes.items (T.tables self.old.memory) frame
             → IsUnmapped self.old.processes.items (T.tables self.new.memory) frame }
@@ -283,8 +293,11 @@ impl<T: TableMemory, C: SwitchingProcessor> Kernel<T, C> {
     fn make_late(&mut self, process: &Process)
         requires { Runs (state_of T.tables C.state self.old) }
         ensures runs { Runs (state_of T.tables C.state self.new) }
-        ensures late { self.new
-            ≡ record self.old { late = Some process.now.pcid; first = self.new.first; second = self.new.second } }
+        ensures late { self.new ≡ record self.old {
+          late = Some process.now.pcid;
+          first = self.new.first;
+          second = self.new.second;
+        } }
     {
         if self.late == Some(process.pcid) {
             return;
@@ -293,8 +306,8 @@ impl<T: TableMemory, C: SwitchingProcessor> Kernel<T, C> {
         self.late = Some(process.pcid);
     }
 
-    /// Unmaps pages of a process's own half, flushes them all at once, and returns their frames for other uses: no access on
-    /// either processor goes to one that was mapped only once.
+    /// Unmaps pages of a process's own half, flushes them all at once, and returns their frames for other uses. No access
+    /// on either processor goes to one that was mapped only once.
     ///
     /// # Errors
     ///
@@ -329,8 +342,8 @@ impl<T: TableMemory, C: SwitchingProcessor> Kernel<T, C> {
         Ok(freed)
     }
 
-    /// Takes pages from a process that sleeps, while both processors run others. Their frames may be used for anything then,
-    /// though the first processor has kept what it cached of the process, and may go back to it at any time.
+    /// Takes pages from a process that ran and sleeps, while both processors run others. Their frames may then be used for
+    /// anything, though the first processor keeps what it cached of the process, and may go back to it at any time.
     ///
     /// # Errors
     ///
@@ -359,8 +372,8 @@ impl<T: TableMemory, C: SwitchingProcessor> Kernel<T, C> {
     }
 }
 
-/// While no page is late, no access on either processor goes to a frame that no process maps, whatever the kernel and the
-/// processors did before.
+/// While nothing is late, no access on either processor goes to a frame that no process maps, whatever the kernel and
+/// the processors did before.
 pub fn unmapped_frames_are_unreached()
     ensures { UnmappedIsUnreached }
 {}
