@@ -1,11 +1,11 @@
 -- A kernel that runs processes on processors runs them still after a call in a process's own half.
-use Rattle.std.proofs.Common.{◌≡◌, ◌≢◌, ◌⊎◌, inl, inr, ⊎_elim, ◌<◌, ◌==◌, ◌&&◌, ℕ, Bool, true, false, true≢false, cond, List, [], ◌∷◌, ◌++◌, length, map, bit_or, Option, Some, None, refl, sym, ap, ◌∙◌, subst, eq-eqb, ne_eqb, lit<, arith}
+use Rattle.std.proofs.Common.{◌≡◌, inl, inr, ⊎_elim, ◌==◌, ◌&&◌, ℕ, Bool, true, false, true≢false, cond, List, [], ◌∷◌, length, bit_or, Option, Some, None, refl, sym, ap, ◌∙◌, subst, eq-eqb, ne_eqb, lit<, arith}
 use Rattle.std.proofs.lemmas.Bool.{cases_eq}
 use Rattle.x86_64_mappers.specs.Layouts.{direct}
 use Rattle.x86_64_model.specs.Call as machine
 use Rattle.x86_64_model.specs.Call.{IsCall}
 use Rattle.x86_64_model.specs.Entry.{address, has, present}
-use Rattle.x86_64_model.specs.Flushing.{Due, PageDue, TablesDue, flush_after, if_accepted, if_window}
+use Rattle.x86_64_model.specs.Flushing.{Due, PageDue, TablesDue, flush_after, if_window}
 use Rattle.x86_64_model.specs.Laws.Globals.{GlobalsBelow}
 use Rattle.x86_64_model.specs.Laws.SwitchedSpaces.{space_in, started_in, MaySwitchIn}
 use Rattle.x86_64_model.specs.Layout.{Layout}
@@ -19,7 +19,7 @@ use Rattle.x86_64_model.specs.PathMap.{entry}
 use Rattle.x86_64_model.specs.Pool.{TakesBack}
 use Rattle.x86_64_model.specs.Position.{index, page_path}
 use Rattle.x86_64_model.specs.Refusal.{Done, Refused}
-use Rattle.x86_64_model.specs.Spaces.{is_shared, Avoids}
+use Rattle.x86_64_model.specs.Spaces.{is_shared}
 use Rattle.x86_64_model.specs.Store.{Store}
 use Rattle.x86_64_model.specs.Switches.{Switching, is_concerned, is_held}
 use Rattle.x86_64_model.specs.Tags.{Tag, Of, Global, global}

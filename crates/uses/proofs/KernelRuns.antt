@@ -1,8 +1,7 @@
 -- A kernel that runs processes on processors runs them still after what it and they do.
-use Rattle.std.proofs.Common.{◌≡◌, ◌≢◌, ◌⊎◌, inl, inr, ⊎_elim, ◌<◌, ◌+◌, ◌==◌, ℕ, Bool, true, false, not, cond, List, [], ◌∷◌, ◌++◌, length, map, filter, Option, Some, None, refl, sym, ap, ◌∙◌, subst, eq-eqb, ne_eqb, eqb-true, lit<}
+use Rattle.std.proofs.Common.{◌≡◌, ⊎_elim, ◌<◌, ◌+◌, ◌==◌, ℕ, Bool, true, false, not, cond, List, [], ◌∷◌, Option, Some, None, refl, sym, ap, ◌∙◌, subst, eq-eqb, ne_eqb}
 use Rattle.std.proofs.lemmas.Bool.{cases_Bool, cases_eq}
-use Rattle.x86_64_model.specs.Caches.{Way, MayAccess}
-use Rattle.x86_64_model.specs.Flushing.{Due, PageDue, TablesDue, WindowDue, BelowDue}
+use Rattle.x86_64_model.specs.Flushing.{Due, PageDue, WindowDue, BelowDue}
 use Rattle.x86_64_model.specs.Laws.Caches.{IsLetGo}
 use Rattle.x86_64_model.specs.Laws.SwitchedSpaces.{between, space_in}
 use Rattle.x86_64_model.specs.Laws.Switches.{due_here}
@@ -20,7 +19,7 @@ use Rattle.x86_64_model.proofs.Lemmas.Switches.Dues.{in_cond}
 use Rattle.x86_64_model.proofs.Lemmas.Switches.Runs.{current_is_a_space, let_go_is_unreached_here}
 use Rattle.x86_64.specs.SwitchingProcessors.{IsReached}
 use Rattle.x86_64.proofs.SwitchingProcessors.{reached_by_events}
-use Rattle.uses.specs.SwitchingKernel.{ProcessorState, KernelState, Runs, IsUnreached, BeginsWith, LoadsCr3, FlushesPcid, CachesInTurn, CachesIn, NeverReaches, space_of, spaces_of, kernel_with, with_processor, with_cached, IsLate, Ran, IsUnmapped, Switches}
+use Rattle.uses.specs.SwitchingKernel.{ProcessorState, KernelState, Runs, IsUnreached, FlushesPcid, CachesInTurn, CachesIn, NeverReaches, space_of, spaces_of, kernel_with, with_processor, IsLate, Ran, IsUnmapped, Switches}
 use Rattle.uses.specs.declared.switching_kernel.Process.{Process}
 
 -- a PCID holds what was loaded, if it is known

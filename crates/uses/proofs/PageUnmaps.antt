@@ -1,17 +1,16 @@
 -- What an unmap of a page leaves of the processes' mappings.
-use Rattle.std.proofs.Common.{◌≡◌, ◌≢◌, ◌⊎◌, inl, inr, ⊎_elim, ◌<◌, ◌+◌, ◌*◌, ◌/◌, ◌%◌, ◌&&◌, ℕ, Bool, true, false, true≢false, List, [], ◌∷◌, ◌++◌, nat_le, nat_lt, Option, Some, None, Err, option_map, option_and_then, refl, sym, ap, ◌∙◌, subst, lit<, arith}
+use Rattle.std.proofs.Common.{◌≡◌, ◌≢◌, inl, inr, ⊎_elim, ◌+◌, ◌*◌, ◌/◌, ◌%◌, ◌&&◌, ℕ, true, false, true≢false, List, [], ◌∷◌, ◌++◌, nat_le, nat_lt, Option, Some, None, Err, option_map, option_and_then, refl, sym, ap, ◌∙◌, subst, lit<, arith}
 use Rattle.std.proofs.lemmas.Bool.{and_from, cases_eq, le-leb, lt-ltb, not-false}
 use Rattle.x86_64_mappers.specs.Layouts.{direct}
 use Rattle.x86_64_model.specs.Call as machine
 use Rattle.x86_64_model.specs.Call.{Answered, Call}
 use Rattle.x86_64_model.specs.Entry.{address, has, present}
 use Rattle.x86_64_model.specs.Lists.{In}
-use Rattle.x86_64_model.specs.Machine.{AfterCall, Machine, State, after_change, do_call, step}
+use Rattle.x86_64_model.specs.Machine.{AfterCall, State, after_change, do_call, step}
 use Rattle.x86_64_model.specs.Mapper.{◌laid_in◌, machine_of, state_in, paths}
 use Rattle.x86_64_model.specs.Memory.{Memory, identity_places}
 use Rattle.x86_64_model.specs.PageRules.{AfterChange, unmap, unmap_refusal}
-use Rattle.x86_64_model.specs.PageWalk.{page_start}
-use Rattle.x86_64_model.specs.Path.{level_of, path_at}
+use Rattle.x86_64_model.specs.Path.{path_at}
 use Rattle.x86_64_model.specs.PathMap.{PathMap, entry, put}
 use Rattle.x86_64_model.specs.Position.{page_path}
 use Rattle.x86_64_model.specs.Refusal.{Done, Refused, first_stop}
@@ -29,7 +28,7 @@ use Rattle.x86_64.specs.declared.call_values.MapperReply.TheVariants as replies
 use Rattle.x86_64_tables.specs.declared.mapper.UnmapError.{UnmapError}
 use Rattle.x86_64.specs.Runs.{AfterStep, step_by}
 use Rattle.uses.specs.SpacesBeside.{OthersStay}
-use Rattle.uses.specs.SwitchingKernel.{MapsInto, Maps, IsMappedOnce, IsUnmapped, LessIsMapped, space_of, spaces_of, unmapped_frame}
+use Rattle.uses.specs.SwitchingKernel.{MapsInto, IsMappedOnce, IsUnmapped, LessIsMapped, space_of, spaces_of, unmapped_frame}
 use Rattle.uses.specs.declared.switching_kernel.Process.{Process}
 
 -- ---- one path map

@@ -1,5 +1,5 @@
 -- A kernel with several processes, between whose address spaces two processors switch. It unmaps pages and flushes later.
-use Rattle.std.specs.Prelude.{◌≡◌, ◌≢◌, ◌<◌, ◌+◌, ℕ, Bool, true, false, List, [], ◌∷◌, length, map, Option, Some, None, Ok}
+use Rattle.std.specs.Prelude.{◌≡◌, ◌≢◌, ◌<◌, ◌+◌, ℕ, Bool, true, List, [], ◌∷◌, length, map, Option, Some, None, Ok}
 use Rattle.x86_64_mappers.specs.Layouts.{direct}
 use Rattle.x86_64_model.specs.Caches.{Way, MayAccess, walked_in}
 use Rattle.x86_64_model.specs.Call as machine

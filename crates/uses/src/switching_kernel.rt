@@ -217,7 +217,7 @@ impl<T: TableMemory, C: SwitchingProcessor> Kernel<T, C> {
         self.late = None;
     }
 
-    /// Executes a call in a process's own half, whatever the processors cache meanwhile.
+    /// Executes a call in a process's own half, whatever the processors have cached.
     fn call(&mut self, process: &Process, call: Call) -> Reply
         requires runs { Runs (state_of T.tables C.state self.old) }
         requires process { In self.old.processes.items process.now }

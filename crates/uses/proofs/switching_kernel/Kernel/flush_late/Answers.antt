@@ -1,4 +1,4 @@
-use Rattle.std.proofs.Common.{◌≡◌, None, ap, ◌∙◌}
+use Rattle.std.proofs.Common.{◌≡◌, None}
 use Rattle.uses.proofs.KernelRuns.{runs_unreached}
 use Rattle.uses.proofs.switching_kernel.Kernel.flush_late.Goals as goal
 

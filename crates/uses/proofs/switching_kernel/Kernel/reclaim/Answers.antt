@@ -1,4 +1,4 @@
-use Rattle.std.proofs.Common.{ℕ, arith, sym, ◌∙◌, refl, subst}
+use Rattle.std.proofs.Common.{arith, sym, ◌∙◌, refl, subst}
 use Rattle.uses.specs.SwitchingKernel.{IsMappedOnce, IsUnmapped, LessIsMapped}
 use Rattle.uses.proofs.PageUnmaps.{AreUnmapped, less_then, still_unmapped, one_more_unmapped}
 use Rattle.uses.proofs.switching_kernel.Kernel.reclaim.Goals as goal
