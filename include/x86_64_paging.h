@@ -142,7 +142,8 @@
  *
  * Faults after "nothing": a processor may have cached a page before it got more rights. An access
  * may then fault once, though the tables allow it (x64_access tells). The handler returns, since a
- * fault drops what is cached there (Intel SDM vol. 3A, 4.10.4.1), or it flushes the page first.
+ * fault drops what is cached there (Intel SDM vol. 3A, "Operations that Invalidate TLBs and
+ * Paging-Structure Caches"), or it flushes the page first.
  *
  * SMEP and SMAP: with these, X64_USER_ACCESSIBLE takes rights from a supervisor, which the model
  * doesn't count. Pages whose own entries have it may get it by a map that adds it to the entries
