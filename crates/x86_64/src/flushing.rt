@@ -97,7 +97,7 @@ fn after_page<S: PageSize, L: LevelCount>(
 /// | any other call that is refused | `Nothing` |
 ///
 /// If a call is followed by this flush, each access goes with the page walk, with no right more, whatever the processor
-/// caches between calls: [`flushed_calls_leave_no_stale_item`](crate::laws::flushed_calls_leave_no_stale_item).
+/// caches between calls: `laws::flushed_calls_leave_no_stale_item`.
 ///
 /// The reply has to be one to this call; nothing is promised for any other.
 pub fn flush_after<L: LevelCount, P5: LevelFiveFlags<L>>(

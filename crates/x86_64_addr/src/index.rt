@@ -29,7 +29,7 @@ impl PageTableIndex {
     /// Creates an index from a number.
     ///
     /// Requires that the number is below 512.
-    pub fn new(index: u16) -> PageTableIndex
+    pub const fn new(index: u16) -> PageTableIndex
         requires { index < 512 }
         ensures { result ≡ index }
     {
@@ -37,7 +37,7 @@ impl PageTableIndex {
     }
 
     /// Creates an index from a number modulo 512.
-    pub fn new_truncate(index: u16) -> PageTableIndex
+    pub const fn new_truncate(index: u16) -> PageTableIndex
         ensures { result ≡ index % 512 }
     {
         PageTableIndex(index % 512)
@@ -139,7 +139,7 @@ impl PageOffset {
     /// Creates an offset from a number of bytes.
     ///
     /// Requires that the number is below 4096.
-    pub fn new(offset: u16) -> PageOffset
+    pub const fn new(offset: u16) -> PageOffset
         requires { offset < 4096 }
         ensures { result ≡ offset }
     {
@@ -147,7 +147,7 @@ impl PageOffset {
     }
 
     /// Creates an offset from a number of bytes modulo 4096.
-    pub fn new_truncate(offset: u16) -> PageOffset
+    pub const fn new_truncate(offset: u16) -> PageOffset
         ensures { result ≡ offset % 4096 }
     {
         PageOffset(offset % 4096)

@@ -1,7 +1,7 @@
 //! Frames: aligned blocks of physical memory of the size of a page.
 ghost use Rattle.std.specs.Prelude.{◌≡◌, ℕ, ◌-◌, ◌%◌, ◌^◌, ◌<◌, ◌↔◌, IsOk, IfOk};
 
-use crate::page::{AddressNotAligned, PageSize, write_block};
+use crate::page::{AddressNotAligned, PageSize, Size4KiB, write_block};
 use std::fmt::{Debug, Formatter, Result as FmtResult, Write};
 use std::marker::{Model, PhantomData};
 use x86_64_addr::addr::PhysAddr;
@@ -17,7 +17,7 @@ pub use ranges::{PhysFrameRange, PhysFrameRangeInclusive};
 ///
 /// Contracts see it as its start address. Equality, order and hash are those of the start address.
 #[derive(Clone, Copy, PartialEq, Eq, PartialOrd, Ord, Hash)]
-pub struct PhysFrame<S: PageSize> {
+pub struct PhysFrame<S: PageSize = Size4KiB> {
     start_address: PhysAddr,
     size: PhantomData<S>,
 }
@@ -80,7 +80,7 @@ impl<S: PageSize> PhysFrame<S> {
     }
 
     /// Returns the start address.
-    pub fn start_address(self) -> PhysAddr
+    pub const fn start_address(self) -> PhysAddr
         ensures value { result ≡ self }
         ensures below { self < 2 ^ 52 }
         ensures aligned { self % S.SIZE ≡ 0 }

@@ -166,10 +166,10 @@ pub struct PageIn<S: PageSize, L: LevelCount> {
 }
 
 /// A page of size `S`, with four levels of page tables.
-pub type Page<S> = PageIn<S, FourLevels>;
+pub type Page<S = Size4KiB> = PageIn<S, FourLevels>;
 
 /// A page of size `S`, with five levels of page tables.
-pub type Page57<S> = PageIn<S, FiveLevels>;
+pub type Page57<S = Size4KiB> = PageIn<S, FiveLevels>;
 
 impl<S: PageSize, L: LevelCount> Model for PageIn<S, L> {
     ghost use Rattle.std.specs.Prelude.{◌≡◌, ℕ, ◌%◌, ◌<◌};
@@ -222,7 +222,7 @@ impl<S: PageSize, L: LevelCount> PageIn<S, L> {
     }
 
     /// Returns the start address.
-    pub fn start_address(self) -> VirtAddrIn<L>
+    pub const fn start_address(self) -> VirtAddrIn<L>
         ensures value { result ≡ self }
         ensures aligned { self % S.SIZE ≡ 0 }
     {

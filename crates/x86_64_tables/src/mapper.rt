@@ -161,7 +161,7 @@ pub enum TranslateError {
     InvalidFrameAddress(PhysAddr),
 }
 
-/// Returns the parent flags that [`map_to`](Mapper::map_to) uses: `PRESENT`, `WRITABLE` and `USER_ACCESSIBLE`, as far as
+/// Returns the parent flags that `map_to` uses: `PRESENT`, `WRITABLE` and `USER_ACCESSIBLE`, as far as
 /// they are among the flags.
 pub fn parent_flags(flags: PageTableFlags) -> PageTableFlags
     ensures { bits_of result ≡ parent_part (bits_of flags) }

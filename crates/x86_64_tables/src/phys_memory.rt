@@ -60,14 +60,14 @@ impl Model for FramePlace {
 
 impl FramePlace {
     /// Creates the place with the given number.
-    pub fn new(number: u64) -> FramePlace
+    pub const fn new(number: u64) -> FramePlace
         ensures { result ≡ number }
     {
         FramePlace(number)
     }
 
     /// Returns the number.
-    pub fn number(self) -> u64
+    pub const fn number(self) -> u64
         ensures { result ≡ self }
     {
         self.0

@@ -37,7 +37,7 @@ impl PhysAddr {
     /// Creates an address from a number.
     ///
     /// Requires that the number is below 2^52. Check this with [`try_new`](Self::try_new).
-    pub fn new(addr: u64) -> PhysAddr
+    pub const fn new(addr: u64) -> PhysAddr
         requires { addr < 2 ^ 52 }
         ensures { result ≡ addr }
     {
@@ -45,7 +45,7 @@ impl PhysAddr {
     }
 
     /// Creates an address from a number modulo 2^52.
-    pub fn new_truncate(addr: u64) -> PhysAddr
+    pub const fn new_truncate(addr: u64) -> PhysAddr
         ensures { result ≡ addr % 2 ^ 52 }
     {
         PhysAddr(addr % (1 << 52))
@@ -54,7 +54,7 @@ impl PhysAddr {
     /// Creates an address from a number, like [`new`](Self::new).
     ///
     /// Requires that the number is below 2^52.
-    pub fn new_unsafe(addr: u64) -> PhysAddr
+    pub const fn new_unsafe(addr: u64) -> PhysAddr
         requires { addr < 2 ^ 52 }
         ensures { result ≡ addr }
     {
@@ -80,14 +80,14 @@ impl PhysAddr {
     }
 
     /// Returns the address 0.
-    pub fn zero() -> PhysAddr
+    pub const fn zero() -> PhysAddr
         ensures { result ≡ 0 }
     {
         PhysAddr(0)
     }
 
     /// Returns the address as a number.
-    pub fn as_u64(self) -> u64
+    pub const fn as_u64(self) -> u64
         ensures value { result ≡ self }
         ensures below { self < 2 ^ 52 }
     {

@@ -73,7 +73,7 @@ impl<L: LevelCount> VirtAddrIn<L> {
     ///
     /// Requires that the value is canonical. Check this with [`try_new`](VirtAddr::try_new).
     #[tactic(auto, using(crate::proofs::Canonical::raw_of_canonical))]
-    pub fn new(addr: u64) -> Self
+    pub const fn new(addr: u64) -> Self
         requires { IsCanonical L.LEVELS addr }
         ensures position { result ≡ addr % position_count L.LEVELS }
         ensures value { raw L.LEVELS result ≡ addr }
@@ -86,7 +86,7 @@ impl<L: LevelCount> VirtAddrIn<L> {
 
     /// Creates the address whose position is a value modulo the number of positions, 2^48 or 2^57. The highest bit of the
     /// position is copied to the bits above it.
-    pub fn new_truncate(addr: u64) -> Self
+    pub const fn new_truncate(addr: u64) -> Self
         ensures { result ≡ addr % position_count L.LEVELS }
     {
         // Compiles to two shifts, without a branch.
@@ -95,7 +95,7 @@ impl<L: LevelCount> VirtAddrIn<L> {
     }
 
     /// Creates an address from its raw value, or returns `None` if it isn't canonical.
-    pub fn checked_new(addr: u64) -> Option<Self>
+    pub const fn checked_new(addr: u64) -> Option<Self>
         ensures canonical { IsSome result ↔ IsCanonical L.LEVELS addr }
         ensures position { IfSome result (λ a. a ≡ addr % position_count L.LEVELS) }
         ensures value { IfSome result (λ a. raw L.LEVELS a ≡ addr) }
@@ -111,7 +111,7 @@ impl<L: LevelCount> VirtAddrIn<L> {
     /// Creates an address from its raw value, like [`new`](Self::new).
     ///
     /// Requires that the value is canonical.
-    pub fn new_unsafe(addr: u64) -> Self
+    pub const fn new_unsafe(addr: u64) -> Self
         requires { IsCanonical L.LEVELS addr }
         ensures position { result ≡ addr % position_count L.LEVELS }
         ensures value { raw L.LEVELS result ≡ addr }
@@ -120,7 +120,7 @@ impl<L: LevelCount> VirtAddrIn<L> {
     }
 
     /// Returns the address 0.
-    pub fn zero() -> Self
+    pub const fn zero() -> Self
         ensures { result ≡ 0 }
     {
         VirtAddrIn {
@@ -130,7 +130,7 @@ impl<L: LevelCount> VirtAddrIn<L> {
     }
 
     /// Returns the raw value.
-    pub fn as_u64(self) -> u64
+    pub const fn as_u64(self) -> u64
         ensures value { result ≡ raw L.LEVELS self }
         ensures position { self < position_count L.LEVELS }
     {
@@ -138,7 +138,7 @@ impl<L: LevelCount> VirtAddrIn<L> {
     }
 
     /// Returns the position: the raw value modulo the number of positions.
-    pub fn position(self) -> u64
+    pub const fn position(self) -> u64
         ensures value { result ≡ self }
         ensures below { result < position_count L.LEVELS }
     {

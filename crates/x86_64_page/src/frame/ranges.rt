@@ -2,15 +2,15 @@
 ghost use Rattle.std.specs.Prelude.{◌≡◌, ℕ, ◌%◌};
 
 use crate::frame::PhysFrame;
-use crate::page::PageSize;
+use crate::page::{PageSize, Size4KiB};
 use crate::range::{Block, BlockRange, BlockRangeInclusive};
 use x86_64_addr::addr::PhysAddr;
 
 /// The frames from `start` up to but excluding `end`.
-pub type PhysFrameRange<S> = BlockRange<PhysFrame<S>>;
+pub type PhysFrameRange<S = Size4KiB> = BlockRange<PhysFrame<S>>;
 
 /// The frames from `start` up to and including `end`.
-pub type PhysFrameRangeInclusive<S> = BlockRangeInclusive<PhysFrame<S>>;
+pub type PhysFrameRangeInclusive<S = Size4KiB> = BlockRangeInclusive<PhysFrame<S>>;
 
 impl<S: PageSize> Block for PhysFrame<S> {
     ghost use Rattle.std.proofs.Common.{inl, inr, refl};

@@ -7,13 +7,13 @@ use x86_64_addr::addr::VirtAddrIn;
 use x86_64_addr::level_count::LevelCount;
 
 /// The pages from `start` up to but excluding `end`, by position.
-pub type PageRange<S> = BlockRange<Page<S>>;
+pub type PageRange<S = Size4KiB> = BlockRange<Page<S>>;
 
 /// The pages from `start` up to and including `end`, by position.
-pub type PageRangeInclusive<S> = BlockRangeInclusive<Page<S>>;
+pub type PageRangeInclusive<S = Size4KiB> = BlockRangeInclusive<Page<S>>;
 
 /// The pages from `start` up to and including `end`, by position, with five levels of page tables.
-pub type PageRangeInclusive57<S> = BlockRangeInclusive<Page57<S>>;
+pub type PageRangeInclusive57<S = Size4KiB> = BlockRangeInclusive<Page57<S>>;
 
 impl<S: PageSize, L: LevelCount> Block for PageIn<S, L> {
     ghost use Rattle.x86_64_page.specs.Blocks.{limit_of_levels, size_of_level};

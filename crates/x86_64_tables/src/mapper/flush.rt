@@ -10,7 +10,7 @@ use std::alloc::AllocError;
 use std::fmt::{Debug, Formatter, Result as FmtResult, Write};
 use std::marker::Model;
 use x86_64_addr::level_count::{FiveLevels, FourLevels, LevelCount};
-use x86_64_page::page::{PageIn, PageSize};
+use x86_64_page::page::{PageIn, PageSize, Size4KiB};
 
 /// A token for a change to the mapping of a page that the TLB may not reflect yet.
 ///
@@ -21,10 +21,10 @@ pub struct MapperFlushIn<S: PageSize, L: LevelCount> {
 }
 
 /// The token for a page with four levels of page tables.
-pub type MapperFlush<S> = MapperFlushIn<S, FourLevels>;
+pub type MapperFlush<S = Size4KiB> = MapperFlushIn<S, FourLevels>;
 
 /// The token for a page with five levels of page tables.
-pub type MapperFlush57<S> = MapperFlushIn<S, FiveLevels>;
+pub type MapperFlush57<S = Size4KiB> = MapperFlushIn<S, FiveLevels>;
 
 impl<S: PageSize, L: LevelCount> Model for MapperFlushIn<S, L> {
     ghost use Rattle.std.specs.Prelude.{ℕ};
@@ -99,10 +99,10 @@ pub struct MapperFlushRangeIn<S: PageSize, L: LevelCount> {
 }
 
 /// The token for a range of pages with four levels of page tables.
-pub type MapperFlushRange<S> = MapperFlushRangeIn<S, FourLevels>;
+pub type MapperFlushRange<S = Size4KiB> = MapperFlushRangeIn<S, FourLevels>;
 
 /// The token for a range of pages with five levels of page tables.
-pub type MapperFlushRange57<S> = MapperFlushRangeIn<S, FiveLevels>;
+pub type MapperFlushRange57<S = Size4KiB> = MapperFlushRangeIn<S, FiveLevels>;
 
 impl<S: PageSize, L: LevelCount> Model for MapperFlushRangeIn<S, L> {
     ghost use Rattle.std.specs.Prelude.{◌+◌, ◌*◌, ◌<◌, ℕ};

@@ -46,7 +46,7 @@ impl Model for PageTableEntry {
 
 impl PageTableEntry {
     /// Creates an unused entry, whose word is 0.
-    pub fn new() -> PageTableEntry
+    pub const fn new() -> PageTableEntry
         ensures { result ≡ 0 }
     {
         PageTableEntry(0)
