@@ -1,0 +1,14 @@
+//! The engine of the program `pagetab`, which reads an image of page tables, tests it, and executes commands on it.
+
+mod arguments;
+pub mod ending;
+pub mod engine;
+mod execution;
+mod fields;
+mod frames;
+mod hierarchy;
+mod lines;
+mod page_call;
+mod reply;
+mod slot;
+mod statement;

@@ -1,0 +1,68 @@
+//! The result of a load: a caller loads segments, drops the mapper, and lists all mappings below the root.
+
+use crate::more::MoreOfVec;
+use x86_64_paging::support::Vec;
+
+use crate::loader::{segment, READ, WRITE};
+use crate::prelude::*;
+use crate::uses::list_mappings::list_all;
+use x86_64_paging::loader::{load, segments_allowed, Segment};
+
+/// Loads segments with any mapper, if they may be loaded, and returns true if all of them were.
+fn load_by<M: MapperAllSizes>(mapper: &mut M, pool: &mut FramePool, segments: &[Segment]) -> bool {
+    if !segments_allowed(mapper, segments) {
+        return false;
+    }
+    load(mapper, pool, segments).is_ok()
+}
+
+/// Loads segments with a mapper that is then dropped, if they may be loaded, and returns true if all of them were.
+fn load_into<T: TableMemory>(memory: &mut T, root: Frame, pool: &mut FramePool, segments: &[Segment]) -> bool {
+    let mut mapper = MappedPageTable::new(memory, root, IdentityMapping);
+    load_by(&mut mapper, pool, segments)
+}
+
+/// Loads segments with pages of 4KiB, drops the mapper, and lists all mappings below the root. Each page of the
+/// segments is among them. Returns `None` if the segments may not be loaded, or not all of them were.
+fn load_and_list<T: TableMemory>(
+    memory: &mut T,
+    root: Frame,
+    pool: &mut FramePool,
+    segments: &[Segment],
+) -> Result<Option<Vec<Mapping>>, AllocError> {
+    if !load_into(memory, root, pool, segments) {
+        return Ok(None);
+    }
+    let listed = list_all(memory, root)?;
+    Ok(Some(listed))
+}
+
+/// The mappings after a load of code that a user reads and of data that a user writes.
+const LINES: [&str; 4] = [
+    "0x400000 4KiB 0x800000 r-xu 0x5",
+    "0x401000 4KiB 0x801000 r-xu 0x5",
+    "0x5ff000 4KiB 0x9ff000 rw-u 0x8000000000000007",
+    "0x600000 4KiB 0xa00000 rw-u 0x8000000000000007",
+];
+
+/// Loads these segments, and lists all mappings.
+fn load_both(world: &mut World) -> Vec<Mapping> {
+    let root = frame(0x1000);
+    world.assert_fits::<FourLevels>(root);
+    let code = segment(0x40_0000, 0x80_0000, 2, READ);
+    let segments = [code, segment(0x5f_f000, 0x9f_f000, 2, WRITE)];
+    let (memory, pool) = (&mut world.memory, &mut world.pool);
+    let listed = load_and_list(memory, root, pool, &segments);
+    unwrap_some(unwrap(listed))
+}
+
+#[test]
+fn loaded_segments_are_listed() {
+    let mut world = World::new(&[], (2, PLACES));
+    let listed = load_both(&mut world);
+    assert_equal(listed.len(), LINES.len());
+    for (mapping, line) in listed.iter().zip(LINES) {
+        let text = unwrap(format_in!("{mapping}"));
+        assert_equal(text.as_str(), line);
+    }
+}

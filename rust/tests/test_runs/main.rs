@@ -1,0 +1,22 @@
+//! Tests across crates, from outside of these, as tables if possible.
+//!
+//! A table with references in it is a static. A proof takes it as one value, but would build a constant part by part
+//! in each function that names it.
+#![allow(dead_code, unused_imports, unused_parens, unused_variables)]
+
+#[macro_use]
+#[path = "../more/mod.rs"]
+mod more;
+mod pagetab_engine;
+mod test_reference;
+
+mod agreement;
+mod call_rows;
+mod images;
+mod pairs;
+mod prelude;
+mod program;
+mod refusals;
+mod replies;
+mod rows;
+mod streams;

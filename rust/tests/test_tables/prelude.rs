@@ -1,0 +1,98 @@
+//! What most tests use: assertions as functions, so that the messages of failed ones are here once, and shorthands.
+
+pub use std::fmt::Debug;
+pub use x86_64_paging::addresses::addr::{
+    align_down, align_up, PhysAddr, PhysAddrNotValid, VirtAddr, VirtAddr57, VirtAddr57NotValid, VirtAddrIn, VirtAddrNotValid,
+};
+pub use x86_64_paging::addresses::index::{PageOffset, PageTableIndex, PageTableLevel, PageTableLevel57};
+pub use x86_64_paging::addresses::level_count::{FiveLevels, FourLevels, LevelCount};
+pub use x86_64_paging::bitflags::Flags;
+pub use x86_64_paging::pages::frame::{PfnNotValid, PhysFrame};
+pub use x86_64_paging::pages::page::{
+    AddressNotAligned, NotGiantPageSize, Page, Page57, PageIn, PageRangeInclusive, PageSize, Size1GiB, Size2MiB, Size4KiB,
+};
+pub use x86_64_paging::pages::range::{Block, BlockRange, BlockRangeInclusive};
+pub use x86_64_paging::support::AllocError;
+pub use x86_64_paging::tables::frame_alloc::{
+    FrameAllocator, FrameDeallocator, FramePool, FrameStore, LentPool, OwnFrames, PoolRefusal,
+};
+pub use x86_64_paging::tables::mapper::{parent_flags, FlushItem, FlushRecorder, MapperFlushIn};
+pub use x86_64_paging::tables::page_table::{FrameError, PageTable, PageTableEntry, PageTableFlags};
+pub use x86_64_paging::tables::phys_memory::{
+    Active, ActiveMemory, FramePlace, IdentityMapping, LentMemory, PageTableFrameMapping, PhysMemory, PlacesRefusal, ShiftMapping,
+    TableMemory,
+};
+
+/// Aborts unless two values are equal.
+pub fn assert_equal<T: PartialEq + Debug>(found: T, wanted: T) {
+    assert_eq!(found, wanted);
+}
+
+/// Aborts unless two values are equal, and prints the case that they belong to.
+pub fn assert_equal_in<C: Debug, T: PartialEq + Debug>(case: C, found: T, wanted: T) {
+    assert_eq!(found, wanted, "in {case:?}");
+}
+
+/// Aborts unless a value has this Debug text.
+pub fn assert_text<T: Debug>(value: &T, wanted: &str) {
+    let text = unwrap(format_in!("{value:?}"));
+    assert_equal(text.as_str(), wanted);
+}
+
+/// Returns the value of a result, or aborts if it is an error. A call has only one exit. With `?`, a test would have
+/// a second exit that drops all it owns, and this would have to be proved as well.
+pub fn unwrap<T, E>(answer: Result<T, E>) -> T {
+    match answer {
+        Ok(value) => value,
+        Err(_) => panic!("an error where there must be a value"),
+    }
+}
+
+/// Returns the value, or aborts if there is none.
+pub fn unwrap_some<T>(found: Option<T>) -> T {
+    match found {
+        Some(value) => value,
+        None => panic!("none where there must be a value"),
+    }
+}
+
+/// Returns the page that contains a raw address.
+pub fn page<S: PageSize, L: LevelCount>(raw: u64) -> PageIn<S, L> {
+    PageIn::containing_address(VirtAddrIn::new_truncate(raw))
+}
+
+/// Returns the frame that contains a physical address.
+pub fn frame<S: PageSize>(raw: u64) -> PhysFrame<S> {
+    PhysFrame::containing_address(PhysAddr::new_truncate(raw))
+}
+
+/// Returns the 4KiB frame that contains an address, of which the low 52 bits count.
+pub fn frame_at(address: u64) -> PhysFrame<Size4KiB> {
+    PhysFrame::containing_address(PhysAddr::new_truncate(address))
+}
+
+/// Sets words of a memory, each given as its frame, its index and its value, as in the lines of `pagetab`.
+pub fn set_words<T: TableMemory>(memory: &mut T, words: &[u64]) {
+    for word in words.chunks_exact(3) {
+        if let [frame, index, word] = word {
+            let table = unwrap_some(memory.table_mut(FramePlace::new(*frame / 0x1000)));
+            table[PageTableIndex::new_truncate((*index % 512) as u16)].set_word(*word);
+        }
+    }
+}
+
+/// Creates a memory of a number of places with words. A place is the index of a table in memory.
+pub fn memory_of(places: u64, words: &[u64]) -> PhysMemory {
+    let mut memory = unwrap(PhysMemory::new(places));
+    set_words(&mut memory, words);
+    memory
+}
+
+/// Creates a pool with a limit and with frames, given by their start addresses.
+pub fn pool_with(limit: u64, frames: &[u64]) -> FramePool {
+    let mut pool = unwrap(FramePool::new(limit));
+    for frame in frames {
+        unwrap(pool.try_add(frame_at(*frame)));
+    }
+    pool
+}

@@ -1,0 +1,221 @@
+//! Tests of address spaces that share the upper half, or share in pairs, with four levels of page tables and with five.
+
+use crate::more::Hoard;
+use crate::more::MoreOfVec;
+use crate::prelude::*;
+use x86_64_paging::spaces::{
+    grouped_spaces_fit, grouped_spaces_fit_by_marks, spaces_fit, spaces_fit_by_marks, GroupIndices, GroupedSpace, SharedIndices,
+    Space,
+};
+use x86_64_paging::support::Vec;
+
+/// The words of two spaces, which share the tables in frames 0x3000 and 0x4000. Frames 0x5000 and 0x6000 have a table of each.
+const TWO: [u64; 15] = [0x1000, 256, 0x3003, 0x2000, 256, 0x3003, 0x3000, 0, 0x4003, 0x1000, 0, 0x5003, 0x2000, 0, 0x6003];
+
+/// A root and a recursive index.
+type Root = (u64, Option<u16>);
+
+/// Returns the spaces with some roots.
+fn spaces_at(roots: &[Root]) -> Vec<Space> {
+    let mut spaces = Vec::new();
+    for (root, recursive) in roots {
+        let root = frame_at(*root);
+        let recursive = recursive.map(PageTableIndex::new_truncate);
+        unwrap(spaces.push(Space { root, recursive }));
+    }
+    spaces
+}
+
+/// Returns whether address spaces share the upper half, and a pool of these frames fits them.
+fn fit<L: LevelCount>(memory: &PhysMemory, roots: &[Root], frames: &[u64]) -> bool {
+    let (spaces, pool) = (spaces_at(roots), pool_with(16, frames));
+    let (mapping, half) = (IdentityMapping, SharedIndices::UPPER_HALF);
+    let tested = spaces_fit::<L, _, _>(memory, &mapping, &spaces, half, &pool);
+    unwrap(tested)
+}
+
+/// Returns the same by marks, all of them set at first, and whether an array has room.
+fn fit_in<L: LevelCount>(memory: &PhysMemory, roots: &[Root], frames: &[u64], capacity: usize) -> bool {
+    let spaces = spaces_at(roots);
+    let (mapping, half) = (IdentityMapping, SharedIndices::UPPER_HALF);
+    let mut marks = unwrap(vec_in![true; memory.len()]);
+    spaces_fit_by_marks::<L, _, _>(memory, &mapping, &spaces, half, frames, capacity, &mut marks)
+}
+
+/// More words, the roots, the frames of a pool, and whether these are address spaces that the pool fits.
+type Row = (&'static [u64], &'static [Root], &'static [u64], bool);
+
+const BOTH: [Root; 2] = [(0x1000, None), (0x2000, None)];
+
+const ROWS: [Row; 19] = [
+    (&[], &BOTH, &[0x7000], true),
+    (&[], &[(0x1000, None)], &[0x2000], true),
+    (&[], &[], &[0x1000], true),
+    (&[0x8000, 256, 0x3003], &BEHIND, &[0x7000], true),
+    // A root is met twice, in the list and below another one.
+    (&[], &[(0x1000, None), (0x1000, None)], &[], false),
+    (&[0x1000, 1, 0x2003], &BOTH, &[], false),
+    // A table is in two spaces, but not below a shared index.
+    (&[0x2000, 1, 0x5003], &BOTH, &[], false),
+    (&[0x2000, 255, 0x4003], &BOTH, &[], false),
+    // The words at a shared index differ.
+    (&[0x2000, 256, 0x3001], &BOTH, &[], false),
+    (&[0x1000, 511, 0x7003], &BOTH, &[], false),
+    // A free frame is a root or a table.
+    (&[], &BOTH, &[0x7000, 0x2000], false),
+    (&[], &BOTH, &[0x6000], false),
+    (&[], &BOTH, &[0x4000], false),
+    // Each root may have a recursive index, shared or not.
+    (&[0x1000, 511, 0x1003], &FIRST, &[0x7000], true),
+    (&SELF_ENTRIES, &SHARED, &[0x7000], true),
+    (&[0x2000, 5, 0x2003], &SECOND, &[], true),
+    // The second root has the first one's self-entry, or none.
+    (&[0x1000, 511, 0x1003, 0x2000, 511, 0x1003], &FIRST, &[], false),
+    (&[], &SECOND, &[], false),
+    (&[], &[(0x1000, None), (0x1_0000, None)], &[], false),
+];
+
+const BEHIND: [Root; 2] = [(0x8000, None), (0x1000, None)];
+
+const FIRST: [Root; 2] = [(0x1000, Some(511)), (0x2000, None)];
+
+const SECOND: [Root; 2] = [(0x1000, None), (0x2000, Some(5))];
+
+const SHARED: [Root; 2] = [(0x1000, Some(511)), (0x2000, Some(511))];
+
+const SELF_ENTRIES: [u64; 6] = [0x1000, 511, 0x1003, 0x2000, 511, 0x2003];
+
+#[test]
+fn spaces_share_the_upper_half() {
+    for (words, roots, frames, wanted) in ROWS {
+        let mut memory = memory_of(16, &TWO);
+        set_words(&mut memory, words);
+        let found = [
+            fit::<FourLevels>(&memory, roots, frames),
+            fit::<FiveLevels>(&memory, roots, frames),
+            fit_in::<FourLevels>(&memory, roots, frames, 16),
+            fit_in::<FiveLevels>(&memory, roots, frames, 16),
+        ];
+        assert_equal_in((words, roots, frames), found, [wanted; 4]);
+    }
+}
+
+#[test]
+fn shared_tables_have_as_many_levels() {
+    // The word maps a page with four levels. With five, no word of its level may have HUGE_PAGE.
+    let mut memory = memory_of(16, &TWO);
+    set_words(&mut memory, &[0x3000, 1, 0x83]);
+    let four = fit::<FourLevels>(&memory, &BOTH, &[]);
+    let five = fit::<FiveLevels>(&memory, &BOTH, &[]);
+    assert_equal((four, five), (true, false));
+}
+
+/// The frames of a pool, how many frames its array has room for, and whether it has room for them and the six tables.
+const ROOMS: [(&[u64], usize, bool); 6] = [
+    (&[], 6, true),
+    (&[], 5, false),
+    (&[0x8000, 0x7000], 8, true),
+    (&[0x8000, 0x7000], 7, false),
+    (&[0x7000], usize::MAX, true),
+    (&[0x7001], 16, false),
+];
+
+#[test]
+fn arrays_have_room_for_all_spaces() {
+    let memory = memory_of(16, &TWO);
+    for (frames, capacity, wanted) in ROOMS {
+        let found = fit_in::<FourLevels>(&memory, &BOTH, frames, capacity);
+        assert_equal_in((frames, capacity), found, wanted);
+    }
+}
+
+/// The words of two processes, each with a kernel's root, in frames 0x1000 and 0x3000, and a user's root, in frames 0x2000 and
+/// 0x4000. Each process has a table below index 0, both kernel's roots have one below index 256, and all roots one below 511.
+const PROCESSES: [u64; 30] = [
+    0x1000, 0, 0x7003, 0x1000, 256, 0x5003, 0x1000, 511, 0x6003, 0x2000, 0, 0x7003, 0x2000, 511, 0x6003, 0x3000, 0, 0x8003, 0x3000,
+    256, 0x5003, 0x3000, 511, 0x6003, 0x4000, 0, 0x8003, 0x4000, 511, 0x6003,
+];
+
+/// Returns a range of indices, and the group in which roots are there.
+fn group(from: u16, to: u16, group: u64) -> GroupIndices {
+    GroupIndices { indices: SharedIndices { from, to }, group }
+}
+
+/// Returns the space below a root that is in groups.
+fn member<'a>(root: u64, groups: &'a [GroupIndices]) -> GroupedSpace<'a> {
+    let root = frame_at(root);
+    GroupedSpace { space: Space { root, recursive: None }, groups }
+}
+
+/// Returns whether the processes share what they should, and a pool of these frames fits them, with memory for the test and with
+/// an array of a capacity.
+fn processes_fit<L: LevelCount>(memory: &PhysMemory, frames: &[u64], capacity: usize) -> (bool, bool) {
+    let (all, kernels) = (group(511, 512, 0), group(256, 512, 1));
+    let (first, second) = (group(0, 256, 2), group(0, 256, 3));
+    let (first_kernel, second_kernel) = ([all, kernels, first], [all, kernels, second]);
+    let (first_user, second_user) = ([all, first], [all, second]);
+    let spaces =
+        [member(0x1000, &first_kernel), member(0x2000, &first_user), member(0x3000, &second_kernel), member(0x4000, &second_user)];
+    let (mapping, pool) = (IdentityMapping, pool_with(16, frames));
+    let tested = grouped_spaces_fit::<L, _, _>(memory, &mapping, &spaces, &pool);
+    let mut marks = unwrap(vec_in![true; memory.len()]);
+    let tested_in = grouped_spaces_fit_by_marks::<L, _, _>(memory, &mapping, &spaces, frames, capacity, &mut marks);
+    (unwrap(tested), tested_in)
+}
+
+/// More words, the frames of a pool, and whether the processes share what they should and the pool fits them.
+const PAIRED: [(&[u64], &[u64], bool); 10] = [
+    (&[], &[0x9000], true),
+    // An index at which the first user's root is in no group belongs to it alone.
+    (&[0x2000, 256, 0x9003], &[], true),
+    // A root lacks a table that it shares, or has another one.
+    (&[0x4000, 511, 0], &[], false),
+    (&[0x2000, 0, 0x9003], &[], false),
+    (&[0x3000, 256, 0x9003], &[], false),
+    (&[0x3000, 511, 0x6001], &[], false),
+    // A table is in two spaces that don't share it.
+    (&[0x2000, 256, 0x5003], &[], false),
+    (&[0x3000, 0, 0x7003, 0x4000, 0, 0x7003], &[], false),
+    (&[0x3000, 1, 0x2003, 0x4000, 1, 0x2003], &[], false),
+    // A free frame is a table.
+    (&[], &[0x8000], false),
+];
+
+#[test]
+fn processes_share_in_pairs() {
+    for (words, frames, wanted) in PAIRED {
+        let mut memory = memory_of(16, &PROCESSES);
+        set_words(&mut memory, words);
+        let four = processes_fit::<FourLevels>(&memory, frames, 16);
+        let five = processes_fit::<FiveLevels>(&memory, frames, 16);
+        assert_equal_in((words, frames), (four, five), ((wanted, wanted), (wanted, wanted)));
+    }
+    // There are eight tables.
+    let memory = memory_of(16, &PROCESSES);
+    let found = [8, 7].map(|capacity| processes_fit::<FourLevels>(&memory, &[], capacity).1);
+    assert_equal(found, [true, false]);
+}
+
+#[test]
+fn spaces_are_tested_where_there_is_memory() {
+    // There are so many places that a test needs a block of its own for their marks.
+    let memory = memory_of(4096, &TWO);
+    let (spaces, pool) = (spaces_at(&BOTH), pool_with(16, &[]));
+    let (mapping, half) = (IdentityMapping, SharedIndices::UPPER_HALF);
+    let all = [group(half.from, half.to, 0)];
+    let grouped = [member(0x1000, &all), member(0x2000, &all)];
+    let hoard = unwrap(Hoard::past(&[]));
+    let refused = (
+        spaces_fit::<FourLevels, _, _>(&memory, &mapping, &spaces, half, &pool),
+        grouped_spaces_fit::<FourLevels, _, _>(&memory, &mapping, &grouped, &pool),
+        // No space needs no memory.
+        spaces_fit::<FourLevels, _, _>(&memory, &mapping, &[], half, &pool),
+    );
+    drop(hoard);
+    let tested = (
+        spaces_fit::<FourLevels, _, _>(&memory, &mapping, &spaces, half, &pool),
+        grouped_spaces_fit::<FourLevels, _, _>(&memory, &mapping, &grouped, &pool),
+    );
+    assert_equal(refused, (Err(AllocError), Err(AllocError), Ok(true)));
+    assert_equal(tested, (Ok(true), Ok(true)));
+}

@@ -1,0 +1,160 @@
+"""What the tool knows of these sources beyond Rattle itself."""
+
+import re
+
+from conditions import TESTS
+
+# The crates, and where they are in the Rust crate; '' is its top.
+CRATES = {
+    "x86_64_addr": "addresses",
+    "x86_64_page": "pages",
+    "x86_64_tables": "tables",
+    "x86_64_mappers": "mappers",
+    "x86_64_spaces": "spaces",
+    "x86_64_access": "access",
+    "x86_64_mappings": "listing",
+    "x86_64_loader": "loader",
+    "x86_64": "",
+}
+# Files of the Rust crate that are written by hand.
+HAND_WRITTEN = {f"{name}.rs" for name in ("bitflags", "conveniences", "instructions", "kernel", "registers", "support")}
+
+# Modules of laws alone, and laws that other code calls.
+LAW_MODULES = {"laws"}
+LAW_CALLS = {"new_spaces_share", "spaces_are_given_up"}
+# Unsafe functions of std that stand for safe ones of `support`.
+SAFE_HERE = {"from_utf8_unchecked"}
+# Traits without methods, and those that have none but ghost members: each type has these.
+MARKERS = {"NotGiantPageSize", "TablesIn"}
+GHOST_TRAITS = {
+    "FrameKeeper": "\n\nimpl<S: PageSize, T: ?Sized> FrameKeeper<S> for T {}",
+    "FrameStore": "\n\nimpl<T: FrameAllocator<Size4KiB> + FrameDeallocator<Size4KiB> + ?Sized> FrameStore for T {}",
+}
+# Traits whose types may be unsized.
+UNSIZED = {"FrameAllocator", "FrameDeallocator", "FrameSink", "FrameStore", "TableAccess", "TablesIn", "Tables", "PageTables"}
+# Methods with another name, so that theirs are free for the instructions.
+RENAMED = {"flush": "record", "flush_all": "record"}
+
+# Functions of constants, beside those that the sources say: Rattle takes no closure in one.
+CONST = {"PageTable::new"}
+# Functions with a twin that tests nothing, which proved code calls in their place: `new` of types, and methods.
+UNTESTED = {"PhysAddr", "VirtAddrIn", "VirtAddr", "VirtAddr57", "PageTableIndex", "PageOffset"}
+UNTESTED_METHODS = {"set_addr", "set_frame"}
+# The most tokens of a function with `#[inline]`, and the files whose functions with type parameters get it, too.
+MOST_INLINE = 60
+INLINE_GENERIC = {
+    f"{name}.rt"
+    for name in (
+        "access", "calls", "change", "entry", "find", "leaf", "lent_memory", "map", "mapped_page_table", "mapper", "mapper57", "page", "path",
+    )
+}
+# Texts, and what they become.
+REWRITES = [
+    (r"\barray::from_fn\(\|_\| PageTableEntry::new\(\)\)", "[const { PageTableEntry::new() }; ENTRY_COUNT]"),
+    (r"#\[repr\(C\)\]\npub struct PageTable\b", "#[repr(C, align(4096))]\npub struct PageTable"),
+    (r"\bpub type (\w+)<S>", r"pub type \1<S = @crate::pages::page::Size4KiB>"),
+    (r"\[`flush(?:_all)?`\]\(Self::flush(?:_all)?\)", "[`record`](Self::record)"),
+    (r"\[`(\w+)`\]\(crate::laws::\w+\)", r"`\1`"),
+    (r"(?:fmt::)?Formatter<W>", "core::fmt::Formatter<'_>"),
+    (r"\bFmtResult\b|(?<!core::)\bfmt::Result\b", "core::fmt::Result"),
+    (r"::<S, W>", "::<S>"),
+]
+
+# Names of std that are others in Rust; '' is none.
+STD = {
+    "std::marker::Model": "",
+    "std::alloc::Global": "",
+    "std::alloc::AllocError": "@crate::support::AllocError",
+    "std::collections::VecDeque": "@crate::support::VecDeque",
+    "std::collections::HashMap": "@crate::support::HashMap",
+    "std::str::from_utf8_unchecked": "@crate::support::from_utf8_unchecked",
+    "std::fmt::Formatter": "",
+    "std::fmt::Result": "",
+    "std::fmt::Write": "",
+}
+# Names of std that are in core, too; and those that are not, for programs.
+CORE = re.compile(
+    r"std::(array|cmp::max|mem|fmt(::(Debug|Display))?|hash::Hash|marker::PhantomData|convert::Infallible"
+    r"|ops::(Add|AddAssign|Sub|SubAssign|Index|IndexMut))"
+)
+IO = re.compile(r"std::io(::(Read|Write|ErrorKind))?")
+
+
+def path_of(path):
+    """Returns the path in Rust of a name that is used: '' if there is none, None if it is unknown."""
+    if path.startswith("x86_64_model::") or path.split("::")[-1] in LAW_CALLS:
+        return ""
+    if path.startswith("bitflags::"):
+        return "@crate::" + path
+    if not path.startswith("std::") or IO.fullmatch(path):
+        return path
+    if CORE.fullmatch(path):
+        return path.replace("std", "core", 1)
+    return STD.get(path)
+
+
+def documentation(path, clauses):
+    """Returns the sections of a function's documentation on its tests and its contract."""
+    lines = []
+    if tests := TESTS.get(path):
+        when = "Panics" if any(test.startswith("assert") for test in tests) else "Panics, with debug assertions,"
+        lines += ["", "# Panics", "", f"{when} if a condition doesn't hold. It is tested so:", ""]
+        lines += ["```text", *(test.replace("@crate::", "") for test in tests), "```"]
+    if clauses:
+        lines += ["", "# Proved", "", "```text", *clauses, "```"]
+    return [f"/// {line}".rstrip() for line in lines]
+
+
+ROOT = """#![no_std]
+#![cfg_attr(not(feature = "instructions"), forbid(unsafe_code))]
+#![warn(missing_docs)]
+// Names, parameters, labels and fields that only contracts use.
+#![allow(dead_code, unused_imports, unused_labels, unused_variables)]
+
+#[cfg(feature = "alloc")]
+extern crate alloc;
+
+"""
+MODULES = """
+// The crates that are proved, for the tests of this one.
+#[doc(hidden)]
+pub mod addresses;
+#[doc(hidden)]
+pub mod mappers;
+#[doc(hidden)]
+pub mod pages;
+#[doc(hidden)]
+pub mod spaces;
+#[doc(hidden)]
+pub mod tables;
+
+pub mod access;
+pub mod bitflags;
+mod conveniences;
+#[cfg(all(feature = "instructions", target_arch = "x86_64"))]
+pub mod instructions;
+#[cfg(all(feature = "instructions", target_arch = "x86_64"))]
+pub mod kernel;
+pub mod listing;
+pub mod loader;
+#[cfg(all(feature = "instructions", target_arch = "x86_64"))]
+pub mod registers;
+pub mod support;
+
+#[cfg(doctest)]
+#[doc = include_str!("../README.md")]
+struct Readme;
+"""
+# What a program over std has in addition.
+FORMAT = """macro_rules! format_in {
+    ($($tokens:tt)*) => { Ok::<String, crate::support::AllocError>(format!($($tokens)*)) }
+}
+
+"""
+
+
+def root(text, programs):
+    """Returns the text of the root file, with more modules: crates of programs over std."""
+    head = re.match(r"(//![^\n]*\n)*", text)[0]
+    inner = ROOT if not programs else ROOT.replace("#![no_std]\n", "") + FORMAT
+    return head + inner + text[len(head) :].lstrip() + MODULES + "".join(f"pub mod {name};\n" for name in programs)

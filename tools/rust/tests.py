@@ -1,0 +1,162 @@
+"""Turns the tests of the Rattle crates into integration tests of the Rust crate, and the engine of `pagetab` into one of its examples.
+
+The runtime and the allocator that tests are passed are cut, as contracts are. Calls of laws go, too: a law has nothing to run.
+"""
+
+import pathlib
+import re
+
+import rules
+from erase import sources
+from items import ATTRIBUTES, Items
+from output import rust, with_use
+
+CRATE = "x86_64_paging"
+# The crates of tests, each with those that it needs beside the library, and with the modules and crates that are left out.
+TESTS = {
+    "test_tables": ([], set()),
+    "test_mappers": (["uses"], {"translate_in_dump"}),
+    "test_runs": (["test_reference", "pagetab_engine"], set()),
+}
+# Tests that can't run: texts of std end the process where memory is refused.
+IGNORED = {"the_program_stops_at_each_block_that_is_refused"}
+# What stands for macros and crates of Rattle, written by hand.
+SUPPORT = "more/mod.rs"
+NO_NAMES = {"std::process::Abort", "std::alloc::Global"}
+LIBRARY = {crate: f"{CRATE}::{module}".removesuffix("::") for crate, module in rules.CRATES.items()}
+
+
+class TestItems(Items):
+    """A file of tests."""
+
+    is_library = False
+    attributes = ATTRIBUTES | {"test", "cfg"}
+    macros = Items.macros | {"assert", "assert_eq", "panic", "macro_rules"}
+    left_out = set()
+
+    def __init__(self, path):
+        super().__init__(path)
+        self.macros = self.macros | set(re.findall(r"macro_rules! (\w+)", self.source))
+        for i in range(self.size):
+            if self.kind[i] != "word":
+                continue
+            before = self.before(i) if i else i
+            if self.text[i] in ("rt", "_rt"):
+                self.runtime(before if self.text[before] == "$" else i, i + 1)
+            elif self.text[i] == "in" and self.at(self.before(before)) == "!":  # format!(in alloc; ..)
+                self.cut(i, self.after(self.until(i, ";")))
+                name = self.before(self.before(before))
+                self.new[name] = self.text[name] + "_in"
+            elif self.text[i] == "Drop" and self.text[before] in ("+", ":"):
+                self.cut(before, i + 1)
+
+    def runtime(self, i, stop):
+        """Cuts the runtime that is passed, from i to stop - 1: a parameter, an argument, or the allocator that it has."""
+        if self.at(self.before(i)) == "&":
+            i = self.before(i)
+        if self.at(stop) == ":":
+            stop = self.until(stop, (",", ")"))
+        elif self.at(stop) == "." and self.at(stop + 1) == "alloc":
+            stop = self.partner[stop + 2] + 1
+        behind = self.next(stop)
+        before = self.before(i)
+        if self.at(before) == "=" and self.at(behind) == ";":  # let alloc = rt.alloc();
+            self.cut(self.before(self.before(before)), behind + 1)
+        elif self.at(behind) in (",", ";"):
+            stop = self.after(behind)
+            self.cut(i, stop if "\n" not in self.text[stop - 1] else behind + 1)
+        elif self.at(before) == ",":
+            self.cut(before, stop)
+        elif self.at(behind) == ")":
+            self.cut(i, stop)
+
+    def attribute(self, i, attributes):
+        end = super().attribute(i, attributes)
+        if attributes and attributes[-1][0] == "cfg":
+            self.cut(*attributes.pop()[1:])
+        return end
+
+    def path_of(self, i, path):
+        names = path.split("::")
+        if "laws" in names:
+            rules.LAW_CALLS.add(names[-1])
+            return ""
+        if path in NO_NAMES or names[0] in self.left_out | {"x86_64_model"}:
+            return ""
+        if names[0] in ("rand_core", "rand_pcg", "test_support"):
+            return f"crate::more::{names[-1]}"
+        if path.startswith("std::"):
+            return rules.STD.get(path, path).replace("@crate", CRATE)
+        return path.replace("bitflags::", f"{CRATE}::bitflags::")
+
+
+class ProgramItems(Items):
+    """A file of a program over std."""
+
+    is_library = False
+
+    def path_of(self, i, path):
+        return super().path_of(i, path).replace("@crate", CRATE)
+
+
+def over_library(path, module, others, kind):
+    """Returns a file of a crate over the library as Rust."""
+    rules.CRATES = {crate: crate for crate in others}
+    text, _ = rust(path, module, kind)
+    for crate, place in LIBRARY.items():
+        text = re.sub(rf"(?<![\w:]){crate}::", f"{place}::", text)
+    return text
+
+
+def translated(path, module, others, left_out):
+    """Returns a file of tests as Rust."""
+    TestItems.left_out = left_out
+    text = over_library(path, module, others, TestItems)
+    text = text.replace("use crate::support::Vec;", f"use crate::more::MoreOfVec;\nuse {CRATE}::support::Vec;")
+    text = re.sub(r"(///[^\n]*\n)*pub trait Test[^{]*\{\}\n+impl<R[^{]*\{\}\n", "", text)
+    text = re.sub(r"\bunwrap\((\w+)\.clone\(\)\)", r"\1.clone()", text)
+    text = re.sub(r"\bunwrap\((\w+\.push_str\(\w+\))\)", r"\1", text)
+    text = text.replace("extend_from_slice(buf)?", "extend_from_slice(buf).map_err(|_| io::ErrorKind::OutOfMemory)?")
+    for name in IGNORED:
+        text = text.replace(f"#[test]\nfn {name}(", f"#[test]\n#[ignore]\nfn {name}(")
+    if "String::from_str" in text:
+        text = with_use(text, "std::str::FromStr")
+    text = re.sub(r"let \((\w+),?\) = \((.*)\);", r"let \1 = \2;", text)
+    if ".collect()" in text:
+        text = with_use(text.replace(".collect()", ".collect_in()"), "crate::more::CollectIn")
+    return text
+
+
+def tests(crates):
+    """Returns the files of all tests, by their places below tests/."""
+    files = {}
+    for name, (others, left_out) in TESTS.items():
+        rules.LAW_MODULES |= left_out
+        for crate in [name, *others]:
+            for path, place in sources(crates / crate):
+                text = translated(path, "" if crate == name else crate, others, left_out)
+                if place.name == "lib.rs":
+                    place = pathlib.Path("main.rs" if crate == name else "mod.rs")
+                if place.name == "main.rs":
+                    text = main_file(text, others)
+                files[pathlib.Path(name, *[crate] * (crate != name)) / place] = text
+        rules.LAW_MODULES -= left_out
+    return files
+
+
+def examples(crates):
+    """Returns the files of the engine of pagetab, by their places below examples/."""
+    files = {}
+    for path, place in sources(crates / "pagetab_engine"):
+        text = over_library(path, "pagetab_engine", [], ProgramItems)
+        place = pathlib.Path("mod.rs") if place.name == "lib.rs" else place
+        files[pathlib.Path("pagetab", "pagetab_engine") / place] = text.replace("use crate::support::Vec;", f"use {CRATE}::support::Vec;")
+    return files
+
+
+def main_file(text, others):
+    """Returns the root file of tests."""
+    head = re.match(r"(//![^\n]*\n)*", text)[0]
+    modules = "".join(f"mod {crate};\n" for crate in others)
+    allowed = "#![allow(dead_code, unused_imports, unused_parens, unused_variables)]"
+    return f'{head}{allowed}\n\n#[macro_use]\n#[path = "../{SUPPORT}"]\nmod more;\n{modules}{text[len(head):]}'
