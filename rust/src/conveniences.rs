@@ -1,9 +1,10 @@
-//! Conveniences of the crate `x86_64` that need no proof: pointers as addresses, and addresses as text.
+//! Conveniences of the crate `x86_64` that need no proof: pointers as addresses, addresses as text, and a token by default.
 
 use crate::addresses::addr::{PhysAddr, VirtAddr, VirtAddrIn};
 use crate::addresses::level_count::LevelCount;
 use crate::mappers::calls::MapRangeErrorIn;
 use crate::pages::page::PageSize;
+use crate::tables::mapper::MapperFlushAll;
 use core::fmt;
 
 impl VirtAddr {
@@ -53,5 +54,12 @@ impl fmt::Pointer for VirtAddr {
 impl<S: PageSize + fmt::Debug, L: LevelCount> fmt::Debug for MapRangeErrorIn<S, L> {
     fn fmt(&self, f: &mut fmt::Formatter<'_>) -> fmt::Result {
         f.debug_struct("MapRangeError").field("mapped", &self.mapped).field("why", &self.why).finish()
+    }
+}
+
+impl Default for MapperFlushAll {
+    #[inline]
+    fn default() -> MapperFlushAll {
+        MapperFlushAll::new()
     }
 }

@@ -5,6 +5,7 @@
 //! [`PhysMemory`] that owns its tables, or a [`LentMemory`] over tables of the caller.
 #![no_std]
 #![cfg_attr(not(feature = "instructions"), forbid(unsafe_code))]
+#![deny(unsafe_code, unsafe_op_in_unsafe_fn)]
 #![warn(missing_docs)]
 // Names, parameters, labels and fields that only contracts use.
 #![allow(dead_code, unused_imports, unused_labels, unused_variables)]
@@ -149,12 +150,15 @@ pub mod access;
 pub mod bitflags;
 mod conveniences;
 #[cfg(all(feature = "instructions", target_arch = "x86_64"))]
+#[allow(unsafe_code)]
 pub mod instructions;
 #[cfg(all(feature = "instructions", target_arch = "x86_64"))]
+#[allow(unsafe_code)]
 pub mod kernel;
 pub mod listing;
 pub mod loader;
 #[cfg(all(feature = "instructions", target_arch = "x86_64"))]
+#[allow(unsafe_code)]
 pub mod registers;
 pub mod support;
 

@@ -1,18 +1,88 @@
 //! The mapper of a kernel, over memory of the test: it leaves the same words as the mapper over a memory that is lent.
 #![cfg(all(feature = "instructions", target_arch = "x86_64"))]
 
-use x86_64_paging::kernel::{DirectMap, OffsetPageTable, OffsetPageTable57};
-use x86_64_paging::structures::paging::mapper::{CleanUp, CleanUp57, MapToError, MapperAllSizes};
-use x86_64_paging::structures::paging::{
-    MappedPageTable, Mapper57, Page, Page57, PageTable, PageTableFlags as Flags, PhysFrame, Size2MiB, Size4KiB, Translate,
-    Translate57,
+use x86_64::structures::paging::mapper::{
+    CleanUp, InvalidPageTable, MapToError, MapperAllSizes, PageTableFrameMapping, RangeMapper, TranslateError, UnmapError,
 };
-use x86_64_paging::{mappings, IdentityMapping, LentMemory, LentPool, OwnFrames, PhysAddr, TableMemory, VirtAddr, VirtAddr57};
+use x86_64::structures::paging::{
+    FrameAllocator, FrameDeallocator, MappedPageTable, Mapper, OffsetPageTable, OffsetPageTable57, Page, Page57, PageTable,
+    PageTableFlags as Flags, PhysFrame, RecursivePageTable, Size1GiB, Size2MiB, Size4KiB, Translate,
+};
+use x86_64::{DirectMap, PhysAddr, VirtAddr, VirtAddr57};
+use x86_64_paging::access::{Access, AccessKind, Controls, Fault};
+use x86_64_paging::kernel as x86_64;
+use x86_64_paging::structures::paging as data;
+use x86_64_paging::{is_valid_by_marks, FourLevels, FramePlace, IdentityMapping, LentMemory, LentPool, OwnFrames, TableMemory};
 
 const FRAMES: usize = 16;
+const BOTH: Flags = Flags::PRESENT.union(Flags::WRITABLE);
 
-/// Makes calls by a mapper and a pool of the frames from 0x2000 on, and returns what is free then.
+/// Free frames of the tests' own memory; the last one is handed out first.
+struct Free(Vec<PhysFrame>);
+
+impl Free {
+    fn new(numbers: std::ops::Range<u64>) -> Free {
+        Free(numbers.rev().map(PhysFrame::from_pfn).collect())
+    }
+}
+
+// SAFETY: each frame is in the list once, until it is handed out.
+unsafe impl FrameAllocator<Size4KiB> for Free {
+    fn allocate_frame(&mut self) -> Option<PhysFrame> {
+        self.0.pop()
+    }
+}
+
+impl FrameDeallocator<Size4KiB> for Free {
+    unsafe fn deallocate_frame(&mut self, frame: PhysFrame) {
+        self.0.push(frame);
+    }
+}
+
+/// Frames at an index of tables.
+struct At(*mut PageTable);
+
+// SAFETY: the tests ask for frames of their tables.
+unsafe impl PageTableFrameMapping for At {
+    fn frame_to_pointer(&self, frame: PhysFrame) -> *mut PageTable {
+        self.0.wrapping_add(frame.pfn() as usize)
+    }
+}
+
+fn tables() -> Vec<PageTable> {
+    (0..FRAMES).map(|_| PageTable::new()).collect()
+}
+
+/// Makes calls by a mapper of the door for kernels with the frames from 0x2000 on, and returns what is free then.
 fn calls<M: MapperAllSizes + Translate + CleanUp>(mapper: &mut M) -> Vec<u64> {
+    let mut pool = Free::new(2..FRAMES as u64);
+    for n in 0..600 {
+        let page = Page::<Size4KiB>::containing_address(VirtAddr::new(0xffff_8000_0000_0000 + n * 4096));
+        let frame = PhysFrame::containing_address(PhysAddr::new(0x10_0000 + n * 4096));
+        // SAFETY: no processor uses the tables.
+        unsafe { mapper.map_to(page, frame, BOTH, &mut pool) }.expect("a frame is free").ignore();
+        assert_eq!(mapper.translate_addr(page.start_address() + 5), Some(frame.start_address() + 5));
+        if n % 3 == 0 {
+            // SAFETY: as above.
+            unsafe { mapper.update_flags(page, Flags::PRESENT) }.expect("the page is mapped").ignore();
+        } else if n >= 512 {
+            mapper.unmap(page).expect("the page is mapped").1.ignore();
+        }
+    }
+    let large = Page::<Size2MiB>::containing_address(VirtAddr::new(0x20_0000));
+    let frame = PhysFrame::containing_address(PhysAddr::new(0x4000_0000));
+    // SAFETY: as above, and nothing else leads to the tables.
+    unsafe {
+        mapper.map_to(large, frame, BOTH, &mut pool).expect("a frame is free").ignore();
+        assert_eq!(mapper.map_to(large, frame, BOTH, &mut pool).err(), Some(MapToError::PageAlreadyMapped(frame)));
+        mapper.unmap(large).expect("the page is mapped").1.ignore();
+        mapper.clean_up(&mut pool);
+    }
+    pool.0.iter().map(|frame| frame.start_address().as_u64()).collect()
+}
+
+/// Makes the same calls by a mapper on data.
+fn calls_on_data<M: data::mapper::MapperAllSizes + data::Translate + data::mapper::CleanUp>(mapper: &mut M) -> Vec<u64> {
     let mut frames: Vec<u64> = (2..FRAMES as u64).rev().map(|n| n * 4096).collect();
     let mut free = frames.len();
     let mut pool = LentPool::new(&mut frames, &mut free, OwnFrames::of());
@@ -37,58 +107,386 @@ fn calls<M: MapperAllSizes + Translate + CleanUp>(mapper: &mut M) -> Vec<u64> {
     frames[..free].to_vec()
 }
 
+/// Returns the words of a table.
+fn words(table: &PageTable) -> Vec<u64> {
+    table.iter().map(|entry| entry.word()).collect()
+}
+
 #[test]
-fn the_mapper_of_a_kernel_leaves_the_same_words() {
-    let mut lent: Vec<PageTable> = (0..FRAMES).map(|_| PageTable::new()).collect();
+fn the_mappers_of_a_kernel_leave_the_same_words() {
+    let mut lent = tables();
     let mut memory = LentMemory::new(&mut lent);
     let root = PhysFrame::containing_address(PhysAddr::new(0x1000));
-    let wanted_free = calls(&mut MappedPageTable::new(&mut memory, root, IdentityMapping));
+    let wanted_free = calls_on_data(&mut data::MappedPageTable::new(&mut memory, root, IdentityMapping));
 
-    let mut tables: Vec<PageTable> = (0..FRAMES).map(|_| PageTable::new()).collect();
+    let mut tables = tables();
     let start = tables.as_mut_ptr();
     // SAFETY: `tables` is the memory from frame 0 on, and nothing else uses it while the mapper lives. All frames of tables are in it.
     let mut mapper = unsafe { OffsetPageTable::new(&mut *start.add(1), VirtAddr::from_ptr(start)) };
     assert_eq!(mapper.phys_offset(), VirtAddr::from_ptr(start));
-    let free = calls(&mut mapper);
-    assert_eq!(free, wanted_free);
-    assert_eq!(mappings(mapper.memory(), &IdentityMapping, root).count(), 512 + 29);
+    assert_eq!(calls(&mut mapper), wanted_free);
+    assert_eq!(mapper.mappings_from(VirtAddr::zero()).count(), 512 + 29);
     assert_eq!(mapper.level_4_table().iter().filter(|entry| !entry.is_unused()).count(), 1);
-    drop(mapper);
-    for (table, wanted) in tables.iter().zip(&lent) {
-        assert!(table.iter().zip(wanted.iter()).all(|(entry, wanted)| entry.word() == wanted.word()));
+    assert_eq!(format!("{mapper:?}"), "OffsetPageTable { .. }");
+    assert!(tables.iter().zip(&lent).all(|(table, wanted)| words(table) == words(wanted)));
+
+    let mut others = self::tables();
+    let start = others.as_mut_ptr();
+    let mapping = At(start);
+    // SAFETY: as above.
+    let mut mapper = unsafe { MappedPageTable::new(&mut *start.add(1), &mapping) };
+    assert_eq!(calls(&mut mapper), wanted_free);
+    assert_eq!(mapper.page_table_frame_mapping().0, start);
+    assert_eq!(mapper.regions().count(), 171 + 171 + 29);
+    assert!(others.iter().zip(&lent).all(|(table, wanted)| words(table) == words(wanted)));
+}
+
+#[test]
+fn the_root_is_where_it_is_lent_and_not_at_the_offset() {
+    let mut tables = tables();
+    let mut root = PageTable::new();
+    let start = tables.as_mut_ptr();
+    // SAFETY: as above; the root is beside the memory.
+    let mut mapper = unsafe { OffsetPageTable::new(&mut root, VirtAddr::from_ptr(start)) };
+    let (page, frame) = (Page::<Size4KiB>::containing_address(VirtAddr::new(0x7000)), PhysFrame::from_pfn(77));
+    // SAFETY: no processor uses the tables.
+    unsafe { mapper.map_to(page, frame, BOTH, &mut Free::new(1..4)) }.expect("a frame is free").ignore();
+    assert_eq!(mapper.translate_page(page), Ok(frame));
+    let controls = Controls { write_protect: true, no_execute: true, smep: false, smap: false, ac: false, physical_bits: 40 };
+    let read = Access { kind: AccessKind::Read, user: false };
+    assert_eq!(mapper.access(VirtAddr::new(0x7abc), read, &controls).ok(), Some(PhysAddr::new(0x4dabc)));
+    assert!(matches!(mapper.access(VirtAddr::new(0x8abc), read, &controls), Err(Fault::PageFault { .. })));
+    assert_eq!(root[0].addr(), PhysAddr::new(0x1000));
+}
+
+#[test]
+fn calls_of_each_size_are_refused_as_on_data() {
+    let mut tables = tables();
+    let start = tables.as_mut_ptr();
+    // SAFETY: as above.
+    let mut mapper = unsafe { OffsetPageTable::new(&mut *start.add(1), VirtAddr::from_ptr(start)) };
+    let (small, large) =
+        (Page::<Size4KiB>::containing_address(VirtAddr::zero()), Page::<Size2MiB>::containing_address(VirtAddr::zero()));
+    let giant = Page::<Size1GiB>::containing_address(VirtAddr::zero());
+    // SAFETY: no processor uses the tables.
+    unsafe {
+        assert_eq!(
+            mapper.map_to(small, PhysFrame::from_pfn(9), BOTH, &mut Free::new(2..4)).err(),
+            Some(MapToError::FrameAllocationFailed)
+        );
+        assert_eq!(mapper.map_to(giant, PhysFrame::from_pfn(0), BOTH, &mut Free::new(4..5)).err().map(|_| ()), Some(()));
+        mapper
+            .identity_map(PhysFrame::<Size2MiB>::containing_address(PhysAddr::new(0x20_0000)), BOTH, &mut Free::new(5..6))
+            .expect("no frame is needed")
+            .ignore();
+        assert_eq!(mapper.translate_addr(VirtAddr::new(0x20_1234)), Some(PhysAddr::new(0x20_1234)));
+        mapper.set_flags_p4_entry(small, Flags::PRESENT).expect("the entry is used").ignore();
+        mapper.set_flags_p3_entry(small, Flags::PRESENT).expect("the entry is used").ignore();
+        assert!(mapper.set_flags_p2_entry(small, Flags::PRESENT).is_err());
     }
+    assert_eq!(mapper.unmap(large).err(), Some(UnmapError::PageNotMapped));
+    assert_eq!(mapper.translate_page(large), Err(TranslateError::PageNotMapped));
+    assert_eq!(mapper.level_4_table()[0].flags(), Flags::PRESENT);
+}
+
+#[test]
+fn ranges_are_mapped_and_unmapped() {
+    let mut tables = tables();
+    let start = tables.as_mut_ptr();
+    // SAFETY: as above.
+    let mut mapper = unsafe { OffsetPageTable::new(&mut *start.add(1), VirtAddr::from_ptr(start)) };
+    let (first, mut free) = (Page::<Size4KiB>::containing_address(VirtAddr::new(0x1ff_000)), Free::new(2..FRAMES as u64));
+    // SAFETY: no processor uses the tables.
+    unsafe {
+        mapper.map_range(first, 700, PhysFrame::from_pfn(100), BOTH, BOTH, &mut free).expect("frames are free").ignore();
+        let (changed, flush) = mapper.update_flags_range(first, 800, Flags::PRESENT);
+        assert_eq!((changed, flush.count()), (700, 800));
+        flush.ignore();
+        let mut taken = Vec::new();
+        mapper.unmap_range(first, 800, |frame| taken.push(frame.pfn())).ignore();
+        assert_eq!(taken, (100..800).collect::<Vec<u64>>());
+        mapper.clean_up(&mut free);
+    }
+    assert_eq!(free.0.len(), FRAMES - 2);
 }
 
 #[test]
 fn the_mapper_of_a_kernel_has_five_levels() {
-    let mut tables: Vec<PageTable> = (0..FRAMES).map(|_| PageTable::new()).collect();
+    let mut tables = tables();
     let start = tables.as_mut_ptr();
-    // SAFETY: `tables` is the memory from frame 0 on, and nothing else uses it while the mapper lives. All frames of tables are in it.
+    // SAFETY: as above.
     let mut mapper = unsafe { OffsetPageTable57::new(&mut *start.add(1), VirtAddr57::new(start as u64)) };
-    let (mut frames, mut free) = ([0x5000, 0x4000, 0x3000, 0x2000], 4);
     let page = Page57::<Size4KiB>::containing_address(VirtAddr57::new(0x12_3456_7890_1000));
-    let frame = PhysFrame::containing_address(PhysAddr::new(0x9000));
-    let mut pool = LentPool::new(&mut frames, &mut free, OwnFrames::of());
-    mapper.map_to(page, frame, Flags::PRESENT, &mut pool).expect("a frame is free").ignore();
+    let (frame, mut pool) = (PhysFrame::containing_address(PhysAddr::new(0x9000)), Free::new(2..6));
+    // SAFETY: no processor uses the tables, and nothing else leads to them.
+    unsafe {
+        mapper.map_to(page, frame, Flags::PRESENT, &mut pool).expect("a frame is free").ignore();
+        mapper.set_flags_p5_entry(page, BOTH).expect("the entry is used").ignore();
+    }
     assert_eq!(mapper.translate_addr(page.start_address() + 7), Some(frame.start_address() + 7));
-    assert_eq!(mapper.level_5_table().iter().filter(|entry| !entry.is_unused()).count(), 1);
+    assert_eq!(mapper.level_5_table().iter().filter(|entry| entry.flags() == BOTH).count(), 1);
+    assert_eq!(mapper.regions().count(), 1);
     mapper.unmap(page).expect("the page is mapped").1.ignore();
-    mapper.clean_up(&mut LentPool::new(&mut frames, &mut free, OwnFrames::of()));
-    assert_eq!(free, 4);
+    // SAFETY: as above.
+    unsafe { mapper.clean_up(&mut pool) };
+    assert_eq!(pool.0.len(), 4);
     assert!(tables.iter().all(|table| table.is_empty()));
 }
 
 #[test]
+fn a_table_outside_a_window_makes_no_recursive_mapper() {
+    let mut table = PageTable::new();
+    assert!(matches!(RecursivePageTable::new(&mut table), Err(InvalidPageTable::NotRecursive)));
+}
+
+#[test]
 fn a_direct_map_has_the_places_of_its_ranges() {
-    let mut tables: Vec<PageTable> = (0..FRAMES).map(|_| PageTable::new()).collect();
+    let mut tables = tables();
     // SAFETY: nothing else uses `tables` while the memory lives.
     let memory = unsafe { DirectMap::new(tables.as_mut_ptr(), &[(1, 4), (8, 10)]) };
     let numbers: Vec<u64> = (0..memory.len()).map(|n| memory.place_at(n).expect("a place").number()).collect();
     assert_eq!(numbers, [1, 2, 3, 8, 9]);
     assert!(memory.place_at(5).is_none());
     for n in 0..FRAMES as u64 {
-        let place = x86_64_paging::FramePlace::new(n);
+        let place = FramePlace::new(n);
         assert_eq!(memory.table(place).is_some(), numbers.contains(&n));
         assert_eq!(memory.index_of(place), numbers.iter().position(|number| *number == n));
+    }
+}
+
+#[test]
+fn tables_of_a_loader_are_tested_in_a_direct_map() {
+    let mut tables = tables();
+    let start = tables.as_mut_ptr();
+    // SAFETY: as above.
+    let mut mapper = unsafe { OffsetPageTable::new(&mut *start.add(1), VirtAddr::from_ptr(start)) };
+    client::map_one(&mut mapper, &mut Free::new(2..6));
+    let is_valid = || {
+        // SAFETY: nothing uses the tables while the memory lives.
+        let memory = unsafe { DirectMap::new(start, &[(0, FRAMES as u64)]) };
+        is_valid_by_marks::<FourLevels, _, _>(&memory, &IdentityMapping, PhysFrame::from_pfn(1), &mut [false; FRAMES])
+    };
+    assert!(is_valid());
+    // SAFETY: nothing else uses the tables now.
+    let root = unsafe { &mut *start.add(1) };
+    // Two entries name one table then.
+    root[9] = root[0].clone();
+    assert!(!is_valid());
+}
+
+/// Code of a user of the crate `x86_64`, as it is.
+mod client {
+    use x86_64::structures::paging::mapper::{FlagUpdateError, MapperFlush, MapperFlushAll, TranslateResult};
+    use x86_64::structures::paging::page::PageRangeInclusive;
+    use x86_64::structures::paging::{
+        mapper::{CleanUp, MapToError, MapperAllSizes, TranslateError, UnmapError},
+        FrameAllocator, FrameDeallocator, Mapper, Page, PageSize, PageTable, PageTableFlags, PhysFrame, Size4KiB, Translate,
+    };
+    use x86_64::{PhysAddr, VirtAddr};
+    use x86_64_paging::kernel as x86_64;
+
+    /// A mapper around another, with each method of the trait.
+    pub struct Counted<M>(pub M, pub usize);
+
+    impl<S: PageSize, M: Mapper<S>> Mapper<S> for Counted<M> {
+        unsafe fn map_to_with_table_flags<A>(
+            &mut self,
+            page: Page<S>,
+            frame: PhysFrame<S>,
+            flags: PageTableFlags,
+            parent_table_flags: PageTableFlags,
+            frame_allocator: &mut A,
+        ) -> Result<MapperFlush<S>, MapToError<S>>
+        where
+            Self: Sized,
+            A: FrameAllocator<Size4KiB> + ?Sized,
+        {
+            self.1 += 1;
+            unsafe { self.0.map_to_with_table_flags(page, frame, flags, parent_table_flags, frame_allocator) }
+        }
+
+        fn unmap(&mut self, page: Page<S>) -> Result<(PhysFrame<S>, MapperFlush<S>), UnmapError> {
+            self.0.unmap(page)
+        }
+
+        unsafe fn update_flags(&mut self, page: Page<S>, flags: PageTableFlags) -> Result<MapperFlush<S>, FlagUpdateError> {
+            unsafe { self.0.update_flags(page, flags) }
+        }
+
+        unsafe fn set_flags_p4_entry(&mut self, page: Page<S>, flags: PageTableFlags) -> Result<MapperFlushAll, FlagUpdateError> {
+            unsafe { self.0.set_flags_p4_entry(page, flags) }
+        }
+
+        unsafe fn set_flags_p3_entry(&mut self, page: Page<S>, flags: PageTableFlags) -> Result<MapperFlushAll, FlagUpdateError> {
+            unsafe { self.0.set_flags_p3_entry(page, flags) }
+        }
+
+        unsafe fn set_flags_p2_entry(&mut self, page: Page<S>, flags: PageTableFlags) -> Result<MapperFlushAll, FlagUpdateError> {
+            unsafe { self.0.set_flags_p2_entry(page, flags) }
+        }
+
+        fn translate_page(&self, page: Page<S>) -> Result<PhysFrame<S>, TranslateError> {
+            self.0.translate_page(page)
+        }
+    }
+
+    impl<M: Translate> Translate for Counted<M> {
+        fn translate(&self, addr: VirtAddr) -> TranslateResult {
+            self.0.translate(addr)
+        }
+    }
+
+    impl<M: CleanUp> CleanUp for Counted<M> {
+        unsafe fn clean_up<D>(&mut self, frame_deallocator: &mut D)
+        where
+            D: FrameDeallocator<Size4KiB>,
+        {
+            unsafe { self.0.clean_up(frame_deallocator) }
+        }
+
+        unsafe fn clean_up_addr_range<D>(&mut self, range: PageRangeInclusive, frame_deallocator: &mut D)
+        where
+            D: FrameDeallocator<Size4KiB>,
+        {
+            unsafe { self.0.clean_up_addr_range(range, frame_deallocator) }
+        }
+    }
+
+    /// The traits are used as objects, too.
+    pub fn use_objects(translate: &(dyn Translate + Sync), frames: &mut dyn FrameAllocator<Size4KiB>) -> (Option<PhysAddr>, bool) {
+        (translate.translate_addr(VirtAddr::new(0x7123)), frames.allocate_frame().is_some())
+    }
+
+    pub fn map_one<M: MapperAllSizes>(mapper: &mut M, frames: &mut dyn FrameAllocator<Size4KiB>) {
+        let frame = frames.allocate_frame().expect("a frame is free");
+        let page = Page::<Size4KiB>::from_start_address(VirtAddr::new(0x7000)).unwrap();
+        let flags = PageTableFlags::PRESENT | PageTableFlags::WRITABLE | PageTableFlags::USER_ACCESSIBLE;
+        unsafe { mapper.map_to(page, frame, flags, frames).unwrap().ignore() };
+    }
+
+    pub fn is_empty(table: &PageTable) -> bool {
+        table.iter().all(|entry| entry.is_unused())
+    }
+}
+
+#[test]
+fn code_for_the_other_crate_is_as_it_is() {
+    fn may_be_static<T: Send + Sync>(_: &T) {}
+    let mut tables = tables();
+    let start = tables.as_mut_ptr();
+    // SAFETY: as above.
+    let mapper = unsafe { MappedPageTable::new(&mut *start.add(1), At(start)) };
+    let mut mapper = client::Counted(mapper, 0);
+    let mut free = Free::new(2..8);
+    client::map_one(&mut mapper, &mut free);
+    assert_eq!(mapper.1, 1);
+    let mut offset = PageTable::new();
+    // SAFETY: as above; the table is empty.
+    let offset = unsafe { OffsetPageTable::new(&mut offset, VirtAddr::from_ptr(start)) };
+    may_be_static(&offset);
+    assert_eq!(client::use_objects(&offset, &mut free), (None, true));
+    assert_eq!(mapper.translate_addr(VirtAddr::new(0x7123)), Some(PhysAddr::new(0x2123)));
+    mapper.unmap(Page::<Size4KiB>::containing_address(VirtAddr::new(0x7000))).expect("the page is mapped").1.ignore();
+    // SAFETY: nothing else leads to the tables.
+    unsafe { mapper.clean_up(&mut free) };
+    assert!(client::is_empty(mapper.0.level_4_table()));
+}
+
+/// All names that the crate `x86_64` has of the page table layer. The instructions are for kernels, so nothing runs.
+#[allow(unused)]
+mod names {
+    use x86_64::instructions::tlb;
+    use x86_64::registers::control::{Cr2, Cr3, Cr3Flags};
+    use x86_64::structures::paging::frame::{self, PhysFrameRange, PhysFrameRangeInclusive};
+    use x86_64::structures::paging::mapper::{
+        self, CleanUp, FlagUpdateError, InvalidPageTable, MapToError, MappedFrame, MapperAllSizes, MapperFlush, MapperFlushAll,
+        PageTableFrameMapping, TranslateError, TranslateResult, UnmapError,
+    };
+    use x86_64::structures::paging::page::{self, AddressNotAligned, NotGiantPageSize, PageRange, PageRangeInclusive};
+    use x86_64::structures::paging::page_table::{self, FrameError, PageTableEntry, PageTableLevel};
+    use x86_64::structures::paging::{
+        FrameAllocator, FrameDeallocator, MappedPageTable, Mapper, OffsetPageTable, Page, PageOffset, PageSize, PageTable,
+        PageTableFlags, PageTableIndex, PhysFrame, RecursivePageTable, Size1GiB, Size2MiB, Size4KiB, Translate,
+    };
+    use x86_64::{
+        addr::{self, align_down, align_up, PhysAddrNotValid, VirtAddrNotValid},
+        PhysAddr, VirtAddr,
+    };
+    use x86_64_paging::kernel as x86_64;
+
+    struct Phys(VirtAddr);
+    unsafe impl PageTableFrameMapping for Phys {
+        fn frame_to_pointer(&self, frame: PhysFrame) -> *mut PageTable {
+            (self.0 + frame.start_address().as_u64()).as_mut_ptr()
+        }
+    }
+    pub unsafe fn all(
+        table: &'static mut PageTable,
+        t2: &'static mut PageTable,
+        frames: &mut (impl FrameAllocator<Size4KiB> + FrameDeallocator<Size4KiB>),
+    ) {
+        let mut m = unsafe { MappedPageTable::new(table, Phys(VirtAddr::new(0))) };
+        let _: &PageTable = m.level_4_table();
+        let _: &mut PageTable = m.level_4_table_mut();
+        let _: &Phys = m.page_table_frame_mapping();
+        let mut r: RecursivePageTable = match RecursivePageTable::new(t2) {
+            Ok(r) => r,
+            Err(InvalidPageTable::NotRecursive) | Err(InvalidPageTable::NotActive) => return,
+        };
+        let page: Page<Size2MiB> = Page::containing_address(VirtAddr::new(0x20_0000));
+        unsafe {
+            m.identity_map(PhysFrame::<Size1GiB>::containing_address(PhysAddr::new(0)), PageTableFlags::PRESENT, frames)
+                .unwrap()
+                .flush();
+            r.map_to_with_table_flags(
+                page,
+                PhysFrame::containing_address(PhysAddr::new(0)),
+                PageTableFlags::PRESENT,
+                PageTableFlags::PRESENT,
+                frames,
+            )
+            .unwrap()
+            .flush();
+            r.set_flags_p4_entry(page, PageTableFlags::PRESENT).unwrap().flush_all();
+            r.clean_up_addr_range(
+                Page::range_inclusive(Page::containing_address(VirtAddr::new(0)), Page::containing_address(VirtAddr::new(0x1000))),
+                frames,
+            );
+        }
+        let (f, flush): (PhysFrame<Size2MiB>, MapperFlush<Size2MiB>) = r.unmap(page).unwrap();
+        flush.flush();
+        match r.translate(VirtAddr::new(5)) {
+            TranslateResult::Mapped { frame: MappedFrame::Size4KiB(f), offset, flags } => {
+                let _: (PhysFrame, u64, PageTableFlags) = (f, offset, flags);
+            }
+            TranslateResult::Mapped { frame, .. } => {
+                let _ = (frame.start_address(), frame.size());
+            }
+            TranslateResult::NotMapped => {}
+            TranslateResult::InvalidFrameAddress(a) => {
+                let _: PhysAddr = a;
+            }
+        }
+        MapperFlush::new(page).ignore();
+        MapperFlushAll::new().flush_all();
+        tlb::flush(VirtAddr::new(0));
+        tlb::flush_all();
+        let _: Option<&(dyn Translate + Sync)> = None;
+        let (frame, flags): (PhysFrame, Cr3Flags) = Cr3::read();
+        unsafe { Cr3::write(frame, flags) };
+        let _: Result<VirtAddr, VirtAddrNotValid> = Cr2::read();
+        assert!(!format!("{m:?} {r:?}").is_empty());
+    }
+
+    pub fn generic<M>(m: &mut M, a: &mut dyn FrameAllocator<Size4KiB>)
+    where
+        M: Mapper<Size4KiB> + Mapper<Size2MiB> + Translate,
+    {
+        let page: Page<Size4KiB> = Page::containing_address(VirtAddr::new(0));
+        unsafe {
+            m.map_to(page, PhysFrame::containing_address(PhysAddr::new(0)), PageTableFlags::PRESENT, a).unwrap().flush();
+        }
+        let _ = m.translate_page(page).is_ok() && m.translate_addr(VirtAddr::new(0)).is_some();
+        let _ = MapperFlushAll::default();
     }
 }

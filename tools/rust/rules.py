@@ -16,8 +16,8 @@ CRATES = {
     "x86_64_loader": "loader",
     "x86_64": "",
 }
-# Files of the Rust crate that are written by hand.
-HAND_WRITTEN = {f"{name}.rs" for name in ("bitflags", "conveniences", "instructions", "kernel", "registers", "support")}
+# Files of the Rust crate that are written by hand, and the folder of those below one of them.
+HAND_WRITTEN = {"kernel", *(f"{name}.rs" for name in ("bitflags", "conveniences", "instructions", "kernel", "registers", "support"))}
 
 # Modules of laws alone, and laws that other code calls.
 LAW_MODULES = {"laws"}
@@ -107,6 +107,7 @@ def documentation(path, clauses):
 
 ROOT = """#![no_std]
 #![cfg_attr(not(feature = "instructions"), forbid(unsafe_code))]
+#![deny(unsafe_code, unsafe_op_in_unsafe_fn)]
 #![warn(missing_docs)]
 // Names, parameters, labels and fields that only contracts use.
 #![allow(dead_code, unused_imports, unused_labels, unused_variables)]
@@ -132,12 +133,15 @@ pub mod access;
 pub mod bitflags;
 mod conveniences;
 #[cfg(all(feature = "instructions", target_arch = "x86_64"))]
+#[allow(unsafe_code)]
 pub mod instructions;
 #[cfg(all(feature = "instructions", target_arch = "x86_64"))]
+#[allow(unsafe_code)]
 pub mod kernel;
 pub mod listing;
 pub mod loader;
 #[cfg(all(feature = "instructions", target_arch = "x86_64"))]
+#[allow(unsafe_code)]
 pub mod registers;
 pub mod support;
 

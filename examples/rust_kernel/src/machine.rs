@@ -2,9 +2,9 @@
 
 use core::fmt::{self, Write};
 use core::sync::atomic::{AtomicU64, Ordering};
-use x86_64::access::PageFaultCode;
-use x86_64::registers::control::Cr2;
-use x86_64::VirtAddr;
+use x86_64_paging::access::PageFaultCode;
+use x86_64_paging::kernel::registers::control::Cr2;
+use x86_64_paging::kernel::VirtAddr;
 
 core::arch::global_asm!(include_str!("boot.s"));
 

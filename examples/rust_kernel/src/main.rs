@@ -8,14 +8,15 @@ mod memory;
 
 use machine::StartInfo;
 use memory::{Frames, DIRECT};
-use x86_64::access::{access, Access, AccessKind, Controls, Fault};
-use x86_64::kernel::OffsetPageTable;
 use x86_64::registers::control::Cr3;
-use x86_64::structures::paging::mapper::{CleanUp, TableAccess};
+use x86_64::structures::paging::mapper::{CleanUp, RangeMapper};
 use x86_64::structures::paging::{
-    FrameAllocator, FrameDeallocator, Mapper, Page, PageTableFlags as Flags, PhysFrame, Size2MiB, Size4KiB, Translate,
+    FrameAllocator, FrameDeallocator, Mapper, OffsetPageTable, Page, PageTable, PageTableFlags as Flags, PhysFrame,
+    RecursivePageTable, Size2MiB, Size4KiB, Translate,
 };
-use x86_64::{regions, IdentityMapping, VirtAddr};
+use x86_64::VirtAddr;
+use x86_64_paging::access::{Access, AccessKind, Controls, Fault};
+use x86_64_paging::kernel as x86_64;
 
 const FIRST: VirtAddr = VirtAddr::new(0x4444_4444_0000);
 const HEAP: VirtAddr = VirtAddr::new(0x5555_0000_0000);
@@ -32,14 +33,15 @@ extern "C" fn kernel_main(start_info: u64) -> ! {
     println!("kernel: {} frames are free, the root of boot.s is {:?}", frames.free, Cr3::read().0);
     let mut mapper = unsafe { memory::init(memory, &mut frames) };
     println!("kernel: {} frames are free, the root is {:?}", frames.free, Cr3::read().0);
-    for region in regions(mapper.memory(), &IdentityMapping, mapper.root()) {
+    for region in mapper.regions() {
         println!("  {region}");
     }
     one_page(&mut mapper, &mut frames);
     heap(&mut mapper, &mut frames);
     large_page(&mut mapper, &mut frames);
-    mapper.clean_up(&mut frames);
+    clean_up(&mut mapper, &mut frames);
     println!("cleaned up: {} frames are free", frames.free);
+    recursive(&mut mapper, &mut frames);
     machine::end(true)
 }
 
@@ -48,18 +50,21 @@ fn one_page(mapper: &mut OffsetPageTable, frames: &mut Frames) {
     let page = Page::containing_address(FIRST);
     let frame = frames.allocate_frame().expect("no memory is left");
     touch(mapper, FIRST, None);
-    mapper.map_to(page, frame, Flags::PRESENT | Flags::WRITABLE, frames).expect("map_to failed").flush();
+    // SAFETY: nothing uses the page or the frame.
+    unsafe { mapper.map_to(page, frame, Flags::PRESENT | Flags::WRITABLE, frames) }.expect("map_to failed").flush();
     println!("{FIRST:#x} is mapped to {:?}", mapper.translate_addr(FIRST));
     touch(mapper, FIRST + 8, Some(0xfee1_600d));
     // SAFETY: the page and DIRECT lead to the same frame.
     println!("  at DIRECT: {:#x}", unsafe { *(DIRECT + frame.start_address().as_u64() + 8).as_ptr::<u64>() });
-    mapper.update_flags(page, Flags::PRESENT).expect("update_flags failed").flush();
+    // SAFETY: nothing but `touch` uses the page.
+    unsafe { mapper.update_flags(page, Flags::PRESENT) }.expect("update_flags failed").flush();
     println!("{FIRST:#x} can't be written to");
     touch(mapper, FIRST + 8, None);
     touch(mapper, FIRST + 8, Some(1));
     let (frame, flush) = mapper.unmap(page).expect("unmap failed");
     flush.flush();
-    frames.deallocate_frame(frame);
+    // SAFETY: no page shows the frame any more.
+    unsafe { frames.deallocate_frame(frame) };
     println!("{FIRST:#x} is unmapped");
     touch(mapper, FIRST + 8, None);
 }
@@ -70,14 +75,16 @@ fn heap(mapper: &mut OffsetPageTable, frames: &mut Frames) {
     let flags = Flags::PRESENT | Flags::WRITABLE | Flags::NO_EXECUTE;
     let first = frames.take_range(HEAP_PAGES);
     let parent_flags = Flags::PRESENT | Flags::WRITABLE;
-    mapper.map_range(start, HEAP_PAGES, first, flags, parent_flags, frames).expect("map_range failed").flush();
+    // SAFETY: nothing uses the pages or the frames.
+    unsafe { mapper.map_range(start, HEAP_PAGES, first, flags, parent_flags, frames) }.expect("map_range failed").flush();
     // SAFETY: the pages are mapped, and nothing else uses them.
     let words = unsafe { core::slice::from_raw_parts_mut(HEAP.as_mut_ptr::<u64>(), HEAP_PAGES as usize * 512) };
     (0..).zip(words.iter_mut()).for_each(|(k, word)| *word = k);
     println!("{HEAP_PAGES} pages are mapped at {HEAP:#x}: {} words, the sum {}", words.len(), words.iter().sum::<u64>());
     touch(mapper, HEAP + HEAP_PAGES * 4096 - 8, None);
     touch(mapper, HEAP + HEAP_PAGES * 4096, None);
-    mapper.unmap_range(start, HEAP_PAGES, frames).flush();
+    // SAFETY: `words` isn't used any more. This processor is the only one, so the frames aren't used anew before the flush.
+    unsafe { mapper.unmap_range(start, HEAP_PAGES, |frame| frames.deallocate_frame(frame)) }.flush();
     println!("they are unmapped: {} frames are free", frames.free);
     touch(mapper, HEAP + HEAP_PAGES * 4096 - 8, None);
 }
@@ -87,11 +94,55 @@ fn large_page(mapper: &mut OffsetPageTable, frames: &mut Frames) {
     let page = Page::<Size2MiB>::containing_address(HEAP);
     let frame = PhysFrame::containing_address(Cr3::read().0.start_address());
     // The heap's table of level one is still there.
-    println!("2MiB at {HEAP:#x}: {:?}", mapper.map_to(page, frame, Flags::PRESENT, frames).map(|flush| flush.flush()));
-    mapper.clean_up(frames);
-    println!("2MiB at {HEAP:#x}: {:?}", mapper.map_to(page, frame, Flags::PRESENT, frames).map(|flush| flush.flush()));
+    for _ in 0..2 {
+        // SAFETY: nothing writes by the page.
+        let mapped = unsafe { mapper.map_to(page, frame, Flags::PRESENT, frames) };
+        println!("2MiB at {HEAP:#x}: {:?}", mapped.map(|flush| flush.flush()));
+        clean_up(mapper, frames);
+    }
     touch(mapper, HEAP + 0x1f_fff8, None);
     mapper.unmap(page).expect("unmap failed").1.flush();
+}
+
+/// Removes the tables that are empty.
+fn clean_up(mapper: &mut OffsetPageTable, frames: &mut Frames) {
+    // SAFETY: nothing else leads to the tables, and their frames aren't used anew before the flush.
+    unsafe { mapper.clean_up(frames) };
+    x86_64::instructions::tlb::flush_all();
+}
+
+/// Maps a page by the mapper that reaches the tables through the root's entry for itself.
+fn recursive(mapper: &mut OffsetPageTable, frames: &mut Frames) {
+    const INDEX: usize = 510;
+    let (root, flags) = (Cr3::read().0, Flags::PRESENT | Flags::WRITABLE | Flags::NO_EXECUTE);
+    mapper.level_4_table_mut()[INDEX].set_frame(root, flags);
+    // SAFETY: the root is at its window now, the page with the index 510 four times. The other mapper isn't used until this one is gone.
+    let table: &mut PageTable = unsafe { &mut *VirtAddr::new(0xffff_ff7f_bfdf_e000).as_mut_ptr() };
+    println!("outside a window: {:?}", RecursivePageTable::new(&mut PageTable::new()).err());
+    let mut windows = RecursivePageTable::new(table).expect("the table is in use, and at its window");
+    let page = Page::containing_address(FIRST);
+    let frame = frames.allocate_frame().expect("no memory is left");
+    let mut kept = [None; 2];
+    for turn in 0..2 {
+        // SAFETY: nothing uses the page or the frame.
+        unsafe { windows.map_to(page, frame, Flags::PRESENT | Flags::WRITABLE, frames) }.expect("map_to failed").flush();
+        println!("{FIRST:#x} is mapped through windows to {:?}", windows.translate_addr(FIRST));
+        // SAFETY: the page was mapped above, to a frame that nothing else uses.
+        unsafe { FIRST.as_mut_ptr::<u64>().write_volatile(0xfee1_600d + turn) };
+        // SAFETY: the page and DIRECT lead to the same frame.
+        println!("  at DIRECT: {:#x}", unsafe { *(DIRECT + frame.start_address().as_u64()).as_ptr::<u64>() });
+        windows.unmap(page).expect("unmap failed").1.flush();
+        // SAFETY: nothing else leads to the tables, and this mapper flushes everything. The next tables are in other frames.
+        unsafe { windows.clean_up(frames) };
+        kept[turn as usize] = frames.allocate_frame();
+    }
+    for frame in [Some(frame)].iter().chain(&kept).flatten() {
+        // SAFETY: no page shows the frame any more.
+        unsafe { frames.deallocate_frame(*frame) };
+    }
+    mapper.level_4_table_mut()[INDEX].set_unused();
+    x86_64::instructions::tlb::flush_all();
+    println!("cleaned up: {} frames are free", frames.free);
 }
 
 /// Reads at an address, or writes a value there. Prints where this arrives, or with which error code it faults, and compares this with
@@ -99,7 +150,7 @@ fn large_page(mapper: &mut OffsetPageTable, frames: &mut Frames) {
 fn touch(mapper: &OffsetPageTable, address: VirtAddr, written: Option<u64>) {
     let kind = if written.is_some() { AccessKind::Write } else { AccessKind::Read };
     let controls = Controls { write_protect: true, no_execute: true, smep: false, smap: false, ac: false, physical_bits: 40 };
-    let said = access(mapper.memory(), &IdentityMapping, mapper.root(), address, Access { kind, user: false }, &controls);
+    let said = mapper.access(address, Access { kind, user: false }, &controls);
     match (said, machine::access(address, written)) {
         (Ok(at), Ok(())) => println!("  {kind:?} at {address:#x}: arrives at {at:#x}"),
         (Err(Fault::PageFault { code, .. }), Err(found)) if code == found => {

@@ -2,13 +2,14 @@
 
 use crate::machine::Region;
 use core::fmt::Debug;
-use x86_64::kernel::OffsetPageTable;
 use x86_64::registers::control::{Cr3, Cr3Flags};
-use x86_64::structures::paging::mapper::FrameSink;
+use x86_64::structures::paging::mapper::RangeMapper;
 use x86_64::structures::paging::{
-    FrameAllocator, FrameDeallocator, Mapper, Page, PageSize, PageTable, PageTableFlags as Flags, PhysFrame, Size2MiB, Size4KiB,
+    FrameAllocator, FrameDeallocator, OffsetPageTable, Page, PageSize, PageTable, PageTableFlags as Flags, PhysFrame, Size2MiB,
+    Size4KiB,
 };
 use x86_64::{PhysAddr, VirtAddr};
+use x86_64_paging::kernel as x86_64;
 
 /// All physical memory is mapped from here on.
 pub const DIRECT: VirtAddr = VirtAddr::new(0xffff_8000_0000_0000);
@@ -57,7 +58,8 @@ fn next_of(frame: PhysFrame) -> *mut Option<PhysFrame> {
     (DIRECT + frame.start_address().as_u64()).as_mut_ptr()
 }
 
-impl FrameAllocator<Size4KiB> for Frames {
+// SAFETY: a frame is in `unused` or in the list, until it is handed out.
+unsafe impl FrameAllocator<Size4KiB> for Frames {
     fn allocate_frame(&mut self) -> Option<PhysFrame> {
         if let Some(frame) = self.freed {
             // SAFETY: `deallocate_frame` has written this.
@@ -70,20 +72,11 @@ impl FrameAllocator<Size4KiB> for Frames {
 }
 
 impl FrameDeallocator<Size4KiB> for Frames {
-    fn deallocate_frame(&mut self, frame: PhysFrame) {
-        // SAFETY: the frame is free from now on.
+    unsafe fn deallocate_frame(&mut self, frame: PhysFrame) {
+        // SAFETY: the frame is free from now on, and mapped at `DIRECT`.
         unsafe { *next_of(frame) = self.freed };
         self.freed = Some(frame);
         self.free += 1;
-    }
-}
-
-/// Frames of unmapped pages are free.
-impl FrameSink for Frames {
-    fn take<S: PageSize>(&mut self, frame: PhysFrame<S>) {
-        for k in 0..S::SIZE / Size4KiB::SIZE {
-            self.deallocate_frame(PhysFrame::containing_address(frame.start_address() + k * Size4KiB::SIZE));
-        }
     }
 }
 
@@ -126,5 +119,8 @@ fn map_kernel<S: PageSize + Debug>(
 ) {
     let (page, frame) = (Page::<S>::containing_address(start), PhysFrame::containing_address(to));
     let (flags, parent_flags) = (Flags::PRESENT | flags, Flags::PRESENT | Flags::WRITABLE);
-    mapper.map_range(page, size.div_ceil(S::SIZE), frame, flags, parent_flags, frames).expect("map_range failed").ignore();
+    // SAFETY: no processor uses the tables, and later code uses the pages as the kernel does now.
+    unsafe { mapper.map_range(page, size.div_ceil(S::SIZE), frame, flags, parent_flags, frames) }
+        .expect("map_range failed")
+        .ignore();
 }

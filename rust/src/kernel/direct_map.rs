@@ -1,0 +1,106 @@
+//! The physical memory that a kernel has mapped from one virtual address on.
+
+use crate::tables::page_table::PageTable;
+use crate::tables::phys_memory::{FramePlace, TableMemory};
+use core::marker::PhantomData;
+
+/// The physical memory that a kernel maps from one address on: the frame with number `n` lies at the offset `4096 * n`.
+///
+/// It has places for the frames of some ranges of numbers, in increasing order. A frame beside them is never accessed.
+///
+/// Over this memory, tables are data: safe calls of [`structures::paging`](crate::structures::paging) change them, for example those of
+/// an address space that no processor uses yet. For tables in use there are the mappers of [`kernel`](super).
+pub struct DirectMap<'a> {
+    start: *mut PageTable,
+    // the first range, which is tried first
+    first: u64,
+    count: u64,
+    ranges: &'a [(u64, u64)],
+    tables: PhantomData<&'a mut PageTable>,
+}
+
+// SAFETY: it stands for an exclusive loan of its memory, which may go to another thread.
+unsafe impl Send for DirectMap<'_> {}
+
+impl<'a> DirectMap<'a> {
+    /// Creates the memory behind the direct map at an address. Each range has the number of its first frame and that behind its
+    /// last frame. The ranges are ascending, and no two of them meet.
+    ///
+    /// # Safety
+    ///
+    /// Each frame in the ranges is mapped at its offset, readable and writable, as long as the memory lives, and no other code reads or
+    /// writes it meanwhile. Nor does a processor walk it as a table, or else the caller keeps the memory and its mappers to itself: each
+    /// call that changes a table over them counts as part of the caller's unsafe block, with what
+    /// [`Mapper`](super::structures::paging::Mapper) asks for.
+    #[inline]
+    pub const unsafe fn new(start: *mut PageTable, ranges: &'a [(u64, u64)]) -> DirectMap<'a> {
+        let (first, end) = if ranges.is_empty() { (0, 0) } else { ranges[0] };
+        DirectMap { start, first, count: end - first, ranges, tables: PhantomData }
+    }
+
+    #[inline]
+    fn has(&self, number: u64) -> bool {
+        number.wrapping_sub(self.first) < self.count || self.is_in_another_range(number)
+    }
+
+    #[cold]
+    fn is_in_another_range(&self, number: u64) -> bool {
+        self.ranges.iter().any(|(first, end)| *first <= number && number < *end)
+    }
+}
+
+impl TableMemory for DirectMap<'_> {
+    fn len(&self) -> usize {
+        self.ranges.iter().map(|(first, end)| (end - first) as usize).sum()
+    }
+
+    fn place_at(&self, n: usize) -> Option<FramePlace> {
+        let mut left = n as u64;
+        for (first, end) in self.ranges {
+            if left < end - first {
+                return Some(FramePlace::new(first + left));
+            }
+            left -= end - first;
+        }
+        None
+    }
+
+    fn index_of(&self, place: FramePlace) -> Option<usize> {
+        let mut before = 0;
+        for (first, end) in self.ranges {
+            if *first <= place.number() && place.number() < *end {
+                return Some((before + place.number() - first) as usize);
+            }
+            before += end - first;
+        }
+        None
+    }
+
+    #[inline]
+    fn table(&self, place: FramePlace) -> Option<&PageTable> {
+        // SAFETY: the frame is in a range, so it is mapped (`new`).
+        self.has(place.number()).then(|| unsafe { &*self.start.add(place.number() as usize) })
+    }
+
+    #[inline]
+    fn table_mut(&mut self, place: FramePlace) -> Option<&mut PageTable> {
+        // SAFETY: the frame is in a range, so it is mapped (`new`), and the memory is borrowed mutably.
+        self.has(place.number()).then(|| unsafe { &mut *self.start.add(place.number() as usize) })
+    }
+
+    #[inline]
+    fn table_at(&self, place: FramePlace) -> &PageTable {
+        match self.table(place) {
+            Some(table) => table,
+            None => panic!("a page table outside the memory"),
+        }
+    }
+
+    #[inline]
+    fn table_at_mut(&mut self, place: FramePlace) -> &mut PageTable {
+        match self.table_mut(place) {
+            Some(table) => table,
+            None => panic!("a page table outside the memory"),
+        }
+    }
+}

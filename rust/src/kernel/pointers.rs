@@ -1,0 +1,307 @@
+//! Mappers that reach tables at the pointers of their frames.
+
+use super::frame_alloc::{FrameAllocator, FrameDeallocator, Removed, Supply};
+use super::mapper::{forward_calls, CleanUp, Mapper, RangeMapper, Sink, Translate};
+use crate::access::{access, Access, Controls, Fault};
+use crate::addresses::addr::{PhysAddr, VirtAddrIn};
+use crate::addresses::index::PageTableIndex;
+use crate::addresses::level_count::{FiveLevels, FourLevels, LevelCount};
+use crate::mappers::calls::{self, MapRangeErrorIn, TableAccess};
+use crate::pages::frame::PhysFrame;
+use crate::pages::page::{PageIn, PageSize, Size4KiB};
+use crate::pages::range::BlockRangeInclusive;
+use crate::tables::mapper::{
+    FlagUpdateError, MapToError, MapperFlushAll, MapperFlushIn, MapperFlushRangeIn, Tables, TablesIn, TranslateError,
+    TranslateResult, UnmapError,
+};
+use crate::tables::page_table::{PageTable, PageTableFlags};
+use crate::tables::phys_memory::{FramePlace, IdentityMapping, TableMemory};
+use core::arch::asm;
+use core::fmt;
+use core::marker::PhantomData;
+
+/// Says where the tables in frames are.
+///
+/// # Safety
+///
+/// For each frame that a mapper with this asks for, `frame_to_pointer` returns where the frame is mapped, readable and writable.
+pub unsafe trait PageTableFrameMapping {
+    /// Returns a pointer to the table in a frame.
+    fn frame_to_pointer(&self, frame: PhysFrame) -> *mut PageTable;
+}
+
+// SAFETY: it is the one that is borrowed.
+unsafe impl<P: PageTableFrameMapping + ?Sized> PageTableFrameMapping for &P {
+    #[inline]
+    fn frame_to_pointer(&self, frame: PhysFrame) -> *mut PageTable {
+        (**self).frame_to_pointer(frame)
+    }
+}
+
+/// The frame that stands for that of the root, whose address isn't known: the last one, which no entry names.
+const ROOT: u64 = (1 << 40) - 1;
+
+/// The tables of a hierarchy, for the proved code. It is private, so its calls, which are safe functions, are for this module alone.
+struct Pointers<'a, P> {
+    root: &'a mut PageTable,
+    mapping: P,
+}
+
+impl<P> Tables for Pointers<'_, P> {
+    #[inline]
+    fn recursive_index(&self) -> Option<PageTableIndex> {
+        None
+    }
+}
+
+impl<P, L: LevelCount> TablesIn<L> for Pointers<'_, P> {}
+
+impl<P: PageTableFrameMapping> TableAccess for Pointers<'_, P> {
+    #[inline]
+    fn root(&self) -> PhysFrame {
+        PhysFrame::from_pfn(ROOT)
+    }
+
+    #[inline]
+    fn new_table_flags(&self) -> PageTableFlags {
+        PageTableFlags::empty()
+    }
+
+    #[inline]
+    fn table(&self, path: &[PageTableIndex], frame: PhysFrame) -> &PageTable {
+        if path.is_empty() {
+            return self.root;
+        }
+        // SAFETY: an entry of a table names the frame, so its table is at this pointer, and is borrowed with the mapper (`new`).
+        unsafe { &*self.mapping.frame_to_pointer(frame) }
+    }
+
+    #[inline]
+    fn table_mut(&mut self, path: &[PageTableIndex], frame: PhysFrame) -> &mut PageTable {
+        if path.is_empty() {
+            return self.root;
+        }
+        // SAFETY: as above, and the mapper is borrowed mutably.
+        unsafe { &mut *self.mapping.frame_to_pointer(frame) }
+    }
+
+    #[inline]
+    fn clear_unnamed(&mut self, frame: PhysFrame) -> bool {
+        // SAFETY: an allocator has handed the frame out for a table, so nothing else uses it. The second does nothing, but the compiler
+        // doesn't know this. So the table is cleared before the entry is written by which a processor finds it.
+        unsafe {
+            (*self.mapping.frame_to_pointer(frame)).zero();
+            asm!("", options(nostack, preserves_flags));
+        }
+        true
+    }
+}
+
+/// Lists and accesses read the tables by their frames.
+impl<P: PageTableFrameMapping> TableMemory for Pointers<'_, P> {
+    fn len(&self) -> usize {
+        1 << 40
+    }
+
+    fn place_at(&self, n: usize) -> Option<FramePlace> {
+        (n < self.len()).then(|| FramePlace::new(n as u64))
+    }
+
+    fn index_of(&self, place: FramePlace) -> Option<usize> {
+        Some(place.number() as usize)
+    }
+
+    #[inline]
+    fn table(&self, place: FramePlace) -> Option<&PageTable> {
+        Some(self.table_at(place))
+    }
+
+    #[inline]
+    fn table_mut(&mut self, place: FramePlace) -> Option<&mut PageTable> {
+        Some(self.table_at_mut(place))
+    }
+
+    #[inline]
+    fn table_at(&self, place: FramePlace) -> &PageTable {
+        if place.number() == ROOT {
+            return self.root;
+        }
+        // SAFETY: as for `TableAccess::table`.
+        unsafe { &*self.mapping.frame_to_pointer(PhysFrame::from_pfn(place.number())) }
+    }
+
+    #[inline]
+    fn table_at_mut(&mut self, place: FramePlace) -> &mut PageTable {
+        if place.number() == ROOT {
+            return self.root;
+        }
+        // SAFETY: as for `TableAccess::table_mut`.
+        unsafe { &mut *self.mapping.frame_to_pointer(PhysFrame::from_pfn(place.number())) }
+    }
+}
+
+/// Implements what both mappers have beside the calls.
+macro_rules! methods {
+    ([$($generics:tt)*] $In:ty, $Four:ty, $Five:ty, $name:literal) => {
+        impl<$($generics)*, L: LevelCount> $In {
+            /// Returns what a processor does with an access, as [`access`](crate::access::access) does. The crate `x86_64` doesn't have it.
+            ///
+            /// # Errors
+            ///
+            /// The fault that the processor raises.
+            pub fn access(&self, addr: VirtAddrIn<L>, request: Access, controls: &Controls) -> Result<PhysAddr, Fault> {
+                access(&self.tables, &IdentityMapping, self.tables.root(), addr, request, controls)
+            }
+
+            /// Lists what is mapped from an address on, as [`mappings_from`](crate::mappings_from) does. The crate `x86_64` doesn't have it.
+            pub fn mappings_from(&self, addr: VirtAddrIn<L>) -> impl Iterator<Item = crate::MappingIn<L>> + '_ {
+                crate::mappings_from(&self.tables, &IdentityMapping, self.tables.root(), addr)
+            }
+        }
+
+        impl<$($generics)*> $Four {
+            /// Returns the table of level four.
+            #[inline]
+            pub fn level_4_table(&self) -> &PageTable {
+                self.tables.root
+            }
+
+            /// Lends the table of level four, to be changed. The hierarchy must be valid again when the mapper is used next.
+            #[inline]
+            pub fn level_4_table_mut(&mut self) -> &mut PageTable {
+                self.tables.root
+            }
+
+            /// Lists the regions that are mapped alike, as [`regions`](crate::regions) does. The crate `x86_64` doesn't have it.
+            pub fn regions(&self) -> impl Iterator<Item = crate::Region> + '_ {
+                crate::regions(&self.tables, &IdentityMapping, self.tables.root())
+            }
+        }
+
+        impl<$($generics)*> $Five {
+            /// Returns the table of level five.
+            #[inline]
+            pub fn level_5_table(&self) -> &PageTable {
+                self.tables.root
+            }
+
+            /// Lends the table of level five, to be changed. The hierarchy must be valid again when the mapper is used next.
+            #[inline]
+            pub fn level_5_table_mut(&mut self) -> &mut PageTable {
+                self.tables.root
+            }
+
+            /// Lists the regions that are mapped alike, as [`regions_57`](crate::regions_57) does.
+            pub fn regions(&self) -> impl Iterator<Item = crate::Region57> + '_ {
+                crate::regions_57(&self.tables, &IdentityMapping, self.tables.root())
+            }
+
+            /// Gives the entry of level five on the path to a page these flags.
+            ///
+            /// # Errors
+            ///
+            /// `PageNotMapped` if it isn't used.
+            ///
+            /// # Safety
+            ///
+            /// As for [`set_flags_p4_entry`](Mapper::set_flags_p4_entry).
+            pub unsafe fn set_flags_p5_entry<S: PageSize>(
+                &mut self,
+                page: PageIn<S, FiveLevels>,
+                flags: PageTableFlags,
+            ) -> Result<MapperFlushAll, FlagUpdateError> {
+                calls::set_table_flags(&mut self.tables, page, 5, flags)
+            }
+        }
+
+        impl<$($generics)*, L: LevelCount> fmt::Debug for $In {
+            fn fmt(&self, f: &mut fmt::Formatter<'_>) -> fmt::Result {
+                f.debug_struct($name).finish_non_exhaustive()
+            }
+        }
+    };
+}
+
+/// A mapper for `L` levels of tables, which it reaches by a mapping of frames to pointers.
+pub struct MappedPageTableIn<'a, P: PageTableFrameMapping, L: LevelCount> {
+    tables: Pointers<'a, P>,
+    levels: PhantomData<L>,
+}
+
+/// A mapper for four levels of tables, which it reaches by a mapping of frames to pointers.
+pub type MappedPageTable<'a, P> = MappedPageTableIn<'a, P, FourLevels>;
+
+/// A mapper for five levels of tables, which it reaches by a mapping of frames to pointers.
+pub type MappedPageTable57<'a, P> = MappedPageTableIn<'a, P, FiveLevels>;
+
+impl<'a, P: PageTableFrameMapping, L: LevelCount> MappedPageTableIn<'a, P, L> {
+    /// Creates a mapper for the hierarchy with this root, the table of level four or five.
+    ///
+    /// # Safety
+    ///
+    /// - The mapping returns the pointer to each table below the root, and to each frame that an allocator hands out, as long as the
+    ///   mapper lives.
+    /// - The hierarchy is valid: no two entries name one table, none names the root, and entries above level one that aren't 0 name
+    ///   tables or, at levels three and two, map huge pages.
+    /// - Nothing else reads or writes its tables meanwhile but processors that walk them.
+    /// - The mapper isn't lent mutably to code that isn't to be trusted with the address space: there are safe methods that take pages
+    ///   away ([`unmap`](Mapper::unmap)) or lend the root's table (`level_4_table_mut`), as in the crate `x86_64`.
+    #[inline]
+    pub unsafe fn new(root: &'a mut PageTable, page_table_frame_mapping: P) -> Self {
+        MappedPageTableIn { tables: Pointers { root, mapping: page_table_frame_mapping }, levels: PhantomData }
+    }
+
+    /// Returns the mapping.
+    #[inline]
+    pub fn page_table_frame_mapping(&self) -> &P {
+        &self.tables.mapping
+    }
+}
+
+methods! { ['a, P: PageTableFrameMapping] MappedPageTableIn<'a, P, L>, MappedPageTable<'a, P>, MappedPageTable57<'a, P>, "MappedPageTable" }
+forward_calls! { ['a, P: PageTableFrameMapping, L: LevelCount] MappedPageTableIn<'a, P, L>, L, tables, {} }
+
+/// All physical memory, mapped from one virtual address on.
+struct PhysOffset<L: LevelCount>(VirtAddrIn<L>);
+
+// SAFETY: all physical memory is mapped at the offset (`OffsetPageTableIn::new`).
+unsafe impl<L: LevelCount> PageTableFrameMapping for PhysOffset<L> {
+    #[inline]
+    fn frame_to_pointer(&self, frame: PhysFrame) -> *mut PageTable {
+        self.0.as_u64().wrapping_add(frame.start_address().as_u64()) as *mut PageTable
+    }
+}
+
+/// A mapper for `L` levels of tables, in physical memory that is mapped as a whole at an offset.
+pub struct OffsetPageTableIn<'a, L: LevelCount> {
+    tables: Pointers<'a, PhysOffset<L>>,
+}
+
+/// A mapper for four levels of tables, in physical memory that is mapped as a whole at an offset.
+pub type OffsetPageTable<'a> = OffsetPageTableIn<'a, FourLevels>;
+
+/// A mapper for five levels of tables, in physical memory that is mapped as a whole at an offset.
+pub type OffsetPageTable57<'a> = OffsetPageTableIn<'a, FiveLevels>;
+
+impl<'a, L: LevelCount> OffsetPageTableIn<'a, L> {
+    /// Creates a mapper for the hierarchy with this root, the table of level four or five, in the memory that is mapped at an offset.
+    ///
+    /// # Safety
+    ///
+    /// - All physical memory is mapped at the offset, readable and writable, as long as the mapper lives.
+    /// - The hierarchy is valid, nothing else reads or writes its tables, and the mapper isn't lent to code that isn't to be trusted with
+    ///   the address space, as [`MappedPageTable::new`](MappedPageTableIn::new) says.
+    #[inline]
+    pub unsafe fn new(root: &'a mut PageTable, phys_offset: VirtAddrIn<L>) -> Self {
+        OffsetPageTableIn { tables: Pointers { root, mapping: PhysOffset(phys_offset) } }
+    }
+
+    /// Returns the offset.
+    #[inline]
+    pub fn phys_offset(&self) -> VirtAddrIn<L> {
+        self.tables.mapping.0
+    }
+}
+
+methods! { ['a] OffsetPageTableIn<'a, L>, OffsetPageTable<'a>, OffsetPageTable57<'a>, "OffsetPageTable" }
+forward_calls! { ['a, L: LevelCount] OffsetPageTableIn<'a, L>, L, tables, {} }

@@ -1,0 +1,145 @@
+//! The mapper that reaches the tables in use through the root's entry for itself.
+
+use super::frame_alloc::{FrameAllocator, FrameDeallocator, Removed, Supply};
+use super::mapper::{forward_calls, CleanUp, Mapper, RangeMapper, Sink, Translate};
+use crate::addresses::addr::{PhysAddr, VirtAddr, VirtAddrIn};
+use crate::addresses::index::PageTableIndex;
+use crate::addresses::level_count::FourLevels;
+use crate::instructions::tlb;
+use crate::mappers::calls::{self, MapRangeErrorIn};
+use crate::mappers::recursive_page_table::{InvalidPageTable, Recursive, WalkedTables};
+use crate::pages::frame::PhysFrame;
+use crate::pages::page::{PageIn, PageSize, Size4KiB};
+use crate::pages::range::BlockRangeInclusive;
+use crate::registers::control::Cr3;
+use crate::tables::mapper::{
+    FlagUpdateError, MapToError, MapperFlushAll, MapperFlushIn, MapperFlushRangeIn, TranslateError, TranslateResult, UnmapError,
+};
+use crate::tables::page_table::{PageTable, PageTableFlags};
+use core::arch::asm;
+use core::fmt;
+use core::marker::PhantomData;
+
+/// The tables that the processor reaches, each at its window, for the proved code.
+struct Windows<'a> {
+    root: PhysFrame,
+    table: PhantomData<&'a mut PageTable>,
+}
+
+/// Returns the address of a table, by a position: an address that is counted without the gap between the halves.
+#[inline]
+fn pointer(position: u64) -> *mut PageTable {
+    let mut address = VirtAddr::new_truncate(position).as_u64();
+    // SAFETY: it does nothing, but the compiler doesn't know this. So what was written before is written now: it may be the entry by
+    // which the table is here.
+    unsafe { asm!("/* {} */", inout(reg) address, options(nostack, preserves_flags)) };
+    address as *mut PageTable
+}
+
+impl WalkedTables<FourLevels> for Windows<'_> {
+    #[inline]
+    fn cr3(&self) -> PhysFrame {
+        self.root
+    }
+
+    fn self_entry(&self, _index: PageTableIndex) -> bool {
+        // `new` and `new_unchecked` have seen to it.
+        true
+    }
+
+    #[inline]
+    fn table(&self, position: u64) -> Option<&PageTable> {
+        // SAFETY: the position is that of the window of a table that entries lead to. The processor follows these entries as well, so
+        // the table is there, and is borrowed with the mapper.
+        Some(unsafe { &*pointer(position) })
+    }
+
+    #[inline]
+    fn table_mut(&mut self, position: u64) -> Option<&mut PageTable> {
+        // SAFETY: as above, and the mapper is borrowed mutably.
+        Some(unsafe { &mut *pointer(position) })
+    }
+}
+
+/// A mapper for the four levels of tables that the processor uses, which reaches each at its window: the page whose walk goes through
+/// the root's entry for itself, the recursive entry.
+///
+/// The entry of a new table gets `PRESENT` and `WRITABLE` in addition to the parent flags, since the table can be reached only so. It is
+/// cleared after that. So the processor may walk a table with the words that the allocator left in its frame, until it is cleared: where
+/// this matters, frames are cleared before they are handed out.
+///
+/// Clean ups, and changes to pages of 2 MiB and 1 GiB, flush everything from the TLB of this processor, so that later calls find the tables
+/// at their windows. In the crate `x86_64` this is left to the kernel. After a `set_flags_..` call the kernel flushes everything.
+pub struct RecursivePageTable<'a> {
+    tables: Recursive<Windows<'a>, FourLevels>,
+}
+
+impl<'a> RecursivePageTable<'a> {
+    /// Creates a mapper, given the table of level four at its window.
+    ///
+    /// It is a safe function, as in the crate `x86_64`. So whoever creates the reference, by unsafe code, sees to what
+    /// [`new_unchecked`](Self::new_unchecked) asks for, as far as it isn't tested here.
+    ///
+    /// # Errors
+    ///
+    /// - `NotRecursive` if the four indices of the reference's address aren't equal.
+    /// - `NotActive` if the table's entry at this index doesn't name the frame in CR3.
+    #[inline]
+    pub fn new(table: &'a mut PageTable) -> Result<Self, InvalidPageTable> {
+        let address = VirtAddr::from_ptr(table);
+        let index = address.p4_index();
+        if address.p3_index() != index || address.p2_index() != index || address.p1_index() != index {
+            return Err(InvalidPageTable::NotRecursive);
+        }
+        if table[index].frame() != Ok(Cr3::read().0) {
+            return Err(InvalidPageTable::NotActive);
+        }
+        // SAFETY: it is tested that the table is the root of those in use, at the window of this index. As for the rest, the reference
+        // stands for it.
+        Ok(unsafe { Self::new_unchecked(table, index) })
+    }
+
+    /// Creates a mapper, given the table of level four at its window, and the index of its recursive entry.
+    ///
+    /// # Safety
+    ///
+    /// - The processor uses the hierarchy with this root, as long as the mapper lives, and the root's entry at the index names it.
+    /// - This entry and all others that name tables have `PRESENT` and `WRITABLE`. Other mappers make tables without `WRITABLE`, if the
+    ///   flags lack it; through the window of such a table nothing can be written.
+    /// - The hierarchy is valid but for this entry: no two others name one table, none names the root, and entries above level one that
+    ///   aren't 0 name tables or, at levels three and two, map huge pages.
+    /// - Nothing else reads or writes its tables meanwhile but processors that walk them.
+    /// - The mapper isn't lent mutably to code that isn't to be trusted with the address space, as
+    ///   [`MappedPageTable::new`](super::structures::paging::mapper::MappedPageTableIn::new) says.
+    /// - The index isn't 511, since the last byte of the address space is in no Rust object.
+    #[inline]
+    pub unsafe fn new_unchecked(table: &'a mut PageTable, recursive_index: PageTableIndex) -> Self {
+        let root = PhysFrame::containing_address(table[recursive_index].addr());
+        let windows = Windows { root, table: PhantomData };
+        // The tables are reached by numbers from here on.
+        (table as *mut PageTable).expose_provenance();
+        RecursivePageTable { tables: Recursive::new_unchecked(windows, recursive_index) }
+    }
+
+    /// Returns the table of level four.
+    #[inline]
+    pub fn level_4_table(&self) -> &PageTable {
+        self.tables.level_4_table()
+    }
+
+    /// Lends the table of level four, to be changed. The hierarchy must be valid again when the mapper is used next.
+    #[inline]
+    pub fn level_4_table_mut(&mut self) -> &mut PageTable {
+        self.tables.level_4_table_mut()
+    }
+}
+
+impl fmt::Debug for RecursivePageTable<'_> {
+    fn fmt(&self, f: &mut fmt::Formatter<'_>) -> fmt::Result {
+        f.debug_struct("RecursivePageTable").finish_non_exhaustive()
+    }
+}
+
+// A window shows what was there until the TLB is flushed. So clean ups flush everything, and changes to huge pages, whose words a processor
+// may have taken for those of a table.
+forward_calls! { ['a] RecursivePageTable<'a>, FourLevels, tables, { tlb::flush_all() } }
