@@ -13,34 +13,31 @@ Comments that describe what is cut go with it. A last pass refuses any word of p
 """
 
 import pathlib
-import sys
 
 import rules
 from output import rust
 
 
-def sources(crate):
+def sources(crate, left_out=frozenset()):
     """Returns the files of a crate that aren't laws alone, and their places in the crate."""
     top = crate / "src"
+    if not top.is_dir():
+        raise SystemExit(f"{top}: no such crate")
     for path in sorted(top.rglob("*.rt")):
-        if not rules.LAW_MODULES & {path.stem, *path.parent.parts}:
+        if not any(name in rules.LAW_MODULES or name in left_out for name in (path.stem, *path.relative_to(top).parts)):
             yield path, path.relative_to(top).with_suffix(".rs")
 
 
-def erased(crates, programs=()):
-    """Returns the files of the Rust crate, by their places below src/. `programs` are more crates, for programs over std."""
-    rules.CRATES.update({crate: crate for crate in programs})
-    files, used = {}, set()
+def erased(crates):
+    """Returns the files of the Rust crate, by their places below src/."""
+    files = {}
     for crate, module in rules.CRATES.items():
         for path, place in sources(crates / crate):
-            text, names = rust(path, module)
-            used |= names
+            text = rust(path, module)
             if place.name == "lib.rs":
                 place = pathlib.Path("mod.rs" if module else "lib.rs")
-                text = text if module else rules.root(text, programs)
+                text = text if module else rules.root(text)
             files[pathlib.Path(module) / place] = text
-    if unknown := (set(rules.TESTS) | rules.CONST) - used:
-        raise SystemExit(f"rules for unknown functions: {sorted(unknown)}")
     return files
 
 
@@ -50,7 +47,3 @@ def write(files, out):
         target = out / place
         target.parent.mkdir(parents=True, exist_ok=True)
         target.write_text(text)
-
-
-if __name__ == "__main__":
-    write(erased(pathlib.Path(sys.argv[1]), sys.argv[3:]), pathlib.Path(sys.argv[2]))

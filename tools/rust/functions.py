@@ -1,6 +1,7 @@
 """Functions: their signatures, clauses and bodies."""
 
 import re
+from dataclasses import dataclass, field
 
 import rules
 from tokens import Tokens
@@ -8,6 +9,26 @@ from tokens import Tokens
 PROOF_ATTRIBUTES = {"tactic", "cycle"}
 MACROS = {"write", "matches", "unreachable", "prove", "prove_eq", "prove_ne", "bitflag_items", "format"}
 CLAUSES = ("requires", "ensures", "ghost")
+
+
+@dataclass
+class Function:
+    """A function, by the first tokens of its comments, behind its attributes, and of its own."""
+
+    head: int
+    start: int
+    fn: int
+    name: str
+    # the trait or type around it, and mod, impl or trait
+    owner: str
+    where: str
+    attributes: list
+    # the owner, or the file, and the name
+    path: str
+    is_public: bool = False
+    # where its parameters open
+    opening: int = 0
+    clauses: list = field(default_factory=list)
 
 
 class Functions(Tokens):
@@ -21,8 +42,8 @@ class Functions(Tokens):
         super().__init__(path)
         # whether the items around have type parameters
         self.generic = False
-        # the functions for which there was a rule
-        self.used = set()
+        # the laws that the file uses, whose calls are cut
+        self.laws = set()
 
     def function(self, head, start, i, owner, where, attributes):
         """Turns a function into Rust, and returns the token behind it. `head` is the first token of its comments, `start` the
@@ -31,62 +52,85 @@ class Functions(Tokens):
             if self.at(i) == "final":
                 self.new[i] = self.new[i + 1] = ""
             i = self.after(i)
-        fn, name = i, self.at(self.after(i))
-        i = self.after(self.after(i))
+        function = Function(head, start, i, self.at(self.after(i)), owner, where, attributes, f"{owner or self.path.stem}::")
+        function.path += function.name
+        function.is_public = self.plain(start, i).split(" ")[0] == "pub" or where == "trait" or " for " in owner
+        i = self.signature(function)
+        if self.at(i) == ";":
+            self.describe(function)
+            return i + 1
+        end = self.braces(i)
+        body = self.plain(i + 1, end - 1)
+        if not body and any(clause.startswith("ensures") for clause in function.clauses):
+            self.cut(head, end)  # a law
+        elif function.name == "clone" and "AllocError" in self.plain(function.fn, i):
+            if body != "Ok(*self)":
+                self.fail(function.fn, "a clone that does more than copy")
+            self.cut(function.fn, end, "fn clone(&self) -> Self {\n        *self\n    }")
+        else:
+            self.body(i + 1, end - 1, owner)
+            self.additions(function, i)
+            self.describe(function, self.is_inline(function, i, end))
+        return end
+
+    def signature(self, function):
+        """Turns a signature into Rust, cuts the clauses, and returns the token behind them."""
+        i = self.after(self.after(function.fn))
         if self.at(i) == "<":
             end = self.angle(i)
             self.generics(i, end, "Formatter<W>" in self.plain(end, self.partner[self.next(end)]))
             i = self.next(end)
         if self.at(i) != "(":
             self.fail(i, "parameters are wanted")
-        opening = i
+        function.opening = i
         self.parameters(i)
-        if where == "impl" and name in rules.RENAMED and "FlushRecorder" in self.plain(i, self.partner[i]):
-            self.new[self.after(fn)] = rules.RENAMED[name]
+        if function.where == "impl" and function.name in rules.RENAMED and "FlushRecorder" in self.plain(i, self.partner[i]):
+            self.new[self.after(function.fn)] = rules.RENAMED.apply(function.name)
         last = self.partner[i]
         i = self.after(last)
         while self.at(i) not in ("{", ";", *CLAUSES):
             last = self.partner[i] if self.at(i) in "([" else i
             i = self.after(last)
         first = i
-        i, clauses = self.clauses(i)
+        i, function.clauses = self.clauses(i)
         if first < i:
             self.cut(last + 1, i)
             self.new[last + 1] = " " if self.at(i) == "{" else ""
             for k in range(last + 2, i):
                 self.new[k] = ""
-        path = f"{owner or self.path.stem}::{name}"
-        is_public = self.plain(start, fn).split(" ")[0] == "pub" or where == "trait" or " for " in owner
-        if self.at(i) == ";":
-            self.describe(start, attributes, clauses, path, is_public)
-            return i + 1
-        end = self.braces(i)
-        body = self.plain(i + 1, end - 1)
-        if not body and any(clause.startswith("ensures") for clause in clauses):
-            self.cut(head, end)  # a law
-            return end
-        if name == "clone" and "AllocError" in self.plain(fn, i):
-            if body != "Ok(*self)":
-                self.fail(fn, "a clone that does more than copy")
-            self.cut(fn, end, "fn clone(&self) -> Self {\n        *self\n    }")
-            return end
-        self.body(i + 1, end - 1, owner)
-        const = "const " if self.at(self.before(fn)) == "const" else ""
-        if path in rules.CONST and not const:
-            self.used.add(path)
+        return i
+
+    def additions(self, function, i):
+        """Adds `const`, tests of conditions, and a twin without these, to a function whose body opens at i."""
+        const = "const " if self.at(self.before(function.fn)) == "const" else ""
+        if function.path in rules.CONST and not const:
+            rules.CONST.apply(function.path)
             const = "const "
-            self.new[fn] = "const fn"
-        if path in rules.TESTS:
-            self.used.add(path)
-            tests = "".join("\n" + " " * (8 if where in ("impl", "trait") else 4) + test for test in rules.TESTS[path])
-            self.new[i] = "{" + tests
-            if name == "new" and type_name(owner) in rules.UNTESTED or name in rules.UNTESTED_METHODS:
-                self.new[i] += self.twin(name, const, self.plain(opening, i))
-        has_types = self.generic or re.search(r"<(?!\'\w+>)", self.plain(fn, opening))
+            self.new[function.fn] = "const fn"
+        if function.path in rules.TESTS:
+            column = 8 if function.where in ("impl", "trait") else 4
+            tests = rules.TESTS.apply(function.path)
+            self.new[i] = "{" + "".join("\n" + " " * column + test for test in tests)
+            if self.has_twin(function):
+                self.new[i] += self.twin(function.name, const, self.plain(function.opening, i))
+
+    def has_twin(self, function):
+        """Returns whether proved code calls the function without its tests."""
+        if function.name in rules.UNTESTED_METHODS:
+            rules.UNTESTED_METHODS.apply(function.name)
+            return True
+        return function.name == "new" and type_name(function.owner) in rules.UNTESTED
+
+    def is_inline(self, function, i, end):
+        """Returns whether a function, whose body is from i to end - 1, gets `#[inline]`."""
         tokens = sum(self.kind[k] not in ("space", "comment") for k in range(i, end))
-        is_inline = tokens <= rules.MOST_INLINE and (not has_types or self.path.name in rules.INLINE_GENERIC)
-        self.describe(start, attributes, clauses, path, is_public, is_inline)
-        return end
+        if tokens > rules.MOST_INLINE:
+            return False
+        if not self.generic and not re.search(r"<(?!\'\w+>)", self.plain(function.fn, function.opening)):
+            return True
+        if self.path.name in rules.INLINE_GENERIC:
+            rules.INLINE_GENERIC.apply(self.path.name)
+        return self.path.name in rules.INLINE_GENERIC
 
     def clauses(self, i):
         """Cuts the clauses of a function, and returns the token behind them, and the clauses on one line each."""
@@ -127,6 +171,7 @@ class Functions(Tokens):
             elif self.text[k] in rules.UNSIZED and self.at(self.after(k)) in ("<", ",", "+", ">"):
                 last = self.angle(k + 1) - 1 if self.at(k + 1) == "<" else k
                 if self.at(self.after(last)) in (",", ">"):
+                    rules.UNSIZED.apply(self.text[k])
                     self.new[last] = self.text[last] + " + ?Sized"
 
     def parameters(self, i):
@@ -162,7 +207,7 @@ class Functions(Tokens):
                 self.macro(i - 1)
             elif self.is_call(i):
                 self.call(i, owner)
-            elif text in rules.LAW_CALLS:
+            elif text in rules.LAW_CALLS or text in self.laws:
                 self.law_call(i)
             elif text == "unsafe":
                 self.safe(i)
@@ -176,9 +221,10 @@ class Functions(Tokens):
     def allocator(self, i):
         """Cuts `*list.allocator()`, as an argument or with the statement that names it `alloc`."""
         first = i
-        while self.text[first] != "*":
+        while self.kind[first - 1] == "word" or self.text[first - 1] == ".":
             first -= 1
-        if not re.fullmatch(r"\*\w+(\.\w+)*\.allocator", "".join(self.text[first : i + 1])):
+        first -= 1
+        if self.text[first] != "*" or self.at(i + 1) != "(":
             self.fail(i, "unknown use of an allocator")
         stop = self.partner[i + 1] + 1
         if self.at(stop) in (",", ")"):
@@ -196,13 +242,16 @@ class Functions(Tokens):
         """Gives a method its name in Rust, and lets proved code call functions without tests."""
         name = self.text[i]
         if self.at(i - 1) == "." and name in rules.RENAMED and self.at(i + 2) != ")":
-            self.new[i] = rules.RENAMED[name]
+            self.new[i] = rules.RENAMED.apply(name)
         elif not self.is_library:
             return
         elif self.at(i - 1) == "." and name in rules.UNTESTED_METHODS:
             self.new[i] = f"{name}_proved"
-        elif self.at(i - 1) == "::" and name == "new" and self.type_before(i - 2, owner) in rules.UNTESTED:
-            self.new[i] = f"{name}_proved"
+        elif self.at(i - 1) == "::" and name == "new":
+            kind = self.type_before(i - 2, owner)
+            if kind in rules.UNTESTED:
+                rules.UNTESTED.apply(kind)
+                self.new[i] = f"{name}_proved"
 
     def macro(self, i):
         """Checks a call of a macro, and gives it its name in Rust."""
@@ -224,6 +273,8 @@ class Functions(Tokens):
             k = self.next(self.angle(self.after(k)))
         if self.at(k) != "(" or self.at(self.after(self.partner[k])) != ";":
             self.fail(i, "unknown call of a law")
+        if self.text[i] in rules.LAW_CALLS:
+            rules.LAW_CALLS.apply(self.text[i])
         self.cut(i, self.after(self.partner[k]) + 1)
 
     def safe(self, i):
@@ -231,6 +282,7 @@ class Functions(Tokens):
         brace = self.after(i)
         if self.at(self.after(brace)) not in rules.SAFE_HERE:
             self.fail(i, "unsafe code")
+        rules.SAFE_HERE.apply(self.at(self.after(brace)))
         close = self.partner[brace]
         for k in (*range(i, self.after(brace)), *range(self.before(close) + 1, close + 1)):
             self.new[k] = ""
@@ -245,16 +297,18 @@ class Functions(Tokens):
             i -= self.at(i) == "::"
         return type_name(owner) if self.at(i) == "Self" else self.at(i)
 
-    def describe(self, start, attributes, clauses, path, is_public, is_inline=False):
+    def describe(self, function, is_inline=False):
         """Adds sections on the contract and on the tests to a function's documentation, and `#[inline]`."""
         if not self.is_library:
             return
-        first = min([start, *(place for _, place, _ in attributes)])
+        first = min([function.start, *(place for _, place, _ in function.attributes)])
         above = first - 2 if first > 1 and self.kind[first - 1] == "space" else first - 1
-        lines = rules.documentation(path, clauses) if is_public and self.kind[above] == "comment" else []
-        if is_inline and not any(name in ("inline", "cold") for name, _, _ in attributes):
+        lines = []
+        if function.is_public and self.kind[above] == "comment":
+            lines = rules.documentation(function.path, function.clauses)
+        if is_inline and not any(name in ("inline", "cold") for name, _, _ in function.attributes):
             lines.append("#[inline]")
-        if lines and not path.startswith("Drop::"):
+        if lines and not function.path.startswith("Drop::"):
             column = "\n" + " " * (self.start[first] - self.source.rfind("\n", 0, self.start[first]) - 1)
             self.new[first] = column.join(lines) + column + self.new.get(first, self.text[first])
 

@@ -15,6 +15,8 @@ class Items(Functions):
     """A file whose items are turned into Rust. What is unknown ends the program."""
 
     attributes = ATTRIBUTES
+    # modules that are cut beside those of laws
+    left_out = frozenset()
 
     def items(self, i, end, where, owner=""):
         """Turns the items from i up to end into Rust. `where` is mod, impl, trait, struct or enum."""
@@ -101,6 +103,9 @@ class Items(Functions):
             self.items(i + 1, self.partner[i], "mod")
             return self.partner[i] + 1
         if name in rules.LAW_MODULES:
+            rules.LAW_MODULES.apply(name)
+            self.cut(head, i + 1)
+        elif name in self.left_out:
             self.cut(head, i + 1)
         return i + 1
 
@@ -186,12 +191,19 @@ class Items(Functions):
         self.items(i + 1, end - 1, word, name)
         self.generic = False
         is_bare = not self.code(i + 1, end - 1).strip()
-        if word == "trait" and is_bare and "ghost" in self.text[i:end] and name not in rules.MARKERS:
-            if name not in rules.GHOST_TRAITS:
-                self.fail(start, "a trait with ghost members alone: is it a marker?")
-            self.new[end - 1] = "}" + rules.GHOST_TRAITS[name]
+        if word == "trait" and is_bare and "ghost" in self.text[i:end]:
+            self.ghost_trait(start, name, end)
         if word == "impl" and " for " in name and name.split(" for ")[0].split("<")[0] in rules.GHOST_TRAITS:
             if not is_bare:
                 self.fail(start, "an impl of a ghost trait with a body")
             self.cut(head, end)
         return end
+
+    def ghost_trait(self, start, name, end):
+        """Adds an impl for all types to a trait that has ghost members alone, unless it is a marker."""
+        if name in rules.GHOST_TRAITS:
+            self.new[end - 1] = "}" + rules.GHOST_TRAITS.apply(name)
+        elif name in rules.MARKERS:
+            rules.MARKERS.apply(name)
+        else:
+            self.fail(start, "a trait with ghost members alone: is it a marker?")

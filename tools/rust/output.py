@@ -10,23 +10,30 @@ from tokens import CUT, TOKEN
 FORBIDDEN = {"ghost", "requires", "ensures", "decreases", "invariant", "Model", "tactic", "final", "prove", "derive_where"}
 
 
-def rust(path, module, kind=Items):
-    """Returns a Rattle file as Rust, which is in a module of the crate ('' for the top), and the names of the rules used."""
+def rust(path, module, kind=Items, crates=rules.CRATES):
+    """Returns a Rattle file as Rust, which is in a module of the crate ('' for the top). `crates` has the modules of crates."""
     file = kind(path)
     file.items(0, file.size, "mod")
-    text = tidied(file.edited(0, file.size))
-    for pattern, by in rules.REWRITES:
-        text = re.sub(pattern, by, text)
+    text = rewritten(tidied(file.edited(0, file.size)), rules.REWRITES)
     if any(word == "Vec" and kind == "word" and not file.new.get(n) for n, (word, kind) in enumerate(zip(file.text, file.kind))):
         text = with_use(text, "@crate::support::Vec")
     text = spaced(text)
     # crates are modules here, in links of the documentation too
     text = re.sub(r"(?<![\w:@])crate::", f"crate::{module}::" if module else "crate::", text)
-    for crate, place in rules.CRATES.items():
+    for crate, place in crates.items():
         text = re.sub(rf"(?<![\w:]){crate}::", f"crate::{place}::" if place else "crate::", text)
     text = text.replace("@crate::", "crate::")
     check(path, text)
-    return text.strip() + "\n", file.used
+    return text.strip() + "\n"
+
+
+def rewritten(text, rewrites):
+    """Returns a text with what patterns find replaced."""
+    for pattern, by in rewrites.items():
+        text, count = re.subn(pattern, by, text)
+        if count:
+            rewrites.apply(pattern)
+    return text
 
 
 def with_use(text, name):

@@ -2,7 +2,10 @@
 
 import re
 
-from conditions import TESTS
+import conditions
+from applied import Rules
+
+TESTS = Rules(conditions.TESTS)
 
 # The crates, and where they are in the Rust crate; '' is its top.
 CRATES = {
@@ -19,59 +22,63 @@ CRATES = {
 # Files of the Rust crate that are written by hand, and the folder of those below one of them.
 HAND_WRITTEN = {"kernel", *(f"{name}.rs" for name in ("bitflags", "conveniences", "instructions", "kernel", "registers", "support"))}
 
-# Modules of laws alone, and laws that other code calls.
-LAW_MODULES = {"laws"}
-LAW_CALLS = {"new_spaces_share", "spaces_are_given_up"}
+# Modules of laws alone, and laws that code calls without naming such a module.
+LAW_MODULES = Rules({"laws"})
+LAW_CALLS = Rules({"new_spaces_share", "spaces_are_given_up", "offset_has_the_tables_of_the_identity"})
 # Unsafe functions of std that stand for safe ones of `support`.
-SAFE_HERE = {"from_utf8_unchecked"}
+SAFE_HERE = Rules({"from_utf8_unchecked"})
 # Traits without methods, and those that have none but ghost members: each type has these.
-MARKERS = {"NotGiantPageSize", "TablesIn"}
-GHOST_TRAITS = {
-    "FrameKeeper": "\n\nimpl<S: PageSize, T: ?Sized> FrameKeeper<S> for T {}",
-    "FrameStore": "\n\nimpl<T: FrameAllocator<Size4KiB> + FrameDeallocator<Size4KiB> + ?Sized> FrameStore for T {}",
-}
+MARKERS = Rules({"NotGiantPageSize", "TablesIn"})
+GHOST_TRAITS = Rules(
+    {
+        "FrameKeeper": "\n\nimpl<S: PageSize, T: ?Sized> FrameKeeper<S> for T {}",
+        "FrameStore": "\n\nimpl<T: FrameAllocator<Size4KiB> + FrameDeallocator<Size4KiB> + ?Sized> FrameStore for T {}",
+    }
+)
 # Traits whose types may be unsized.
-UNSIZED = {"FrameAllocator", "FrameDeallocator", "FrameSink", "FrameStore", "TableAccess", "TablesIn", "Tables", "PageTables"}
+UNSIZED = Rules({"FrameAllocator", "FrameDeallocator", "FrameSink", "FrameStore", "TableAccess", "TablesIn", "Tables"})
 # Methods with another name, so that theirs are free for the instructions.
-RENAMED = {"flush": "record", "flush_all": "record"}
+RENAMED = Rules({"flush": "record", "flush_all": "record"})
 
 # Functions of constants, beside those that the sources say: Rattle takes no closure in one.
-CONST = {"PageTable::new"}
+CONST = Rules({"PageTable::new"})
 # Functions with a twin that tests nothing, which proved code calls in their place: `new` of types, and methods.
-UNTESTED = {"PhysAddr", "VirtAddrIn", "VirtAddr", "VirtAddr57", "PageTableIndex", "PageOffset"}
-UNTESTED_METHODS = {"set_addr", "set_frame"}
+UNTESTED = Rules({"PhysAddr", "VirtAddrIn", "PageTableIndex", "PageOffset"})
+UNTESTED_METHODS = Rules({"set_addr", "set_frame"})
 # The most tokens of a function with `#[inline]`, and the files whose functions with type parameters get it, too.
 MOST_INLINE = 60
-INLINE_GENERIC = {
+INLINE_GENERIC = Rules(
     f"{name}.rt"
-    for name in (
-        "access", "calls", "change", "entry", "find", "leaf", "lent_memory", "map", "mapped_page_table", "mapper", "mapper57", "page", "path",
-    )
-}
+    for name in ("access", "calls", "change", "find", "leaf", "map", "mapped_page_table", "mapper", "mapper57", "page", "path")
+)
 # Texts, and what they become.
-REWRITES = [
-    (r"\barray::from_fn\(\|_\| PageTableEntry::new\(\)\)", "[const { PageTableEntry::new() }; ENTRY_COUNT]"),
-    (r"#\[repr\(C\)\]\npub struct PageTable\b", "#[repr(C, align(4096))]\npub struct PageTable"),
-    (r"\bpub type (\w+)<S>", r"pub type \1<S = @crate::pages::page::Size4KiB>"),
-    (r"\[`flush(?:_all)?`\]\(Self::flush(?:_all)?\)", "[`record`](Self::record)"),
-    (r"\[`(\w+)`\]\(crate::laws::\w+\)", r"`\1`"),
-    (r"(?:fmt::)?Formatter<W>", "core::fmt::Formatter<'_>"),
-    (r"\bFmtResult\b|(?<!core::)\bfmt::Result\b", "core::fmt::Result"),
-    (r"::<S, W>", "::<S>"),
-]
+REWRITES = Rules(
+    {
+        r"\barray::from_fn\(\|_\| PageTableEntry::new\(\)\)": "[const { PageTableEntry::new() }; ENTRY_COUNT]",
+        r"#\[repr\(C\)\]\npub struct PageTable\b": "#[repr(C, align(4096))]\npub struct PageTable",
+        r"\bpub type (\w+)<S>": r"pub type \1<S = @crate::pages::page::Size4KiB>",
+        r"\[`flush(?:_all)?`\]\(Self::flush(?:_all)?\)": "[`record`](Self::record)",
+        r"\[`(\w+)`\]\(crate::laws::\w+\)": r"`\1`",
+        r"(?:fmt::)?Formatter<W>": "core::fmt::Formatter<'_>",
+        r"\bFmtResult\b|(?<!core::)\bfmt::Result\b": "core::fmt::Result",
+        r"::<S, W>": "::<S>",
+    }
+)
 
 # Names of std that are others in Rust; '' is none.
-STD = {
-    "std::marker::Model": "",
-    "std::alloc::Global": "",
-    "std::alloc::AllocError": "@crate::support::AllocError",
-    "std::collections::VecDeque": "@crate::support::VecDeque",
-    "std::collections::HashMap": "@crate::support::HashMap",
-    "std::str::from_utf8_unchecked": "@crate::support::from_utf8_unchecked",
-    "std::fmt::Formatter": "",
-    "std::fmt::Result": "",
-    "std::fmt::Write": "",
-}
+STD = Rules(
+    {
+        "std::marker::Model": "",
+        "std::alloc::Global": "",
+        "std::alloc::AllocError": "@crate::support::AllocError",
+        "std::collections::VecDeque": "@crate::support::VecDeque",
+        "std::collections::HashMap": "@crate::support::HashMap",
+        "std::str::from_utf8_unchecked": "@crate::support::from_utf8_unchecked",
+        "std::fmt::Formatter": "",
+        "std::fmt::Result": "",
+        "std::fmt::Write": "",
+    }
+)
 # Names of std that are in core, too; and those that are not, for programs.
 CORE = re.compile(
     r"std::(array|cmp::max|mem|fmt(::(Debug|Display))?|hash::Hash|marker::PhantomData|convert::Infallible"
@@ -90,13 +97,13 @@ def path_of(path):
         return path
     if CORE.fullmatch(path):
         return path.replace("std", "core", 1)
-    return STD.get(path)
+    return STD.apply(path) if path in STD else None
 
 
 def documentation(path, clauses):
     """Returns the sections of a function's documentation on its tests and its contract."""
     lines = []
-    if tests := TESTS.get(path):
+    if tests := TESTS.rules.get(path):
         when = "Panics" if any(test.startswith("assert") for test in tests) else "Panics, with debug assertions,"
         lines += ["", "# Panics", "", f"{when} if a condition doesn't hold. It is tested so:", ""]
         lines += ["```text", *(test.replace("@crate::", "") for test in tests), "```"]
@@ -149,16 +156,9 @@ pub mod support;
 #[doc = include_str!("../README.md")]
 struct Readme;
 """
-# What a program over std has in addition.
-FORMAT = """macro_rules! format_in {
-    ($($tokens:tt)*) => { Ok::<String, crate::support::AllocError>(format!($($tokens)*)) }
-}
-
-"""
 
 
-def root(text, programs):
-    """Returns the text of the root file, with more modules: crates of programs over std."""
+def root(text):
+    """Returns the text of the root file."""
     head = re.match(r"(//![^\n]*\n)*", text)[0]
-    inner = ROOT if not programs else ROOT.replace("#![no_std]\n", "") + FORMAT
-    return head + inner + text[len(head) :].lstrip() + MODULES + "".join(f"pub mod {name};\n" for name in programs)
+    return head + ROOT + text[len(head) :].lstrip() + MODULES

@@ -7,9 +7,10 @@ import pathlib
 import re
 
 import rules
+from applied import Rules
 from erase import sources
 from items import ATTRIBUTES, Items
-from output import rust, with_use
+from output import rewritten, rust, with_use
 
 CRATE = "x86_64_paging"
 # The crates of tests, each with those that it needs beside the library, and with the modules and crates that are left out.
@@ -18,11 +19,31 @@ TESTS = {
     "test_mappers": (["uses"], {"translate_in_dump"}),
     "test_runs": (["test_reference", "pagetab_engine"], set()),
 }
+# The crates of these that the example pagetab has, with their places.
+SHARED = {"pagetab_engine": "../../examples/pagetab/pagetab_engine/mod.rs"}
 # Tests that can't run: texts of std end the process where memory is refused.
-IGNORED = {"the_program_stops_at_each_block_that_is_refused"}
+IGNORED = Rules({"the_program_stops_at_each_block_that_is_refused"})
 # What stands for macros and crates of Rattle, written by hand.
 SUPPORT = "more/mod.rs"
-NO_NAMES = {"std::process::Abort", "std::alloc::Global"}
+# Names without a use in Rust.
+NO_NAMES = Rules({"std::process::Abort", "std::alloc::Global"})
+# Texts, and what they become.
+REWRITES = Rules(
+    {
+        r"use crate::support::Vec;": f"use crate::more::MoreOfVec;\nuse {CRATE}::support::Vec;",
+        # traits of all that a test is passed
+        r"(///[^\n]*\n)*pub trait Test[^{]*\{\}\n+impl<R[^{]*\{\}\n": "",
+        # no error of a failed allocation
+        r"\bunwrap\((\w+)\.clone\(\)\)": r"\1.clone()",
+        r"\bunwrap\((\w+\.push_str\(\w+\))\)": r"\1",
+        r"extend_from_slice\(buf\)\?": "extend_from_slice(buf).map_err(|_| io::ErrorKind::OutOfMemory)?",
+        # a tuple of one value, once the allocator is cut
+        r"let \((\w+),?\) = \((.*)\);": r"let \1 = \2;",
+        r"\.collect\(\)": ".collect_in()",
+    }
+)
+# Methods of traits, and their names.
+TRAITS = Rules({"String::from_str": "std::str::FromStr", ".collect_in()": "crate::more::CollectIn"})
 LIBRARY = {crate: f"{CRATE}::{module}".removesuffix("::") for crate, module in rules.CRATES.items()}
 
 
@@ -32,7 +53,6 @@ class TestItems(Items):
     is_library = False
     attributes = ATTRIBUTES | {"test", "cfg"}
     macros = Items.macros | {"assert", "assert_eq", "panic", "macro_rules"}
-    left_out = set()
 
     def __init__(self, path):
         super().__init__(path)
@@ -79,14 +99,16 @@ class TestItems(Items):
     def path_of(self, i, path):
         names = path.split("::")
         if "laws" in names:
-            rules.LAW_CALLS.add(names[-1])
+            self.laws.add(names[-1])
             return ""
-        if path in NO_NAMES or names[0] in self.left_out | {"x86_64_model"}:
+        if path in NO_NAMES:
+            return NO_NAMES.apply(path) or ""
+        if names[0] in self.left_out | {"x86_64_model"}:
             return ""
         if names[0] in ("rand_core", "rand_pcg", "test_support"):
             return f"crate::more::{names[-1]}"
         if path.startswith("std::"):
-            return rules.STD.get(path, path).replace("@crate", CRATE)
+            return (rules.STD.apply(path) if path in rules.STD else path).replace("@crate", CRATE)
         return path.replace("bitflags::", f"{CRATE}::bitflags::")
 
 
@@ -100,30 +122,23 @@ class ProgramItems(Items):
 
 
 def over_library(path, module, others, kind):
-    """Returns a file of a crate over the library as Rust."""
-    rules.CRATES = {crate: crate for crate in others}
-    text, _ = rust(path, module, kind)
+    """Returns a file of a crate over the library as Rust. `others` are the crates that become modules beside it."""
+    text = rust(path, module, kind, {crate: crate for crate in others})
     for crate, place in LIBRARY.items():
         text = re.sub(rf"(?<![\w:]){crate}::", f"{place}::", text)
     return text
 
 
-def translated(path, module, others, left_out):
+def translated(path, module, others, kind):
     """Returns a file of tests as Rust."""
-    TestItems.left_out = left_out
-    text = over_library(path, module, others, TestItems)
-    text = text.replace("use crate::support::Vec;", f"use crate::more::MoreOfVec;\nuse {CRATE}::support::Vec;")
-    text = re.sub(r"(///[^\n]*\n)*pub trait Test[^{]*\{\}\n+impl<R[^{]*\{\}\n", "", text)
-    text = re.sub(r"\bunwrap\((\w+)\.clone\(\)\)", r"\1.clone()", text)
-    text = re.sub(r"\bunwrap\((\w+\.push_str\(\w+\))\)", r"\1", text)
-    text = text.replace("extend_from_slice(buf)?", "extend_from_slice(buf).map_err(|_| io::ErrorKind::OutOfMemory)?")
-    for name in IGNORED:
-        text = text.replace(f"#[test]\nfn {name}(", f"#[test]\n#[ignore]\nfn {name}(")
-    if "String::from_str" in text:
-        text = with_use(text, "std::str::FromStr")
-    text = re.sub(r"let \((\w+),?\) = \((.*)\);", r"let \1 = \2;", text)
-    if ".collect()" in text:
-        text = with_use(text.replace(".collect()", ".collect_in()"), "crate::more::CollectIn")
+    text = rewritten(over_library(path, module, others, kind), REWRITES)
+    for name in IGNORED.rules:
+        if f"fn {name}(" in text:
+            IGNORED.apply(name)
+            text = text.replace(f"#[test]\nfn {name}(", f"#[test]\n#[ignore]\nfn {name}(")
+    for method, name in TRAITS.items():
+        if method in text:
+            text = with_use(text, TRAITS.apply(method))
     return text
 
 
@@ -131,16 +146,15 @@ def tests(crates):
     """Returns the files of all tests, by their places below tests/."""
     files = {}
     for name, (others, left_out) in TESTS.items():
-        rules.LAW_MODULES |= left_out
-        for crate in [name, *others]:
-            for path, place in sources(crates / crate):
-                text = translated(path, "" if crate == name else crate, others, left_out)
+        kind = type("Items", (TestItems,), {"left_out": left_out})
+        for crate in [name, *(crate for crate in others if crate not in SHARED)]:
+            for path, place in sources(crates / crate, left_out):
+                text = translated(path, "" if crate == name else crate, others, kind)
                 if place.name == "lib.rs":
                     place = pathlib.Path("main.rs" if crate == name else "mod.rs")
                 if place.name == "main.rs":
                     text = main_file(text, others)
                 files[pathlib.Path(name, *[crate] * (crate != name)) / place] = text
-        rules.LAW_MODULES -= left_out
     return files
 
 
@@ -157,6 +171,6 @@ def examples(crates):
 def main_file(text, others):
     """Returns the root file of tests."""
     head = re.match(r"(//![^\n]*\n)*", text)[0]
-    modules = "".join(f"mod {crate};\n" for crate in others)
+    modules = "".join((f'#[path = "{SHARED[crate]}"]\n' if crate in SHARED else "") + f"mod {crate};\n" for crate in others)
     allowed = "#![allow(dead_code, unused_imports, unused_parens, unused_variables)]"
     return f'{head}{allowed}\n\n#[macro_use]\n#[path = "../{SUPPORT}"]\nmod more;\n{modules}{text[len(head):]}'

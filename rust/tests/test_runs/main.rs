@@ -7,6 +7,7 @@
 #[macro_use]
 #[path = "../more/mod.rs"]
 mod more;
+#[path = "../../examples/pagetab/pagetab_engine/mod.rs"]
 mod pagetab_engine;
 mod test_reference;
 
