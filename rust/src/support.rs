@@ -20,9 +20,9 @@ impl core::fmt::Display for AllocError {
     }
 }
 
-/// Returns the text of bytes, which are proved to be one.
+/// Returns the text that bytes are. They are proved to be one, so this test of it never fails.
 #[inline]
-pub fn from_utf8_unchecked(bytes: &[u8]) -> &str {
+pub(crate) fn from_utf8_unchecked(bytes: &[u8]) -> &str {
     core::str::from_utf8(bytes).unwrap_or("")
 }
 
@@ -227,23 +227,35 @@ impl<T> VecDeque<T> {
     }
 }
 
-/// A map by keys: a `BTreeMap` of the crate `alloc`.
-pub struct HashMap<K, V>(collections::BTreeMap<K, V>);
+/// A map by keys: a `Vec` of the crate `alloc`, in the order of the keys.
+pub struct HashMap<K, V>(vec::Vec<(K, V)>);
 
 impl<K: Ord, V> HashMap<K, V> {
-    /// Returns an empty map.
-    pub fn with_capacity(_: usize) -> Result<HashMap<K, V>, AllocError> {
-        Ok(HashMap(collections::BTreeMap::new()))
+    /// Returns an empty map with room for `n` keys.
+    pub fn with_capacity(n: usize) -> Result<HashMap<K, V>, AllocError> {
+        Ok(HashMap(Vec::with_capacity(n)?.0))
     }
 
-    /// Puts a value under a key.
+    /// Puts a value under a key, and returns the one that was there.
     pub fn insert(&mut self, key: K, value: V) -> Result<Option<V>, AllocError> {
-        Ok(self.0.insert(key, value))
+        match self.find(&key) {
+            Ok(n) => Ok(Some(core::mem::replace(&mut self.0[n].1, value))),
+            Err(n) => {
+                self.0.try_reserve(1)?;
+                self.0.insert(n, (key, value));
+                Ok(None)
+            }
+        }
     }
 
     /// Returns the value under a key.
     pub fn get(&self, key: &K) -> Option<&V> {
-        self.0.get(key)
+        self.find(key).ok().map(|n| &self.0[n].1)
+    }
+
+    /// Returns where a key is, or where it would be as an error.
+    fn find(&self, key: &K) -> Result<usize, usize> {
+        self.0.binary_search_by(|(other, _)| other.cmp(key))
     }
 }
 
@@ -304,6 +316,10 @@ mod no_heap {
             unreachable!()
         }
 
+        pub fn insert(&mut self, _: usize, _: T) {
+            unreachable!()
+        }
+
         pub fn pop(&mut self) -> Option<T> {
             None
         }
@@ -326,22 +342,6 @@ mod no_heap {
 
         pub fn into_iter(self) -> IntoIter<T> {
             core::iter::empty()
-        }
-    }
-
-    pub struct BTreeMap<K, V>(PhantomData<(K, V)>);
-
-    impl<K, V> BTreeMap<K, V> {
-        pub const fn new() -> BTreeMap<K, V> {
-            BTreeMap(PhantomData)
-        }
-
-        pub fn insert(&mut self, _: K, _: V) -> Option<V> {
-            None
-        }
-
-        pub fn get(&self, _: &K) -> Option<&V> {
-            None
         }
     }
 }

@@ -4,7 +4,7 @@ Rattle is Rust with contracts, so erasing is mostly cutting. Each file is read a
 the program with the file and the line: nothing is dropped in silence. What is known stands here and in rules.py:
 
   cut       `ghost use`, ghost members, fields and parameters, clauses, proof attributes, `impl Model`, laws and calls of laws,
-            `impl Drop` whose body only takes the value apart, `final`, `Drop` in derives
+            `impl Drop` whose body only takes the value apart, `final`, `Drop` in derives and bounds
   written   `derive_where` as impls; `Formatter<W>` as core's; `clone` as core's; an allocator that is passed is not passed;
             `std::` as `core::` or as this crate's `support`; crates as modules; `prove!` as `debug_assert!`
   added     tests of conditions, `#[inline]`, names, and a section of documentation for each contract

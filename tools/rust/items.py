@@ -18,6 +18,18 @@ class Items(Functions):
     # modules that are cut beside those of laws
     left_out = frozenset()
 
+    def __init__(self, path):
+        super().__init__(path)
+        for i in range(1, self.size):
+            if self.text[i] == "Drop" and self.kind[i] == "word" and self.at(self.before(i)) in (":", "+"):
+                self.drop_bound(i)
+
+    def drop_bound(self, i):
+        """Cuts the bound `Drop`, which in Rattle all types have that may be dropped."""
+        if self.at(self.before(i)) == ":" and self.at(self.after(i)) == "+":
+            self.fail(i, "the bound `Drop` has to be the last one")
+        self.cut(self.before(i), i + 1)
+
     def items(self, i, end, where, owner=""):
         """Turns the items from i up to end into Rust. `where` is mod, impl, trait, struct or enum."""
         while (i := self.next(i)) < end:

@@ -7,7 +7,7 @@ from items import Items
 from tokens import CUT, TOKEN
 
 # What no text has but in comments.
-FORBIDDEN = {"ghost", "requires", "ensures", "decreases", "invariant", "Model", "tactic", "final", "prove", "derive_where"}
+FORBIDDEN = {"ghost", "requires", "ensures", "decreases", "invariant", "Model", "tactic", "final", "prove", "derive_where", "Drop"}
 
 
 def rust(path, module, kind=Items, crates=rules.CRATES):

@@ -67,8 +67,6 @@ class TestItems(Items):
                 self.cut(i, self.after(self.until(i, ";")))
                 name = self.before(self.before(before))
                 self.new[name] = self.text[name] + "_in"
-            elif self.text[i] == "Drop" and self.text[before] in ("+", ":"):
-                self.cut(before, i + 1)
 
     def runtime(self, i, stop):
         """Cuts the runtime that is passed, from i to stop - 1: a parameter, an argument, or the allocator that it has."""
