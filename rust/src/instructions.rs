@@ -18,20 +18,16 @@ pub mod tlb {
         invlpg(addr.as_u64());
     }
 
-    /// Flushes everything, global pages too.
+    /// Flushes everything: global pages and the translations of all PCIDs, too.
     ///
-    /// The crate `x86_64` writes to CR3 here, which leaves global pages.
+    /// The crate `x86_64` writes to CR3 here, which leaves these.
     pub fn flush_all() {
         const GLOBAL_PAGES: u64 = 1 << 7;
         let cr4: u64;
-        // SAFETY: ring 0 may read CR4 and CR3, and write to CR3 what it has. A change of CR4.PGE flushes everything.
+        // SAFETY: ring 0 may read and write CR4, every 64-bit processor has global pages, and each change of CR4.PGE flushes everything.
         unsafe {
             asm!("mov {}, cr4", out(reg) cr4, options(nostack, preserves_flags));
-            if cr4 & GLOBAL_PAGES == 0 {
-                asm!("mov {0}, cr3", "mov cr3, {0}", out(reg) _, options(nostack, preserves_flags));
-            } else {
-                asm!("mov cr4, {0}", "mov cr4, {1}", in(reg) cr4 & !GLOBAL_PAGES, in(reg) cr4, options(nostack, preserves_flags));
-            }
+            asm!("mov cr4, {0}", "mov cr4, {1}", in(reg) cr4 ^ GLOBAL_PAGES, in(reg) cr4, options(nostack, preserves_flags));
         }
     }
 }
