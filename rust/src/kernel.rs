@@ -1,11 +1,11 @@
-//! The door for kernels: the paths, the names and the signatures of the crate `x86_64`, over the proved code.
+//! For kernels: the paths, the names and the signatures of the crate `x86_64`, over the proved code.
 //!
 //! With the feature `instructions`. A kernel writes `use x86_64_paging::kernel as x86_64;`, and the rest stays as it is.
 //!
 //! Tables that a processor uses decide what every address means. So calls that could show memory in another place, or with another right,
 //! are unsafe functions, where those of [`structures::paging`](crate::structures::paging) are safe ones on tables that are data. The
-//! types of these two doors are the same but for mappers, their traits, and allocators. No mapper of this door has the traits of the
-//! other one, so safe code doesn't reach live tables by these:
+//! types are the same but for mappers, their traits, and allocators. No mapper of this module has the traits of the other one, so safe
+//! code doesn't reach live tables by these:
 //!
 //! ```
 //! # use x86_64_paging::kernel as x86_64;

@@ -53,7 +53,7 @@ fn tables() -> Vec<PageTable> {
     (0..FRAMES).map(|_| PageTable::new()).collect()
 }
 
-/// Makes calls by a mapper of the door for kernels with the frames from 0x2000 on, and returns what is free then.
+/// Makes calls by a mapper for kernels with the frames from 0x2000 on, and returns what is free then.
 fn calls<M: MapperAllSizes + Translate + CleanUp>(mapper: &mut M) -> Vec<u64> {
     let mut pool = Free::new(2..FRAMES as u64);
     for n in 0..600 {
