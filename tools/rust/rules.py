@@ -2,10 +2,8 @@
 
 import re
 
-import conditions
 from applied import Rules
-
-TESTS = Rules(conditions.TESTS)
+from conditions import TESTS
 
 # The crates, and where they are in the Rust crate; '' is its top.
 CRATES = {
