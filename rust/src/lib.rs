@@ -1,8 +1,4 @@
-//! Page tables of x86-64: virtual and physical addresses, pages and frames, page tables of four and five levels, and
-//! mappers over a physical memory that consists of page tables.
-//!
-//! Names and paths are those of the Rust crate `x86_64`. Here, a mapper borrows a [`TableMemory`], which is a
-//! [`PhysMemory`] that owns its tables, or a [`LentMemory`] over tables of the caller.
+#![cfg_attr(not(doctest), doc = include_str!("../README.md"))]
 #![no_std]
 #![cfg_attr(not(feature = "instructions"), forbid(unsafe_code))]
 #![deny(unsafe_code, unsafe_op_in_unsafe_fn)]
@@ -162,6 +158,7 @@ pub mod loader;
 pub mod registers;
 pub mod support;
 
-#[cfg(doctest)]
+// The example for kernels needs the feature.
+#[cfg(all(doctest, feature = "instructions"))]
 #[doc = include_str!("../README.md")]
 struct Readme;

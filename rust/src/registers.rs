@@ -58,7 +58,7 @@ pub mod control {
         /// The hierarchy maps all memory that is used as it is used.
         #[inline]
         pub unsafe fn write(frame: PhysFrame, flags: Cr3Flags) {
-            // SAFETY: the caller's.
+            // SAFETY: the caller promises it.
             unsafe {
                 asm!("mov cr3, {}", in(reg) frame.start_address().as_u64() | flags.bits(), options(nostack, preserves_flags))
             };

@@ -392,7 +392,7 @@ fn code_for_the_other_crate_is_as_it_is() {
     assert!(client::is_empty(mapper.0.level_4_table()));
 }
 
-/// All names that the crate `x86_64` has of the page table layer. The instructions are for kernels, so nothing runs.
+/// Names that the crate `x86_64` has of the page table layer. The instructions are for kernels, so nothing runs.
 #[allow(unused)]
 mod names {
     use x86_64::instructions::tlb;
@@ -420,73 +420,73 @@ mod names {
             (self.0 + frame.start_address().as_u64()).as_mut_ptr()
         }
     }
-    pub unsafe fn all(
+
+    pub unsafe fn mapped(table: &'static mut PageTable, frames: &mut impl FrameAllocator<Size4KiB>) {
+        let mut mapper = unsafe { MappedPageTable::new(table, Phys(VirtAddr::new(0))) };
+        let _: &PageTable = mapper.level_4_table();
+        let _: &mut PageTable = mapper.level_4_table_mut();
+        let _: &Phys = mapper.page_table_frame_mapping();
+        let frame = PhysFrame::<Size1GiB>::containing_address(PhysAddr::new(0));
+        unsafe { mapper.identity_map(frame, PageTableFlags::PRESENT, frames) }.unwrap().flush();
+        assert!(!format!("{mapper:?}").is_empty());
+    }
+
+    pub unsafe fn recursive(
         table: &'static mut PageTable,
-        t2: &'static mut PageTable,
         frames: &mut (impl FrameAllocator<Size4KiB> + FrameDeallocator<Size4KiB>),
     ) {
-        let mut m = unsafe { MappedPageTable::new(table, Phys(VirtAddr::new(0))) };
-        let _: &PageTable = m.level_4_table();
-        let _: &mut PageTable = m.level_4_table_mut();
-        let _: &Phys = m.page_table_frame_mapping();
-        let mut r: RecursivePageTable = match RecursivePageTable::new(t2) {
-            Ok(r) => r,
+        let mut mapper: RecursivePageTable = match RecursivePageTable::new(table) {
+            Ok(mapper) => mapper,
             Err(InvalidPageTable::NotRecursive) | Err(InvalidPageTable::NotActive) => return,
         };
         let page: Page<Size2MiB> = Page::containing_address(VirtAddr::new(0x20_0000));
+        let frame = PhysFrame::containing_address(PhysAddr::new(0));
+        let flags = PageTableFlags::PRESENT;
+        let (first, last) = (VirtAddr::new(0), VirtAddr::new(0x1000));
+        let range = Page::range_inclusive(Page::containing_address(first), Page::containing_address(last));
         unsafe {
-            m.identity_map(PhysFrame::<Size1GiB>::containing_address(PhysAddr::new(0)), PageTableFlags::PRESENT, frames)
-                .unwrap()
-                .flush();
-            r.map_to_with_table_flags(
-                page,
-                PhysFrame::containing_address(PhysAddr::new(0)),
-                PageTableFlags::PRESENT,
-                PageTableFlags::PRESENT,
-                frames,
-            )
-            .unwrap()
-            .flush();
-            r.set_flags_p4_entry(page, PageTableFlags::PRESENT).unwrap().flush_all();
-            r.clean_up_addr_range(
-                Page::range_inclusive(Page::containing_address(VirtAddr::new(0)), Page::containing_address(VirtAddr::new(0x1000))),
-                frames,
-            );
+            mapper.map_to_with_table_flags(page, frame, flags, flags, frames).unwrap().flush();
+            mapper.set_flags_p4_entry(page, flags).unwrap().flush_all();
+            mapper.clean_up_addr_range(range, frames);
         }
-        let (f, flush): (PhysFrame<Size2MiB>, MapperFlush<Size2MiB>) = r.unmap(page).unwrap();
+        let (_, flush): (PhysFrame<Size2MiB>, MapperFlush<Size2MiB>) = mapper.unmap(page).unwrap();
         flush.flush();
-        match r.translate(VirtAddr::new(5)) {
-            TranslateResult::Mapped { frame: MappedFrame::Size4KiB(f), offset, flags } => {
-                let _: (PhysFrame, u64, PageTableFlags) = (f, offset, flags);
+        assert!(!format!("{mapper:?}").is_empty());
+    }
+
+    pub fn results(translate: &(dyn Translate + Sync)) {
+        match translate.translate(VirtAddr::new(5)) {
+            TranslateResult::Mapped { frame: MappedFrame::Size4KiB(frame), offset, flags } => {
+                let _: (PhysFrame, u64, PageTableFlags) = (frame, offset, flags);
             }
             TranslateResult::Mapped { frame, .. } => {
                 let _ = (frame.start_address(), frame.size());
             }
             TranslateResult::NotMapped => {}
-            TranslateResult::InvalidFrameAddress(a) => {
-                let _: PhysAddr = a;
+            TranslateResult::InvalidFrameAddress(address) => {
+                let _: PhysAddr = address;
             }
         }
+    }
+
+    pub unsafe fn instructions(page: Page) {
         MapperFlush::new(page).ignore();
         MapperFlushAll::new().flush_all();
         tlb::flush(VirtAddr::new(0));
         tlb::flush_all();
-        let _: Option<&(dyn Translate + Sync)> = None;
         let (frame, flags): (PhysFrame, Cr3Flags) = Cr3::read();
         unsafe { Cr3::write(frame, flags) };
         let _: Result<VirtAddr, VirtAddrNotValid> = Cr2::read();
-        assert!(!format!("{m:?} {r:?}").is_empty());
     }
 
-    pub fn generic<M>(m: &mut M, a: &mut dyn FrameAllocator<Size4KiB>)
+    pub fn generic<M>(mapper: &mut M, frames: &mut dyn FrameAllocator<Size4KiB>)
     where
         M: Mapper<Size4KiB> + Mapper<Size2MiB> + Translate,
     {
         let page: Page<Size4KiB> = Page::containing_address(VirtAddr::new(0));
-        unsafe {
-            m.map_to(page, PhysFrame::containing_address(PhysAddr::new(0)), PageTableFlags::PRESENT, a).unwrap().flush();
-        }
-        let _ = m.translate_page(page).is_ok() && m.translate_addr(VirtAddr::new(0)).is_some();
+        let frame = PhysFrame::containing_address(PhysAddr::new(0));
+        unsafe { mapper.map_to(page, frame, PageTableFlags::PRESENT, frames) }.unwrap().flush();
+        let _ = mapper.translate_page(page).is_ok() && mapper.translate_addr(VirtAddr::new(0)).is_some();
         let _ = MapperFlushAll::default();
     }
 }

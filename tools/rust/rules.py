@@ -56,6 +56,9 @@ REWRITES = Rules(
         r"#\[repr\(C\)\]\npub struct PageTable\b": "#[repr(C, align(4096))]\npub struct PageTable",
         r"\bpub type (\w+)<S>": r"pub type \1<S = @crate::pages::page::Size4KiB>",
         r"\[`flush(?:_all)?`\]\(Self::flush(?:_all)?\)": "[`record`](Self::record)",
+        r"It must be consumed by (.*) or (.*)\. Dropping it is a compile error\.": (
+            r"It is consumed by \1, \2, or a flush by the feature `instructions`. The compiler warns if it isn't used."
+        ),
         r"\[`(\w+)`\]\(crate::laws::\w+\)": r"`\1`",
         r"(?:fmt::)?Formatter<W>": "core::fmt::Formatter<'_>",
         r"\bFmtResult\b|(?<!core::)\bfmt::Result\b": "core::fmt::Result",
@@ -110,7 +113,8 @@ def documentation(path, clauses):
     return [f"/// {line}".rstrip() for line in lines]
 
 
-ROOT = """#![no_std]
+ROOT = """#![cfg_attr(not(doctest), doc = include_str!("../README.md"))]
+#![no_std]
 #![cfg_attr(not(feature = "instructions"), forbid(unsafe_code))]
 #![deny(unsafe_code, unsafe_op_in_unsafe_fn)]
 #![warn(missing_docs)]
@@ -150,13 +154,13 @@ pub mod loader;
 pub mod registers;
 pub mod support;
 
-#[cfg(doctest)]
+// The example for kernels needs the feature.
+#[cfg(all(doctest, feature = "instructions"))]
 #[doc = include_str!("../README.md")]
 struct Readme;
 """
 
 
 def root(text):
-    """Returns the text of the root file."""
-    head = re.match(r"(//![^\n]*\n)*", text)[0]
-    return head + ROOT + text[len(head) :].lstrip() + MODULES
+    """Returns the text of the root file, whose first comment README.md stands for."""
+    return ROOT + re.sub(r"\A(//![^\n]*\n)*", "", text).lstrip() + MODULES

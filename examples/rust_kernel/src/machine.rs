@@ -40,6 +40,7 @@ impl StartInfo {
     ///
     /// All memory of the loader is mapped at the offset.
     pub unsafe fn regions(&self, offset: VirtAddr) -> &[Region] {
+        // SAFETY: the caller promises it, and the loader has counted them.
         unsafe { core::slice::from_raw_parts((offset + self.regions_at).as_ptr(), self.region_count as usize) }
     }
 }
@@ -60,7 +61,9 @@ macro_rules! println {
     ($($format:tt)*) => { { use core::fmt::Write; writeln!($crate::machine::Serial, $($format)*).unwrap() } };
 }
 
+/// Writes a byte to a port: that of the serial line, or that by which QEMU ends.
 fn put_byte(port: u16, byte: u8) {
+    // SAFETY: neither changes memory.
     unsafe { core::arch::asm!("out dx, al", in("dx") port, in("al") byte, options(nomem, nostack, preserves_flags)) };
 }
 
@@ -68,6 +71,7 @@ fn put_byte(port: u16, byte: u8) {
 pub fn end(is_good: bool) -> ! {
     put_byte(0xf4, if is_good { 16 } else { 17 });
     loop {
+        // SAFETY: it waits.
         unsafe { core::arch::asm!("hlt") };
     }
 }
@@ -87,6 +91,7 @@ pub fn init() {
     // The gate of exception 14: an interrupt gate (0x8e) with the code segment 8 and the stack IST1.
     let gate = [entry & 0xffff | 8 << 16 | 0x8e01 << 32 | (entry >> 16 & 0xffff) << 48, entry >> 32];
     let gates = &raw mut GATES;
+    // SAFETY: nothing else uses the gates, which stay where they are, and this one leads to code of boot.s.
     unsafe {
         (*gates)[14] = gate;
         core::arch::asm!("lidt [{}]", in(reg) &Pointer(15 * 16 - 1, gates), options(readonly, nostack, preserves_flags));

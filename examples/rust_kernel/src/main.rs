@@ -26,11 +26,14 @@ const HEAP_PAGES: u64 = 600;
 #[unsafe(no_mangle)]
 extern "C" fn kernel_main(start_info: u64) -> ! {
     machine::init();
-    // SAFETY: boot.s has mapped the lowest GiB at DIRECT.
+    // SAFETY: boot.s has mapped the lowest GiB at DIRECT, and the loader has put this there.
     let info: &StartInfo = unsafe { &*(DIRECT + start_info).as_ptr() };
+    // SAFETY: as above.
     let memory = unsafe { info.regions(DIRECT) };
+    // SAFETY: nothing uses the memory behind the kernel.
     let mut frames = unsafe { Frames::new(memory) };
     println!("kernel: {} frames are free, the root of boot.s is {:?}", frames.free, Cr3::read().0);
+    // SAFETY: tools/rust_kernel gives the machine less than a GiB, and this is called once.
     let mut mapper = unsafe { memory::init(memory, &mut frames) };
     println!("kernel: {} frames are free, the root is {:?}", frames.free, Cr3::read().0);
     for region in mapper.regions() {

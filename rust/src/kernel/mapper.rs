@@ -53,7 +53,7 @@ pub trait Mapper<S: PageSize, L: LevelCount = FourLevels> {
         Self: Sized,
         A: FrameAllocator<Size4KiB> + ?Sized,
     {
-        // SAFETY: the caller's.
+        // SAFETY: the caller promises it.
         unsafe { self.map_to_with_table_flags(page, frame, flags, parent_flags(flags), frame_allocator) }
     }
 
@@ -173,7 +173,7 @@ pub trait Mapper<S: PageSize, L: LevelCount = FourLevels> {
         A: FrameAllocator<Size4KiB> + ?Sized,
     {
         let page = PageIn::containing_address(VirtAddrIn::new(frame.start_address().as_u64()));
-        // SAFETY: the caller's.
+        // SAFETY: the caller promises it.
         unsafe { self.map_to(page, frame, flags, frame_allocator) }
     }
 }

@@ -38,7 +38,7 @@ unsafe impl<P: PageTableFrameMapping + ?Sized> PageTableFrameMapping for &P {
     }
 }
 
-/// The frame that stands for that of the root, whose address isn't known: the last one, which no entry names.
+/// The frame that stands for that of the root, whose address isn't known: the last one that a word can name, where no table is.
 const ROOT: u64 = (1 << 40) - 1;
 
 /// The tables of a hierarchy, for the proved code. It is private, so its calls, which are safe functions, are for this module alone.

@@ -60,6 +60,17 @@
 //! }
 //! ```
 //!
+//! The compiler warns of a token that isn't used.
+//!
+//! ```compile_fail
+//! #![deny(unused_must_use)]
+//! # use x86_64_paging::kernel as x86_64;
+//! # use x86_64::structures::paging::{Mapper, OffsetPageTable, Page, PageTableFlags};
+//! fn change(mapper: &mut OffsetPageTable, page: Page) {
+//!     unsafe { mapper.update_flags(page, PageTableFlags::PRESENT) }.unwrap();
+//! }
+//! ```
+//!
 //! The calls on data, which are safe functions, don't take a mapper of tables in use: neither by their traits, nor as functions.
 //!
 //! ```compile_fail,E0277

@@ -10,7 +10,7 @@ use core::fmt::Debug;
 
 /// A token for a change to the mapping of a page that the TLB may not reflect yet.
 ///
-/// It must be consumed by [`record`](Self::record) or [`ignore`](Self::ignore). Dropping it is a compile error.
+/// It is consumed by [`record`](Self::record), [`ignore`](Self::ignore), or a flush by the feature `instructions`. The compiler warns if it isn't used.
 #[must_use]
 pub struct MapperFlushIn<S: PageSize, L: LevelCount> {
     page: PageIn<S, L>,
@@ -90,7 +90,7 @@ pub const MOST_PAGE_ITEMS: u64 = 32;
 
 /// A token for changes to the mappings of a range of pages that the TLB may not reflect yet.
 ///
-/// It must be consumed by [`record`](Self::record) or [`ignore`](Self::ignore). Dropping it is a compile error.
+/// It is consumed by [`record`](Self::record), [`ignore`](Self::ignore), or a flush by the feature `instructions`. The compiler warns if it isn't used.
 #[must_use]
 pub struct MapperFlushRangeIn<S: PageSize, L: LevelCount> {
     page: PageIn<S, L>,
@@ -191,7 +191,7 @@ impl<S: PageSize, L: LevelCount> Debug for MapperFlushRangeIn<S, L> {
 
 /// A token for a change to a table entry, after which the TLB may hold stale mappings of any pages.
 ///
-/// It must be consumed by [`record`](Self::record) or [`ignore`](Self::ignore). Dropping it is a compile error.
+/// It is consumed by [`record`](Self::record), [`ignore`](Self::ignore), or a flush by the feature `instructions`. The compiler warns if it isn't used.
 #[must_use]
 #[derive(Debug)]
 pub struct MapperFlushAll(());
