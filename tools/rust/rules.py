@@ -34,7 +34,7 @@ GHOST_TRAITS = Rules(
     }
 )
 # Traits whose types may be unsized.
-UNSIZED = Rules({"FrameAllocator", "FrameDeallocator", "FrameSink", "FrameStore", "TableAccess", "TablesIn", "Tables"})
+UNSIZED = Rules({"FrameAllocator", "FrameDeallocator", "FrameSink", "FrameStore", "TableAccess", "TablesIn"})
 # Methods with another name, so that theirs are free for the instructions.
 RENAMED = Rules({"flush": "record", "flush_all": "record"})
 

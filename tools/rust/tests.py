@@ -13,14 +13,14 @@ from items import ATTRIBUTES, Items
 from output import rewritten, rust, with_use
 
 CRATE = "x86_64_paging"
-# The crates of tests, each with those that it needs beside the library, and with the modules and crates that are left out.
-TESTS = {
-    "test_tables": ([], set()),
-    "test_mappers": (["uses"], {"translate_in_dump"}),
-    "test_runs": (["test_reference", "pagetab_engine"], set()),
-}
+# The crates of tests, each with those that it needs beside the library.
+TESTS = {"test_tables": [], "test_mappers": ["uses"], "test_runs": ["test_reference", "pagetab_engine"]}
+# The modules of a crate of callers that tests call, and those that implement traits. The others are left out.
+WANTED = {"uses": Rules({"list_mappings", "processes", "run_in_space", "guest_store", "own_allocator", "own_memory"})}
 # The crates of these that the example pagetab has, with their places.
 SHARED = {"pagetab_engine": "../../examples/pagetab/pagetab_engine/mod.rs"}
+# Functions that only call laws.
+LAWS_ALONE = Rules({"call_laws", "laws_hold_in_three_sizes"})
 # Tests that can't run: texts of std end the process where memory is refused.
 IGNORED = Rules({"the_program_stops_at_each_block_that_is_refused"})
 # What stands for macros and crates of Rattle, written by hand.
@@ -68,6 +68,14 @@ class TestItems(Items):
                 name = self.before(self.before(before))
                 self.new[name] = self.text[name] + "_in"
 
+    def function(self, head, start, i, owner, where, attributes):
+        end = super().function(head, start, i, owner, where, attributes)
+        name = self.at(self.after(i))
+        if self.at(i) == "fn" and name in LAWS_ALONE:
+            LAWS_ALONE.apply(name)
+            self.cut(head, end)
+        return end
+
     def runtime(self, i, stop):
         """Cuts the runtime that is passed, from i to stop - 1: a parameter, an argument, or the allocator that it has."""
         if self.at(self.before(i)) == "&":
@@ -101,7 +109,7 @@ class TestItems(Items):
             return ""
         if path in NO_NAMES:
             return NO_NAMES.apply(path) or ""
-        if names[0] in self.left_out | {"x86_64_model"}:
+        if names[0] == "x86_64_model":
             return ""
         if names[0] in ("rand_core", "rand_pcg", "test_support"):
             return f"crate::more::{names[-1]}"
@@ -140,13 +148,24 @@ def translated(path, module, others, kind):
     return text
 
 
+def left_out(crate):
+    """Returns the modules of a crate that no test needs."""
+    if crate.name not in WANTED:
+        return set()
+    names = {path.stem for path in (crate / "src").glob("*.rt")} - {"lib"}
+    for name in names:
+        if name in WANTED[crate.name]:
+            WANTED[crate.name].apply(name)
+    return {name for name in names if name not in WANTED[crate.name]}
+
+
 def tests(crates):
     """Returns the files of all tests, by their places below tests/."""
     files = {}
-    for name, (others, left_out) in TESTS.items():
-        kind = type("Items", (TestItems,), {"left_out": left_out})
+    for name, others in TESTS.items():
         for crate in [name, *(crate for crate in others if crate not in SHARED)]:
-            for path, place in sources(crates / crate, left_out):
+            kind = type("Items", (TestItems,), {"left_out": left_out(crates / crate)})
+            for path, place in sources(crates / crate, kind.left_out):
                 text = translated(path, "" if crate == name else crate, others, kind)
                 if place.name == "lib.rs":
                     place = pathlib.Path("main.rs" if crate == name else "mod.rs")

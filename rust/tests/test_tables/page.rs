@@ -225,18 +225,6 @@ fn frames_have_numbers() {
     assert_equal(PhysFrame::from_pfn_unchecked(0x123), found);
 }
 
-/// Calls the laws of a size, which hold for all its pages and frames.
-fn call_laws<S: PageSize + Hash>() {
-    let (four, five) = (page::<S, FourLevels>(0), page::<S, FiveLevels>(0));
-}
-
-#[test]
-fn laws_hold_in_three_sizes() {
-    call_laws::<Size4KiB>();
-    call_laws::<Size2MiB>();
-    call_laws::<Size1GiB>();
-}
-
 /// Compares the number of blocks from one to another, without the other and with it.
 fn check_len<B: Block>(start: B, end: B, lens: [u64; 2]) {
     let (open, closed) = (BlockRange { start, end }, closed(start, end));

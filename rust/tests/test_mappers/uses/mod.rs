@@ -1,16 +1,8 @@
 //! Callers of the library, each with a contract, which `README.md` and `docs/USING.md` quote.
 
-pub mod after_level_4_table_mut;
-pub mod first;
-pub mod flush_after_calls;
 pub mod guest_store;
 pub mod list_mappings;
-pub mod load_segments;
-pub mod map_buffer;
 pub mod own_allocator;
 pub mod own_memory;
-pub mod porting;
 pub mod processes;
 pub mod run_in_space;
-pub mod run_list;
-pub mod switching_kernel;
