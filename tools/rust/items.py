@@ -73,7 +73,7 @@ class Items(Functions):
         return self.fail(i, "unknown item")
 
     def attribute(self, i, attributes):
-        """Cuts an attribute of proofs, or adds another to the attributes. Returns the token behind it."""
+        """Adds an attribute to the attributes, and cuts one of proofs. Returns the token behind it."""
         first, i = i, i + 1
         if self.at(i) == "!":
             i += 1
@@ -82,8 +82,7 @@ class Items(Functions):
             self.fail(first, "unknown attribute")
         if name in PROOF_ATTRIBUTES:
             self.cut(first, end)
-        else:
-            attributes.append((name, first, end))
+        attributes.append((name, first, end))
         return self.next(end)
 
     def ghost(self, head, i):

@@ -69,6 +69,12 @@ impl<S: PageSize> PhysFrame<S> {
     }
 
     /// Returns the frame that contains an address: it starts at the address rounded down to the size.
+    ///
+    /// # Proved
+    ///
+    /// ```text
+    /// ensures { result ≡ address - address % S.SIZE }
+    /// ```
     pub fn containing_address(address: PhysAddr) -> Self {
         let number = address.as_u64();
         PhysFrame { start_address: PhysAddr::new_proved(number - number % S::SIZE), size: PhantomData }

@@ -93,6 +93,13 @@ impl PageTable {
     }
 
     /// Returns true if all entries are unused.
+    ///
+    /// # Proved
+    ///
+    /// ```text
+    /// ensures empty { IsTrue result ↔ All (λ word. word ≡ 0) self.now }
+    /// ensures size { length self.now ≡ 512 }
+    /// ```
     #[inline]
     pub fn is_empty(&self) -> bool {
         self.entries.iter().all(|entry| entry.is_unused())
