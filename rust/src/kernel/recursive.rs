@@ -68,8 +68,9 @@ impl WalkedTables<FourLevels> for Windows<'_> {
 /// cleared after that. So the processor may walk a table with the words that the allocator left in its frame, until it is cleared: where
 /// this matters, frames are cleared before they are handed out.
 ///
-/// Clean ups, and changes to pages of 2 MiB and 1 GiB, flush everything from the TLB of this processor, so that later calls find the tables
-/// at their windows. In the crate `x86_64` this is left to the kernel. After a `set_flags_..` call the kernel flushes everything.
+/// Clean ups, and changes to pages of 2 MiB and 1 GiB, flush everything from the TLB of this processor, as
+/// [`flush_after`](crate::flushing::flush_after) says, so that later calls find the tables at their windows. Without this flush after a clean up,
+/// a kernel in QEMU faults. In the crate `x86_64` it is left to the kernel. After a `set_flags_..` call the kernel flushes everything.
 pub struct RecursivePageTable<'a> {
     tables: Recursive<Windows<'a>, FourLevels>,
 }
