@@ -17,6 +17,8 @@ CRATE = "x86_64_paging"
 TESTS = {"test_tables": [], "test_mappers": ["uses"], "test_runs": ["test_reference", "pagetab_engine"]}
 # The modules of a crate of callers that tests call, and those that implement traits. The others are left out.
 WANTED = {"uses": Rules({"list_mappings", "processes", "run_in_space", "guest_store", "own_allocator", "own_memory"})}
+# Modules that are written by hand, by the tests to which they belong.
+BY_HAND = {"test_runs": ["agreement"], "test_tables": ["accesses", "mappings", "spaces"]}
 # The crates of these that the example pagetab has, with their places.
 SHARED = {"pagetab_engine": "../../examples/pagetab/pagetab_engine/mod.rs"}
 # Functions that only call laws.
@@ -170,7 +172,7 @@ def tests(crates):
                 if place.name == "lib.rs":
                     place = pathlib.Path("main.rs" if crate == name else "mod.rs")
                 if place.name == "main.rs":
-                    text = main_file(text, others)
+                    text = main_file(text, others, BY_HAND.get(name, []))
                 files[pathlib.Path(name, *[crate] * (crate != name)) / place] = text
     return files
 
@@ -185,9 +187,9 @@ def examples(crates):
     return files
 
 
-def main_file(text, others):
-    """Returns the root file of tests."""
+def main_file(text, others, by_hand):
+    """Returns the root file of tests, with modules for other crates and for what is written by hand."""
     head = re.match(r"(//![^\n]*\n)*", text)[0]
-    modules = "".join((f'#[path = "{SHARED[crate]}"]\n' if crate in SHARED else "") + f"mod {crate};\n" for crate in others)
+    modules = "".join((f'#[path = "{SHARED[name]}"]\n' if name in SHARED else "") + f"mod {name};\n" for name in [*others, *by_hand])
     allowed = "#![allow(dead_code, unused_imports, unused_parens, unused_variables)]"
     return f'{head}{allowed}\n\n#[macro_use]\n#[path = "../{SUPPORT}"]\nmod more;\n{modules}{text[len(head):]}'

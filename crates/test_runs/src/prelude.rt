@@ -10,11 +10,11 @@ pub use bitflags::Flags;
 pub use pagetab_engine::ending::{Ending, Fault};
 pub use std::alloc::{AllocError, Global};
 pub use std::fmt::Debug;
-pub use std::process::Abort;
+use std::process::Abort;
 pub use test_reference::Answer::Done;
 pub use test_reference::PlainReply::{Answered, Cleaned};
 pub use test_reference::words::address;
-pub use test_reference::{Answer, PathEntries, PlainCall, PlainReply, Refusal, Translated};
+pub use test_reference::{Answer, PlainReply, Refusal, Translated};
 pub use x86_64::addr::VirtAddrIn;
 pub use x86_64::structures::paging::mapper::{
     FlagUpdateError, MappedFrame, MapperFlushAll, PageTableFrameMapping, UnmapError,

@@ -9,6 +9,8 @@
 //! Ranges of pages, which the direct mapper maps, changes and unmaps as a whole, are compared with calls on each page.
 //!
 //! The script `tests/agreement` compares the program `pagetab` with the plain one, a call at a time.
+//!
+//! These tests are written by hand, not made of proved ones: what they compare needs no proof.
 mod chooser;
 mod listing;
 mod lists;

@@ -7,11 +7,11 @@
 #[macro_use]
 #[path = "../more/mod.rs"]
 mod more;
+mod agreement;
 #[path = "../../examples/pagetab/pagetab_engine/mod.rs"]
 mod pagetab_engine;
 mod test_reference;
 
-mod agreement;
 mod call_rows;
 mod images;
 mod pairs;

@@ -9,7 +9,7 @@ pub use crate::pagetab_engine::ending::{Ending, Fault};
 pub use crate::test_reference::words::address;
 pub use crate::test_reference::Answer::Done;
 pub use crate::test_reference::PlainReply::{Answered, Cleaned};
-pub use crate::test_reference::{Answer, PathEntries, PlainCall, PlainReply, Refusal, Translated};
+pub use crate::test_reference::{Answer, PlainReply, Refusal, Translated};
 pub use std::fmt::Debug;
 pub use x86_64_paging::addr::VirtAddrIn;
 pub use x86_64_paging::bitflags::Flags;

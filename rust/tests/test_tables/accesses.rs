@@ -106,28 +106,15 @@ fn outcome_of_fault(fault: Fault) -> Outcome {
     }
 }
 
-/// Returns the controls, with 48 bits of physical addresses.
-fn with_48_bits(controls: &Controls) -> Controls {
-    Controls {
-        write_protect: controls.write_protect,
-        no_execute: controls.no_execute,
-        smep: controls.smep,
-        smap: controls.smap,
-        ac: controls.ac,
-        physical_bits: 48,
-    }
-}
-
 #[test]
 fn accesses_arrive_or_fault() {
     for (n, (words, asked, controls, wanted)) in ROWS.iter().enumerate() {
         let mut memory = memory_of_row(words);
         let root = frame_at(0x1000);
         let addr = VirtAddr::new_truncate(0x123);
-        let controls = with_48_bits(controls);
-        let found = access(&memory, &IdentityMapping, root, addr, *asked, &controls);
+        let found = access(&memory, &IdentityMapping, root, addr, *asked, controls);
         assert_equal_in(n, outcome_of(found), *wanted);
-        let marked = access_and_mark(&mut memory, &IdentityMapping, root, addr, *asked, &controls);
+        let marked = access_and_mark(&mut memory, &IdentityMapping, root, addr, *asked, controls);
         assert_equal_in(n, outcome_of(marked), *wanted);
     }
 }

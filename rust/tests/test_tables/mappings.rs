@@ -5,16 +5,10 @@ use crate::prelude::*;
 use std::fmt::Display;
 use x86_64_paging::listing::{mappings, mappings_57, mappings_from, regions, regions_57};
 
-/// Compares items with the lines that they are printed as, and their numbers.
-fn check_lines<T: Display, I: Iterator<Item = T>>(case: u64, items: I, lines: &[&str]) {
-    let mut count = 0_usize;
-    for item in items {
-        let text = unwrap(format_in!("{item}"));
-        let line = unwrap_some(lines.get(count));
-        assert_equal_in(case, text.as_str(), *line);
-        count = count.saturating_add(1);
-    }
-    assert_equal_in(case, count, lines.len());
+/// Compares items with the lines that they are printed as.
+fn check_lines(case: u64, items: impl Iterator<Item = impl Display>, lines: &[&str]) {
+    let found: Vec<String> = items.map(|item| item.to_string()).collect();
+    assert_eq!(found, lines, "in {case}");
 }
 
 /// The words of a page of each size.

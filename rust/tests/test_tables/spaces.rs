@@ -1,13 +1,11 @@
 //! Tests of address spaces that share the upper half, or share in pairs, with four levels of page tables and with five.
 
 use crate::more::Hoard;
-use crate::more::MoreOfVec;
 use crate::prelude::*;
 use x86_64_paging::spaces::{
     grouped_spaces_fit, grouped_spaces_fit_by_marks, spaces_fit, spaces_fit_by_marks, GroupIndices, GroupedSpace, SharedIndices,
     Space,
 };
-use x86_64_paging::support::Vec;
 
 /// The words of two spaces, which share the tables in frames 0x3000 and 0x4000. Frames 0x5000 and 0x6000 have a table of each.
 const TWO: [u64; 15] = [0x1000, 256, 0x3003, 0x2000, 256, 0x3003, 0x3000, 0, 0x4003, 0x1000, 0, 0x5003, 0x2000, 0, 0x6003];
@@ -17,28 +15,22 @@ type Root = (u64, Option<u16>);
 
 /// Returns the spaces with some roots.
 fn spaces_at(roots: &[Root]) -> Vec<Space> {
-    let mut spaces = Vec::new();
-    for (root, recursive) in roots {
-        let root = frame_at(*root);
-        let recursive = recursive.map(PageTableIndex::new_truncate);
-        unwrap(spaces.push(Space { root, recursive }));
-    }
-    spaces
+    let space = |&(root, recursive): &Root| Space { root: frame_at(root), recursive: recursive.map(PageTableIndex::new_truncate) };
+    roots.iter().map(space).collect()
 }
 
 /// Returns whether address spaces share the upper half, and a pool of these frames fits them.
 fn fit<L: LevelCount>(memory: &PhysMemory, roots: &[Root], frames: &[u64]) -> bool {
     let (spaces, pool) = (spaces_at(roots), pool_with(16, frames));
     let (mapping, half) = (IdentityMapping, SharedIndices::UPPER_HALF);
-    let tested = spaces_fit::<L, _, _>(memory, &mapping, &spaces, half, &pool);
-    unwrap(tested)
+    unwrap(spaces_fit::<L, _, _>(memory, &mapping, &spaces, half, &pool))
 }
 
 /// Returns the same by marks, all of them set at first, and whether an array has room.
 fn fit_in<L: LevelCount>(memory: &PhysMemory, roots: &[Root], frames: &[u64], capacity: usize) -> bool {
     let spaces = spaces_at(roots);
     let (mapping, half) = (IdentityMapping, SharedIndices::UPPER_HALF);
-    let mut marks = unwrap(vec_in![true; memory.len()]);
+    let mut marks = vec![true; memory.len()];
     spaces_fit_by_marks::<L, _, _>(memory, &mapping, &spaces, half, frames, capacity, &mut marks)
 }
 
@@ -158,7 +150,7 @@ fn processes_fit<L: LevelCount>(memory: &PhysMemory, frames: &[u64], capacity: u
         [member(0x1000, &first_kernel), member(0x2000, &first_user), member(0x3000, &second_kernel), member(0x4000, &second_user)];
     let (mapping, pool) = (IdentityMapping, pool_with(16, frames));
     let tested = grouped_spaces_fit::<L, _, _>(memory, &mapping, &spaces, &pool);
-    let mut marks = unwrap(vec_in![true; memory.len()]);
+    let mut marks = vec![true; memory.len()];
     let tested_in = grouped_spaces_fit_by_marks::<L, _, _>(memory, &mapping, &spaces, frames, capacity, &mut marks);
     (unwrap(tested), tested_in)
 }

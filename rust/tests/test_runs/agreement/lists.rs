@@ -6,11 +6,10 @@ use super::outcomes::{Met, OUTCOMES, OUTCOMES_OF_LEVEL_5};
 use super::plain_call::plain_of;
 use super::twins::{Twins, RECURSIVE_INDEX};
 use crate::call_rows::{call_of, CallRow};
-use crate::more::MoreOfVec;
 use crate::pairs::{is_pair, none_names, run_pair_on};
 use crate::prelude::*;
 use crate::replies::reply_to;
-use x86_64_paging::support::Vec;
+use x86_64_paging::support;
 
 /// The number of lists executed on one memory.
 const LISTS: usize = 20;
@@ -42,7 +41,7 @@ impl Pair {
     }
 
     /// Executes calls with both mappers at once.
-    fn answer_at_once<L: LevelCount, P5: LevelFiveFlags<L>>(&mut self, calls: &[CallIn<L, P5>]) -> Vec<ReplyIn<L>> {
+    fn answer_at_once<L: LevelCount, P5: LevelFiveFlags<L>>(&mut self, calls: &[CallIn<L, P5>]) -> support::Vec<ReplyIn<L>> {
         let (root, index) = (frame_at(ROOT), PageTableIndex::new(RECURSIVE_INDEX as u16));
         let Twins { memory, pool, .. } = &mut self.direct;
         let Twins { memory: walked, pool: walked_pool, .. } = &mut self.recursive;
@@ -52,10 +51,10 @@ impl Pair {
     }
 
     /// Executes calls with each mapper alone, and asserts that their replies are equal.
-    fn answer_alone<L: LevelCount, P5: LevelFiveFlags<L>>(&mut self, calls: &[CallIn<L, P5>]) -> Vec<ReplyIn<L>> {
-        let mut replies = Vec::new();
+    fn answer_alone<L: LevelCount, P5: LevelFiveFlags<L>>(&mut self, calls: &[CallIn<L, P5>]) -> support::Vec<ReplyIn<L>> {
+        let mut replies = support::Vec::new();
         answer_directly(&mut self.direct, calls, &mut replies);
-        let mut same = Vec::new();
+        let mut same = support::Vec::new();
         answer_recursively(&mut self.recursive, calls, &mut same);
         assert_equal_in("alone", same.as_slice(), replies.as_slice());
         replies
@@ -64,18 +63,18 @@ impl Pair {
     /// Executes a list of calls that don't name the recursive index, with both mappers at once or with each alone,
     /// and with the plain program. Compares the replies and the states.
     fn answer<L: LevelCount, P5: LevelFiveFlags<L>>(&mut self, is_at_once: bool, chooser: &mut Chooser, met: &mut Met) {
-        let mut calls: Vec<CallIn<L, P5>> = Vec::new();
+        let mut calls = Vec::new();
         let mut wanted = Vec::new();
         for _ in 0..CALLS {
             let choice = chooser.choice();
             let call = unwrap_some(call_of::<L, P5>(choice));
             if !call.names(PageTableIndex::new(RECURSIVE_INDEX as u16)) {
-                unwrap(wanted.push(self.step(choice, met)));
-                unwrap(calls.push(call));
+                wanted.push(self.step(choice, met));
+                calls.push(call);
             }
         }
         let replies = if is_at_once { self.answer_at_once(&calls) } else { self.answer_alone(&calls) };
-        assert_equal_in(is_at_once, replies, wanted);
+        assert_equal_in(is_at_once, replies.as_slice(), wanted.as_slice());
         self.direct.compare();
         self.recursive.compare();
         let Twins { memory, plain, .. } = &self.direct;
@@ -87,7 +86,7 @@ impl Pair {
 fn answer_directly<L: LevelCount, P5: LevelFiveFlags<L>>(
     twins: &mut Twins,
     calls: &[CallIn<L, P5>],
-    replies: &mut Vec<ReplyIn<L>>,
+    replies: &mut support::Vec<ReplyIn<L>>,
 ) {
     let root = frame_at(ROOT);
     let Twins { memory, pool, .. } = twins;
@@ -99,13 +98,12 @@ fn answer_directly<L: LevelCount, P5: LevelFiveFlags<L>>(
 fn answer_recursively<L: LevelCount, P5: LevelFiveFlags<L>>(
     twins: &mut Twins,
     calls: &[CallIn<L, P5>],
-    replies: &mut Vec<ReplyIn<L>>,
+    replies: &mut support::Vec<ReplyIn<L>>,
 ) {
     let (root, index) = (frame_at(ROOT), PageTableIndex::new(RECURSIVE_INDEX as u16));
     let Twins { memory, pool, .. } = twins;
     assert!(fits_recursive::<L>(memory, root, index, pool));
-    let ran = run_recursive_on(memory, root, index, pool, calls, replies);
-    unwrap(ran)
+    unwrap(run_recursive_on(memory, root, index, pool, calls, replies))
 }
 
 /// Executes lists on hierarchies with each number of free frames.
@@ -122,7 +120,7 @@ fn check_round<L: LevelCount, P5: LevelFiveFlags<L>>(chooser: &mut Chooser, met:
 /// Does this until this number of outcomes has occurred, and asserts that it has.
 fn check_lists<L: LevelCount, P5: LevelFiveFlags<L>>(outcomes: usize) {
     let mut chooser = Chooser::new(L::LEVELS as usize);
-    let mut met = Met::new();
+    let mut met = Met::default();
     for _ in 0..ROUNDS {
         if met.count() < outcomes {
             check_round::<L, P5>(&mut chooser, &mut met);
@@ -138,6 +136,5 @@ fn lists_agree_with_the_plain_program() {
 
 #[test]
 fn lists_of_five_levels_agree_with_the_plain_program() {
-    let outcomes = OUTCOMES + OUTCOMES_OF_LEVEL_5;
-    check_lists::<FiveLevels, PageTableFlags>(outcomes)
+    check_lists::<FiveLevels, PageTableFlags>(OUTCOMES + OUTCOMES_OF_LEVEL_5)
 }

@@ -1,8 +1,8 @@
 //! The kinds of replies that calls had.
 
-use crate::more::MoreOfVec;
 use crate::prelude::*;
-use x86_64_paging::support::Vec;
+use crate::test_reference::PlainCall;
+use std::collections::HashSet;
 
 /// The number of pairs of a call and a kind of its reply that can occur with four levels, which `tests/agreement` lists.
 pub const OUTCOMES: usize = 109;
@@ -11,17 +11,12 @@ pub const OUTCOMES: usize = 109;
 pub const OUTCOMES_OF_LEVEL_5: usize = 9;
 
 /// The pairs of a call and a kind of its reply that occurred, as numbers.
+#[derive(Default)]
 pub struct Met {
-    outcomes: Vec<(usize, u8)>,
+    outcomes: HashSet<(usize, u8)>,
 }
 
 impl Met {
-    /// Creates a record without calls.
-    pub fn new() -> Met {
-        let outcomes = Vec::new();
-        Met { outcomes }
-    }
-
     /// Returns the number of pairs.
     pub fn count(&self) -> usize {
         self.outcomes.len()
@@ -29,10 +24,7 @@ impl Met {
 
     /// Adds the reply to a call, which may have returned tables to the free frames.
     pub fn add(&mut self, call: &PlainCall, reply: PlainReply, back: bool) {
-        let outcome = (number_of(call), kind_of(reply, back));
-        if !self.outcomes.contains(&outcome) {
-            unwrap(self.outcomes.push(outcome));
-        }
+        self.outcomes.insert((number_of(call), kind_of(reply, back)));
     }
 }
 
@@ -45,14 +37,14 @@ fn number_of(call: &PlainCall) -> usize {
         PlainCall::Unmap { page } => (24, page.len()),
         PlainCall::UpdateFlags { page, .. } => (32, page.len()),
         PlainCall::TranslatePage { page } => (40, page.len()),
-        PlainCall::SetFlags { level, page, .. } => (level.wrapping_mul(64), page.len()),
+        PlainCall::SetFlags { level, page, .. } => (level * 64, page.len()),
         PlainCall::Translate { .. } => (48, 0),
         PlainCall::TranslateAddress { .. } => (48, 1),
         // a clean up of all pages, which no range that is chosen has
         PlainCall::CleanUp { high, .. } if *high % 0x80_0000_0000 == 0x7f_ffff_ffff => (48, 2),
         PlainCall::CleanUp { .. } => (48, 3),
     };
-    size.wrapping_add(number)
+    size + number
 }
 
 /// Returns the number of the kind of a reply, which is the reply without addresses and flags.

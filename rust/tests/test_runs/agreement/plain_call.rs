@@ -4,6 +4,7 @@
 use crate::call_rows::{CallRow, PageCallRow};
 use crate::prelude::*;
 use crate::test_reference::positions::path_at;
+use crate::test_reference::PlainCall;
 
 /// Returns the call of the plain program, with this number of levels.
 pub fn plain_of(levels: usize, call: CallRow) -> Result<PlainCall, AllocError> {

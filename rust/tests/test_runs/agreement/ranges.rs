@@ -7,6 +7,7 @@ use super::twins::Twins;
 use crate::call_rows::CallRow::{self, Giant, Large, Small};
 use crate::call_rows::PageCallRow::{self, MapTo, MapToWithTableFlags, Unmap, UpdateFlags};
 use crate::prelude::*;
+use crate::test_reference::PlainCall;
 use x86_64_paging::structures::paging::mapper::calls::{
     map_range, map_range_allowed, range_allowed, unmap_range, update_flags_range,
 };
@@ -35,8 +36,7 @@ pub struct Digest {
 
 impl FrameSink for Digest {
     fn take<S: PageSize>(&mut self, frame: PhysFrame<S>) {
-        let shifted = self.value.wrapping_mul(31);
-        self.value = shifted.wrapping_add(frame.start_address().as_u64());
+        self.value = self.value.wrapping_mul(31).wrapping_add(frame.start_address().as_u64());
     }
 }
 
@@ -57,9 +57,9 @@ fn moved(call: PageCallRow, by: u64) -> PageCallRow {
 /// Returns the call on page `number` of a range.
 fn call_on(first: CallRow, number: u64) -> CallRow {
     match first {
-        Small(call) => Small(moved(call, number.wrapping_mul(0x1000))),
-        Large(call) => Large(moved(call, number.wrapping_mul(0x20_0000))),
-        Giant(call) => Giant(moved(call, number.wrapping_mul(0x4000_0000))),
+        Small(call) => Small(moved(call, number * 0x1000)),
+        Large(call) => Large(moved(call, number * 0x20_0000)),
+        Giant(call) => Giant(moved(call, number * 0x4000_0000)),
         other => other,
     }
 }
@@ -88,14 +88,13 @@ fn map_pages<S: PageSize, L: LevelCount, M: TableAccess + TablesIn<L> + ?Sized>(
     match map_range(mapper, page, count, frame, flags, parent_flags, pool) {
         Ok(flush) => {
             flush.ignore();
-            let (done, stop) = (count, None);
-            Some(Outcome { done, stop })
+            Some(Outcome { done: count, stop: None })
         }
         Err(error) => {
             let MapRangeErrorIn { mapped, why } = error;
-            let (done, stop) = (mapped.count(), Some(stop_of(why)));
+            let done = mapped.count();
             mapped.ignore();
-            Some(Outcome { done, stop })
+            Some(Outcome { done, stop: Some(stop_of(why)) })
         }
     }
 }
@@ -106,7 +105,7 @@ fn change_pages<S: PageSize, L: LevelCount, M: TableAccess + TablesIn<L> + ?Size
     pages: (PageIn<S, L>, u64),
     first: PageCallRow,
 ) -> Option<Outcome> {
-    let ((page, count), stop) = (pages, None);
+    let (page, count) = pages;
     if !range_allowed(mapper, page, count) {
         return None;
     }
@@ -118,13 +117,12 @@ fn change_pages<S: PageSize, L: LevelCount, M: TableAccess + TablesIn<L> + ?Size
             }
             let (done, flush) = update_flags_range(mapper, page, count, flags);
             flush.ignore();
-            Some(Outcome { done, stop })
+            Some(Outcome { done, stop: None })
         }
         Unmap(_) => {
             let mut frames = Digest { value: 0 };
             unmap_range(mapper, page, count, &mut frames).ignore();
-            let done = frames.value;
-            Some(Outcome { done, stop })
+            Some(Outcome { done: frames.value, stop: None })
         }
         _ => None,
     }
@@ -175,16 +173,14 @@ fn serve_plainly(twins: &mut Twins, levels: usize, first: CallRow, count: u64) -
         let call = unwrap(plain_of(levels, call_on(first, number)));
         match (twins.step(&call), &call) {
             (Answered(Done(frame)), PlainCall::Unmap { .. }) => frames.take(frame_at::<Size4KiB>(frame)),
-            (Answered(Done(_)), _) => pages = pages.wrapping_add(1),
+            (Answered(Done(_)), _) => pages += 1,
             (Answered(Answer::Refused(why)), PlainCall::MapTo { .. } | PlainCall::MapToWithTableFlags { .. }) => {
-                let (done, stop) = (pages, Some(why));
-                return Outcome { done, stop };
+                return Outcome { done: pages, stop: Some(why) };
             }
             (reply, _) => assert!(reply != PlainReply::NotAllowed),
         }
     }
-    let (done, stop) = (pages.wrapping_add(frames.value), None);
-    Outcome { done, stop }
+    Outcome { done: pages.wrapping_add(frames.value), stop: None }
 }
 
 /// Changes ranges of a hierarchy with a number of free frames, and compares the outcomes, every word and the free
@@ -200,7 +196,7 @@ fn check_ranges<L: LevelCount>(chooser: &mut Chooser, free: usize) -> usize {
             let wanted = serve_plainly(&mut twins, levels, first, count);
             assert_equal_in((n, count), found, wanted);
             twins.compare();
-            stopped = stopped.wrapping_add((found.done > 0 && found.stop.is_some()) as usize);
+            stopped += usize::from(found.done > 0 && found.stop.is_some());
         }
     }
     stopped
@@ -210,7 +206,7 @@ fn check_ranges<L: LevelCount>(chooser: &mut Chooser, free: usize) -> usize {
 fn check_levels<L: LevelCount>() {
     let (mut chooser, mut stopped) = (Chooser::new(L::LEVELS as usize), 0_usize);
     for free in 0..=7 {
-        stopped = stopped.wrapping_add(check_ranges::<L>(&mut chooser, free));
+        stopped += check_ranges::<L>(&mut chooser, free);
     }
     assert!(stopped > 0);
 }

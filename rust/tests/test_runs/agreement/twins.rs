@@ -5,7 +5,7 @@ use x86_64_paging::support::Vec;
 
 use crate::prelude::*;
 use crate::rows::{compare_pool, SELF_ENTRY};
-use crate::test_reference::{PlainMachine, PlainState, PlainWindow};
+use crate::test_reference::{PathEntries, PlainCall, PlainMachine, PlainState, PlainWindow};
 
 /// The recursive index, which is among the indices that calls choose.
 pub const RECURSIVE_INDEX: u64 = 1;
@@ -97,10 +97,10 @@ impl Twins {
     }
 
     /// Returns the words of all frames by the plain state.
-    fn words(&self) -> Vec<u64> {
-        let mut words = unwrap(vec_in![0; 16 * 512]);
+    fn words(&self) -> std::vec::Vec<u64> {
+        let mut words = vec![0; 16 * 512];
         let pool = self.plain.pool.as_slice();
-        let (_, untouched) = pool.split_at(pool.len().saturating_sub(self.untouched));
+        let (_, untouched) = pool.split_at(pool.len() - self.untouched);
         for frame in untouched {
             fill(&mut words, *frame);
         }
@@ -139,15 +139,12 @@ fn store(memory: &mut PhysMemory, words: &[u64]) {
 
 /// Returns the frame and the index of a word, given its number among all words.
 fn slot_of(n: usize) -> (u64, u16) {
-    ((n / 512).saturating_mul(0x1000) as u64, (n % 512) as u16)
+    ((n / 512 * 0x1000) as u64, (n % 512) as u16)
 }
 
 /// Sets the word at an index of a frame.
 fn set(words: &mut [u64], frame: u64, index: u64, word: u64) {
-    let n = (frame / 0x1000 * 512).saturating_add(index);
-    if let Some(slot) = words.get_mut(n as usize) {
-        *slot = word;
-    }
+    words[(frame / 0x1000 * 512 + index) as usize] = word;
 }
 
 /// Sets all bits of the words of a frame.

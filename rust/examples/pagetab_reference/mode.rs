@@ -1,8 +1,7 @@
 //! The modes of the program, and the plain machines that answer in them.
-ghost use Rattle.std.specs.Prelude.{◌≤◌};
 
-use test_reference::positions::index;
-use test_reference::{PlainCall, PlainMachine, PlainWindow};
+use crate::test_reference::positions::index;
+use crate::test_reference::{PlainCall, PlainMachine, PlainWindow};
 
 /// The number of levels, and how tables are found.
 #[derive(Clone, Copy)]
@@ -12,7 +11,6 @@ pub struct Mode {
     pub recursive_index: Option<u64>,
     /// True if two mappers execute each call. The root of the first one doesn't name itself.
     pub is_pair: bool,
-    ghost few: { levels ≤ 5 },
 }
 
 impl Mode {
@@ -27,43 +25,23 @@ impl Mode {
             "pair5" => (5, Some(number), true),
             _ => return None,
         };
-        Some(Mode {
-            levels,
-            recursive_index,
-            is_pair,
-        })
+        Some(Mode { levels, recursive_index, is_pair })
     }
 
     /// Returns the recursive index of the mapper that answers: that of a pair has none.
     pub fn window_index(self) -> Option<u64> {
-        if self.is_pair {
-            None
-        } else {
-            self.recursive_index
-        }
+        self.recursive_index.filter(|_| !self.is_pair)
     }
 
     /// Returns the plain machine, given the root's entry for itself.
-    pub fn machine(self, self_entry: u64) -> PlainMachine
-        ensures { result.levels ≤ 5 }
-    {
-        let window = self
-            .window_index()
-            .map(|index| PlainWindow { index, self_entry });
-        PlainMachine {
-            levels: self.levels,
-            window,
-            added_flags: if window.is_some() { 0x3 } else { 0x0 },
-        }
+    pub fn machine(self, self_entry: u64) -> PlainMachine {
+        let window = self.window_index().map(|index| PlainWindow { index, self_entry });
+        PlainMachine { levels: self.levels, window, added_flags: if window.is_some() { 0x3 } else { 0x0 } }
     }
 
-    /// Returns the last position. A position is the number of an address counted without the gap in the middle of the
-    /// address space.
+    /// Returns the last position. A position is the number of an address counted without the gap in the middle of the address space.
     pub fn last_position(self) -> u64 {
-        match self.levels {
-            5 => 0x01ff_ffff_ffff_ffff,
-            _ => 0xffff_ffff_ffff,
-        }
+        (1 << (12 + 9 * self.levels)) - 1
     }
 
     /// Returns the position of an address.
@@ -81,9 +59,7 @@ impl Mode {
             | PlainCall::SetFlags { page, .. }
             | PlainCall::TranslatePage { page } => page.first().copied(),
             PlainCall::IdentityMap { frame, .. } => Some(index(self.levels, *frame)),
-            PlainCall::Translate { position } | PlainCall::TranslateAddress { position } => {
-                Some(index(self.levels, *position))
-            }
+            PlainCall::Translate { position } | PlainCall::TranslateAddress { position } => Some(index(self.levels, *position)),
             PlainCall::CleanUp { .. } => None,
         };
         self.is_pair && named.is_some() && named == self.recursive_index
