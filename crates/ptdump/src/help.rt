@@ -1,32 +1,15 @@
 //! The help texts of the commands, each with an example that can be tried.
 
-/// The arguments after the file on the command line.
-#[derive(Clone, Copy)]
-pub enum Operands {
-    /// No arguments.
-    None,
-    /// The options of a selection, and that of all processors.
-    Selection,
-    /// The options of a selection, and that of names.
-    Names,
-    /// No arguments, but the options of a check, and that of all processors.
-    Checks,
-    /// Addresses, with their help text.
-    Addresses(&'static str),
-    /// Addresses, with their help text, and the options of an access.
-    Accesses(&'static str),
-}
-
 /// The description of a command.
 pub struct CommandHelp {
     /// The word on the command line.
     pub name: &'static str,
     /// What it does, in one line.
     pub about: &'static str,
-    /// The arguments after the file.
-    pub operands: Operands,
-    /// Whether it can write JSON.
-    pub has_json: bool,
+    /// What help says of the addresses after the file, if it takes any.
+    pub addresses: Option<&'static str>,
+    /// The names of its options, but for those that all commands have.
+    pub options: &'static [&'static str],
     /// What it prints, and an example.
     pub more: &'static str,
 }
@@ -84,8 +67,8 @@ pub static COMMANDS: [CommandHelp; 8] = [
     CommandHelp {
         name: "regions",
         about: "List what is mapped, region by region",
-        operands: Operands::Selection,
-        has_json: true,
+        addresses: None,
+        options: &["from", "to", "rights", "all-cpus", "json"],
         more: "\
 A region is as long as addresses go on without a gap and with the same rights.
 Each line is FIRST-LAST SIZE RIGHTS: its first and last address, how long it is,
@@ -134,8 +117,8 @@ Examples:
     CommandHelp {
         name: "pages",
         about: "List all mappings, page by page",
-        operands: Operands::Names,
-        has_json: true,
+        addresses: None,
+        options: &["from", "to", "rights", "names", "json"],
         more: "\
 Each line is START SIZE FRAME RIGHTS FLAGS: the page's first address, its size,
 the physical address to which it leads, what may be done there (r read, w write,
@@ -192,8 +175,8 @@ Examples:
     CommandHelp {
         name: "walk",
         about: "Show how the processor finds an address, word by word",
-        operands: Operands::Accesses("The addresses to walk to"),
-        has_json: true,
+        addresses: Some("The addresses to walk to"),
+        options: &["explain", "as", "controls", "maxphyaddr", "json"],
         more: "\
 For each address a line for each word that is read on the way,
 level L 0xTABLE[INDEX] 0xWORD, and then the physical address with what may be
@@ -248,8 +231,8 @@ Examples:
     CommandHelp {
         name: "find",
         about: "Find the addresses that lead to a physical address",
-        operands: Operands::Addresses("The physical addresses to look for"),
-        has_json: true,
+        addresses: Some("The physical addresses to look for"),
+        options: &["json"],
         more: "\
 For each physical address a line for each address that leads to it, with what
 may be done there: r read, w write, x execute, u by user code.
@@ -271,8 +254,16 @@ Examples:
     CommandHelp {
         name: "check",
         about: "Find what is seldom meant, as memory that may be written and executed",
-        operands: Operands::Checks,
-        has_json: true,
+        addresses: None,
+        options: &[
+            "from",
+            "to",
+            "maxphyaddr",
+            "direct-map",
+            "aliases",
+            "all-cpus",
+            "json",
+        ],
         more: "\
 Findings are: regions that may be written and executed, regions of the upper
 half that user code reaches, tables that several words name, tables that aren't
@@ -324,8 +315,8 @@ Examples:
     CommandHelp {
         name: "image",
         about: "Write the tables as an image that pagetab reads",
-        operands: Operands::None,
-        has_json: false,
+        addresses: None,
+        options: &[],
         more: "\
 pagetab maps, unmaps and translates pages on an image of page tables. Tables get
 new addresses, from 0x1000 on. Standard error says which, which words were left
@@ -358,8 +349,8 @@ Example:
     CommandHelp {
         name: "picture",
         about: "Draw the regions and the tables, as an SVG picture",
-        operands: Operands::None,
-        has_json: false,
+        addresses: None,
+        options: &[],
         more: "\
 The picture shows the regions of each half of the addresses, coloured by their
 rights, and the tables as a tree. A browser shows it.
@@ -372,8 +363,8 @@ Example:
     CommandHelp {
         name: "info",
         about: "Tell what the dump says of its machine, and which root is taken",
-        operands: Operands::None,
-        has_json: true,
+        addresses: None,
+        options: &["json"],
         more: "\
 The lines are: the format of the file, the ranges of physical memory with their
 sizes, the control registers of each processor with its mode of paging, what the

@@ -16,6 +16,7 @@ mod direct_map;
 mod flags;
 mod help;
 mod numbers;
+mod options;
 mod placement;
 mod progress;
 mod request;
