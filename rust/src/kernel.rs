@@ -52,7 +52,8 @@ pub mod structures {
             PhysFrame, Size1GiB, Size2MiB, Size4KiB,
         };
         pub use mapper::{
-            MappedPageTable, MappedPageTable57, Mapper, OffsetPageTable, OffsetPageTable57, RecursivePageTable, Translate,
+            MappedPageTable, MappedPageTable57, Mapper, OffsetPageTable, OffsetPageTable57, RecursivePageTable,
+            RecursivePageTable57, Translate,
         };
 
         /// Mappers, with their results and errors.
@@ -62,7 +63,7 @@ pub mod structures {
                 MappedPageTable, MappedPageTable57, MappedPageTableIn, OffsetPageTable, OffsetPageTable57, OffsetPageTableIn,
                 PageTableFrameMapping,
             };
-            pub use crate::kernel::recursive::RecursivePageTable;
+            pub use crate::kernel::recursive::{RecursivePageTable, RecursivePageTable57, RecursivePageTableIn};
             pub use crate::structures::paging::mapper::{
                 FlagUpdateError, InvalidPageTable, MapRangeError, MapRangeError57, MapRangeErrorIn, MapToError, MappedFrame,
                 MapperFlush, MapperFlush57, MapperFlushAll, MapperFlushIn, MapperFlushRange, MapperFlushRange57,

@@ -6,7 +6,7 @@ use x86_64::structures::paging::mapper::{
 };
 use x86_64::structures::paging::{
     FrameAllocator, FrameDeallocator, MappedPageTable, Mapper, OffsetPageTable, OffsetPageTable57, Page, Page57, PageTable,
-    PageTableFlags as Flags, PhysFrame, RecursivePageTable, Size1GiB, Size2MiB, Size4KiB, Translate,
+    PageTableFlags as Flags, PhysFrame, RecursivePageTable, RecursivePageTable57, Size1GiB, Size2MiB, Size4KiB, Translate,
 };
 use x86_64::{DirectMap, PhysAddr, VirtAddr, VirtAddr57};
 use x86_64_paging::access::{Access, AccessKind, Controls, Fault};
@@ -237,6 +237,73 @@ fn the_mapper_of_a_kernel_has_five_levels() {
 fn a_table_outside_a_window_makes_no_recursive_mapper() {
     let mut table = PageTable::new();
     assert!(matches!(RecursivePageTable::new(&mut table), Err(InvalidPageTable::NotRecursive)));
+    assert!(matches!(RecursivePageTable57::new(&mut table), Err(InvalidPageTable::NotRecursive)));
+}
+
+/// Tables that are seen at windows, as a processor with a recursive entry shows them: pages of one memory at several addresses.
+#[cfg(target_os = "linux")]
+mod windows {
+    use super::*;
+    use std::ffi::{c_char, c_int, c_long, c_uint, c_void};
+
+    const INDEX: u16 = 66;
+
+    unsafe extern "C" {
+        fn memfd_create(name: *const c_char, flags: c_uint) -> c_int;
+        fn ftruncate(file: c_int, length: c_long) -> c_int;
+        fn mmap(at: *mut c_void, length: usize, rights: c_int, flags: c_int, file: c_int, from: c_long) -> *mut c_void;
+    }
+
+    /// Shows a frame of a file at an address.
+    fn show(file: c_int, frame: u64, at: VirtAddr) -> *mut PageTable {
+        const READ_WRITE: c_int = 3;
+        const SHARED_FIXED_NEW: c_int = 0x10_0001;
+        // SAFETY: this takes no address that is in use.
+        let table = unsafe { mmap(at.as_mut_ptr(), 4096, READ_WRITE, SHARED_FIXED_NEW, file, 4096 * frame as c_long) };
+        assert_eq!(table as u64, at.as_u64(), "the address is in use");
+        table.cast()
+    }
+
+    /// Returns the window of a table, given the indices that lead to it.
+    fn window(path: &[u16]) -> VirtAddr {
+        let indices = [&[INDEX; 4][path.len()..], path].concat();
+        VirtAddr::new(indices.iter().fold(0, |number, index| 512 * number + u64::from(*index)) * 4096)
+    }
+
+    #[test]
+    fn tables_are_reached_at_windows() {
+        // SAFETY: the file is new.
+        let file = unsafe { memfd_create(c"tables".as_ptr(), 0) };
+        // SAFETY: as above.
+        assert_eq!(unsafe { ftruncate(file, 4096 * 5) }, 0);
+        // The frames 2, 3 and 4 become the tables on the path of the page, and are at their windows from the start.
+        let path = [3, 1, 4, 15];
+        let at = [0, 1, 2, 3].map(|length| show(file, 1 + length as u64, window(&path[..length])));
+        // SAFETY: nothing else uses the memory.
+        let root = unsafe { &mut *at[0] };
+        root[usize::from(INDEX)].set_frame(PhysFrame::from_pfn(1), BOTH);
+        // SAFETY: the windows show what a processor would show there.
+        let mut mapper = unsafe { RecursivePageTable::new_unchecked(root, index_of(INDEX)) };
+        let [p4, p3, p2, p1] = path.map(index_of);
+        let page = Page::from_page_table_indices(p4, p3, p2, p1);
+        let frame = PhysFrame::from_pfn(77);
+        // SAFETY: no processor uses the tables.
+        unsafe { mapper.map_to(page, frame, Flags::PRESENT, &mut Free::new(2..5)) }.expect("frames are free").ignore();
+        assert_eq!(mapper.translate_page(page), Ok(frame));
+        assert_eq!(mapper.translate_addr(page.start_address() + 9), Some(frame.start_address() + 9));
+        assert_eq!(mapper.level_4_table()[p4].addr(), PhysAddr::new(0x2000));
+        // SAFETY: as above.
+        unsafe { mapper.update_flags(page, BOTH) }.expect("the page is mapped").ignore();
+        // SAFETY: as above; the mapper isn't used meanwhile.
+        let entry = unsafe { (&(*at[3]))[p1].clone() };
+        assert_eq!((entry.addr(), entry.flags()), (frame.start_address(), BOTH));
+        assert_eq!(mapper.unmap(page).expect("the page is mapped").0, frame);
+        assert_eq!(mapper.translate_page(page), Err(TranslateError::PageNotMapped));
+    }
+
+    fn index_of(index: u16) -> data::PageTableIndex {
+        data::PageTableIndex::new(index)
+    }
 }
 
 #[test]

@@ -2,9 +2,9 @@
 
 use super::frame_alloc::{FrameAllocator, FrameDeallocator, Removed, Supply};
 use super::mapper::{forward_calls, CleanUp, Mapper, RangeMapper, Sink, Translate};
-use crate::addresses::addr::{PhysAddr, VirtAddr, VirtAddrIn};
+use crate::addresses::addr::{PhysAddr, VirtAddrIn};
 use crate::addresses::index::PageTableIndex;
-use crate::addresses::level_count::FourLevels;
+use crate::addresses::level_count::{FiveLevels, FourLevels, LevelCount};
 use crate::instructions::tlb;
 use crate::mappers::calls::{self, MapRangeErrorIn};
 use crate::mappers::recursive_page_table::{InvalidPageTable, Recursive, WalkedTables};
@@ -28,15 +28,15 @@ struct Windows<'a> {
 
 /// Returns the address of a table, by a position: an address that is counted without the gap between the halves.
 #[inline]
-fn pointer(position: u64) -> *mut PageTable {
-    let mut address = VirtAddr::new_truncate(position).as_u64();
+fn pointer<L: LevelCount>(position: u64) -> *mut PageTable {
+    let mut address = VirtAddrIn::<L>::new_truncate(position).as_u64();
     // SAFETY: it does nothing, but the compiler doesn't know this. So what was written before is written now: it may be the entry by
     // which the table is here.
     unsafe { asm!("/* {} */", inout(reg) address, options(nostack, preserves_flags)) };
     address as *mut PageTable
 }
 
-impl WalkedTables<FourLevels> for Windows<'_> {
+impl<L: LevelCount> WalkedTables<L> for Windows<'_> {
     #[inline]
     fn cr3(&self) -> PhysFrame {
         self.root
@@ -51,17 +51,17 @@ impl WalkedTables<FourLevels> for Windows<'_> {
     fn table(&self, position: u64) -> Option<&PageTable> {
         // SAFETY: the position is that of the window of a table that entries lead to. The processor follows these entries as well, so
         // the table is there, and is borrowed with the mapper.
-        Some(unsafe { &*pointer(position) })
+        Some(unsafe { &*pointer::<L>(position) })
     }
 
     #[inline]
     fn table_mut(&mut self, position: u64) -> Option<&mut PageTable> {
         // SAFETY: as above, and the mapper is borrowed mutably.
-        Some(unsafe { &mut *pointer(position) })
+        Some(unsafe { &mut *pointer::<L>(position) })
     }
 }
 
-/// A mapper for the four levels of tables that the processor uses, which reaches each at its window: the page whose walk goes through
+/// A mapper for the `L` levels of tables that the processor uses, which reaches each at its window: the page whose walk goes through
 /// the root's entry for itself, the recursive entry.
 ///
 /// The entry of a new table gets `PRESENT` and `WRITABLE` in addition to the parent flags, since the table can be reached only so. It is
@@ -71,25 +71,34 @@ impl WalkedTables<FourLevels> for Windows<'_> {
 /// Clean ups, and changes to pages of 2 MiB and 1 GiB, flush everything from the TLB of this processor, as
 /// [`flush_after`](crate::flushing::flush_after) says, so that later calls find the tables at their windows. Without this flush after a clean up,
 /// a kernel in QEMU faults. In the crate `x86_64` it is left to the kernel. After a `set_flags_..` call the kernel flushes everything.
-pub struct RecursivePageTable<'a> {
-    tables: Recursive<Windows<'a>, FourLevels>,
+///
+/// It makes no address spaces, as [`OffsetPageTable`](super::structures::paging::OffsetPageTable) does: a root that isn't in use has no
+/// window.
+pub struct RecursivePageTableIn<'a, L: LevelCount> {
+    tables: Recursive<Windows<'a>, L>,
 }
 
-impl<'a> RecursivePageTable<'a> {
-    /// Creates a mapper, given the table of level four at its window.
+/// A mapper for the four levels of tables that the processor uses, which reaches each at its window.
+pub type RecursivePageTable<'a> = RecursivePageTableIn<'a, FourLevels>;
+
+/// A mapper for the five levels of tables that the processor uses, which reaches each at its window.
+pub type RecursivePageTable57<'a> = RecursivePageTableIn<'a, FiveLevels>;
+
+impl<'a, L: LevelCount> RecursivePageTableIn<'a, L> {
+    /// Creates a mapper, given the root, the table of level four or five, at its window.
     ///
     /// It is a safe function, as in the crate `x86_64`. So whoever creates the reference, by unsafe code, sees to what
     /// [`new_unchecked`](Self::new_unchecked) asks for, as far as it isn't tested here.
     ///
     /// # Errors
     ///
-    /// - `NotRecursive` if the four indices of the reference's address aren't equal.
+    /// - `NotRecursive` if the indices of the reference's address, one for each level, aren't equal.
     /// - `NotActive` if the table's entry at this index doesn't name the frame in CR3.
     #[inline]
     pub fn new(table: &'a mut PageTable) -> Result<Self, InvalidPageTable> {
-        let address = VirtAddr::from_ptr(table);
-        let index = address.p4_index();
-        if address.p3_index() != index || address.p2_index() != index || address.p1_index() != index {
+        let address = VirtAddrIn::<L>::checked_new(&raw const *table as u64).ok_or(InvalidPageTable::NotRecursive)?;
+        let index = address.root_index();
+        if (1..L::LEVELS).any(|level| address.table_index(level) != index) {
             return Err(InvalidPageTable::NotRecursive);
         }
         if table[index].frame() != Ok(Cr3::read().0) {
@@ -100,18 +109,19 @@ impl<'a> RecursivePageTable<'a> {
         Ok(unsafe { Self::new_unchecked(table, index) })
     }
 
-    /// Creates a mapper, given the table of level four at its window, and the index of its recursive entry.
+    /// Creates a mapper, given the root, the table of level four or five, at its window, and the index of its recursive entry.
     ///
     /// # Safety
     ///
-    /// - The processor uses the hierarchy with this root, as long as the mapper lives, and the root's entry at the index names it.
+    /// - The processor uses the hierarchy with this root, with as many levels, as long as the mapper lives, and the root's entry at the
+    ///   index names it.
     /// - This entry and all others that name tables have `PRESENT` and `WRITABLE`. Other mappers make tables without `WRITABLE`, if the
     ///   flags lack it; through the window of such a table nothing can be written.
     /// - The hierarchy is valid but for this entry: no two others name one table, none names the root, and entries above level one that
     ///   aren't 0 name tables or, at levels three and two, map huge pages.
     /// - Nothing else reads or writes its tables meanwhile but processors that walk them.
-    /// - The mapper isn't lent mutably to code that isn't to be trusted with the address space, as
-    ///   [`MappedPageTable::new`](super::structures::paging::mapper::MappedPageTableIn::new) says.
+    /// - The mapper isn't lent mutably to code that isn't to be trusted with the address space: there are safe methods that take pages
+    ///   away ([`unmap`](Mapper::unmap)) or lend the root's table (`level_4_table_mut`, `level_5_table_mut`), as in the crate `x86_64`.
     /// - The index isn't 511, since the last byte of the address space is in no Rust object.
     #[inline]
     pub unsafe fn new_unchecked(table: &'a mut PageTable, recursive_index: PageTableIndex) -> Self {
@@ -119,9 +129,11 @@ impl<'a> RecursivePageTable<'a> {
         let windows = Windows { root, table: PhantomData };
         // The tables are reached by numbers from here on.
         (table as *mut PageTable).expose_provenance();
-        RecursivePageTable { tables: Recursive::new_unchecked(windows, recursive_index) }
+        RecursivePageTableIn { tables: Recursive::new_unchecked(windows, recursive_index) }
     }
+}
 
+impl RecursivePageTable<'_> {
     /// Returns the table of level four.
     #[inline]
     pub fn level_4_table(&self) -> &PageTable {
@@ -135,7 +147,39 @@ impl<'a> RecursivePageTable<'a> {
     }
 }
 
-impl fmt::Debug for RecursivePageTable<'_> {
+impl RecursivePageTable57<'_> {
+    /// Returns the table of level five.
+    #[inline]
+    pub fn level_5_table(&self) -> &PageTable {
+        self.tables.level_5_table()
+    }
+
+    /// Lends the table of level five, to be changed. The hierarchy must be valid again when the mapper is used next.
+    #[inline]
+    pub fn level_5_table_mut(&mut self) -> &mut PageTable {
+        self.tables.level_5_table_mut()
+    }
+
+    /// Gives the entry of level five on the path to a page these flags.
+    ///
+    /// # Errors
+    ///
+    /// `PageNotMapped` if it isn't used.
+    ///
+    /// # Safety
+    ///
+    /// As for [`set_flags_p4_entry`](Mapper::set_flags_p4_entry).
+    #[inline]
+    pub unsafe fn set_flags_p5_entry<S: PageSize>(
+        &mut self,
+        page: PageIn<S, FiveLevels>,
+        flags: PageTableFlags,
+    ) -> Result<MapperFlushAll, FlagUpdateError> {
+        calls::set_table_flags(&mut self.tables, page, 5, flags)
+    }
+}
+
+impl<L: LevelCount> fmt::Debug for RecursivePageTableIn<'_, L> {
     fn fmt(&self, f: &mut fmt::Formatter<'_>) -> fmt::Result {
         f.debug_struct("RecursivePageTable").finish_non_exhaustive()
     }
@@ -143,4 +187,4 @@ impl fmt::Debug for RecursivePageTable<'_> {
 
 // A window shows what was there until the TLB is flushed. So clean ups flush everything, and changes to huge pages, whose words a processor
 // may have taken for those of a table.
-forward_calls! { ['a] RecursivePageTable<'a>, FourLevels, tables, { tlb::flush_all() } }
+forward_calls! { ['a, L: LevelCount] RecursivePageTableIn<'a, L>, L, tables, { tlb::flush_all() } }
