@@ -39,7 +39,7 @@ mod recursive;
 #[cfg(doctest)]
 mod refused;
 
-pub use crate::{addr, instructions, registers, PhysAddr, VirtAddr, VirtAddr57};
+pub use crate::{addr, instructions, registers, GiveUpError, PhysAddr, SharedIndices, Space, VirtAddr, VirtAddr57};
 pub use direct_map::DirectMap;
 
 /// Structures that the processor reads.

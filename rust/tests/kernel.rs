@@ -5,14 +5,18 @@ use x86_64::structures::paging::mapper::{
     CleanUp, InvalidPageTable, MapToError, MapperAllSizes, PageTableFrameMapping, RangeMapper, TranslateError, UnmapError,
 };
 use x86_64::structures::paging::{
-    FrameAllocator, FrameDeallocator, MappedPageTable, Mapper, OffsetPageTable, OffsetPageTable57, Page, Page57, PageTable,
-    PageTableFlags as Flags, PhysFrame, RecursivePageTable, RecursivePageTable57, Size1GiB, Size2MiB, Size4KiB, Translate,
+    FrameAllocator, FrameDeallocator, MappedPageTable, MappedPageTable57, Mapper, OffsetPageTable, OffsetPageTable57, Page, Page57,
+    PageTable, PageTableFlags as Flags, PhysFrame, RecursivePageTable, RecursivePageTable57, Size1GiB, Size2MiB, Size4KiB,
+    Translate,
 };
-use x86_64::{DirectMap, PhysAddr, VirtAddr, VirtAddr57};
+use x86_64::{DirectMap, GiveUpError, PhysAddr, SharedIndices, Space, VirtAddr, VirtAddr57};
 use x86_64_paging::access::{Access, AccessKind, Controls, Fault};
 use x86_64_paging::kernel as x86_64;
 use x86_64_paging::structures::paging as data;
-use x86_64_paging::{is_valid_by_marks, FourLevels, FramePlace, IdentityMapping, LentMemory, LentPool, OwnFrames, TableMemory};
+use x86_64_paging::{
+    is_valid_by_marks, roots_fit_by_marks, FiveLevels, FourLevels, FramePlace, IdentityMapping, LentMemory, LentPool, OwnFrames,
+    TableMemory,
+};
 
 const FRAMES: usize = 16;
 const BOTH: Flags = Flags::PRESENT.union(Flags::WRITABLE);
@@ -231,6 +235,129 @@ fn the_mapper_of_a_kernel_has_five_levels() {
     unsafe { mapper.clean_up(&mut pool) };
     assert_eq!(pool.0.len(), 4);
     assert!(tables.iter().all(|table| table.is_empty()));
+}
+
+/// A page of the half that spaces share, and one of the other half, where each has its own.
+fn shared_and_own() -> (Page, Page) {
+    let page = |address| Page::containing_address(VirtAddr::new(address));
+    (page(0xffff_8000_0000_0000), page(0x7000))
+}
+
+#[test]
+fn a_new_space_shares_a_half_and_is_given_up() {
+    let mut tables = tables();
+    let start = tables.as_mut_ptr();
+    let (shared, own) = shared_and_own();
+    let half = SharedIndices::UPPER_HALF;
+    let mut free = Free::new(2..FRAMES as u64);
+    // SAFETY: `tables` is the memory from frame 0 on. No processor uses the tables, and each root has one mapper.
+    let mut kernel = unsafe { OffsetPageTable::new(&mut *start.add(1), VirtAddr::from_ptr(start)) };
+    // SAFETY: as above. The shared entry that is used is there before the space is made.
+    let (before, root) = unsafe {
+        kernel.map_to(shared, PhysFrame::from_pfn(77), BOTH, &mut free).expect("frames are free").ignore();
+        let before = free.0.clone();
+        (before, kernel.new_space(half, None, &mut free).expect("a frame is free"))
+    };
+    assert_eq!(root, PhysFrame::from_pfn(5));
+    let space = Space { root, recursive: None };
+    // SAFETY: as above.
+    let mut process = unsafe { OffsetPageTable::new(&mut *start.add(5), VirtAddr::from_ptr(start)) };
+    // SAFETY: as above.
+    unsafe { process.map_to(own, PhysFrame::from_pfn(88), BOTH, &mut free) }.expect("frames are free").ignore();
+    assert_eq!(
+        (kernel.translate_page(own), process.translate_page(own)),
+        (Err(TranslateError::PageNotMapped), Ok(PhysFrame::from_pfn(88)))
+    );
+    // SAFETY: as above; the page's table is there, so no entry of a root changes.
+    unsafe { kernel.map_to(shared + 1, PhysFrame::from_pfn(99), BOTH, &mut free) }.expect("no frame is needed").ignore();
+    assert_eq!(process.translate_page(shared + 1), Ok(PhysFrame::from_pfn(99)));
+    // SAFETY: as above; the process has a table, so it isn't given up.
+    assert_eq!(unsafe { kernel.give_up_space(&space, half, &mut free) }, Err(GiveUpError::EntryUsed));
+
+    process.unmap(own).expect("the page is mapped").1.ignore();
+    let own_half = Page::range_inclusive(
+        Page::containing_address(VirtAddr::zero()),
+        Page::containing_address(VirtAddr::new(0x7fff_ffff_f000)),
+    );
+    // SAFETY: as above; only the process has the tables of its half, and its mapper isn't used any more.
+    unsafe {
+        process.clean_up_addr_range(own_half, &mut free);
+        assert_eq!(kernel.give_up_space(&space, half, &mut free), Ok(()));
+    }
+    let sorted = |frames: &[PhysFrame]| {
+        let mut numbers: Vec<u64> = frames.iter().map(|frame| frame.pfn()).collect();
+        numbers.sort();
+        numbers
+    };
+    assert_eq!(sorted(&free.0), sorted(&before));
+    assert_eq!(kernel.translate_page(shared), Ok(PhysFrame::from_pfn(77)));
+    assert!(tables[5].is_empty());
+}
+
+#[test]
+fn spaces_of_a_kernel_are_the_words_of_spaces_on_data() {
+    let half = SharedIndices::UPPER_HALF;
+    let mut lent = tables();
+    // The template has an entry that isn't shared, and the new root's frame isn't cleared.
+    lent[1][3].set_frame(PhysFrame::from_pfn(4), BOTH);
+    lent[3].iter_mut().for_each(|entry| entry.set_frame(PhysFrame::from_pfn(9), BOTH));
+    lent[1][300].set_frame(PhysFrame::from_pfn(2), BOTH);
+    let mut tables: Vec<PageTable> = lent.clone();
+    let index = Some(data::PageTableIndex::new(7));
+
+    let mut memory = LentMemory::new(&mut lent);
+    let (mut frames, mut free) = ([0x3000, 0], 1);
+    let mut pool = LentPool::new(&mut frames, &mut free, OwnFrames::of());
+    let template = Space { root: PhysFrame::from_pfn(1), recursive: None };
+    let made = x86_64_paging::new_space::<FourLevels, _, _, _>(&mut memory, &IdentityMapping, &template, half, index, &mut pool);
+
+    let start = tables.as_mut_ptr();
+    // SAFETY: as above.
+    let mut mapper = unsafe { MappedPageTable::new(&mut *start.add(1), At(start)) };
+    let mut none = Free::new(0..0);
+    // SAFETY: as above.
+    unsafe {
+        assert_eq!(mapper.new_space(half, index, &mut none), None);
+        assert_eq!(mapper.new_space(half, index, &mut Free::new(3..4)), made);
+    }
+    assert_eq!(made, Some(PhysFrame::from_pfn(3)));
+    assert!(tables.iter().zip(&lent).all(|(table, wanted)| words(table) == words(wanted)));
+    assert_eq!((tables[3][7].addr(), tables[3][300].addr()), (PhysAddr::new(0x3000), PhysAddr::new(0x2000)));
+    assert_eq!(tables[3].iter().filter(|entry| !entry.is_unused()).count(), 2);
+}
+
+#[test]
+fn spaces_have_five_levels_too() {
+    let mut tables = tables();
+    let start = tables.as_mut_ptr();
+    let page = Page57::<Size4KiB>::containing_address(VirtAddr57::new(0xff34_5678_9012_3000));
+    let half = SharedIndices::UPPER_HALF;
+    let mut free = Free::new(2..FRAMES as u64);
+    // SAFETY: as above.
+    let mut kernel = unsafe { MappedPageTable57::new(&mut *start.add(1), At(start)) };
+    // SAFETY: as above; frame 0 is free, too.
+    unsafe {
+        kernel.map_to(page, PhysFrame::from_pfn(77), BOTH, &mut free).expect("frames are free").ignore();
+        assert_eq!(kernel.new_space(half, None, &mut free), Some(PhysFrame::from_pfn(6)));
+        let zero = Space { root: PhysFrame::from_pfn(0), recursive: None };
+        assert_eq!(kernel.give_up_space(&zero, half, &mut free), Err(GiveUpError::FrameZero));
+    }
+    let left: Vec<u64> = free.0.iter().map(|frame| frame.start_address().as_u64()).collect();
+    let (memory, mut marks) = (LentMemory::new(&mut tables), [false; FRAMES]);
+    assert!(roots_fit_by_marks::<FiveLevels, _, _>(&memory, &IdentityMapping, &[0x1000, 0x6000], half, &left, FRAMES, &mut marks));
+}
+
+#[test]
+#[cfg(debug_assertions)]
+#[should_panic]
+fn a_mapper_gives_up_other_spaces() {
+    let mut tables = tables();
+    let start = tables.as_mut_ptr();
+    // SAFETY: as above.
+    let mut mapper = unsafe { OffsetPageTable::new(&mut *start.add(1), VirtAddr::from_ptr(start)) };
+    let space = Space { root: PhysFrame::from_pfn(1), recursive: None };
+    // SAFETY: it panics.
+    let _ = unsafe { mapper.give_up_space(&space, SharedIndices::UPPER_HALF, &mut Free::new(0..0)) };
 }
 
 #[test]

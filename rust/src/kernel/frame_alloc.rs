@@ -25,7 +25,7 @@ pub trait FrameDeallocator<S: PageSize> {
     unsafe fn deallocate_frame(&mut self, frame: PhysFrame<S>);
 }
 
-/// The frames of an allocator, for the proved code.
+/// The frames of an allocator, for the proved code, which takes them and gives none back.
 pub(super) struct Supply<'a, A: ?Sized>(pub &'a mut A);
 
 impl<A: FrameAllocator<Size4KiB> + ?Sized> frame_alloc::FrameAllocator<Size4KiB> for Supply<'_, A> {
@@ -37,16 +37,31 @@ impl<A: FrameAllocator<Size4KiB> + ?Sized> frame_alloc::FrameAllocator<Size4KiB>
     }
 }
 
+/// For `new_space`, which asks for a store and only takes from it.
+impl<A: ?Sized> frame_alloc::FrameDeallocator<Size4KiB> for Supply<'_, A> {
+    fn deallocate_frame(&mut self, _frame: PhysFrame) {
+        unreachable!("a call that takes a frame gives none back");
+    }
+}
+
 /// Where frames of tables go that the proved code has removed.
 ///
-/// Only [`CleanUp`](super::structures::paging::mapper::CleanUp) creates it, whose callers promise what its unsafe code needs.
-pub(super) struct Removed<'a, D>(pub &'a mut D);
+/// Only [`CleanUp`](super::structures::paging::mapper::CleanUp) and `give_up_space` of the mappers create it, whose callers promise what
+/// its unsafe code needs.
+pub(super) struct Removed<'a, D: ?Sized>(pub &'a mut D);
 
-impl<D: FrameDeallocator<Size4KiB>> frame_alloc::FrameDeallocator<Size4KiB> for Removed<'_, D> {
+impl<D: FrameDeallocator<Size4KiB> + ?Sized> frame_alloc::FrameDeallocator<Size4KiB> for Removed<'_, D> {
     #[inline]
     fn deallocate_frame(&mut self, frame: PhysFrame) {
-        // SAFETY: it is called for a table whose entry was the only one that named it, and is unused now. That no processor has
-        // cached the entry is promised by the caller of `clean_up`.
+        // SAFETY: it is called for a table whose entry was the only one that named it and is unused now, or for a root that no
+        // processor uses. That no processor has cached such a table is promised by the caller of `clean_up` or `give_up_space`.
         unsafe { self.0.deallocate_frame(frame) }
+    }
+}
+
+/// For `give_up_space`, which asks for a store and only puts a frame into it.
+impl<D: ?Sized> frame_alloc::FrameAllocator<Size4KiB> for Removed<'_, D> {
+    fn allocate_frame(&mut self) -> Option<PhysFrame> {
+        None
     }
 }

@@ -10,6 +10,7 @@ use crate::mappers::calls::{self, MapRangeErrorIn, TableAccess};
 use crate::pages::frame::PhysFrame;
 use crate::pages::page::{PageIn, PageSize, Size4KiB};
 use crate::pages::range::BlockRangeInclusive;
+use crate::spaces::{self, GiveUpError, SharedIndices, Space};
 use crate::tables::mapper::{
     FlagUpdateError, MapToError, MapperFlushAll, MapperFlushIn, MapperFlushRangeIn, Tables, TablesIn, TranslateError,
     TranslateResult, UnmapError,
@@ -156,6 +157,75 @@ macro_rules! methods {
             /// Lists what is mapped from an address on, as [`mappings_from`](crate::mappings_from) does. The crate `x86_64` doesn't have it.
             pub fn mappings_from(&self, addr: VirtAddrIn<L>) -> impl Iterator<Item = crate::MappingIn<L>> + '_ {
                 crate::mappings_from(&self.tables, &IdentityMapping, self.tables.root(), addr)
+            }
+
+            /// Takes a frame of an allocator and makes it the root of one more address space, as [`new_space`](crate::new_space) does.
+            /// Returns the frame, or `None` if there is none. The crate `x86_64` doesn't have it.
+            ///
+            /// The root gets this root's entries at the shared indices, and so its tables below them. It maps nothing elsewhere. With a
+            /// recursive index, its entry there names itself. A mapper for the new space takes the root at its frame's pointer.
+            ///
+            /// Processors mark entries that they use, each in the root that they use. If the shared entries have `ACCESSED` before, the
+            /// roots stay alike there.
+            ///
+            /// # Safety
+            ///
+            /// From now on, each hierarchy is valid, and some tables are in several of them. It lasts until the space is given up:
+            ///
+            /// - The shared indices are the same for all spaces that are made of this one. At these indices no entry of any of the roots
+            ///   changes any more, since the others wouldn't: each that is ever to be used names a table before the first space is made.
+            ///   So no call needs a new table there, changes flags there, or removes a table there (for example
+            ///   [`clean_up`](CleanUp::clean_up) of all pages).
+            /// - What [`Mapper`] and [`CleanUp`] ask for holds in each space with the same tables. `GLOBAL` stands only in flags of pages
+            ///   below shared indices.
+            /// - If the recursive index is a shared one, this root's entry there is unused.
+            /// - What was due for the frame when it was freed is flushed, and no processor holds it as a root: each PCID (with none, 0)
+            ///   under which CR3 was last loaded with the frame has been loaded with another root since, or its next load drops what is
+            ///   cached ([`Cr3::write_pcid`](crate::registers::control::Cr3::write_pcid)).
+            pub unsafe fn new_space<A: FrameAllocator<Size4KiB> + ?Sized>(
+                &mut self,
+                shared: SharedIndices,
+                recursive: Option<PageTableIndex>,
+                frame_allocator: &mut A,
+            ) -> Option<PhysFrame> {
+                let template = Space { root: self.tables.root(), recursive: None };
+                let supply = &mut Supply(frame_allocator);
+                spaces::new_space::<L, _, _, _>(&mut self.tables, &IdentityMapping, &template, shared, recursive, supply)
+            }
+
+            /// Gives up another address space: clears its root and passes the root's frame to a deallocator, as
+            /// [`give_up_space`](crate::give_up_space) does. The crate `x86_64` doesn't have it.
+            ///
+            /// What is below the shared indices stays for the other spaces. The space's own tables have to be gone, as after a
+            /// [`clean_up_addr_range`](CleanUp::clean_up_addr_range) of the pages that aren't shared, by a mapper of that space.
+            ///
+            /// # Errors
+            ///
+            /// `EntryUsed` if an entry that isn't shared is used, else `FrameZero` if the root is in frame 0. On an error nothing changes.
+            ///
+            /// # Panics
+            ///
+            /// With debug assertions, panics if the space is that of this mapper, by the pointer to its root.
+            ///
+            /// # Safety
+            ///
+            /// - The space is one that [`new_space`](Self::new_space) made, or was made like that, with the same shared indices. Its root
+            ///   is at its frame's pointer, isn't this mapper's, and nothing else reads or writes it: no mapper for it is left.
+            /// - The frame belongs to the deallocator.
+            /// - No processor uses the root, or loads it later. Each PCID (with none, 0) that holds the root, since CR3 was last loaded with
+            ///   it under this PCID, is given up on each processor: its next load drops what is cached, as
+            ///   [`Cr3::write_pcid`](crate::registers::control::Cr3::write_pcid) does and
+            ///   [`Cr3::write_pcid_no_flush`](crate::registers::control::Cr3::write_pcid_no_flush) doesn't. So says the law
+            ///   `given_up_roots_may_happen`: an address space may end, and its root go back to the pool, once no PCID holds it.
+            pub unsafe fn give_up_space<D: FrameDeallocator<Size4KiB> + ?Sized>(
+                &mut self,
+                space: &Space,
+                shared: SharedIndices,
+                frame_deallocator: &mut D,
+            ) -> Result<(), GiveUpError> {
+                debug_assert!(!core::ptr::eq(self.tables.mapping.frame_to_pointer(space.root), self.tables.root));
+                let removed = &mut Removed(frame_deallocator);
+                spaces::give_up_space::<L, _, _, _>(&mut self.tables, &IdentityMapping, space, shared, removed)
             }
         }
 

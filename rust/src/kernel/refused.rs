@@ -60,6 +60,30 @@
 //! }
 //! ```
 //!
+//! ```compile_fail,E0133
+//! # use x86_64_paging::kernel as x86_64;
+//! # use x86_64::structures::paging::{FrameAllocator, OffsetPageTable, Size4KiB};
+//! fn change(mapper: &mut OffsetPageTable, frames: &mut impl FrameAllocator<Size4KiB>) {
+//!     mapper.new_space(x86_64::SharedIndices::UPPER_HALF, None, frames).unwrap();
+//! }
+//! ```
+//!
+//! ```compile_fail,E0133
+//! # use x86_64_paging::kernel as x86_64;
+//! # use x86_64::structures::paging::{FrameDeallocator, OffsetPageTable, Size4KiB};
+//! fn change(mapper: &mut OffsetPageTable, space: &x86_64::Space, frames: &mut impl FrameDeallocator<Size4KiB>) {
+//!     mapper.give_up_space(space, x86_64::SharedIndices::UPPER_HALF, frames).unwrap();
+//! }
+//! ```
+//!
+//! ```compile_fail,E0133
+//! # use x86_64_paging::kernel as x86_64;
+//! # use x86_64::structures::paging::{Page57, PageTableFlags, RecursivePageTable57, Size4KiB};
+//! fn change(mapper: &mut RecursivePageTable57, page: Page57<Size4KiB>) {
+//!     mapper.set_flags_p5_entry(page, PageTableFlags::PRESENT).unwrap().flush_all();
+//! }
+//! ```
+//!
 //! The compiler warns of a token that isn't used.
 //!
 //! ```compile_fail
@@ -94,6 +118,16 @@
 //!
 //! fn change(mapper: &mut OffsetPageTable, page: Page) {
 //!     update_flags(mapper, page, PageTableFlags::PRESENT).unwrap().flush();
+//! }
+//! ```
+//!
+//! ```compile_fail,E0277
+//! # use x86_64_paging::kernel as x86_64;
+//! # use x86_64::structures::paging::OffsetPageTable;
+//! use x86_64_paging::{give_up_space, FourLevels, FramePool, IdentityMapping, SharedIndices, Space};
+//!
+//! fn change(mapper: &mut OffsetPageTable, space: &Space, pool: &mut FramePool) {
+//!     give_up_space::<FourLevels, _, _, _>(mapper, &IdentityMapping, space, SharedIndices::UPPER_HALF, pool).unwrap();
 //! }
 //! ```
 //!
