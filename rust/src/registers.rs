@@ -6,8 +6,11 @@
 pub mod control {
     use crate::addresses::addr::{PhysAddr, VirtAddr, VirtAddrNotValid};
     use crate::bitflags::bitflag_items;
+    use crate::conveniences::flag_texts;
+    use crate::instructions::tlb::Pcid;
     use crate::pages::frame::PhysFrame;
     use core::arch::asm;
+    use core::fmt;
 
     /// The address at which the last page fault was.
     #[derive(Debug)]
@@ -29,7 +32,7 @@ pub mod control {
     pub struct Cr3;
 
     /// The flags in CR3.
-    #[derive(Clone, Copy, Debug, PartialEq, Eq)]
+    #[derive(Clone, Copy, PartialEq, Eq)]
     pub struct Cr3Flags(u64);
 
     bitflag_items! {
@@ -41,17 +44,35 @@ pub mod control {
         }
     }
 
+    flag_texts!(Cr3Flags);
+
+    impl fmt::Debug for Cr3Flags {
+        /// Writes the flags by their names.
+        fn fmt(&self, f: &mut fmt::Formatter<'_>) -> fmt::Result {
+            write!(f, "Cr3Flags({self})")
+        }
+    }
+
     impl Cr3 {
-        /// Returns the frame and the flags.
+        /// Returns the frame and the flags. Where CR4.PCIDE is set, [`read_pcid`](Self::read_pcid) is the one to use.
         #[inline]
         pub fn read() -> (PhysFrame, Cr3Flags) {
-            let word: u64;
-            // SAFETY: ring 0 may read the register.
-            unsafe { asm!("mov {}, cr3", out(reg) word, options(nomem, nostack, preserves_flags)) };
-            (PhysFrame::containing_address(PhysAddr::new_truncate(word)), Cr3Flags::from_bits_truncate(word))
+            let word = read_word();
+            (frame_of(word), Cr3Flags::from_bits_truncate(word))
         }
 
-        /// Makes the processor use the hierarchy with a root. This flushes all but global pages.
+        /// Returns the frame and the PCID. Without CR4.PCIDE, the flags are bits of this number.
+        #[inline]
+        pub fn read_pcid() -> (PhysFrame, Pcid) {
+            let word = read_word();
+            match Pcid::new((word % 4096) as u16) {
+                Ok(pcid) => (frame_of(word), pcid),
+                Err(_) => unreachable!(),
+            }
+        }
+
+        /// Makes the processor use the hierarchy with a root. This flushes all but global pages. Where CR4.PCIDE is set,
+        /// [`write_pcid`](Self::write_pcid) is the one to use.
         ///
         /// # Safety
         ///
@@ -59,9 +80,57 @@ pub mod control {
         #[inline]
         pub unsafe fn write(frame: PhysFrame, flags: Cr3Flags) {
             // SAFETY: the caller promises it.
-            unsafe {
-                asm!("mov cr3, {}", in(reg) frame.start_address().as_u64() | flags.bits(), options(nostack, preserves_flags))
-            };
+            unsafe { write_word(frame.start_address().as_u64() | flags.bits()) };
         }
+
+        /// Makes the processor use the hierarchy with a root, under a PCID. This flushes what is cached with the PCID but for global pages,
+        /// so it is also what ends that another root is held under it ([`tlb`](crate::instructions::tlb)).
+        ///
+        /// # Safety
+        ///
+        /// CR4.PCIDE is set, and the hierarchy maps all memory that is used as it is used.
+        #[inline]
+        pub unsafe fn write_pcid(frame: PhysFrame, pcid: Pcid) {
+            // SAFETY: the caller promises it.
+            unsafe { write_word(frame.start_address().as_u64() | u64::from(pcid.value())) };
+        }
+
+        /// Makes the processor use the hierarchy with a root, under a PCID, and keeps what is cached with it.
+        ///
+        /// # Safety
+        ///
+        /// - CR4.PCIDE is set, and the hierarchy maps all memory that is used as it is used.
+        /// - CR3 was last loaded with this root under the PCID, on this processor, and the PCID wasn't given up since: after each call that
+        ///   concerns the root it was flushed, as [`tlb`](crate::instructions::tlb) says.
+        #[inline]
+        pub unsafe fn write_pcid_no_flush(frame: PhysFrame, pcid: Pcid) {
+            const KEEP: u64 = 1 << 63;
+            // SAFETY: the caller promises it.
+            unsafe { write_word(KEEP | frame.start_address().as_u64() | u64::from(pcid.value())) };
+        }
+    }
+
+    #[inline]
+    fn read_word() -> u64 {
+        let word: u64;
+        // SAFETY: ring 0 may read the register.
+        unsafe { asm!("mov {}, cr3", out(reg) word, options(nomem, nostack, preserves_flags)) };
+        word
+    }
+
+    /// Writes a word to CR3.
+    ///
+    /// # Safety
+    ///
+    /// The hierarchy with the root that it names maps all memory that is used as it is used.
+    #[inline]
+    unsafe fn write_word(word: u64) {
+        // SAFETY: the caller promises it.
+        unsafe { asm!("mov cr3, {}", in(reg) word, options(nostack, preserves_flags)) };
+    }
+
+    #[inline]
+    fn frame_of(word: u64) -> PhysFrame {
+        PhysFrame::containing_address(PhysAddr::new_truncate(word))
     }
 }

@@ -468,6 +468,116 @@ fn tables_of_a_loader_are_tested_in_a_direct_map() {
     assert!(!is_valid());
 }
 
+/// What Rust's users expect of addresses, flags and errors.
+mod conveniences {
+    use super::*;
+    use std::error::Error;
+    use x86_64::registers::control::Cr3Flags;
+    use x86_64::structures::paging::PageTableIndex;
+    use x86_64_paging::access::PageFaultCode;
+
+    #[test]
+    fn addresses_are_numbers_and_pointers() {
+        let address = VirtAddr::new(0xffff_8000_0000_1234);
+        assert_eq!((u64::from(address), usize::from(address)), (0xffff_8000_0000_1234, 0xffff_8000_0000_1234));
+        assert_eq!(VirtAddr::try_from(0xffff_8000_0000_1234u64), Ok(address));
+        assert_eq!(VirtAddr::try_from(1usize << 47).map_err(|why| why.0), Err(1 << 47));
+        assert_eq!(VirtAddr57::try_from(1u64 << 47), Ok(VirtAddr57::new(1 << 47)));
+        assert_eq!(PhysAddr::try_from(1u64 << 52).map_err(|why| why.0), Err(1 << 52));
+        assert_eq!(u64::from(PhysAddr::try_from(7usize).unwrap()), 7);
+        assert_eq!(VirtAddr::try_from(VirtAddr57::from(address)), Ok(address));
+        assert!(VirtAddr::try_from(VirtAddr57::new(1 << 47)).is_err());
+        let number = 5;
+        assert_eq!(VirtAddr57::from_ptr(&raw const number).as_ptr(), &raw const number);
+    }
+
+    #[test]
+    fn addresses_are_texts() {
+        let (four, five, phys) = (VirtAddr::new(0xab0), VirtAddr57::new(0xab0), PhysAddr::new(0xab0));
+        for text in [
+            format!("{four} {four:x} {four:#X} {four:o} {four:b} {four:p}"),
+            format!("{five} {five:x} {five:#X} {five:o} {five:b} {five:p}"),
+        ] {
+            assert_eq!(text, "0xab0 ab0 0xAB0 5260 101010110000 0xab0");
+        }
+        assert_eq!(format!("{phys} {phys:x} {phys:#X} {phys:o} {phys:b} {phys:p}"), "0xab0 ab0 0xAB0 5260 101010110000 0xab0");
+        assert_eq!(format!("{four:016x}"), "0000000000000ab0");
+    }
+
+    #[test]
+    fn steps_go_on_behind_the_gap() {
+        let last = VirtAddr::new(0x7fff_ffff_ffff);
+        assert_eq!(VirtAddr::forward(last, 1), VirtAddr::new(0xffff_8000_0000_0000));
+        assert_eq!(VirtAddr::backward(VirtAddr::new(0xffff_8000_0000_0000), 1), last);
+        let page = Page::<Size4KiB>::containing_address(last);
+        assert_eq!(Page::backward(Page::forward(page, 2), 2), page);
+        let index = PageTableIndex::new(510);
+        assert_eq!(PageTableIndex::backward(PageTableIndex::forward(index, 1), 511), PageTableIndex::new(0));
+    }
+
+    #[test]
+    #[should_panic(expected = "a step beyond the last one")]
+    fn no_step_goes_beyond_the_last_address() {
+        VirtAddr57::forward(VirtAddr57::new(u64::MAX), 1);
+    }
+
+    #[test]
+    #[should_panic(expected = "a step before the first one")]
+    fn no_step_goes_before_the_first_page() {
+        Page::<Size2MiB>::backward(Page::containing_address(VirtAddr::zero()), 1);
+    }
+
+    #[test]
+    fn flags_are_texts() {
+        assert_eq!(BOTH.to_string(), "PRESENT | WRITABLE");
+        assert_eq!(format!("{:#x} {:o} {:b} {:X}", BOTH | Flags::BIT_9, BOTH, BOTH, Flags::BIT_11), "0x203 3 11 800");
+        assert_eq!(Flags::from_bits_retain(0x1001).to_string(), "PRESENT | 0x1000");
+        assert_eq!(Flags::empty().to_string(), "0x0");
+        assert_eq!((PageFaultCode::USER_MODE | PageFaultCode::CAUSED_BY_WRITE).to_string(), "CAUSED_BY_WRITE | USER_MODE");
+        assert_eq!(
+            format!("{:?} {:?}", Cr3Flags::empty(), Cr3Flags::all()),
+            "Cr3Flags(0x0) Cr3Flags(PAGE_LEVEL_WRITETHROUGH | PAGE_LEVEL_CACHE_DISABLE)"
+        );
+    }
+
+    #[test]
+    fn errors_are_errors_of_core() {
+        let errors: [Box<dyn Error>; 6] = [
+            Box::new(MapToError::PageAlreadyMapped(PhysFrame::<Size4KiB>::from_pfn(7))),
+            Box::new(UnmapError::InvalidFrameAddress(PhysAddr::new(0x20_1000))),
+            Box::new(VirtAddr::try_new(1 << 47).unwrap_err()),
+            Box::new(PhysAddr::try_new(1 << 52).unwrap_err()),
+            Box::new(GiveUpError::EntryUsed),
+            Box::new(InvalidPageTable::NotActive),
+        ];
+        let texts = errors.map(|error| error.to_string());
+        assert_eq!(texts[0], "the page is already mapped, so not to PhysFrame[4KiB](0x7000)");
+        assert_eq!(texts[1], "the page's entry has the address 0x201000, at which no frame starts");
+        assert_eq!(texts[2], "0x800000000000 isn't canonical with four levels of page tables");
+    }
+
+    #[test]
+    fn a_range_tells_how_far_it_came() {
+        let mut tables = tables();
+        let start = tables.as_mut_ptr();
+        // SAFETY: as above.
+        let mut mapper = unsafe { OffsetPageTable::new(&mut *start.add(1), VirtAddr::from_ptr(start)) };
+        let first = Page::<Size4KiB>::containing_address(VirtAddr::new(0x1ff_000));
+        // SAFETY: no processor uses the tables.
+        let mapped = unsafe { mapper.map_range(first, 9, PhysFrame::from_pfn(100), BOTH, BOTH, &mut Free::new(2..5)) };
+        let error = mapped.expect_err("a table for the second page lacks a frame");
+        assert_eq!(error.to_string(), "there is no frame for a table (pages mapped before: 1)");
+        error.mapped.ignore();
+    }
+
+    #[test]
+    fn a_pcid_is_below_4096() {
+        use x86_64::instructions::tlb::Pcid;
+        assert_eq!(Pcid::new(4095).map(|pcid| pcid.value()).ok(), Some(4095));
+        assert_eq!(Pcid::new(4096).unwrap_err().to_string(), "4096 is no PCID, which is below 4096");
+    }
+}
+
 /// Code of a user of the crate `x86_64`, as it is.
 mod client {
     use x86_64::structures::paging::mapper::{FlagUpdateError, MapperFlush, MapperFlushAll, TranslateResult};
@@ -589,7 +699,7 @@ fn code_for_the_other_crate_is_as_it_is() {
 /// Names that the crate `x86_64` has of the page table layer. The instructions are for kernels, so nothing runs.
 #[allow(unused)]
 mod names {
-    use x86_64::instructions::tlb;
+    use x86_64::instructions::tlb::{self, InvPcidCommand, Pcid, PcidTooBig};
     use x86_64::registers::control::{Cr2, Cr3, Cr3Flags};
     use x86_64::structures::paging::frame::{self, PhysFrameRange, PhysFrameRangeInclusive};
     use x86_64::structures::paging::mapper::{
@@ -671,6 +781,19 @@ mod names {
         let (frame, flags): (PhysFrame, Cr3Flags) = Cr3::read();
         unsafe { Cr3::write(frame, flags) };
         let _: Result<VirtAddr, VirtAddrNotValid> = Cr2::read();
+    }
+
+    pub unsafe fn pcids(page: Page) {
+        let (frame, pcid): (PhysFrame, Pcid) = Cr3::read_pcid();
+        let other: Result<Pcid, PcidTooBig> = Pcid::new(pcid.value() + 1);
+        unsafe {
+            Cr3::write_pcid(frame, other.unwrap());
+            Cr3::write_pcid_no_flush(frame, pcid);
+            tlb::flush_pcid(InvPcidCommand::Address(page.start_address(), pcid));
+            tlb::flush_pcid(InvPcidCommand::Single(pcid));
+            tlb::flush_pcid(InvPcidCommand::All);
+            tlb::flush_pcid(InvPcidCommand::AllExceptGlobal);
+        }
     }
 
     pub fn generic<M>(mapper: &mut M, frames: &mut dyn FrameAllocator<Size4KiB>)

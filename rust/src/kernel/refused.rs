@@ -177,6 +177,29 @@
 //! }
 //! ```
 //!
+//! ```compile_fail,E0133
+//! # use x86_64_paging::kernel as x86_64;
+//! # use x86_64::instructions::tlb::Pcid;
+//! # use x86_64::registers::control::Cr3;
+//! fn switch(root: x86_64::structures::paging::PhysFrame, pcid: Pcid) {
+//!     Cr3::write_pcid(root, pcid);
+//! }
+//! ```
+//!
+//! ```compile_fail,E0133
+//! # use x86_64_paging::kernel as x86_64;
+//! # use x86_64::instructions::tlb::Pcid;
+//! # use x86_64::registers::control::Cr3;
+//! fn switch(root: x86_64::structures::paging::PhysFrame, pcid: Pcid) {
+//!     Cr3::write_pcid_no_flush(root, pcid);
+//! }
+//! ```
+//!
+//! ```compile_fail,E0133
+//! # use x86_64_paging::kernel as x86_64;
+//! x86_64::instructions::tlb::flush_pcid(x86_64::instructions::tlb::InvPcidCommand::All);
+//! ```
+//!
 //! ```compile_fail,E0200
 //! # use x86_64_paging::kernel as x86_64;
 //! # use x86_64::structures::paging::{FrameAllocator, PhysFrame, Size4KiB};
