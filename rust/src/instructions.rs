@@ -8,7 +8,8 @@ use crate::pages::page::PageSize;
 use crate::tables::mapper::{MapperFlushAll, MapperFlushIn, MapperFlushRangeIn, MOST_PAGE_ITEMS};
 use core::arch::asm;
 
-/// Flushes of the TLB of this processor, and the numbers (PCIDs) under which it caches.
+/// Flushes of the TLB of this processor, and the numbers (PCIDs) under which it caches. Each other processor that uses a root which a call
+/// concerns does the same.
 ///
 /// # Several roots and PCIDs
 ///
@@ -17,10 +18,11 @@ use core::arch::asm;
 /// the same for each other PCID that holds a root which the call concerns: the root of the call's space, and if the page is below indices
 /// that spaces share, the root of each of these. There are two ways, and for each of them a law of the proved model:
 ///
-/// - It flushes all that is cached with the PCID: [`flush_pcid`](tlb::flush_pcid) with [`Single`](tlb::InvPcidCommand::Single). For one
-///   page [`Address`](tlb::InvPcidCommand::Address) is enough, for all PCIDs at once [`All`](tlb::InvPcidCommand::All) or
-///   [`flush_all`](tlb::flush_all). The law `flushes_are_enough_with_switches` says: each access goes with the page walk from the current
-///   root, at every moment, if nothing that is due for the items that serve concerns its address.
+/// - It flushes all that is cached with the PCID: [`flush_pcid`](tlb::flush_pcid) with [`Single`](tlb::InvPcidCommand::Single). For the
+///   page of a call [`Address`](tlb::InvPcidCommand::Address) is enough, but not after a clean up, since it may leave tables. All PCIDs at
+///   once are flushed by [`All`](tlb::InvPcidCommand::All) or [`flush_all`](tlb::flush_all). The law `flushes_are_enough_with_switches`
+///   says: each access goes with the page walk from the current root, at every moment, if nothing that is due for the items that serve
+///   concerns its address.
 /// - It gives the PCID up: the next load of CR3 with it is [`Cr3::write_pcid`](crate::registers::control::Cr3::write_pcid), which keeps
 ///   nothing. The law `flushed_calls_leave_no_stale_item_of_a_space` says the same for calls that are followed by the flush that
 ///   [`flush_after`](crate::flushing::flush_after) returns, if the kernel gives up each other PCID that holds a root which the call
@@ -116,15 +118,36 @@ pub mod tlb {
     /// The processor has INVPCID (bit 10 of EBX of CPUID's leaf 7). As long as CR4.PCIDE is clear, no PCID but 0 is named.
     #[inline]
     pub unsafe fn flush_pcid(command: InvPcidCommand) {
-        let (kind, pcid, address): (u64, u16, u64) = match command {
-            InvPcidCommand::Address(address, pcid) => (0, pcid.value(), address.as_u64()),
-            InvPcidCommand::Single(pcid) => (1, pcid.value(), 0),
-            InvPcidCommand::All => (2, 0, 0),
-            InvPcidCommand::AllExceptGlobal => (3, 0, 0),
-        };
-        let descriptor = [u64::from(pcid), address];
+        let (kind, descriptor) = operands(command);
         // SAFETY: the processor has the instruction, which reads the descriptor and changes no memory.
         unsafe { asm!("invpcid {}, [{}]", in(reg) kind, in(reg) &descriptor, options(nostack, preserves_flags)) };
+    }
+
+    /// Returns what INVPCID takes: the number of the kind, and a descriptor with the PCID and the address.
+    ///
+    /// Intel SDM vol. 2A, "INVPCID: Invalidate Process-Context Identifier".
+    #[inline]
+    fn operands(command: InvPcidCommand) -> (u64, [u64; 2]) {
+        match command {
+            InvPcidCommand::Address(address, pcid) => (0, [pcid.value().into(), address.as_u64()]),
+            InvPcidCommand::Single(pcid) => (1, [pcid.value().into(), 0]),
+            InvPcidCommand::All => (2, [0; 2]),
+            InvPcidCommand::AllExceptGlobal => (3, [0; 2]),
+        }
+    }
+
+    #[cfg(test)]
+    mod tests {
+        use super::*;
+
+        #[test]
+        fn commands_are_kinds_and_descriptors() {
+            let (pcid, address) = (Pcid::new(0x123).expect("it is below 4096"), VirtAddr::new(0xffff_8000_0000_1000));
+            assert_eq!(operands(InvPcidCommand::Address(address, pcid)), (0, [0x123, 0xffff_8000_0000_1000]));
+            assert_eq!(operands(InvPcidCommand::Single(pcid)), (1, [0x123, 0]));
+            assert_eq!(operands(InvPcidCommand::All), (2, [0, 0]));
+            assert_eq!(operands(InvPcidCommand::AllExceptGlobal), (3, [0, 0]));
+        }
     }
 }
 

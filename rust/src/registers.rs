@@ -17,13 +17,19 @@ pub mod control {
     pub struct Cr2;
 
     impl Cr2 {
-        /// Returns the address, or an error if it isn't canonical.
+        /// Returns the address, or an error if it isn't canonical with four levels of page tables.
         #[inline]
         pub fn read() -> Result<VirtAddr, VirtAddrNotValid> {
+            VirtAddr::try_new(Self::read_raw())
+        }
+
+        /// Returns the address as a number.
+        #[inline]
+        pub fn read_raw() -> u64 {
             let word: u64;
             // SAFETY: ring 0 may read the register.
             unsafe { asm!("mov {}, cr2", out(reg) word, options(nomem, nostack, preserves_flags)) };
-            VirtAddr::try_new(word)
+            word
         }
     }
 
@@ -64,11 +70,18 @@ pub mod control {
         /// Returns the frame and the PCID. Without CR4.PCIDE, the flags are bits of this number.
         #[inline]
         pub fn read_pcid() -> (PhysFrame, Pcid) {
-            let word = read_word();
-            match Pcid::new((word % 4096) as u16) {
-                Ok(pcid) => (frame_of(word), pcid),
-                Err(_) => unreachable!(),
+            let (frame, low) = Self::read_raw();
+            match Pcid::new(low) {
+                Ok(pcid) => (frame, pcid),
+                Err(_) => unreachable!("the number is below 4096"),
             }
+        }
+
+        /// Returns the frame and the lowest twelve bits: the flags, or where CR4.PCIDE is set, the PCID.
+        #[inline]
+        pub fn read_raw() -> (PhysFrame, u16) {
+            let word = read_word();
+            (frame_of(word), (word % 4096) as u16)
         }
 
         /// Makes the processor use the hierarchy with a root. This flushes all but global pages. Where CR4.PCIDE is set,
@@ -83,6 +96,17 @@ pub mod control {
             unsafe { write_word(frame.start_address().as_u64() | flags.bits()) };
         }
 
+        /// Makes the processor use the hierarchy with a root, with these lowest twelve bits, as [`read_raw`](Self::read_raw) returns them.
+        ///
+        /// # Safety
+        ///
+        /// The hierarchy maps all memory that is used as it is used. The number is below 4096.
+        #[inline]
+        pub unsafe fn write_raw(frame: PhysFrame, low: u16) {
+            // SAFETY: the caller promises it.
+            unsafe { write_word(frame.start_address().as_u64() | u64::from(low)) };
+        }
+
         /// Makes the processor use the hierarchy with a root, under a PCID. This flushes what is cached with the PCID but for global pages,
         /// so it is also what ends that another root is held under it ([`tlb`](crate::instructions::tlb)).
         ///
@@ -92,7 +116,7 @@ pub mod control {
         #[inline]
         pub unsafe fn write_pcid(frame: PhysFrame, pcid: Pcid) {
             // SAFETY: the caller promises it.
-            unsafe { write_word(frame.start_address().as_u64() | u64::from(pcid.value())) };
+            unsafe { write_word(word_of(frame, pcid, false)) };
         }
 
         /// Makes the processor use the hierarchy with a root, under a PCID, and keeps what is cached with it.
@@ -104,10 +128,17 @@ pub mod control {
         ///   concerns the root it was flushed, as [`tlb`](crate::instructions::tlb) says.
         #[inline]
         pub unsafe fn write_pcid_no_flush(frame: PhysFrame, pcid: Pcid) {
-            const KEEP: u64 = 1 << 63;
             // SAFETY: the caller promises it.
-            unsafe { write_word(KEEP | frame.start_address().as_u64() | u64::from(pcid.value())) };
+            unsafe { write_word(word_of(frame, pcid, true)) };
         }
+    }
+
+    /// Returns the word of CR3 with a root and a PCID. Bit 63 says that what is cached with the PCID is kept.
+    ///
+    /// Intel SDM vol. 3A, "Operations that Invalidate TLBs and Paging-Structure Caches".
+    #[inline]
+    fn word_of(frame: PhysFrame, pcid: Pcid, keeps: bool) -> u64 {
+        u64::from(keeps) << 63 | frame.start_address().as_u64() | u64::from(pcid.value())
     }
 
     #[inline]
@@ -132,5 +163,18 @@ pub mod control {
     #[inline]
     fn frame_of(word: u64) -> PhysFrame {
         PhysFrame::containing_address(PhysAddr::new_truncate(word))
+    }
+
+    #[cfg(test)]
+    mod tests {
+        use super::*;
+
+        #[test]
+        fn words_of_cr3_have_a_root_and_a_pcid() {
+            let (frame, pcid) = (PhysFrame::from_pfn(0xab_cdef), Pcid::new(0x123).expect("it is below 4096"));
+            assert_eq!(word_of(frame, pcid, false), 0xa_bcde_f123);
+            assert_eq!(word_of(frame, pcid, true), 0x8000_000a_bcde_f123);
+            assert_eq!(frame_of(0x8000_000a_bcde_f123), frame);
+        }
     }
 }

@@ -781,6 +781,9 @@ mod names {
         let (frame, flags): (PhysFrame, Cr3Flags) = Cr3::read();
         unsafe { Cr3::write(frame, flags) };
         let _: Result<VirtAddr, VirtAddrNotValid> = Cr2::read();
+        let _: u64 = Cr2::read_raw();
+        let (frame, low): (PhysFrame, u16) = Cr3::read_raw();
+        unsafe { Cr3::write_raw(frame, low) };
     }
 
     pub unsafe fn pcids(page: Page) {
