@@ -12,6 +12,11 @@
         # The tables of the start: the lowest GiB of memory at 0, at DIRECT and at KERNEL. The kernel soon makes others.
         .section .boot, "awx"
         .align 4096
+        .if LEVELS == 5
+start_5: .quad start_4 + 3
+        .fill 510, 8, 0
+        .quad start_4 + 3
+        .endif
 start_4: .quad start_3 + 3
         .fill 255, 8, 0
         .quad start_3 + 3
@@ -31,9 +36,13 @@ start_2: .set entry, 0x83
 start:
         mov edi, ebx                    # where the loader tells what memory there is
         mov eax, 0x620                  # PAE; for SSE, with which core may be compiled: OSFXSR, OSXMMEXCPT
+        lea ecx, [start_4]
+        .if LEVELS == 5
+        or eax, 0x1000                  # LA57
+        lea ecx, [start_5]
+        .endif
         mov cr4, eax
-        lea eax, [start_4]
-        mov cr3, eax
+        mov cr3, ecx
         mov ecx, 0xc0000080             # EFER
         rdmsr
         or eax, 0x900                   # NXE, LME

@@ -1,12 +1,12 @@
 //! The machine without its memory: what the loader tells, the serial line, page faults, and the end.
 
+use crate::levels::{VirtAddr, LEVELS};
 use core::fmt::{self, Write};
 use core::sync::atomic::{AtomicU64, Ordering};
 use x86_64_paging::access::PageFaultCode;
 use x86_64_paging::kernel::registers::control::Cr2;
-use x86_64_paging::kernel::VirtAddr;
 
-core::arch::global_asm!(include_str!("boot.s"));
+core::arch::global_asm!(".set LEVELS, {levels}", include_str!("boot.s"), levels = const LEVELS);
 
 unsafe extern "C" {
     fn page_fault_entry();
@@ -111,7 +111,7 @@ static LAST_CODE: AtomicU64 = AtomicU64::new(0);
 #[unsafe(no_mangle)]
 extern "C" fn page_fault(trapped: &mut Trapped) {
     if ![try_read as *const () as u64, try_write as *const () as u64].contains(&trapped.rip) {
-        panic!("page fault at {:?}, code {:#x}, by {:#x}", Cr2::read(), trapped.code, trapped.rip);
+        panic!("page fault at {:#x}, code {:#x}, by {:#x}", Cr2::read_raw(), trapped.code, trapped.rip);
     }
     LAST_CODE.store(trapped.code, Ordering::Relaxed);
     trapped.rip = give_up as *const () as u64;
@@ -127,6 +127,6 @@ pub fn access(address: VirtAddr, written: Option<u64>) -> Result<(), PageFaultCo
     if arrives {
         return Ok(());
     }
-    assert_eq!(Cr2::read().ok(), Some(address));
+    assert_eq!(Cr2::read_raw(), address.as_u64());
     Err(PageFaultCode::from_bits_retain(LAST_CODE.load(Ordering::Relaxed)))
 }

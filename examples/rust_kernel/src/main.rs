@@ -3,23 +3,22 @@
 #![no_std]
 #![no_main]
 
+mod levels;
 mod machine;
 mod memory;
+mod processes;
 
+use levels::{root_mut, root_window, OffsetPageTable, Page, RecursivePageTable, VirtAddr, FIRST, HEAP};
 use machine::StartInfo;
 use memory::{Frames, DIRECT};
 use x86_64::registers::control::Cr3;
 use x86_64::structures::paging::mapper::{CleanUp, RangeMapper};
 use x86_64::structures::paging::{
-    FrameAllocator, FrameDeallocator, Mapper, OffsetPageTable, Page, PageTable, PageTableFlags as Flags, PhysFrame,
-    RecursivePageTable, Size2MiB, Size4KiB, Translate,
+    FrameAllocator, FrameDeallocator, Mapper, PageTable, PageTableFlags as Flags, PhysFrame, Size2MiB, Size4KiB, Translate,
 };
-use x86_64::VirtAddr;
 use x86_64_paging::access::{Access, AccessKind, Controls, Fault};
 use x86_64_paging::kernel as x86_64;
 
-const FIRST: VirtAddr = VirtAddr::new(0x4444_4444_0000);
-const HEAP: VirtAddr = VirtAddr::new(0x5555_0000_0000);
 const HEAP_PAGES: u64 = 600;
 
 /// Called by boot.s with the address of what the loader tells.
@@ -44,6 +43,7 @@ extern "C" fn kernel_main(start_info: u64) -> ! {
     large_page(&mut mapper, &mut frames);
     clean_up(&mut mapper, &mut frames);
     println!("cleaned up: {} frames are free", frames.free);
+    processes::processes(&mut mapper, &mut frames);
     recursive(&mut mapper, &mut frames);
     machine::end(true)
 }
@@ -86,10 +86,30 @@ fn heap(mapper: &mut OffsetPageTable, frames: &mut Frames) {
     println!("{HEAP_PAGES} pages are mapped at {HEAP:#x}: {} words, the sum {}", words.len(), words.iter().sum::<u64>());
     touch(mapper, HEAP + HEAP_PAGES * 4096 - 8, None);
     touch(mapper, HEAP + HEAP_PAGES * 4096, None);
-    // SAFETY: `words` isn't used any more. This processor is the only one, so the frames aren't used anew before the flush.
-    unsafe { mapper.unmap_range(start, HEAP_PAGES, |frame| frames.deallocate_frame(frame)) }.flush();
+    // So few pages are flushed one by one.
+    unmap(mapper, frames, start, 20, first);
+    unmap(mapper, frames, start + 20, HEAP_PAGES - 20, first + 20);
     println!("they are unmapped: {} frames are free", frames.free);
-    touch(mapper, HEAP + HEAP_PAGES * 4096 - 8, None);
+}
+
+/// Unmaps pages by one call, and gives their frames, which follow each other, back after the flush.
+fn unmap(mapper: &mut OffsetPageTable, frames: &mut Frames, start: Page, count: u64, frame: PhysFrame) {
+    let some = [0, 1, count / 2, count - 1].map(|k| (start + k).start_address());
+    for address in some {
+        // So the processor has the page in its TLB, and nothing comes between that would take it out.
+        assert!(machine::access(address, None).is_ok());
+    }
+    let mut unmapped = 0;
+    // SAFETY: nothing but `touch` uses the pages any more.
+    unsafe { mapper.unmap_range(start, count, |_| unmapped += 1) }.flush();
+    for address in some {
+        touch(mapper, address, None);
+    }
+    assert_eq!(unmapped, count);
+    for k in 0..count {
+        // SAFETY: no page shows the frame any more.
+        unsafe { frames.deallocate_frame(frame + k) };
+    }
 }
 
 /// Maps a page of 2 MiB.
@@ -105,6 +125,7 @@ fn large_page(mapper: &mut OffsetPageTable, frames: &mut Frames) {
     }
     touch(mapper, HEAP + 0x1f_fff8, None);
     mapper.unmap(page).expect("unmap failed").1.flush();
+    touch(mapper, HEAP + 0x1f_fff8, None);
 }
 
 /// Removes the tables that are empty.
@@ -116,11 +137,11 @@ fn clean_up(mapper: &mut OffsetPageTable, frames: &mut Frames) {
 
 /// Maps a page by the mapper that reaches the tables through the root's entry for itself.
 fn recursive(mapper: &mut OffsetPageTable, frames: &mut Frames) {
-    const INDEX: usize = 510;
+    const INDEX: u16 = 510;
     let (root, flags) = (Cr3::read().0, Flags::PRESENT | Flags::WRITABLE | Flags::NO_EXECUTE);
-    mapper.level_4_table_mut()[INDEX].set_frame(root, flags);
-    // SAFETY: the root is at its window now, the page with the index 510 four times. The other mapper isn't used until this one is gone.
-    let table: &mut PageTable = unsafe { &mut *VirtAddr::new(0xffff_ff7f_bfdf_e000).as_mut_ptr() };
+    root_mut(mapper)[usize::from(INDEX)].set_frame(root, flags);
+    // SAFETY: the root is at its window now. The other mapper isn't used until this one is gone.
+    let table: &mut PageTable = unsafe { &mut *root_window(INDEX.into()).as_mut_ptr() };
     println!("outside a window: {:?}", RecursivePageTable::new(&mut PageTable::new()).err());
     let mut windows = RecursivePageTable::new(table).expect("the table is in use, and at its window");
     let page = Page::containing_address(FIRST);
@@ -143,7 +164,7 @@ fn recursive(mapper: &mut OffsetPageTable, frames: &mut Frames) {
         // SAFETY: no page shows the frame any more.
         unsafe { frames.deallocate_frame(*frame) };
     }
-    mapper.level_4_table_mut()[INDEX].set_unused();
+    root_mut(mapper)[usize::from(INDEX)].set_unused();
     x86_64::instructions::tlb::flush_all();
     println!("cleaned up: {} frames are free", frames.free);
 }

@@ -1,14 +1,14 @@
 //! Memory: frames that nothing uses, and the kernel's page tables.
 
+use crate::levels::{OffsetPageTable, Page, VirtAddr};
 use crate::machine::Region;
 use core::fmt::Debug;
 use x86_64::registers::control::{Cr3, Cr3Flags};
 use x86_64::structures::paging::mapper::RangeMapper;
 use x86_64::structures::paging::{
-    FrameAllocator, FrameDeallocator, OffsetPageTable, Page, PageSize, PageTable, PageTableFlags as Flags, PhysFrame, Size2MiB,
-    Size4KiB,
+    FrameAllocator, FrameDeallocator, PageSize, PageTable, PageTableFlags as Flags, PhysFrame, Size2MiB, Size4KiB,
 };
-use x86_64::{PhysAddr, VirtAddr};
+use x86_64::PhysAddr;
 use x86_64_paging::kernel as x86_64;
 
 /// All physical memory is mapped from here on.
@@ -88,9 +88,9 @@ impl FrameDeallocator<Size4KiB> for Frames {
 pub unsafe fn init(regions: &[Region], frames: &mut Frames) -> OffsetPageTable<'static> {
     let root = frames.allocate_frame().expect("no memory is left");
     // SAFETY: nothing else uses the frame, and the hierarchy is valid: its root is empty.
-    let level_4_table: &'static mut PageTable = unsafe { &mut *(DIRECT + root.start_address().as_u64()).as_mut_ptr() };
-    level_4_table.zero();
-    let mut mapper = unsafe { OffsetPageTable::new(level_4_table, DIRECT) };
+    let table: &'static mut PageTable = unsafe { &mut *(DIRECT + root.start_address().as_u64()).as_mut_ptr() };
+    table.zero();
+    let mut mapper = unsafe { OffsetPageTable::new(table, DIRECT) };
 
     let end = regions.iter().filter(|r| r.kind == 1).map(|r| r.start + r.size).max().unwrap_or(0);
     map_kernel::<Size2MiB>(&mut mapper, DIRECT, end, PhysAddr::zero(), Flags::WRITABLE | Flags::NO_EXECUTE, frames);
