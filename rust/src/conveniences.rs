@@ -1,7 +1,8 @@
 //! What Rust's users expect of these types and what needs no proof: pointers as addresses, numbers as addresses and back, steps, texts,
 //! errors as errors of `core`, and a token by default.
 //!
-//! All of it is written by hand, and outside what is proved. It rests on proved functions, and panics where these do.
+//! All of it is written by hand, and outside what is proved. It rests on proved functions, and panics where these do. Sums with `usize`
+//! aren't among it, as in the crate `x86_64`: beside those with `u64`, `address + 8` would have no type.
 
 use crate::access::PageFaultCode;
 use crate::addresses::addr::{PhysAddr, PhysAddrNotValid, VirtAddr, VirtAddr57, VirtAddr57NotValid, VirtAddrIn, VirtAddrNotValid};

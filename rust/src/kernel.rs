@@ -28,6 +28,12 @@
 //!
 //! What the crate `x86_64` leaves safe is safe here, too: `unmap`, and `level_4_table_mut`, which lends the root's words. Whoever creates
 //! a mapper, by an unsafe function, sees to it that no code gets it that isn't to be trusted with these.
+//! `RecursivePageTable::new` is a safe function as well: who creates the reference that it takes, by unsafe code, sees to it.
+//!
+//! What the crate `x86_64` doesn't have: five levels of tables (`OffsetPageTable57` and the like); many pages by one call
+//! ([`RangeMapper`](structures::paging::mapper::RangeMapper)); address spaces that share some tables
+//! ([`new_space`](structures::paging::mapper::OffsetPageTableIn::new_space),
+//! [`give_up_space`](structures::paging::mapper::OffsetPageTableIn::give_up_space)); what to flush with PCIDs ([`tlb`](instructions::tlb)).
 //!
 //! No proof covers this module: it is what the conditions of the proved code rest on.
 

@@ -176,6 +176,7 @@ macro_rules! methods {
             ///   changes any more, since the others wouldn't: each that is ever to be used names a table before the first space is made.
             ///   So no call needs a new table there, changes flags there, or removes a table there (for example
             ///   [`clean_up`](CleanUp::clean_up) of all pages).
+            /// - While a call of a mapper of one of the spaces runs, none of another one does.
             /// - What [`Mapper`] and [`CleanUp`] ask for holds in each space with the same tables. `GLOBAL` stands only in flags of pages
             ///   below shared indices.
             /// - If the recursive index is a shared one, this root's entry there is unused.
@@ -313,9 +314,10 @@ impl<'a, P: PageTableFrameMapping, L: LevelCount> MappedPageTableIn<'a, P, L> {
     ///   mapper lives.
     /// - The hierarchy is valid: no two entries name one table, none names the root, and entries above level one that aren't 0 name
     ///   tables or, at levels three and two, map huge pages.
-    /// - Nothing else reads or writes its tables meanwhile but processors that walk them.
+    /// - Nothing else reads or writes its tables meanwhile but processors that walk them, and between its calls the mappers of spaces
+    ///   that share some of them ([`new_space`](Self::new_space)).
     /// - The mapper isn't lent mutably to code that isn't to be trusted with the address space: there are safe methods that take pages
-    ///   away ([`unmap`](Mapper::unmap)) or lend the root's table (`level_4_table_mut`), as in the crate `x86_64`.
+    ///   away ([`unmap`](Mapper::unmap)) or lend the root's table (`level_4_table_mut`, `level_5_table_mut`), as in the crate `x86_64`.
     #[inline]
     pub unsafe fn new(root: &'a mut PageTable, page_table_frame_mapping: P) -> Self {
         MappedPageTableIn { tables: Pointers { root, mapping: page_table_frame_mapping }, levels: PhantomData }
@@ -359,8 +361,9 @@ impl<'a, L: LevelCount> OffsetPageTableIn<'a, L> {
     /// # Safety
     ///
     /// - All physical memory is mapped at the offset, readable and writable, as long as the mapper lives.
-    /// - The hierarchy is valid, nothing else reads or writes its tables, and the mapper isn't lent to code that isn't to be trusted with
-    ///   the address space, as [`MappedPageTable::new`](MappedPageTableIn::new) says.
+    /// - The hierarchy is valid, and nothing else reads or writes its tables, as [`MappedPageTable::new`](MappedPageTableIn::new) says.
+    /// - The mapper isn't lent mutably to code that isn't to be trusted with the address space: there are safe methods that take pages
+    ///   away ([`unmap`](Mapper::unmap)) or lend the root's table (`level_4_table_mut`, `level_5_table_mut`), as in the crate `x86_64`.
     #[inline]
     pub unsafe fn new(root: &'a mut PageTable, phys_offset: VirtAddrIn<L>) -> Self {
         OffsetPageTableIn { tables: Pointers { root, mapping: PhysOffset(phys_offset) } }

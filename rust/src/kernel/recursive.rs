@@ -119,7 +119,8 @@ impl<'a, L: LevelCount> RecursivePageTableIn<'a, L> {
     ///   flags lack it; through the window of such a table nothing can be written.
     /// - The hierarchy is valid but for this entry: no two others name one table, none names the root, and entries above level one that
     ///   aren't 0 name tables or, at levels three and two, map huge pages.
-    /// - Nothing else reads or writes its tables meanwhile but processors that walk them.
+    /// - Nothing else reads or writes its tables meanwhile but processors that walk them, and between its calls mappers of spaces that
+    ///   share some of them ([`new_space`](super::structures::paging::mapper::OffsetPageTableIn::new_space)).
     /// - The mapper isn't lent mutably to code that isn't to be trusted with the address space: there are safe methods that take pages
     ///   away ([`unmap`](Mapper::unmap)) or lend the root's table (`level_4_table_mut`, `level_5_table_mut`), as in the crate `x86_64`.
     /// - The index isn't 511, since the last byte of the address space is in no Rust object.
