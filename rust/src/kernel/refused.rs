@@ -95,6 +95,32 @@
 //! }
 //! ```
 //!
+//! ```compile_fail
+//! #![deny(unused_must_use)]
+//! # use x86_64_paging::kernel as x86_64;
+//! # use x86_64::structures::paging::mapper::{PageTableFrameMapping, RangeMapper};
+//! # use x86_64::structures::paging::{MappedPageTable, Page};
+//! fn change(mapper: &mut MappedPageTable<'_, impl PageTableFrameMapping>, page: Page) {
+//!     unsafe { mapper.unmap_range(page, 2, |_| ()) };
+//! }
+//! ```
+//!
+//! With a `flush()` both compile.
+//!
+//! ```no_run
+//! #![deny(unused_must_use)]
+//! # use x86_64_paging::kernel as x86_64;
+//! # use x86_64::structures::paging::mapper::{PageTableFrameMapping, RangeMapper};
+//! # use x86_64::structures::paging::{MappedPageTable, Mapper, OffsetPageTable, Page, PageTableFlags};
+//! fn change(mapper: &mut OffsetPageTable, page: Page) {
+//!     unsafe { mapper.update_flags(page, PageTableFlags::PRESENT) }.unwrap().flush();
+//! }
+//!
+//! fn change_more(mapper: &mut MappedPageTable<'_, impl PageTableFrameMapping>, page: Page) {
+//!     unsafe { mapper.unmap_range(page, 2, |_| ()) }.flush();
+//! }
+//! ```
+//!
 //! The calls on data, which are safe functions, don't take a mapper of tables in use: neither by their traits, nor as functions.
 //!
 //! ```compile_fail,E0277
