@@ -36,7 +36,8 @@ mod names {
     pub const LAST: VirtAddr = VirtAddr::new(0xff_ffff_ffff_f000);
 
     pub fn root_mut<'a>(mapper: &'a mut OffsetPageTable) -> &'a mut PageTable {
-        mapper.level_5_table_mut()
+        // SAFETY: the caller sets and clears an entry alone that names the root itself.
+        unsafe { mapper.level_5_table_mut() }
     }
 }
 

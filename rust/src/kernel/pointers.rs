@@ -256,9 +256,13 @@ macro_rules! methods {
                 self.tables.root
             }
 
-            /// Lends the table of level five, to be changed. The hierarchy must be valid again when the mapper is used next.
+            /// Lends the table of level five, to be changed.
+            ///
+            /// # Safety
+            ///
+            /// What is changed suits a processor that uses the tables, and the hierarchy is valid again when the mapper is used next.
             #[inline]
-            pub fn level_5_table_mut(&mut self) -> &mut PageTable {
+            pub unsafe fn level_5_table_mut(&mut self) -> &mut PageTable {
                 self.tables.root
             }
 
@@ -317,7 +321,7 @@ impl<'a, P: PageTableFrameMapping, L: LevelCount> MappedPageTableIn<'a, P, L> {
     /// - Nothing else reads or writes its tables meanwhile but processors that walk them, and between its calls the mappers of spaces
     ///   that share some of them ([`new_space`](Self::new_space)).
     /// - The mapper isn't lent mutably to code that isn't to be trusted with the address space: there are safe methods that take pages
-    ///   away ([`unmap`](Mapper::unmap)) or lend the root's table (`level_4_table_mut`, `level_5_table_mut`), as in the crate `x86_64`.
+    ///   away ([`unmap`](Mapper::unmap)) or lend the root's table (`level_4_table_mut`), as in the crate `x86_64`.
     #[inline]
     pub unsafe fn new(root: &'a mut PageTable, page_table_frame_mapping: P) -> Self {
         MappedPageTableIn { tables: Pointers { root, mapping: page_table_frame_mapping }, levels: PhantomData }
@@ -363,7 +367,7 @@ impl<'a, L: LevelCount> OffsetPageTableIn<'a, L> {
     /// - All physical memory is mapped at the offset, readable and writable, as long as the mapper lives.
     /// - The hierarchy is valid, and nothing else reads or writes its tables, as [`MappedPageTable::new`](MappedPageTableIn::new) says.
     /// - The mapper isn't lent mutably to code that isn't to be trusted with the address space: there are safe methods that take pages
-    ///   away ([`unmap`](Mapper::unmap)) or lend the root's table (`level_4_table_mut`, `level_5_table_mut`), as in the crate `x86_64`.
+    ///   away ([`unmap`](Mapper::unmap)) or lend the root's table (`level_4_table_mut`), as in the crate `x86_64`.
     #[inline]
     pub unsafe fn new(root: &'a mut PageTable, phys_offset: VirtAddrIn<L>) -> Self {
         OffsetPageTableIn { tables: Pointers { root, mapping: PhysOffset(phys_offset) } }

@@ -122,7 +122,7 @@ impl<'a, L: LevelCount> RecursivePageTableIn<'a, L> {
     /// - Nothing else reads or writes its tables meanwhile but processors that walk them, and between its calls mappers of spaces that
     ///   share some of them ([`new_space`](super::structures::paging::mapper::OffsetPageTableIn::new_space)).
     /// - The mapper isn't lent mutably to code that isn't to be trusted with the address space: there are safe methods that take pages
-    ///   away ([`unmap`](Mapper::unmap)) or lend the root's table (`level_4_table_mut`, `level_5_table_mut`), as in the crate `x86_64`.
+    ///   away ([`unmap`](Mapper::unmap)) or lend the root's table (`level_4_table_mut`), as in the crate `x86_64`.
     /// - The index isn't 511, since the last byte of the address space is in no Rust object.
     #[inline]
     pub unsafe fn new_unchecked(table: &'a mut PageTable, recursive_index: PageTableIndex) -> Self {
@@ -155,9 +155,13 @@ impl RecursivePageTable57<'_> {
         self.tables.level_5_table()
     }
 
-    /// Lends the table of level five, to be changed. The hierarchy must be valid again when the mapper is used next.
+    /// Lends the table of level five, to be changed.
+    ///
+    /// # Safety
+    ///
+    /// What is changed suits a processor that uses the tables, and the hierarchy is valid again when the mapper is used next.
     #[inline]
-    pub fn level_5_table_mut(&mut self) -> &mut PageTable {
+    pub unsafe fn level_5_table_mut(&mut self) -> &mut PageTable {
         self.tables.level_5_table_mut()
     }
 
