@@ -16,6 +16,7 @@ pub mod LineCounting
 pub mod LineCountingLaws
 pub mod Naming
 pub mod NoFloats
+pub mod Objects
 pub mod Passed
 pub mod Passing
 pub mod Puts

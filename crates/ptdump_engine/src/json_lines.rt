@@ -1,9 +1,8 @@
 //! Reports as JSON, an object a line.
-ghost use Rattle.std.specs.Prelude.{◌≡◌, false, IfOk, IfSome, OnOk, string_bytes};
-ghost use Rattle.serde_json.specs.Data.{Data, Members, object, put};
+ghost use Rattle.std.specs.Prelude.{◌≡◌, false, IfOk, IfSome, OnOk};
+ghost use Rattle.serde_json.specs.Data.{Data};
 ghost use Rattle.serde_json.specs.View.{view};
 ghost use Rattle.serde_json.specs.Written.{has_float};
-ghost use Rattle.x86_64_mappings.specs.Numbers.{hexadecimal as digits_of};
 ghost use Rattle.ptdump_engine.specs.Json.{json_line};
 ghost use Rattle.ptdump_engine.specs.Lines.{line_in};
 
@@ -11,6 +10,7 @@ mod aliased;
 mod findings;
 mod group;
 mod listed;
+mod object;
 mod told;
 mod walks;
 
@@ -39,32 +39,6 @@ pub trait ToJson {
     /// `AllocError` if memory allocation fails.
     fn to_json(&self, alloc: Global) -> Result<Value, AllocError>
         ensures { IfOk result (λ value. view value ≡ json self.now) };
-}
-
-/// Returns an address or a word as it stands in a string: in base 16, after `0x`.
-fn hexadecimal(alloc: Global, number: u64) -> Result<String, AllocError>
-    ensures { IfOk result (λ text. string_bytes text ≡ digits_of number) }
-{
-    format!(in alloc; "0x{number:x}")
-}
-
-/// Adds a member to an object.
-fn with_member(
-    alloc: Global,
-    value: Value,
-    name: &'static str,
-    member: Value,
-) -> Result<Value, AllocError>
-    ensures { (members : Members) → view value ≡ object members → IfOk result (λ with_it.
-        view with_it ≡ object (put name.now (view member) members)) }
-{
-    match value {
-        Value::Object(mut members) => {
-            serde_json::put(&mut members, alloc, name, member)?;
-            Ok(Value::Object(members))
-        }
-        other => Ok(other),
-    }
 }
 
 /// Writes an item as a line of JSON.

@@ -4,9 +4,11 @@ ghost use Rattle.serde_json.specs.View.{view};
 ghost use Rattle.ptdump_engine.specs.FindingObjects as objects;
 ghost use Rattle.ptdump_engine.specs.declared.findings.finding.Finding.TheVariants.{NamedOften, NotInDump, HugePage, ReservedBits};
 
-use super::{ToJson, hexadecimal, with_member};
+use super::ToJson;
+use super::listed::region_object;
+use super::object::Object;
 use crate::findings::{Entry, Finding, FindingCount, FlawedRegion, Slot};
-use serde_json::{Value, json};
+use serde_json::Value;
 use std::alloc::{AllocError, Global};
 use x86_64_addr::level_count::LevelCount;
 use x86_64_page::frame::PhysFrame;
@@ -20,9 +22,8 @@ impl<L: LevelCount> ToJson for FlawedRegion<L> {
     ghost no_float = { λ flawed. refl };
 
     fn to_json(&self, alloc: Global) -> Result<Value, AllocError> {
-        let region = self.region.to_json(alloc)?;
-        let flaw = Value::String(String::from_str(alloc, self.flaw.text())?);
-        with_member(alloc, region, "finding", flaw)
+        let object = region_object(alloc, &self.region)?.put_text("finding", self.flaw.text())?;
+        Ok(object.finish())
     }
 }
 
@@ -34,10 +35,10 @@ impl ToJson for Slot {
     ghost no_float = { λ slot. refl };
 
     fn to_json(&self, alloc: Global) -> Result<Value, AllocError> {
-        json!(in alloc; {
-            "table": hexadecimal(alloc, self.table.start_address().as_u64())?,
-            "index": self.index,
-        })
+        let object = Object::new(alloc)
+            .put_hexadecimal("table", self.table.start_address().as_u64())?
+            .put_number("index", self.index as u64)?;
+        Ok(object.finish())
     }
 }
 
@@ -78,11 +79,11 @@ fn named_often_to_json(
 ) -> Result<Value, AllocError>
     ensures { IfOk result (λ value. view value ≡ objects.json_of_finding (NamedOften frame count)) }
 {
-    json!(in alloc; {
-        "finding": "table named often",
-        "table": hexadecimal(alloc, frame.start_address().as_u64())?,
-        "times": count,
-    })
+    let object = Object::new(alloc)
+        .put_text("finding", "table named often")?
+        .put_hexadecimal("table", frame.start_address().as_u64())?
+        .put_number("times", count as u64)?;
+    Ok(object.finish())
 }
 
 /// Returns the object of a table that isn't in the dump.
@@ -93,23 +94,23 @@ fn not_in_dump_to_json(
 ) -> Result<Value, AllocError>
     ensures { IfOk result (λ value. view value ≡ objects.json_of_finding (NotInDump frame by)) }
 {
-    json!(in alloc; {
-        "finding": "table not in the dump",
-        "table": hexadecimal(alloc, frame.start_address().as_u64())?,
-        "named_by": by.to_json(alloc)?,
-    })
+    let object = Object::new(alloc)
+        .put_text("finding", "table not in the dump")?
+        .put_hexadecimal("table", frame.start_address().as_u64())?
+        .put("named_by", by.to_json(alloc)?)?;
+    Ok(object.finish())
 }
 
 /// Returns the object of an entry with `HUGE_PAGE` above level three.
 fn huge_page_to_json(alloc: Global, slot: Slot, level: u64) -> Result<Value, AllocError>
     ensures { IfOk result (λ value. view value ≡ objects.json_of_finding (HugePage slot level)) }
 {
-    json!(in alloc; {
-        "finding": "HUGE_PAGE above level three",
-        "level": level,
-        "table": hexadecimal(alloc, slot.table.start_address().as_u64())?,
-        "index": slot.index,
-    })
+    let object = Object::new(alloc)
+        .put_text("finding", "HUGE_PAGE above level three")?
+        .put_number("level", level)?
+        .put_hexadecimal("table", slot.table.start_address().as_u64())?
+        .put_number("index", slot.index as u64)?;
+    Ok(object.finish())
 }
 
 /// Returns the object of an entry with other reserved bits.
@@ -117,13 +118,13 @@ fn reserved_bits_to_json(alloc: Global, entry: Entry) -> Result<Value, AllocErro
     ensures { IfOk result (λ value. view value ≡ objects.json_of_finding (ReservedBits entry)) }
 {
     let slot = entry.slot;
-    json!(in alloc; {
-        "finding": "reserved bits",
-        "level": entry.level,
-        "table": hexadecimal(alloc, slot.table.start_address().as_u64())?,
-        "index": slot.index,
-        "word": hexadecimal(alloc, entry.word)?,
-    })
+    let object = Object::new(alloc)
+        .put_text("finding", "reserved bits")?
+        .put_number("level", entry.level)?
+        .put_hexadecimal("table", slot.table.start_address().as_u64())?
+        .put_number("index", slot.index as u64)?
+        .put_hexadecimal("word", entry.word)?;
+    Ok(object.finish())
 }
 
 /// Returns the object of a table that is mapped, by the name of the finding and the address.
@@ -135,11 +136,11 @@ fn mapped_to_json(
 ) -> Result<Value, AllocError>
     ensures { IfOk result (λ value. view value ≡ objects.json_of_mapped name.now frame at) }
 {
-    json!(in alloc; {
-        "finding": name,
-        "table": hexadecimal(alloc, frame.start_address().as_u64())?,
-        "at": hexadecimal(alloc, at)?,
-    })
+    let object = Object::new(alloc)
+        .put_text("finding", name)?
+        .put_hexadecimal("table", frame.start_address().as_u64())?
+        .put_hexadecimal("at", at)?;
+    Ok(object.finish())
 }
 
 impl ToJson for FindingCount {
@@ -150,6 +151,7 @@ impl ToJson for FindingCount {
     ghost no_float = { λ findings. refl };
 
     fn to_json(&self, alloc: Global) -> Result<Value, AllocError> {
-        json!(in alloc; {"findings": self.0})
+        let object = Object::new(alloc).put_number("findings", self.0)?;
+        Ok(object.finish())
     }
 }

@@ -4,8 +4,9 @@ ghost use Rattle.serde_json.specs.Data.{array};
 ghost use Rattle.serde_json.specs.View.{items_of, view};
 ghost use Rattle.ptdump_engine.specs.Json.{count};
 
-use super::{ToJson, hexadecimal};
-use serde_json::{Value, json};
+use super::ToJson;
+use super::object::Object;
+use serde_json::Value;
 use std::alloc::{AllocError, Global};
 use x86_64_page::frame::PhysFrame;
 use x86_64_page::page::Size4KiB;
@@ -29,10 +30,10 @@ impl ToJson for ProcessorGroup<'_> {
 
     fn to_json(&self, alloc: Global) -> Result<Value, AllocError> {
         let cpus = numbers_to_json(alloc, self.cpus)?;
-        json!(in alloc; {
-            "cpus": cpus,
-            "root": hexadecimal(alloc, self.root.start_address().as_u64())?,
-        })
+        let object = Object::new(alloc)
+            .put("cpus", cpus)?
+            .put_hexadecimal("root", self.root.start_address().as_u64())?;
+        Ok(object.finish())
     }
 }
 

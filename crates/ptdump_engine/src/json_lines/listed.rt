@@ -1,20 +1,22 @@
 //! Regions, mappings and addresses that are found, as JSON.
-ghost use Rattle.std.specs.Prelude.{filter, OnOk, Some};
+ghost use Rattle.std.specs.Prelude.{◌≡◌, filter, IfOk, OnOk, Some};
 ghost use Rattle.std.specs.List.{flat_map};
 ghost use Rattle.std.proofs.Common.{refl};
 ghost use Rattle.ptdump_engine.specs.Json as json;
 ghost use Rattle.ptdump_engine.specs.Selections.{is_mapping_selected, is_selected};
 ghost use Rattle.ptdump_engine.specs.Walks.{rights_at_text};
 ghost use Rattle.ptdump_engine.specs.private.Asked.{mappings_asked, regions_asked};
+ghost use Rattle.ptdump_engine.specs.private.Objects.{members_in};
 
-use super::{JsonLines, ToJson, hexadecimal};
+use super::object::Object;
+use super::{JsonLines, ToJson};
 use crate::lines::Lines;
 use crate::loaded::Loaded;
 use crate::request::Selection;
 use crate::rights_at::RightsAt;
 use crate::selected::{visit_selected_mappings, visit_selected_regions};
 use bitflags::Flags;
-use serde_json::{Value, json};
+use serde_json::Value;
 use std::alloc::{AllocError, Global};
 use std::fmt::{Display, Formatter, Result as FmtResult, Write};
 use x86_64_addr::addr::PhysAddr;
@@ -27,15 +29,22 @@ impl<L: LevelCount> ToJson for RegionIn<L> {
     ghost no_float = { λ region. refl };
 
     fn to_json(&self, alloc: Global) -> Result<Value, AllocError> {
-        json!(in alloc; {
-            "first": hexadecimal(alloc, self.first.as_u64())?,
-            "last": hexadecimal(alloc, self.last.as_u64())?,
-            "bytes": self.size(),
-            "write": self.rights.write,
-            "execute": self.rights.execute,
-            "user": self.rights.user,
-        })
+        Ok(region_object(alloc, self)?.finish())
     }
+}
+
+/// Returns the object of a region.
+pub fn region_object<L: LevelCount>(
+    alloc: Global,
+    region: &RegionIn<L>,
+) -> Result<Object, AllocError>
+    ensures { IfOk result (λ object. members_in object ≡ json.region_members L.LEVELS region.now) }
+{
+    Object::new(alloc)
+        .put_hexadecimal("first", region.first.as_u64())?
+        .put_hexadecimal("last", region.last.as_u64())?
+        .put_number("bytes", region.size())?
+        .put_rights(region.rights)
 }
 
 impl<L: LevelCount> ToJson for MappingIn<L> {
@@ -44,15 +53,13 @@ impl<L: LevelCount> ToJson for MappingIn<L> {
     ghost no_float = { λ mapping. refl };
 
     fn to_json(&self, alloc: Global) -> Result<Value, AllocError> {
-        json!(in alloc; {
-            "start": hexadecimal(alloc, self.start.as_u64())?,
-            "bytes": self.size(),
-            "frame": hexadecimal(alloc, self.frame.start_address().as_u64())?,
-            "write": self.rights.write,
-            "execute": self.rights.execute,
-            "user": self.rights.user,
-            "flags": hexadecimal(alloc, self.flags.bits())?,
-        })
+        let object = Object::new(alloc)
+            .put_hexadecimal("start", self.start.as_u64())?
+            .put_number("bytes", self.size())?
+            .put_hexadecimal("frame", self.frame.start_address().as_u64())?
+            .put_rights(self.rights)?
+            .put_hexadecimal("flags", self.flags.bits())?;
+        Ok(object.finish())
     }
 }
 
@@ -80,13 +87,11 @@ impl ToJson for Found {
     ghost no_float = { λ found. refl };
 
     fn to_json(&self, alloc: Global) -> Result<Value, AllocError> {
-        json!(in alloc; {
-            "physical": hexadecimal(alloc, self.physical.as_u64())?,
-            "address": hexadecimal(alloc, self.at.address)?,
-            "write": self.at.rights.write,
-            "execute": self.at.rights.execute,
-            "user": self.at.rights.user,
-        })
+        let object = Object::new(alloc)
+            .put_hexadecimal("physical", self.physical.as_u64())?
+            .put_hexadecimal("address", self.at.address)?
+            .put_rights(self.at.rights)?;
+        Ok(object.finish())
     }
 }
 

@@ -3,14 +3,17 @@ ghost use Rattle.std.specs.Prelude.{◌≡◌, IfOk, string_bytes};
 ghost use Rattle.std.proofs.Common.{refl};
 ghost use Rattle.ptdump_engine.specs.InfoObjects as objects;
 ghost use Rattle.ptdump_engine.specs.private.NoFloats.{no_float_processor, no_float_root};
+ghost use Rattle.serde_json.specs.Data.{object as object_of};
 ghost use Rattle.serde_json.specs.View.{view};
+ghost use Rattle.ptdump_engine.specs.private.Objects.{members_in};
 
-use super::{ToJson, hexadecimal};
+use super::ToJson;
+use super::object::Object;
 use crate::info::{DumpFormat, KernelRoot, MemoryRange, NoKernelRoot, NoRoot, Processor, Root};
 use crate::mode::Mode;
 use crate::registers::{Registers, level_count};
 use crate::start::{Origin, levels_by};
-use serde_json::{Value, json};
+use serde_json::Value;
 use std::alloc::{AllocError, Global};
 
 impl ToJson for DumpFormat {
@@ -19,8 +22,8 @@ impl ToJson for DumpFormat {
     ghost no_float = { λ format. refl };
 
     fn to_json(&self, alloc: Global) -> Result<Value, AllocError> {
-        let name = self.name();
-        json!(in alloc; {"format": name})
+        let object = Object::new(alloc).put_text("format", self.name())?;
+        Ok(object.finish())
     }
 }
 
@@ -30,13 +33,11 @@ impl ToJson for MemoryRange {
     ghost no_float = { λ range. refl };
 
     fn to_json(&self, alloc: Global) -> Result<Value, AllocError> {
-        json!(in alloc; {
-            "memory": {
-                "first": hexadecimal(alloc, self.first)?,
-                "last": hexadecimal(alloc, self.last)?,
-                "bytes": self.size,
-            },
-        })
+        let memory = Object::new(alloc)
+            .put_hexadecimal("first", self.first)?
+            .put_hexadecimal("last", self.last)?
+            .put_number("bytes", self.size)?;
+        told(alloc, "memory", memory)
     }
 }
 
@@ -46,45 +47,41 @@ impl ToJson for Processor {
     ghost no_float = { λ processor. no_float_processor processor.cpu processor.registers };
 
     fn to_json(&self, alloc: Global) -> Result<Value, AllocError> {
-        match self.registers {
+        let processor = match self.registers {
             Some(registers) => {
                 let mode = Mode::of(registers.cr0, registers.cr4);
-                let processor = registers_to_json(alloc, self.cpu, registers, mode)?;
-                json!(in alloc; {"processor": processor})
+                registers_object(alloc, self.cpu, registers, mode)?
             }
-            None => { json!(in alloc; {"processor": {"cpu": self.cpu, "error": Processor::CUT}}) }
-        }
+            None => Object::new(alloc)
+                .put_number("cpu", self.cpu as u64)?
+                .put_text("error", Processor::CUT)?,
+        };
+        told(alloc, "processor", processor)
     }
 }
 
 /// Returns the object of a processor with these registers and this mode.
-fn registers_to_json(
+fn registers_object(
     alloc: Global,
     cpu: usize,
     registers: Registers,
     mode: Mode,
-) -> Result<Value, AllocError>
-    ensures { IfOk result (λ value. view value ≡ objects.json_of_registers cpu registers mode) }
+) -> Result<Object, AllocError>
+    ensures { IfOk result (λ object. object_of (members_in object)
+        ≡ objects.json_of_registers cpu registers mode) }
 {
-    let cr0 = hexadecimal(alloc, registers.cr0)?;
-    let cr3 = hexadecimal(alloc, registers.cr3)?;
-    let cr4 = hexadecimal(alloc, registers.cr4)?;
-    let name = mode.name();
+    let object = Object::new(alloc)
+        .put_number("cpu", cpu as u64)?
+        .put_hexadecimal("cr0", registers.cr0)?
+        .put_hexadecimal("cr3", registers.cr3)?
+        .put_hexadecimal("cr4", registers.cr4)?
+        .put_text("mode", mode.name())?;
     match mode {
         Mode::Paging64 => {
             let levels = level_count(levels_by(registers.cr4));
-            json!(in alloc; {
-                "cpu": cpu,
-                "cr0": cr0,
-                "cr3": cr3,
-                "cr4": cr4,
-                "mode": name,
-                "levels": levels,
-            })
+            object.put_number("levels", levels)
         }
-        Mode::NoPaging | Mode::Paging32 => {
-            json!(in alloc; {"cpu": cpu, "cr0": cr0, "cr3": cr3, "cr4": cr4, "mode": name})
-        }
+        Mode::NoPaging | Mode::Paging32 => Ok(object),
     }
 }
 
@@ -94,13 +91,11 @@ impl ToJson for KernelRoot {
     ghost no_float = { λ kernel. refl };
 
     fn to_json(&self, alloc: Global) -> Result<Value, AllocError> {
-        json!(in alloc; {
-            "kernel": {
-                "root": hexadecimal(alloc, self.0.root.start_address().as_u64())?,
-                "levels": level_count(self.0.levels),
-                "encryption_mask": hexadecimal(alloc, self.0.encryption_mask)?,
-            },
-        })
+        let kernel = Object::new(alloc)
+            .put_hexadecimal("root", self.0.root.start_address().as_u64())?
+            .put_number("levels", level_count(self.0.levels))?
+            .put_hexadecimal("encryption_mask", self.0.encryption_mask)?;
+        told(alloc, "kernel", kernel)
     }
 }
 
@@ -110,7 +105,8 @@ impl ToJson for NoKernelRoot {
     ghost no_float = { λ kernel. refl };
 
     fn to_json(&self, alloc: Global) -> Result<Value, AllocError> {
-        json!(in alloc; {"kernel": {"error": &self.error}})
+        let kernel = Object::new(alloc).put_text("error", self.error.as_str())?;
+        told(alloc, "kernel", kernel)
     }
 }
 
@@ -120,26 +116,17 @@ impl ToJson for Root {
     ghost no_float = { λ root. no_float_root root.cpu root.start };
 
     fn to_json(&self, alloc: Global) -> Result<Value, AllocError> {
-        let address = hexadecimal(alloc, self.start.root.start_address().as_u64())?;
-        let levels = level_count(self.start.levels);
-        match self.start.origin {
-            Origin::ByRequest => {
-                json!(in alloc; {"root": {"address": address, "levels": levels, "origin": "--cr3"}})
-            }
-            Origin::ByProcessor => {
-                json!(in alloc; {
-                    "root": {
-                        "address": address,
-                        "levels": levels,
-                        "origin": "processor",
-                        "cpu": self.cpu,
-                    },
-                })
-            }
-            Origin::ByKernel => {
-                json!(in alloc; {"root": {"address": address, "levels": levels, "origin": "kernel"}})
-            }
-        }
+        let root = Object::new(alloc)
+            .put_hexadecimal("address", self.start.root.start_address().as_u64())?
+            .put_number("levels", level_count(self.start.levels))?;
+        let root = match self.start.origin {
+            Origin::ByRequest => root.put_text("origin", "--cr3")?,
+            Origin::ByProcessor => root
+                .put_text("origin", "processor")?
+                .put_number("cpu", self.cpu as u64)?,
+            Origin::ByKernel => root.put_text("origin", "kernel")?,
+        };
+        told(alloc, "root", root)
     }
 }
 
@@ -149,6 +136,16 @@ impl ToJson for NoRoot {
     ghost no_float = { λ root. refl };
 
     fn to_json(&self, alloc: Global) -> Result<Value, AllocError> {
-        json!(in alloc; {"root": {"error": &self.error}})
+        let root = Object::new(alloc).put_text("error", self.error.as_str())?;
+        told(alloc, "root", root)
     }
+}
+
+/// Returns the object that tells something under a name.
+fn told(alloc: Global, name: &'static str, object: Object) -> Result<Value, AllocError>
+    ensures { IfOk result (λ value. view value
+        ≡ objects.told name.now (object_of (members_in object))) }
+{
+    let object = Object::new(alloc).put(name, object.finish())?;
+    Ok(object.finish())
 }

@@ -1,30 +1,29 @@
 //! Walks as JSON, with what a processor does with an access.
-ghost use Rattle.std.specs.Prelude.{◌≡◌, IfOk, OnOk, codes, map, option_map, string_bytes};
-ghost use Rattle.serde_json.specs.Data.{array, member, no_members, object, string};
+ghost use Rattle.std.specs.Prelude.{◌≡◌, IfOk, OnOk, map, option_map};
+ghost use Rattle.serde_json.specs.Data.{array};
 ghost use Rattle.serde_json.specs.View.{items_of, view};
 ghost use Rattle.x86_64_access.specs.Accesses.{outcome_of};
 ghost use Rattle.ptdump_engine.specs.Accesses.{is_arrived, is_there, outcome_in};
 ghost use Rattle.ptdump_engine.specs.Json as json;
 ghost use Rattle.ptdump_engine.specs.Loaded.{words_loaded};
 ghost use Rattle.x86_64_model.specs.Position.{raw};
-ghost use Rattle.ptdump_engine.specs.Walks as walks;
 ghost use Rattle.ptdump_engine.specs.Walks.{walk_of};
-ghost use Rattle.x86_64_model.specs.Mappings.{every_right};
 ghost use Rattle.ptdump_engine.specs.Lines.{walk_lines};
 ghost use Rattle.ptdump_engine.specs.declared.request.Form.TheVariants.{Json};
+ghost use Rattle.ptdump_engine.specs.private.Objects.{members_in};
 ghost use Rattle.ptdump_engine.specs.private.Reported.{json_of_report, report_arrives};
 ghost use Rattle.ptdump_engine.specs.private.Walked.{json_of_line, value_members};
 
-use super::{ToJson, hexadecimal, with_member, write_json};
+use super::object::Object;
+use super::{ToJson, write_json};
 use crate::access_line::{AccessLine, access_end, access_name};
 use crate::lines::Lines;
 use crate::loaded::Loaded;
 use crate::request::WalkOptions;
-use crate::rights_at::RightsAt;
 use crate::walked::{Walk, WalkEnd, walk_to};
 use crate::word_read::WordRead;
 use bitflags::Flags;
-use serde_json::{Value, json};
+use serde_json::Value;
 use std::alloc::{AllocError, Global};
 use x86_64_access::Fault;
 use x86_64_addr::addr::VirtAddrIn;
@@ -61,12 +60,12 @@ impl ToJson for WordRead {
     ghost no_float = { λ read. refl };
 
     fn to_json(&self, alloc: Global) -> Result<Value, AllocError> {
-        json!(in alloc; {
-            "level": self.level,
-            "table": hexadecimal(alloc, self.table.start_address().as_u64())?,
-            "index": self.index,
-            "word": hexadecimal(alloc, self.word)?,
-        })
+        let object = Object::new(alloc)
+            .put_number("level", self.level)?
+            .put_hexadecimal("table", self.table.start_address().as_u64())?
+            .put_number("index", self.index as u64)?
+            .put_hexadecimal("word", self.word)?;
+        Ok(object.finish())
     }
 }
 
@@ -78,31 +77,20 @@ impl ToJson for AccessLine {
     ghost no_float = { λ line. no_float_access line.access (outcome_of line.end) };
 
     fn to_json(&self, alloc: Global) -> Result<Value, AllocError> {
-        let name = access_name(self.access);
-        match self.end {
-            Ok(address) => {
-                json!(in alloc; {
-                    "name": name,
-                    "end": "arrives",
-                    "physical": hexadecimal(alloc, address.as_u64())?,
-                })
-            }
-            Err(Fault::PageFault { code, level }) => {
-                json!(in alloc; {
-                    "name": name,
-                    "end": "fault",
-                    "level": level,
-                    "code": hexadecimal(alloc, code.bits())?,
-                })
-            }
-            Err(Fault::NoMemory { frame }) => {
-                json!(in alloc; {
-                    "name": name,
-                    "end": "missing table",
-                    "table": hexadecimal(alloc, frame.start_address().as_u64())?,
-                })
-            }
-        }
+        let object = Object::new(alloc).put_text("name", access_name(self.access))?;
+        let object = match self.end {
+            Ok(address) => object
+                .put_text("end", "arrives")?
+                .put_hexadecimal("physical", address.as_u64())?,
+            Err(Fault::PageFault { code, level }) => object
+                .put_text("end", "fault")?
+                .put_number("level", level)?
+                .put_hexadecimal("code", code.bits())?,
+            Err(Fault::NoMemory { frame }) => object
+                .put_text("end", "missing table")?
+                .put_hexadecimal("table", frame.start_address().as_u64())?,
+        };
+        Ok(object.finish())
     }
 }
 
@@ -115,10 +103,10 @@ impl ToJson for WalkReport {
 
     fn to_json(&self, alloc: Global) -> Result<Value, AllocError> {
         let words = words_to_json(alloc, self.walk.words.as_slice())?;
-        let walk = walk_to_json(alloc, self.address, words, self.walk.end)?;
+        let object = walk_object(alloc, self.address, words, self.walk.end)?;
         match &self.access {
-            Some(access) => with_member(alloc, walk, "access", access.to_json(alloc)?),
-            None => Ok(walk),
+            Some(access) => Ok(object.put("access", access.to_json(alloc)?)?.finish()),
+            None => Ok(object.finish()),
         }
     }
 }
@@ -135,89 +123,31 @@ fn words_to_json(alloc: Global, words: &[WordRead]) -> Result<Value, AllocError>
 }
 
 /// Returns the object of a walk to an address, with the words that it reads.
-fn walk_to_json(
+fn walk_object(
     alloc: Global,
     address: u64,
     words: Value,
     end: WalkEnd,
-) -> Result<Value, AllocError>
-    ensures { IfOk result (λ value. view value
-        ≡ object (value_members (json.hexadecimal_string address) (view words) end)) }
+) -> Result<Object, AllocError>
+    ensures { IfOk result (λ object. members_in object
+        ≡ value_members (json.hexadecimal_string address) (view words) end) }
 {
-    let address = hexadecimal(alloc, address)?;
+    let object = Object::new(alloc)
+        .put_hexadecimal("address", address)?
+        .put("words", words)?;
     match end {
-        WalkEnd::Arrives { at, size: _ } => arrival_to_json(alloc, address, words, at),
-        WalkEnd::NotPresent => {
-            json!(in alloc; {"address": address, "words": words, "end": "not present"})
-        }
-        WalkEnd::MissingTable(frame) => {
-            let table = hexadecimal(alloc, frame.start_address().as_u64())?;
-            missing_to_json(alloc, address, words, table)
-        }
-        WalkEnd::HugePage(level) => huge_to_json(alloc, address, words, level),
+        WalkEnd::Arrives { at, size: _ } => object
+            .put_text("end", "arrives")?
+            .put_hexadecimal("physical", at.address)?
+            .put_rights(at.rights),
+        WalkEnd::NotPresent => object.put_text("end", "not present"),
+        WalkEnd::MissingTable(frame) => object
+            .put_text("end", "missing table")?
+            .put_hexadecimal("table", frame.start_address().as_u64()),
+        WalkEnd::HugePage(level) => object
+            .put_text("end", "huge page")?
+            .put_number("level", level),
     }
-}
-
-/// Returns the object of a walk that arrives.
-fn arrival_to_json(
-    alloc: Global,
-    address: String,
-    words: Value,
-    at: RightsAt,
-) -> Result<Value, AllocError>
-    ensures { IfOk result (λ value. view value ≡ object (
-        member (codes "address") (string (string_bytes address))
-        (json.end_members (view words) at.rights (walks.arrives_at at.address 0)))) }
-{
-    json!(in alloc; {
-        "address": address,
-        "words": words,
-        "end": "arrives",
-        "physical": hexadecimal(alloc, at.address)?,
-        "write": at.rights.write,
-        "execute": at.rights.execute,
-        "user": at.rights.user,
-    })
-}
-
-/// Returns the object of a walk that needs a table that isn't in the dump.
-fn missing_to_json(
-    alloc: Global,
-    address: String,
-    words: Value,
-    table: String,
-) -> Result<Value, AllocError>
-    ensures { IfOk result (λ value. view value ≡ object (
-        member (codes "address") (string (string_bytes address))
-        (member (codes "end") (string (codes "missing table"))
-        (member (codes "table") (string (string_bytes table))
-        (member (codes "words") (view words) no_members))))) }
-{
-    json!(in alloc; {
-        "address": address,
-        "words": words,
-        "end": "missing table",
-        "table": table,
-    })
-}
-
-/// Returns the object of a walk that ends by `HUGE_PAGE` at a level.
-fn huge_to_json(
-    alloc: Global,
-    address: String,
-    words: Value,
-    level: u64,
-) -> Result<Value, AllocError>
-    ensures { IfOk result (λ value. view value ≡ object (
-        member (codes "address") (string (string_bytes address))
-        (json.end_members (view words) every_right (walks.huge_page level)))) }
-{
-    json!(in alloc; {
-        "address": address,
-        "words": words,
-        "end": "huge page",
-        "level": level,
-    })
 }
 
 /// Writes the walk to an address as a line of JSON, with what a processor does with an access there, if one is asked for.

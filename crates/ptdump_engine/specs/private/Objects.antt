@@ -1,0 +1,8 @@
+-- JSON objects that are being built.
+use Rattle.serde_json.specs.Data.{Members}
+use Rattle.serde_json.specs.View.{members_view}
+use Rattle.ptdump_engine.specs.declared.json_lines.object.Object.{Object}
+
+-- the members so far
+abbrev pub members_in : Object → Members
+members_in object = members_view object.members.entries
