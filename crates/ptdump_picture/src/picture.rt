@@ -50,7 +50,7 @@ text{font:12px sans-serif;fill:#222}
 ";
 
 /// The contents of a picture: what page tables map, and the tables.
-#[derive(Clone, Copy)]
+#[derive(Drop)]
 pub struct Mapped<'a, L: LevelCount> {
     /// The frame of the root.
     pub root: PhysFrame<Size4KiB>,
