@@ -14,7 +14,7 @@ use std::alloc::Global;
 use x86_64_mappings::text::parse_number;
 
 /// An option that takes a number.
-#[derive(Clone, Copy, Debug, PartialEq, Eq)]
+#[derive(Clone, Copy, Debug)]
 pub enum NumberOption {
     /// `--cr3`.
     Cr3,

@@ -12,7 +12,7 @@ const PG: u64 = 0x8000_0000;
 const PAE: u64 = 0x20;
 
 /// The mode of paging of a processor. Intel SDM vol. 3A, "Paging Modes and Control Bits".
-#[derive(Clone, Copy, Debug, PartialEq, Eq)]
+#[derive(Clone, Copy, Debug)]
 pub enum Mode {
     /// No paging.
     NoPaging,

@@ -14,7 +14,7 @@ use x86_64_dump::{ByteSource, Dump, DumpError, Note};
 use x86_64_mappings::text::write_hexadecimal;
 
 /// The control registers of a processor that say how it pages.
-#[derive(Clone, Copy, Debug, PartialEq, Eq)]
+#[derive(Clone, Copy)]
 pub struct Registers {
     /// CR0.
     pub cr0: u64,

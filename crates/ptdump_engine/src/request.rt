@@ -10,7 +10,7 @@ use x86_64_dump::Placement;
 use x86_64_tables::page_table::Rights;
 
 /// What is asked of the walk to each address, beside its words and its end.
-#[derive(Clone, Copy, Debug, PartialEq, Eq)]
+#[derive(Clone, Copy)]
 pub struct WalkOptions {
     /// What the processor is set to, which says at which words it faults. Text says these, and JSON only what comes of the access.
     /// More than 52 bits of physical addresses count as 52.
@@ -22,7 +22,7 @@ pub struct WalkOptions {
 }
 
 /// Which mappings or regions to report or to check: those that reach into the addresses from one to another, and have at least some rights.
-#[derive(Clone, Copy, Debug, PartialEq, Eq)]
+#[derive(Clone, Copy)]
 pub struct Selection {
     /// The first of the addresses. If `None`, it is the first of all.
     pub from: Option<u64>,
@@ -42,7 +42,7 @@ impl Selection {
 }
 
 /// The addresses from a first one to a last one, both included. As text these are both, joined by `-`.
-#[derive(Clone, Copy, Debug, PartialEq, Eq)]
+#[derive(Clone, Copy)]
 pub struct AddressRange {
     /// The first.
     pub first: u64,
@@ -64,7 +64,7 @@ impl Display for AddressRange {
 }
 
 /// What a check looks for besides what is always a finding.
-#[derive(Clone, Copy, Debug, PartialEq, Eq)]
+#[derive(Clone, Copy)]
 pub struct Checking {
     /// The number of bits of the processor's physical addresses. More than 52 count as 52.
     pub physical_bits: u8,
@@ -78,7 +78,7 @@ pub struct Checking {
 }
 
 /// The report to write.
-#[derive(Debug, Drop)]
+#[derive(Drop)]
 pub enum Command {
     /// The regions that are selected.
     Regions(Selection),
@@ -125,7 +125,7 @@ impl Command {
 }
 
 /// The form of a report.
-#[derive(Clone, Copy, Debug, PartialEq, Eq)]
+#[derive(Clone, Copy)]
 pub enum Form {
     /// Lines of text.
     Text,
@@ -135,7 +135,7 @@ pub enum Form {
 }
 
 /// A request for a report on a dump.
-#[derive(Debug, Drop)]
+#[derive(Drop)]
 pub struct Request {
     /// The report to write.
     pub command: Command,
@@ -167,7 +167,7 @@ impl Request {
 }
 
 /// The outcome of a run that wrote its report.
-#[derive(Clone, Copy, Debug, PartialEq, Eq)]
+#[derive(Clone, Copy)]
 pub struct Outcome {
     /// Whether the request is fulfilled: each walk or its access arrives, each physical address of a search is found, a check
     /// finds nothing.

@@ -23,7 +23,7 @@ const ROOT_MASK: u64 = 0x000f_ffff_ffff_f000;
 const LA57: u64 = 0x1000;
 
 /// What says where the root is.
-#[derive(Clone, Copy, Debug, PartialEq, Eq)]
+#[derive(Clone, Copy)]
 pub enum Origin {
     /// The CR3 of the request.
     ByRequest,

@@ -1,7 +1,7 @@
 //! The start of a file, as an ELF header.
 
 /// The fields of the ELF header at the start of a file, if it has one. ELF-64 Object File Format, "ELF header".
-#[derive(Clone, Copy, Debug, PartialEq, Eq)]
+#[derive(Clone, Copy)]
 pub struct Header {
     /// `EI_CLASS`: 2 for 64 bits.
     pub class: u8,

@@ -20,7 +20,7 @@ const VERSION: u32 = 1;
 const HEADER_SIZE: u64 = 32;
 
 /// The header of a range of memory, without its last eight bytes, which are reserved. LiME, `lime_mem_range_header`.
-#[derive(Clone, Copy, Debug, PartialEq, Eq)]
+#[derive(Clone, Copy)]
 pub struct RangeHeader {
     /// The first four bytes, `magic`.
     pub magic: u32,

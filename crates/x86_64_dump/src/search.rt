@@ -13,7 +13,7 @@ use std::alloc::{AllocError, Global};
 const FRAME_SIZE: u64 = 4096;
 
 /// Where a segment begins, in physical memory and in the file.
-#[derive(Clone, Copy, Debug)]
+#[derive(Clone, Copy)]
 pub struct Place {
     /// The physical address of its first byte.
     pub address: u64,
@@ -22,7 +22,7 @@ pub struct Place {
 }
 
 /// The frames from an address on, up to the next stretch, with the segment that has them.
-#[derive(Clone, Copy, Debug)]
+#[derive(Clone, Copy)]
 pub struct Stretch {
     /// The address.
     pub from: u64,

@@ -59,14 +59,14 @@ fn whole_runs(rt: impl Abort + Copy, alloc: Global, file: &[u8]) -> Vec<Ran> {
 }
 
 /// Checks what a run wrote, whole or until memory allocation failed, and returns true if it is whole.
-fn is_whole(rt: impl Abort + Copy, request: &Request, ran: &Ran, wanted: &Ran) -> bool {
+fn is_whole(rt: impl Abort + Copy, number: usize, ran: &Ran, wanted: &Ran) -> bool {
     let (taken, whole) = (&ran.output.bytes, &wanted.output.bytes);
     if ran.status() == wanted.status() {
-        assert_eq!(rt; taken, whole, "{request:?}");
+        assert_eq!(rt; taken, whole, "command {number}");
         return true;
     }
-    assert_eq!(rt; ran.status(), 4, "{request:?}");
-    assert!(rt; whole.starts_with(taken), "{request:?}");
+    assert_eq!(rt; ran.status(), 4, "command {number}");
+    assert!(rt; whole.starts_with(taken), "command {number}");
     false
 }
 
@@ -80,8 +80,8 @@ fn count_whole(
 ) -> usize {
     let mut done = 0_usize;
     let runs = run_with_room(rt, alloc, file, room);
-    for ((request, ran), wanted) in runs.iter().zip(wanted) {
-        if is_whole(rt, request, ran, wanted) {
+    for (number, ((_, ran), wanted)) in runs.iter().zip(wanted).enumerate() {
+        if is_whole(rt, number, ran, wanted) {
             done = done.saturating_add(1);
         }
     }
