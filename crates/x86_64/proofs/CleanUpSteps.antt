@@ -1,5 +1,5 @@
 -- The result of a clean up is the machine's step.
-use Rattle.std.proofs.Common.{◌≡◌, ℕ, Bool, List, inr, sym, ap, ◌∙◌, subst}
+use Rattle.std.proofs.Common.{◌≡◌, ℕ, ◌-◌, Bool, List, Some, inr, sym, ap, ◌∙◌, subst}
 use Rattle.x86_64_model.specs.Call as machine
 use Rattle.x86_64_model.specs.Entry.{IsParentFlags}
 use Rattle.x86_64_model.specs.Machine.{AfterCall, do_call, step}
@@ -7,8 +7,12 @@ use Rattle.x86_64_model.specs.Memory.{IsMapping, word}
 use Rattle.x86_64_model.specs.Mapper.{◌laid_in◌, Hierarchy, PoolFits, MayCleanUp, CleansUp, back, SupplyFits, words}
 use Rattle.x86_64_model.specs.Pool.{TakesBack, given_back}
 use Rattle.x86_64_model.proofs.Lemmas.Machines.Fitting.{ready_of_fits, may_clean_up}
+use Rattle.x86_64_model.specs.Position.{position_count}
+use Rattle.x86_64.specs.Asked as asked
+use Rattle.x86_64.specs.declared.call_values.MapperReply.TheVariants as reply
 use Rattle.x86_64.specs.FreeFrames.{KeepsFree}
-use Rattle.x86_64.specs.Runs.{machine_of, state_in, Kept}
+use Rattle.x86_64.specs.Replies.{reply_of}
+use Rattle.x86_64.specs.Runs.{machine_of, state_in, step_by, Kept}
 use Rattle.x86_64.proofs.FreeFrames.{clean_up_keeps_free}
 use Rattle.x86_64.proofs.Keeping.{keeps_step}
 
@@ -21,6 +25,16 @@ module _ {Lent : Type 0} (h : Hierarchy Lent) (serves : ℕ → Bool) (pool held
     one : step (machine_of h.layout take_back) (state_in h.layout h.memory pool) (machine.CleanUp low high) ≡ record { state = state_in h.layout after.memory rest; reply = machine.Cleaned }
     one = ap (λ fs. do_call (machine_of h.layout take_back) (state_in h.layout h.memory fs) (machine.CleanUp low high)) same ∙ cleans.outcome
         ∙ ap (λ fs. record { state = state_in after.layout after.memory fs; reply = machine.Cleaned }) (sym last) ∙ ap (λ l. record { state = state_in l after.memory rest; reply = machine.Cleaned }) cleans.layout
+
+    pub range_cleaned : step_by (machine_of h.layout take_back) (state_in h.layout h.memory pool) (asked.CleanUpRange low high)
+        ≡ record { state = state_in h.layout after.memory rest; reply = Some reply.Cleaned }
+    range_cleaned = ap (λ (x : AfterCall). record { state = x.state; reply = reply_of (asked.CleanUpRange low high) x.reply }) one
+
+    pub all_cleaned : machine.CleanUp low high ≡ machine.CleanUp 0 (position_count h.layout.levels - 1)
+        → step_by (machine_of h.layout take_back) (state_in h.layout h.memory pool) asked.CleanUp
+        ≡ record { state = state_in h.layout after.memory rest; reply = Some reply.Cleaned }
+    all_cleaned all = ap (λ (x : AfterCall). record { state = x.state; reply = reply_of asked.CleanUp x.reply })
+        (ap (step (machine_of h.layout take_back) (state_in h.layout h.memory pool)) (sym all) ∙ one)
 
     -- the frames held afterwards are those held before and the returned ones
     all_back : left ≡ given_back take_back held (back h low high)

@@ -1,5 +1,6 @@
 pub mod AskedCalls
 pub mod CallSteps
+pub mod SizedSteps
 pub mod Keeping
 pub mod PageSteps
 pub mod Rounds

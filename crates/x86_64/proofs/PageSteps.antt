@@ -1,5 +1,5 @@
 -- The result of a mapper's call on a page is the machine's step.
-use Rattle.std.proofs.Common.{◌≡◌, ◌<◌, ◌≤◌, ℕ, Bool, true, cond, List, [], ◌++◌, Some, option_map, Result, Ok, Err, inr, refl, ap, sym, ◌∙◌, subst, arith}
+use Rattle.std.proofs.Common.{◌≡◌, ◌<◌, ◌≤◌, ℕ, Bool, true, false, cond, if◌then◌else◌, List, [], ◌++◌, Option, Some, None, option_map, Result, Ok, Err, inr, refl, ap, sym, ◌∙◌, subst, arith}
 use Rattle.std.proofs.lemmas.Option.{same_Some}
 use Rattle.std.specs.Result.{IfOk}
 use Rattle.x86_64_model.specs.Entry.{IsParentFlags}
@@ -13,7 +13,7 @@ use Rattle.x86_64_model.specs.Pool.{TakesBack}
 use Rattle.x86_64_model.specs.Allowed.{allowed, refuses}
 use Rattle.x86_64_model.specs.Call as machine
 use Rattle.x86_64_model.specs.Call.{IsCall}
-use Rattle.x86_64_model.specs.Machine.{AfterCall, only_reply, do_call, step}
+use Rattle.x86_64_model.specs.Machine.{Machine, State, AfterCall, only_reply, do_call, step}
 use Rattle.x86_64_model.specs.Mapper.{◌laid_in◌, Hierarchy, Steps, Does, DoesMap, page_translation, KeepsOthers, Owns, PoolFits, SupplyFits, paths, words}
 use Rattle.x86_64_model.proofs.Lemmas.Machines.Effects.{page_at_level}
 use Rattle.x86_64_tables.specs.MapperAnswers.{map_answer, map_refusal, unmap_answer, unmap_refusal, flags_refusal, flags_answer, update_refusal, translate_answer, translate_refusal}
@@ -29,7 +29,7 @@ use Rattle.x86_64.specs.Asked.{PageCall, MapTo, MapToWithTableFlags, IdentityMap
 use Rattle.x86_64.specs.declared.call_values.PageReply.TheVariants as reply
 use Rattle.x86_64.specs.Replies.{SizeReply, map_error, unmap_error, update_error, translate_error, result_of, size_reply, size_answer, is_refused, size_changes_nothing}
 use Rattle.x86_64.specs.FreeFrames.{KeepsFree}
-use Rattle.x86_64.specs.Runs.{machine_of, state_in}
+use Rattle.x86_64.specs.Runs.{AfterStep, machine_of, state_in}
 use Rattle.x86_64.specs.private.Served.{SetsFlags, size_step}
 use Rattle.x86_64_model.proofs.Lemmas.Machines.Fitting.{ready_of_fits, sound_of_fits}
 use Rattle.x86_64_model.proofs.Lemmas.Maps.Takes.{map_takes}
@@ -241,3 +241,12 @@ map_kept h does same = record { serves = same; layout = does.layout; lent = does
 
 pub change_kept : {Lent : Type 0} (h : Hierarchy Lent) {call : machine.Call} {answer : Answer} {after : Hierarchy Lent} {served : ℕ → Bool} → Does h call answer after → IsKept h after served served
 change_kept h does = record { serves = refl; layout = does.layout; lent = does.lent }
+
+-- a call that isn't allowed changes nothing
+pub step_refused : {S : Type 0} (m : Machine) (s : State) (level : ℕ) (call : PageCall)
+    → allowed m.levels m.window s.paths (page_call m.levels level call) ≡ false
+    → size_step {S = S} m level s call ≡ record { state = s; reply = Some None }
+step_refused {S} m s level call denied =
+    let answered : AfterCall → AfterStep (Option (SizeReply S)) =
+    λ after. record { state = after.state; reply = size_answer {S = S} call after.reply } in
+    ap (λ (may : Bool). answered (if may then do_call m s (page_call m.levels level call) else only_reply s machine.NotAllowed)) denied

@@ -96,13 +96,16 @@ pub appended_told : {R : Type 0} (before after : List R) (told : List (Option R)
 appended_told before after told e =
     sym (drop-map Some (length before) after) ∙ ap (drop (length before)) e ∙ ap (λ n. drop n (map Some before ++ told)) (sym (length-map before Some)) ∙ drop-append_seam (map Some before) told
 
+-- where there are no items, none is recorded
+pub nothing_recorded : (b : Bool) (held : List FlushItem) → held ≡ held ++ recorded b []
+nothing_recorded true held = sym (append-nil held)
+nothing_recorded false held = sym (append-nil held)
+
 -- if no reply was appended, no item is recorded
 pub items_first : (levels : ℕ) (b : Bool) (before : List Reply) (held : List FlushItem) → held ≡ held ++ recorded b (items_told levels (appended before before))
-items_first levels b before held = sym (ap (λ told. held ++ recorded b (items_told levels told)) (drop_all (length before) before (le_refl (length before))) ∙ ap (λ xs. held ++ xs) (recorded_none b) ∙ append-nil held)
-  where
-    recorded_none : (b : Bool) → recorded b [] ≡ []
-    recorded_none true = refl
-    recorded_none false = refl
+items_first levels b before held =
+    nothing_recorded b held
+    ∙ sym (ap (λ told. held ++ recorded b (items_told levels told)) (drop_all (length before) before (le_refl (length before))))
 
 -- room for k + 1 tokens is room for one
 pub room_for_one : (has_room : ℕ → Type 0) → ((n : ℕ) → has_room (n + 1) → has_room n) → (k : ℕ) → has_room (k + 1) → has_room 1

@@ -1,10 +1,14 @@
 use Rattle.std.proofs.Common.{◌≤◌, refl, sym, ◌∙◌, subst, lit≤, arith}
+use Rattle.x86_64_model.proofs.Lemmas.Machines.Fitting.{ready_of_fits}
 use Rattle.x86_64_model.proofs.Lemmas.Machines.Giving.{giving_from}
 use Rattle.x86_64_model.specs.PageCalls.{SetFlags}
 use Rattle.x86_64_tables.specs.PageTableFlags.{bits_of}
 use Rattle.x86_64.specs.Calls.{size_asks}
 use Rattle.x86_64.specs.private.Served.{SetsFlags}
-use Rattle.x86_64.proofs.PageSteps.{Start, IsServed, map_to_served, map_with_flags_served, identity_map_served, unmap_served, update_served, set_flags_served, translate_served, IsKept, map_kept, change_kept}
+use Rattle.x86_64.specs.Runs.{machine_of, state_in}
+use Rattle.x86_64.proofs.Keeping.{kept_none}
+use Rattle.x86_64.proofs.Rounds.{nothing_recorded}
+use Rattle.x86_64.proofs.PageSteps.{step_refused, Start, IsServed, map_to_served, map_with_flags_served, identity_map_served, unmap_served, update_served, set_flags_served, translate_served, IsKept, map_kept, change_kept}
 use Rattle.x86_64.proofs.runs.serve_page.Given.{Over}
 use Rattle.x86_64.proofs.runs.serve_page.Goals as goal
 use Rattle.x86_64.proofs.runs.serve_page.Goals.{in-MapTo, in-MapToWithTableFlags, in-IdentityMap, in-Unmap, in-UpdateFlags, in-SetFlagsP5, in-SetFlagsP4, in-SetFlagsP3, in-SetFlagsP2, in-TranslatePage}
@@ -79,3 +83,81 @@ returns-clause-still g c = (is_served g c (sym c.is_allowed.ensures ∙ c.if-not
 
 pub returns-clause-free : goal.returns-clause-free
 returns-clause-free g c = (is_served g c (sym c.is_allowed.ensures ∙ c.if-not-is_allowed.false)).free
+
+pub returns-then-not-is_allowed-clause-step : goal.returns-then-not-is_allowed-clause-step
+returns-then-not-is_allowed-clause-step g c =
+    let h = g.M.Tables.hierarchy c.args.mapper.now in
+    let state = state_in h.layout h.memory (g.F.FrameAllocator.supply c.args.frames.now) in
+    step_refused (machine_of h.layout g.F.FrameDeallocator.take_back) state g.S.PageSize.LEVEL (size_asks g.P5.LevelFiveFlags.bits c.args.call) (sym c.is_allowed.ensures ∙ c.if-not-is_allowed.true)
+
+pub returns-then-not-is_allowed-clause-keeps : goal.returns-then-not-is_allowed-clause-keeps
+returns-then-not-is_allowed-clause-keeps g c = kept_none (g.M.Tables.hierarchy c.args.mapper.now) _ c.requires.fits
+
+pub returns-then-not-is_allowed-clause-items : goal.returns-then-not-is_allowed-clause-items
+returns-then-not-is_allowed-clause-items g c = nothing_recorded g.K.Tokens.records _
+
+pub map_to-requires : goal.map_to-requires
+map_to-requires g c =
+    let h = g.M.Tables.hierarchy c.args.mapper.now in
+    record {
+      fits = ready_of_fits h.layout h.memory _ _ c.requires.fits;
+      allowed = rw c.in-MapTo.is at (sym c.is_allowed.ensures ∙ c.if-not-is_allowed.false);
+    }
+
+pub map_to_with_table_flags-mapped-requires : goal.map_to_with_table_flags-mapped-requires
+map_to_with_table_flags-mapped-requires g c =
+    let h = g.M.Tables.hierarchy c.args.mapper.now in
+    record {
+      fits = ready_of_fits h.layout h.memory _ _ c.requires.fits;
+      allowed = rw c.in-MapToWithTableFlags.is at (sym c.is_allowed.ensures ∙ c.if-not-is_allowed.false);
+    }
+
+pub unmap-requires : goal.unmap-requires
+unmap-requires g c =
+    record { valid = c.requires.fits.valid; allowed = rw c.in-Unmap.is at (sym c.is_allowed.ensures ∙ c.if-not-is_allowed.false) }
+
+pub update_flags-requires : goal.update_flags-requires
+update_flags-requires g c =
+    record { valid = c.requires.fits.valid; allowed = rw c.in-UpdateFlags.is at (sym c.is_allowed.ensures ∙ c.if-not-is_allowed.false) }
+
+pub set_flags-requires-in-SetFlagsP4-clause-may : goal.set_flags-requires-in-SetFlagsP4-clause-may
+set_flags-requires-in-SetFlagsP4-clause-may g c =
+    record { valid = c.requires.fits.valid; allowed = rw c.in-SetFlagsP4.is at (sym c.is_allowed.ensures ∙ c.if-not-is_allowed.false) }
+
+pub set_flags-requires-in-SetFlagsP3-clause-may : goal.set_flags-requires-in-SetFlagsP3-clause-may
+set_flags-requires-in-SetFlagsP3-clause-may g c =
+    record { valid = c.requires.fits.valid; allowed = rw c.in-SetFlagsP3.is at (sym c.is_allowed.ensures ∙ c.if-not-is_allowed.false) }
+
+pub set_flags-requires-in-SetFlagsP2-clause-may : goal.set_flags-requires-in-SetFlagsP2-clause-may
+set_flags-requires-in-SetFlagsP2-clause-may g c =
+    record { valid = c.requires.fits.valid; allowed = rw c.in-SetFlagsP2.is at (sym c.is_allowed.ensures ∙ c.if-not-is_allowed.false) }
+
+pub returns-clause-items : goal.returns-clause-items
+returns-clause-items g c =
+    elim c.match-call.branch [
+      | in-MapTo w ↦ rw (w.tokens-is, w.result-is) w.take.ensures.items
+      | in-MapToWithTableFlags w ↦ rw (w.tokens-is, w.result-is) w.take-in-MapToWithTableFlags.ensures.items
+      | in-IdentityMap w ↦ rw (w.tokens-is, w.result-is) w.take-in-IdentityMap.ensures.items
+      | in-Unmap w ↦ rw (w.tokens-is, w.result-is) w.take_unmapped.ensures.items
+      | in-UpdateFlags w ↦ rw (w.tokens-is, w.result-is) w.take-in-UpdateFlags.ensures.items
+      | in-SetFlagsP5 w ↦ rw (w.tokens-is, w.result-is) w.set_flags.ensures.items
+      | in-SetFlagsP4 w ↦ rw (w.tokens-is, w.result-is) w.set_flags-in-SetFlagsP4.ensures.items
+      | in-SetFlagsP3 w ↦ rw (w.tokens-is, w.result-is) w.set_flags-in-SetFlagsP3.ensures.items
+      | in-SetFlagsP2 w ↦ rw (w.tokens-is, w.result-is) w.set_flags-in-SetFlagsP2.ensures.items
+      | in-TranslatePage w ↦ rw (w.tokens-is, w.result-is) (nothing_recorded g.K.Tokens.records _)
+    ]
+
+pub returns-clause-room : goal.returns-clause-room
+returns-clause-room g c =
+    elim c.match-call.branch [
+      | in-MapTo w ↦ rw w.tokens-is w.take.ensures.room
+      | in-MapToWithTableFlags w ↦ rw w.tokens-is w.take-in-MapToWithTableFlags.ensures.room
+      | in-IdentityMap w ↦ rw w.tokens-is w.take-in-IdentityMap.ensures.room
+      | in-Unmap w ↦ rw w.tokens-is w.take_unmapped.ensures.room
+      | in-UpdateFlags w ↦ rw w.tokens-is w.take-in-UpdateFlags.ensures.room
+      | in-SetFlagsP5 w ↦ rw w.tokens-is w.set_flags.ensures.room
+      | in-SetFlagsP4 w ↦ rw w.tokens-is w.set_flags-in-SetFlagsP4.ensures.room
+      | in-SetFlagsP3 w ↦ rw w.tokens-is w.set_flags-in-SetFlagsP3.ensures.room
+      | in-SetFlagsP2 w ↦ rw w.tokens-is w.set_flags-in-SetFlagsP2.ensures.room
+      | in-TranslatePage w ↦ rw w.tokens-is (g.K.Tokens.fewer c.args.tokens.now)
+    ]
