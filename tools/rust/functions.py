@@ -298,7 +298,7 @@ class Functions(Tokens):
         return type_name(owner) if self.at(i) == "Self" else self.at(i)
 
     def describe(self, function, is_inline=False):
-        """Adds sections on the contract and on the tests to a function's documentation, and `#[inline]`."""
+        """Adds sections on the contract and on the tests to a function's documentation, and attributes for the compiler."""
         if not self.is_library:
             return
         first = min([function.start, *(place for _, place, _ in function.attributes)])
@@ -306,7 +306,10 @@ class Functions(Tokens):
         lines = []
         if function.is_public and self.kind[above] == "comment":
             lines = rules.documentation(function.path, function.clauses)
-        if is_inline and not any(name in ("inline", "cold") for name, _, _ in function.attributes):
+        if function.path in rules.APART:
+            rules.APART.apply(function.path)
+            lines += ["#[cold]", "#[inline(never)]"]
+        elif is_inline and not any(name in ("inline", "cold") for name, _, _ in function.attributes):
             lines.append("#[inline]")
         if lines and not function.path.startswith("Drop::"):
             column = "\n" + " " * (self.start[first] - self.source.rfind("\n", 0, self.start[first]) - 1)

@@ -49,6 +49,9 @@ INLINE_GENERIC = Rules(
     f"{name}.rt"
     for name in ("access", "calls", "change", "find", "leaf", "map", "mapped_page_table", "mapper", "mapper57", "page", "path")
 )
+# Functions that the compiler keeps apart, since calls rarely need them. With this one in the loop over the levels, a map's loop is too long
+# to be unrolled, and then the indices are written to memory and read again.
+APART = Rules({"TableAccess for Direct<'a, P, L, T>::clear_unnamed"})
 # Texts, and what they become.
 REWRITES = Rules(
     {

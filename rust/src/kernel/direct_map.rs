@@ -11,10 +11,10 @@ use core::marker::PhantomData;
 /// Over this memory, tables are data: safe calls of [`structures::paging`](crate::structures::paging) change them, for example those of
 /// an address space that no processor uses yet. For tables in use there are the mappers of [`kernel`](super).
 pub struct DirectMap<'a> {
-    start: *mut PageTable,
-    // the first range, which is tried first
-    first: u64,
-    count: u64,
+    // the largest range, which is tried first: where its first frame is mapped, that frame's address, and the bytes of the range
+    largest: *mut PageTable,
+    address: u64,
+    size: u64,
     ranges: &'a [(u64, u64)],
     tables: PhantomData<&'a mut PageTable>,
 }
@@ -34,17 +34,39 @@ impl<'a> DirectMap<'a> {
     /// [`Mapper`](super::structures::paging::Mapper) asks for.
     #[inline]
     pub const unsafe fn new(start: *mut PageTable, ranges: &'a [(u64, u64)]) -> DirectMap<'a> {
-        let (first, end) = if ranges.is_empty() { (0, 0) } else { ranges[0] };
-        DirectMap { start, first, count: end - first, ranges, tables: PhantomData }
+        let (mut first, mut count, mut i) = (0, 0, 0);
+        while i < ranges.len() {
+            if count < ranges[i].1 - ranges[i].0 {
+                (first, count) = (ranges[i].0, ranges[i].1 - ranges[i].0);
+            }
+            i += 1;
+        }
+        let largest = start.wrapping_add(first as usize);
+        DirectMap { largest, address: first << 12, size: count << 12, ranges, tables: PhantomData }
     }
 
+    /// Returns where the table in a frame is. Panics if the frame is in no range.
     #[inline]
-    fn has(&self, number: u64) -> bool {
-        number.wrapping_sub(self.first) < self.count || self.is_in_another_range(number)
+    fn pointer(&self, place: FramePlace) -> *mut PageTable {
+        assert!(place.number() < 1 << 52, "a page table outside the memory");
+        // The shift undoes that by which a mapper gets the number from an address, so no instruction is left of the two.
+        let offset = (place.number() << 12).wrapping_sub(self.address);
+        if offset < self.size {
+            self.largest.wrapping_byte_add(offset as usize)
+        } else {
+            self.in_another_range(offset)
+        }
     }
 
+    /// Returns where the table in a frame is that isn't in the largest range, by its offset from there. Panics if it is in no range.
     #[cold]
-    fn is_in_another_range(&self, number: u64) -> bool {
+    #[inline(never)]
+    fn in_another_range(&self, offset: u64) -> *mut PageTable {
+        assert!(self.has(offset.wrapping_add(self.address) >> 12), "a page table outside the memory");
+        self.largest.wrapping_byte_add(offset as usize)
+    }
+
+    fn has(&self, number: u64) -> bool {
         self.ranges.iter().any(|(first, end)| *first <= number && number < *end)
     }
 }
@@ -76,31 +98,23 @@ impl TableMemory for DirectMap<'_> {
         None
     }
 
-    #[inline]
     fn table(&self, place: FramePlace) -> Option<&PageTable> {
-        // SAFETY: the frame is in a range, so it is mapped (`new`).
-        self.has(place.number()).then(|| unsafe { &*self.start.add(place.number() as usize) })
+        self.has(place.number()).then(|| self.table_at(place))
     }
 
-    #[inline]
     fn table_mut(&mut self, place: FramePlace) -> Option<&mut PageTable> {
-        // SAFETY: the frame is in a range, so it is mapped (`new`), and the memory is borrowed mutably.
-        self.has(place.number()).then(|| unsafe { &mut *self.start.add(place.number() as usize) })
+        self.has(place.number()).then(|| self.table_at_mut(place))
     }
 
     #[inline]
     fn table_at(&self, place: FramePlace) -> &PageTable {
-        match self.table(place) {
-            Some(table) => table,
-            None => panic!("a page table outside the memory"),
-        }
+        // SAFETY: the frame is in a range, so it is mapped (`new`).
+        unsafe { &*self.pointer(place) }
     }
 
     #[inline]
     fn table_at_mut(&mut self, place: FramePlace) -> &mut PageTable {
-        match self.table_mut(place) {
-            Some(table) => table,
-            None => panic!("a page table outside the memory"),
-        }
+        // SAFETY: the frame is in a range, so it is mapped (`new`), and the memory is borrowed mutably.
+        unsafe { &mut *self.pointer(place) }
     }
 }

@@ -228,7 +228,8 @@ impl<'a, P: PageTableFrameMapping, L: LevelCount, T: TableMemory> TableAccess fo
         self.memory.table_at_mut(place)
     }
 
-    #[inline]
+    #[cold]
+    #[inline(never)]
     fn clear_unnamed(&mut self, frame: PhysFrame<Size4KiB>) -> bool {
         self.memory.table_at_mut(self.mapping.frame_to_pointer(frame)).zero();
         true
