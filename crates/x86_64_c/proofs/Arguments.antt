@@ -1,7 +1,9 @@
 -- What is wrong with arguments, once the hierarchy is right.
-use Rattle.std.proofs.Common.{◌≡◌, ◌⊎◌, ⊎_elim, ℕ, nat_le, ◌≤◌, true, Option, None, List, length, rules, ap, ◌∙◌, le-leb, arith}
+use Rattle.std.proofs.Common.{◌≡◌, ◌⊎◌, ⊎_elim, inl, inr, ℕ, ◌-◌, ◌^◌, nat_le, nat_lt, ◌≤◌, ◌<◌, true, false, Option, Some, None, List, length, rules, ap, ◌∙◌, le-leb, arith}
+use Rattle.std.proofs.lemmas.Bool.{false≢true, false_from_ne_true, leb-true, lt-ltb, ltb-true, or_from, or_left, or_right}
 use Rattle.std.specs.FinMap.{len}
 use Rattle.std.specs.Option.{option_or}
+use Rattle.x86_64_model.specs.Position.{IsCanonical, lower_half}
 use Rattle.x86_64_tables.specs.LentMemory.{numbered, tables_in_order}
 use Rattle.x86_64_tables.proofs.NumberedTables.{in_order-numbered, len-numbered}
 use Rattle.x86_64_c.specs.Accesses.{bad_access, bad_call}
@@ -10,6 +12,7 @@ use Rattle.x86_64_c.specs.Entries.{bad_call as bad_entries}
 use Rattle.x86_64_c.specs.Given.{bad_hierarchy, bad_address, bad_page, bad_read, unless}
 use Rattle.x86_64_c.specs.PoolCalls.{bad_pool}
 use Rattle.x86_64_c.specs.Status.{bad_levels, bad_array}
+use Rattle.x86_64_c.specs.Status.{bad_address as wrong}
 use Rattle.x86_64_c.specs.declared.accesses.AccessRequest.{AccessRequest}
 use Rattle.x86_64_c.specs.declared.accesses.Controls.{Controls}
 use Rattle.x86_64_c.specs.declared.given.Hierarchy.{Hierarchy}
@@ -25,9 +28,28 @@ four_or_five h n good = search rules
 pub else_five : (levels : ℕ) → (levels ≡ 4) ⊎ (levels ≡ 5) → (levels ≡ 4 → ⊥) → levels ≡ 5
 else_five levels which other = ⊎_elim (λ four. absurd (other four)) (λ five. five) which
 
+-- an address is right if it is canonical, and wrong otherwise
+pub right_address : (L a : ℕ) → IsCanonical L a → bad_address L a ≡ None
+right_address L a is = ap (λ b. unless b wrong) (elim is [
+  | inl low ↦ or_left _ _ (lt-ltb a (lower_half L) low)
+  | inr high ↦ or_right (nat_lt a (lower_half L)) _ (le-leb (2 ^ 64 - lower_half L) a high.0)
+])
+
+pub wrong_address : (L a : ℕ) → a < 2 ^ 64 → (IsCanonical L a → false ≡ true) → bad_address L a ≡ Some wrong
+wrong_address L a fits none = ap (λ b. unless b wrong) (or_from _ _
+    (false_from_ne_true _ (λ low. false≢true (none (inl (ltb-true a (lower_half L) low)))))
+    (false_from_ne_true _ (λ high. false≢true (none (inr (leb-true (2 ^ 64 - lower_half L) a high, fits))))))
+
 -- for a call that reads at an address, where the hierarchy has L levels
 pub reads_at : (h : Hierarchy) (n a L : ℕ) → bad_hierarchy h n ≡ None → h.levels ≡ L → bad_read h n a ≡ bad_address L a
 reads_at h n a L good levels = ap (λ o. option_or o (bad_address h.levels a)) good ∙ ap (λ l. bad_address l a) levels
+
+pub read_right : (h : Hierarchy) (n a L : ℕ) → bad_hierarchy h n ≡ None → h.levels ≡ L → IsCanonical L a → bad_read h n a ≡ None
+read_right h n a L good levels is = reads_at h n a L good levels ∙ right_address L a is
+
+pub read_wrong : (h : Hierarchy) (n a L : ℕ) → bad_hierarchy h n ≡ None → h.levels ≡ L → a < 2 ^ 64 → (IsCanonical L a → false ≡ true)
+    → bad_read h n a ≡ Some wrong
+read_wrong h n a L good levels fits none = reads_at h n a L good levels ∙ wrong_address L a fits none
 
 -- for a call that writes the entries of a walk, with room for an entry of each level
 pub entries_at : (h : Hierarchy) (n room a L : ℕ) → bad_hierarchy h n ≡ None → L ≤ room → h.levels ≡ L → bad_entries h n room a ≡ bad_address L a

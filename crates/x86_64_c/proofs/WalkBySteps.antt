@@ -1,7 +1,8 @@
 -- Where the page walk arrives, by the words that it reads.
-use Rattle.std.proofs.Common.{zero, suc, ◌≡◌, ◌⊎◌, ⊎_elim, inl, inr, ◌≤◌, ◌+◌, ◌-◌, ◌%◌, ◌==◌, ℕ, ◌&&◌, ◌||◌, Bool, true, false, true≢false, not, cond, List, [], ◌∷◌, ◌++◌, map, drop, length, slice_index_or, Some, None, Option, option_map, option_and_then, unwrap_or, refl, sym, ap, subst, ◌∙◌, arith}
+use Rattle.std.proofs.Common.{zero, suc, ◌≡◌, ◌⊎◌, ⊎_elim, inl, inr, ◌≤◌, ◌<◌, ◌+◌, ◌-◌, ◌%◌, ◌==◌, ℕ, ◌&&◌, ◌||◌, Bool, true, false, true≢false, not, cond, List, [], ◌∷◌, ◌++◌, map, drop, length, slice_index_or, Some, None, Option, option_map, option_and_then, unwrap_or, refl, sym, ap, subst, ◌∙◌, arith}
 use Rattle.std.proofs.Math.Bool.{and-true, and_assoc}
 use Rattle.std.proofs.lemmas.Bool.{eqb-true}
+use Rattle.std.proofs.lemmas.List.{length-append, length-map}
 use Rattle.std.proofs.Math.Nat.{mod-eq-sub-div-mul}
 use Rattle.std.specs.List.{last_or, list_all}
 use Rattle.x86_64_model.specs.Access.{Step, steps_from, reads_on}
@@ -159,6 +160,19 @@ last_written (s ∷ steps) before after why count d t writes is =
     let less : count - 1 ≡ length steps = omega (arith, writes.number) in
     ap (λ array. slice_index_or array (count - 1) d) writes.array ∙ ap (λ n. slice_index_or (map written (s ∷ steps) ++ drop count before) n d) less
     ∙ at_last s t steps (drop count before) d is
+
+-- a walk that ends at a page has read a word, and there is room for the last one
+pub some_written : (steps : List Step) (before after : List Entry) (why count : ℕ)
+    → Writes steps before why after count → why ≡ 0 → 1 ≤ count
+some_written [] before after why count writes is = absurd (omega (arith, writes.end, is))
+some_written (s ∷ steps) before after why count writes is = omega (arith, writes.number)
+
+pub last_within : (steps : List Step) (before after : List Entry) (why count : ℕ)
+    → Writes steps before why after count → why ≡ 0 → count - 1 < length after
+last_within steps before after why count writes is =
+    let some = some_written steps before after why count writes is in
+    let all = ap length writes.array ∙ length-append (map written steps) (drop count before) in
+    omega (arith, some, all, length-map steps written, writes.number)
 
 -- ---- where the walk arrives, by what it has written
 
