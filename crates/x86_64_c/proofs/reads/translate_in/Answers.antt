@@ -1,0 +1,36 @@
+use Rattle.std.proofs.Common.{arith, ◌≡◌, Some, None, refl, sym, ◌∙◌, subst}
+use Rattle.x86_64_c.specs.Reads.{TellsTranslation}
+use Rattle.x86_64_c.specs.Status.{bad_address}
+use Rattle.x86_64_c.proofs.Arguments.{read_right, read_wrong}
+use Rattle.x86_64_c.proofs.Located.{translates_there, valid}
+use Rattle.x86_64_c.proofs.reads.translate_in.Goals as goal
+
+pub returns-in_default-checked_new : goal.returns-in_default-checked_new
+returns-in_default-checked_new g c =
+    let wrong = read_wrong c.args.hierarchy.now _ c.args.address g.L.LevelCount.LEVELS c.in-Some.ensures.good c.requires.levels
+    (omega (arith, c.ranges.address)) c.in_default-checked_new.ensures.canonical.1 in
+    record {
+      bad = λ status is. ((let e : Some bad_address ≡ Some status = sym wrong ∙ is in cc), refl);
+      told = λ good. absurd (let e : Some bad_address ≡ None = sym wrong ∙ good in cc);
+      tables = refl;
+    }
+
+pub translate_at-requires : goal.translate_at-requires
+translate_at-requires g c =
+    let right = read_right c.args.hierarchy.now _ c.args.address g.L.LevelCount.LEVELS c.in-Some.ensures.good c.requires.levels
+    (c.in-Some-checked_new.ensures.canonical.0 refl) in
+    valid c.args.hierarchy.now c.in-Some.located g.L.LevelCount.LEVELS c.requires.levels c.in-Some.ensures.root
+    c.in-Some.ensures.places c.args.tables.now _ c.new-memory.ensures.tables (c.requires.valid right)
+
+pub returns-clause-bad : goal.returns-clause-bad
+returns-clause-bad g c = λ status is.
+    let right = read_right c.args.hierarchy.now _ c.args.address g.L.LevelCount.LEVELS c.in-Some.ensures.good c.requires.levels
+    (c.in-Some-checked_new.ensures.canonical.0 refl) in
+    absurd (let e : None ≡ Some status = sym right ∙ is in cc)
+
+pub returns-clause-told : goal.returns-clause-told
+returns-clause-told g c = λ good.
+    let there = translates_there c.args.hierarchy.now c.in-Some.located g.L.LevelCount.LEVELS c.requires.levels c.in-Some.ensures.root
+    c.in-Some.ensures.places _ c.args.tables.now (sym c.new-memory.ensures.tables) _ c.args.address c.in-Some-checked_new.ensures.position in
+    let translation = c.args.translation.now in
+    subst (λ t. TellsTranslation t c.translate_at.result translation c.translate_at.new.translation) there c.translate_at.ensures.told
