@@ -5,7 +5,7 @@ use Rattle.x86_64_model.specs.Call.{Call, IsCall, Answered, NotAllowed}
 use Rattle.x86_64_model.specs.Entry.{IsParentFlags}
 use Rattle.x86_64_model.specs.Layout.{Layout}
 use Rattle.x86_64_model.specs.Machine.{AfterCall, only_reply, do_call, step}
-use Rattle.x86_64_model.specs.Mapper.{Hierarchy, Does, PoolFits, allows, machine_of, state_in, SupplyFits}
+use Rattle.x86_64_model.specs.Mapper.{Hierarchy, Does, PoolFits, Valid, allows, machine_of, state_in, SupplyFits}
 use Rattle.x86_64_model.specs.Memory.{Memory}
 use Rattle.x86_64_model.specs.Path.{IsPage, path_at}
 use Rattle.x86_64_model.specs.Pool.{TakesBack}
@@ -48,6 +48,17 @@ seen h after call answer does = record {
   layout = does.layout;
   lent = refl;
 }
+
+-- what the words in the caller's memory say holds of a mapper's layout and memory
+module _ (k l : Layout) (n m : Memory) (layout : k ≡ l) (memory : n ≡ m) where
+  abbrev over : (P : Hierarchy (Unit {0}) → Type 0) → P (of l m) → P (of k n)
+  over P holds = subst (λ n. P (of k n)) (sym memory) (subst (λ k. P (of k m)) (sym layout) holds)
+
+  pub valid_over : Valid (of l m) → Valid (of k n)
+  valid_over = over (λ a. Valid a)
+
+  pub supply_over : (serves : ℕ → Bool) (pool : List ℕ) → PoolFits (of l m) serves pool → SupplyFits (of k n) pool
+  supply_over serves pool fits = over (λ a. SupplyFits a pool) (ready_of_fits l m serves pool fits)
 
 pub changes : {Lent : Type 0} (h after : Hierarchy Lent) (l : Layout) (m n : Memory) → h.layout ≡ l → h.memory ≡ m → after.memory ≡ n
     → (call : Call) (answer : Answer) (status : ℕ) → IsParentFlags l.added_flags → IsCall l.levels call → allows (of l m) call ≡ true

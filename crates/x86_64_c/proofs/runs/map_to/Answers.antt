@@ -6,7 +6,7 @@ use Rattle.x86_64_tables.specs.PageTableFlags.{bits_of}
 use Rattle.x86_64_tables.specs.Shifted.{shifted_is_mapping}
 use Rattle.x86_64.specs.Asked.{MapToWithTableFlags}
 use Rattle.x86_64_c.specs.Given.{places_of}
-use Rattle.x86_64_c.proofs.EntryChanges.{plain}
+use Rattle.x86_64_c.proofs.EntryChanges.{plain, supply_over, valid_over}
 use Rattle.x86_64_c.proofs.PoolSteps.{mapped, map_did, refused, seen_allows}
 use Rattle.x86_64_c.proofs.runs.map_to.Goals as goal
 
@@ -28,3 +28,12 @@ returns-clause-runs g c =
     level g.S.PageSize.low g.S.PageSize.high
     (map_did _ _ l _ _ c.new-mapper.ensures.layout c.new-mapper.ensures.memory (search rules) _ (λ k. page_call k level map) _ _ c.map_to_with_table_flags-mapped.ensures.does.map)
     (sym (seen_allows _ l _ _ c.new-mapper.ensures.layout c.new-mapper.ensures.memory (λ k. page_call k level map)) ∙ sym c.map_allowed.ensures ∙ c.if-not-map_allowed.false)
+
+pub map_allowed-requires : goal.map_allowed-requires
+map_allowed-requires g c = valid_over _ _ _ _ c.new-mapper.ensures.layout c.new-mapper.ensures.memory c.requires.valid
+
+pub map_to_with_table_flags-mapped-requires : goal.map_to_with_table_flags-mapped-requires
+map_to_with_table_flags-mapped-requires g c = record {
+  fits = supply_over _ _ _ _ c.new-mapper.ensures.layout c.new-mapper.ensures.memory _ _ c.requires;
+  allowed = sym c.map_allowed.ensures ∙ c.if-not-map_allowed.false;
+}
