@@ -1,12 +1,13 @@
 -- A request with a number of levels, stated of what the caller handed in.
-use Rattle.std.proofs.Common.{◌≡◌, ◌≤◌, ℕ, List, length, Some, None, refl, sym, ap, ap₂, ◌∙◌}
+use Rattle.std.proofs.Common.{◌≡◌, ◌≤◌, ℕ, true, false, List, length, Some, None, refl, sym, ap, ap₂, ◌∙◌}
 use Rattle.std.specs.Option.{option_or}
 use Rattle.x86_64_model.specs.Position.{span}
 use Rattle.x86_64_tables.specs.LentMemory.{numbered}
 use Rattle.x86_64_tables.specs.Shifted.{shifted_places}
 use Rattle.x86_64.specs.Asked.{MapToWithTableFlags}
-use Rattle.x86_64_c.specs.Given.{IsPageOf, at, bad_frame, bad_page, places_of}
+use Rattle.x86_64_c.specs.Given.{IsPageOf, at, bad_frame, bad_page, places_of, starts_frame, unless}
 use Rattle.x86_64_c.specs.PoolCalls.{Executes, Loan, Request, Runs, bad_call, bad_map, map_call, on_page, pool_in}
+use Rattle.x86_64_c.specs.Status as status
 use Rattle.x86_64_c.specs.declared.given.Hierarchy.{Hierarchy as Given}
 use Rattle.x86_64_c.specs.declared.given.Located.{Located}
 use Rattle.x86_64_c.specs.declared.given.MapRequest.{MapRequest}
@@ -27,9 +28,18 @@ executes own h lent request L located levels root places wrong after status bad 
 }
 
 -- what is wrong with a map of a page is what is wrong with the frame
-pub only_frame : (L : ℕ) (request : MapRequest) (level position size : ℕ) → bad_page L request.page ≡ None → IsPageOf L request.page level position → size ≡ span level → bad_map L request ≡ bad_frame size request.frame
+only_frame : (L : ℕ) (request : MapRequest) (level position size : ℕ) → bad_page L request.page ≡ None → IsPageOf L request.page level position → size ≡ span level → bad_map L request ≡ bad_frame size request.frame
 only_frame L request level position size good is spans =
     ap (λ o. option_or o (bad_frame request.page.size request.frame)) good ∙ ap (λ s. bad_frame s request.frame) (size_is L request.page good ∙ ap span (sym is.level_is) ∙ sym spans)
+
+-- so nothing is if a frame of its size starts there, and the frame is if none does
+module _ (request : MapRequest) {L level position size : ℕ} (good : bad_page L request.page ≡ None) (is : IsPageOf L request.page level position)
+    (spans : size ≡ span level) where
+  pub right_frame : starts_frame size request.frame ≡ true → bad_map L request ≡ None
+  right_frame there = only_frame L request level position size good is spans ∙ ap (λ b. unless b status.bad_frame) there
+
+  pub wrong_frame : starts_frame size request.frame ≡ false → bad_map L request ≡ Some status.bad_frame
+  wrong_frame none = only_frame L request level position size good is spans ∙ ap (λ b. unless b status.bad_frame) none
 
 -- the call for a page is the requested one
 pub requested : (L : ℕ) (request : MapRequest) (level position : ℕ) → IsPageOf L request.page level position

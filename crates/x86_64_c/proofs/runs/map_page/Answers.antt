@@ -1,22 +1,19 @@
-use Rattle.std.proofs.Common.{◌≡◌, Some, None, sym, ap, ◌∙◌, rules}
+use Rattle.std.proofs.Common.{◌≡◌, Some, None, refl, sym, ◌∙◌, rules}
 use Rattle.x86_64_tables.proofs.LentPools.{fits_served}
 use Rattle.x86_64_tables.proofs.Stacks.{same_array, same_count}
-use Rattle.x86_64_c.specs.Given.{unless}
-use Rattle.x86_64_c.specs.Status as status
-use Rattle.x86_64_c.proofs.Executed.{only_frame, requested}
+use Rattle.x86_64_c.specs.Status.{bad_frame}
+use Rattle.x86_64_c.proofs.Executed.{requested, right_frame, wrong_frame}
 use Rattle.x86_64_c.proofs.LentRuns.{lent_runs}
 use Rattle.x86_64_c.proofs.runs.map_page.Goals as goal
 
 pub map_to-requires : goal.map_to-requires
 map_to-requires g c =
-    let right = only_frame g.L.LevelCount.LEVELS c.args.request.now g.S.PageSize.LEVEL c.args.page g.S.PageSize.SIZE c.requires.1.1.1.1.0 c.requires.1.1.1.1.1.0 g.S.PageSize.size
-    ∙ ap (λ b. unless b status.bad_frame) c.in-Some.ensures.there in
+    let right = right_frame c.args.request.now c.requires.1.1.1.1.0 c.requires.1.1.1.1.1.0 g.S.PageSize.size c.in-Some.ensures.there in
     rw c.new-memory.ensures.tables (fits_served c.of.result.frames _ _ c.new-frames.ensures.serves (rw (c.new-frames.ensures.supply, c.of.ensures) (c.requires.1.1.1.1.1.1 right)))
 
 pub returns-clause-bad : goal.returns-clause-bad
 returns-clause-bad g c = λ why is.
-    let right = only_frame g.L.LevelCount.LEVELS c.args.request.now g.S.PageSize.LEVEL c.args.page g.S.PageSize.SIZE c.requires.1.1.1.1.0 c.requires.1.1.1.1.1.0 g.S.PageSize.size
-    ∙ ap (λ b. unless b status.bad_frame) c.in-Some.ensures.there in
+    let right = right_frame c.args.request.now c.requires.1.1.1.1.0 c.requires.1.1.1.1.1.0 g.S.PageSize.size c.in-Some.ensures.there in
     absurd (let e : None ≡ Some why = sym right ∙ is in cc)
 
 pub returns-clause-runs : goal.returns-clause-runs
@@ -37,3 +34,25 @@ returns-clause-in_array g c =
     let array = same_array c.of.result.frames after.own.frames _ _ after.entries.ghost_name after.count.ghost_name serves in
     let count = same_count c.of.result.frames after.own.frames _ _ after.entries.ghost_name after.count.ghost_name serves in
     search rules
+
+pub new-frames-requires : goal.new-frames-requires
+new-frames-requires g c =
+    let right = right_frame c.args.request.now c.requires.1.1.1.1.0 c.requires.1.1.1.1.1.0 g.S.PageSize.size c.in-Some.ensures.there in
+    let fits = c.requires.1.1.1.1.1.1 right in
+    record {
+      in_array = c.requires.1.1.0;
+      room = search rules;
+      each_once = fits.each_once;
+      are_frames = fits.are_frames;
+      served = rw c.of.ensures fits.serves_pool;
+    }
+
+pub returns-in_default-clause-bad : goal.returns-in_default-clause-bad
+returns-in_default-clause-bad g c = λ why is.
+    let wrong = wrong_frame c.args.request.now c.requires.1.1.1.1.0 c.requires.1.1.1.1.1.0 g.S.PageSize.size c.in_default.ensures.none in
+    ((let e : Some bad_frame ≡ Some why = sym wrong ∙ is in cc), refl)
+
+pub returns-in_default-clause-runs : goal.returns-in_default-clause-runs
+returns-in_default-clause-runs g c = λ good.
+    let wrong = wrong_frame c.args.request.now c.requires.1.1.1.1.0 c.requires.1.1.1.1.1.0 g.S.PageSize.size c.in_default.ensures.none in
+    absurd (let e : Some bad_frame ≡ None = sym wrong ∙ good in cc)
