@@ -18,7 +18,7 @@ use Rattle.x86_64_model.proofs.Lemmas.Machines.Fitting.{AllCalls, ready_of_fits}
 use Rattle.x86_64_model.proofs.Lemmas.Paths.Pages.{span_pos}
 use Rattle.x86_64_mappers.specs.Layouts.{direct_at}
 use Rattle.x86_64_mappers.specs.RangeChanges.{DoesChanges, IsRange, frames_done, unmaps, updates}
-use Rattle.x86_64_mappers.specs.Ranges.{DoesMaps, IsNextMap, MapRange, MapsByResult, MapsEach, StopsAt, accepted, map_at, maps, page_at}
+use Rattle.x86_64_mappers.specs.Ranges.{DoesMaps, IsNextMap, MapRange, MapsByResult, MapsEach, MayMapRange, StopsAt, accepted, map_at, maps, page_at}
 use Rattle.x86_64_mappers.specs.declared.access.ranges.MapRangeErrorIn.{MapRangeErrorIn}
 use Rattle.x86_64_tables.specs.FlushRecorder.{FlushRange, flush_range}
 use Rattle.x86_64_tables.specs.LentMemory.{numbered}
@@ -32,10 +32,11 @@ use Rattle.x86_64_c.proofs.RangeKeeps.{keeps_calls, are_calls}
 use Rattle.x86_64_c.proofs.LentRuns.{stack}
 use Rattle.x86_64_c.specs.Calls.{result_status}
 use Rattle.x86_64_c.proofs.Located.{located_is}
-use Rattle.x86_64_c.specs.Given.{at, hierarchy_in, places_of}
-use Rattle.x86_64_c.specs.Ranges.{Changes, Maps, MayMap}
+use Rattle.x86_64_c.specs.Given.{IsPageOf, at, hierarchy_in, level_of, places_of, position_of}
+use Rattle.x86_64_c.specs.Ranges.{Changes, Maps, MayMap, MayUpdate, Unmaps}
 use Rattle.x86_64_c.specs.declared.given.Hierarchy.{Hierarchy as Given}
 use Rattle.x86_64_c.specs.declared.given.Located.{Located}
+use Rattle.x86_64_c.specs.declared.given.Page.{Page}
 
 -- ---- the calls on a range
 
@@ -46,6 +47,19 @@ range_is h L places root is level page count within = record {
   there = λ k less. subst (λ (l : Layout). page + k * span level < position_count l.levels) (sym is) (page_before page count k (span level) (position_count L) (span_pos level) less within);
   outside = λ k less. subst (λ (l : Layout). begins_with l.window (path_at l.levels level (page + k * span level)) ≡ false) (sym is) refl;
 }
+
+-- a range may be mapped in a mapper's hierarchy if the words alone say so, and then they do
+module _ {Lent : Type 0} (h : Hierarchy Lent) (l : Layout) (m : Memory) (layout : h.layout ≡ l) (memory : h.memory ≡ m)
+    (r : MapRange) (count : ℕ) where
+  pub range_over : MayMapRange (of l m) r count → MayMapRange h r count
+  range_over may =
+      let there = subst (λ n. MayMapRange (of h.layout n) r count) (sym memory) (subst (λ k. MayMapRange (of k m) r count) (sym layout) may) in
+      record { pages = there.pages; frames = there.frames; allowed = there.allowed }
+
+  pub range_seen : MayMapRange h r count → MayMapRange (of l m) r count
+  range_seen may =
+      let there : MayMapRange (of h.layout h.memory) r count = record { pages = may.pages; frames = may.frames; allowed = may.allowed } in
+      subst (λ k. MayMapRange (of k m) r count) layout (subst (λ n. MayMapRange (of h.layout n) r count) memory there)
 
 module _ (L level : ℕ) (low : 1 ≤ level) (high : level ≤ 3) (some : 3 < L) where
   within : level ≤ L
@@ -204,6 +218,19 @@ lent_maps own array count serves also same L located m n ts us pool rest free le
     (subst (λ n. Maps (at L located (numbered ts)) (stack (is_in own) pool) r number (at L located n) (stack (is_in own) rest) status done) (sym after)
     (subst (λ m. Maps (at L located m) (stack (is_in own) pool) r number (at L located n) (stack (is_in own) rest) status done) before
     (own_maps own array count serves also same (at L located m) (at L located n) pool rest r number status done maps))))
+
+-- ---- from the page on that was handed in
+
+module _ {L level position : ℕ} {page : Page} (is : IsPageOf L page level position) {h after : Hierarchy (Unit {0})} {count status : ℕ} where
+  pub unmaps_given : {array frames : List ℕ} {frame_count done : ℕ}
+      → Unmaps h level position count array after status frames frame_count done
+      → Unmaps h (level_of page.size) (position_of L page.start) count array after status frames frame_count done
+  unmaps_given {array} {frames} {frame_count} {done} =
+      subst₂ (λ v p. Unmaps h v p count array after status frames frame_count done) is.level_is is.position_is
+
+  pub updates_given : {flags was changed : ℕ} → MayUpdate h level position flags count was after status changed
+      → MayUpdate h (level_of page.size) (position_of L page.start) flags count was after status changed
+  updates_given {flags} {was} {changed} = subst₂ (λ v p. MayUpdate h v p flags count was after status changed) is.level_is is.position_is
 
 -- ---- in the caller's tables
 
