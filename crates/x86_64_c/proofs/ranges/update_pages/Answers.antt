@@ -1,10 +1,10 @@
-use Rattle.std.proofs.Common.{rules}
+use Rattle.std.proofs.Common.{not, true≢false, refl, sym, ap, ◌∙◌, rules}
 use Rattle.x86_64_mappers.specs.Layouts.{direct_at}
 use Rattle.x86_64_mappers.specs.RangeChanges.{updates}
 use Rattle.x86_64_tables.specs.PageTableFlags.{bits_of}
 use Rattle.x86_64_c.specs.Given.{places_of}
-use Rattle.x86_64_c.proofs.EntryChanges.{plain}
-use Rattle.x86_64_c.proofs.RangesSeen.{changes_each, updates_are}
+use Rattle.x86_64_c.proofs.EntryChanges.{plain, valid_over}
+use Rattle.x86_64_c.proofs.RangesSeen.{changes_each, range_is, updates_are}
 use Rattle.x86_64_c.proofs.ranges.update_pages.Goals as goal
 
 pub returns-clause-updates : goal.returns-clause-updates
@@ -23,3 +23,16 @@ returns-clause-updates g c =
         status_is = search rules;
       },
     )
+
+pub returns-then-has_address_bits-clause-updates : goal.returns-then-has_address_bits-clause-updates
+returns-then-has_address_bits-clause-updates g c = (
+  λ refused. (refl, refl, refl),
+  λ may. absurd (true≢false (sym c.if-has_address_bits.true ∙ c.has_address_bits.ensures ∙ ap not may)),
+)
+
+pub update_flags_range-number-requires-clause-valid : goal.update_flags_range-number-requires-clause-valid
+update_flags_range-number-requires-clause-valid g c =
+    valid_over _ _ _ _ c.new-mapper.ensures.layout c.new-mapper.ensures.memory c.requires.valid
+
+pub update_flags_range-number-requires-clause-pages : goal.update_flags_range-number-requires-clause-pages
+update_flags_range-number-requires-clause-pages g c = range_is _ _ _ _ c.new-mapper.ensures.layout _ _ _ c.requires.there

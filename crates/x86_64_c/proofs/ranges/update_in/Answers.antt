@@ -1,0 +1,23 @@
+use Rattle.x86_64_c.proofs.RangesSeen.{updates_given}
+use Rattle.x86_64_c.proofs.ranges.update_in.Goals as goal
+
+pub update_pages-requires-clause-there : goal.update_pages-requires-clause-there
+update_pages-requires-clause-there g c = rw c.in-Of4KiB.is at c.in-Some.ensures.there
+
+pub returns-in-Of4KiB-clause-updates : goal.returns-in-Of4KiB-clause-updates
+returns-in-Of4KiB-clause-updates g c = λ good.
+    updates_given (rw c.in-Of4KiB.is at c.in-Some.ensures.some) c.update_pages.ensures.updates
+
+pub update_pages-requires-in-Of2MiB-clause-there : goal.update_pages-requires-in-Of2MiB-clause-there
+update_pages-requires-in-Of2MiB-clause-there g c = rw c.in-Of2MiB.is at c.in-Some.ensures.there
+
+pub returns-in-Of2MiB-clause-updates : goal.returns-in-Of2MiB-clause-updates
+returns-in-Of2MiB-clause-updates g c = λ good.
+    updates_given (rw c.in-Of2MiB.is at c.in-Some.ensures.some) c.update_pages-in-Of2MiB.ensures.updates
+
+pub update_pages-requires-in-Of1GiB-clause-there : goal.update_pages-requires-in-Of1GiB-clause-there
+update_pages-requires-in-Of1GiB-clause-there g c = rw c.in-Of1GiB.is at c.in-Some.ensures.there
+
+pub returns-in-Of1GiB-clause-updates : goal.returns-in-Of1GiB-clause-updates
+returns-in-Of1GiB-clause-updates g c = λ good.
+    updates_given (rw c.in-Of1GiB.is at c.in-Some.ensures.some) c.update_pages-in-Of1GiB.ensures.updates
