@@ -1,11 +1,13 @@
 use Rattle.std.proofs.Common.{◌≤◌, length, refl, ap, ◌∙◌, arith, rules}
+use Rattle.std.proofs.Math.Nat.{mul-le-mul_right}
+use Rattle.x86_64_model.specs.Position.{span}
 use Rattle.x86_64_mappers.specs.Layouts.{direct_at}
 use Rattle.x86_64_mappers.specs.RangeChanges.{unmaps, frames_done}
 use Rattle.x86_64_c.specs.Given.{places_of}
 use Rattle.x86_64_c.specs.declared.ranges.FrameArray.{FrameArray}
-use Rattle.x86_64_c.proofs.EntryChanges.{plain}
+use Rattle.x86_64_c.proofs.EntryChanges.{plain, valid_over}
 use Rattle.x86_64_c.proofs.FrameArrays.{takes_all}
-use Rattle.x86_64_c.proofs.RangesSeen.{changes_each, unmaps_are, few_frames}
+use Rattle.x86_64_c.proofs.RangesSeen.{changes_each, range_is, unmaps_are, few_frames}
 use Rattle.x86_64_c.proofs.ranges.unmap_pages.Goals as goal
 
 pub returns-clause-unmaps : goal.returns-clause-unmaps
@@ -26,3 +28,12 @@ returns-clause-unmaps g c =
       number = ap (λ (a : FrameArray). a.count) sink;
       status_is = c.end_status.ensures;
     }
+
+pub unmap_range-requires-clause-valid : goal.unmap_range-requires-clause-valid
+unmap_range-requires-clause-valid g c = valid_over _ _ _ _ c.new-mapper.ensures.layout c.new-mapper.ensures.memory c.requires.valid
+
+pub unmap_range-requires-clause-pages : goal.unmap_range-requires-clause-pages
+unmap_range-requires-clause-pages g c =
+    let below : c.min-most.result ≤ c.args.count = omega (arith, c.min-most.ensures) in
+    let within = mul-le-mul_right (span g.S.PageSize.LEVEL) below in
+    range_is _ _ _ _ c.new-mapper.ensures.layout _ _ _ (omega (arith, c.requires.there, within))
