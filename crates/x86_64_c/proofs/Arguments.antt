@@ -44,6 +44,9 @@ wrong_address L a fits none = ap (λ b. unless b wrong) (or_from _ _
 pub reads_at : (h : Hierarchy) (n a L : ℕ) → bad_hierarchy h n ≡ None → h.levels ≡ L → bad_read h n a ≡ bad_address L a
 reads_at h n a L good levels = ap (λ o. option_or o (bad_address h.levels a)) good ∙ ap (λ l. bad_address l a) levels
 
+pub hierarchy_wrong : (h : Hierarchy) (n a why : ℕ) → bad_hierarchy h n ≡ Some why → bad_read h n a ≡ Some why
+hierarchy_wrong h n a why is = ap (λ o. option_or o (bad_address h.levels a)) is
+
 pub read_right : (h : Hierarchy) (n a L : ℕ) → bad_hierarchy h n ≡ None → h.levels ≡ L → IsCanonical L a → bad_read h n a ≡ None
 read_right h n a L good levels is = reads_at h n a L good levels ∙ right_address L a is
 
