@@ -1,23 +1,29 @@
 -- The hierarchy of a mode for a number of levels, and what the mapper of the mode does with it.
-use Rattle.std.proofs.Common.{◌≡◌, ℕ, Result, Ok, Err, sym, ap, ◌∙◌, subst, subst₂}
+use Rattle.std.proofs.Common.{◌≡◌, ℕ, List, [], ◌∷◌, get_or, false, Result, Ok, Err, sym, ap, ◌∙◌, subst, subst₂}
 use Rattle.std.specs.Result.{IfOk, OnErr}
 use Rattle.x86_64_model.specs.Alike.{Alike}
 use Rattle.x86_64_model.specs.Layout.{Layout}
-use Rattle.x86_64_model.specs.Mapper.{◌laid_in◌, paths}
-use Rattle.x86_64_model.specs.Memory.{Memory}
-use Rattle.x86_64_model.specs.Store.{Fits, Kept}
-use Rattle.x86_64.specs.Asked.{MapperCall}
-use Rattle.x86_64.specs.Pairs.{pool_store}
+use Rattle.x86_64_model.specs.Mapper as mapper
+use Rattle.x86_64_model.specs.Mapper.{◌laid_in◌, paths, PoolFits}
+use Rattle.x86_64_model.specs.Memory.{Memory, identity_places}
+use Rattle.x86_64_model.specs.Store.{Store, Fits, Kept}
+use Rattle.x86_64_tables.specs.FramePool.{FreeFrames}
+use Rattle.x86_64_mappers.specs.Layouts.{direct_at}
+use Rattle.x86_64_mappers.specs.Recursive.{recursive_at, recursive_now_at}
+use Rattle.x86_64.specs.Asked.{MapperCall, names_by}
+use Rattle.x86_64.specs.Pairs.{AreAlike, MayRun, NoneNames, pool_store}
 use Rattle.x86_64.specs.Replies.{Reply}
+use Rattle.x86_64.specs.Runs.{Ran}
 use Rattle.x86_64.proofs.Keeping.{kept_none}
 use Rattle.pagetab_engine.specs.Arguments.{count, levels_of}
 use Rattle.pagetab_engine.specs.Calls.{IsAnswered}
 use Rattle.pagetab_engine.specs.Frames.{direct_layout, recursive_layout}
-use Rattle.pagetab_engine.specs.Hierarchy.{layout, layout_of, hierarchy_of, IsReached, IsTwin, HasTwin, KeepsHierarchy}
+use Rattle.pagetab_engine.specs.Hierarchy.{layout, layout_of, hierarchy_of, IsReached, AnswersRecursively, IsTwin, HasTwin, KeepsHierarchy}
 use Rattle.pagetab_engine.specs.declared.arguments.Mode.{Mode}
 use Rattle.pagetab_engine.specs.declared.arguments.Mode.TheVariants.{Direct, Offset, Recursive, Pair}
 use Rattle.pagetab_engine.specs.declared.frames.Frames.{Frames}
 use Rattle.pagetab_engine.specs.declared.hierarchy.Hierarchy.{Hierarchy}
+use Rattle.pagetab_engine.proofs.Answering.{answered_one}
 use Rattle.pagetab_engine.proofs.Keeping.{kept_by}
 
 -- the layout of a mode with this number of levels
@@ -74,3 +80,73 @@ pub kept_in_pair : {E : Type 0} (Others : Type 0) (levels : ℕ) (before after :
 kept_in_pair Others levels before after call (Ok reply) fits answered unchanged = answered.keeps
 kept_in_pair Others levels before after call (Err why) fits answered unchanged =
     subst (λ (after : Frames). Kept (direct_layout levels laid_in before.memory) (pool_store before.pool) (direct_layout levels laid_in after.memory) (pool_store after.pool)) (sym unchanged.0) (kept_none _ _ fits)
+
+-- the layouts of mappers that were created with the root in the frame 0x1000
+pub lies_directly : (levels root : ℕ) (l : Layout) → root ≡ 0x1000 → l ≡ direct_at levels identity_places root → l ≡ direct_layout levels
+lies_directly levels root l is lies = lies ∙ ap (direct_at levels identity_places) is
+
+pub lies_recursively : (levels index root here : ℕ) (m memory : Memory) (l : Layout) → root ≡ 0x1000 → here ≡ root → m ≡ memory → l ≡ recursive_now_at levels m here index → l ≡ recursive_layout levels memory index
+lies_recursively levels index root here m memory l is cr3 first lies =
+    lies ∙ ap (λ m. recursive_now_at levels m here index) first ∙ ap (λ root. recursive_now_at levels memory root index) (cr3 ∙ is)
+
+-- the root's word at the recursive index stays
+window_stays : (levels index : ℕ) (m n : Memory) (store : Store) → Fits (recursive_layout levels m index laid_in n) store → recursive_layout levels m index ≡ recursive_layout levels n index
+window_stays levels index m n store fits = ap (λ entry. recursive_at levels 0x1000 (record { index = index; self_entry = entry })) fits.valid.self.is_word
+
+-- one of the mappers may run the call
+pub runs_directly : {C Lent : Type 0} (asks : C → MapperCall) (calls : List C) (levels : ℕ) (h : mapper.Hierarchy Lent) (m : Memory) (pool : FreeFrames) → h.layout ≡ direct_layout levels → h.memory ≡ m
+    → Fits (direct_layout levels laid_in m) (pool_store pool) → MayRun asks levels calls h pool
+runs_directly asks calls levels h m pool lies first fits = record {
+  fits = subst₂ (λ (l : Layout) (m : Memory). Fits (l laid_in m) (pool_store pool)) (sym lies) (sym first) fits;
+  unnamed = subst (λ (l : Layout). NoneNames asks levels l.window calls) (sym lies) tt;
+}
+
+pub runs_recursively : {C Lent : Type 0} (asks : C → MapperCall) (calls : List C) (levels index : ℕ) (h : mapper.Hierarchy Lent) (m : Memory) (pool : FreeFrames) → h.layout ≡ recursive_layout levels m index → h.memory ≡ m
+    → (call : C) → calls ≡ call ∷ [] → names_by levels (asks call) index ≡ false → Fits (recursive_layout levels m index laid_in m) (pool_store pool) → MayRun asks levels calls h pool
+runs_recursively asks calls levels index h m pool lies first call one unnamed fits = record {
+  fits = subst₂ (λ (l : Layout) (m : Memory). Fits (l laid_in m) (pool_store pool)) (sym lies) (sym first) fits;
+  unnamed = subst₂ (λ (l : Layout) calls. NoneNames asks levels l.window calls) (sym lies) (sym one) (unnamed, tt);
+}
+
+-- what a recursive mapper leaves fits the layout of the memory after it
+module _ {Lent : Type 0} (levels index : ℕ) (h after : mapper.Hierarchy Lent) (pool rest : FreeFrames) (m n : Memory)
+    (lies : h.layout ≡ recursive_layout levels m index) (last : n ≡ after.memory) (keeps : Kept h (pool_store pool) after (pool_store rest)) where
+  fits_still : Fits (recursive_layout levels m index laid_in n) (pool_store rest)
+  fits_still =
+      subst₂ (λ (l : Layout) (n : Memory). Fits (l laid_in n) (pool_store rest)) lies (sym last)
+      (subst (λ serves. PoolFits (h.layout laid_in after.memory) serves rest.frames) (sym keeps.serves) keeps.keeps.fits)
+
+  lies_after : after.layout ≡ recursive_layout levels n index
+  lies_after = keeps.layout ∙ lies ∙ window_stays levels index m n (pool_store rest) fits_still
+
+  fits_after : Fits (recursive_layout levels n index laid_in n) (pool_store rest)
+  fits_after = subst (λ (l : Layout). Fits (l laid_in n) (pool_store rest)) (window_stays levels index m n (pool_store rest) fits_still) fits_still
+
+-- a recursive mapper executes a list of one call
+pub answers_recursively : {C Lent : Type 0} (asks : C → MapperCall) (call : C) (calls : List C) (replies : List Reply) (reply : Reply) (levels index : ℕ) (h after : mapper.Hierarchy Lent) (pool rest : FreeFrames) (m n : Memory)
+    → calls ≡ call ∷ [] → Ran asks h (pool_store pool) calls [] replies after rest.frames → Kept h (pool_store pool) after (pool_store rest) → reply ≡ get_or replies 0 reply
+    → h.layout ≡ recursive_layout levels m index → h.memory ≡ m → n ≡ after.memory → AnswersRecursively levels index (record { memory = m; pool = pool }) (asks call) (record { memory = n; pool = rest }) reply
+answers_recursively asks call calls replies reply levels index h after pool rest m n one ran keeps told lies first last =
+    answered_one asks h after (pool_store pool) (pool_store rest) call calls replies reply one ran keeps told
+    (recursive_layout levels m index) (recursive_layout levels n index) m n lies (lies_after levels index h after pool rest m n lies last keeps) first last
+
+-- the mappers of a pair are alike before and after calls
+pub alike_before : {Lent Other : Type 0} (levels index : ℕ) (h : mapper.Hierarchy Lent) (other : mapper.Hierarchy Other) (m n : Memory) (pool twin : FreeFrames) → h.layout ≡ direct_layout levels → other.layout ≡ recursive_layout levels n index
+    → h.memory ≡ m → other.memory ≡ n → AreAlike levels (direct_layout levels laid_in m) pool (recursive_layout levels n index laid_in n) twin → AreAlike levels h pool other twin
+alike_before levels index h other m n pool twin lies also first second alike = record {
+  paths = subst₂ (λ (l : Layout) (m : Memory). Alike levels (paths (l laid_in m)) (paths other)) (sym lies) (sym first)
+      (subst₂ (λ (l : Layout) (n : Memory). Alike levels (paths (direct_layout levels laid_in m)) (paths (l laid_in n))) (sym also) (sym second) alike.paths);
+  pools = alike.pools;
+}
+
+pub twin_after : {Lent Other : Type 0} (levels index : ℕ) (h after : mapper.Hierarchy Lent) (other other_after : mapper.Hierarchy Other) (pool rest twin left : FreeFrames) (n one two : Memory)
+    → h.layout ≡ direct_layout levels → other.layout ≡ recursive_layout levels n index → Kept h (pool_store pool) after (pool_store rest) → Kept other (pool_store twin) other_after (pool_store left)
+    → AreAlike levels after rest other_after left → one ≡ after.memory → two ≡ other_after.memory → IsTwin levels index (record { memory = one; pool = rest }) (record { memory = two; pool = left })
+twin_after levels index h after other other_after pool rest twin left n one two lies also keeps other_keeps alike last ends = record {
+  fits = fits_after levels index other other_after twin left n two also ends other_keeps;
+  alike = record {
+    paths = alike_as_pair levels index after.layout other_after.layout after.memory other_after.memory one two alike.paths
+        (keeps.layout ∙ lies) (lies_after levels index other other_after twin left n two also ends other_keeps) (sym last) (sym ends);
+    pools = alike.pools;
+  };
+}
