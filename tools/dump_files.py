@@ -5,6 +5,9 @@
     @ 0x100000[3] 0x2003 [4] 0x3003            several words of a table
     @ 0x100000[0-9] 0x2003                     equal words, from one index to another; [*] is every index
     @ 0x100000[0-9] 0x2003 by 0x1000           words of which each is greater by a step
+    @ line 0x100018 OSRELEASE=6.1.0            a line of text in memory, from an address on
+    @ line NUMBER(phys_base)=0                 likewise behind the line before
+    @ line_end NUMBER(phys_base)=0             likewise without a line feed
     @ file dump core                           an ELF core as QEMU writes it: a segment of notes, and the segments below
     @ processor 0x9000 0x1020                  a note of QEMU's, of a processor with these CR3 and CR4, and CR0 0x80000001
     @ processor 0x9000 0x1020 0x1              likewise with another CR0
@@ -45,6 +48,7 @@ PAGING = 0x8000_0001
 # the words at an index, from one to another or at all of them; and words of a table
 WORD = re.compile(r" ?\[(?:(\d+)(?:-(\d+))?|\*)\] (0x[0-9a-f]+)(?: by (0x[0-9a-f]+))?")
 WORDS = re.compile(rf"(0x[0-9a-f]+)((?:{WORD.pattern})+)")
+PLACED = re.compile(r"(0x[0-9a-f]+) (.*)", re.DOTALL)
 FRAMES = re.compile(r"(\d+) frames?(?: from (0x[0-9a-f]+))?")
 # the fields of the ELF header that a file may change, as `struct` has them in order
 FIELDS = {
@@ -84,6 +88,14 @@ class Memory:
         struct.pack_into("<Q", self.bytes, offset, word)
         return True
 
+    def set_bytes(self, address: int, content: bytes) -> bool:
+        """Sets bytes from an address on, and tells whether all are in this memory."""
+        offset = address - self.address
+        if not 0 <= offset <= len(self.bytes) - len(content):
+            return False
+        self.bytes[offset : offset + len(content)] = content
+        return True
+
 
 @dataclass
 class File:
@@ -93,6 +105,7 @@ class File:
     memory: list[Memory] = field(default_factory=list)
     processors: list[list[int]] = field(default_factory=list)
     info: bytearray = field(default_factory=bytearray)
+    behind_line: int = 0
     is_of_virtualbox: bool = False
     fields: dict[str, int] = field(default_factory=dict)
     headers: list[bytes] = field(default_factory=list)
@@ -199,6 +212,16 @@ def add_words(file: File, frame: int, text: str) -> None:
                 raise ValueError("the word is in no memory of the file")
 
 
+def add_text(file: File, text: str) -> None:
+    """Sets bytes of a text in memory, at an address or behind the text before: '0x100018 OSRELEASE=6.1.0'."""
+    found = PLACED.fullmatch(text)
+    address = int(found[1], 16) if found else file.behind_line
+    content = (found[2] if found else text).encode()
+    if not any(part.set_bytes(address, content) for part in reversed(file.memory)):
+        raise ValueError("the text is in no memory of the file")
+    file.behind_line = address + len(content)
+
+
 def set_field(file: File, text: str) -> None:
     """Sets a field of the header."""
     name, value = text.split()
@@ -250,6 +273,8 @@ COMMANDS: dict[str, Callable[[File, str], None]] = {
     "info": lambda file, text: file.info.extend(f"{text}\n".encode()),
     "info_end": lambda file, text: file.info.extend(text.encode()),
     "info_line": lambda file, text: file.info.extend(b"x" * (int(text, 0) - 1) + b"\n"),
+    "line": lambda file, text: add_text(file, f"{text}\n"),
+    "line_end": add_text,
     "virtualbox": mark_virtualbox,
     "field": set_field,
     "header": add_header,

@@ -8,6 +8,8 @@ manifest=$release/MANIFEST
 products=(ptdump pagetab x86_64_c)
 # the process that a signal to the script ends
 child=
+# why the release of a product can't be used
+lack=
 
 # Says what is wrong, and ends with a status.
 stop() {
@@ -16,6 +18,10 @@ stop() {
     printf '%s\n' "$*" >&2
     exit "$status"
 }
+
+for needed in awk find sort xargs sha256sum; do
+    command -v "$needed" >/dev/null || stop 69 "$needed is needed, but isn't installed"
+done
 
 # Returns whether a product is a static library.
 is_library() {
@@ -65,7 +71,7 @@ crates_of() {
 is_current() {
     local product=$1 file=$2 crates folders
     [ -f "$file" ] && [ ! "$top/crates.txt" -nt "$file" ] || return 1
-    mapfile -t crates < <(crates_of "$product")
+    mapfile -t crates <<<"$(crates_of "$product")"
     folders=("${crates[@]/#/$top/crates/}")
     [ -z "$(find "${folders[@]/%//src}" "${folders[@]/%//specs}" "${folders[@]/%//proofs}" \
         -newer "$file" -type f -print -quit 2>/dev/null)" ]
@@ -82,7 +88,7 @@ sum_of_file() {
 # crates.txt on these crates.
 sum_of_sources() {
     local crates
-    mapfile -t crates < <(crates_of "$1")
+    mapfile -t crates <<<"$(crates_of "$1")"
     {
         (cd "$top/crates" && find "${crates[@]/%//src}" "${crates[@]/%//specs}" "${crates[@]/%//proofs}" \
             -type f \( -name '*.rt' -o -name '*.antt' \) -print0 2>/dev/null | LC_ALL=C sort -z | xargs -0 sha256sum)
@@ -101,49 +107,70 @@ is_release_older() {
     [ "$(sum_of_sources "$1")" != "$(manifest_says sources "$1")" ]
 }
 
-# Unpacks a product of the release into a file, and returns whether its sum is right.
-unpack() {
-    xz -dc "$release/$(file_of "$1").xz" >"$2" 2>/dev/null && [ "$(sum_of_file "$2")" = "$(manifest_says sum "$1")" ]
-}
-
-# Unpacks a product of the release into out/, unless it is there. If it can't be used, `lack` says why.
-use_release() {
-    local product=$1 to new
-    to=$top/out/$(file_of "$product")
-    lack=
+# Returns whether there is a release, and this machine can run it. If not, `lack` says why.
+has_release() {
     if [ ! -f "$manifest" ]; then
         lack="there is no release of it"
     elif [ "$(uname -sm)" != 'Linux x86_64' ]; then
         lack="its release is for Linux on x86-64"
-    fi
-    [ -z "$lack" ] || return 1
-    if is_current "$product" "$to" && [ "$to" -nt "$manifest" ] && [ "$(sum_of_file "$to")" = "$(manifest_says sum "$product")" ]; then
+    else
         return 0
     fi
-    if is_release_older "$product"; then
-        lack="its release was made of other sources"
-    elif ! command -v xz >/dev/null; then
-        lack="its release can't be unpacked without xz, which isn't installed"
+    return 1
+}
+
+# Unpacks a product of the release into a file, and returns whether its sum is right. If not, `lack` says why.
+unpack() {
+    local packed said
+    packed=$release/$(file_of "$1").xz
+    if ! command -v xz >/dev/null; then
+        lack="its release can't be unpacked without xz, which isn't installed (Debian has it in xz-utils)"
+    elif ! said=$({ xz -dc "$packed" >"$2"; } 2>&1); then
+        lack="its release can't be unpacked: $said"
+        xz -tq "$packed" 2>/dev/null || lack+=" (git checkout release restores it)"
+    elif [ "$(sum_of_file "$2")" != "$(manifest_says sum "$1")" ]; then
+        lack="${packed#"$top/"} isn't what release/MANIFEST says (git checkout release restores both)"
+    else
+        return 0
     fi
-    [ -z "$lack" ] || return 1
+    return 1
+}
+
+# Unpacks a product of the release into out/, unless it is there, whatever sources it was made of. If it can't be used, `lack` says why.
+use_any_release() {
+    local product=$1 to new
+    to=$top/out/$(file_of "$product")
+    has_release || return
+    if [ -f "$to" ] && [ "$(sum_of_file "$to")" = "$(manifest_says sum "$product")" ]; then
+        return 0
+    fi
     if ! mkdir -p "$top/out" || ! new=$(mktemp "$to.XXXXXX"); then
         lack="its release can't be unpacked into out/"
         return 1
     fi
     if ! unpack "$product" "$new"; then
         rm -f "$new"
-        lack="release/$(file_of "$product").xz is damaged (git checkout release restores it)"
         return 1
     fi
     chmod "$(is_library "$product" && echo 644 || echo 755)" "$new"
     mv "$new" "$to"
 }
 
-# Sets `program` to a program as it is built, or else as the release has it. If there is neither, `lack` says why.
+# The same, but only of a release that was made of these sources.
+use_release() {
+    if [ -f "$manifest" ] && is_release_older "$1"; then
+        # shellcheck disable=SC2034 # for the scripts that read this file
+        lack="its release was made of other sources"
+        return 1
+    fi
+    use_any_release "$1"
+}
+
+# Sets `program` to a product as it is built, or else as a release of these sources has it. If there is neither, `lack` says why.
 find_program() {
     program=$(built_at "$1")
     if ! is_current "$1" "$program"; then
-        program=$top/out/$1
+        program=$top/out/$(file_of "$1")
         use_release "$1"
     fi
 }

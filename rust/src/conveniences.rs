@@ -12,6 +12,7 @@ use crate::mappers::calls::MapRangeErrorIn;
 use crate::mappers::recursive_page_table::InvalidPageTable;
 use crate::pages::frame::PfnNotValid;
 use crate::pages::page::{AddressNotAligned, PageIn, PageSize};
+use crate::sharing::SharedEntry;
 use crate::spaces::GiveUpError;
 use crate::support::AllocError;
 use crate::tables::mapper::{FlagUpdateError, MapToError, MapperFlushAll, TranslateError, UnmapError};
@@ -278,6 +279,9 @@ error_texts! {
     [] GiveUpError {
         GiveUpError::EntryUsed => "the root uses an entry that isn't shared",
         GiveUpError::FrameZero => "the root is in frame 0",
+    }
+    [] SharedEntry {
+        SharedEntry => "the call might change an entry of the root that other address spaces share",
     }
 }
 

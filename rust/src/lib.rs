@@ -12,6 +12,7 @@ extern crate alloc;
 mod call_values;
 pub mod flushing;
 mod runs;
+mod sharing;
 pub mod structures;
 
 pub use crate::addresses::addr;
@@ -26,8 +27,10 @@ pub use crate::listing::mappings;
 pub use crate::listing::mappings_57;
 pub use crate::listing::mappings_from;
 pub use crate::listing::mappings_from as mappings_from_57;
+pub use crate::listing::read_entries;
 pub use crate::listing::regions;
 pub use crate::listing::regions_57;
+pub use crate::listing::EntriesRead;
 pub use crate::listing::Mapping;
 pub use crate::listing::Mapping57;
 pub use crate::listing::MappingIn;
@@ -40,6 +43,9 @@ pub use crate::listing::RegionIn;
 pub use crate::listing::Regions;
 pub use crate::listing::Regions57;
 pub use crate::listing::RegionsIn;
+pub use crate::listing::WalkEnd;
+pub use crate::listing::WalkEntry;
+pub use crate::listing::MOST_LEVELS;
 pub use crate::mappers::recursive_page_table::p1_window;
 pub use crate::mappers::recursive_page_table::p1_window_57;
 pub use crate::mappers::recursive_page_table::p2_window;
@@ -129,6 +135,11 @@ pub use runs::run_flushed;
 pub use runs::run_flushed as run_flushed_57;
 pub use runs::run_pair;
 pub use runs::run_pair as run_pair_57;
+pub use sharing::keeps_shared_entries;
+pub use sharing::keeps_shared_entries as keeps_shared_entries_57;
+pub use sharing::run_call_in_space;
+pub use sharing::run_call_in_space as run_call_in_space_57;
+pub use sharing::SharedEntry;
 
 // The crates that are proved, for the tests of this one.
 #[doc(hidden)]

@@ -22,7 +22,9 @@ HAND_WRITTEN = {"kernel", *(f"{name}.rs" for name in ("bitflags", "conveniences"
 
 # Modules of laws alone, and laws that code calls without naming such a module.
 LAW_MODULES = Rules({"laws"})
-LAW_CALLS = Rules({"new_spaces_share", "spaces_are_given_up", "offset_has_the_tables_of_the_identity"})
+LAW_CALLS = Rules(
+    {"calls_keep_root_entries", "new_spaces_share", "offset_has_the_tables_of_the_identity", "spaces_are_given_up", "spaces_stay"}
+)
 # Unsafe functions of std that stand for safe ones of `support`.
 SAFE_HERE = Rules({"from_utf8_unchecked"})
 # Traits without methods, and those that have none but ghost members: each type has these.
@@ -66,6 +68,10 @@ REWRITES = Rules(
         r"(?:fmt::)?Formatter<W>": "core::fmt::Formatter<'_>",
         r"\bFmtResult\b|(?<!core::)\bfmt::Result\b": "core::fmt::Result",
         r"::<S, W>": "::<S>",
+        # a method of str only since Rust 1.87
+        r"(?<![\w:])str::from_utf8\(": "core::str::from_utf8(",
+        # as `bitflags!` writes them: by their Display, which names the flags
+        r'let bits = self\.bits\(\);\s*write!\(f, "(\w+)\(\{bits:#x\}\)"\)': r'write!(f, "\1({self})")',
     }
 )
 

@@ -29,6 +29,9 @@ IGNORED = Rules({"the_program_stops_at_each_block_that_is_refused"})
 SUPPORT = "more/mod.rs"
 # Names without a use in Rust.
 NO_NAMES = Rules({"std::process::Abort", "std::alloc::Global"})
+# The names of all flags, as Debug writes them.
+LOW_FLAGS = "PRESENT WRITABLE USER_ACCESSIBLE WRITE_THROUGH NO_CACHE ACCESSED DIRTY HUGE_PAGE GLOBAL"
+FLAGS = [*LOW_FLAGS.split(), *(f"BIT_{bit}" for bit in (*range(9, 12), *range(52, 63))), "NO_EXECUTE"]
 # Texts, and what they become.
 REWRITES = Rules(
     {
@@ -42,6 +45,10 @@ REWRITES = Rules(
         # a tuple of one value, once the allocator is cut
         r"let \((\w+),?\) = \((.*)\);": r"let \1 = \2;",
         r"\.collect\(\)": ".collect_in()",
+        # flags by name
+        r"PageTableFlags\(0x3\)": "PageTableFlags(PRESENT | WRITABLE)",
+        r"PageTableFlags\(0x1003\)": "PageTableFlags(PRESENT | WRITABLE | 0x1000)",
+        r"PageTableFlags\(0xfff0000000000fff\)": f"PageTableFlags({' | '.join(FLAGS)})",
     }
 )
 # Methods of traits, and their names.

@@ -1,5 +1,5 @@
 -- Texts of numbers.
-use Rattle.std.proofs.Common.{◌≡◌, ◌<◌, ℕ, List, [], ◌∷◌, ◌++◌, ◌∙◌, Option, None, Some, true, length, get_or, map, option_map, unwrap_or, sym, ap, subst}
+use Rattle.std.proofs.Common.{◌≡◌, ◌<◌, ℕ, List, [], ◌∷◌, ◌++◌, ◌∙◌, Option, None, Some, false, true, true≢false, length, get_or, map, option_map, unwrap_or, sym, ap, subst}
 use Rattle.std.proofs.lemmas.List.{map_push, length-map}
 use Rattle.std.proofs.lemmas.List.Elements.{All-push}
 use Rattle.std.proofs.Math.ListN.{get_or-map}
@@ -8,9 +8,11 @@ use Rattle.clap.specs.declared.parser.matches.MatchedArg.{MatchedArg}
 use Rattle.std.proofs.lemmas.List.Folds.{list_any_at}
 use Rattle.std.proofs.lemmas.Slice.Eq.{bytes_eq-Decides}
 use Rattle.std.specs.Borrow.{Bor}
+use Rattle.std.specs.Option.{SomeIff}
 use Rattle.std.specs.Str.{bytes_eq}
 use Rattle.ptdump.specs.Asked.{is_listed}
-use Rattle.x86_64_mappings.specs.Numbers.{IsNumber, number_of}
+use Rattle.ptdump.specs.Numbers.{IsNumber, has_zero_in_front, number_of}
+use Rattle.x86_64_mappings.specs.Numbers as lenient
 use Rattle.ptdump.specs.Requests.{AreNumbers}
 
 -- one more number
@@ -37,3 +39,13 @@ pub texts_given : (texts : Option (Bor (List (Bor (List ℕ))))) (none : Bor (Li
     → option_map (λ s. map (λ v. v.now) s.now) texts ≡ option_map raw_values all → map (λ v. v.now) (unwrap_or texts none).now ≡ unwrap_or (option_map raw_values all) []
 texts_given None none all empty same = ap (map (λ (v : Bor (List ℕ)). v.now)) empty ∙ ap (λ (o : Option (List (List ℕ))). unwrap_or o []) same
 texts_given (Some texts) none all empty same = ap (λ (o : Option (List (List ℕ))). unwrap_or o []) same
+
+-- digits behind a zero are no number
+pub no_number_behind_zero : (text : List ℕ) → has_zero_in_front text ≡ true → IsNumber text → ⊥
+no_number_behind_zero text zero is = true≢false (sym zero ∙ is.1)
+
+-- a text without such a zero is a number if it is any
+pub number_without_zero : (text : List ℕ) (result : Option ℕ) → SomeIff result (lenient.IsNumber text) (number_of text) → has_zero_in_front text ≡ false
+    → SomeIff result (IsNumber text) (number_of text)
+number_without_zero text None isnt zero = λ is. isnt is.0
+number_without_zero text (Some number) is zero = ((is.0, zero), is.1)

@@ -10,7 +10,7 @@ use Rattle.ptdump_engine.specs.declared.request.WalkOptions.{WalkOptions}
 use Rattle.ptdump.specs.Options.{IsFlag}
 use Rattle.x86_64_access.specs.declared.controls.Controls.{Controls}
 use Rattle.x86_64_access.specs.declared.request.Access.{Access}
-use Rattle.x86_64_mappings.specs.Numbers.{IsNumber, number_of}
+use Rattle.ptdump.specs.Numbers.{IsNumber, number_of}
 
 -- the texts of borrowed words
 abbrev pub texts_of : Bor (List (Bor (List ℕ))) → List (List ℕ)

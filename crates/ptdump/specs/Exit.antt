@@ -1,13 +1,15 @@
 -- The exit status of the program.
-use Rattle.std.specs.Prelude.{ℕ, Result, Ok, Err, if◌then◌else◌}
+use Rattle.std.specs.Borrow.{Bor}
+use Rattle.std.specs.Prelude.{ℕ, List, Result, Ok, Err, if◌then◌else◌}
 use Rattle.clap.specs.declared.error.Error.{Error}
 use Rattle.clap.specs.declared.error.kind.ErrorKind.{ErrorKind}
 use Rattle.clap.specs.declared.error.kind.ErrorKind.TheVariants as kind
 use Rattle.ptdump_engine.specs.Failure.{status_of}
-use Rattle.ptdump_engine.specs.declared.failure.Failure.TheVariants.{OutOfMemory}
+use Rattle.ptdump_engine.specs.declared.failure.Failure.{Failure}
+use Rattle.ptdump_engine.specs.declared.failure.Failure.TheVariants as failures
 use Rattle.ptdump_engine.specs.declared.request.Outcome.{Outcome}
 use Rattle.ptdump.specs.declared.stop.Stop.{Stop}
-use Rattle.ptdump.specs.declared.stop.Stop.TheVariants.{Help, Usage, NoText, NoCommand, NoAddress, NoNumber, NoLevels, NoRange, BaseAndRanges, NoAccess, NoSetting, NoPhysicalBits, NoDirectMap, NoRights, Unopened, NoLength, Failed}
+use Rattle.ptdump.specs.declared.stop.Stop.TheVariants.{Help, Usage, NoText, NoCommand, NoAddress, NoNumber, NoLevels, NoRange, BaseAndRanges, NoAccess, NoSetting, NoPhysicalBits, NoDirectMap, NoRights, Unopened, NoLength, Unread, Failed}
 
 -- 0: help; 2: the command line; 3: the file; else that of the run that failed
 abbrev pub stop_status : Stop → ℕ
@@ -27,6 +29,7 @@ stop_status (NoDirectMap text) = 2
 stop_status (NoRights text) = 2
 stop_status (Unopened path error) = 3
 stop_status (NoLength path error) = 3
+stop_status (Unread path error) = 3
 stop_status (Failed failure) = status_of failure
 
 -- 0: the report is complete; 1: there are findings, or an address doesn't arrive or isn't found
@@ -36,7 +39,12 @@ exit_status_of (Err stop) = stop_status stop
 
 -- why the program ends if its command line can't be parsed: memory allocation failed, help or the version is asked for, or the words are wrong
 abbrev pub stop_for : ErrorKind → Error → Stop
-stop_for kind.OutOfMemory error = Failed OutOfMemory
+stop_for kind.OutOfMemory error = Failed failures.OutOfMemory
 stop_for kind.DisplayHelp error = Help error
 stop_for kind.DisplayVersion error = Help error
 stop_for other error = Usage error
+
+-- why the program ends if its run on the file at a path failed: a failed read is one of this file
+abbrev pub stop_of_run : (path : Bor (List ℕ)) → Failure → Stop
+stop_of_run path (failures.Read error) = Unread path error
+stop_of_run path failure = Failed failure

@@ -1,8 +1,8 @@
 -- Options that take a number, and flags.
 use Rattle.std.specs.Prelude.{◌≡◌, ℕ, Bool, true, false, List, Option, None, Some, codes}
 use Rattle.ptdump.specs.declared.numbers.NumberOption.{NumberOption}
-use Rattle.ptdump.specs.declared.numbers.NumberOption.TheVariants.{Cr3, Levels, Base, Cpu, From, To, PhysicalBits}
-use Rattle.x86_64_mappings.specs.Numbers.{IsNumber, number_of}
+use Rattle.ptdump.specs.declared.numbers.NumberOption.TheVariants.{Cr3, Levels, Base, Cpu, From, To, PhysicalBits, VmCoreInfo}
+use Rattle.ptdump.specs.Numbers.{IsNumber, number_of}
 
 -- the name of an option that takes a number
 abbrev pub option_name : NumberOption → List ℕ
@@ -13,6 +13,7 @@ option_name Cpu = codes "cpu"
 option_name From = codes "from"
 option_name To = codes "to"
 option_name PhysicalBits = codes "maxphyaddr"
+option_name VmCoreInfo = codes "vmcoreinfo"
 
 -- an option is None if its text is missing, and is the number of its text otherwise
 abbrev pub IsOption : (text : Option (List ℕ)) → Option ℕ → Type 0

@@ -4,7 +4,7 @@ use Rattle.std.specs.List.{AllZip, slice_split}
 use Rattle.x86_64_dump.specs.declared.placement.Placement.{Placement}
 use Rattle.x86_64_dump.specs.declared.placement.Placement.TheVariants.{Unstated, Base, Ranges}
 use Rattle.x86_64_dump.specs.declared.placement.RawRange.{RawRange}
-use Rattle.x86_64_mappings.specs.Numbers.{IsNumber, number_of}
+use Rattle.ptdump.specs.Numbers.{IsNumber, number_of}
 
 -- a text denotes a number
 abbrev pub Denotes : (text : List ℕ) → (number : ℕ) → Type 0

@@ -16,7 +16,7 @@ use Rattle.ptdump.specs.declared.stop.Stop.{Stop}
 use Rattle.ptdump.specs.declared.stop.Stop.TheVariants.{NoCommand, NoAddress, NoNumber, NoLevels, NoRange, BaseAndRanges, NoAccess, NoSetting, NoPhysicalBits, NoDirectMap, NoRights, Failed}
 use Rattle.x86_64_access.specs.declared.request.Access.{Access}
 use Rattle.x86_64_dump.specs.declared.placement.RawRange.{RawRange}
-use Rattle.x86_64_mappings.specs.Numbers.{IsNumber, number_of}
+use Rattle.ptdump.specs.Numbers.{IsNumber, number_of}
 
 -- the names of the commands
 abbrev pub command_names : List (List ℕ)

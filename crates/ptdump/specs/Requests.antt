@@ -18,7 +18,7 @@ use Rattle.ptdump.specs.Placements.{IsPlacement}
 use Rattle.ptdump.specs.Selections.{IsSelection}
 use Rattle.ptdump.specs.declared.stop.Stop.{Stop}
 use Rattle.ptdump.specs.declared.stop.Stop.TheVariants.{Failed}
-use Rattle.x86_64_mappings.specs.Numbers.{IsNumber, number_of}
+use Rattle.ptdump.specs.Numbers.{IsNumber, number_of}
 
 -- each text is a number, and these are their numbers
 abbrev pub AreNumbers : (texts : List (List ℕ)) → (numbers : List ℕ) → Type 0
@@ -60,6 +60,7 @@ pub record IsRequest (name : List ℕ) (found : Found) (request : Request) : Typ
   pub command : IsCommand name found request.command
   pub form : IsFlag (one_text found (codes "json")) (is_json request.form)
   pub cr3 : IsOption (first_value found (codes "cr3")) request.cr3
+  pub vmcoreinfo : IsOption (first_value found (codes "vmcoreinfo")) request.vmcoreinfo
   pub levels : IsLevels (first_value found (codes "levels")) request.levels
   pub placement : IsPlacement (first_value found (codes "base")) (values found (codes "range")) request.placement
   pub raw : IsFlag (one_text found (codes "raw")) request.is_raw

@@ -8,12 +8,12 @@ ghost use Rattle.ptdump.specs.declared.stop.Stop.TheVariants.{Failed, NoDirectMa
 ghost use Rattle.ptdump_engine.specs.declared.failure.Failure.TheVariants.{OutOfMemory};
 ghost use Rattle.ptdump_engine.specs.declared.request.AddressRange.{AddressRange};
 
+use crate::numbers::read_number;
 use crate::placement::parts_of;
 use crate::stop::Stop;
 use clap::ArgMatches;
 use ptdump_engine::AddressRange;
 use std::alloc::Global;
-use x86_64_mappings::text::parse_number;
 
 /// Reads the addresses of the direct map, if they are given.
 ///
@@ -60,7 +60,7 @@ fn ends_in(parts: &[&str]) -> Option<AddressRange>
         return None;
     };
     Some(AddressRange {
-        first: parse_number(first)?,
-        last: parse_number(last)?,
+        first: read_number(first)?,
+        last: read_number(last)?,
     })
 }

@@ -28,16 +28,20 @@ FILE is a dump of an x86-64 machine's physical memory, or - for standard input:
 
 A file is raw if its first bytes are those of no format, or with --raw, and
 standard error says so. Known and refused are compressed kdumps, makedumpfile's
-flattened dumps, AVML's compressed files, crash dumps of Windows, states of
-VMware, and what gzip, xz, zstd, lz4, bzip2 and zip have packed.
+flattened dumps, AVML's compressed files, crash dumps and hibernation files of
+Windows, states of machines that VMware, VirtualBox, QEMU and libvirt save, and
+what gzip, xz, zstd, lz4, bzip2 and zip have packed.
 
 Page tables are found by CR3. QEMU's cores have it, and how many levels there
 are. In kdump's cores Linux's note VMCOREINFO says where the kernel's own root
-is. For other files give --cr3 and --levels, as `info registers` in QEMU's
-monitor prints them (bit 12 of CR4 set means five levels).
+is. Other files are searched for its text, which Linux has in memory: if several
+differ, choose by --vmcoreinfo. If there is none, give --cr3, 0x and the digits
+that `info registers` in QEMU's monitor prints, and --levels (bit 12 of CR4 set
+means five levels).
 
-Numbers are decimal, or hexadecimal after 0x. Rights are four letters, or - for
-each one that is missing: r may be read, w written, x executed, u by user code.
+Numbers are decimal without zeros in front, or hexadecimal after 0x. Rights are
+four letters, or - for each one that is missing: r may be read, w written, x
+executed, u by user code.
 The last line, on standard error, counts tables and mappings.
 
 The exit status is 0 if all went well, 1 if there are findings or an address
@@ -367,16 +371,16 @@ Example:
         options: &["json"],
         more: "\
 The lines are: the format of the file, the ranges of physical memory with their
-sizes, the control registers of each processor with its mode of paging, what the
-note VMCOREINFO says of the kernel, and the root with which the other commands
-begin if they have the same options, or why they find none. No tables are read.
+sizes, the control registers of each processor with its mode of paging, what
+VMCOREINFO says of the kernel, and the root with which the other commands begin
+if they have the same options, or why they find none. No tables are read.
 
 With --json a line is an object with one member: format, a string, or an object:
 memory (first, last, bytes), processor (cpu, cr0, cr3, cr4, mode, and levels if
 paging is 64-bit), kernel (root, levels, encryption_mask), or root (address,
-levels, and origin: \"--cr3\", \"kernel\", or \"processor\", with cpu). Addresses
-and registers are strings in hexadecimal. For what isn't known, error is a
-string that says why.
+levels, and origin: \"--cr3\", \"kernel\", \"memory\", with offset, or
+\"processor\", with cpu). Addresses and registers are strings in hexadecimal. For
+what isn't known, error is a string that says why.
 
 Examples:
 

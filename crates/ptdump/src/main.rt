@@ -85,15 +85,15 @@ fn report_on<'a>(rt: &HostRuntime, path: &'a str, request: &Request) -> Result<O
     let mut progress = ProgressLine::new(rt, rt.stderr().is_terminal());
     let mut writer = rt.stdout();
     let mut errors = rt.stderr();
-    let outcome = ptdump_engine::run(
+    ptdump_engine::run(
         rt.alloc(),
         source,
         request,
         &mut writer,
         &mut errors,
         &mut progress,
-    )?;
-    Ok(outcome)
+    )
+    .map_err(|failure| Stop::of_run(path, failure))
 }
 
 /// Opens a dump, which is standard input if the path is `-`.

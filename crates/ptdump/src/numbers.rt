@@ -1,8 +1,9 @@
 //! Numbers of a command line.
 ghost use Rattle.std.specs.Prelude.{◌≡◌, ℕ, List, Option, IfOk, IfErr, map};
+ghost use Rattle.std.specs.Option.{SomeIff};
 ghost use Rattle.std.specs.Result.{OkIff};
 ghost use Rattle.clap.specs.Matches.{first_value, found_of};
-ghost use Rattle.x86_64_mappings.specs.Numbers.{IsNumber, number_of};
+ghost use Rattle.ptdump.specs.Numbers.{IsNumber, has_zero_in_front, number_of};
 ghost use Rattle.ptdump.specs.Options.{IsOption, option_name};
 ghost use Rattle.ptdump.specs.Reasons.{IsMistake, IsNoAddress};
 ghost use Rattle.ptdump.specs.Requests.{AreNumbers, IsUnread};
@@ -30,6 +31,8 @@ pub enum NumberOption {
     To,
     /// `--maxphyaddr`.
     PhysicalBits,
+    /// `--vmcoreinfo`.
+    VmCoreInfo,
 }
 
 impl NumberOption {
@@ -45,8 +48,32 @@ impl NumberOption {
             NumberOption::From => "from",
             NumberOption::To => "to",
             NumberOption::PhysicalBits => "maxphyaddr",
+            NumberOption::VmCoreInfo => "vmcoreinfo",
         }
     }
+}
+
+/// Reads a number below 2^64: decimal digits without zeros in front, or `0x` and hexadecimal digits of either case.
+///
+/// Returns `None` if and only if the text isn't such a number. Digits behind a zero aren't, since QEMU prints registers as hexadecimal
+/// digits without `0x`, with zeros in front.
+pub fn read_number(text: &str) -> Option<u64>
+    ensures { SomeIff result (IsNumber text.now) (number_of text.now) }
+{
+    if has_zero_in_front(text) {
+        None
+    } else {
+        parse_number(text)
+    }
+}
+
+/// Returns true if a text begins with 0, goes on, and doesn't begin with `0x`.
+#[tactic(auto, unfolding(crate::specs::Numbers::has_zero_in_front))]
+pub fn has_zero_in_front(text: &str) -> bool
+    ensures { result ≡ has_zero_in_front text.now }
+{
+    let bytes = text.as_bytes();
+    bytes.len() > 1 && bytes.starts_with(b"0") && !bytes.starts_with(b"0x")
 }
 
 /// Reads addresses.
@@ -61,7 +88,7 @@ pub fn numbers_of<'a>(alloc: Global, texts: &[&'a str]) -> Result<Vec<u64>, Stop
 {
     let mut numbers = Vec::new(alloc);
     for text in texts {
-        let Some(number) = parse_number(text) else {
+        let Some(number) = read_number(text) else {
             return Err(Stop::NoAddress(text));
         };
         numbers.push(number)?;
@@ -98,5 +125,5 @@ pub fn number_of<'a>(option: NumberOption, text: &'a str) -> Result<u64, Stop<'a
     ensures value { OkIff result (IsNumber text.now) (number_of text.now) }
     ensures reason { IfErr result (λ stop. stop ≡ NoNumber option text.entry) }
 {
-    parse_number(text).ok_or(Stop::NoNumber { option, text })
+    read_number(text).ok_or(Stop::NoNumber { option, text })
 }

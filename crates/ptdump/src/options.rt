@@ -1,5 +1,7 @@
 //! The options of the commands, in the order in which help lists them.
 ghost use Rattle.std.specs.Prelude.{◌≡◌, IfOk, Some};
+ghost use Rattle.clap.specs.declared.builder.action.ArgAction.TheVariants.{SetTrue};
+ghost use Rattle.ptdump.specs.declared.options.Takes.TheVariants.{Nothing};
 
 use clap::{Arg, ArgAction};
 use std::alloc::{AllocError, Global};
@@ -34,7 +36,7 @@ pub struct OptionHelp {
 }
 
 /// The options.
-pub static OPTIONS: [OptionHelp; 18] = [
+pub static OPTIONS: [OptionHelp; 19] = [
     OptionHelp {
         name: "from",
         takes: Takes::Value("ADDRESS"),
@@ -119,7 +121,7 @@ pub static OPTIONS: [OptionHelp; 18] = [
         name: "all-cpus",
         takes: Takes::Nothing,
         help: "Report on the tables of all processors, on each root once",
-        excludes: &["cr3", "cpu"],
+        excludes: &["cr3", "cpu", "vmcoreinfo"],
         needs: None,
         is_common: false,
     },
@@ -134,15 +136,23 @@ pub static OPTIONS: [OptionHelp; 18] = [
     OptionHelp {
         name: "cr3",
         takes: Takes::Value("N"),
-        help: "CR3 [default: as the core's notes say]",
+        help: "CR3 [default: as the core's notes, or VMCOREINFO in memory, say]",
         excludes: &[],
+        needs: None,
+        is_common: true,
+    },
+    OptionHelp {
+        name: "vmcoreinfo",
+        takes: Takes::Value("OFFSET"),
+        help: "Byte of the file where VMCOREINFO begins that counts",
+        excludes: &["cr3", "cpu"],
         needs: None,
         is_common: true,
     },
     OptionHelp {
         name: "levels",
         takes: Takes::Value("N"),
-        help: "Levels of tables, 4 or 5 [default: as those notes say, or 4]",
+        help: "Levels of tables, 4 or 5 [default: as those say, or 4]",
         excludes: &[],
         needs: None,
         is_common: true,
@@ -188,8 +198,9 @@ impl OptionHelp {
     ///
     /// `AllocError` if memory allocation fails.
     pub fn argument<'a>(&self, alloc: Global) -> Result<Arg<'a>, AllocError>
-        ensures { IfOk result (λ argument.
+        ensures name { IfOk result (λ argument.
             (argument.id ≡ self.now.name) × (argument.long ≡ Some self.now.name)) }
+        ensures action { self.now.takes ≡ Nothing → IfOk result (λ argument. argument.action ≡ Some SetTrue) }
     {
         let argument = self.taking(alloc).conflicts_with_all(self.excludes)?;
         match self.needs {
@@ -200,7 +211,8 @@ impl OptionHelp {
 
     /// Returns the option without those that it excludes or needs.
     fn taking<'a>(&self, alloc: Global) -> Arg<'a>
-        ensures { (result.id ≡ self.now.name) × (result.long ≡ Some self.now.name) }
+        ensures name { (result.id ≡ self.now.name) × (result.long ≡ Some self.now.name) }
+        ensures action { self.now.takes ≡ Nothing → result.action ≡ Some SetTrue }
     {
         let argument = Arg::new(alloc, self.name).long(self.name).help(self.help);
         match self.takes {

@@ -10,12 +10,11 @@ ghost use Rattle.ptdump.specs.declared.stop.Stop.TheVariants.{Failed, NoRange};
 ghost use Rattle.ptdump_engine.specs.declared.failure.Failure.TheVariants.{OutOfMemory};
 ghost use Rattle.x86_64_dump.specs.declared.placement.RawRange.{RawRange};
 
-use crate::numbers::{NumberOption, number_of};
+use crate::numbers::{NumberOption, number_of, read_number};
 use crate::stop::Stop;
 use clap::ArgMatches;
 use std::alloc::{AllocError, Global};
 use x86_64_dump::{Placement, RawRange};
-use x86_64_mappings::text::parse_number;
 
 /// Returns the placement that the options for a raw file describe.
 ///
@@ -107,8 +106,8 @@ fn range_in(parts: &[&str]) -> Option<RawRange>
         return None;
     };
     Some(RawRange {
-        offset: parse_number(offset)?,
-        address: parse_number(address)?,
-        size: parse_number(size)?,
+        offset: read_number(offset)?,
+        address: read_number(address)?,
+        size: read_number(size)?,
     })
 }

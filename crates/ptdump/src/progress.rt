@@ -1,4 +1,4 @@
-//! The progress of reading tables, shown on a terminal.
+//! The progress of searching memory and of reading tables, shown on a terminal.
 ghost use Rattle.std.specs.Prelude.{◌≡◌, false};
 
 use ptdump_engine::Progress;
@@ -6,7 +6,10 @@ use ptdump_engine::Progress;
 /// The number of tables between two updates.
 const STEP: usize = 4096;
 
-/// A line on a terminal with the number of tables that have been read.
+/// The number of mebibytes between two updates.
+const SEARCH_STEP: u64 = 64;
+
+/// A line on a terminal with how much was searched, or with the number of tables that have been read.
 #[derive(Drop)]
 pub struct ProgressLine<'a, R: Eprint> {
     rt: &'a R,
@@ -45,6 +48,19 @@ impl<R: Eprint> Progress for ProgressLine<'_, R> {
         if self.is_shown {
             let _ = eprint!(self.rt; "\r{:30}\r", "");
             self.is_shown = false;
+        }
+    }
+
+    fn searched(&self, end: u64) {
+        let mebibytes = end >> 20;
+        if self.is_terminal && mebibytes % SEARCH_STEP == 0 {
+            let _ = eprint!(self.rt; "\rsearched for VMCOREINFO: {mebibytes} MiB");
+        }
+    }
+
+    fn search_ended(&self) {
+        if self.is_terminal {
+            let _ = eprint!(self.rt; "\r{:50}\r", "");
         }
     }
 

@@ -36,6 +36,7 @@ pub fn request_of<'a>(
         command: command_of(alloc, name, arguments)?,
         form: form_of(arguments),
         cr3: option_of(arguments, NumberOption::Cr3)?,
+        vmcoreinfo: option_of(arguments, NumberOption::VmCoreInfo)?,
         levels: levels_of(arguments)?,
         placement: placement_of(alloc, arguments)?,
         is_raw: is_given(arguments, "raw"),

@@ -1,8 +1,8 @@
 //! Why the program ends without the requested report.
 ghost use Rattle.std.specs.Prelude.{◌≡◌};
-ghost use Rattle.ptdump.specs.Exit.{stop_status};
+ghost use Rattle.ptdump.specs.Exit.{stop_of_run, stop_status};
 
-use crate::numbers::NumberOption;
+use crate::numbers::{NumberOption, has_zero_in_front};
 use clap::error::ErrorKind;
 use ptdump_engine::Failure;
 use std::alloc::{AllocError, AllocFailed};
@@ -10,8 +10,13 @@ use std::error::Error;
 use std::fmt::{Display, Formatter, Result as FmtResult, Write};
 use std::io;
 
-/// Which numbers there are, and how they are written.
-const NUMBERS: &str = "below 2^64: write decimal digits, or hexadecimal ones after 0x";
+/// Why a text is no number, and how numbers are written.
+const NO_NUMBER: &str =
+    "is no number below 2^64: write decimal digits, or hexadecimal ones after 0x";
+
+/// Likewise for digits behind a zero.
+const ZERO_IN_FRONT: &str =
+    "begins with 0: write 0x before hexadecimal digits, and no 0 before decimal ones";
 
 /// The reason why the program ends without the requested report.
 #[derive(Debug, Drop)]
@@ -63,11 +68,28 @@ pub enum Stop<'a> {
         /// The error of finding its end.
         error: io::Error,
     },
-    /// The run failed, or memory allocation failed before it.
+    /// A read of the file failed.
+    Unread {
+        /// The path of the file.
+        path: &'a str,
+        /// The error of the read.
+        error: io::Error,
+    },
+    /// The run failed for another reason, or memory allocation failed before it.
     Failed(Failure),
 }
 
-impl Stop<'_> {
+impl<'a> Stop<'a> {
+    /// Returns the reason for which a run on the file at a path failed. A failed read is one of this file.
+    pub fn of_run(path: &'a str, failure: Failure) -> Stop<'a>
+        ensures { result ≡ stop_of_run path.entry failure }
+    {
+        match failure {
+            Failure::Read(error) => Stop::Unread { path, error },
+            failure => Stop::Failed(failure),
+        }
+    }
+
     /// Returns the exit status: 0 for help, 2 for the command line, 3 for the file, 4 for a failed memory allocation, 5 for a
     /// failed write.
     pub fn status(&self) -> u8
@@ -88,7 +110,7 @@ impl Stop<'_> {
             | Stop::NoPhysicalBits(_)
             | Stop::NoDirectMap(_)
             | Stop::NoRights(_) => 2,
-            Stop::Unopened { .. } | Stop::NoLength { .. } => 3,
+            Stop::Unopened { .. } | Stop::NoLength { .. } | Stop::Unread { .. } => 3,
             Stop::Failed(failure) => failure.status(),
         }
     }
@@ -115,19 +137,26 @@ impl Display for Stop<'_> {
                 f,
                 "{name} is no command: `ptdump --help` lists those that are"
             ),
-            Stop::NoAddress(text) => write!(f, "address {text} is no number {NUMBERS}"),
+            Stop::NoAddress(text) => {
+                let reason = number_reason(text);
+                write!(f, "address {text} {reason}")
+            }
             Stop::NoNumber { option, text } => {
                 let name = option.name();
-                write!(f, "--{name} {text} is no number {NUMBERS}")
+                let reason = number_reason(text);
+                write!(f, "--{name} {text} {reason}")
             }
             Stop::NoLevels(levels) => write!(
                 f,
                 "--levels {levels}: give 4 or 5, which page tables have"
             ),
-            Stop::NoRange(text) => write!(
-                f,
-                "--range {text} is no range: give OFFSET:ADDRESS:SIZE, three numbers below 2^64 with colons between, decimal or hexadecimal after 0x"
-            ),
+            Stop::NoRange(text) => {
+                let zeros = zeros_told(text);
+                write!(
+                    f,
+                    "--range {text} is no range: give OFFSET:ADDRESS:SIZE, three numbers below 2^64 with colons between, decimal or hexadecimal after 0x{zeros}"
+                )
+            }
             Stop::BaseAndRanges => f.write_str(
                 "--base and --range both say where the file's bytes lie: give one of them",
             ),
@@ -143,10 +172,13 @@ impl Display for Stop<'_> {
                 f,
                 "--maxphyaddr {bits}: give a number from 32 to 52"
             ),
-            Stop::NoDirectMap(text) => write!(
-                f,
-                "--direct-map {text} is no range: give FIRST:LAST, two addresses with a colon between, decimal or hexadecimal after 0x"
-            ),
+            Stop::NoDirectMap(text) => {
+                let zeros = zeros_told(text);
+                write!(
+                    f,
+                    "--direct-map {text} is no range: give FIRST:LAST, two addresses with a colon between, decimal or hexadecimal after 0x{zeros}"
+                )
+            }
             Stop::NoRights(text) => write!(
                 f,
                 "--rights {text}: give one or more of the letters r, w, x and u, each once, as in wx"
@@ -156,8 +188,27 @@ impl Display for Stop<'_> {
                 f,
                 "the end of {path} can't be seeked, as that of a pipe: write it into a file first ({error})"
             ),
+            Stop::Unread { path, error } => write!(f, "{path} can't be read: {error}"),
             Stop::Failed(failure) => write!(f, "{failure}"),
         }
+    }
+}
+
+/// Returns why a text is no number, and how numbers are written.
+fn number_reason(text: &str) -> &'static str {
+    if has_zero_in_front(text) {
+        ZERO_IN_FRONT
+    } else {
+        NO_NUMBER
+    }
+}
+
+/// Returns how decimal numbers are written, if one between the colons of a text has a zero in front, or else nothing.
+fn zeros_told(text: &str) -> &'static str {
+    if text.split(':').any(|part| has_zero_in_front(part)) {
+        ", and no 0 before decimal digits"
+    } else {
+        ""
     }
 }
 
@@ -182,16 +233,6 @@ impl<T: Drop> From<AllocFailed<T>> for Stop<'_> {
 
     fn from(_error: AllocFailed<T>) -> Self {
         Stop::Failed(Failure::OutOfMemory)
-    }
-}
-
-impl From<Failure> for Stop<'_> {
-    ghost use Rattle.ptdump.specs.declared.stop.Stop.TheVariants.{Failed};
-
-    ghost from_gives = { λ failure stop. stop ≡ Failed failure };
-
-    fn from(failure: Failure) -> Self {
-        Stop::Failed(failure)
     }
 }
 

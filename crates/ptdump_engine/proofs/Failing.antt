@@ -1,5 +1,5 @@
 -- Why runs fail.
-use Rattle.std.proofs.Common.{◌≡◌, ◌||◌, Bool, true, false, true≢false, Result, refl, sym, ap}
+use Rattle.std.proofs.Common.{◌≡◌, ◌||◌, Bool, true, false, true≢false, Result, Ok, Err, refl, sym, ap}
 use Rattle.x86_64_dump.specs.Opening.{Fails}
 use Rattle.x86_64_dump.specs.declared.error.DumpError.{DumpError}
 use Rattle.x86_64_dump.specs.declared.error.DumpError.TheVariants as errors
@@ -68,6 +68,23 @@ or_true false b is = is
 -- what a call that reads nothing may meet, one that reads may
 pub forced_write : (fails a : Bool) (failure : Failure) → IsForced false a failure → IsForced fails a failure
 forced_write fails a failure = forced_more false fails a a failure (λ is. absurd (true≢false (sym is))) (λ is. is)
+
+-- a call that is expected to succeed fails because of memory or a read
+pub forced_found : {A : Type 0} (fails may : Bool) (failure : Failure) (a : A) → FailsBy fails false failure (Ok a) → IsForced fails may failure
+forced_found fails may failures.OutOfMemory a is = tt
+forced_found fails may (failures.Read error) a is = is
+forced_found fails may failures.Output a is = absurd (true≢false (sym is))
+forced_found fails may failures.NoCr3 a is = absurd (let other : Ok a ≡ Err failures.NoCr3 = is in cc)
+forced_found fails may failures.VirtualBox a is = absurd (let other : Ok a ≡ Err failures.VirtualBox = is in cc)
+forced_found fails may (failures.NoProcessor cpu count) a is = absurd (let other : Ok a ≡ Err (failures.NoProcessor cpu count) = is in cc)
+forced_found fails may failures.NoProcessors a is = absurd (let other : Ok a ≡ Err failures.NoProcessors = is in cc)
+forced_found fails may (failures.WrongMode cpu mode) a is = absurd (let other : Ok a ≡ Err (failures.WrongMode cpu mode) = is in cc)
+forced_found fails may (failures.NotCanonical address levels) a is = absurd (let other : Ok a ≡ Err (failures.NotCanonical address levels) = is in cc)
+forced_found fails may (failures.NotPhysical address) a is = absurd (let other : Ok a ≡ Err (failures.NotPhysical address) = is in cc)
+forced_found fails may (failures.FromAboveTo from to) a is = absurd (let other : Ok a ≡ Err (failures.FromAboveTo from to) = is in cc)
+forced_found fails may (failures.DirectMapReversed first last) a is = absurd (let other : Ok a ≡ Err (failures.DirectMapReversed first last) = is in cc)
+forced_found fails may (failures.NoRoot root) a is = absurd (let other : Ok a ≡ Err (failures.NoRoot root) = is in cc)
+forced_found fails may (failures.Dump fault) a is = absurd (let other : Ok a ≡ Err (failures.Dump fault) = is in cc)
 
 -- what one writer may refuse, two may
 pub forced_first : (fails a b : Bool) (failure : Failure) → IsForced fails a failure → IsForced fails (a || b) failure

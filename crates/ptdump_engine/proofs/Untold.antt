@@ -1,14 +1,15 @@
 -- Each failure to find a root has a text.
-use Rattle.std.proofs.Common.{◌≡◌, ◌||◌, ℕ, ◌+◌, Bool, true, false, true≢false, cond, List, [], ◌∷◌, Option, None, Some, Result, Ok, Err, is_none, is_some, IfSome, IsSome, slice_get, unwrap_or, sym, refl, subst, length, if◌then◌else◌}
+use Rattle.std.proofs.Common.{◌≡◌, ◌&&◌, ◌||◌, ℕ, ◌+◌, Bool, true, false, true≢false, cond, List, [], ◌∷◌, Option, None, Some, Result, Ok, Err, is_none, is_some, IfSome, IsSome, slice_get, unwrap_or, sym, refl, subst, length, if◌then◌else◌}
 use Rattle.std.specs.Option.{option_map_or}
 use Rattle.std.specs.Result.{result_map_both}
 use Rattle.x86_64_dump.specs.Dump.{Contents, words_of_dump}
 use Rattle.x86_64_dump.specs.FaultTexts.{fault_text}
 use Rattle.x86_64_dump.specs.Notes.{is_note_cut, is_of_virtualbox, notes_of, processors_of, register_of}
 use Rattle.x86_64_dump.specs.Numbers.{u64_at}
-use Rattle.x86_64_dump.specs.VmCoreInfo.{kernel_by, kernel_in, kernel_of, text_of}
+use Rattle.x86_64_dump.specs.VmCoreInfo.{agreed_text, kernel_by, kernel_by_text, kernel_in, kernel_of, text_of}
 use Rattle.x86_64_dump.specs.declared.error.Fault.{Fault}
 use Rattle.x86_64_dump.specs.declared.error.Fault.TheVariants as faults
+use Rattle.x86_64_dump.specs.declared.kernel_text.KernelText.{KernelText}
 use Rattle.x86_64_dump.specs.declared.note.Note.{Note}
 use Rattle.x86_64_dump.specs.Lime.{after}
 use Rattle.x86_64_dump.specs.declared.note.NoteKind.TheVariants.{VmCoreInfo}
@@ -70,10 +71,10 @@ registers_text file note =
     text_after (register_of file note 392) _ (register_text file note 392) (λ cr0.
     text_after (register_of file note 424) _ (register_text file note 424) (λ cr4. tt)))
 
--- ---- Linux's note
+-- ---- Linux's VMCOREINFO
 
 pub kernel_has_text : (dump : Contents) → FaultHasText (kernel_in dump)
-kernel_has_text dump = by (slice_get (notes_of VmCoreInfo dump) 0)
+kernel_has_text dump = by_text (agreed_text dump.texts)
   where
     of : (found : Result Kernel KernelFault) → FaultHasText (result_map_both Some faults.VmCoreInfo found)
     of (Ok kernel) = tt
@@ -82,6 +83,11 @@ kernel_has_text dump = by (slice_get (notes_of VmCoreInfo dump) 0)
     by : (note : Option Note) → FaultHasText (kernel_by dump.file note)
     by None = tt
     by (Some note) = of (kernel_of (text_of dump.file note))
+
+    by_text : (text : Result (Option KernelText) KernelFault) → FaultHasText (kernel_by_text dump text)
+    by_text (Ok (Some text)) = tt
+    by_text (Ok None) = by (slice_get (notes_of VmCoreInfo dump) 0)
+    by_text (Err fault) = refl
 
 kernel_start_text : (dump : Contents) (levels : Option Levels) → HasText (kernel_start dump levels)
 unfolding kernel_start
@@ -106,7 +112,7 @@ note_text cpu (note ∷ notes) = by (slice_get (note ∷ notes) cpu)
     by (Some found) = tt
 
 needed_text : (request : Request) (dump : Contents) → HasText (note_needed request dump)
-needed_text request dump = by (is_none request.cr3 || is_none request.levels)
+needed_text request dump = by ((is_none request.cr3 || is_none request.levels) && is_none request.vmcoreinfo)
   where
     by : (b : Bool) → HasText (cond b (note_of (unwrap_or request.cpu 0) (processors_of dump)) (Ok None))
     by true = note_text (unwrap_or request.cpu 0) (processors_of dump)

@@ -11,7 +11,7 @@ use Rattle.ptdump_engine.specs.declared.mode.Mode.{Mode}
 use Rattle.ptdump_engine.specs.declared.mode.Mode.TheVariants.{NoPaging, Paging32, Paging64}
 use Rattle.ptdump_engine.specs.declared.registers.Registers.{Registers}
 use Rattle.ptdump_engine.specs.declared.start.Origin.{Origin}
-use Rattle.ptdump_engine.specs.declared.start.Origin.TheVariants.{ByRequest, ByProcessor, ByKernel}
+use Rattle.ptdump_engine.specs.declared.start.Origin.TheVariants.{ByRequest, ByProcessor, ByKernel, ByText}
 use Rattle.ptdump_engine.specs.declared.start.Start.{Start}
 
 -- an object with one member
@@ -66,7 +66,8 @@ json_of_kernel kernel = told (codes "kernel") (object (
 abbrev pub json_of_no_kernel : (error : List ℕ) → Data
 json_of_no_kernel error = told (codes "kernel") (json_of_error error)
 
--- the address of a root, the number of levels, and what says so: --cr3, a processor, which is named, or the kernel's note
+-- the address of a root, the number of levels, and what says so: --cr3, a processor, which is named, the kernel's note, or a text at
+-- an offset of the file
 abbrev pub root_members : (cpu root : ℕ) → Levels → Origin → Members
 root_members cpu root levels ByRequest =
     member (codes "address") (hexadecimal_string root)
@@ -81,6 +82,11 @@ root_members cpu root levels ByKernel =
     member (codes "address") (hexadecimal_string root)
     (member (codes "levels") (count (level_count levels))
     (member (codes "origin") (string (codes "kernel")) no_members))
+root_members cpu root levels (ByText offset) =
+    member (codes "address") (hexadecimal_string root)
+    (member (codes "levels") (count (level_count levels))
+    (member (codes "offset") (count offset)
+    (member (codes "origin") (string (codes "memory")) no_members)))
 
 -- the root that other commands take if this processor is requested
 abbrev pub json_of_root : (cpu : ℕ) → Start → Data

@@ -4,6 +4,7 @@ use Rattle.x86_64_addr.specs.declared.level_count.Levels.{Levels}
 use Rattle.x86_64_addr.specs.declared.level_count.Levels.TheVariants.{Four, Five}
 use Rattle.x86_64_dump.specs.declared.formats.Format.{Format}
 use Rattle.x86_64_dump.specs.declared.formats.Format.TheVariants.{Raw, Elf, Lime, Unread}
+use Rattle.x86_64_dump.specs.declared.kernel_text.KernelText.{KernelText}
 use Rattle.x86_64_dump.specs.declared.vmcoreinfo.Kernel.{Kernel}
 use Rattle.x86_64_mappings.specs.Numbers.{hexadecimal}
 use Rattle.x86_64_mappings.specs.Texts.{size_text}
@@ -12,7 +13,7 @@ use Rattle.ptdump_engine.specs.declared.mode.Mode.{Mode}
 use Rattle.ptdump_engine.specs.declared.mode.Mode.TheVariants.{NoPaging, Paging32, Paging64}
 use Rattle.ptdump_engine.specs.declared.registers.Registers.{Registers}
 use Rattle.ptdump_engine.specs.declared.start.Origin.{Origin}
-use Rattle.ptdump_engine.specs.declared.start.Origin.TheVariants.{ByRequest, ByProcessor, ByKernel}
+use Rattle.ptdump_engine.specs.declared.start.Origin.TheVariants.{ByRequest, ByProcessor, ByKernel, ByText}
 use Rattle.ptdump_engine.specs.declared.start.Start.{Start}
 
 abbrev pub format_name : Format → List ℕ
@@ -76,6 +77,14 @@ mask_text mask = if mask == 0 then [] else codes ", encryption mask " ++ hexadec
 abbrev pub kernel_text : Kernel → List ℕ
 kernel_text kernel = codes "kernel (VMCOREINFO): root " ++ place_text kernel.root kernel.levels ++ mask_text kernel.encryption_mask
 
+-- where a text of VMCOREINFO begins
+unfoldable pub text_place : (offset : ℕ) → List ℕ
+text_place offset = codes "VMCOREINFO at byte " ++ (decimal offset ++ codes " of the file: root ")
+
+-- where it begins, and what it says
+unfoldable pub text_told : KernelText → List ℕ
+text_told text = text_place text.offset ++ place_text text.kernel.root text.kernel.levels ++ mask_text text.kernel.encryption_mask
+
 abbrev pub no_kernel_text : (error : List ℕ) → List ℕ
 no_kernel_text error = codes "kernel (VMCOREINFO): " ++ error
 
@@ -83,6 +92,7 @@ abbrev pub origin_text : (cpu : ℕ) → Origin → List ℕ
 origin_text cpu ByRequest = codes "as --cr3 says"
 origin_text cpu ByProcessor = codes "of processor " ++ decimal cpu
 origin_text cpu ByKernel = codes "of the kernel"
+origin_text cpu (ByText offset) = codes "of the kernel, as the text at byte " ++ decimal offset ++ codes " says"
 
 -- the root that other commands take if this processor is requested
 abbrev pub root_text : (cpu : ℕ) → Start → List ℕ

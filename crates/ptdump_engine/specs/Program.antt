@@ -1,5 +1,5 @@
 -- The output of the program for a file, or why it fails.
-use Rattle.std.specs.Prelude.{◌≡◌, ◌⊎◌, ℕ, ◌-◌, ◌^◌, ◌==◌, ◌++◌, codes, length, ◌&&◌, ◌||◌, nat_le, nat_lt, not, true, false, Bool, if◌then◌else◌, List, [], ◌∷◌, Option, None, Some, IfSome, is_some, option_map, unwrap_or, Result, Ok, Err, ⊤}
+use Rattle.std.specs.Prelude.{◌≡◌, ◌⊎◌, ℕ, ◌-◌, ◌^◌, ◌==◌, ◌++◌, codes, decimal, length, ◌&&◌, ◌||◌, nat_le, nat_lt, not, true, false, Bool, if◌then◌else◌, List, [], ◌∷◌, Option, None, Some, IfSome, is_err, is_some, option_map, unwrap_or, Result, Ok, Err, ⊤}
 use Rattle.std.specs.List.{find, flat_map, list_all}
 use Rattle.std.specs.Option.{option_or}
 use Rattle.std.specs.Io.KnownBytes.{Appends}
@@ -7,19 +7,23 @@ use Rattle.x86_64_dump.specs.Dump.{Contents, is_short, words_of_dump}
 use Rattle.x86_64_dump.specs.Lime.{after}
 use Rattle.x86_64_dump.specs.Loaded.{IsTableCount, up_to}
 use Rattle.x86_64_dump.specs.Formats.{format_of, is_raw}
-use Rattle.x86_64_dump.specs.Notes.{processors_of}
+use Rattle.x86_64_dump.specs.KernelTexts.{kernel_texts}
+use Rattle.x86_64_dump.specs.Notes.{is_noted, processors_of}
 use Rattle.x86_64_dump.specs.Opening.{contents_as}
-use Rattle.x86_64_dump.specs.VmCoreInfo.{decrypted}
+use Rattle.x86_64_dump.specs.VmCoreInfo.{agreed_text, decrypted, text_at}
 use Rattle.x86_64_dump.specs.declared.error.Fault.{Fault}
 use Rattle.x86_64_dump.specs.declared.formats.Format.{Format}
 use Rattle.x86_64_dump.specs.declared.formats.Format.TheVariants.{Raw}
+use Rattle.x86_64_dump.specs.declared.kernel_text.KernelText.{KernelText}
 use Rattle.x86_64_dump.specs.declared.segment.Segment.{Segment}
 use Rattle.x86_64_mappings.specs.Numbers.{hexadecimal}
 use Rattle.x86_64_model.specs.Memory.{Words}
 use Rattle.x86_64_model.specs.Position.{lower_half}
 use Rattle.ptdump_engine.specs.Findings.{check_text, finds_nothing}
 use Rattle.ptdump_engine.specs.Info.{info_in}
+use Rattle.ptdump_engine.specs.InfoTexts.{text_told}
 pub use Rattle.ptdump_engine.specs.MemoryRanges.{last_address}
+use Rattle.ptdump_engine.specs.NotedLevels.{levels_text}
 use Rattle.ptdump_engine.specs.Processors.{cpus_with, firsts_of, heading_text, left_out_text, modes_failure, processors_from}
 use Rattle.ptdump_engine.specs.Reports.{regions_text, pages_text, walks_text, find_text, all_arrive, all_found}
 use Rattle.ptdump_engine.specs.Reserved.{reserved_note}
@@ -40,7 +44,7 @@ use Rattle.ptdump_engine.specs.declared.request.Outcome.{Outcome}
 use Rattle.ptdump_engine.specs.declared.request.Request.{Request}
 use Rattle.ptdump_engine.specs.declared.request.Selection.{Selection}
 use Rattle.ptdump_engine.specs.declared.start.Origin.{Origin}
-use Rattle.ptdump_engine.specs.declared.start.Origin.TheVariants.{ByKernel}
+use Rattle.ptdump_engine.specs.declared.start.Origin.TheVariants.{ByKernel, ByText}
 use Rattle.ptdump_engine.specs.declared.start.Start.{Start}
 use Rattle.ptdump_engine.specs.declared.totals.Totals.{Totals}
 
@@ -114,9 +118,34 @@ abbrev pub is_info : Command → Bool
 is_info commands.Info = true
 is_info command = false
 
--- the contents of a file as a dump, in whose words the bits are cleared by which the kernel marks encrypted memory
+-- whether the report can be made of each root that the processors have
+abbrev pub has_roots : Command → Bool
+has_roots (commands.Regions selection) = true
+has_roots (commands.Check checking) = true
+has_roots command = false
+
+abbrev pub is_of_processors : Request → Bool
+is_of_processors request = request.all_cpus && has_roots request.command
+
+-- whether memory is searched for texts of VMCOREINFO: no CR3 is given, and no note says where the root is
+abbrev pub is_searched : Request → Contents → Bool
+is_searched request dump = not (is_some request.cr3 || is_of_processors request) && not (is_noted dump)
+
+-- the texts of VMCOREINFO that say where the kernel's root is: the one at the offset that is given, or those in memory
+abbrev pub texts_by : (offset : Option ℕ) → (searched : Bool) → Contents → Result (List KernelText) Fault
+texts_by (Some offset) searched dump = after (text_at dump.file offset) (λ text. Ok (text ∷ []))
+texts_by None searched dump = Ok (if searched then kernel_texts dump else [])
+
+abbrev pub texts_for : Request → Contents → Result (List KernelText) Fault
+texts_for request dump = texts_by request.vmcoreinfo (is_searched request dump) dump
+
+-- a dump with its texts, in whose words the bits are cleared by which the kernel marks encrypted memory
+abbrev pub with_texts : Request → Contents → Result Contents Fault
+with_texts request dump = after (texts_for request dump) (λ texts. Ok (decrypted (record dump { texts = texts })))
+
+-- the contents of a file as a dump
 abbrev pub contents_for : Request → (file : List ℕ) → Result Contents Fault
-contents_for request file = after (contents_as (format_for request file) file request.placement) (λ dump. Ok (decrypted dump))
+contents_for request file = after (contents_as (format_for request file) file request.placement) (with_texts request)
 
 -- the dump that a file is, or why it is none
 abbrev pub dump_for : Request → (file : List ℕ) → Result Contents Failure
@@ -133,15 +162,6 @@ opened_for request file = and_then (dump_for request file) (λ dump.
     and_then (start_for request dump) (λ start. Ok (record { dump = dump; start = start })))
 
 -- ---- all processors
-
--- whether the report can be made of each root that the processors have
-abbrev pub has_roots : Command → Bool
-has_roots (commands.Regions selection) = true
-has_roots (commands.Check checking) = true
-has_roots command = false
-
-abbrev pub is_of_processors : Request → Bool
-is_of_processors request = request.all_cpus && has_roots request.command
 
 -- why the tables of a processor can't be reported on
 abbrev pub tables_failure : Request → Words → Processor → Option Failure
@@ -272,12 +292,21 @@ short_text dump = if is_short (length dump.file) dump.segments
     then line (codes "the file is shorter than its headers say: frames behind its end are missing") else []
 
 -- the first line, if the file is raw, or shorter than its headers say
+abbrev pub file_text : Contents → List ℕ
+file_text dump = if is_raw dump.format then flat_map (λ segment. line (raw_text segment)) dump.segments else short_text dump
+
+-- the texts of VMCOREINFO in memory, if they differ
+abbrev pub differing_text : List KernelText → List ℕ
+differing_text texts = if is_err (agreed_text texts) then flat_map (λ text. line (text_told text)) texts else []
+
+-- the first lines, on the file and its texts
 abbrev pub opening_text : Contents → List ℕ
-opening_text dump = if is_raw dump.format then flat_map (λ segment. line (raw_text segment)) dump.segments else short_text dump
+opening_text dump = file_text dump ++ differing_text dump.texts
 
 -- the next line, if the root is the kernel's own
 abbrev pub source_text : Origin → List ℕ
 source_text ByKernel = line (codes "the root is the kernel's own, as the note VMCOREINFO says")
+source_text (ByText offset) = line (codes "the root is the kernel's own, as VMCOREINFO at byte " ++ decimal offset ++ codes " of the file says")
 source_text origin = []
 
 -- whether the report on an image, which isn't specified here, stands on standard error too
@@ -290,9 +319,11 @@ abbrev pub EndsByTotals : Command → (L : ℕ) → Words → (root : ℕ) → (
 EndsByTotals command L T root before after =
     (totals : Totals) × AreTotals L T root totals × Appends before after (reserved_note command L T root ++ line (totals_text totals))
 
--- standard error after a run on tables: that the file is raw or short, that the root is the kernel's, how many words have reserved bits, and the totals
+-- standard error after a run on tables: that the file is raw or short, that the root is the kernel's, that a note says another number of
+-- levels than the request, how many words have reserved bits, and the totals
 abbrev pub NotesOnTables : Request → (file : List ℕ) → (before after : Option (List ℕ)) → Type 0
-NotesOnTables request file before after = (o : Opened) × (between : Option (List ℕ)) × (opened_for request file ≡ Ok o) × Appends before between (opening_text o.dump ++ source_text o.start.origin)
+NotesOnTables request file before after = (o : Opened) × (between : Option (List ℕ)) × (opened_for request file ≡ Ok o)
+    × Appends before between (opening_text o.dump ++ source_text o.start.origin ++ levels_text request o.dump o.start.origin)
     × EndsByTotals request.command (level_count o.start.levels) (words_of_dump o.dump) o.start.root between after
 
 -- likewise for the tables of a processor

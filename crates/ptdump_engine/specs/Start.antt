@@ -1,13 +1,14 @@
--- Start: the root and the number of levels, from the request, QEMU's note of a processor or Linux's note of its kernel.
+-- Start: the root and the number of levels, from the request, QEMU's note of a processor or Linux's VMCOREINFO.
 -- Intel SDM vol. 3A, "Control Registers": bits 12 to 51 of CR3 are the address of the root's table, bit 31 of CR0 is PG, bits 5
 -- and 12 of CR4 are PAE and LA57.
-use Rattle.std.specs.Prelude.{ℕ, ◌||◌, not, if◌then◌else◌, List, [], ◌∷◌, length, slice_get, Option, None, Some, is_none, Result, Ok, Err}
+use Rattle.std.specs.Prelude.{ℕ, ◌&&◌, ◌||◌, not, if◌then◌else◌, List, [], ◌∷◌, length, slice_get, Option, None, Some, is_none, Result, Ok, Err}
 use Rattle.std.specs.Option.{option_map_or, unwrap_or}
 use Rattle.x86_64_dump.specs.Dump.{Contents}
 use Rattle.x86_64_dump.specs.Lime.{after}
 use Rattle.x86_64_dump.specs.Notes.{is_of_virtualbox, processors_of, register_of}
 use Rattle.x86_64_dump.specs.VmCoreInfo.{kernel_in}
 use Rattle.x86_64_dump.specs.declared.error.Fault.{Fault}
+use Rattle.x86_64_dump.specs.declared.kernel_text.KernelText.{KernelText}
 use Rattle.x86_64_dump.specs.declared.note.Note.{Note}
 use Rattle.x86_64_dump.specs.declared.vmcoreinfo.Kernel.{Kernel}
 use Rattle.x86_64_model.specs.Entry.{address, has}
@@ -20,7 +21,7 @@ use Rattle.ptdump_engine.specs.declared.mode.Mode.TheVariants.{NoPaging, Paging3
 use Rattle.ptdump_engine.specs.declared.registers.Registers.{Registers}
 use Rattle.ptdump_engine.specs.declared.request.Request.{Request}
 use Rattle.ptdump_engine.specs.declared.start.Origin.{Origin}
-use Rattle.ptdump_engine.specs.declared.start.Origin.TheVariants.{ByRequest, ByProcessor, ByKernel}
+use Rattle.ptdump_engine.specs.declared.start.Origin.TheVariants.{ByRequest, ByProcessor, ByKernel, ByText}
 use Rattle.ptdump_engine.specs.declared.start.Start.{Start}
 use Rattle.ptdump_engine.specs.Steps.{and_then, of_dump}
 
@@ -29,10 +30,10 @@ abbrev pub note_of : (cpu : ℕ) → (notes : List Note) → Result (Option Note
 note_of cpu [] = Ok None
 note_of cpu (note ∷ notes) = option_map_or (λ n. Ok (Some n)) (slice_get (note ∷ notes) cpu) (Err (failures.NoProcessor cpu (length (note ∷ notes))))
 
--- notes are read only if CR3 or the number of levels isn't given
+-- notes are read only if CR3 or the number of levels isn't given, and no text is
 abbrev pub note_needed : Request → Contents → Result (Option Note) Failure
 note_needed request dump =
-    if is_none request.cr3 || is_none request.levels then note_of (unwrap_or request.cpu 0) (processors_of dump) else Ok None
+    if (is_none request.cr3 || is_none request.levels) && is_none request.vmcoreinfo then note_of (unwrap_or request.cpu 0) (processors_of dump) else Ok None
 
 abbrev pub mode_of : (cr0 cr4 : ℕ) → Mode
 mode_of cr0 cr4 = if not (has cr0 0x8000_0000) then NoPaging else if not (has cr4 0x20) then Paging32 else Paging64
@@ -68,11 +69,19 @@ levels_of file None (Some note) = and_then (of_dump (register_of file note 424))
 abbrev pub start_at : Origin → (cr3 : ℕ) → Result Levels Failure → Result Start Failure
 start_at origin cr3 levels = and_then levels (λ levels. Ok (record { root = address cr3; levels = levels; origin = origin }))
 
+-- what says where the kernel's root is: the first of the texts in memory, or if there are none the note
+abbrev pub origin_by : (first : Option KernelText) → Origin
+origin_by (Some text) = ByText text.offset
+origin_by None = ByKernel
+
+abbrev pub origin_of : Contents → Origin
+origin_of dump = origin_by (slice_get dump.texts 0)
+
 abbrev pub start_by : Contents → (levels : Option Levels) → Option Kernel → Result Start Failure
-start_by dump levels (Some kernel) = Ok (record { root = kernel.root; levels = unwrap_or levels kernel.levels; origin = ByKernel })
+start_by dump levels (Some kernel) = Ok (record { root = kernel.root; levels = unwrap_or levels kernel.levels; origin = origin_of dump })
 start_by dump levels None = Err (if is_of_virtualbox dump then failures.VirtualBox else failures.NoCr3)
 
--- the start at the kernel's root, by Linux's note VMCOREINFO
+-- the start at the kernel's root, by Linux's VMCOREINFO
 unfoldable pub kernel_start : Contents → (levels : Option Levels) → Result Start Failure
 kernel_start dump levels = and_then (of_dump (kernel_in dump)) (start_by dump levels)
 

@@ -10,6 +10,7 @@ ghost use Rattle.ptdump_engine.specs.Program as program;
 ghost use Rattle.ptdump_engine.specs.Steps.{Finds, IsForced};
 ghost use Rattle.ptdump_engine.specs.Totals.{IsMapped, totals_text};
 ghost use Rattle.ptdump_engine.specs.Walks.{line};
+ghost use Rattle.ptdump_engine.specs.declared.start.Origin.TheVariants.{ByText};
 ghost use Rattle.ptdump_engine.specs.declared.totals.Totals.{Totals};
 
 use crate::arguments::{argument_failure, root_failure};
@@ -19,6 +20,7 @@ use crate::failure::Failure;
 use crate::image::write_image;
 use crate::info::write_info;
 use crate::loaded::Loaded;
+use crate::noted_levels::write_levels;
 use crate::opening::{open, write_opening};
 use crate::output::{Output, OutputError};
 use crate::picture::write_picture;
@@ -38,11 +40,13 @@ use x86_64_page::page::Size4KiB;
 use x86_64_tables::phys_memory::IdentityMapping;
 
 /// Runs the program on the bytes of a file: opens it as a dump, reads the tables that a root leads to, and writes the requested
-/// report to `writer`. The request is tested before anything is written there. `progress` is called as the tables are read.
+/// report to `writer`. The request is tested before anything is written there. `progress` is called as memory is searched for
+/// VMCOREINFO, and as the tables are read.
 ///
 /// `errors` receives the rest of the text for standard error: that the file is raw, or shorter than its headers say, that the root is
-/// the kernel's own by Linux's note, which processors have no tables, how an image was created, and finally for each root how many
-/// words have reserved bits, if the report lists what is mapped, the number of tables that were read, and how much they map.
+/// the kernel's own by VMCOREINFO, that the dump says another number of levels than the request, which processors have no tables, how an image
+/// was created, and finally for each root how many words have reserved bits, if the report lists what is mapped, the number of tables
+/// that were read, and how much they map.
 ///
 /// # Errors
 ///
@@ -69,7 +73,7 @@ pub fn run<S: ByteSource, W: Destination, E: Destination, G: Progress>(
         ⊎ (progress.new ≡ progress.old)) }
 {
     let mut notes = Output::new(alloc, errors);
-    let dump = open(alloc, source, request)?;
+    let dump = open(alloc, source, request, &*progress)?;
     write_opening(&dump, &mut notes)?;
     if request.command.is_info() {
         return write_info(alloc, &dump, request, writer);
@@ -88,10 +92,11 @@ pub fn run<S: ByteSource, W: Destination, E: Destination, G: Progress>(
     }
     let start = start_for(alloc, &dump, request)?;
     write_source(start.origin, &mut notes)?;
+    write_levels(alloc, &dump, request, start.origin, &mut notes)?;
     report_from(alloc, &dump, &start, request, writer, &mut notes, progress)
 }
 
-/// Writes immediately if the root is the kernel's own.
+/// Writes immediately if the root is the kernel's own, and what says so.
 fn write_source<E: Destination>(
     origin: Origin,
     notes: &mut Output<'_, E>,
@@ -99,14 +104,33 @@ fn write_source<E: Destination>(
     ensures text { OnOk result (Puts E.contents notes.old notes.new (program.source_text origin)) }
     ensures all { OnOk result (string_bytes notes.old.text ≡ [] → string_bytes notes.new.text ≡ []) }
 {
-    if matches!(origin, Origin::ByKernel) {
-        writeln!(
-            notes,
-            "the root is the kernel's own, as the note VMCOREINFO says"
-        )?;
-        notes.finish()?;
+    match origin {
+        Origin::ByRequest | Origin::ByProcessor => Ok(()),
+        Origin::ByKernel => {
+            writeln!(
+                notes,
+                "the root is the kernel's own, as the note VMCOREINFO says"
+            )?;
+            notes.finish()
+        }
+        Origin::ByText(offset) => {
+            write_text_source(offset, notes)?;
+            notes.finish()
+        }
     }
-    Ok(())
+}
+
+/// Writes which text says where the root is.
+fn write_text_source<E: Destination>(
+    offset: u64,
+    notes: &mut Output<'_, E>,
+) -> Result<(), OutputError<E>>
+    ensures { OnOk result (Puts E.contents notes.old notes.new (program.source_text (ByText offset))) }
+{
+    writeln!(
+        notes,
+        "the root is the kernel's own, as VMCOREINFO at byte {offset} of the file says"
+    )
 }
 
 /// Determines the start of page walks, and tests the request.

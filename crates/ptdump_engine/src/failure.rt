@@ -16,7 +16,7 @@ use x86_64_dump::{DumpError, Fault};
 /// The reason why a run failed.
 #[derive(Debug, Drop)]
 pub enum Failure {
-    /// Neither the request nor a note of the file has the CR3.
+    /// Neither the request nor a note of the file has the CR3, and neither a note nor memory has VMCOREINFO.
     NoCr3,
     /// The request has no CR3, and the file is a core of VirtualBox.
     VirtualBox,
@@ -133,7 +133,7 @@ impl Display for Failure {
     fn fmt<W: Write>(&self, f: &mut Formatter<W>) -> FmtResult {
         match self {
             Failure::NoCr3 => f.write_str(
-                "no CR3 in the file: give --cr3, as QEMU's `info registers` prints it",
+                "no CR3 and no VMCOREINFO in the file: give --cr3, 0x and the digits that QEMU's `info registers` prints, and on Linux `ptdump info /proc/kcore`",
             ),
             Failure::VirtualBox => f.write_str(
                 "the file is a core of VirtualBox, of which no CR3 is read: give --cr3",

@@ -23,7 +23,9 @@ use crate::output::{Output, OutputError};
 use crate::registers::Registers;
 use crate::request::{Form, Outcome, Request};
 use crate::start::Start;
-pub use items::{DumpFormat, KernelRoot, MemoryRange, NoKernelRoot, NoRoot, Processor, Root};
+pub use items::{
+    DumpFormat, KernelRoot, MemoryRange, NoKernelRoot, NoRoot, Processor, Root, ToldText,
+};
 use std::alloc::{AllocError, Global};
 use std::fmt::Display;
 use x86_64_dump::{ByteSource, Dump, DumpError, Fault, Format, Note, Segment};

@@ -22,6 +22,7 @@ mod loaded;
 mod mode;
 mod names;
 mod naming;
+mod noted_levels;
 mod opening;
 mod output;
 mod picture;

@@ -141,10 +141,13 @@ pub struct Request {
     pub command: Command,
     /// The form of a report of regions, mappings, walks, a search or a check, or of what the dump says. Other reports have one form.
     pub form: Form,
-    /// The CR3. If `None`, it is read from a processor's note in the dump, or else the kernel's note says where the root is.
+    /// The CR3. If `None`, it is read from a processor's note in the dump, or else VMCOREINFO says where the kernel's root is.
     pub cr3: Option<u64>,
-    /// The number of levels of tables. If `None`, the CR4 in a processor's note determines it, or else the kernel's note if it says
-    /// where the root is, or it is four.
+    /// The offset in the file of Linux's text VMCOREINFO that says where the kernel's root is. If `None`, memory is searched for such
+    /// texts if there is no CR3 and no note.
+    pub vmcoreinfo: Option<u64>,
+    /// The number of levels of tables. If `None`, the CR4 in a processor's note determines it, or else VMCOREINFO if it says where the
+    /// root is, or it is four.
     pub levels: Option<Levels>,
     /// Where the bytes of a raw dump lie in physical memory.
     pub placement: Placement,

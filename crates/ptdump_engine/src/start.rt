@@ -31,6 +31,8 @@ pub enum Origin {
     ByProcessor,
     /// Linux's note VMCOREINFO, for the kernel's own root.
     ByKernel,
+    /// Likewise the text VMCOREINFO at this offset of the file.
+    ByText(u64),
 }
 
 /// The start of page walks.
@@ -44,7 +46,7 @@ pub struct Start {
     pub origin: Origin,
 }
 
-/// Determines the start of page walks from the request, a processor's note, or the kernel's note.
+/// Determines the start of page walks from the request, a processor's note, or VMCOREINFO.
 ///
 /// # Errors
 ///
@@ -98,7 +100,7 @@ pub fn start_at(origin: Origin, cr3: u64, levels: Levels) -> Start
     }
 }
 
-/// Returns the start at the kernel's root, by Linux's note VMCOREINFO.
+/// Returns the start at the kernel's root, by Linux's VMCOREINFO.
 #[tactic(auto, unfolding(crate::specs::Start::kernel_start))]
 fn kernel_start<S: ByteSource>(
     alloc: Global,
@@ -111,13 +113,23 @@ fn kernel_start<S: ByteSource>(
         return Ok(Start {
             root: kernel.root,
             levels: levels.unwrap_or(kernel.levels),
-            origin: Origin::ByKernel,
+            origin: origin_of(dump),
         });
     }
     if dump.is_of_virtualbox(alloc)? {
         Err(Failure::VirtualBox)
     } else {
         Err(Failure::NoCr3)
+    }
+}
+
+/// Returns what says where the kernel's root is: the first of the texts in memory, or if there are none the note.
+fn origin_of<S: ByteSource>(dump: &Dump<S>) -> Origin
+    ensures { result ≡ starts.origin_of (opened S.bytes dump.now) }
+{
+    match dump.texts().first() {
+        Some(text) => Origin::ByText(text.offset),
+        None => Origin::ByKernel,
     }
 }
 
@@ -129,7 +141,8 @@ fn needed_note<S: ByteSource>(
 ) -> Result<Option<Note>, Failure>
     ensures { S.IsKnown → Finds S.may_fail result (starts.note_needed request.now (opened S.bytes dump.now)) }
 {
-    if request.cr3.is_some() && request.levels.is_some() {
+    let is_stated = request.cr3.is_some() && request.levels.is_some();
+    if is_stated || request.vmcoreinfo.is_some() {
         return Ok(None);
     }
     let notes = dump.processors(alloc)?;

@@ -23,3 +23,4 @@ pub mod CleanUpSteps
 pub mod Named
 pub mod Pairs
 pub mod RangeFlushes
+pub mod SharedEntries

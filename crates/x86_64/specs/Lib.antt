@@ -15,6 +15,7 @@ pub mod FlushesDue
 pub mod Processors
 pub mod OneEntry
 pub mod SeveralProcessors
+pub mod Sharing
 pub mod SwitchingProcessors
 pub mod private
 pub use Rattle.x86_64_model.specs.Machine

@@ -5,7 +5,6 @@ pub mod Marked
 pub mod PoolSteps
 pub mod Executed
 pub mod LentRuns
-pub mod Filling
 pub mod SpaceArguments
 pub mod TogetherFit
 pub mod LentSpaces
@@ -15,6 +14,5 @@ pub mod RangeKeeps
 pub mod RangesSeen
 pub mod FrameArrays
 pub mod SpaceRanges
-pub mod StepsRead
 pub mod FlushCalls
 pub mod WalkBySteps

@@ -15,12 +15,13 @@ use Rattle.x86_64_model.specs.Position.{index, span}
 use Rattle.x86_64_model.specs.private.Found.{found, found_on, page_at}
 use Rattle.x86_64_model.proofs.Lemmas.Mappings.Walked.{walk_finds}
 use Rattle.x86_64_tables.specs.Rights.{both}
-use Rattle.x86_64_c.specs.Entries.{no_limits, end_by, written, Writes}
-use Rattle.x86_64_c.specs.Status.{ok, not_mapped, parent_entry_huge_page, no_table}
+use Rattle.x86_64_mappings.specs.WalkEntries.{no_limits, steps_to, rights_in, end_by, end_of, written, Writes}
+use Rattle.x86_64_mappings.specs.declared.walk_entries.WalkEnd.TheVariants.{Page, NotPresent, HugePage, NoTable}
+use Rattle.x86_64_mappings.specs.declared.walk_entries.WalkEntry.{WalkEntry}
+use Rattle.x86_64_mappings.proofs.StepsRead.{step, reads_by, words_in}
+use Rattle.x86_64_c.specs.Status.{ok}
 use Rattle.x86_64_c.specs.Walks.{Tells}
-use Rattle.x86_64_c.specs.declared.entries.Entry.{Entry}
 use Rattle.x86_64_c.specs.declared.walk.WalkResult.{WalkResult}
-use Rattle.x86_64_c.proofs.StepsRead.{step, reads_by, words_in}
 
 -- the arrival at the last word, with the rights of all
 abbrev pub arrival_by : (p : ℕ) → Rights → Option Step → Option Walked
@@ -98,7 +99,7 @@ unfolding found
 walk_by_steps L T root p = walk_finds L T root p ∙ walked T p L every_right root
 
 -- a walk that ends otherwise arrives nowhere
-pub nowhere : (p : ℕ) (r : Rights) (o : Option Step) → (end_by o ≡ 0 → ⊥) → arrival_by p r o ≡ None
+pub nowhere : (p : ℕ) (r : Rights) (o : Option Step) → (end_by o ≡ Page → ⊥) → arrival_by p r o ≡ None
 nowhere p r None other = refl
 nowhere p r (Some s) other = by (present s.word) (maps_page s.level s.word) refl refl
   where
@@ -114,15 +115,15 @@ pub record AtPage (o : Option Step) (s : Step) : Type 0 where
   pub there : present s.word ≡ true
   pub page : maps_page s.level s.word ≡ true
 
-pub at_page_by : (o : Option Step) → end_by o ≡ ok → (s : Step) × AtPage o s
-at_page_by None is = absurd (omega (arith, is))
+pub at_page_by : (o : Option Step) → end_by o ≡ Page → (s : Step) × AtPage o s
+at_page_by None is = absurd (let e : NoTable ≡ Page = is in cc)
 at_page_by (Some s) is = (s, by (present s.word) (maps_page s.level s.word) (huge s.word) refl refl is)
   where
-    by : (b m h : Bool) → present s.word ≡ b → maps_page s.level s.word ≡ m → cond b (cond m ok (cond h parent_entry_huge_page no_table)) not_mapped ≡ ok → AtPage (Some s) s
+    by : (b m h : Bool) → present s.word ≡ b → maps_page s.level s.word ≡ m → cond b (cond m Page (cond h HugePage NoTable)) NotPresent ≡ Page → AtPage (Some s) s
     by true true h there page is = record { last = refl; there = there; page = page }
-    by true false true there page is = absurd (omega (arith, is))
-    by true false false there page is = absurd (omega (arith, is))
-    by false m h there page is = absurd (omega (arith, is))
+    by true false true there page is = absurd (let e : HugePage ≡ Page = is in cc)
+    by true false false there page is = absurd (let e : NoTable ≡ Page = is in cc)
+    by false m h there page is = absurd (let e : NotPresent ≡ Page = is in cc)
 
 one_of : (one big two three : Bool) → (one || (big && (two || three))) ≡ true → (one ≡ true) ⊎ ((two ≡ true) ⊎ (three ≡ true))
 one_of true big two three is = inl refl
@@ -148,74 +149,72 @@ there_at p r o s is =
 -- ---- the array
 
 -- the last word is written last
-at_last : (s t : Step) (steps : List Step) (behind : List Entry) (d : Entry) → last_or (Some s) steps ≡ Some t
+at_last : (s t : Step) (steps : List Step) (behind : List WalkEntry) (d : WalkEntry) → last_or (Some s) steps ≡ Some t
     → slice_index_or (map written (s ∷ steps) ++ behind) (length steps) d ≡ written t
 at_last s t [] behind d is = let same : s ≡ t = cc in ap written same
 at_last s t (u ∷ steps) behind d is = at_last u t steps behind d is
 
-pub last_written : (steps : List Step) (before after : List Entry) (why count : ℕ) (d : Entry) (t : Step)
-    → Writes steps before why after count → last_or None steps ≡ Some t → slice_index_or after (count - 1) d ≡ written t
-last_written [] before after why count d t writes is = cc
-last_written (s ∷ steps) before after why count d t writes is =
+last_written : (steps : List Step) (before after : List WalkEntry) (count : ℕ) (d : WalkEntry) (t : Step)
+    → Writes steps before after count → last_or None steps ≡ Some t → slice_index_or after (count - 1) d ≡ written t
+last_written [] before after count d t writes is = cc
+last_written (s ∷ steps) before after count d t writes is =
     let less : count - 1 ≡ length steps = omega (arith, writes.number) in
     ap (λ array. slice_index_or array (count - 1) d) writes.array ∙ ap (λ n. slice_index_or (map written (s ∷ steps) ++ drop count before) n d) less
     ∙ at_last s t steps (drop count before) d is
 
 -- a walk that ends at a page has read a word, and there is room for the last one
-pub some_written : (steps : List Step) (before after : List Entry) (why count : ℕ)
-    → Writes steps before why after count → why ≡ 0 → 1 ≤ count
-some_written [] before after why count writes is = absurd (omega (arith, writes.end, is))
-some_written (s ∷ steps) before after why count writes is = omega (arith, writes.number)
+pub some_written : (steps : List Step) (before after : List WalkEntry) (count : ℕ)
+    → Writes steps before after count → end_of steps ≡ Page → 1 ≤ count
+some_written [] before after count writes is = absurd (let e : NoTable ≡ Page = is in cc)
+some_written (s ∷ steps) before after count writes is = omega (arith, writes.number)
 
-pub last_within : (steps : List Step) (before after : List Entry) (why count : ℕ)
-    → Writes steps before why after count → why ≡ 0 → count - 1 < length after
-last_within steps before after why count writes is =
-    let some = some_written steps before after why count writes is in
+pub last_within : (steps : List Step) (before after : List WalkEntry) (count : ℕ)
+    → Writes steps before after count → end_of steps ≡ Page → count - 1 < length after
+last_within steps before after count writes is =
+    let some = some_written steps before after count writes is in
     let all = ap length writes.array ∙ length-append (map written steps) (drop count before) in
     omega (arith, some, all, length-map steps written, writes.number)
 
 -- ---- where the walk arrives, by what it has written
 
-pub tells_nowhere : (L : ℕ) (T : Words) (root p : ℕ) (before after : List Entry) (why count : ℕ)
-    → Writes (steps_from no_limits T p L root) before why after count → (why ≡ 0 → ⊥) → page_walk L T root p ≡ None
-tells_nowhere L T root p before after why count writes other =
-    walk_by_steps L T root p ∙ nowhere p (rights_of (words_in (steps_from no_limits T p L root))) (last_or None (steps_from no_limits T p L root)) (λ is. other (writes.end ∙ is))
+pub tells_nowhere : (L : ℕ) (T : Words) (root p : ℕ) → (end_of (steps_to L T root p) ≡ Page → ⊥) → page_walk L T root p ≡ None
+tells_nowhere L T root p other =
+    walk_by_steps L T root p ∙ nowhere p (rights_in (steps_to L T root p)) (last_or None (steps_to L T root p)) other
 
 -- the last word that was written maps a page, which the walk arrives at
 pub record TellsPage (L : ℕ) (T : Words) (root p : ℕ) (level word : ℕ) : Type 0 where
   pub low : 1 ≤ level
   pub high : level ≤ 3
-  pub arrives : let r = rights_of (words_in (steps_from no_limits T p L root)) in
+  pub arrives : let r = rights_in (steps_to L T root p) in
       page_walk L T root p ≡ Some (record { address = page_start level word + p % span level; write = r.write; user = r.user })
 
-pub tells_page : (L : ℕ) (T : Words) (root p : ℕ) (before after : List Entry) (why count : ℕ) (d : Entry)
-    → Writes (steps_from no_limits T p L root) before why after count → why ≡ 0
+pub tells_page : (L : ℕ) (T : Words) (root p : ℕ) (before after : List WalkEntry) (count : ℕ) (d : WalkEntry)
+    → Writes (steps_to L T root p) before after count → end_of (steps_to L T root p) ≡ Page
     → let e = slice_index_or after (count - 1) d in TellsPage L T root p e.level e.word
-tells_page L T root p before after why count d writes is =
-    let steps = steps_from no_limits T p L root in
-    let found = at_page_by (last_or None steps) (sym writes.end ∙ is) in
+tells_page L T root p before after count d writes is =
+    let steps = steps_to L T root p in
+    let found = at_page_by (last_or None steps) is in
     let t = found.0 in
     let low = page_low t.level t.word found.1.page in
-    subst (λ (e : Entry). TellsPage L T root p e.level e.word) (sym (last_written steps before after why count d t writes found.1.last))
-    (record { low = low.0; high = low.1; arrives = walk_by_steps L T root p ∙ there_at p (rights_of (words_in steps)) (last_or None steps) t found.1 })
+    subst (λ (e : WalkEntry). TellsPage L T root p e.level e.word) (sym (last_written steps before after count d t writes found.1.last))
+    (record { low = low.0; high = low.1; arrives = walk_by_steps L T root p ∙ there_at p (rights_in steps) (last_or None steps) t found.1 })
 
--- so that is what is told
-pub tells : (L : ℕ) (T : Words) (root p level word to : ℕ) (r : Rights) (before : WalkResult) → TellsPage L T root p level word
-    → r ≡ rights_of (words_in (steps_from no_limits T p L root)) → to ≡ page_start level word + p % span level
-    → Tells (page_walk L T root p) (rights_of (words_in (steps_from no_limits T p L root))).execute ok before
+-- so that is what is told, with the offset of an equal position
+pub tells : (L : ℕ) (T : Words) (root p q level word to : ℕ) (r : Rights) (before : WalkResult) → TellsPage L T root p level word
+    → r ≡ rights_in (steps_to L T root p) → q ≡ p → to ≡ page_start level word + q % span level
+    → Tells (page_walk L T root p) (rights_in (steps_to L T root p)).execute ok before
     (record { address = to; write = r.write; user = r.user; execute = r.execute })
-tells L T root p level word to r before page rights at =
-    let all = rights_of (words_in (steps_from no_limits T p L root)) in
+tells L T root p q level word to r before page rights same at =
+    let all = rights_in (steps_to L T root p) in
     subst (λ o. Tells o all.execute ok before (record { address = to; write = r.write; user = r.user; execute = r.execute })) (sym page.arrives) (
       refl,
       ap (λ (k : Rights). record { address = to; write = k.write; user = k.user; execute = k.execute }) rights
-          ∙ ap (λ (n : ℕ). record { address = n; write = all.write; user = all.user; execute = all.execute }) at,
+          ∙ ap (λ (n : ℕ). record { address = n; write = all.write; user = all.user; execute = all.execute }) (at ∙ ap (λ x. page_start level word + x % span level) same),
     )
 
--- what is told at an equal position, with an equal number of levels
-pub told_at : (L M : ℕ) (T : Words) (root p q : ℕ) (why : ℕ) (before after : WalkResult) → L ≡ M → p ≡ q
-    → Tells (page_walk L T root p) (rights_of (words_in (steps_from no_limits T p L root))).execute why before after
-    → Tells (page_walk M T root q) (rights_of (words_in (steps_from no_limits T q M root))).execute why before after
-told_at L M T root p q why before after levels positions told =
-    subst (λ n. Tells (page_walk n T root q) (rights_of (words_in (steps_from no_limits T q n root))).execute why before after) levels
-    (subst (λ x. Tells (page_walk L T root x) (rights_of (words_in (steps_from no_limits T x L root))).execute why before after) positions told)
+-- what is told at an equal position
+pub told_at : (L : ℕ) (T : Words) (root p q : ℕ) (before after : WalkResult) → p ≡ q
+    → Tells (page_walk L T root p) (rights_in (steps_to L T root p)).execute ok before after
+    → Tells (page_walk L T root q) (rights_in (steps_to L T root q)).execute ok before after
+told_at L T root p q before after positions told =
+    subst (λ x. Tells (page_walk L T root x) (rights_in (steps_to L T root x)).execute ok before after) positions told

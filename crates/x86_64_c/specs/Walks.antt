@@ -1,8 +1,9 @@
 -- What a page walk tells with all rights.
-use Rattle.std.specs.Prelude.{◌≡◌, ℕ, Bool, map, Option, Some, None}
+use Rattle.std.specs.Prelude.{◌≡◌, ℕ, Bool, Option, Some, None}
 use Rattle.x86_64_model.specs.Mapper.{Hierarchy}
-use Rattle.x86_64_model.specs.Mappings.{Rights, rights_of}
+use Rattle.x86_64_model.specs.Mappings.{Rights}
 use Rattle.x86_64_model.specs.PageWalk.{Walked}
+use Rattle.x86_64_mappings.specs.WalkEntries.{rights_in}
 use Rattle.x86_64_c.specs.Entries.{steps_to}
 use Rattle.x86_64_c.specs.Reads.{walk_to}
 use Rattle.x86_64_c.specs.Status as status
@@ -10,7 +11,7 @@ use Rattle.x86_64_c.specs.declared.walk.WalkResult.{WalkResult}
 
 -- Whether no entry that the walk to an address reads has NO_EXECUTE.
 abbrev pub may_execute : Hierarchy (Unit {0}) → (address : ℕ) → Bool
-may_execute h a = (rights_of (map (λ s. s.word) (steps_to h a))).execute
+may_execute h a = (rights_in (steps_to h a)).execute
 
 -- An arrival at an address with these rights, as it is written.
 abbrev pub written : (address : ℕ) → Rights → WalkResult

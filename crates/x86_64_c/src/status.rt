@@ -1,10 +1,12 @@
 //! The statuses that calls return.
 ghost use Rattle.std.specs.Prelude.{◌≡◌};
 ghost use Rattle.x86_64_c.specs.Calls as calls;
+ghost use Rattle.x86_64_c.specs.Entries.{status_of};
 ghost use Rattle.x86_64_tables.specs.MapperAnswers.{map_refusal, update_refusal};
 
 use x86_64::structures::paging::PageSize;
 use x86_64::structures::paging::mapper::{FlagUpdateError, MapToError};
+use x86_64_mappings::WalkEnd;
 
 /// Done.
 pub const OK: u32 = 0;
@@ -89,5 +91,17 @@ pub fn map_status<S: PageSize>(error: MapToError<S>) -> u32
         MapToError::FrameAllocationFailed => FRAME_ALLOCATION_FAILED,
         MapToError::ParentEntryHugePage => PARENT_ENTRY_HUGE_PAGE,
         MapToError::PageAlreadyMapped(_) => PAGE_ALREADY_MAPPED,
+    }
+}
+
+/// Returns the status that says why a walk ends.
+pub fn walk_status(end: WalkEnd) -> u32
+    ensures { result ≡ status_of end }
+{
+    match end {
+        WalkEnd::Page => OK,
+        WalkEnd::NotPresent => NOT_MAPPED,
+        WalkEnd::HugePage => PARENT_ENTRY_HUGE_PAGE,
+        WalkEnd::NoTable => NO_TABLE,
     }
 }

@@ -5,12 +5,11 @@ ghost use Rattle.x86_64_c.specs.Walks as walks;
 ghost use Rattle.x86_64_model.specs.PageWalk.{page_start};
 ghost use Rattle.x86_64_model.specs.Position.{span as span_of};
 
-use crate::entries::{Entry, MOST_LEVELS, Read, read_entries};
 use crate::given::{Hierarchy, Located, locate};
 use crate::status;
 use x86_64::structures::paging::PageTable;
 use x86_64::{FiveLevels, FourLevels, LentMemory, LevelCount, TableMemory, VirtAddrIn};
-use x86_64_mappings::span;
+use x86_64_mappings::{EntriesRead, MOST_LEVELS, WalkEnd, WalkEntry, read_entries, span};
 use x86_64_tables::page_table::Rights;
 
 /// The bits of an entry that are the address of a frame.
@@ -92,16 +91,15 @@ fn walk_in<L: LevelCount, T: TableMemory>(
     };
     let position = address.position();
     let Located { root, mapping } = located;
-    let mut entries = [Entry::NONE; MOST_LEVELS];
-    let Read { count, rights, end } = read_entries(
+    let mut entries = [WalkEntry::NONE; MOST_LEVELS];
+    let EntriesRead { count, rights, end } = read_entries(
         memory,
         &mapping,
         root,
-        L::LEVELS,
-        position,
+        address,
         &mut entries,
     );
-    if end != status::OK {
+    if end != WalkEnd::Page {
         return status::NOT_MAPPED;
     }
     let page = entries[count - 1];

@@ -17,3 +17,4 @@ pub mod Digits
 pub mod Merging
 pub mod Stretches
 mod FileParts
+mod KernelTexts

@@ -4,7 +4,8 @@ use Rattle.std.proofs.lemmas.Bool.{cases_lt, lt-leb, lt-ltb, le-ltb}
 use Rattle.std.proofs.lemmas.List.{length-drop, take_all}
 use Rattle.std.proofs.Math.Nat.{min-eq_left, min-eq_right}
 use Rattle.std.proofs.Math.Seq.{take-append_seam}
-use Rattle.x86_64_dump.specs.VmCoreInfo.{text_of}
+use Rattle.x86_64_dump.specs.VmCoreInfo.{descriptor_of, text_of}
+use Rattle.x86_64_dump.specs.Lime.{after}
 use Rattle.x86_64_dump.specs.Numbers.{u32_at, u64_at}
 use Rattle.x86_64_dump.specs.Source.{part_of}
 use Rattle.x86_64_dump.specs.Notes.{padded, kind_named, kind_at, note_at, notes_size, is_note_cut, register_of}
@@ -158,9 +159,9 @@ within_stop kind file segments i room size segment notes all here sized full bef
 pub within_end : (kind : NoteKind) (file : List ℕ) (segments : List Segment) (i room : ℕ) (notes all : List Note) → drop i segments ≡ [] → notes ++ notes_within kind room file (drop i segments) ≡ all → ◌≡◌ {A = Result (List Note) Fault} (Ok all) (Ok notes)
 within_end kind file segments i room notes all none before = ap Ok (sym before ∙ ap (λ after. notes ++ notes_within kind room file after) none ∙ append-nil notes)
 
--- the text of a note, of which the file may lack a part
-pub text_read : (file : List ℕ) (note : Note) (long size : ℕ) → long ≡ length file → size ≡ min (min note.size 0x1_0000) (long - note.offset) → part_of file note.offset size ≡ text_of file note
-text_read file note long size counted is =
+-- the descriptor of a note, of which the file may lack a part
+pub descriptor_read : (file : List ℕ) (note : Note) (long size : ℕ) → long ≡ length file → size ≡ min (min note.size 0x1_0000) (long - note.offset) → part_of file note.offset size ≡ descriptor_of file note
+descriptor_read file note long size counted is =
     let n = min note.size 0x1_0000 in
     let left = length file - note.offset in
     ap (part_of file note.offset) (is ∙ ap (λ all. min n (all - note.offset)) counted)
@@ -171,8 +172,21 @@ text_read file note long size counted is =
     (λ fits. ap (part_of file note.offset) (min-eq_left {n = n} {m = left} fits))
     (cases_lt left n)
 
--- the text from a buffer
-pub text_whole : (file buffer rest : List ℕ) (note : Note) (long size n : ℕ) → long ≡ length file → size ≡ min (min note.size 0x1_0000) (long - note.offset)
-    → buffer ≡ part_of file note.offset size → length buffer ≡ n → text_of file note ≡ take n (buffer ++ rest)
-text_whole file buffer rest note long size n counted is read filled =
-    sym (text_read file note long size counted is) ∙ sym read ∙ sym (ap (λ m. take m (buffer ++ rest)) (sym filled) ∙ take-append_seam buffer rest)
+-- the descriptor from a buffer
+pub descriptor_whole : (file buffer rest : List ℕ) (note : Note) (long size n : ℕ) → long ≡ length file → size ≡ min (min note.size 0x1_0000) (long - note.offset)
+    → buffer ≡ part_of file note.offset size → length buffer ≡ n → descriptor_of file note ≡ take n (buffer ++ rest)
+descriptor_whole file buffer rest note long size n counted is read filled =
+    sym (descriptor_read file note long size counted is) ∙ sym read ∙ sym (ap (λ m. take m (buffer ++ rest)) (sym filled) ∙ take-append_seam buffer rest)
+
+-- the text of a note of which a part was read is this part
+pub text_cut : (file : List ℕ) (note : Note) (read : List ℕ) → 0x1_0000 < note.size → ◌≡◌ {A = Result (List ℕ) Fault} (Ok (descriptor_of file note)) (Ok read)
+    → ◌≡◌ {A = Result (List ℕ) Fault} (Ok (text_of file note)) (Ok read)
+text_cut file note read long is =
+    ap (λ b. Ok (descriptor_of file note ++ cond b [] (10 ∷ []))) (lt-ltb 0x1_0000 note.size long) ∙ ap Ok (append-nil (descriptor_of file note)) ∙ is
+
+-- otherwise a line feed is put behind the descriptor
+pub text_ended : (file : List ℕ) (note : Note) (read now : List ℕ) → note.size ≤ 0x1_0000 → ◌≡◌ {A = Result (List ℕ) Fault} (Ok (descriptor_of file note)) (Ok read) → now ≡ read ++ 10 ∷ []
+    → ◌≡◌ {A = Result (List ℕ) Fault} (Ok (text_of file note)) (Ok now)
+text_ended file note read now short is pushed =
+    ap (λ b. Ok (descriptor_of file note ++ cond b [] (10 ∷ []))) (le-ltb 0x1_0000 note.size short)
+    ∙ ap (λ found. after found (λ bytes. Ok (bytes ++ 10 ∷ []))) is ∙ ap Ok (sym pushed)

@@ -1,13 +1,12 @@
 -- Ranges: the ranges of a LiME file, read one after another.
-use Rattle.std.proofs.Common.{◌≡◌, ◌∙◌, ◌+◌, ◌≤◌, ◌<◌, ℕ, zero, suc, Bool, true, false, cond, List, [], ◌∷◌, ◌++◌, append_assoc, append-nil, length, nat_lt, Result, Ok, Err, refl, ap, sym, arith}
+use Rattle.std.proofs.Common.{◌≡◌, ◌∙◌, ◌+◌, ◌≤◌, ◌<◌, ℕ, zero, suc, Bool, true, false, true≢false, cond, List, [], ◌∷◌, ◌++◌, append_assoc, append-nil, length, nat_lt, Result, Ok, Err, refl, ap, sym, arith}
 use Rattle.std.proofs.lemmas.Bool.{lt-ltb, le-ltb}
 use Rattle.x86_64_dump.specs.Source.{part_of}
-use Rattle.x86_64_dump.specs.Lime.{after, lime_segments, range_at, range_behind, range_header_at, ranges_from}
+use Rattle.x86_64_dump.specs.Lime.{after, cut_header, lime_segments, range_at, range_behind, range_header_at, ranges_from}
 use Rattle.x86_64_dump.specs.Opening.{Fails, GivesAtOnce}
 use Rattle.x86_64_dump.specs.declared.error.DumpError.{DumpError}
 use Rattle.x86_64_dump.specs.declared.error.DumpError.TheVariants as errors
 use Rattle.x86_64_dump.specs.declared.error.Fault.{Fault}
-use Rattle.x86_64_dump.specs.declared.error.Fault.TheVariants as faults
 use Rattle.x86_64_dump.specs.declared.lime.RangeHeader.{RangeHeader}
 use Rattle.x86_64_dump.specs.declared.segment.Segment.{Segment}
 use Rattle.x86_64_dump.proofs.Parts.{part_shows, range_header_shown}
@@ -15,20 +14,27 @@ use Rattle.x86_64_dump.proofs.Parts.{part_shows, range_header_shown}
 -- ---- one range
 
 -- the file ends before the header does
-pub header_cut : (file : List ℕ) (at size : ℕ) → size ≡ length file → nat_lt size (at + 32) ≡ true → range_at file at ≡ Err (faults.RangeHeaderCut at size)
+pub header_cut : (file : List ℕ) (at size : ℕ) → size ≡ length file → nat_lt size (at + 32) ≡ true → range_at file at ≡ cut_header size at
 unfolding range_at
 header_cut file at size long cut =
-    ap (λ b. cond b (Err (faults.RangeHeaderCut at (length file))) (range_behind (length file) at (range_header_at file at))) (ap (λ n. nat_lt n (at + 32)) (sym long) ∙ cut)
-    ∙ ap (λ n. Err (faults.RangeHeaderCut at n)) (sym long)
+    ap (λ b. cond b (cut_header (length file) at) (range_behind at (range_header_at file at))) (ap (λ n. nat_lt n (at + 32)) (sym long) ∙ cut)
+    ∙ ap (λ n. cut_header n at) (sym long)
 
 -- the header was read
 pub header_read : (file : List ℕ) (at size : ℕ) (part : List ℕ) (header : RangeHeader) → size ≡ length file → nat_lt size (at + 32) ≡ false → part ≡ part_of file at 32
-    → header ≡ range_header_at part 0 → range_at file at ≡ range_behind size at header
+    → header ≡ range_header_at part 0 → range_at file at ≡ range_behind at header
 unfolding range_at
 header_read file at size part header long whole read told =
-    ap (λ b. cond b (Err (faults.RangeHeaderCut at (length file))) (range_behind (length file) at (range_header_at file at))) (ap (λ n. nat_lt n (at + 32)) (sym long) ∙ whole)
-    ∙ ap (λ n. range_behind n at (range_header_at file at)) (sym long)
-    ∙ ap (range_behind size at) (sym (told ∙ ap (λ bytes. range_header_at bytes 0) read ∙ range_header_shown (part_of file at 32) file at (part_shows file at 32)))
+    ap (λ b. cond b (cut_header (length file) at) (range_behind at (range_header_at file at))) (ap (λ n. nat_lt n (at + 32)) (sym long) ∙ whole)
+    ∙ ap (range_behind at) (sym (told ∙ ap (λ bytes. range_header_at bytes 0) read ∙ range_header_shown (part_of file at 32) file at (part_shows file at 32)))
+
+-- a call that reads nothing gives what is expected, whether or not reads may fail
+pub at_once_if : {X : Type 0} (may : Bool) (result : Result X DumpError) (found expected : Result X Fault) → expected ≡ found → GivesAtOnce false (λ (x : X). x) result found
+    → GivesAtOnce may (λ (x : X). x) result expected
+at_once_if may (Ok x) found expected same is = same ∙ is
+at_once_if may (Err errors.OutOfMemory) found expected same is = is
+at_once_if may (Err (errors.Read error)) found expected same is = absurd (true≢false (sym is))
+at_once_if may (Err (errors.Fault fault)) found expected same is = same ∙ is
 
 -- ---- the ranges, one after another
 

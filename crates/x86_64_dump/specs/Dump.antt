@@ -7,6 +7,7 @@ use Rattle.x86_64_model.specs.Entry.{is_frame}
 use Rattle.x86_64_model.specs.Memory.{Words}
 use Rattle.x86_64_dump.specs.Numbers.{u32_at, u64_at}
 use Rattle.x86_64_dump.specs.declared.formats.Format.{Format}
+use Rattle.x86_64_dump.specs.declared.kernel_text.KernelText.{KernelText}
 use Rattle.x86_64_dump.specs.declared.segment.Segment.{Segment}
 
 -- the segment that the program header at an offset of the file describes
@@ -38,11 +39,13 @@ without bits word = bit_and word (2 ^ 64 - 1 - bits)
 unfoldable pub words_at : (cleared : ℕ) → (file : List ℕ) → (offset : ℕ) → List ℕ
 words_at cleared file offset = map (λ i. without cleared (u64_at file (offset + 8 * i))) (range_with_len 0 512)
 
--- a file, its format, its segments, and the bits that are cleared in each word that is read
+-- a file, its format, its segments, the texts in memory that say where the kernel's root is, and the bits that are cleared in each
+-- word that is read
 pub record Contents : Type 0 where
   pub file : List ℕ
   pub format : Format
   pub segments : List Segment
+  pub texts : List KernelText
   pub cleared : ℕ
 
 -- the words of each frame that the dump has

@@ -4,13 +4,19 @@ use Rattle.x86_64_dump.specs.VmCoreInfo.{key_name}
 use Rattle.x86_64_dump.specs.declared.error.Fault.{Fault}
 use Rattle.x86_64_dump.specs.declared.error.Fault.TheVariants as faults
 use Rattle.x86_64_dump.specs.declared.vmcoreinfo.KernelFault.{KernelFault}
-use Rattle.x86_64_dump.specs.declared.vmcoreinfo.KernelFault.TheVariants.{Missing, NoNumber, NoFrame}
+use Rattle.x86_64_dump.specs.declared.vmcoreinfo.KernelFault.TheVariants.{Missing, NoNumber, NoFrame, Differ}
+
+-- two texts in memory that say different kernels
+unfoldable pub differ_text : (first other : ℕ) → List ℕ
+differ_text first other = codes "the texts of VMCOREINFO at bytes " ++ (decimal first ++ (codes " and " ++ (decimal other
+    ++ codes " of the file differ: give --vmcoreinfo and one of these numbers, or --cr3")))
 
 abbrev pub kernel_fault_text : KernelFault → List ℕ
-kernel_fault_text (Missing key) = codes "the note VMCOREINFO has no line " ++ key_name key ++ codes ": give --cr3"
-kernel_fault_text (NoNumber key) = codes "the note VMCOREINFO has no number below 2^64 behind " ++ key_name key ++ codes ": give --cr3"
+kernel_fault_text (Missing key) = codes "VMCOREINFO has no line " ++ key_name key ++ codes ": give --cr3"
+kernel_fault_text (NoNumber key) = codes "VMCOREINFO has no number below 2^64 behind " ++ key_name key ++ codes ": give --cr3"
 kernel_fault_text NoFrame =
-    codes "SYMBOL(swapper_pg_dir) - 0xffffffff80000000 + NUMBER(phys_base) of the note VMCOREINFO is no frame's address: give --cr3"
+    codes "SYMBOL(swapper_pg_dir) - 0xffffffff80000000 + NUMBER(phys_base) of VMCOREINFO is no frame's address: give --cr3"
+kernel_fault_text (Differ first other) = differ_text first other
 
 -- where the descriptor of a note begins, and how long it is
 unfoldable pub note_text : (offset size : ℕ) → List ℕ

@@ -1,6 +1,6 @@
 -- Formats: the formats of files, by the magic numbers that they begin with. System V ABI, "ELF Identification"; LiME, "lime.h";
--- AVML, "image.rs"; makedumpfile, "makedumpfile.h", "diskdump_mod.h"; VMware's states as crash reads them, "vmware_vmss.h"; RFC 1952,
--- RFC 8878.
+-- AVML, "image.rs"; makedumpfile, "makedumpfile.h", "diskdump_mod.h"; VMware's states as crash reads them, "vmware_vmss.h"; VirtualBox,
+-- "SSM.cpp"; QEMU, "savevm.h"; libvirt, "qemu_saveimage.h"; Windows' hibernation files as Volatility reads them; RFC 1952, RFC 8878.
 use Rattle.std.specs.Prelude.{ℕ, Bool, true, false, List, [], ◌∷◌, ◌++◌, codes, drop, nat_eq, option_map, unwrap_or}
 use Rattle.std.specs.List.{find, starts_with}
 use Rattle.x86_64_dump.specs.declared.formats.Format.{Format}
@@ -32,11 +32,19 @@ rows =
     ∷ unread_row 0 (codes "DISKDUMP") unread.Kdump
     ∷ unread_row 0 (codes "PAGEDU64") unread.WindowsCrash
     ∷ unread_row 0 (codes "PAGEDUMP") unread.WindowsCrash
+    ∷ unread_row 0 (codes "HIBR") unread.WindowsHibernation
+    ∷ unread_row 0 (codes "hibr") unread.WindowsHibernation
+    ∷ unread_row 0 (codes "WAKE") unread.WindowsHibernation
+    ∷ unread_row 0 (codes "wake") unread.WindowsHibernation
     ∷ unread_row 0 (0xd0 ∷ 0xbe ∷ 0xd0 ∷ 0xbe ∷ []) unread.VmwareState
     ∷ unread_row 0 (0xd0 ∷ 0xbe ∷ 0xd2 ∷ 0xbe ∷ []) unread.VmwareState
     ∷ unread_row 0 (0xd2 ∷ 0xbe ∷ 0xd2 ∷ 0xbe ∷ []) unread.VmwareState
     ∷ unread_row 0 (0xd3 ∷ 0xbe ∷ 0xd3 ∷ 0xbe ∷ []) unread.VmwareState
     ∷ unread_row 0 (0xd1 ∷ 0xba ∷ 0xd1 ∷ 0xba ∷ []) unread.VmwareState
+    ∷ unread_row 0 (0x7f ∷ codes "VirtualBox SavedState V") unread.VirtualBoxState
+    ∷ unread_row 0 (codes "QEVM") unread.QemuState
+    ∷ unread_row 0 (codes "LibvirtQemudSave") unread.QemuState
+    ∷ unread_row 0 (codes "LibvirtQemudPart") unread.QemuState
     ∷ unread_row 0 (0x1f ∷ 0x8b ∷ []) unread.Gzip
     ∷ unread_row 0 (0xfd ∷ codes "7zXZ" ++ 0 ∷ []) unread.Xz
     ∷ unread_row 0 (0x28 ∷ 0xb5 ∷ 0x2f ∷ 0xfd ∷ []) unread.Zstd

@@ -7,6 +7,7 @@ pub mod Opening
 pub mod Opened
 pub mod Notes
 pub mod VmCoreInfo
+pub mod KernelTexts
 pub mod FaultTexts
 pub mod Source
 pub mod Reached

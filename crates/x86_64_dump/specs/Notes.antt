@@ -85,6 +85,10 @@ processors_of dump = notes_of Qemu dump
 abbrev pub is_of_virtualbox : Contents → Bool
 is_of_virtualbox dump = not (length (notes_of VirtualBox dump) == 0)
 
+-- whether there are notes of processors, or Linux's note VMCOREINFO
+abbrev pub is_noted : Contents → Bool
+is_noted dump = not (length (notes_of Qemu dump) == 0) || not (length (notes_of VmCoreInfo dump) == 0)
+
 -- whether a note's descriptor, or the file, ends before the register of eight bytes at an offset of the descriptor does
 abbrev pub is_note_cut : (file_length : ℕ) → Note → (at : ℕ) → Bool
 is_note_cut file_length note at = nat_lt note.size (at + 8) || nat_lt file_length (note.offset + (at + 8))

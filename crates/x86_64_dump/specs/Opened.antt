@@ -5,9 +5,15 @@ use Rattle.x86_64_model.specs.Memory.{Words}
 use Rattle.x86_64_dump.specs.declared.dump.Dump.{Dump}
 use Rattle.x86_64_dump.specs.declared.source.ByteSource.{Ghosts}
 
--- the bytes of its source, its format, its segments, and the bits that are cleared
+-- the bytes of its source, its format, its segments, its texts, and the bits that are cleared
 abbrev pub opened : {S : Type 0} → {G : Ghosts S} → (S → List ℕ) → Dump S G → Contents
-opened bytes dump = record { file = bytes dump.source; format = dump.format; segments = dump.segments.items; cleared = dump.cleared }
+opened bytes dump = record {
+  file = bytes dump.source;
+  format = dump.format;
+  segments = dump.segments.items;
+  texts = dump.texts.items;
+  cleared = dump.cleared;
+}
 
 -- the words of its frames
 abbrev pub words_opened : {S : Type 0} → {G : Ghosts S} → (S → List ℕ) → Dump S G → Words

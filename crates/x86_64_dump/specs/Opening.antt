@@ -1,5 +1,5 @@
 -- Opening: which files are dumps, and their segments. System V ABI, "ELF Header"; a core file has the header of any ELF file.
-use Rattle.std.specs.Prelude.{◌≡◌, ℕ, ◌+◌, ◌*◌, ◌==◌, ◌&&◌, Bool, true, not, cond, if◌then◌else◌, List, length, nat_lt, Option, None, Some, Result, Ok, Err, ⊤}
+use Rattle.std.specs.Prelude.{◌≡◌, ℕ, ◌+◌, ◌*◌, ◌==◌, ◌&&◌, Bool, true, not, cond, if◌then◌else◌, List, [], length, nat_lt, Option, None, Some, Result, Ok, Err, ⊤}
 use Rattle.std.specs.List.{list_any}
 use Rattle.x86_64_dump.specs.Formats.{format_of}
 use Rattle.x86_64_dump.specs.Lime.{after, lime_segments}
@@ -76,7 +76,7 @@ segments_of (formats.Unread format) file placement = Err (faults.Unread format)
 
 -- the contents of a file of a format, or why it isn't a dump
 abbrev pub contents_as : Format → (file : List ℕ) → Placement → Result Contents Fault
-contents_as format file placement = after (segments_of format file placement) (λ segments. Ok (record { file = file; format = format; segments = segments; cleared = 0 }))
+contents_as format file placement = after (segments_of format file placement) (λ segments. Ok (record { file = file; format = format; segments = segments; texts = []; cleared = 0 }))
 
 -- likewise for the format that the file's beginning has, and a base
 abbrev pub contents_of : (file : List ℕ) → (base : Option ℕ) → Result Contents Fault

@@ -1,6 +1,6 @@
 -- VMCOREINFO: what Linux's note of this name says of its kernel. Its descriptor is text, whose lines are KEY=VALUE.
 -- Linux, "VMCOREINFO" in the documentation of kdump.
-use Rattle.std.specs.Prelude.{ℕ, ◌+◌, ◌-◌, ◌%◌, ◌^◌, ◌++◌, ◌==◌, ◌&&◌, Bool, not, codes, if◌then◌else◌, min, List, [], ◌∷◌, drop, length, nat_lt, Option, None, Some, option_map, slice_get, take, Result, Ok, Err}
+use Rattle.std.specs.Prelude.{ℕ, ◌+◌, ◌-◌, ◌%◌, ◌^◌, ◌++◌, ◌==◌, ◌&&◌, Bool, true, false, not, codes, if◌then◌else◌, min, List, [], ◌∷◌, drop, length, nat_lt, Option, None, Some, option_map, slice_get, take, Result, Ok, Err}
 use Rattle.std.specs.Char.{is_digit}
 use Rattle.std.specs.List.{find, list_all, slice_split}
 use Rattle.std.specs.Option.{ok_or, option_and_then, option_map_or, unwrap_or}
@@ -15,6 +15,7 @@ use Rattle.x86_64_dump.specs.Source.{part_of}
 use Rattle.x86_64_dump.specs.declared.error.Fault.{Fault}
 use Rattle.x86_64_dump.specs.declared.error.Fault.TheVariants as faults
 use Rattle.x86_64_dump.specs.declared.note.NoteKind.TheVariants.{VmCoreInfo}
+use Rattle.x86_64_dump.specs.declared.kernel_text.KernelText.{KernelText}
 use Rattle.x86_64_dump.specs.declared.note.Note.{Note}
 use Rattle.x86_64_dump.specs.declared.vmcoreinfo.Key.{Key}
 use Rattle.x86_64_dump.specs.declared.vmcoreinfo.Key.TheVariants.{SwapperPgDir, PhysBase, FiveLevels, SmeMask}
@@ -22,11 +23,15 @@ use Rattle.x86_64_dump.specs.declared.vmcoreinfo.Kernel.{Kernel}
 use Rattle.x86_64_dump.specs.declared.vmcoreinfo.KernelFault.{KernelFault}
 use Rattle.x86_64_dump.specs.declared.vmcoreinfo.Shift.{Shift}
 use Rattle.x86_64_dump.specs.declared.vmcoreinfo.Shift.TheVariants.{Up, Down}
-use Rattle.x86_64_dump.specs.declared.vmcoreinfo.KernelFault.TheVariants.{Missing, NoNumber, NoFrame}
+use Rattle.x86_64_dump.specs.declared.vmcoreinfo.KernelFault.TheVariants.{Missing, NoNumber, NoFrame, Differ}
 
--- the text of a note: the first 65536 bytes of its descriptor
+-- the first 65536 bytes of a note's descriptor
+abbrev pub descriptor_of : (file : List ℕ) → Note → List ℕ
+descriptor_of file note = part_of file note.offset (min note.size 0x1_0000)
+
+-- the text of a note: these bytes, and a line feed behind them if they are all, since the last line may lack its own
 abbrev pub text_of : (file : List ℕ) → Note → List ℕ
-text_of file note = part_of file note.offset (min note.size 0x1_0000)
+text_of file note = descriptor_of file note ++ (if nat_lt 0x1_0000 note.size then [] else 10 ∷ [])
 
 abbrev pub all_but_last : List (List ℕ) → List (List ℕ)
 all_but_last [] = []
@@ -111,13 +116,51 @@ kernel_by file None = Ok None
 kernel_by file (Some note) = result_map_both Some faults.VmCoreInfo (kernel_of (text_of file note))
 
 -- the root of the kernel by the first of the notes VMCOREINFO, if there is one
+abbrev pub noted_kernel : Contents → Result (Option Kernel) Fault
+noted_kernel dump = kernel_by dump.file (slice_get (notes_of VmCoreInfo dump) 0)
+
+-- ---- texts in memory, see KernelTexts
+
+-- the text at an offset of the file, of at most 4096 bytes, or why it doesn't say where the root is
+abbrev pub text_at : (file : List ℕ) → (offset : ℕ) → Result KernelText Fault
+text_at file offset = result_map_both (λ kernel. record { offset = offset; kernel = kernel }) faults.VmCoreInfo (kernel_of (part_of file offset 4096))
+
+abbrev pub same_levels : (one other : Levels) → Bool
+same_levels Four Four = true
+same_levels Five Five = true
+same_levels one other = false
+
+-- whether two kernels are the same
+abbrev pub same_kernel : (one other : Kernel) → Bool
+same_kernel k m = k.root == m.root && same_levels k.levels m.levels && k.encryption_mask == m.encryption_mask
+
+-- a text, unless there is another one
+abbrev pub unless_other : KernelText → (other : Option KernelText) → Result (Option KernelText) KernelFault
+unless_other text None = Ok (Some text)
+unless_other text (Some other) = Err (Differ text.offset other.offset)
+
+abbrev pub agreed_with : (first : Option KernelText) → (texts : List KernelText) → Result (Option KernelText) KernelFault
+agreed_with None texts = Ok None
+agreed_with (Some first) texts = unless_other first (find (λ text. not (same_kernel text.kernel first.kernel)) texts)
+
+-- the first of some texts, if there is one and all say the same kernel
+abbrev pub agreed_text : List KernelText → Result (Option KernelText) KernelFault
+agreed_text texts = agreed_with (slice_get texts 0) texts
+
+-- the root of the kernel by a text in memory, or if there is none by a note
+abbrev pub kernel_by_text : Contents → Result (Option KernelText) KernelFault → Result (Option Kernel) Fault
+kernel_by_text dump (Ok (Some text)) = Ok (Some text.kernel)
+kernel_by_text dump (Ok None) = noted_kernel dump
+kernel_by_text dump (Err fault) = Err (faults.VmCoreInfo fault)
+
+-- the root of the kernel by the texts in memory, or if there are none by the first of the notes
 abbrev pub kernel_in : Contents → Result (Option Kernel) Fault
-kernel_in dump = kernel_by dump.file (slice_get (notes_of VmCoreInfo dump) 0)
+kernel_in dump = kernel_by_text dump (agreed_text dump.texts)
 
 abbrev pub mask_by : Result (Option Kernel) Fault → ℕ
 mask_by (Ok (Some kernel)) = kernel.encryption_mask
 mask_by kernel = 0
 
--- the dump with the bits cleared in each word by which the kernel marks encrypted memory, as far as the note says them
+-- the dump with the bits cleared in each word by which the kernel marks encrypted memory, as far as VMCOREINFO says them
 abbrev pub decrypted : Contents → Contents
 decrypted dump = record dump { cleared = mask_by (kernel_in dump) }

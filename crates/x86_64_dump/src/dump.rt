@@ -1,5 +1,5 @@
 //! Dump files.
-ghost use Rattle.std.specs.Prelude.{◌≡◌, ◌+◌, ◌-◌, ◌*◌, ◌≤◌, ◌<◌, ◌^◌, ℕ, true, false, if◌then◌else◌, [], IfOk, IfErr, OnOk, IfSome, is_some, Ok, Err, Some, None, length};
+ghost use Rattle.std.specs.Prelude.{◌≡◌, ◌+◌, ◌-◌, ◌*◌, ◌≤◌, ◌<◌, ◌^◌, ℕ, true, false, if◌then◌else◌, [], IfOk, IfErr, OnOk, IfSome, is_err, is_some, Ok, Err, Some, None, length};
 ghost use Rattle.std.proofs.Props.{props};
 ghost use Rattle.x86_64_dump.specs.Dump.{frame_offset, words_at};
 ghost use Rattle.x86_64_dump.specs.private.Search.{AreSorted, offset_at};
@@ -9,13 +9,16 @@ use crate::error::{DumpError, Fault};
 use crate::file_part::FilePart;
 use crate::formats::{Format, read_format};
 use crate::frame::{is_cut_off, set_words, words_in};
+use crate::kernel_text::{KernelText, agreed_text};
+use crate::memory_search::read_texts;
 use crate::note::{Note, NoteKind};
-use crate::notes::{read_notes, read_register, read_text};
+use crate::notes::{read_descriptor, read_notes, read_register, read_text};
 use crate::opening::read_segments;
 use crate::placement::Placement;
 use crate::search::{Stretch, offset_at, sorted_stretches};
 use crate::segment::Segment;
 use crate::source::ByteSource;
+use crate::tables::Progress;
 use crate::vmcoreinfo::Kernel;
 use std::alloc::Global;
 use std::io;
@@ -25,14 +28,15 @@ use x86_64_tables::page_table::PageTable;
 
 /// The physical memory in a dump file, read frame by frame.
 ///
-/// Contracts see it as its file, its format, its segments, and the bits that are cleared in each word. Only the segments are kept
-/// in memory, with what finds the one that has a frame.
+/// Contracts see it as its file, its format, its segments, the texts in memory that say where the kernel's root is, and the bits that
+/// are cleared in each word. Only the segments and what texts say are kept in memory, with what finds the segment that has a frame.
 #[derive(Drop)]
 pub struct Dump<S: ByteSource> {
     source: S,
     format: Format,
     segments: Vec<Segment>,
     stretches: Vec<Stretch>,
+    texts: Vec<KernelText>,
     cleared: u64,
     ghost order: { AreSorted stretches.items },
     ghost finds: { (frame : ℕ) → frame < 2 ^ 52 → offset_at stretches.items frame
@@ -45,9 +49,10 @@ impl<S: ByteSource> Dump<S> {
     ghost use Rattle.x86_64_dump.specs.Formats.{is_raw};
     ghost use Rattle.x86_64_dump.specs.Opening.{contents_of, contents_as, Gives, GivesAtOnce};
     ghost use Rattle.x86_64_dump.specs.Opened.{opened, holds, is_cut};
-    ghost use Rattle.x86_64_dump.specs.Notes.{is_note_cut, is_of_virtualbox, note_cut, notes_of, processors_of, register_of};
+    ghost use Rattle.x86_64_dump.specs.Notes.{is_note_cut, is_noted, is_of_virtualbox, note_cut, notes_of, processors_of, register_of};
     ghost use Rattle.x86_64_dump.specs.declared.error.DumpError.TheVariants as errors;
-    ghost use Rattle.x86_64_dump.specs.VmCoreInfo.{decrypted, kernel_in};
+    ghost use Rattle.x86_64_dump.specs.KernelTexts.{kernel_texts};
+    ghost use Rattle.x86_64_dump.specs.VmCoreInfo.{agreed_text, decrypted, kernel_in, noted_kernel, text_at};
 
     /// Opens a dump and reads which parts of the file are memory.
     ///
@@ -59,7 +64,8 @@ impl<S: ByteSource> Dump<S> {
     /// # Errors
     ///
     /// `DumpError::Fault` if the file is of a format that isn't read, an ELF file that isn't such a core file, one without memory,
-    /// one whose headers, or LiME's ranges, are damaged or cut off, or one with addresses of its own although there is a base.
+    /// one whose headers are damaged or cut off, a LiME file whose first header is cut off or of which one is damaged, or one with
+    /// addresses of its own although there is a base.
     /// `DumpError::OutOfMemory` if memory allocation fails, `DumpError::Read` if a read fails.
     pub fn open(alloc: Global, source: S, base: Option<u64>) -> Result<Dump<S>, DumpError>
         ensures { S.IsKnown → Gives S.may_fail (opened S.bytes) result (contents_of (S.bytes source) base) }
@@ -92,12 +98,13 @@ impl<S: ByteSource> Dump<S> {
             format,
             segments,
             stretches,
+            texts: Vec::new(alloc),
             cleared: 0,
         })
     }
 
     /// Returns the dump with the bits cleared in each word that is read by which Linux marks encrypted memory (AMD's SME), as
-    /// `NUMBER(sme_mask)` of its note VMCOREINFO says. If that note is missing or faulty, no bits are.
+    /// `NUMBER(sme_mask)` of VMCOREINFO says, see [`Dump::kernel`]. If it is missing or faulty, no bits are.
     ///
     /// # Errors
     ///
@@ -116,8 +123,37 @@ impl<S: ByteSource> Dump<S> {
             format: self.format,
             segments: self.segments,
             stretches: self.stretches,
+            texts: self.texts,
             cleared,
         })
+    }
+
+    /// Returns the dump with these texts as those that say where the kernel's root is.
+    pub fn with_texts(self, texts: Vec<KernelText>) -> Dump<S>
+        ensures { opened S.bytes result ≡ record (opened S.bytes self) { texts = texts.items } }
+    {
+        Dump {
+            source: self.source,
+            format: self.format,
+            segments: self.segments,
+            stretches: self.stretches,
+            texts,
+            cleared: self.cleared,
+        }
+    }
+
+    /// Returns the texts that say where the kernel's root is.
+    pub fn texts(&self) -> &[KernelText]
+        ensures { result.now ≡ (opened S.bytes self.now).texts }
+    {
+        &self.texts
+    }
+
+    /// Returns true if two of these texts say different kernels.
+    pub fn has_differing_texts(&self) -> bool
+        ensures { result ≡ is_err (agreed_text (opened S.bytes self.now).texts) }
+    {
+        agreed_text(&self.texts).is_err()
     }
 
     /// Returns the format as which the file is read.
@@ -268,17 +304,31 @@ impl<S: ByteSource> Dump<S> {
         read_notes(alloc, &self.source, &self.segments, kind)
     }
 
-    /// Finds the root of the kernel by the first of Linux's notes VMCOREINFO, or returns `None` if there is none.
+    /// Finds the root of the kernel by the dump's texts of Linux's VMCOREINFO, see [`Dump::with_texts`], or if it has none by the first
+    /// of the notes VMCOREINFO, or returns `None` if there is none either.
     ///
-    /// The first 65536 bytes of the note's descriptor are read. Segments of notes count as for [`Dump::processors`].
+    /// The first 65536 bytes of the note's descriptor are read. If these are all, the last line may lack its line feed. Segments of
+    /// notes count as for [`Dump::processors`].
     ///
     /// # Errors
     ///
-    /// `Fault::VmCoreInfo` if there is such a note, and it doesn't say the root, the levels and the mask.
+    /// `Fault::VmCoreInfo` if the texts differ, or if there is such a note, and it doesn't say the root, the levels and the mask.
     /// `DumpError::OutOfMemory` if memory allocation fails, `DumpError::Read` if a read fails.
     pub fn kernel(&self, alloc: Global) -> Result<Option<Kernel>, DumpError>
         ensures { S.IsKnown →
             Gives S.may_fail (λ kernel. kernel) result (kernel_in (opened S.bytes self.now)) }
+    {
+        match agreed_text(&self.texts) {
+            Ok(Some(text)) => Ok(Some(text.kernel)),
+            Ok(None) => self.noted_kernel(alloc),
+            Err(fault) => Err(DumpError::Fault(Fault::VmCoreInfo(fault))),
+        }
+    }
+
+    /// Finds the root of the kernel by the first of the notes VMCOREINFO.
+    fn noted_kernel(&self, alloc: Global) -> Result<Option<Kernel>, DumpError>
+        ensures { S.IsKnown →
+            Gives S.may_fail (λ kernel. kernel) result (noted_kernel (opened S.bytes self.now)) }
     {
         let notes = self.notes(alloc, NoteKind::VmCoreInfo)?;
         let Some(note) = notes.first() else {
@@ -289,6 +339,65 @@ impl<S: ByteSource> Dump<S> {
             Ok(kernel) => Ok(Some(kernel)),
             Err(fault) => Err(DumpError::Fault(Fault::VmCoreInfo(fault))),
         }
+    }
+
+    /// Reads the text of Linux's VMCOREINFO at an offset of the file: its 4096 bytes from there on, as far as the file has them.
+    ///
+    /// # Errors
+    ///
+    /// `Fault::VmCoreInfo` if the text doesn't say the root, the levels and the mask. `DumpError::OutOfMemory` if memory allocation
+    /// fails, `DumpError::Read` if a read fails.
+    pub fn text_at(&self, alloc: Global, offset: u64) -> Result<KernelText, DumpError>
+        ensures { S.IsKnown → Gives S.may_fail (λ text. text) result
+            (text_at (opened S.bytes self.now).file offset) }
+    {
+        let note = Note {
+            kind: NoteKind::VmCoreInfo,
+            offset,
+            size: 4096,
+            span: 4096,
+        };
+        let text = read_descriptor(alloc, &self.source, &note)?;
+        match Kernel::of(&text) {
+            Ok(kernel) => Ok(KernelText { offset, kernel }),
+            Err(fault) => Err(DumpError::Fault(Fault::VmCoreInfo(fault))),
+        }
+    }
+
+    /// Finds the texts of Linux's VMCOREINFO in memory that say where the kernel's root is, and returns them in order.
+    ///
+    /// Such a text stands in a page of its own or with something before it, and ends at the page's end at the latest. Memory is
+    /// searched once from end to end: segments count as long as they have together no more bytes than the file. `progress` is called
+    /// meanwhile.
+    ///
+    /// # Errors
+    ///
+    /// `DumpError::OutOfMemory` if memory allocation fails, `DumpError::Read` if a read fails.
+    pub fn kernel_texts<G: Progress>(
+        &self,
+        alloc: Global,
+        progress: &G,
+    ) -> Result<Vec<KernelText>, DumpError>
+        ensures { S.IsKnown →
+            Gives S.may_fail (λ texts. texts.items) result (Ok (kernel_texts (opened S.bytes self.now))) }
+    {
+        let texts = read_texts(alloc, &self.source, &self.segments, progress);
+        progress.search_ended();
+        texts
+    }
+
+    /// Returns true if the dump has QEMU's notes of processors, or Linux's note VMCOREINFO.
+    ///
+    /// # Errors
+    ///
+    /// `DumpError::OutOfMemory` if memory allocation fails, `DumpError::Read` if the source can't be read.
+    pub fn is_noted(&self, alloc: Global) -> Result<bool, DumpError>
+        ensures { S.IsKnown →
+            Gives S.may_fail (λ is. is) result (Ok (is_noted (opened S.bytes self.now))) }
+    {
+        let processors = self.notes(alloc, NoteKind::Qemu)?;
+        let kernels = self.notes(alloc, NoteKind::VmCoreInfo)?;
+        Ok(!processors.is_empty() || !kernels.is_empty())
     }
 
     /// Returns true if the dump has VirtualBox's notes of processors.

@@ -89,10 +89,8 @@ pub enum Fault {
     },
     /// None of the program headers describes memory.
     NoMemory,
-    /// The file ends within the header of a range of LiME.
+    /// The file is shorter than the header of LiME's first range.
     RangeHeaderCut {
-        /// Where the header begins.
-        offset: u64,
         /// The number of bytes in the file.
         length: u64,
     },
@@ -116,17 +114,6 @@ pub enum Fault {
         first: u64,
         /// The last address.
         last: u64,
-    },
-    /// The file ends within a range of LiME.
-    RangeCut {
-        /// Where the header begins.
-        offset: u64,
-        /// The first address.
-        first: u64,
-        /// The last address.
-        last: u64,
-        /// The number of bytes in the file.
-        length: u64,
     },
     /// QEMU's note of a processor ends before a register does, or the file ends before.
     NoteCut {
@@ -199,8 +186,7 @@ impl Display for Fault {
             Fault::RangeHeaderCut { .. }
             | Fault::NoRangeHeader { .. }
             | Fault::WrongLimeVersion { .. }
-            | Fault::RangeReversed { .. }
-            | Fault::RangeCut { .. } => self.write_wrong_range(f),
+            | Fault::RangeReversed { .. } => self.write_wrong_range(f),
         }
     }
 }
@@ -286,9 +272,9 @@ impl Fault {
     /// Writes which range of a LiME file can't be read. Writes nothing for other faults.
     fn write_wrong_range<W: Write>(&self, f: &mut Formatter<W>) -> FmtResult {
         match self {
-            Fault::RangeHeaderCut { offset, length } => write!(
+            Fault::RangeHeaderCut { length } => write!(
                 f,
-                "the header of 32 bytes of a LiME range begins at byte {offset}, and the file has {length} bytes: the file is cut off"
+                "the header of 32 bytes of a LiME range begins at byte 0, and the file has {length} bytes: the file is cut off"
             ),
             Fault::NoRangeHeader { offset } => write!(
                 f,
@@ -309,15 +295,6 @@ impl Fault {
             } => write!(
                 f,
                 "the LiME range at byte {offset} is from 0x{first:x} to 0x{last:x}, which is below: the file is damaged"
-            ),
-            Fault::RangeCut {
-                offset,
-                first,
-                last,
-                length,
-            } => write!(
-                f,
-                "the LiME range at byte {offset} is from 0x{first:x} to 0x{last:x}, and the file has {length} bytes: the file is damaged or cut off"
             ),
             _ => Ok(()),
         }

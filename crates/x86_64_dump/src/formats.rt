@@ -32,8 +32,14 @@ pub enum UnreadFormat {
     Kdump,
     /// The crash dump of Windows.
     WindowsCrash,
+    /// The hibernation file of Windows.
+    WindowsHibernation,
     /// The state of a virtual machine of VMware.
     VmwareState,
+    /// The state of a virtual machine of VirtualBox.
+    VirtualBoxState,
+    /// The state of a virtual machine that QEMU wrote, by itself or for libvirt.
+    QemuState,
     /// A file that gzip compressed.
     Gzip,
     /// A file that xz compressed.
@@ -55,7 +61,7 @@ pub struct Magic(usize, &'static [u8], Format);
 const START_SIZE: u64 = 64;
 
 /// The magic numbers. The first one that a file has tells its format.
-const MAGICS: [Magic; 20] = [
+const MAGICS: [Magic; 28] = [
     Magic(0, b"\x7fELF", Format::Elf),
     Magic(0, b"EMiL", Format::Lime),
     Magic(0, b"AVML", Format::Unread(UnreadFormat::Avml)),
@@ -68,6 +74,10 @@ const MAGICS: [Magic; 20] = [
     Magic(0, b"DISKDUMP", Format::Unread(UnreadFormat::Kdump)),
     Magic(0, b"PAGEDU64", Format::Unread(UnreadFormat::WindowsCrash)),
     Magic(0, b"PAGEDUMP", Format::Unread(UnreadFormat::WindowsCrash)),
+    Magic(0, b"HIBR", Format::Unread(UnreadFormat::WindowsHibernation)),
+    Magic(0, b"hibr", Format::Unread(UnreadFormat::WindowsHibernation)),
+    Magic(0, b"WAKE", Format::Unread(UnreadFormat::WindowsHibernation)),
+    Magic(0, b"wake", Format::Unread(UnreadFormat::WindowsHibernation)),
     Magic(
         0,
         b"\xd0\xbe\xd0\xbe",
@@ -92,6 +102,22 @@ const MAGICS: [Magic; 20] = [
         0,
         b"\xd1\xba\xd1\xba",
         Format::Unread(UnreadFormat::VmwareState),
+    ),
+    Magic(
+        0,
+        b"\x7fVirtualBox SavedState V",
+        Format::Unread(UnreadFormat::VirtualBoxState),
+    ),
+    Magic(0, b"QEVM", Format::Unread(UnreadFormat::QemuState)),
+    Magic(
+        0,
+        b"LibvirtQemudSave",
+        Format::Unread(UnreadFormat::QemuState),
+    ),
+    Magic(
+        0,
+        b"LibvirtQemudPart",
+        Format::Unread(UnreadFormat::QemuState),
     ),
     Magic(0, b"\x1f\x8b", Format::Unread(UnreadFormat::Gzip)),
     Magic(0, b"\xfd7zXZ\0", Format::Unread(UnreadFormat::Xz)),
@@ -157,8 +183,17 @@ impl Display for UnreadFormat {
             UnreadFormat::WindowsCrash => {
                 "the file is a crash dump of Windows: write an ELF dump of the machine, by QEMU's `dump-guest-memory FILE`, or a raw one"
             }
+            UnreadFormat::WindowsHibernation => {
+                "the file is a hibernation file of Windows, which is compressed: write an ELF dump of the machine while it runs, by `virsh dump --memory-only` or QEMU's `dump-guest-memory FILE`, or a raw one"
+            }
             UnreadFormat::VmwareState => {
                 "the file is VMware's state of a machine, without its memory: give the `.vmem` file beside it"
+            }
+            UnreadFormat::VirtualBoxState => {
+                "the file is VirtualBox's state of a machine: write an ELF dump of it, by `VBoxManage debugvm MACHINE dumpvmcore --filename FILE`"
+            }
+            UnreadFormat::QemuState => {
+                "the file is a machine's state that QEMU or libvirt saved: write an ELF dump of the machine, by `virsh dump --memory-only` or QEMU's `dump-guest-memory FILE`"
             }
             UnreadFormat::Gzip => "the file is compressed by gzip: unpack it first, by `gunzip`",
             UnreadFormat::Xz => "the file is compressed by xz: unpack it first, by `unxz`",

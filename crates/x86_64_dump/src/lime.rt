@@ -1,6 +1,6 @@
 //! LiME files.
-ghost use Rattle.std.specs.Prelude.{◌≡◌, ◌+◌, ◌≤◌, ◌<◌, ◌^◌, length, IfOk};
-ghost use Rattle.x86_64_dump.specs.Lime.{lime_segments, range_at, range_behind, range_header_at};
+ghost use Rattle.std.specs.Prelude.{◌≡◌, ◌+◌, ◌<◌, ◌^◌, false, length, IfOk};
+ghost use Rattle.x86_64_dump.specs.Lime.{cut_header, lime_segments, range_at, range_behind, range_header_at};
 ghost use Rattle.x86_64_dump.specs.Opening.{Gives, GivesAtOnce};
 
 use crate::elf::ends_after;
@@ -32,7 +32,8 @@ pub struct RangeHeader {
     pub last: u64,
 }
 
-/// Reads the ranges of a LiME file, as segments of memory.
+/// Reads the ranges of a LiME file, as segments of memory. If the file is cut off, the last segment ends after it: it is the memory
+/// of a range, or a header.
 pub fn read_lime<S: ByteSource>(alloc: Global, source: &S) -> Result<Vec<Segment>, DumpError>
     ensures { S.IsKnown → Gives S.may_fail (λ v. v.items) result (lime_segments (S.bytes source.now)) }
 {
@@ -42,7 +43,10 @@ pub fn read_lime<S: ByteSource>(alloc: Global, source: &S) -> Result<Vec<Segment
     while at < length {
         let range = read_range(source, at)?;
         segments.push(range)?;
-        at = range.offset + range.size;
+        let Some(end) = range.offset.checked_add(range.size) else {
+            return Ok(segments);
+        };
+        at = end;
     }
     Ok(segments)
 }
@@ -52,17 +56,33 @@ fn read_range<S: ByteSource>(source: &S, at: u64) -> Result<Segment, DumpError>
     ensures range { S.IsKnown → GivesAtOnce S.may_fail (λ range. range) result
         (range_at (S.bytes source.now) at) }
     ensures after { IfOk result (λ range. at < range.offset + range.size) }
-    ensures inside { IfOk result (λ range. range.offset + range.size ≤ S.size source.now) }
 {
     let length = source.len();
     if ends_after(at, HEADER_SIZE, length) {
-        return Err(DumpError::Fault(Fault::RangeHeaderCut { offset: at, length }));
+        return cut_header(at, length);
     }
     let mut bytes = [0; 32];
     source.read_exact_at(&mut bytes, at)?;
-    match range_behind(&header_in(&bytes), at, length) {
+    match range_behind(&header_in(&bytes), at) {
         Ok(range) => Ok(range),
         Err(fault) => Err(DumpError::Fault(fault)),
+    }
+}
+
+/// Returns the header at an offset as a segment of no kind if it isn't the first one, where a file of this length ends within it.
+fn cut_header(at: u64, length: u64) -> Result<Segment, DumpError>
+    ensures header { GivesAtOnce false (λ range. range) result (cut_header length at) }
+    ensures after { IfOk result (λ range. at < range.offset + range.size) }
+{
+    if at == 0 {
+        Err(DumpError::Fault(Fault::RangeHeaderCut { length }))
+    } else {
+        Ok(Segment {
+            kind: Segment::OTHER,
+            offset: at,
+            address: 0,
+            size: HEADER_SIZE,
+        })
     }
 }
 
@@ -80,13 +100,12 @@ fn header_in(bytes: &[u8]) -> RangeHeader
     }
 }
 
-/// Returns the range behind the header at an offset of a file of this length.
+/// Returns the range behind the header at an offset.
 #[tactic(auto, unfolding(crate::specs::Lime::range_behind))]
-fn range_behind(header: &RangeHeader, at: u64, length: u64) -> Result<Segment, Fault>
-    requires { at + 32 ≤ length }
-    ensures range { result ≡ range_behind length at header.now }
+fn range_behind(header: &RangeHeader, at: u64) -> Result<Segment, Fault>
+    requires { at + 32 < 2 ^ 64 }
+    ensures range { result ≡ range_behind at header.now }
     ensures after { IfOk result (λ range. at < range.offset + range.size) }
-    ensures inside { IfOk result (λ range. range.offset + range.size ≤ length) }
 {
     let &RangeHeader { first, last, .. } = header;
     if header.magic != LIME_MAGIC {
@@ -102,19 +121,12 @@ fn range_behind(header: &RangeHeader, at: u64, length: u64) -> Result<Segment, F
             first,
             last,
         })
-    } else if last - first >= length - at - HEADER_SIZE {
-        Err(Fault::RangeCut {
-            offset: at,
-            first,
-            last,
-            length,
-        })
     } else {
         Ok(Segment {
             kind: Segment::LOAD,
             offset: at + HEADER_SIZE,
             address: first,
-            size: last - first + 1,
+            size: (last - first).saturating_add(1),
         })
     }
 }

@@ -4,7 +4,7 @@ ghost use Rattle.x86_64_dump.specs.declared.error.DumpError.TheVariants as error
 ghost use Rattle.x86_64_dump.specs.Numbers.{u32_at};
 ghost use Rattle.x86_64_dump.specs.Opening.{Gives, GivesAtOnce};
 ghost use Rattle.x86_64_dump.specs.Notes.{padded, kind_at, note_at, note_cut, notes_size, is_note_cut, register_of};
-ghost use Rattle.x86_64_dump.specs.VmCoreInfo.{text_of};
+ghost use Rattle.x86_64_dump.specs.VmCoreInfo.{descriptor_of, text_of};
 ghost use Rattle.x86_64_dump.specs.private.NotesLeft.{is_whole, if_kept, kept_notes, notes_within};
 
 use crate::elf::ends_after;
@@ -149,7 +149,8 @@ fn read_kind<S: ByteSource>(source: &S, at: u64, name_size: u32) -> io::Result<N
     Ok(NoteKind::named(name))
 }
 
-/// Reads the text of a note: its descriptor, or the first 65536 bytes of it, as far as the file has them.
+/// Reads the text of a note: its descriptor, or the first 65536 bytes of it. If these are all, a line feed is put behind them, since
+/// the last line may lack its own.
 pub fn read_text<S: ByteSource>(
     alloc: Global,
     source: &S,
@@ -158,6 +159,23 @@ pub fn read_text<S: ByteSource>(
     ensures { S.IsKnown → Gives S.may_fail (λ v. v.items) result
         (Ok (text_of (S.bytes source.now) note.now)) }
 {
+    let mut text = read_descriptor(alloc, source, note)?;
+    if note.size > TEXT_LIMIT {
+        return Ok(text);
+    }
+    text.push(b'\n')?;
+    Ok(text)
+}
+
+/// Reads the descriptor of a note, or the first 65536 bytes of it, as far as the file has them.
+pub fn read_descriptor<S: ByteSource>(
+    alloc: Global,
+    source: &S,
+    note: &Note,
+) -> Result<Vec<u8>, DumpError>
+    ensures { S.IsKnown → Gives S.may_fail (λ v. v.items) result
+        (Ok (descriptor_of (S.bytes source.now) note.now)) }
+{
     let size = note
         .size
         .min(TEXT_LIMIT)
@@ -165,9 +183,9 @@ pub fn read_text<S: ByteSource>(
     if size == 0 {
         return Ok(Vec::new(alloc));
     }
-    let mut text = vec![in alloc; 0; size as usize]?;
-    source.read_exact_at(&mut text, note.offset)?;
-    Ok(text)
+    let mut descriptor = vec![in alloc; 0; size as usize]?;
+    source.read_exact_at(&mut descriptor, note.offset)?;
+    Ok(descriptor)
 }
 
 /// Returns true if the note, or the file, ends before the register of eight bytes at an offset of its descriptor does.

@@ -1,8 +1,10 @@
-//! What Linux's note VMCOREINFO says of its kernel.
+//! What Linux's VMCOREINFO says of its kernel.
 ghost use Rattle.std.specs.Prelude.{◌≡◌, ◌≤◌, ◌<◌, ◌^◌, ◌==◌, IfSome, length};
 ghost use Rattle.std.specs.List.{position};
 ghost use Rattle.std.specs.Option.{SomeIff, option_copied};
+ghost use Rattle.std.specs.Fmt.{WritesOnOk};
 ghost use Rattle.std.specs.Str.Parse.{IsNumeral, digits_value};
+ghost use Rattle.x86_64_dump.specs.FaultTexts as texts;
 ghost use Rattle.x86_64_dump.specs.VmCoreInfo as info;
 
 use std::fmt::{Display, Formatter, Result as FmtResult, Write};
@@ -70,6 +72,13 @@ pub enum KernelFault {
     NoNumber(Key),
     /// The address that the values make isn't that of a frame below 2^52.
     NoFrame,
+    /// Two texts in memory say different kernels.
+    Differ {
+        /// The offset in the file of the first.
+        first: u64,
+        /// The offset of the first one that says another kernel.
+        other: u64,
+    },
 }
 
 impl Kernel {
@@ -94,6 +103,15 @@ impl Kernel {
             levels: levels_by(five.unwrap_or(0)),
             encryption_mask: mask.unwrap_or(0),
         })
+    }
+
+    /// Returns true if both are the same kernel.
+    pub fn is_same(&self, other: &Kernel) -> bool
+        ensures { result ≡ info.same_kernel self.now other.now }
+    {
+        self.root == other.root
+            && same_levels(self.levels, other.levels)
+            && self.encryption_mask == other.encryption_mask
     }
 }
 
@@ -210,6 +228,16 @@ fn levels_by(five: u64) -> Levels
     }
 }
 
+/// Returns true if both are the same number of levels.
+fn same_levels(one: Levels, other: Levels) -> bool
+    ensures { result ≡ info.same_levels one other }
+{
+    matches!(
+        (one, other),
+        (Levels::Four, Levels::Four) | (Levels::Five, Levels::Five)
+    )
+}
+
 impl Display for Key {
     ghost use Rattle.std.specs.Prelude.{Some};
     ghost use Rattle.x86_64_dump.specs.VmCoreInfo.{key_name};
@@ -234,17 +262,26 @@ impl Display for KernelFault {
 
     fn fmt<W: Write>(&self, f: &mut Formatter<W>) -> FmtResult {
         match self {
-            KernelFault::Missing(key) => write!(
-                f,
-                "the note VMCOREINFO has no line {key}: give --cr3"
-            ),
+            KernelFault::Missing(key) => write!(f, "VMCOREINFO has no line {key}: give --cr3"),
             KernelFault::NoNumber(key) => write!(
                 f,
-                "the note VMCOREINFO has no number below 2^64 behind {key}: give --cr3"
+                "VMCOREINFO has no number below 2^64 behind {key}: give --cr3"
             ),
             KernelFault::NoFrame => f.write_str(
-                "SYMBOL(swapper_pg_dir) - 0xffffffff80000000 + NUMBER(phys_base) of the note VMCOREINFO is no frame's address: give --cr3",
+                "SYMBOL(swapper_pg_dir) - 0xffffffff80000000 + NUMBER(phys_base) of VMCOREINFO is no frame's address: give --cr3",
             ),
+            KernelFault::Differ { first, other } => write_differ(f, *first, *other),
         }
     }
+}
+
+/// Writes that two texts in memory say different kernels.
+#[tactic(auto, unfolding(crate::specs::FaultTexts::differ_text))]
+fn write_differ<W: Write>(f: &mut Formatter<W>, first: u64, other: u64) -> FmtResult
+    ensures { WritesOnOk W.write_str_gives f.old result (texts.differ_text first other) f.new }
+{
+    write!(
+        f,
+        "the texts of VMCOREINFO at bytes {first} and {other} of the file differ: give --vmcoreinfo and one of these numbers, or --cr3"
+    )
 }

@@ -12,3 +12,5 @@ mod Spans
 mod Runs
 mod Levels
 mod Digits
+pub mod Filling
+pub mod StepsRead

@@ -1,5 +1,5 @@
 //! Everything that page tables map below a root, with four or five levels and for any words in the tables: the mappings one
-//! by one, and the regions that they form.
+//! by one, and the regions that they form; and the entries that a page walk reads.
 #![tactic(auto)]
 
 mod joiner;
@@ -9,9 +9,11 @@ mod region;
 mod region_list;
 mod summaries;
 pub mod text;
+mod walk_entries;
 
 pub use listing::{Mappings, Mappings57, MappingsIn, mappings, mappings_57, mappings_from, span};
 pub use mapping::{Mapping, Mapping57, MappingIn};
 pub use region::{Region, Region57, RegionIn};
 pub use region_list::{Regions, Regions57, RegionsIn, regions, regions_57};
 pub use summaries::{Summaries, Summary, Visitor, visit_mappings, visit_regions};
+pub use walk_entries::{EntriesRead, MOST_LEVELS, WalkEnd, WalkEntry, read_entries};

@@ -3,6 +3,10 @@
 #![no_std]
 #![no_main]
 
+extern crate alloc;
+
+#[cfg(not(feature = "five_levels"))]
+mod allocator;
 mod levels;
 mod machine;
 mod memory;
@@ -45,6 +49,8 @@ extern "C" fn kernel_main(start_info: u64) -> ! {
     println!("cleaned up: {} frames are free", frames.free);
     processes::processes(&mut mapper, &mut frames);
     recursive(&mut mapper, &mut frames);
+    #[cfg(not(feature = "five_levels"))]
+    collections(&mut mapper, &mut frames);
     machine::end(true)
 }
 
@@ -167,6 +173,23 @@ fn recursive(mapper: &mut OffsetPageTable, frames: &mut Frames) {
     root_mut(mapper)[usize::from(INDEX)].set_unused();
     x86_64::instructions::tlb::flush_all();
     println!("cleaned up: {} frames are free", frames.free);
+}
+
+/// Makes a heap for Rust's collections, and uses it up.
+#[cfg(not(feature = "five_levels"))]
+fn collections(mapper: &mut OffsetPageTable, frames: &mut Frames) {
+    use alloc::{boxed::Box, collections::BTreeMap, vec::Vec};
+    touch(mapper, allocator::START, None);
+    // SAFETY: nothing else uses these addresses, and nothing was allocated before.
+    unsafe { allocator::init(mapper, frames) }.expect("no memory is left");
+    let words: Vec<u64> = (0..1000).collect();
+    let squares: BTreeMap<u64, Box<u64>> = words.iter().map(|word| (word * word, Box::new(*word))).collect();
+    println!("a heap of {} KiB holds {} words, and {} squares", allocator::SIZE / 1024, words.len(), squares.len());
+    assert!(squares.iter().zip(&words).all(|((square, root), word)| **root == *word && *square == word * word));
+    // What doesn't fit is refused.
+    assert!(Vec::<u8>::new().try_reserve(allocator::SIZE as usize).is_err());
+    touch(mapper, allocator::START + (allocator::SIZE - 8), None);
+    touch(mapper, allocator::START + allocator::SIZE, None);
 }
 
 /// Reads at an address, or writes a value there. Prints where this arrives, or with which error code it faults, and compares this with

@@ -46,7 +46,7 @@ fn translations_have_texts_and_their_frames_a_size() {
     assert_equal(large.size(), 0x1000);
     let result = mapped(frame(0x5000), 0xabc, 3);
     let text = unwrap(format_in!("{result:?}"));
-    let wanted = "Mapped { frame: Size4KiB(PhysFrame[4KiB](0x5000)), offset: 2748, flags: PageTableFlags(0x3) }";
+    let wanted = "Mapped { frame: Size4KiB(PhysFrame[4KiB](0x5000)), offset: 2748, flags: PageTableFlags(PRESENT | WRITABLE) }";
     assert_equal(text.as_str(), wanted);
 }
 

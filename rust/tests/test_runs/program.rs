@@ -78,7 +78,7 @@ fn assert_run(
     let found = run(&words, &mut source, &mut sink);
     let replies = first_replies(reply_count);
     assert_equal_in(arguments, found, ending);
-    let written = str::from_utf8(sink.bytes.as_slice());
+    let written = core::str::from_utf8(sink.bytes.as_slice());
     assert_equal_in(arguments, written, Ok(replies.as_str()));
     (source.calls, sink.calls)
 }

@@ -1,9 +1,10 @@
-//! Tests of lists of mappings from an address on, and of some that are not there, by the lines that they are printed as.
-//! Lists of all mappings and regions are in `tests/ptdump/mappings.txt`.
+//! Tests of lists of mappings from an address on, and of some that are not there, by the lines that they are printed as, and of the
+//! entries that walks read. Lists of all mappings and regions are in `tests/ptdump/mappings.txt`.
 
 use crate::prelude::*;
 use std::fmt::Display;
 use x86_64_paging::listing::{mappings, mappings_57, mappings_from, regions, regions_57};
+use x86_64_paging::{read_entries, EntriesRead, Rights, WalkEnd, WalkEntry, MOST_LEVELS};
 
 /// Compares items with the lines that they are printed as.
 fn check_lines(case: u64, items: impl Iterator<Item = impl Display>, lines: &[&str]) {
@@ -74,4 +75,60 @@ fn a_root_that_names_itself_at_each_index_is_listed() {
     let last = mappings_from(&memory, &IdentityMapping, frame_at(0x1000), addr);
     let lines = ["0xffffffffffffe000 4KiB 0x1000 rwx- 0x3", "0xfffffffffffff000 4KiB 0x1000 rwx- 0x3"];
     check_lines(1, last, &lines);
+}
+
+/// The words of a page of 4KiB below entries that take rights away, of an entry without PRESENT, and, in the root, of one with HUGE_PAGE
+/// and one that names no table of the memory.
+#[rustfmt::skip]
+const WALKS: [u64; 21] = [
+    0x1000, 1, 0x2007, 0x2000, 2, NEITHER_USER_NOR_EXECUTE, 0x3000, 3, 0x4007, 0x4000, 4, 0x5007,
+    0x2000, 7, 0x9002, 0x1000, 8, 0x87, 0x1000, 9, 0x1_0007,
+];
+const NEITHER_USER_NOR_EXECUTE: u64 = 0x8000_0000_0000_3003;
+
+/// Walks: the indices from the root's down, the words that are read, with their tables, the rights that they grant, and the end.
+#[rustfmt::skip]
+const ENDS: [([u64; 4], &[(u64, u64)], [bool; 3], WalkEnd); 5] = [
+    ([1, 2, 3, 4], &[(0x1000, 0x2007), (0x2000, NEITHER_USER_NOR_EXECUTE), (0x3000, 0x4007), (0x4000, 0x5007)],
+        [true, false, false], WalkEnd::Page),
+    ([1, 2, 3, 5], &[(0x1000, 0x2007), (0x2000, NEITHER_USER_NOR_EXECUTE), (0x3000, 0x4007), (0x4000, 0)],
+        [false, false, false], WalkEnd::NotPresent),
+    ([1, 7, 3, 4], &[(0x1000, 0x2007), (0x2000, 0x9002)], [true, false, true], WalkEnd::NotPresent),
+    ([8, 2, 3, 4], &[(0x1000, 0x87)], [true, true, true], WalkEnd::HugePage),
+    ([9, 2, 3, 4], &[(0x1000, 0x1_0007)], [true, true, true], WalkEnd::NoTable),
+];
+
+/// What an array holds before a walk.
+const BEFORE: WalkEntry = WalkEntry { level: 9, table: 8, index: 7, word: 6 };
+
+#[test]
+fn walks_read_entries() {
+    let memory = memory_of(16, &WALKS);
+    for (indices, words, [write, user, execute], end) in ENDS {
+        let address = VirtAddr::new_truncate(indices.iter().fold(0, |above, index| above << 9 | index) << 12 | 0xabc);
+        let mut wanted = [BEFORE; MOST_LEVELS];
+        for (n, (table, word)) in words.iter().enumerate() {
+            wanted[n] = WalkEntry { level: 4 - n as u64, table: *table, index: indices[n], word: *word };
+        }
+        let mut entries = [BEFORE; MOST_LEVELS];
+        let read = read_entries(&memory, &IdentityMapping, frame_at(0x1000), address, &mut entries);
+        let rights = Rights { write, user, execute };
+        assert_equal_in(indices, read, EntriesRead { count: words.len(), rights, end });
+        assert_equal_in(indices, entries, wanted);
+    }
+}
+
+#[test]
+fn a_walk_without_a_root_reads_no_entry() {
+    let (memory, mut entries) = (memory_of(16, &WALKS), [BEFORE; 4]);
+    let read = read_entries(&memory, &IdentityMapping, frame_at(0x1_0000), VirtAddr::new_truncate(0), &mut entries);
+    assert_equal(read, EntriesRead { count: 0, rights: Rights::ALL, end: WalkEnd::NoTable });
+    assert_equal(entries, [BEFORE; 4]);
+}
+
+#[test]
+#[should_panic(expected = "L::LEVELS <= entries.len()")]
+fn a_walk_needs_room_for_each_level() {
+    let memory = memory_of(16, &WALKS);
+    read_entries(&memory, &IdentityMapping, frame_at(0x1000), VirtAddr::new_truncate(0), &mut [BEFORE; 3]);
 }

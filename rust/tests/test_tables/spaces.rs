@@ -6,6 +6,11 @@ use x86_64_paging::spaces::{
     grouped_spaces_fit, grouped_spaces_fit_by_marks, spaces_fit, spaces_fit_by_marks, GroupIndices, GroupedSpace, SharedIndices,
     Space,
 };
+use x86_64_paging::structures::paging::mapper::MappedPageTableIn;
+use x86_64_paging::structures::paging::RecursivePageTable;
+use x86_64_paging::{
+    keeps_shared_entries, run_call, run_call_in_space, Call, CallIn, LevelFiveFlags, NoLevelFive, SharedEntry, SizeCallIn,
+};
 
 /// The words of two spaces, which share the tables in frames 0x3000 and 0x4000. Frames 0x5000 and 0x6000 have a table of each.
 const TWO: [u64; 15] = [0x1000, 256, 0x3003, 0x2000, 256, 0x3003, 0x3000, 0, 0x4003, 0x1000, 0, 0x5003, 0x2000, 0, 0x6003];
@@ -32,6 +37,12 @@ fn fit_in<L: LevelCount>(memory: &PhysMemory, roots: &[Root], frames: &[u64], ca
     let (mapping, half) = (IdentityMapping, SharedIndices::UPPER_HALF);
     let mut marks = vec![true; memory.len()];
     spaces_fit_by_marks::<L, _, _>(memory, &mapping, &spaces, half, frames, capacity, &mut marks)
+}
+
+/// Returns the words of all tables of a memory.
+fn words_in(memory: &PhysMemory) -> Vec<u64> {
+    let table = |n| unwrap_some(memory.table(unwrap_some(memory.place_at(n))));
+    (0..memory.len()).flat_map(|n| table(n).iter().map(|entry| entry.word()).collect::<std::vec::Vec<_>>()).collect()
 }
 
 /// More words, the roots, the frames of a pool, and whether these are address spaces that the pool fits.
@@ -210,4 +221,110 @@ fn spaces_are_tested_where_there_is_memory() {
     );
     assert_equal(refused, (Err(AllocError), Err(AllocError), Ok(true)));
     assert_equal(tested, (Ok(true), Ok(true)));
+}
+
+/// Returns the 4KiB page that is the n-th below an index of the highest level.
+fn page_below<L: LevelCount>(index: u64, n: u64) -> PageIn<Size4KiB, L> {
+    PageIn::containing_address(VirtAddrIn::new_truncate(index << (3 + 9 * L::LEVELS) | n * 4096))
+}
+
+/// Returns a call that maps a 4KiB page below an index to the frame 0xf000.
+fn map<L: LevelCount, P5: LevelFiveFlags<L>>(index: u64, flags: u64) -> CallIn<L, P5> {
+    let flags = PageTableFlags::from_bits_retain(flags);
+    CallIn::Of4KiB(SizeCallIn::MapTo { page: page_below(index, 1), frame: frame_at(0xf000), flags })
+}
+
+/// Returns a call that adds parent flags to the entries above a page below an index.
+fn map_with<L: LevelCount, P5: LevelFiveFlags<L>>(index: u64, parent_flags: u64) -> CallIn<L, P5> {
+    let [flags, parent_flags] = [0x3, parent_flags].map(PageTableFlags::from_bits_retain);
+    CallIn::Of4KiB(SizeCallIn::MapToWithTableFlags { page: page_below(index, 1), frame: frame_at(0xf000), flags, parent_flags })
+}
+
+/// Returns a clean up of the pages from the first one below an index to the n-th below another.
+fn clean_up<L: LevelCount, P5: LevelFiveFlags<L>>(first: u64, last: u64, n: u64) -> CallIn<L, P5> {
+    CallIn::CleanUpRange(PageIn::range_inclusive(page_below(first, 0), page_below(last, n)))
+}
+
+/// Returns calls on the space with the root 0x1000, and whether each leaves the entries from 256 on, which it shares.
+fn calls<L: LevelCount, P5: LevelFiveFlags<L>>() -> Vec<(CallIn<L, P5>, bool)> {
+    let (below, flags) = (page_below(256, 0), PageTableFlags::from_bits_retain(0x7));
+    let of_page = |call: SizeCallIn<Size4KiB, L, P5>| CallIn::Of4KiB(call);
+    let set_level_five = P5::from_page_table_flags(flags).map(|flags| of_page(SizeCallIn::SetFlagsP5 { page: below, flags }));
+    let frame = PhysFrame::containing_address(PhysAddr::new(0x4000_0000));
+    let mut calls = vec![
+        (map(0, 0x7), true),
+        (map(255, 0x3), true),
+        // The entry is there, and has PRESENT and WRITABLE. No other flag is a parent flag of its own accord.
+        (map(256, 0x3), true),
+        (map(256, 0x8000_0000_0000_0103), true),
+        (map(256, 0x7), false),
+        (map(257, 0x3), false),
+        (map(511, 0x1), false),
+        (map_with(255, 0x8000_0000_0000_0fff), true),
+        (map_with(256, 0x1), true),
+        (map_with(256, 0), true),
+        (map_with(256, 0x21), false),
+        // It isn't allowed, and would change nothing. But if it were, it would.
+        (map_with(256, 0x8000_0000_0000_0003), false),
+        (map_with(300, 0), true),
+        (CallIn::Of1GiB(SizeCallIn::IdentityMap { frame, flags }), true),
+        (of_page(SizeCallIn::Unmap { page: below }), true),
+        (of_page(SizeCallIn::UpdateFlags { page: below, flags }), true),
+        (of_page(SizeCallIn::SetFlagsP4 { page: below, flags }), L::LEVELS == 5),
+        (of_page(SizeCallIn::SetFlagsP4 { page: page_below(0, 0), flags }), true),
+        (of_page(SizeCallIn::SetFlagsP3 { page: below, flags }), true),
+        (of_page(SizeCallIn::SetFlagsP2 { page: below, flags }), true),
+        (of_page(SizeCallIn::TranslatePage { page: below }), true),
+        (CallIn::Translate(below.start_address()), true),
+        (CallIn::TranslateAddr(below.start_address()), true),
+        (CallIn::CleanUp, false),
+        (clean_up(0, 255, 0), true),
+        (clean_up(0, 256, 0), false),
+        (clean_up(256, 256, 0), false),
+        (clean_up(511, 511, 0), false),
+        (clean_up(256, 255, 0), true),
+    ];
+    calls.extend(set_level_five.map(|call| (call, false)));
+    calls
+}
+
+/// Executes a call on the space with the root 0x1000. Returns the reply, the words of the memory, and whether both spaces fit the pool.
+fn in_first_space<L: LevelCount, R>(
+    execute: impl FnOnce(&mut MappedPageTableIn<IdentityMapping, L, PhysMemory>, &mut FramePool) -> R,
+) -> (R, Vec<u64>, Result<bool, AllocError>) {
+    let (mut memory, mut pool) = (memory_of(16, &TWO), pool_with(16, &[0x7000, 0x8000, 0x9000, 0xa000]));
+    let reply = execute(&mut MappedPageTableIn::new(&mut memory, frame_at(0x1000), IdentityMapping), &mut pool);
+    let (spaces, mapping) = (spaces_at(&BOTH), IdentityMapping);
+    let still_fit = spaces_fit::<L, _, _>(&memory, &mapping, &spaces, SharedIndices::UPPER_HALF, &pool);
+    (reply, words_in(&memory), still_fit)
+}
+
+/// Executes each call on one of two spaces, with the test of shared entries and without it.
+fn call_in_spaces<L: LevelCount + Debug, P5: LevelFiveFlags<L> + Debug + PartialEq>() {
+    let half = SharedIndices::UPPER_HALF;
+    for (call, keeps) in calls::<L, P5>() {
+        let said = in_first_space(|mapper, _| keeps_shared_entries(mapper, &call, half));
+        let (reply, words, still_fit) = in_first_space(|mapper, pool| run_call_in_space(mapper, pool, half, call));
+        assert_equal_in(call, (said.0, still_fit), (keeps, Ok(true)));
+        let (plain_reply, plain_words, _) = in_first_space::<L, _>(|mapper, pool| run_call(mapper, pool, call));
+        let wanted = if keeps { (Ok(plain_reply), plain_words) } else { (Err(SharedEntry), said.1) };
+        assert_equal_in(call, (reply, words), wanted);
+    }
+}
+
+#[test]
+fn calls_in_a_space_keep_the_others() {
+    call_in_spaces::<FourLevels, NoLevelFive>();
+    call_in_spaces::<FiveLevels, PageTableFlags>();
+}
+
+#[test]
+fn the_entry_for_itself_reads_as_none() {
+    let mut memory = memory_of(16, &TWO);
+    set_words(&mut memory, &SELF_ENTRIES);
+    let index = PageTableIndex::new(511);
+    let mapper = RecursivePageTable::new_unchecked(ActiveMemory::new(&mut memory, frame_at(0x1000)), index);
+    let calls: [Call; 3] = [map(511, 0x3), map_with(511, 0), map(256, 0x3)];
+    let said = calls.map(|call| keeps_shared_entries(&mapper, &call, SharedIndices::UPPER_HALF));
+    assert_equal(said, [false, true, true]);
 }

@@ -19,7 +19,7 @@ use Rattle.ptdump_engine.specs.declared.mode.Mode.{Mode}
 use Rattle.ptdump_engine.specs.declared.mode.Mode.TheVariants.{NoPaging, Paging32, Paging64}
 use Rattle.ptdump_engine.specs.declared.registers.Registers.{Registers}
 use Rattle.ptdump_engine.specs.declared.start.Origin.{Origin}
-use Rattle.ptdump_engine.specs.declared.start.Origin.TheVariants.{ByRequest, ByProcessor, ByKernel}
+use Rattle.ptdump_engine.specs.declared.start.Origin.TheVariants.{ByRequest, ByProcessor, ByKernel, ByText}
 use Rattle.ptdump_engine.specs.declared.start.Start.{Start}
 use Rattle.ptdump_engine.specs.declared.walked.Walk.{Walk as WalkValue}
 use Rattle.ptdump_engine.specs.declared.walked.WalkEnd.{WalkEnd}
@@ -86,3 +86,4 @@ no_float_root cpu start = by start.origin
     by ByRequest = refl
     by ByProcessor = refl
     by ByKernel = refl
+    by (ByText offset) = refl

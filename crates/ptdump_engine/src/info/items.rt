@@ -7,7 +7,7 @@ use crate::registers::{Registers, levels_name};
 use crate::start::{Origin, Start};
 use std::fmt::{Display, Formatter, Result as FmtResult, Write};
 use x86_64_addr::level_count::Levels;
-use x86_64_dump::{Format, Kernel};
+use x86_64_dump::{Format, Kernel, KernelText};
 use x86_64_mappings::text::{write_hexadecimal, write_size};
 use x86_64_page::frame::PhysFrame;
 use x86_64_page::page::Size4KiB;
@@ -109,7 +109,7 @@ impl Display for Place {
     }
 }
 
-/// The root of the kernel's own page tables, as the note VMCOREINFO says it.
+/// The root of the kernel's own page tables, as VMCOREINFO says it.
 #[derive(Clone, Copy)]
 pub struct KernelRoot(pub Kernel);
 
@@ -126,6 +126,34 @@ impl Display for KernelRoot {
     }
 }
 
+/// What a text of VMCOREINFO in memory says.
+#[derive(Clone, Copy)]
+pub struct ToldText(pub KernelText);
+
+impl Display for ToldText {
+    ghost output = { λ told. Some (texts.text_told told.0) };
+
+    #[tactic(auto, unfolding(crate::specs::InfoTexts::text_told))]
+    fn fmt<W: Write>(&self, f: &mut Formatter<W>) -> FmtResult {
+        let KernelText { offset, kernel } = self.0;
+        write_text_place(f, offset)?;
+        let place = Place {
+            root: kernel.root,
+            levels: kernel.levels,
+        };
+        write!(f, "{place}")?;
+        write_mask(f, kernel.encryption_mask)
+    }
+}
+
+/// Writes where a text of VMCOREINFO begins.
+#[tactic(auto, unfolding(crate::specs::InfoTexts::text_place))]
+fn write_text_place<W: Write>(f: &mut Formatter<W>, offset: u64) -> FmtResult
+    ensures { WritesOnOk W.write_str_gives f.old result (texts.text_place offset) f.new }
+{
+    write!(f, "VMCOREINFO at byte {offset} of the file: root ")
+}
+
 /// Writes the bits by which the kernel marks encrypted memory, if there are such bits.
 fn write_mask<W: Write>(f: &mut Formatter<W>, mask: u64) -> FmtResult
     ensures { WritesOnOk W.write_str_gives f.old result (texts.mask_text mask) f.new }
@@ -136,7 +164,7 @@ fn write_mask<W: Write>(f: &mut Formatter<W>, mask: u64) -> FmtResult
     write!(f, ", encryption mask 0x{mask:x}")
 }
 
-/// Why the note VMCOREINFO doesn't say where the kernel's root is.
+/// Why VMCOREINFO doesn't say where the kernel's root is.
 #[derive(Drop)]
 pub struct NoKernelRoot {
     /// The reason.
@@ -170,6 +198,9 @@ impl Display for Source {
                 write!(f, "of processor {cpu}")
             }
             Origin::ByKernel => f.write_str("of the kernel"),
+            Origin::ByText(offset) => {
+                write!(f, "of the kernel, as the text at byte {offset} says")
+            }
         }
     }
 }

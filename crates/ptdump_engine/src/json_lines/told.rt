@@ -125,6 +125,9 @@ impl ToJson for Root {
                 .put_text("origin", "processor")?
                 .put_number("cpu", self.cpu as u64)?,
             Origin::ByKernel => root.put_text("origin", "kernel")?,
+            Origin::ByText(offset) => root
+                .put_text("origin", "memory")?
+                .put_number("offset", offset)?,
         };
         told(alloc, "root", root)
     }

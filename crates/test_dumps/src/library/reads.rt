@@ -3,7 +3,7 @@ use std::alloc::Global;
 use std::io::{self, ErrorKind};
 use test_support::{Memory, Processor, push_core_file};
 use x86_64_addr::addr::PhysAddr;
-use x86_64_dump::{ByteSource, Dump, DumpError};
+use x86_64_dump::{ByteSource, Dump, DumpError, NoProgress};
 use x86_64_page::frame::PhysFrame;
 
 /// A file of which only the first bytes can be read.
@@ -62,9 +62,9 @@ impl Outcome {
     }
 }
 
-/// Returns the outcomes of opening a file, and of reading a frame, the notes, CR3 and CR4.
-fn outcomes(alloc: Global, source: BrokenSource<'_>) -> [Outcome; 5] {
-    let mut outcomes = [Outcome::NotMade; 5];
+/// Returns the outcomes of opening a file, of reading a frame, the notes, CR3 and CR4, and of searching memory for VMCOREINFO.
+fn outcomes(alloc: Global, source: BrokenSource<'_>) -> [Outcome; 6] {
+    let mut outcomes = [Outcome::NotMade; 6];
     let opened = Dump::open(alloc, source, None);
     outcomes[0] = Outcome::of(&opened);
     let Ok(dump) = opened else { return outcomes };
@@ -74,6 +74,7 @@ fn outcomes(alloc: Global, source: BrokenSource<'_>) -> [Outcome; 5] {
         Ok(None) => Outcome::Other,
         Err(_) => Outcome::Failed,
     };
+    outcomes[5] = Outcome::of(&dump.kernel_texts(alloc, &NoProgress));
     let notes = dump.processors(alloc);
     outcomes[2] = Outcome::of(&notes);
     if let Ok(notes) = notes {
@@ -89,7 +90,7 @@ fn outcomes(alloc: Global, source: BrokenSource<'_>) -> [Outcome; 5] {
 const HEADERS: u64 = 64 + 82 * 56;
 
 /// Returns the expected outcomes if this number of bytes can be read.
-fn wanted(readable: u64) -> [Outcome; 5] {
+fn wanted(readable: u64) -> [Outcome; 6] {
     let until = |needed: u64| {
         if readable < needed {
             Outcome::Failed
@@ -100,10 +101,17 @@ fn wanted(readable: u64) -> [Outcome; 5] {
     let notes = until(HEADERS + 17);
     if readable < HEADERS {
         let none = Outcome::NotMade;
-        [Outcome::Failed, none, none, none, none]
+        [Outcome::Failed, none, none, none, none, none]
     } else if notes == Outcome::Failed {
         let none = Outcome::NotMade;
-        [Outcome::Done, Outcome::Failed, notes, none, none]
+        [
+            Outcome::Done,
+            Outcome::Failed,
+            notes,
+            none,
+            none,
+            Outcome::Failed,
+        ]
     } else {
         let frame = until(HEADERS + 460 + 4096);
         [
@@ -112,6 +120,7 @@ fn wanted(readable: u64) -> [Outcome; 5] {
             notes,
             until(HEADERS + 444),
             until(HEADERS + 452),
+            frame,
         ]
     }
 }

@@ -5,7 +5,7 @@ use std::process::Abort;
 use x86_64_dump::{DumpError, Fault, KernelFault, Key, UnreadFormat};
 
 /// A fault of each kind.
-static FAULTS: [Fault; 21] = [
+static FAULTS: [Fault; 20] = [
     Fault::Unread(UnreadFormat::Kdump),
     Fault::PlacementGiven,
     Fault::RangeEmpty {
@@ -37,10 +37,7 @@ static FAULTS: [Fault; 21] = [
         length: 99,
     },
     Fault::NoMemory,
-    Fault::RangeHeaderCut {
-        offset: 4128,
-        length: 4129,
-    },
+    Fault::RangeHeaderCut { length: 31 },
     Fault::NoRangeHeader { offset: 4128 },
     Fault::WrongLimeVersion {
         offset: 0,
@@ -50,12 +47,6 @@ static FAULTS: [Fault; 21] = [
         offset: 0,
         first: 0x2000,
         last: 0x1fff,
-    },
-    Fault::RangeCut {
-        offset: 0,
-        first: 0x1000,
-        last: 0x1fff,
-        length: 4127,
     },
     Fault::NoteCut {
         offset: 140,

@@ -73,6 +73,7 @@ impl Word {
             command,
             form: Form::Text,
             cr3: None,
+            vmcoreinfo: None,
             levels: None,
             placement: Placement::Unstated,
             is_raw: false,
@@ -190,6 +191,10 @@ impl Progress for Watcher {
     fn end(&mut self) {
         self.ends = self.ends.saturating_add(1);
     }
+
+    fn searched(&self, _end: u64) {}
+
+    fn search_ended(&self) {}
 
     ghost none = { λ _. tt };
 

@@ -1,7 +1,7 @@
-//! Progress while tables are read.
+//! Progress while memory is searched, and while tables are read.
 ghost use Rattle.std.specs.Prelude.{ℕ, List, [], ◌∷◌, ◌++◌};
 
-/// An observer of the number of tables that have been read.
+/// An observer of how much of a file was searched, and of the number of tables that have been read.
 pub trait Progress {
     /// How an observer changes when it is told these numbers of tables, in order: from the observer before to the observer after.
     ghost Told: { Self → Self → (counts : List ℕ) → Type 0 };
@@ -16,6 +16,12 @@ pub trait Progress {
     /// Called when no more tables are read.
     fn end(&mut self)
         ensures { Ended self.old self.new };
+
+    /// Called after each part of a file that is searched, with the offset at which it ends.
+    fn searched(&self, end: u64);
+
+    /// Called when no more is searched.
+    fn search_ended(&self);
 
     /// An observer that is told nothing doesn't change.
     ghost none: { (observer : Self) → Told observer observer [] };
@@ -37,6 +43,10 @@ impl Progress for NoProgress {
     fn tables(&mut self, _count: usize) {}
 
     fn end(&mut self) {}
+
+    fn searched(&self, _end: u64) {}
+
+    fn search_ended(&self) {}
 
     ghost none = { λ _. tt };
 

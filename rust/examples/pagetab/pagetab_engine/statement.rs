@@ -42,7 +42,7 @@ impl<L: LevelCount, P5: LevelFiveFlags<L>> Statement<L, P5> {
     /// Parses a line without its line feed, for a memory with this number of places. Returns `None` if and only if
     /// the line is no statement.
     pub fn parse(line: &[u8], places: u64) -> Option<Self> {
-        let fields = Fields::parse(str::from_utf8(line).ok()?)?;
+        let fields = Fields::parse(core::str::from_utf8(line).ok()?)?;
         Self::from_fields(fields.name, fields.size, fields.numbers(), places)
     }
 

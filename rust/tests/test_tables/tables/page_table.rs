@@ -177,10 +177,11 @@ fn entries_are_changed() {
 fn flags_and_entries_have_texts() {
     let odd = PageTableFlags::from_bits_retain(0x1003);
     let flags = (PageTableFlags::empty(), odd, PageTableFlags::all());
-    let wanted = "(PageTableFlags(0x0), PageTableFlags(0x1003), PageTableFlags(0xfff0000000000fff))";
+    let wanted =
+        "(PageTableFlags(0x0), PageTableFlags(PRESENT | WRITABLE | 0x1000), PageTableFlags(PRESENT | WRITABLE | USER_ACCESSIBLE | WRITE_THROUGH | NO_CACHE | ACCESSED | DIRTY | HUGE_PAGE | GLOBAL | BIT_9 | BIT_10 | BIT_11 | BIT_52 | BIT_53 | BIT_54 | BIT_55 | BIT_56 | BIT_57 | BIT_58 | BIT_59 | BIT_60 | BIT_61 | BIT_62 | NO_EXECUTE))";
     assert_text(&flags, wanted);
     let entry = PageTableEntry::from_word(0x5003);
-    let wanted = "PageTableEntry { addr: PhysAddr(0x5000), flags: PageTableFlags(0x3) }";
+    let wanted = "PageTableEntry { addr: PhysAddr(0x5000), flags: PageTableFlags(PRESENT | WRITABLE) }";
     assert_text(&entry, wanted);
     let errors = [FrameError::FrameNotPresent, FrameError::HugeFrame];
     assert_text(&errors, "[FrameNotPresent, HugeFrame]");

@@ -3,14 +3,16 @@ use Rattle.std.proofs.KnownBytes.{Appends-trans}
 use Rattle.x86_64_dump.specs.Dump.{words_of_dump}
 use Rattle.x86_64_dump.specs.Opened.{opened}
 use Rattle.ptdump_engine.specs.Failure.{failure_of}
+use Rattle.ptdump_engine.specs.NotedLevels.{levels_text}
 use Rattle.ptdump_engine.specs.Program.{Machine, Notes, NotesAs, NotesOnTables, ReportsAll, RunsAs, ToldAs, ToldOfTablesOf, is_info, is_of_processors, opening_text, source_text}
 use Rattle.ptdump_engine.specs.Processors.{firsts_of}
 use Rattle.ptdump_engine.specs.Steps.{InTurn, of_dump}
 use Rattle.std.specs.Io.KnownBytes.{Appends}
 use Rattle.ptdump_engine.specs.Output.{put_in}
 use Rattle.ptdump_engine.specs.private.Roots.{AreNoted}
+use Rattle.ptdump_engine.proofs.Failing.{forced_second}
 use Rattle.ptdump_engine.proofs.Results.{if_err, on_ok}
-use Rattle.ptdump_engine.proofs.Wholly.{no_processors, no_start, opens, put_first, puts_both, runs_by, runs_on_all, shows, tells_of, unopened, written_at_once}
+use Rattle.ptdump_engine.proofs.Wholly.{forced_run, no_processors, no_start, opens, put_first, puts_both, runs_by, runs_on_all, shows, tells_of, unopened, written_at_once}
 use Rattle.ptdump_engine.proofs.engine.run.Goals as goal
 
 pub returns-in_err-dump-clause-run : goal.returns-in_err-dump-clause-run
@@ -184,6 +186,18 @@ returns-clause-told g c = λ known.
     (on_ok c.report_from.result (λ told. (record { dump = dump; start = start }, opens request file dump start (c.in_ok-dump.ensures known) (c.in_ok-start.ensures.start known), told))
     (c.report_from.ensures.told known)))
 
+pub returns-in_err-write_levels-clause-run : goal.returns-in_err-write_levels-clause-run
+returns-in_err-write_levels-clause-run g c = λ known.
+    let request = c.args.request.now in
+    let fails = g.S.ByteSource.may_fail in
+    let a = g.W.Destination.may_refuse in
+    let b = g.E.Destination.may_refuse in
+    let contents = g.W.Destination.contents in
+    let failure = c.in_err-write_levels.field-0.0 in
+    let is : c.from_residual-in_err-write_levels.result ≡ Err failure = search rules in
+    rw is (forced_run (is_info request.command) (is_of_processors request) fails (a || b) request (g.S.ByteSource.bytes c.args.source) (contents c.args.writer.now) (contents c.args.writer.now) failure
+    (forced_second fails a b failure (c.in_err-write_levels.ensures.errors known)))
+
 pub returns-clause-notes : goal.returns-clause-notes
 returns-clause-notes g c = λ known.
     let request = c.args.request.now in
@@ -193,15 +207,17 @@ returns-clause-notes g c = λ known.
     let contents = g.E.Destination.contents in
     let not : is_info request.command ≡ false = sym c.is_info.ensures ∙ c.if-is_info.false in
     let one : is_of_processors request ≡ false = sym c.is_of_processors.ensures ∙ c.if-is_of_processors.false in
-    let text = opening_text dump ++ source_text start.origin in
+    let text = opening_text dump ++ source_text start.origin ++ levels_text request dump start.origin in
+    let ended = c.write_levels.new.notes in
     let both = puts_both contents c.new-notes.result c.write_opening.new.notes c.write_source.new.notes (opening_text dump) (source_text start.origin) (c.in_ok-write_opening.ensures.text known) c.in_ok-write_source.ensures.text in
-    let told = put_first contents c.new-notes.result c.write_source.new.notes text c.new-notes.ensures.empty both in
-    let begun : Appends (contents c.args.errors.now) (put_in contents c.write_source.new.notes) text =
-    subst (λ e. Appends (contents e) (put_in contents c.write_source.new.notes) text) c.new-notes.ensures.now told in
-    on_ok c.report_from.result (λ totals not_image. let ends = totals not_image in let same = ends.0 in let tied = both.writer in
+    let all = puts_both contents c.new-notes.result c.write_source.new.notes ended (opening_text dump ++ source_text start.origin) (levels_text request dump start.origin) both (c.in_ok-write_levels.ensures.text known) in
+    let told = put_first contents c.new-notes.result ended text c.new-notes.ensures.empty all in
+    let begun : Appends (contents c.args.errors.now) (put_in contents ended) text =
+    subst (λ e. Appends (contents e) (put_in contents ended) text) c.new-notes.ensures.now told in
+    on_ok c.report_from.result (λ totals not_image. let ends = totals not_image in let same = ends.0 in let tied = all.writer in
     let tables : NotesOnTables request file (contents c.args.errors.now) (contents c.report_from.new.notes.writer.now) = (
       record { dump = dump; start = start },
-      put_in contents c.write_source.new.notes,
+      put_in contents ended,
       opens request file dump start (c.in_ok-dump.ensures known) (c.in_ok-start.ensures.start known),
       begun,
       ends.1,

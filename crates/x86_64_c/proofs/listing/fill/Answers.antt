@@ -1,7 +1,7 @@
 use Rattle.std.proofs.Common.{length, map, ◌++◌, drop, slice_set, sym, ap, ◌∙◌, arith}
 use native.Mathlib.Numerals.{unary_clauses}
+use Rattle.x86_64_mappings.proofs.Filling.{ended, all_taken, none_left, more_within, more_left, more_filled}
 use Rattle.x86_64_c.specs.Listing.{written}
-use Rattle.x86_64_c.proofs.Filling.{ended, all_taken, none_left, more_within, more_left, more_filled}
 use Rattle.x86_64_c.proofs.listing.fill.Goals as goal
 
 pub returns-in-None-clause-count : goal.returns-in-None-clause-count

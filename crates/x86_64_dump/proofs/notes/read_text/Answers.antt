@@ -1,29 +1,12 @@
-use Rattle.std.proofs.Common.{◌≡◌, ◌∙◌, ◌-◌, Ok, ap, arith, drop, length, min, sym}
-use Rattle.x86_64_dump.specs.Source.{part_of}
-use Rattle.x86_64_dump.proofs.NotesRead.{text_read, text_whole}
+use Rattle.std.proofs.Common.{arith}
+use Rattle.x86_64_dump.proofs.NotesRead.{text_cut, text_ended}
 use Rattle.x86_64_dump.proofs.notes.read_text.Goals as goal
 
-pub returns-then-size-eq0 : goal.returns-then-size-eq0
-returns-then-size-eq0 g c known =
-    let file = g.S.ByteSource.bytes c.args.source.now in
-    let note = c.args.note.now in
-    let long = c.len.ensures ∙ g.met.S.ByteSource.counted known c.args.source.now in
-    let size : c.min-size.result ≡ min (min note.size 0x1_0000) (c.len.result - note.offset) =
-    c.min-size.ensures ∙ ap (min c.min.result) c.saturating_sub.ensures ∙ ap (λ n. min n (c.len.result - note.offset)) c.min.ensures in
-    ap Ok (sym (text_read file note c.len.result c.min-size.result long size) ∙ ap (part_of file note.offset) c.if-size-eq0.true ∙ sym c.new.ensures.items)
+pub returns-then-note-gt-TEXT_LIMIT : goal.returns-then-note-gt-TEXT_LIMIT
+returns-then-note-gt-TEXT_LIMIT g c known =
+    text_cut (g.S.ByteSource.bytes c.args.source.now) c.args.note.now c.in_ok-text.text.items (omega (arith, c.if-note-gt-TEXT_LIMIT.true)) (c.in_ok-text.ensures known)
 
 pub returns : goal.returns
 returns g c known =
-    let file = g.S.ByteSource.bytes c.args.source.now in
-    let note = c.args.note.now in
-    let buffer = c.read_exact_at.new.buffer in
-    let long = c.len.ensures ∙ g.met.S.ByteSource.counted known c.args.source.now in
-    let size : c.min-size.result ≡ min (min note.size 0x1_0000) (c.len.result - note.offset) =
-    c.min-size.ensures ∙ ap (min c.min.result) c.saturating_sub.ensures ∙ ap (λ n. min n (c.len.result - note.offset)) c.min.ensures in
-    let filled = c.read_exact_at.auto.buffer in
-    let viewed = c.deref_mut.ensures.len in
-    let made = c.in_ok-text.ensures.len in
-    let old : length c.deref_mut.result.now ≡ c.min-size.result = omega (arith, viewed, made) in
-    let whole : length buffer ≡ c.in_ok-text.text.len = omega (arith, filled, viewed, made) in
-    let read : buffer ≡ part_of file note.offset c.min-size.result = c.in_ok-read_exact_at.ensures.bytes known ∙ ap (part_of file note.offset) old in
-    ap Ok (text_whole file buffer (drop (length buffer) c.in_ok-text.text.items) note c.len.result c.min-size.result c.in_ok-text.text.len long size read whole)
+    text_ended (g.S.ByteSource.bytes c.args.source.now) c.args.note.now c.in_ok-text.text.items c.push.new.self.items (omega (arith, c.if-note-gt-TEXT_LIMIT.false)) (c.in_ok-text.ensures known)
+    c.in_ok-push.ensures.items

@@ -1,0 +1,72 @@
+-- KernelTexts: texts of VMCOREINFO in memory. Linux keeps its text in a page, and in another one behind the head of the note that kdump
+-- gets: so a line may begin behind a byte 0. Linux, "kernel/vmcore_info.c", `vmcoreinfo_data` and `vmcoreinfo_note`.
+use Rattle.std.specs.Prelude.{ℕ, zero, suc, ◌+◌, ◌-◌, ◌*◌, ◌/◌, ◌%◌, ◌++◌, ◌==◌, ◌&&◌, ◌||◌, Bool, true, codes, cond, min, List, [], ◌∷◌, take, drop, length, nat_eq, Result, Ok, Err}
+use Rattle.std.specs.List.{flat_map, starts_with}
+use Rattle.x86_64_dump.specs.Dump.{Contents}
+use Rattle.x86_64_dump.specs.Notes.{fitting}
+use Rattle.x86_64_dump.specs.VmCoreInfo.{kernel_of}
+use Rattle.x86_64_dump.specs.declared.kernel_text.KernelText.{KernelText}
+use Rattle.x86_64_dump.specs.declared.segment.Segment.{Segment}
+use Rattle.x86_64_dump.specs.declared.vmcoreinfo.Kernel.{Kernel}
+use Rattle.x86_64_dump.specs.declared.vmcoreinfo.KernelFault.{KernelFault}
+
+-- ---- the text in a page
+
+-- whether bytes begin as the text does
+unfoldable pub begins_text : (bytes : List ℕ) → Bool
+begins_text bytes = starts_with nat_eq bytes (codes "OSRELEASE=")
+
+-- whether a line may begin behind a byte
+abbrev pub ends_line : (byte : ℕ) → Bool
+ends_line byte = byte == 10 || byte == 0
+
+-- the bytes from the first line on that begins as the text does, or none; a line begins in front of them if said so
+abbrev pub text_from : (is_line : Bool) → (bytes : List ℕ) → List ℕ
+text_from is_line [] = []
+text_from is_line (byte ∷ bytes) = cond (is_line && begins_text (byte ∷ bytes)) (byte ∷ bytes) (text_from (ends_line byte) bytes)
+
+-- the text in a page, up to the page's end
+abbrev pub text_in : (page : List ℕ) → List ℕ
+text_in page = text_from true page
+
+-- a text at an offset of the file, if it says where the kernel's root is
+abbrev pub text_if : (offset : ℕ) → Result Kernel KernelFault → List KernelText
+text_if offset (Ok kernel) = record { offset = offset; kernel = kernel } ∷ []
+text_if offset (Err fault) = []
+
+-- the text in the page at an offset of the file, if there is one that says where the kernel's root is
+unfoldable pub page_texts : (offset : ℕ) → (page : List ℕ) → List KernelText
+page_texts offset page = text_if (offset + (length page - length (text_in page))) (kernel_of (text_in page))
+
+-- ---- the pages of memory
+
+-- those texts in the first pages of some bytes, which are those from an offset of the file on
+abbrev pub texts_in : (pages : ℕ) → (offset : ℕ) → (bytes : List ℕ) → List KernelText
+texts_in zero offset bytes = []
+texts_in (suc pages) offset bytes = page_texts offset (take 4096 bytes) ++ texts_in pages (offset + 4096) (drop 4096 bytes)
+
+-- the number of bytes of memory that a segment has in the file
+abbrev pub memory_size : (file_length : ℕ) → Segment → ℕ
+memory_size file_length segment = cond (segment.kind == 1) (min segment.size (file_length - segment.offset)) 0
+
+-- the number of bytes in a segment before its first page, whose address is a multiple of 4096
+abbrev pub page_gap : Segment → ℕ
+page_gap segment = (4096 - segment.address % 4096) % 4096
+
+-- the number of whole pages of memory that a segment has in the file
+abbrev pub page_count : (file_length : ℕ) → Segment → ℕ
+page_count file_length segment = (memory_size file_length segment - page_gap segment) / 4096
+
+-- those texts in the pages of a segment
+unfoldable pub segment_texts : (file : List ℕ) → Segment → List KernelText
+segment_texts file segment =
+    texts_in (page_count (length file) segment) (segment.offset + page_gap segment) (drop (segment.offset + page_gap segment) file)
+
+-- those texts in the pages of segments, as long as these have together at most `room` bytes of memory
+abbrev pub texts_within : (room : ℕ) → (file : List ℕ) → List Segment → List KernelText
+texts_within room file segments = flat_map (segment_texts file) (fitting room (memory_size (length file)) segments)
+
+-- the texts in memory that say where the kernel's root is, in order. Segments count as long as they have together no more bytes than
+-- the file, so all segments count if they don't overlap
+abbrev pub kernel_texts : Contents → List KernelText
+kernel_texts dump = texts_within (length dump.file) dump.file dump.segments

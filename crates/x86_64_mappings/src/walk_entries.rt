@@ -1,0 +1,173 @@
+//! The entries that a page walk reads, and why it ends.
+ghost use Rattle.std.specs.Prelude.{◌≡◌, ◌≤◌, length, true, false, IfSome, IfNone};
+ghost use Rattle.x86_64_mappings.specs.WalkEntries as walk;
+ghost use Rattle.x86_64_mappings.specs.declared.walk_entries.WalkEnd.TheVariants.{NoTable};
+ghost use Rattle.x86_64_model.specs.Access.{reads_on};
+ghost use Rattle.x86_64_model.specs.Memory.{words_of};
+
+use x86_64_addr::addr::VirtAddrIn;
+use x86_64_addr::level_count::LevelCount;
+use x86_64_page::frame::PhysFrame;
+use x86_64_page::page::Size4KiB;
+use x86_64_tables::page_table::{PageTableEntry, PageTableFlags, Rights, has_flag};
+use x86_64_tables::phys_memory::{PageTableFrameMapping, TableMemory, index_of, table_in};
+
+/// The most levels of tables, and so the most entries that a walk reads.
+pub const MOST_LEVELS: usize = 5;
+
+/// An entry that a page walk reads.
+#[derive(Clone, Copy, Debug, PartialEq)]
+#[repr(C)]
+pub struct WalkEntry {
+    /// The level of its table.
+    pub level: u64,
+    /// The physical address of its table.
+    pub table: u64,
+    /// Its index in the table.
+    pub index: u64,
+    /// Its word.
+    pub word: u64,
+}
+
+impl WalkEntry {
+    /// No entry.
+    pub const NONE: WalkEntry = WalkEntry {
+        level: 0,
+        table: 0,
+        index: 0,
+        word: 0,
+    };
+}
+
+/// Why a page walk ends at the last entry that it reads.
+#[derive(Clone, Copy, Debug, PartialEq)]
+pub enum WalkEnd {
+    /// The entry maps a page, at which the walk arrives.
+    Page,
+    /// The entry lacks `PRESENT`.
+    NotPresent,
+    /// The entry has `HUGE_PAGE` above level three, where it maps no page.
+    HugePage,
+    /// The table that the entry names isn't in the memory, or the root isn't, and no entry is read.
+    NoTable,
+}
+
+/// What a page walk reads.
+#[derive(Clone, Copy, Debug, PartialEq)]
+pub struct EntriesRead {
+    /// The number of entries.
+    pub count: usize,
+    /// What all of them allow.
+    pub rights: Rights,
+    /// Why the walk ends.
+    pub end: WalkEnd,
+}
+
+/// Writes the entries that the page walk to an address reads, from the root's on, and returns how many, what all of them allow, and why
+/// the walk ends. There are as many levels of page tables as the address has.
+///
+/// The tables may contain any words. Reserved bits but `HUGE_PAGE` are ignored, as in
+/// [`page_walk`](x86_64_tables::phys_memory::page_walk). The array keeps what it holds behind the entries that are written.
+///
+/// Requires that there is room for `L::LEVELS` entries. [`MOST_LEVELS`] are always enough.
+pub fn read_entries<L: LevelCount, T: TableMemory, P: PageTableFrameMapping>(
+    memory: &T,
+    mapping: &P,
+    root: PhysFrame<Size4KiB>,
+    address: VirtAddrIn<L>,
+    entries: &mut [WalkEntry],
+) -> EntriesRead
+    requires { L.LEVELS ≤ length entries.old }
+    ensures writes { walk.Writes (walk.steps_to L.LEVELS
+        (words_of (T.tables memory.now) (P.places mapping.now)) root address)
+        entries.old entries.new result.count }
+    ensures rights { result.rights ≡ walk.rights_in (walk.steps_to L.LEVELS
+        (words_of (T.tables memory.now) (P.places mapping.now)) root address) }
+    ensures end { result.end ≡ walk.end_of (walk.steps_to L.LEVELS
+        (words_of (T.tables memory.now) (P.places mapping.now)) root address) }
+{
+    read_from(
+        memory,
+        mapping,
+        L::LEVELS,
+        root,
+        address.position(),
+        entries,
+    )
+}
+
+/// Writes the entries that the walk to a position reads, the number of an address counted without the gap, through so many levels.
+fn read_from<T: TableMemory, P: PageTableFrameMapping>(
+    memory: &T,
+    mapping: &P,
+    levels: u64,
+    root: PhysFrame<Size4KiB>,
+    position: u64,
+    entries: &mut [WalkEntry],
+) -> EntriesRead
+    requires levels { levels ≤ 5 }
+    requires room { levels ≤ length entries.old }
+    ensures writes { walk.Writes (walk.steps_to levels
+        (words_of (T.tables memory.now) (P.places mapping.now)) root position)
+        entries.old entries.new result.count }
+    ensures rights { result.rights ≡ walk.rights_in (walk.steps_to levels
+        (words_of (T.tables memory.now) (P.places mapping.now)) root position) }
+    ensures end { result.end ≡ walk.end_of (walk.steps_to levels
+        (words_of (T.tables memory.now) (P.places mapping.now)) root position) }
+{
+    let mut frame = root;
+    let mut rights = Rights::ALL;
+    for above in 0..levels {
+        let level = levels - above;
+        let count = above as usize;
+        let Some(table) = table_in(memory, mapping, frame) else {
+            return EntriesRead {
+                count,
+                rights,
+                end: WalkEnd::NoTable,
+            };
+        };
+        let index = index_of(position, level);
+        let entry = &table[index];
+        rights = rights.below(entry);
+        entries[count] = WalkEntry {
+            level,
+            table: frame.start_address().as_u64(),
+            index: index as u64,
+            word: entry.word(),
+        };
+        if let Some(end) = end_at(level, entry) {
+            return EntriesRead {
+                count: count + 1,
+                rights,
+                end,
+            };
+        }
+        frame = PhysFrame::from_start_address_unchecked(entry.addr());
+    }
+    EntriesRead {
+        count: levels as usize,
+        rights,
+        end: WalkEnd::NoTable,
+    }
+}
+
+/// Returns why a walk ends at an entry of a level, if it does: because the entry lacks `PRESENT`, maps a page, or has `HUGE_PAGE` where
+/// none may.
+fn end_at(level: u64, entry: &PageTableEntry) -> Option<WalkEnd>
+    requires { 1 ≤ level }
+    ensures some { IfSome result (λ end. end ≡ walk.end_at level entry.now) }
+    ensures ends { IfSome result (λ _. reads_on walk.no_limits level entry.now ≡ false) }
+    ensures none { IfNone result (reads_on walk.no_limits level entry.now ≡ true) }
+    ensures table { IfNone result (walk.end_at level entry.now ≡ NoTable) }
+{
+    if !has_flag(entry, PageTableFlags::PRESENT) {
+        Some(WalkEnd::NotPresent)
+    } else if entry.maps_page(level) {
+        Some(WalkEnd::Page)
+    } else if has_flag(entry, PageTableFlags::HUGE_PAGE) {
+        Some(WalkEnd::HugePage)
+    } else {
+        None
+    }
+}

@@ -1,0 +1,133 @@
+//! The entries that a page walk reads, and why it ends.
+
+use crate::addresses::addr::VirtAddrIn;
+use crate::addresses::level_count::LevelCount;
+use crate::pages::frame::PhysFrame;
+use crate::pages::page::Size4KiB;
+use crate::tables::page_table::{has_flag, PageTableEntry, PageTableFlags, Rights};
+use crate::tables::phys_memory::{index_of, table_in, PageTableFrameMapping, TableMemory};
+
+/// The most levels of tables, and so the most entries that a walk reads.
+pub const MOST_LEVELS: usize = 5;
+
+/// An entry that a page walk reads.
+#[derive(Clone, Copy, Debug, PartialEq)]
+#[repr(C)]
+pub struct WalkEntry {
+    /// The level of its table.
+    pub level: u64,
+    /// The physical address of its table.
+    pub table: u64,
+    /// Its index in the table.
+    pub index: u64,
+    /// Its word.
+    pub word: u64,
+}
+
+impl WalkEntry {
+    /// No entry.
+    pub const NONE: WalkEntry = WalkEntry { level: 0, table: 0, index: 0, word: 0 };
+}
+
+/// Why a page walk ends at the last entry that it reads.
+#[derive(Clone, Copy, Debug, PartialEq)]
+pub enum WalkEnd {
+    /// The entry maps a page, at which the walk arrives.
+    Page,
+    /// The entry lacks `PRESENT`.
+    NotPresent,
+    /// The entry has `HUGE_PAGE` above level three, where it maps no page.
+    HugePage,
+    /// The table that the entry names isn't in the memory, or the root isn't, and no entry is read.
+    NoTable,
+}
+
+/// What a page walk reads.
+#[derive(Clone, Copy, Debug, PartialEq)]
+pub struct EntriesRead {
+    /// The number of entries.
+    pub count: usize,
+    /// What all of them allow.
+    pub rights: Rights,
+    /// Why the walk ends.
+    pub end: WalkEnd,
+}
+
+/// Writes the entries that the page walk to an address reads, from the root's on, and returns how many, what all of them allow, and why
+/// the walk ends. There are as many levels of page tables as the address has.
+///
+/// The tables may contain any words. Reserved bits but `HUGE_PAGE` are ignored, as in
+/// [`page_walk`](crate::tables::phys_memory::page_walk). The array keeps what it holds behind the entries that are written.
+///
+/// Requires that there is room for `L::LEVELS` entries. [`MOST_LEVELS`] are always enough.
+///
+/// # Panics
+///
+/// Panics if a condition doesn't hold. It is tested so:
+///
+/// ```text
+/// assert!(L::LEVELS <= entries.len() as u64);
+/// ```
+///
+/// # Proved
+///
+/// ```text
+/// requires { L.LEVELS ≤ length entries.old }
+/// ensures writes { walk.Writes (walk.steps_to L.LEVELS (words_of (T.tables memory.now) (P.places mapping.now)) root address) entries.old entries.new result.count }
+/// ensures rights { result.rights ≡ walk.rights_in (walk.steps_to L.LEVELS (words_of (T.tables memory.now) (P.places mapping.now)) root address) }
+/// ensures end { result.end ≡ walk.end_of (walk.steps_to L.LEVELS (words_of (T.tables memory.now) (P.places mapping.now)) root address) }
+/// ```
+pub fn read_entries<L: LevelCount, T: TableMemory, P: PageTableFrameMapping>(
+    memory: &T,
+    mapping: &P,
+    root: PhysFrame<Size4KiB>,
+    address: VirtAddrIn<L>,
+    entries: &mut [WalkEntry],
+) -> EntriesRead {
+    assert!(L::LEVELS <= entries.len() as u64);
+    read_from(memory, mapping, L::LEVELS, root, address.position(), entries)
+}
+
+/// Writes the entries that the walk to a position reads, the number of an address counted without the gap, through so many levels.
+fn read_from<T: TableMemory, P: PageTableFrameMapping>(
+    memory: &T,
+    mapping: &P,
+    levels: u64,
+    root: PhysFrame<Size4KiB>,
+    position: u64,
+    entries: &mut [WalkEntry],
+) -> EntriesRead {
+    let mut frame = root;
+    let mut rights = Rights::ALL;
+    for above in 0..levels {
+        let level = levels - above;
+        let count = above as usize;
+        let Some(table) = table_in(memory, mapping, frame) else {
+            return EntriesRead { count, rights, end: WalkEnd::NoTable };
+        };
+        let index = index_of(position, level);
+        let entry = &table[index];
+        rights = rights.below(entry);
+        entries[count] = WalkEntry { level, table: frame.start_address().as_u64(), index: index as u64, word: entry.word() };
+        if let Some(end) = end_at(level, entry) {
+            return EntriesRead { count: count + 1, rights, end };
+        }
+        frame = PhysFrame::from_start_address_unchecked(entry.addr());
+    }
+    EntriesRead { count: levels as usize, rights, end: WalkEnd::NoTable }
+}
+
+/// Returns why a walk ends at an entry of a level, if it does: because the entry lacks `PRESENT`, maps a page, or has `HUGE_PAGE` where
+/// none may.
+#[inline]
+fn end_at(level: u64, entry: &PageTableEntry) -> Option<WalkEnd> {
+    if !has_flag(entry, PageTableFlags::PRESENT) {
+        Some(WalkEnd::NotPresent)
+    } else if entry.maps_page(level) {
+        Some(WalkEnd::Page)
+    } else if has_flag(entry, PageTableFlags::HUGE_PAGE) {
+        Some(WalkEnd::HugePage)
+    } else {
+        None
+    }
+}
