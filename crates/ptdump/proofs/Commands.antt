@@ -5,7 +5,7 @@ use Rattle.ptdump_engine.specs.declared.request.Checking.{Checking}
 use Rattle.ptdump_engine.specs.declared.request.Command.{Command}
 use Rattle.ptdump_engine.specs.declared.request.Command.TheVariants.{Regions, Pages, Walk, Find, Check, Image, Picture, Info}
 use Rattle.ptdump_engine.specs.declared.request.WalkOptions.{WalkOptions}
-use Rattle.ptdump_engine.specs.declared.request.Selection.{Selection}
+use Rattle.x86_64_mappings.specs.declared.selection.Selection.{Selection}
 use Rattle.ptdump.specs.Asked.{AreAsked}
 use Rattle.ptdump.specs.Selections.{IsSelection}
 use Rattle.ptdump.specs.Requests.{AreNumbers, IsChecking, IsCommand, IsUnread, values}

@@ -4,7 +4,7 @@ use Rattle.std.specs.List.{count_by, list_all, list_any}
 use Rattle.clap.specs.Matches.{first_value}
 use Rattle.clap.specs.declared.parser.matches.Found.{Found}
 use Rattle.x86_64_model.specs.Mappings.{Rights}
-use Rattle.ptdump_engine.specs.declared.request.Selection.{Selection}
+use Rattle.x86_64_mappings.specs.declared.selection.Selection.{Selection}
 use Rattle.ptdump.specs.Options.{IsOption}
 
 -- whether a letter is in a text

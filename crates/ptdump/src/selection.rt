@@ -4,7 +4,7 @@ ghost use Rattle.std.specs.List.{count_by, list_all};
 ghost use Rattle.clap.specs.Matches.{first_value, found_of};
 ghost use Rattle.ptdump.specs.Reasons.{IsMistake};
 ghost use Rattle.ptdump.specs.Selections.{AreRights, IsSelection, are_letters, is_once};
-ghost use Rattle.ptdump_engine.specs.declared.request.Selection.{Selection};
+ghost use Rattle.x86_64_mappings.specs.declared.selection.Selection.{Selection};
 ghost use Rattle.x86_64_model.specs.Mappings.{Rights as Allowed};
 
 use crate::numbers::{NumberOption, option_of};

@@ -9,7 +9,7 @@ use Rattle.x86_64_model.specs.Memory.{Words, identity_places, words_of}
 use Rattle.x86_64_model.specs.Position.{position_count, raw}
 use Rattle.x86_64_model.proofs.Lemmas.Mappings.Placed.{mappings_fit}
 use Rattle.ptdump_engine.specs.ReachedTables.{first_address}
-use Rattle.ptdump_engine.specs.Selections.{includes}
+use Rattle.x86_64_mappings.specs.Selections.{includes}
 use Rattle.ptdump_engine.specs.declared.reached.positions.Positions.{Positions}
 use Rattle.ptdump_engine.specs.declared.reached.search.Search.{Search}
 use Rattle.ptdump_engine.specs.private.Reaching.{address_in, are_left_out, first_sought, firsts_of, kept, positions_of, searched, sought, sought_by, sought_in}

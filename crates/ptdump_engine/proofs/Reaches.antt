@@ -19,7 +19,7 @@ use Rattle.x86_64_model.specs.Position.{position_count, span}
 use Rattle.x86_64_model.proofs.Lemmas.Mappings.Placed.{mappings_fit, mappings_placed}
 use Rattle.x86_64_model.proofs.Lemmas.Mappings.RegionLaws.{IsPlaced}
 use Rattle.x86_64_tables.specs.Rights.{both}
-use Rattle.ptdump_engine.specs.Selections.{includes}
+use Rattle.x86_64_mappings.specs.Selections.{includes}
 use Rattle.ptdump_engine.specs.declared.reached.positions.Positions.{Positions}
 use Rattle.ptdump_engine.specs.declared.reached.search.Found.{Found}
 use Rattle.ptdump_engine.specs.declared.reached.search.Search.{Search}

@@ -16,7 +16,7 @@ use Rattle.x86_64_model.specs.Position.{raw}
 use Rattle.x86_64_model.specs.Regions.{regions_in}
 use Rattle.ptdump_engine.specs.Findings as findings
 use Rattle.ptdump_engine.specs.ReachedTables.{all_reached, first_to, for_user, frames_in_order, reached_at, writable_for_user}
-use Rattle.ptdump_engine.specs.Selections.{is_selected}
+use Rattle.x86_64_mappings.specs.Selections.{is_selected}
 use Rattle.ptdump_engine.specs.Reserved.{lists_mappings, reserved_count, reserved_entries, reserved_line, reserved_note}
 use Rattle.ptdump_engine.specs.WritableTables.{all_writable, writable_at, writable_outside}
 use Rattle.ptdump_engine.specs.Findings.{aliases_asked, all_named_often, check_text, entries_in, finding_lines, finds_nothing, flawed_lines, frames_above, flaw_in, flawed_entries, missing, name_by, names_in, names_in_order, processor, processor_of, said_of, table_findings, tables_in_order}

@@ -18,7 +18,7 @@ use Rattle.ptdump_engine.specs.declared.request.AddressRange.{AddressRange}
 use Rattle.ptdump_engine.specs.declared.request.Command.{Command}
 use Rattle.ptdump_engine.specs.declared.request.Command.TheVariants as commands
 use Rattle.ptdump_engine.specs.declared.request.Request.{Request}
-use Rattle.ptdump_engine.specs.declared.request.Selection.{Selection}
+use Rattle.x86_64_mappings.specs.declared.selection.Selection.{Selection}
 use Rattle.ptdump_engine.specs.declared.start.Start.{Start}
 
 -- it isn't that of a read or a write

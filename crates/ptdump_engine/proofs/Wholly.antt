@@ -24,7 +24,7 @@ use Rattle.ptdump_engine.specs.Lines.{mapping_line, region_line, walk_lines}
 use Rattle.ptdump_engine.specs.Program.{Machine, Opened, ReportsAll, ReportsOf, RunsAs, RunsOnDump, RunsOnProcessors, RunsOnTables, completeness_of, contents_for, dump_for, info_of, machine_for, opened_for, processors_for, report_in, report_of, start_for}
 use Rattle.ptdump_engine.specs.Reports.{address_line, addresses_text, find_text, pages_text, regions_text, walks_text}
 use Rattle.ptdump_engine.specs.Said.{line_of}
-use Rattle.ptdump_engine.specs.Selections.{is_mapping_selected, is_selected}
+use Rattle.x86_64_mappings.specs.Selections.{is_mapping_selected, is_selected}
 use Rattle.ptdump_engine.specs.Steps.{FailsBy, IsForced, and_then, of_dump}
 use Rattle.ptdump_engine.specs.Walks.{walk_text}
 use Rattle.ptdump_engine.specs.declared.failure.Failure.{Failure}

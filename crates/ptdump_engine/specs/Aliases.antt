@@ -8,9 +8,9 @@ use Rattle.x86_64_model.specs.Regions.{same_rights}
 use Rattle.ptdump_engine.specs.FindingObjects.{json_of_aliased}
 use Rattle.ptdump_engine.specs.FindingTexts.{aliased_text}
 use Rattle.ptdump_engine.specs.Said.{Said}
-use Rattle.ptdump_engine.specs.Selections.{is_mapping_selected}
+use Rattle.x86_64_mappings.specs.Selections.{is_mapping_selected}
 use Rattle.ptdump_engine.specs.declared.findings.aliased.Aliased.{Aliased}
-use Rattle.ptdump_engine.specs.declared.request.Selection.{Selection}
+use Rattle.x86_64_mappings.specs.declared.selection.Selection.{Selection}
 
 -- whether a mapping's frame contains that of another
 abbrev pub contains : (outer inner : Mapping) → Bool

@@ -15,7 +15,7 @@ use Rattle.ptdump_engine.specs.FindingTexts.{count_text, finding_text, flawed_te
 use Rattle.ptdump_engine.specs.InOrder.{in_order}
 use Rattle.ptdump_engine.specs.ReachedTables.{all_reached}
 use Rattle.ptdump_engine.specs.Said.{Said, line_of}
-use Rattle.ptdump_engine.specs.Selections.{is_selected}
+use Rattle.x86_64_mappings.specs.Selections.{is_selected}
 use Rattle.ptdump_engine.specs.WritableTables.{all_writable}
 use Rattle.ptdump_engine.specs.declared.findings.entry.Entry.{Entry}
 use Rattle.ptdump_engine.specs.declared.findings.entry.Slot.{Slot}

@@ -42,7 +42,7 @@ use Rattle.ptdump_engine.specs.declared.processors.Processor.{Processor}
 use Rattle.ptdump_engine.specs.declared.request.Form.{Form}
 use Rattle.ptdump_engine.specs.declared.request.Outcome.{Outcome}
 use Rattle.ptdump_engine.specs.declared.request.Request.{Request}
-use Rattle.ptdump_engine.specs.declared.request.Selection.{Selection}
+use Rattle.x86_64_mappings.specs.declared.selection.Selection.{Selection}
 use Rattle.ptdump_engine.specs.declared.start.Origin.{Origin}
 use Rattle.ptdump_engine.specs.declared.start.Origin.TheVariants.{ByKernel, ByText}
 use Rattle.ptdump_engine.specs.declared.start.Start.{Start}

@@ -5,7 +5,7 @@ use Rattle.x86_64_mappings.specs.Wanted.{leads_to}
 use Rattle.x86_64_model.specs.Mappings.{Mapping, Rights, mappings_of}
 use Rattle.x86_64_model.specs.Memory.{Words}
 use Rattle.x86_64_model.specs.Position.{raw}
-use Rattle.ptdump_engine.specs.Selections.{includes}
+use Rattle.x86_64_mappings.specs.Selections.{includes}
 use Rattle.ptdump_engine.specs.declared.findings.entry.Table.{Table}
 use Rattle.ptdump_engine.specs.declared.findings.finding.Finding.{Finding}
 use Rattle.ptdump_engine.specs.declared.findings.finding.Finding.TheVariants.{WritableForUser, MappedForUser}

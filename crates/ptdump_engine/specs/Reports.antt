@@ -8,9 +8,9 @@ use Rattle.x86_64_model.specs.Regions.{regions_of}
 use Rattle.x86_64_mappings.specs.Wanted.{leads_to}
 use Rattle.ptdump_engine.specs.Accesses.{is_there}
 use Rattle.ptdump_engine.specs.Lines.{found_line, mapping_line, region_line, walk_lines}
-use Rattle.ptdump_engine.specs.Selections.{is_mapping_selected, is_selected}
+use Rattle.x86_64_mappings.specs.Selections.{is_mapping_selected, is_selected}
 use Rattle.ptdump_engine.specs.declared.request.Form.{Form}
-use Rattle.ptdump_engine.specs.declared.request.Selection.{Selection}
+use Rattle.x86_64_mappings.specs.declared.selection.Selection.{Selection}
 use Rattle.ptdump_engine.specs.declared.request.WalkOptions.{WalkOptions}
 
 -- a line for each region that is selected

@@ -6,7 +6,8 @@ use Rattle.x86_64_model.specs.Mappings.{Mapping, Rights, mappings_of}
 use Rattle.x86_64_model.specs.Memory.{Words}
 use Rattle.x86_64_model.specs.Position.{raw}
 use Rattle.ptdump_engine.specs.ReachedTables.{frames_in_order}
-use Rattle.ptdump_engine.specs.Selections.{includes, lies_in}
+use Rattle.x86_64_mappings.specs.Selections.{includes}
+use Rattle.ptdump_engine.specs.Selections.{lies_in}
 use Rattle.ptdump_engine.specs.declared.findings.entry.Table.{Table}
 use Rattle.ptdump_engine.specs.declared.findings.finding.Finding.{Finding}
 use Rattle.ptdump_engine.specs.declared.findings.finding.Finding.TheVariants.{WritableOutside}

@@ -1,13 +1,12 @@
 //! Mappings that are listed with the names of their flags.
 ghost use Rattle.std.specs.Prelude.{◌≡◌, filter, OnOk};
-ghost use Rattle.ptdump_engine.specs.Selections.{is_mapping_selected};
+ghost use Rattle.x86_64_mappings.specs.Selections.{is_mapping_selected};
 ghost use Rattle.ptdump_engine.specs.private.Asked.{mappings_asked};
 
 use crate::names::NamedMapping;
 use crate::request::Selection;
-use crate::selected::visit_selected_mappings;
 use x86_64_addr::level_count::LevelCount;
-use x86_64_mappings::{MappingIn, Summaries, Visitor};
+use x86_64_mappings::{MappingIn, Summaries, Visitor, visit_selected_mappings};
 use x86_64_page::frame::PhysFrame;
 use x86_64_page::page::Size4KiB;
 use x86_64_tables::phys_memory::{IdentityMapping, PhysMemory};
@@ -27,7 +26,12 @@ pub fn visit_named_mappings<L: LevelCount, V: Visitor<NamedMapping<L>>>(
         (is_mapping_selected L.LEVELS selection) (mappings_asked summaries.now L.LEVELS root))) }
 {
     let mut naming = Naming::new(visitor);
-    visit_selected_mappings::<L, Naming<'_, V>>(summaries, root, selection, &mut naming)
+    visit_selected_mappings::<L, PhysMemory, IdentityMapping, Naming<'_, V>>(
+        summaries,
+        root,
+        selection,
+        &mut naming,
+    )
 }
 
 /// A visitor that passes mappings on with the names of their flags.

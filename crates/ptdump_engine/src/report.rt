@@ -22,13 +22,13 @@ use crate::loaded::Loaded;
 use crate::naming::visit_named_mappings;
 use crate::output::{Output, OutputError};
 use crate::request::{Form, Selection, WalkOptions};
-use crate::selected::{visit_selected_mappings, visit_selected_regions};
+use crate::selected::visit_selected_regions;
 use crate::walk::write_walk;
 use crate::walked::walk_to;
 use std::alloc::Global;
 use x86_64_addr::addr::{PhysAddr, VirtAddrIn};
 use x86_64_addr::level_count::LevelCount;
-use x86_64_mappings::{Summaries, visit_mappings};
+use x86_64_mappings::{Summaries, visit_mappings, visit_selected_mappings};
 use x86_64_tables::phys_memory::{IdentityMapping, PhysMemory};
 
 /// Writes a line in a form for each region that is selected.
@@ -98,7 +98,7 @@ fn write_pages_as_text<L: LevelCount, W: Destination>(
     if has_names {
         visit_named_mappings::<L, Output<'_, W>>(loaded.summaries, loaded.root, selection, output)
     } else {
-        visit_selected_mappings::<L, Output<'_, W>>(
+        visit_selected_mappings::<L, PhysMemory, IdentityMapping, Output<'_, W>>(
             loaded.summaries,
             loaded.root,
             selection,

@@ -7,7 +7,7 @@ use std::fmt::{Display, Formatter, Result as FmtResult, Write};
 use x86_64_access::{Access, Controls};
 pub use x86_64_addr::level_count::Levels;
 use x86_64_dump::Placement;
-use x86_64_tables::page_table::Rights;
+pub use x86_64_mappings::Selection;
 
 /// What is asked of the walk to each address, beside its words and its end.
 #[derive(Clone, Copy)]
@@ -19,26 +19,6 @@ pub struct WalkOptions {
     pub explains: bool,
     /// The access of which the report also says what the processor does with it, if there is one.
     pub access: Option<Access>,
-}
-
-/// Which mappings or regions to report or to check: those that reach into the addresses from one to another, and have at least some rights.
-#[derive(Clone, Copy)]
-pub struct Selection {
-    /// The first of the addresses. If `None`, it is the first of all.
-    pub from: Option<u64>,
-    /// The last of the addresses. If `None`, it is the last of all.
-    pub to: Option<u64>,
-    /// The rights that each of them has, perhaps with others.
-    pub rights: Rights,
-}
-
-impl Selection {
-    /// Everything that is mapped.
-    pub const ALL: Selection = Selection {
-        from: None,
-        to: None,
-        rights: Rights::NONE,
-    };
 }
 
 /// The addresses from a first one to a last one, both included. As text these are both, joined by `-`.

@@ -1,6 +1,7 @@
 -- Visits of the entries of a table, one after the other.
-use Rattle.std.proofs.Common.{zero, suc, ◌≡◌, ◌<◌, ◌≤◌, ◌+◌, ◌-◌, ◌*◌, ◌/◌, ◌%◌, ℕ, true, false, cond, List, [], ◌++◌, length, get_or, take, sym, ap, ◌∙◌, subst, arith, append-nil}
+use Rattle.std.proofs.Common.{zero, suc, ◌≡◌, ◌<◌, ◌≤◌, ◌+◌, ◌-◌, ◌*◌, ◌/◌, ◌%◌, ◌&&◌, ℕ, Bool, true, false, cond, List, [], ◌∷◌, ◌++◌, filter, refl, length, get_or, take, sym, ap, ◌∙◌, subst, arith, append-nil}
 use Rattle.std.proofs.Math.Nat.{add-mul, add-mul-mod_self_right, div-add-mod, mul-le-mul_right, mul-mod_left, mul_assoc, mul_comm}
+use Rattle.std.proofs.lemmas.List.Elements.{filter-append}
 use Rattle.x86_64_model.specs.Entry.{present}
 use Rattle.x86_64_model.specs.Position.{span}
 use Rattle.x86_64_model.specs.Mappings.{Rights, Mapping}
@@ -56,3 +57,22 @@ module _ (asked : Asked) (level s : ℕ) (r : Rights) (words : List ℕ) (i : �
   pub visited_same : asked_by asked level (s + i * span level) r (get_or words i 0) ≡ []
       → P (asked_on asked level s r (take i words)) → P (asked_on asked level s r (take (i + 1) words))
   visited_same none p = visited_more [] none (subst P (sym (append-nil (asked_on asked level s r (take i words)))) p)
+
+  -- likewise for those of the mappings that pass a test
+  module _ (passes : Mapping → Bool) where
+    pub kept_more : (back : List Mapping) → filter passes (asked_by asked level (s + i * span level) r (get_or words i 0)) ≡ back
+        → P (filter passes (asked_on asked level s r (take i words)) ++ back) → P (filter passes (asked_on asked level s r (take (i + 1) words)))
+    kept_more back is p =
+        let front = asked_on asked level s r (take i words) in
+        let more = asked_by asked level (s + i * span level) r (get_or words i 0) in
+        subst P (ap (filter passes) (sym (on_more asked level s r words i less)))
+        (subst P (sym (filter-append passes front more)) (subst (λ back. P (filter passes front ++ back)) (sym is) p))
+
+    pub kept_same : filter passes (asked_by asked level (s + i * span level) r (get_or words i 0)) ≡ []
+        → P (filter passes (asked_on asked level s r (take i words))) → P (filter passes (asked_on asked level s r (take (i + 1) words)))
+    kept_same none p = kept_more [] none (subst P (sym (append-nil (filter passes (asked_on asked level s r (take i words))))) p)
+
+-- a mapping that has to pass two tests
+pub kept_page : (passes : Mapping → Bool) (b : Bool) (m : Mapping) → filter passes (cond b (m ∷ []) []) ≡ cond (b && passes m) (m ∷ []) []
+kept_page passes true m = refl
+kept_page passes false m = refl

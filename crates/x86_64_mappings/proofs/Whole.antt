@@ -90,7 +90,7 @@ placed_chain s a b r (m ∷ ms) h = (
   chain_wider (s + m.start + m.size) (s + (m.start + m.size)) (s + b) (s + b) (map (placed s r) ms) (omega arith) (omega arith) (placed_chain s (m.start + m.size) b r ms h.2),
 )
 
-asked_chain : (asked : Asked) (n f s : ℕ) (r : Rights) → IsChain s (s + position_count n) (map (placed s r) (asked_mappings asked n f))
+pub asked_chain : (asked : Asked) (n f s : ℕ) (r : Rights) → IsChain s (s + position_count n) (map (placed s r) (asked_mappings asked n f))
 asked_chain asked n f s r =
     let all = chain_filter (is_wanted asked.wanted) 0 (position_count n) (mappings_of n asked.words f) (mappings_chain n asked.words f) in
     subst (λ z. IsChain z (s + position_count n) (map (placed s r) (asked_mappings asked n f))) (let e : s + 0 ≡ s = omega arith in e) (placed_chain s 0 (position_count n) r (asked_mappings asked n f) all)

@@ -2,6 +2,7 @@ pub mod Views
 pub mod Texts
 pub mod Summaries
 pub mod Wanted
+pub mod Selections
 pub mod Numbers
 pub mod WalkEntries
 pub mod private

@@ -7,6 +7,7 @@ mod listing;
 mod mapping;
 mod region;
 mod region_list;
+mod selection;
 mod summaries;
 pub mod text;
 mod walk_entries;
@@ -15,5 +16,8 @@ pub use listing::{Mappings, Mappings57, MappingsIn, mappings, mappings_57, mappi
 pub use mapping::{Mapping, Mapping57, MappingIn};
 pub use region::{Region, Region57, RegionIn};
 pub use region_list::{Regions, Regions57, RegionsIn, regions, regions_57};
-pub use summaries::{Summaries, Summary, Visitor, visit_mappings, visit_regions};
+pub use selection::{Selection, includes};
+pub use summaries::{
+    Summaries, Summary, Visitor, visit_mappings, visit_regions, visit_selected_mappings,
+};
 pub use walk_entries::{EntriesRead, MOST_LEVELS, WalkEnd, WalkEntry, read_entries};

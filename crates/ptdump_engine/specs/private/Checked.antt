@@ -7,7 +7,7 @@ use Rattle.ptdump_engine.specs.Aliases.{alias_lines}
 use Rattle.ptdump_engine.specs.Findings.{findings_by, flawed_lines, said_of}
 use Rattle.ptdump_engine.specs.Loaded.{words_loaded}
 use Rattle.ptdump_engine.specs.Said.{Said}
-use Rattle.ptdump_engine.specs.Selections.{is_selected}
+use Rattle.x86_64_mappings.specs.Selections.{is_selected}
 use Rattle.ptdump_engine.specs.declared.check.subject.Subject.{Subject}
 use Rattle.ptdump_engine.specs.declared.findings.finding.EntryFlaw.{EntryFlaw}
 use Rattle.ptdump_engine.specs.declared.findings.finding.EntryFlaw.TheVariants as flaws

@@ -1,6 +1,6 @@
 -- Passed: the items that a visitor passes on, since they are selected.
 use Rattle.std.specs.Prelude.{◌≡◌, Bool, List, filter}
-use Rattle.ptdump_engine.specs.declared.request.Selection.{Selection}
+use Rattle.x86_64_mappings.specs.declared.selection.Selection.{Selection}
 use Rattle.ptdump_engine.specs.declared.selected.Selected.{Selected}
 
 -- items were visited: those that are selected were passed on

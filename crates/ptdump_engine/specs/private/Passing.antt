@@ -1,7 +1,7 @@
 -- The items that are passed on, after parts of the visits.
 use Rattle.std.proofs.Common.{◌∙◌, ◌++◌, Bool, List, [], filter, refl, sym, subst}
 use Rattle.std.proofs.lemmas.List.Elements.{filter-append}
-use Rattle.ptdump_engine.specs.declared.request.Selection.{Selection}
+use Rattle.x86_64_mappings.specs.declared.selection.Selection.{Selection}
 use Rattle.ptdump_engine.specs.declared.selected.Selected.{Selected}
 use Rattle.ptdump_engine.specs.private.Passed.{IsPassedOn}
 

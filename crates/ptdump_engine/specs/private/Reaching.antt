@@ -8,7 +8,7 @@ use Rattle.x86_64_mappings.specs.private.Placed.{placed}
 use Rattle.x86_64_model.specs.Mappings.{Mapping, Rights, mappings_of}
 use Rattle.x86_64_model.specs.Memory.{Words, identity_places, words_of}
 use Rattle.x86_64_model.specs.Position.{position_count, raw, span}
-use Rattle.ptdump_engine.specs.Selections.{includes}
+use Rattle.x86_64_mappings.specs.Selections.{includes}
 use Rattle.ptdump_engine.specs.declared.reached.positions.Positions.{Positions}
 use Rattle.ptdump_engine.specs.declared.reached.search.Found.{Found}
 use Rattle.ptdump_engine.specs.declared.reached.search.Search.{Search}

@@ -13,10 +13,10 @@ use crate::findings::Aliased;
 use crate::line_output::LineOutput;
 use crate::loaded::Loaded;
 use crate::request::Selection;
-use crate::selected::visit_selected_mappings;
 use std::alloc::Global;
 use x86_64_addr::level_count::LevelCount;
-use x86_64_mappings::{MappingIn, Visitor};
+use x86_64_mappings::{MappingIn, Visitor, visit_selected_mappings};
+use x86_64_tables::phys_memory::{IdentityMapping, PhysMemory};
 
 /// A visitor that writes a line for each mapping that has an alias.
 ///
@@ -95,7 +95,7 @@ fn write_aliases_by<L: LevelCount, O: LineOutput>(
         (mappings_of L.LEVELS (words_loaded loaded.now) loaded.now.root))) }
 {
     let mut lines = AliasLines::new(firsts, output);
-    visit_selected_mappings::<L, AliasLines<'_, L, O>>(
+    visit_selected_mappings::<L, PhysMemory, IdentityMapping, AliasLines<'_, L, O>>(
         loaded.summaries,
         loaded.root,
         *selection,

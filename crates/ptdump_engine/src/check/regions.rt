@@ -3,7 +3,7 @@ ghost use Rattle.std.specs.Prelude.{◌≡◌, OnOk, filter};
 ghost use Rattle.x86_64_model.specs.Regions.{regions_of};
 ghost use Rattle.ptdump_engine.specs.Findings.{flawed_lines};
 ghost use Rattle.ptdump_engine.specs.Loaded.{IsLoaded, words_loaded};
-ghost use Rattle.ptdump_engine.specs.Selections.{is_selected};
+ghost use Rattle.x86_64_mappings.specs.Selections.{is_selected};
 
 use crate::findings::{Flaw, FlawedRegion};
 use crate::line_output::LineOutput;

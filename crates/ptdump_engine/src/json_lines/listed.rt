@@ -3,7 +3,7 @@ ghost use Rattle.std.specs.Prelude.{◌≡◌, filter, IfOk, OnOk, Some};
 ghost use Rattle.std.specs.List.{flat_map};
 ghost use Rattle.std.proofs.Common.{refl};
 ghost use Rattle.ptdump_engine.specs.Json as json;
-ghost use Rattle.ptdump_engine.specs.Selections.{is_mapping_selected, is_selected};
+ghost use Rattle.x86_64_mappings.specs.Selections.{is_mapping_selected, is_selected};
 ghost use Rattle.ptdump_engine.specs.Walks.{rights_at_text};
 ghost use Rattle.ptdump_engine.specs.private.Asked.{mappings_asked, regions_asked};
 ghost use Rattle.ptdump_engine.specs.private.Objects.{members_in};
@@ -14,14 +14,15 @@ use crate::lines::Lines;
 use crate::loaded::Loaded;
 use crate::request::Selection;
 use crate::rights_at::RightsAt;
-use crate::selected::{visit_selected_mappings, visit_selected_regions};
+use crate::selected::visit_selected_regions;
 use bitflags::Flags;
 use serde_json::Value;
 use std::alloc::{AllocError, Global};
 use std::fmt::{Display, Formatter, Result as FmtResult, Write};
 use x86_64_addr::addr::PhysAddr;
 use x86_64_addr::level_count::LevelCount;
-use x86_64_mappings::{MappingIn, RegionIn};
+use x86_64_mappings::{MappingIn, RegionIn, visit_selected_mappings};
+use x86_64_tables::phys_memory::{IdentityMapping, PhysMemory};
 
 impl<L: LevelCount> ToJson for RegionIn<L> {
     ghost json = { λ region. json.json_of_region L.LEVELS region };
@@ -137,7 +138,7 @@ pub fn write_json_pages<L: LevelCount, O: Lines>(
         (mappings_asked loaded.now.summaries.now L.LEVELS loaded.now.root)))) }
 {
     let mut lines = JsonLines::new(alloc, output);
-    visit_selected_mappings::<L, JsonLines<'_, O>>(
+    visit_selected_mappings::<L, PhysMemory, IdentityMapping, JsonLines<'_, O>>(
         loaded.summaries,
         loaded.root,
         selection,

@@ -5,16 +5,15 @@ ghost use Rattle.std.specs.List.Sorted.{IsNonDecreasingBy};
 ghost use Rattle.x86_64_model.specs.Mappings.{Mapping};
 ghost use Rattle.x86_64_model.specs.Memory.{identity_places, words_of};
 ghost use Rattle.x86_64_model.specs.Position.{span as span_of, position_count};
-ghost use Rattle.ptdump_engine.specs.Selections as selections;
+ghost use Rattle.x86_64_mappings.specs.Selections as selections;
 ghost use Rattle.ptdump_engine.specs.private.Reaching as reaching;
 
 use crate::reached::firsts::note;
 use crate::reached::positions::Positions;
-use crate::selected::includes;
 use std::alloc::{AllocError, Global};
 use std::collections::{HashMap, HashSet};
 use x86_64_addr::level_count::LevelCount;
-use x86_64_mappings::{MappingIn, span};
+use x86_64_mappings::{MappingIn, includes, span};
 use x86_64_page::frame::PhysFrame;
 use x86_64_page::page::{PageSize, Size4KiB};
 use x86_64_tables::page_table::{EntryTarget, Rights};

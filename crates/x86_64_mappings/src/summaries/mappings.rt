@@ -1,10 +1,12 @@
 //! Visits of mappings.
-ghost use Rattle.std.specs.Prelude.{◌≡◌, ◌<◌, ◌≤◌, ◌+◌, ◌*◌, ◌%◌, OnOk, length, true, []};
+ghost use Rattle.std.specs.Prelude.{◌≡◌, ◌<◌, ◌≤◌, ◌+◌, ◌*◌, ◌%◌, ◌&&◌, OnOk, filter, length, true, []};
 ghost use Rattle.x86_64_model.specs.Position.{span as span_of, position_count};
-ghost use Rattle.x86_64_mappings.specs.Wanted.{asked_of, asked_mappings};
+ghost use Rattle.x86_64_mappings.specs.Selections.{is_mapping_selected};
+ghost use Rattle.x86_64_mappings.specs.Wanted.{asked_of, asked_mappings, is_wanted};
 ghost use Rattle.x86_64_mappings.specs.private.Targets.{asked_in, asked_on};
 ghost use Rattle.x86_64_mappings.specs.private.Known.{asking};
 
+use crate::selection::{Selection, includes};
 use crate::summaries::query::Query;
 use crate::summaries::reached_table::ReachedTable;
 use crate::summaries::table_summaries::Summaries;
@@ -36,13 +38,39 @@ pub fn visit_mappings<
     ensures { OnOk result (V.Visits visitor.old visitor.new
         (asked_mappings (asked_of T.tables P.places summaries.now) L.LEVELS root)) }
 {
-    let table = ReachedTable::root::<L>(root);
-    visit_table::<L, T, P, V>(summaries, &table, visitor)
+    visit_selected_mappings::<L, T, P, V>(summaries, root, Selection::ALL, visitor)
 }
 
-/// Visits the wanted mappings of a table.
+/// Visits the wanted mappings below a root that are selected, in order of their starts.
+///
+/// A table that is known to map nothing wanted is skipped, and so is a table that can't map anything selected, by the addresses
+/// that it spans and by the rights that some of its mappings have.
+///
+/// # Errors
+///
+/// The error of the visitor, which ends the visits.
+pub fn visit_selected_mappings<
+    L: LevelCount,
+    T: TableMemory,
+    P: PageTableFrameMapping,
+    V: Visitor<MappingIn<L>>,
+>(
+    summaries: &Summaries<'_, T, P>,
+    root: PhysFrame<Size4KiB>,
+    selection: Selection,
+    visitor: &mut V,
+) -> Result<(), V::Error>
+    ensures { OnOk result (V.Visits visitor.old visitor.new (filter (is_mapping_selected L.LEVELS selection)
+        (asked_mappings (asked_of T.tables P.places summaries.now) L.LEVELS root))) }
+{
+    let table = ReachedTable::root::<L>(root);
+    visit_table::<L, T, P, V>(summaries, selection, &table, visitor)
+}
+
+/// Visits the wanted mappings of a table that are selected.
 fn visit_table<L: LevelCount, T: TableMemory, P: PageTableFrameMapping, V: Visitor<MappingIn<L>>>(
     summaries: &Summaries<'_, T, P>,
+    selection: Selection,
     table: &ReachedTable,
     visitor: &mut V,
 ) -> Result<(), V::Error>
@@ -50,8 +78,8 @@ fn visit_table<L: LevelCount, T: TableMemory, P: PageTableFrameMapping, V: Visit
     requires high { table.now.level ≤ 5 }
     requires aligned { table.now.start % span_of table.now.level ≡ 0 }
     requires inside { table.now.start + 512 * span_of table.now.level ≤ position_count L.LEVELS }
-    ensures { OnOk result (V.Visits visitor.old visitor.new
-        (asked_in (asked_of T.tables P.places summaries.now) table.now)) }
+    ensures { OnOk result (V.Visits visitor.old visitor.new (filter (is_mapping_selected L.LEVELS selection)
+        (asked_in (asked_of T.tables P.places summaries.now) table.now))) }
 {
     let query = summaries.query();
     let Some(words) = query.table(table.frame) else {
@@ -59,7 +87,14 @@ fn visit_table<L: LevelCount, T: TableMemory, P: PageTableFrameMapping, V: Visit
     };
     let entries = words.as_slice();
     if table.level == 1 {
-        return visit_small_pages::<L, T, P, V>(query, entries, table.start, table.above, visitor);
+        return visit_small_pages::<L, T, P, V>(
+            query,
+            selection,
+            entries,
+            table.start,
+            table.above,
+            visitor,
+        );
     }
     let size = span(table.level);
     let mut start = table.start;
@@ -67,14 +102,14 @@ fn visit_table<L: LevelCount, T: TableMemory, P: PageTableFrameMapping, V: Visit
         match entry.target(table.level) {
             EntryTarget::Page => {
                 let page = MappingIn::of_page(table.level, start, entry, table.above);
-                if query.wants(&page) {
+                if takes(query, selection, &page) {
                     visitor.visit(page)?;
                 }
             }
             EntryTarget::Table(frame) => {
-                if !maps_nothing(summaries, table.level - 1, frame) {
-                    let below = table.below(entry, frame, start);
-                    visit_table::<L, T, P, V>(summaries, &below, visitor)?;
+                let below = table.below(entry, frame, start);
+                if !maps_nothing::<L, T, P>(summaries, selection, &below) {
+                    visit_table::<L, T, P, V>(summaries, selection, &below, visitor)?;
                 }
             }
             EntryTarget::Nothing => {}
@@ -84,22 +119,45 @@ fn visit_table<L: LevelCount, T: TableMemory, P: PageTableFrameMapping, V: Visit
     Ok(())
 }
 
-/// Returns true if a table is known to map nothing wanted.
-fn maps_nothing<T: TableMemory, P: PageTableFrameMapping>(
-    summaries: &Summaries<'_, T, P>,
-    level: u64,
-    frame: PhysFrame<Size4KiB>,
+/// Returns true if a mapping is wanted and selected.
+fn takes<L: LevelCount, T, P>(
+    query: &Query<'_, T, P>,
+    selection: Selection,
+    mapping: &MappingIn<L>,
 ) -> bool
-    ensures { result ≡ true → asked_mappings (asked_of T.tables P.places summaries.now) level frame ≡ [] }
+    ensures { result ≡ (is_wanted query.now.wanted mapping.now
+        && is_mapping_selected L.LEVELS selection mapping.now) }
 {
-    match summaries.of(level, frame) {
-        Some(summary) => summary.count == 0,
-        None => false,
+    let first = mapping.start.position();
+    let last = first + (mapping.size() - 1);
+    query.wants(mapping) && selection.selects::<L>(first, last, mapping.rights)
+}
+
+/// Returns true if a table is known to map nothing that is wanted and selected.
+fn maps_nothing<L: LevelCount, T: TableMemory, P: PageTableFrameMapping>(
+    summaries: &Summaries<'_, T, P>,
+    selection: Selection,
+    table: &ReachedTable,
+) -> bool
+    requires low { 1 ≤ table.now.level }
+    requires high { table.now.level < 5 }
+    requires inside { table.now.start + position_count table.now.level ≤ position_count L.LEVELS }
+    ensures { result ≡ true → filter (is_mapping_selected L.LEVELS selection)
+        (asked_in (asked_of T.tables P.places summaries.now) table.now) ≡ [] }
+{
+    let last = table.start + (span(table.level + 1) - 1);
+    if !selection.reaches::<L>(table.start, last) {
+        return true;
+    }
+    match summaries.of(table.level, table.frame) {
+        Some(summary) if summary.count == 0 => true,
+        Some(summary) => !includes(table.above.and(summary.some), selection.rights),
+        None => !includes(table.above, selection.rights),
     }
 }
 
-/// Visits the wanted mappings by the entries of a table of level one, whose span starts at a position, below entries that
-/// allow `above`.
+/// Visits the wanted mappings that are selected, by the entries of a table of level one, whose span starts at a position, below
+/// entries that allow `above`.
 fn visit_small_pages<
     L: LevelCount,
     T: TableMemory,
@@ -107,6 +165,7 @@ fn visit_small_pages<
     V: Visitor<MappingIn<L>>,
 >(
     query: &Query<'_, T, P>,
+    selection: Selection,
     entries: &[PageTableEntry],
     start: u64,
     above: Rights,
@@ -115,14 +174,14 @@ fn visit_small_pages<
     requires size { length entries.now ≡ 512 }
     requires aligned { start % span_of 1 ≡ 0 }
     requires inside { start + 512 * span_of 1 ≤ position_count L.LEVELS }
-    ensures { OnOk result (V.Visits visitor.old visitor.new
-        (asked_on (asked_of T.tables P.places (asking query.now)) 1 start above entries.now)) }
+    ensures { OnOk result (V.Visits visitor.old visitor.new (filter (is_mapping_selected L.LEVELS selection)
+        (asked_on (asked_of T.tables P.places (asking query.now)) 1 start above entries.now))) }
 {
     let mut start = start;
     for entry in entries {
         if has_flag(entry, PageTableFlags::PRESENT) {
             let page = MappingIn::of_page(1, start, entry, above);
-            if query.wants(&page) {
+            if takes(query, selection, &page) {
                 visitor.visit(page)?;
             }
         }

@@ -10,7 +10,7 @@ use Rattle.ptdump_engine.specs.ReachedTables.{all_reached}
 use Rattle.ptdump_engine.specs.Loaded.{HasAllTables, words_loaded}
 use Rattle.ptdump_engine.specs.Output.{Puts}
 use Rattle.ptdump_engine.specs.Said.{Said, line_of}
-use Rattle.ptdump_engine.specs.Selections.{is_selected}
+use Rattle.x86_64_mappings.specs.Selections.{is_selected}
 use Rattle.ptdump_engine.specs.WritableTables.{all_writable}
 use Rattle.ptdump_engine.specs.declared.check.subject.Subject.{Subject}
 use Rattle.ptdump_engine.specs.declared.findings.entry.Table.{Table}
@@ -19,7 +19,7 @@ use Rattle.ptdump_engine.specs.declared.findings.flaw.Flaw.TheVariants.{Writable
 use Rattle.ptdump_engine.specs.declared.findings.names.Name.{Name}
 use Rattle.ptdump_engine.specs.declared.loaded.Loaded.{Loaded}
 use Rattle.ptdump_engine.specs.declared.request.Checking.{Checking}
-use Rattle.ptdump_engine.specs.declared.request.Selection.{Selection}
+use Rattle.x86_64_mappings.specs.declared.selection.Selection.{Selection}
 use Rattle.x86_64_access.specs.declared.controls.Controls.{Controls}
 use Rattle.ptdump_engine.specs.private.Ascending.{Ascend}
 use Rattle.ptdump_engine.specs.private.Checked.{finding_lines_by}

@@ -3,7 +3,7 @@ use Rattle.std.specs.List.{flat_map}
 use Rattle.ptdump_engine.specs.Lines.{mapping_line}
 use Rattle.ptdump_engine.specs.Output.{Puts}
 use Rattle.ptdump_engine.specs.Reports.{pages_text}
-use Rattle.ptdump_engine.specs.Selections.{is_mapping_selected}
+use Rattle.x86_64_mappings.specs.Selections.{is_mapping_selected}
 use Rattle.ptdump_engine.proofs.Asked.{all_asked}
 use Rattle.ptdump_engine.proofs.Results.{on_ok}
 use Rattle.ptdump_engine.proofs.report.write_pages.Goals as goal

@@ -5,7 +5,7 @@ use Rattle.ptdump_engine.specs.Loaded.{words_loaded}
 use Rattle.ptdump_engine.specs.Names.{named_text}
 use Rattle.ptdump_engine.specs.Output.{Puts}
 use Rattle.ptdump_engine.specs.Reports.{pages_text}
-use Rattle.ptdump_engine.specs.Selections.{is_mapping_selected}
+use Rattle.x86_64_mappings.specs.Selections.{is_mapping_selected}
 use Rattle.ptdump_engine.specs.Walks.{line}
 use Rattle.ptdump_engine.specs.declared.request.Form.TheVariants.{Text}
 use Rattle.ptdump_engine.proofs.Asked.{all_asked}

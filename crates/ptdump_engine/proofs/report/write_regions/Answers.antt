@@ -4,7 +4,7 @@ use Rattle.x86_64_model.specs.Regions.{regions_in}
 use Rattle.ptdump_engine.specs.Lines.{region_line}
 use Rattle.ptdump_engine.specs.Output.{Puts}
 use Rattle.ptdump_engine.specs.Reports.{regions_text}
-use Rattle.ptdump_engine.specs.Selections.{is_selected}
+use Rattle.x86_64_mappings.specs.Selections.{is_selected}
 use Rattle.ptdump_engine.proofs.Asked.{all_asked}
 use Rattle.ptdump_engine.proofs.Results.{on_ok}
 use Rattle.ptdump_engine.proofs.report.write_regions.Goals as goal

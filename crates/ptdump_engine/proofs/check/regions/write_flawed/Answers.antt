@@ -2,7 +2,7 @@ use Rattle.std.proofs.Common.{rules, ◌≡◌, filter, subst}
 use Rattle.x86_64_model.specs.Regions.{regions_in, regions_of}
 use Rattle.ptdump_engine.specs.Findings.{flawed_lines}
 use Rattle.ptdump_engine.specs.Loaded.{words_loaded}
-use Rattle.ptdump_engine.specs.Selections.{is_selected}
+use Rattle.x86_64_mappings.specs.Selections.{is_selected}
 use Rattle.ptdump_engine.specs.private.Flawed.{AreVisited}
 use Rattle.ptdump_engine.proofs.Asked.{all_asked}
 use Rattle.ptdump_engine.proofs.check.regions.write_flawed.Goals as goal

@@ -1,16 +1,17 @@
-use Rattle.std.proofs.Common.{◌≡◌, ◌<◌, ◌≤◌, ◌+◌, ◌-◌, ◌*◌, ◌%◌, ◌^◌, true, false, cond, [], ◌∷◌, length, get_or, map, take, Some, None, sym, ap, ◌∙◌, subst, arith, rules}
+use Rattle.std.proofs.Common.{◌≡◌, ◌<◌, ◌≤◌, ◌+◌, ◌-◌, ◌*◌, ◌%◌, ◌^◌, ◌&&◌, true, false, cond, [], ◌∷◌, length, get_or, filter, map, take, Some, None, sym, ap, ◌∙◌, subst, arith, rules}
 use Rattle.std.specs.Prelude.{OnOk}
 use Rattle.std.proofs.Math.Pow.{pow_mono}
 use Rattle.std.proofs.lemmas.List.{get_or_read, take_all}
 use Rattle.x86_64_model.specs.Position.{span, position_count}
 use Rattle.x86_64_model.specs.Mappings.{granted}
+use Rattle.x86_64_mappings.specs.Selections.{is_mapping_selected}
 use Rattle.x86_64_mappings.specs.Wanted.{asked_of, asked_mappings, is_wanted}
 use Rattle.x86_64_mappings.specs.private.Placed.{placed}
 use Rattle.x86_64_mappings.specs.private.Targets.{asked_by, asked_in, asked_on}
 use Rattle.x86_64_mappings.proofs.Tables.{asked_none, asked_table, by_nothing, by_page, by_table, none_copied}
-use Rattle.x86_64_mappings.proofs.Visited.{next_start, start_inside, start_aligned, span_below, aligned_below, visited_more, visited_same}
+use Rattle.x86_64_mappings.proofs.Visited.{next_start, start_inside, start_aligned, span_below, aligned_below, kept_more, kept_page, kept_same}
 use Rattle.x86_64_mappings.proofs.summaries.mappings.+visit_table.Goals as goal
-use Rattle.x86_64_mappings.proofs.summaries.mappings.+visit_table.Goals.{in-Page+then-wants+in_ok-visit-in-Page, in-Page+else-wants, in-Table+then-not-maps_nothing+in_ok-visit_table-in-Table, in-Table+else-not-maps_nothing, in-Nothing}
+use Rattle.x86_64_mappings.proofs.summaries.mappings.+visit_table.Goals.{in-Page+then-takes+in_ok-visit-in-Page, in-Page+else-takes, in-Table+then-not-maps_nothing+in_ok-visit_table-in-Table, in-Table+else-not-maps_nothing, in-Nothing}
 
 pub returns-in_default : goal.returns-in_default
 returns-in_default g t c =
@@ -19,7 +20,8 @@ returns-in_default g t c =
     ap (λ a. (asked_of g.T.TableMemory.tables g.P.PageTableFrameMapping.places a).words c.args.table.now.frame) (sym c.query-query.ensures)
     ∙ sym c.table.ensures ∙ none_copied c.table.result c.in_default.not-Some in
     subst (g.V.Visitor.Visits c.args.visitor.now c.args.visitor.now)
-    (sym (ap (map (placed c.args.table.now.start c.args.table.now.above)) (asked_none asked c.args.table.now.level c.args.table.now.frame none)))
+    (sym (ap (λ ms. filter (is_mapping_selected g.L.LevelCount.LEVELS c.args.selection) (map (placed c.args.table.now.start c.args.table.now.above) ms))
+    (asked_none asked c.args.table.now.level c.args.table.now.frame none)))
     (g.met.V.Visitor.none c.args.visitor.now)
 
 pub returns-then-table-eq1 : goal.returns-then-table-eq1
@@ -31,7 +33,8 @@ returns-then-table-eq1 g t c =
     let there : asked.words c.args.table.now.frame ≡ Some words =
     ap (λ a. (asking_by a).words c.args.table.now.frame) (sym c.query-query.ensures) ∙ sym c.in-Some.ensures ∙ ap Some (sym c.as_slice-entries.ensures.words) in
     let size : length words ≡ 512 = ap length c.as_slice-entries.ensures.words ∙ c.as_slice-entries.ensures.size in
-    subst (λ ms. OnOk c.visit_small_pages.result (g.V.Visitor.Visits c.args.visitor.now c.visit_small_pages.new.visitor ms))
+    let passes = is_mapping_selected g.L.LevelCount.LEVELS c.args.selection in
+    subst (λ ms. OnOk c.visit_small_pages.result (g.V.Visitor.Visits c.args.visitor.now c.visit_small_pages.new.visitor (filter passes ms)))
     (ap (λ a. asked_on (asking_by a) 1 c.args.table.now.start r words) c.query-query.ensures
     ∙ ap (λ level. asked_on asked level c.args.table.now.start r words) (sym c.if-table-eq1.true)
     ∙ sym (asked_table asked c.args.table.now.level c.args.table.now.start r c.args.table.now.frame words c.requires.low there size))
@@ -78,41 +81,48 @@ loop-entry-preserved g t c =
     let here : asked_by asked level (s + i * span level) r (get_or words i 0) ≡ asked_by asked level c.loop-entry.start r e = (λ k. asked_by asked level (sym start k) r (sym entry k)) in
     let wanted : c.query-query.result.now.wanted ≡ asked.wanted = ap (λ a. a.wanted) c.query-query.ensures in
     let old = c.args.visitor.now in
-    let front = asked_on asked level s r (take i words) in
+    let passes = is_mapping_selected g.L.LevelCount.LEVELS c.args.selection in
+    let front = filter passes (asked_on asked level s r (take i words)) in
     let next = next_start s i (span level) in
     record {
       start = omega (arith, start, c.span-size.ensures, next);
       visited = elim c.match-target.branch [
-        | in-Page+then-wants+in_ok-visit-in-Page w ↦
+        | in-Page+then-takes+in_ok-visit-in-Page w ↦
             let m = w.of_page-page.result in
             let page = by_page asked level c.loop-entry.start r e m w.in-Page.ensures.value w.of_page-page.ensures aligned in
-            let is : is_wanted asked.wanted m ≡ true = ap (λ wanted. is_wanted wanted m) (sym wanted) ∙ sym w.wants.ensures ∙ w.if-wants.true in
-            subst (λ v. g.V.Visitor.Visits old v (asked_on asked level s r (take (i + 1) words))) (sym w.visitor-is)
-            (visited_more asked level s r words i less (g.V.Visitor.Visits old w.visit.new.self) (m ∷ []) (here ∙ page ∙ ap (λ b. cond b (m ∷ []) []) is)
+            let is : (is_wanted asked.wanted m && passes m) ≡ true = ap (λ wanted. is_wanted wanted m && passes m) (sym wanted) ∙ sym w.takes.ensures ∙ w.if-takes.true in
+            subst (λ v. g.V.Visitor.Visits old v (filter passes (asked_on asked level s r (take (i + 1) words)))) (sym w.visitor-is)
+            (kept_more asked level s r words i less (g.V.Visitor.Visits old w.visit.new.self) passes (m ∷ [])
+            (ap (filter passes) (here ∙ page) ∙ kept_page passes (is_wanted asked.wanted m) m ∙ ap (λ b. cond b (m ∷ []) []) is)
             (g.met.V.Visitor.both old c.loop-entry.visitor w.visit.new.self front (m ∷ []) c.loop-entry.invariant.visited w.in_ok-visit-in-Page.ensures))
-        | in-Page+else-wants w ↦
+        | in-Page+else-takes w ↦
             let m = w.of_page-page.result in
             let page = by_page asked level c.loop-entry.start r e m w.in-Page.ensures.value w.of_page-page.ensures aligned in
-            let is : is_wanted asked.wanted m ≡ false = ap (λ wanted. is_wanted wanted m) (sym wanted) ∙ sym w.wants.ensures ∙ w.if-wants.false in
-            subst (λ v. g.V.Visitor.Visits old v (asked_on asked level s r (take (i + 1) words))) (sym w.visitor-is)
-            (visited_same asked level s r words i less (g.V.Visitor.Visits old c.loop-entry.visitor) (here ∙ page ∙ ap (λ b. cond b (m ∷ []) []) is) c.loop-entry.invariant.visited)
+            let is : (is_wanted asked.wanted m && passes m) ≡ false = ap (λ wanted. is_wanted wanted m && passes m) (sym wanted) ∙ sym w.takes.ensures ∙ w.if-takes.false in
+            subst (λ v. g.V.Visitor.Visits old v (filter passes (asked_on asked level s r (take (i + 1) words)))) (sym w.visitor-is)
+            (kept_same asked level s r words i less (g.V.Visitor.Visits old c.loop-entry.visitor) passes
+            (ap (filter passes) (here ∙ page) ∙ kept_page passes (is_wanted asked.wanted m) m ∙ ap (λ b. cond b (m ∷ []) []) is)
+            c.loop-entry.invariant.visited)
         | in-Table+then-not-maps_nothing+in_ok-visit_table-in-Table w ↦
-            let below = map (placed c.loop-entry.start (granted r e)) (asked_mappings asked (level - 1) w.in-Table.frame) in
+            let below = filter passes (map (placed c.loop-entry.start (granted r e)) (asked_mappings asked (level - 1) w.in-Table.frame)) in
             let visited : g.V.Visitor.Visits c.loop-entry.visitor w.visit_table.new.visitor below =
-            subst (λ table. g.V.Visitor.Visits c.loop-entry.visitor w.visit_table.new.visitor (asked_in asked table)) w.below-below.ensures w.in_ok-visit_table-in-Table.ensures in
-            subst (λ v. g.V.Visitor.Visits old v (asked_on asked level s r (take (i + 1) words))) (sym w.visitor-is)
-            (visited_more asked level s r words i less (g.V.Visitor.Visits old w.visit_table.new.visitor) below
-            (here ∙ by_table asked level c.loop-entry.start r e w.in-Table.frame w.in-Table.ensures.value)
+            subst (λ table. g.V.Visitor.Visits c.loop-entry.visitor w.visit_table.new.visitor (filter passes (asked_in asked table))) w.below-below.ensures
+            w.in_ok-visit_table-in-Table.ensures in
+            subst (λ v. g.V.Visitor.Visits old v (filter passes (asked_on asked level s r (take (i + 1) words)))) (sym w.visitor-is)
+            (kept_more asked level s r words i less (g.V.Visitor.Visits old w.visit_table.new.visitor) passes below
+            (ap (filter passes) (here ∙ by_table asked level c.loop-entry.start r e w.in-Table.frame w.in-Table.ensures.value))
             (g.met.V.Visitor.both old c.loop-entry.visitor w.visit_table.new.visitor front below c.loop-entry.invariant.visited visited))
         | in-Table+else-not-maps_nothing w ↦
             let none = w.maps_nothing.ensures w.if-not-maps_nothing.false in
-            subst (λ v. g.V.Visitor.Visits old v (asked_on asked level s r (take (i + 1) words))) (sym w.visitor-is)
-            (visited_same asked level s r words i less (g.V.Visitor.Visits old c.loop-entry.visitor)
-            (here ∙ by_table asked level c.loop-entry.start r e w.in-Table.frame w.in-Table.ensures.value ∙ ap (map (placed c.loop-entry.start (granted r e))) none)
+            subst (λ v. g.V.Visitor.Visits old v (filter passes (asked_on asked level s r (take (i + 1) words)))) (sym w.visitor-is)
+            (kept_same asked level s r words i less (g.V.Visitor.Visits old c.loop-entry.visitor) passes
+            (ap (filter passes) (here ∙ by_table asked level c.loop-entry.start r e w.in-Table.frame w.in-Table.ensures.value
+            ∙ ap (asked_in asked) (sym w.below-below.ensures)) ∙ none)
             c.loop-entry.invariant.visited)
         | in-Nothing w ↦
-            subst (λ v. g.V.Visitor.Visits old v (asked_on asked level s r (take (i + 1) words))) (sym w.visitor-is)
-            (visited_same asked level s r words i less (g.V.Visitor.Visits old c.loop-entry.visitor) (here ∙ by_nothing asked level c.loop-entry.start r e w.in-Nothing.ensures.value)
+            subst (λ v. g.V.Visitor.Visits old v (filter passes (asked_on asked level s r (take (i + 1) words)))) (sym w.visitor-is)
+            (kept_same asked level s r words i less (g.V.Visitor.Visits old c.loop-entry.visitor) passes
+            (ap (filter passes) (here ∙ by_nothing asked level c.loop-entry.start r e w.in-Nothing.ensures.value))
             c.loop-entry.invariant.visited)
       ];
     }
@@ -126,7 +136,8 @@ returns g t c =
     let there : asked.words c.args.table.now.frame ≡ Some words =
     ap (λ a. (asking_by a).words c.args.table.now.frame) (sym c.query-query.ensures) ∙ sym c.in-Some.ensures ∙ ap Some (sym c.as_slice-entries.ensures.words) in
     let size : length words ≡ 512 = ap length c.as_slice-entries.ensures.words ∙ c.as_slice-entries.ensures.size in
-    subst (g.V.Visitor.Visits c.args.visitor.now c.loop-entry.visitor)
+    let passes = is_mapping_selected g.L.LevelCount.LEVELS c.args.selection in
+    subst (λ ms. g.V.Visitor.Visits c.args.visitor.now c.loop-entry.visitor (filter passes ms))
     (ap (asked_on asked c.args.table.now.level c.args.table.now.start r) (take_all c.loop-entry.entry-index words c.loop-entry-test.false)
     ∙ sym (asked_table asked c.args.table.now.level c.args.table.now.start r c.args.table.now.frame words c.requires.low there size))
     c.loop-entry.invariant.visited
