@@ -14,3 +14,4 @@ mod Levels
 mod Digits
 pub mod Filling
 pub mod StepsRead
+mod Unselected

@@ -1,8 +1,10 @@
 -- A table maps nothing that is selected if its span lies outside of the selected addresses, or if none of its mappings has
 -- the selected rights.
-use Rattle.std.proofs.Common.{◌≡◌, ◌<◌, ◌≤◌, ◌+◌, ◌-◌, ◌%◌, ◌&&◌, ◌||◌, ℕ, Bool, true, false, true≢false, not, List, [], ◌∷◌, filter, map, inl, inr, Option, Some, None, refl, sym, ap, ap₂, ◌∙◌, le-leb, arith}
+use Rattle.std.proofs.Common.{◌≡◌, ◌≤◌, ◌+◌, ◌-◌, ◌*◌, ◌%◌, ◌&&◌, ◌||◌, ℕ, Bool, true, false, true≢false, not, cond, List, [], ◌∷◌, filter, map, inl, inr, Option, Some, None, refl, sym, ap, ap₂, ◌∙◌, le-leb, arith}
 use Rattle.std.specs.List.{AllByRecursion, list_any}
+use Rattle.std.proofs.Math.Bool.{or-true}
 use Rattle.std.proofs.lemmas.Bool.{and_from, and_parts, leb-true}
+use Rattle.std.proofs.lemmas.Nat.{pow_pos}
 use Rattle.x86_64_model.specs.Lists.{In}
 use Rattle.x86_64_model.specs.Mappings.{Mapping, Rights}
 use Rattle.x86_64_model.specs.Position.{position_count}
@@ -13,15 +15,23 @@ use Rattle.x86_64_mappings.specs.Selections.{includes, is_from, is_to, is_mappin
 use Rattle.x86_64_mappings.specs.Summaries.{summary_of}
 use Rattle.x86_64_mappings.specs.Wanted.{Asked, asked_mappings}
 use Rattle.x86_64_mappings.specs.declared.selection.Selection.{Selection}
-use Rattle.x86_64_mappings.specs.declared.summaries.reached_table.ReachedTable.{ReachedTable}
 use Rattle.x86_64_mappings.specs.private.Placed.{placed}
-use Rattle.x86_64_mappings.specs.private.Targets.{asked_in}
 use Rattle.x86_64_mappings.proofs.Whole.{asked_chain}
 
 -- if one test entails another, and that one fails, the first fails
 fails_too : (b c : Bool) → (b ≡ true → c ≡ true) → c ≡ false → b ≡ false
 fails_too true c h none = absurd (true≢false (sym (h refl) ∙ none))
 fails_too false c h none = refl
+
+-- ---- all that is mapped
+
+-- if no address and no right is asked for, all mappings are selected
+pub all_selected : (L : ℕ) (ms : List Mapping) → filter (is_mapping_selected L (record { from = None; to = None; rights = record { write = false; user = false; execute = false } })) ms ≡ ms
+all_selected L [] = refl
+all_selected L (m ∷ ms) = ap₂ (λ b ns. cond b (m ∷ ns) ns) (has m.rights.write m.rights.user m.rights.execute) (all_selected L ms)
+  where
+    has : (a b c : Bool) → ((a || true) && (b || true) && (c || true)) ≡ true
+    has a b c = and_from _ _ (and_from _ _ (or-true a) (or-true b)) (or-true c)
 
 -- ---- by the addresses
 
@@ -47,14 +57,15 @@ module _ (L : ℕ) (s : Selection) (asked : Asked) (level frame start : ℕ) (ab
   abbrev its : List Mapping
   its = map (placed start above) (asked_mappings asked level frame)
 
-  pub none_reached : (last : ℕ) → last ≡ start + (position_count level - 1) → 0 < position_count level
+  pub none_reached : (last : ℕ) → last ≡ start + (position_count level - 1)
       → (is_from L s.from last && is_to L s.to start) ≡ false → filter (is_mapping_selected L s) its ≡ []
-  none_reached last ends some none =
+  none_reached last ends none =
+      let some = pow_pos (12 + 9 * level) in
       filter_none (is_mapping_selected L s) its (chain_within (λ m. is_mapping_selected L s m ≡ false) start (start + position_count level) its
       (λ m low high. fails_too (is_mapping_selected L s m) _ (λ h.
-      let parts = and_parts (is_from L s.from (m.start + m.size - 1)) (is_to L s.to m.start && includes m.rights s.rights) h in
-      let rest = and_parts (is_to L s.to m.start) (includes m.rights s.rights) parts.1 in
-      and_from _ _ (later L s.from (m.start + m.size - 1) last (omega (arith, high, ends, some)) parts.0) (earlier L s.to m.start start low rest.0)) none)
+      let parts = and_parts (is_from L s.from (m.start + m.size - 1) && is_to L s.to m.start) (includes m.rights s.rights) h in
+      let reached = and_parts (is_from L s.from (m.start + m.size - 1)) (is_to L s.to m.start) parts.0 in
+      and_from _ _ (later L s.from (m.start + m.size - 1) last (omega (arith, high, ends, some)) reached.0) (earlier L s.to m.start start low reached.1)) none)
       (asked_chain asked level frame start above))
 
 -- ---- by the rights
@@ -68,10 +79,10 @@ has_more false false w h is = is
 includes_more : (r q w : Rights) → (r.write ≡ true → q.write ≡ true) → (r.user ≡ true → q.user ≡ true) → (r.execute ≡ true → q.execute ≡ true)
     → includes r w ≡ true → includes q w ≡ true
 includes_more r q w write user execute h =
-    let parts = and_parts (r.write || not w.write) ((r.user || not w.user) && (r.execute || not w.execute)) h in
-    let rest = and_parts (r.user || not w.user) (r.execute || not w.execute) parts.1 in
-    and_from _ _ (has_more r.write q.write w.write write parts.0)
-    (and_from _ _ (has_more r.user q.user w.user user rest.0) (has_more r.execute q.execute w.execute execute rest.1))
+    let parts = and_parts ((r.write || not w.write) && (r.user || not w.user)) (r.execute || not w.execute) h in
+    let first = and_parts (r.write || not w.write) (r.user || not w.user) parts.0 in
+    and_from _ _ (and_from _ _ (has_more r.write q.write w.write write first.0) (has_more r.user q.user w.user user first.1))
+    (has_more r.execute q.execute w.execute execute parts.1)
 
 any_in : (f : Mapping → Bool) (ms : List Mapping) (m : Mapping) → In ms m → f m ≡ true → list_any f ms ≡ true
 any_in f [] m i h = absurd i
@@ -92,9 +103,7 @@ module _ (L : ℕ) (s : Selection) (start : ℕ) (above : Rights) (ms : List Map
   none_allowed most among none =
       filter_none (is_mapping_selected L s) (map (placed start above) ms) (all_map (λ m. is_mapping_selected L s m ≡ false) (placed start above) ms
       (every_in (λ m. is_mapping_selected L s (placed start above m) ≡ false) ms (λ m i. fails_too (is_mapping_selected L s (placed start above m)) _ (λ h.
-      let parts = and_parts (is_from L s.from (start + m.start + m.size - 1)) (is_to L s.to (start + m.start) && includes (both above m.rights) s.rights) h in
-      let rest = and_parts (is_to L s.to (start + m.start)) (includes (both above m.rights) s.rights) parts.1 in
-      among m i rest.1) none)))
+      among m i (and_parts (is_from L s.from (start + m.start + m.size - 1) && is_to L s.to (start + m.start)) (includes (both above m.rights) s.rights) h).1) none)))
 
   pub none_allowed_above : includes above s.rights ≡ false → filter (is_mapping_selected L s) (map (placed start above) ms) ≡ []
   none_allowed_above = none_allowed above (λ m i. includes_more (both above m.rights) above s.rights

@@ -64,13 +64,13 @@ pub fn visit_selected_mappings<
         (asked_mappings (asked_of T.tables P.places summaries.now) L.LEVELS root))) }
 {
     let table = ReachedTable::root::<L>(root);
-    visit_table::<L, T, P, V>(summaries, selection, &table, visitor)
+    visit_table::<L, T, P, V>(summaries, &selection, &table, visitor)
 }
 
 /// Visits the wanted mappings of a table that are selected.
 fn visit_table<L: LevelCount, T: TableMemory, P: PageTableFrameMapping, V: Visitor<MappingIn<L>>>(
     summaries: &Summaries<'_, T, P>,
-    selection: Selection,
+    selection: &Selection,
     table: &ReachedTable,
     visitor: &mut V,
 ) -> Result<(), V::Error>
@@ -78,7 +78,7 @@ fn visit_table<L: LevelCount, T: TableMemory, P: PageTableFrameMapping, V: Visit
     requires high { table.now.level ≤ 5 }
     requires aligned { table.now.start % span_of table.now.level ≡ 0 }
     requires inside { table.now.start + 512 * span_of table.now.level ≤ position_count L.LEVELS }
-    ensures { OnOk result (V.Visits visitor.old visitor.new (filter (is_mapping_selected L.LEVELS selection)
+    ensures { OnOk result (V.Visits visitor.old visitor.new (filter (is_mapping_selected L.LEVELS selection.now)
         (asked_in (asked_of T.tables P.places summaries.now) table.now))) }
 {
     let query = summaries.query();
@@ -122,11 +122,11 @@ fn visit_table<L: LevelCount, T: TableMemory, P: PageTableFrameMapping, V: Visit
 /// Returns true if a mapping is wanted and selected.
 fn takes<L: LevelCount, T, P>(
     query: &Query<'_, T, P>,
-    selection: Selection,
+    selection: &Selection,
     mapping: &MappingIn<L>,
 ) -> bool
     ensures { result ≡ (is_wanted query.now.wanted mapping.now
-        && is_mapping_selected L.LEVELS selection mapping.now) }
+        && is_mapping_selected L.LEVELS selection.now mapping.now) }
 {
     let first = mapping.start.position();
     let last = first + (mapping.size() - 1);
@@ -136,13 +136,13 @@ fn takes<L: LevelCount, T, P>(
 /// Returns true if a table is known to map nothing that is wanted and selected.
 fn maps_nothing<L: LevelCount, T: TableMemory, P: PageTableFrameMapping>(
     summaries: &Summaries<'_, T, P>,
-    selection: Selection,
+    selection: &Selection,
     table: &ReachedTable,
 ) -> bool
     requires low { 1 ≤ table.now.level }
     requires high { table.now.level < 5 }
     requires inside { table.now.start + position_count table.now.level ≤ position_count L.LEVELS }
-    ensures { result ≡ true → filter (is_mapping_selected L.LEVELS selection)
+    ensures { result ≡ true → filter (is_mapping_selected L.LEVELS selection.now)
         (asked_in (asked_of T.tables P.places summaries.now) table.now) ≡ [] }
 {
     let last = table.start + (span(table.level + 1) - 1);
@@ -165,7 +165,7 @@ fn visit_small_pages<
     V: Visitor<MappingIn<L>>,
 >(
     query: &Query<'_, T, P>,
-    selection: Selection,
+    selection: &Selection,
     entries: &[PageTableEntry],
     start: u64,
     above: Rights,
@@ -174,7 +174,7 @@ fn visit_small_pages<
     requires size { length entries.now ≡ 512 }
     requires aligned { start % span_of 1 ≡ 0 }
     requires inside { start + 512 * span_of 1 ≤ position_count L.LEVELS }
-    ensures { OnOk result (V.Visits visitor.old visitor.new (filter (is_mapping_selected L.LEVELS selection)
+    ensures { OnOk result (V.Visits visitor.old visitor.new (filter (is_mapping_selected L.LEVELS selection.now)
         (asked_on (asked_of T.tables P.places (asking query.now)) 1 start above entries.now))) }
 {
     let mut start = start;

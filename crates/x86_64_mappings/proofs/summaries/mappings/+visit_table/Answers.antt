@@ -20,7 +20,7 @@ returns-in_default g t c =
     ap (λ a. (asked_of g.T.TableMemory.tables g.P.PageTableFrameMapping.places a).words c.args.table.now.frame) (sym c.query-query.ensures)
     ∙ sym c.table.ensures ∙ none_copied c.table.result c.in_default.not-Some in
     subst (g.V.Visitor.Visits c.args.visitor.now c.args.visitor.now)
-    (sym (ap (λ ms. filter (is_mapping_selected g.L.LevelCount.LEVELS c.args.selection) (map (placed c.args.table.now.start c.args.table.now.above) ms))
+    (sym (ap (λ ms. filter (is_mapping_selected g.L.LevelCount.LEVELS c.args.selection.now) (map (placed c.args.table.now.start c.args.table.now.above) ms))
     (asked_none asked c.args.table.now.level c.args.table.now.frame none)))
     (g.met.V.Visitor.none c.args.visitor.now)
 
@@ -33,7 +33,7 @@ returns-then-table-eq1 g t c =
     let there : asked.words c.args.table.now.frame ≡ Some words =
     ap (λ a. (asking_by a).words c.args.table.now.frame) (sym c.query-query.ensures) ∙ sym c.in-Some.ensures ∙ ap Some (sym c.as_slice-entries.ensures.words) in
     let size : length words ≡ 512 = ap length c.as_slice-entries.ensures.words ∙ c.as_slice-entries.ensures.size in
-    let passes = is_mapping_selected g.L.LevelCount.LEVELS c.args.selection in
+    let passes = is_mapping_selected g.L.LevelCount.LEVELS c.args.selection.now in
     subst (λ ms. OnOk c.visit_small_pages.result (g.V.Visitor.Visits c.args.visitor.now c.visit_small_pages.new.visitor (filter passes ms)))
     (ap (λ a. asked_on (asking_by a) 1 c.args.table.now.start r words) c.query-query.ensures
     ∙ ap (λ level. asked_on asked level c.args.table.now.start r words) (sym c.if-table-eq1.true)
@@ -81,7 +81,7 @@ loop-entry-preserved g t c =
     let here : asked_by asked level (s + i * span level) r (get_or words i 0) ≡ asked_by asked level c.loop-entry.start r e = (λ k. asked_by asked level (sym start k) r (sym entry k)) in
     let wanted : c.query-query.result.now.wanted ≡ asked.wanted = ap (λ a. a.wanted) c.query-query.ensures in
     let old = c.args.visitor.now in
-    let passes = is_mapping_selected g.L.LevelCount.LEVELS c.args.selection in
+    let passes = is_mapping_selected g.L.LevelCount.LEVELS c.args.selection.now in
     let front = filter passes (asked_on asked level s r (take i words)) in
     let next = next_start s i (span level) in
     record {
@@ -136,7 +136,7 @@ returns g t c =
     let there : asked.words c.args.table.now.frame ≡ Some words =
     ap (λ a. (asking_by a).words c.args.table.now.frame) (sym c.query-query.ensures) ∙ sym c.in-Some.ensures ∙ ap Some (sym c.as_slice-entries.ensures.words) in
     let size : length words ≡ 512 = ap length c.as_slice-entries.ensures.words ∙ c.as_slice-entries.ensures.size in
-    let passes = is_mapping_selected g.L.LevelCount.LEVELS c.args.selection in
+    let passes = is_mapping_selected g.L.LevelCount.LEVELS c.args.selection.now in
     subst (λ ms. g.V.Visitor.Visits c.args.visitor.now c.loop-entry.visitor (filter passes ms))
     (ap (asked_on asked c.args.table.now.level c.args.table.now.start r) (take_all c.loop-entry.entry-index words c.loop-entry-test.false)
     ∙ sym (asked_table asked c.args.table.now.level c.args.table.now.start r c.args.table.now.frame words c.requires.low there size))

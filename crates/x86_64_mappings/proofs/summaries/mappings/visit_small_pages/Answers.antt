@@ -24,7 +24,7 @@ loop-entry-preserved g c =
     let aligned : c.loop-entry.start % span 1 ≡ 0 = ap (λ s. s % span 1) start ∙ start_aligned s i (span 1) c.requires.aligned in
     let here : asked_by asked 1 (s + i * span 1) r (get_or words i 0) ≡ asked_by asked 1 c.loop-entry.start r e = (λ k. asked_by asked 1 (sym start k) r (sym entry k)) in
     let old = c.args.visitor.now in
-    let passes = is_mapping_selected g.L.LevelCount.LEVELS c.args.selection in
+    let passes = is_mapping_selected g.L.LevelCount.LEVELS c.args.selection.now in
     let front = filter passes (asked_on asked 1 s r (take i words)) in
     record {
       start = omega (arith, start);
