@@ -66,7 +66,7 @@ fn run<'a>(rt: &HostRuntime, words: &'a [String]) -> Result<Outcome, Stop<'a>> {
     match matches.subcommand() {
         Some((name, arguments)) => {
             let request = request_of(rt.alloc(), name, arguments)?;
-            report_on(rt, path_of(arguments), &request)
+            report_on(rt, path_of(arguments), request)
         }
         None => Err(Stop::NoCommand("")),
     }
@@ -80,7 +80,7 @@ fn path_of<'a>(arguments: &ArgMatches<'a>) -> &'a str
 }
 
 /// Reports on a dump.
-fn report_on<'a>(rt: &HostRuntime, path: &'a str, request: &Request) -> Result<Outcome, Stop<'a>> {
+fn report_on<'a>(rt: &HostRuntime, path: &'a str, request: Request) -> Result<Outcome, Stop<'a>> {
     let source = open(rt, path)?;
     let mut progress = ProgressLine::new(rt, rt.stderr().is_terminal());
     let mut writer = rt.stdout();

@@ -88,7 +88,7 @@ pub static OPTIONS: [OptionHelp; 19] = [
     OptionHelp {
         name: "controls",
         takes: Takes::List("LIST"),
-        help: "Settings that are on [default: wp,nxe,smep,smap]",
+        help: "Settings that are on [default: as a note says, or wp,nxe,smep,smap]",
         excludes: &[],
         needs: Some("as"),
         is_common: false,

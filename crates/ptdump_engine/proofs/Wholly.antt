@@ -32,6 +32,7 @@ use Rattle.ptdump_engine.specs.declared.output.Output.{Output}
 use Rattle.ptdump_engine.specs.declared.processors.Processor.{Processor}
 use Rattle.ptdump_engine.specs.declared.request.Command.{Command}
 use Rattle.ptdump_engine.specs.declared.request.Command.TheVariants as commands
+use Rattle.ptdump_engine.specs.declared.request.ControlsSource.{ControlsSource}
 use Rattle.ptdump_engine.specs.declared.request.Form.{Form}
 use Rattle.ptdump_engine.specs.declared.request.Form.TheVariants.{Text, Json}
 use Rattle.ptdump_engine.specs.declared.request.Outcome.{Outcome}
@@ -100,14 +101,15 @@ written_whole contents begun now ended text none all puts rest =
 
 -- ---- words with equal mappings
 
-same_json : (c : Controls) (asked : Option Access) (L : ℕ) (T W : Words) (root p : ℕ) → SameBelow L T W root → json_of_asked c asked L T root p ≡ json_of_asked c asked L W root p
-same_json c None L T W root p below = refl
-same_json c (Some a) L T W root p below = ap (λ o. Some (json_of_access a o)) (same_outcome c a L T W root p below)
+same_json : (c : Controls) (source : ControlsSource) (asked : Option Access) (L : ℕ) (T W : Words) (root p : ℕ) → SameBelow L T W root
+    → json_of_asked c source asked L T root p ≡ json_of_asked c source asked L W root p
+same_json c source None L T W root p below = refl
+same_json c source (Some a) L T W root p below = ap (λ o. Some (json_of_access a c source o)) (same_outcome c a L T W root p below)
 
 same_walks : (form : Form) (L : ℕ) (T W : Words) (root : ℕ) (asked : WalkOptions) (p : ℕ) → SameBelow L T W root → walk_lines form L T root asked p ≡ walk_lines form L W root asked p
 same_walks Text L T W root asked p below = λ i. let walk = same_walk T W p L root below i in walk_text asked.controls walk
-    ++ (if asked.explains then explanation_text walk else []) ++ same_asked asked.controls asked.access L T W root p below i
-same_walks Json L T W root asked p below = λ i. json_line (json_of_walk (raw L p) (same_walk T W p L root below i) (same_json asked.controls asked.access L T W root p below i))
+    ++ (if asked.explains then explanation_text walk else []) ++ same_asked asked.controls asked.source asked.access L T W root p below i
+same_walks Json L T W root asked p below = λ i. json_line (json_of_walk (raw L p) (same_walk T W p L root below i) (same_json asked.controls asked.source asked.access L T W root p below i))
 
 same_of : (form : Form) (command : Command) (L : ℕ) (T W : Words) (root : ℕ) → mappings_of L T root ≡ mappings_of L W root → SameBelow L T W root
     → report_in form command L T root ≡ report_in form command L W root

@@ -23,6 +23,7 @@ use Rattle.ptdump_engine.specs.Findings.{check_text, finds_nothing}
 use Rattle.ptdump_engine.specs.Info.{info_in}
 use Rattle.ptdump_engine.specs.InfoTexts.{text_told}
 pub use Rattle.ptdump_engine.specs.MemoryRanges.{last_address}
+use Rattle.ptdump_engine.specs.NotedControls.{resolved}
 use Rattle.ptdump_engine.specs.NotedLevels.{levels_text}
 use Rattle.ptdump_engine.specs.Processors.{cpus_with, firsts_of, heading_text, left_out_text, modes_failure, processors_from}
 use Rattle.ptdump_engine.specs.Reports.{regions_text, pages_text, walks_text, find_text, all_arrive, all_found}
@@ -215,9 +216,10 @@ pub record Reports (request : Request) (L : ℕ) (T : Words) (root : ℕ) (befor
   pub text : IfSome (report_of request L T root) (Appends before after)
   pub complete : outcome.is_complete ≡ completeness_of request.command L T root
 
+-- likewise in what was opened, with the controls that a processor's note tells in place of assumed ones
 abbrev pub ReportsOf : Request → (before after : Option (List ℕ)) → Outcome → Opened → Type 0
 ReportsOf request before after outcome o =
-    Reports request (level_count o.start.levels) (words_of_dump o.dump) o.start.root before after outcome
+    Reports (resolved request o.dump) (level_count o.start.levels) (words_of_dump o.dump) o.start.root before after outcome
 
 -- The result and the output of a run that reports on tables. It fails for its request or its file without writing anything, for a
 -- read only if reads may fail, and for a write only if its writers may refuse one.

@@ -178,7 +178,7 @@ fn write_walk_by<L: LevelCount, W: Destination>(
     write_explanation(&walk, options.explains, output)?;
     match options.access {
         None => Ok(walk.arrives()),
-        Some(asked) => write_access(loaded, address, controls, asked, output),
+        Some(asked) => write_access(loaded, address, controls, options.source, asked, output),
     }
 }
 
