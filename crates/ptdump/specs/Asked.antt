@@ -6,6 +6,8 @@ use Rattle.std.specs.Str.{bytes_eq}
 use Rattle.clap.specs.Matches.{first_value, matched_of, one_text, raw_values}
 use Rattle.clap.specs.declared.parser.matches.Found.{Found}
 use Rattle.ptdump_engine.specs.Accesses.{access_name}
+use Rattle.ptdump_engine.specs.declared.request.ControlsSource.{ControlsSource}
+use Rattle.ptdump_engine.specs.declared.request.ControlsSource.TheVariants.{Given, Assumed}
 use Rattle.ptdump_engine.specs.declared.request.WalkOptions.{WalkOptions}
 use Rattle.ptdump.specs.Options.{IsFlag}
 use Rattle.x86_64_access.specs.declared.controls.Controls.{Controls}
@@ -52,9 +54,15 @@ IsAccess None access = access ≡ None
 IsAccess (Some name) None = ⊥
 IsAccess (Some name) (Some access) = name ≡ access_name access
 
+-- what says the settings: the words if there are any
+abbrev pub source_of : Option (List (List ℕ)) → ControlsSource
+source_of None = Assumed
+source_of (Some words) = Given
+
 -- what --as, --controls, --maxphyaddr and --explain ask for
 pub record AreAsked (found : Found) (options : WalkOptions) : Type 0 where
   pub access : IsAccess (first_value found (codes "as")) options.access
   pub controls : AreControls (unwrap_or (option_map raw_values (matched_of found (codes "controls"))) usual_names) options.controls
+  pub source : options.source ≡ source_of (option_map raw_values (matched_of found (codes "controls")))
   pub bits : IsBits (first_value found (codes "maxphyaddr")) options.controls.physical_bits
   pub explains : IsFlag (one_text found (codes "explain")) options.explains

@@ -1,6 +1,6 @@
 -- The exit status of the program.
 use Rattle.std.specs.Borrow.{Bor}
-use Rattle.std.specs.Prelude.{ℕ, List, Result, Ok, Err, if◌then◌else◌}
+use Rattle.std.specs.Prelude.{ℕ, Bool, true, false, List, Result, Ok, Err, if◌then◌else◌}
 use Rattle.clap.specs.declared.error.Error.{Error}
 use Rattle.clap.specs.declared.error.kind.ErrorKind.{ErrorKind}
 use Rattle.clap.specs.declared.error.kind.ErrorKind.TheVariants as kind
@@ -9,9 +9,9 @@ use Rattle.ptdump_engine.specs.declared.failure.Failure.{Failure}
 use Rattle.ptdump_engine.specs.declared.failure.Failure.TheVariants as failures
 use Rattle.ptdump_engine.specs.declared.request.Outcome.{Outcome}
 use Rattle.ptdump.specs.declared.stop.Stop.{Stop}
-use Rattle.ptdump.specs.declared.stop.Stop.TheVariants.{Help, Usage, NoText, NoCommand, NoAddress, NoNumber, NoLevels, NoRange, BaseAndRanges, NoAccess, NoSetting, NoPhysicalBits, NoDirectMap, NoRights, Unopened, NoLength, Unread, Failed}
+use Rattle.ptdump.specs.declared.stop.Stop.TheVariants.{Help, Usage, NoText, NoCommand, NoAddress, NoNumber, NoLevels, NoRange, BaseAndRanges, NoAccess, NoSetting, NoPhysicalBits, NoDirectMap, NoRights, Unopened, NoLength, Unread, ReaderLeft, Failed}
 
--- 0: help; 2: the command line; 3: the file; else that of the run that failed
+-- 0: help; 2: the command line; 3: the file; 5: a reader who left; else that of the run that failed
 abbrev pub stop_status : Stop → ℕ
 stop_status (Help text) = 0
 stop_status (Usage error) = 2
@@ -30,6 +30,7 @@ stop_status (NoRights text) = 2
 stop_status (Unopened path error) = 3
 stop_status (NoLength path error) = 3
 stop_status (Unread path error) = 3
+stop_status ReaderLeft = 5
 stop_status (Failed failure) = status_of failure
 
 -- 0: the report is complete; 1: there are findings, or an address doesn't arrive or isn't found
@@ -44,7 +45,13 @@ stop_for kind.DisplayHelp error = Help error
 stop_for kind.DisplayVersion error = Help error
 stop_for other error = Usage error
 
--- why the program ends if its run on the file at a path failed: a failed read is one of this file
-abbrev pub stop_of_run : (path : Bor (List ℕ)) → Failure → Stop
-stop_of_run path (failures.Read error) = Unread path error
-stop_of_run path failure = Failed failure
+-- why the program ends if a write failed, perhaps since the reader of standard output has left
+abbrev pub stop_of_output : (has_reader_left : Bool) → Stop
+stop_of_output true = ReaderLeft
+stop_of_output false = Failed failures.Output
+
+-- why it ends if its run on the file at a path failed: a failed read is one of this file
+abbrev pub stop_of_run : (path : Bor (List ℕ)) → (has_reader_left : Bool) → Failure → Stop
+stop_of_run path left (failures.Read error) = Unread path error
+stop_of_run path left failures.Output = stop_of_output left
+stop_of_run path left failure = Failed failure

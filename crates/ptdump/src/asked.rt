@@ -3,7 +3,7 @@ ghost use Rattle.std.specs.Prelude.{◌≡◌, List, [], ℕ, Option, IfOk, IfEr
 ghost use Rattle.std.specs.List.{find, list_any};
 ghost use Rattle.std.specs.Str.{bytes_eq};
 ghost use Rattle.clap.specs.Matches.{first_value, found_of};
-ghost use Rattle.ptdump.specs.Asked.{AreAsked, AreControls, IsAccess, IsBits, is_listed, setting_names, texts_of, usual_names};
+ghost use Rattle.ptdump.specs.Asked.{AreAsked, AreControls, IsAccess, IsBits, is_listed, setting_names, source_of, texts_of, usual_names};
 ghost use Rattle.ptdump.specs.Reasons.{IsMistake, IsNoSetting};
 ghost use Rattle.ptdump.specs.declared.stop.Stop.TheVariants.{NoAccess};
 ghost use Rattle.ptdump_engine.specs.Accesses.{access_name};
@@ -15,7 +15,7 @@ use crate::flags::is_given;
 use crate::numbers::{NumberOption, option_of};
 use crate::stop::Stop;
 use clap::ArgMatches;
-use ptdump_engine::WalkOptions;
+use ptdump_engine::{ControlsSource, WalkOptions};
 use x86_64_access::{Access, AccessKind, Controls};
 
 /// The number of bits of physical addresses if none is given.
@@ -34,9 +34,11 @@ pub fn options_of<'a>(arguments: &ArgMatches<'a>) -> Result<WalkOptions, Stop<'a
 {
     let access = access_of(arguments)?;
     let physical_bits = bits_of(arguments)?;
-    let controls = controls_of(arguments.get_strs("controls"), physical_bits)?;
+    let words = arguments.get_strs("controls");
+    let controls = controls_of(words, physical_bits)?;
     Ok(WalkOptions {
         controls,
+        source: source_of(words),
         explains: is_given(arguments, "explain"),
         access,
     })
@@ -134,6 +136,16 @@ fn controls_of<'a>(words: Option<&[&'a str]>, physical_bits: u8) -> Result<Contr
             ac: false,
             physical_bits,
         }),
+    }
+}
+
+/// Returns what says the settings: the words if there are any.
+fn source_of(words: Option<&[&str]>) -> ControlsSource
+    ensures { result ≡ source_of (option_map texts_of words.entry) }
+{
+    match words {
+        Some(_) => ControlsSource::Given,
+        None => ControlsSource::Assumed,
     }
 }
 

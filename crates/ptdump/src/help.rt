@@ -185,6 +185,7 @@ Examples:
 For each address a line for each word that is read on the way,
 level L 0xTABLE[INDEX] 0xWORD, and then the physical address with what may be
 done there (r read, w write, x execute, u by user code), or why there is none.
+If there are several addresses, a line above says which one it is.
 A word that is present and has a reserved bit has one more line, since a
 processor faults there. Reserved are address bits from --maxphyaddr on, those
 below the address of a large page, and HUGE_PAGE at a level without pages.
@@ -198,14 +199,19 @@ with the error code and its bits, or needs a table that the dump lacks. ACCESS
 is user-read, user-write, user-fetch, supervisor-read, supervisor-write or
 supervisor-fetch. LIST names the settings of the processor that are on, with
 commas between, or is none: wp (CR0.WP), nxe (EFER.NXE), smep (CR4.SMEP), smap
-(CR4.SMAP), ac (EFLAGS.AC). The exit status is 1 if an access doesn't arrive.
+(CR4.SMAP), ac (EFLAGS.AC). Without --controls wp, smep and smap are as QEMU's
+note of the processor (the first, or that of --cpu) says, if it is in 64-bit
+paging, and nxe, which no note says, is on; without a note all but ac are on.
+The line ends with the settings, + for on and - for off, and how they are known:
+given, noted or assumed. The exit status is 1 if an access doesn't arrive.
 
 With --json a line is the object of an address. Its words have level, index
 (numbers), table and word (strings in hexadecimal, as all addresses). Its end is
 \"arrives\", with physical, write, execute and user, or \"not present\", or \"missing
 table\", with table, or \"huge page\", with level. With --as its access is an
 object with name and end: \"arrives\", with physical, \"fault\", with level and
-code, or \"missing table\", with table.
+code, or \"missing table\", with table; and with controls: wp, nxe, smep, smap and
+ac (true or false), and source, \"given\", \"noted\" or \"assumed\".
 
 Examples:
 
@@ -217,14 +223,16 @@ Examples:
   0x201123 r-xu
   page of 4KiB
   level 1 0x104000[1] has no write
-  user-write faults at level 1, code 0x7, present, write, user
+  user-write faults at level 1, code 0x7, present, write, user (noted: +wp -smep -smap, assumed: +nxe -ac)
   tables 13, mappings 18, mapped 1054776KiB
   $ ptdump walk machine.elf 0x405123 0x404000
+  address 0x405123
   level 4 0x101000[0] 0x102027
   level 3 0x102000[0] 0x103027
   level 2 0x103000[2] 0x104027
   level 1 0x104000[5] 0x8000000000204067
   0x204123 rw-u
+  address 0x404000
   level 4 0x101000[0] 0x102027
   level 3 0x102000[0] 0x103027
   level 2 0x103000[2] 0x104027
@@ -239,7 +247,9 @@ Examples:
         options: &["json"],
         more: "\
 For each physical address a line for each address that leads to it, with what
-may be done there: r read, w write, x execute, u by user code.
+may be done there: r read, w write, x execute, u by user code. If there are
+several physical addresses, a line above says which one it is, and a line says
+if none leads to it. The exit status is 1 if that is so of any.
 
 With --json a line is an object with physical and address (strings in
 hexadecimal), and the rights write, execute and user (true or false).
@@ -249,6 +259,13 @@ Examples:
   $ ptdump find machine.elf 0x204123
   0x405123 rw-u
   0xffff800000204123 rw--
+  tables 13, mappings 18, mapped 1054776KiB
+  $ ptdump find machine.elf 0x204123 0x7fffffff000
+  physical 0x204123
+  0x405123 rw-u
+  0xffff800000204123 rw--
+  physical 0x7fffffff000
+  not found
   tables 13, mappings 18, mapped 1054776KiB
   $ ptdump find machine.elf 0x204123 --json
   {\"address\":\"0x405123\",\"execute\":false,\"physical\":\"0x204123\",\"user\":true,\"write\":true}

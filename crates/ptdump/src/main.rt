@@ -21,6 +21,7 @@ mod placement;
 mod progress;
 mod request;
 mod selection;
+mod standard_output;
 mod stop;
 
 use clap::ArgMatches;
@@ -28,6 +29,7 @@ use command_line::command_line;
 use progress::ProgressLine;
 use ptdump_engine::{Failure, Outcome, Request};
 use request::request_of;
+use standard_output::StandardOutput;
 use std::fs::File;
 use std::io::{ErrorKind, IsTerminal};
 use std::process::ExitCode;
@@ -66,7 +68,7 @@ fn run<'a>(rt: &HostRuntime, words: &'a [String]) -> Result<Outcome, Stop<'a>> {
     match matches.subcommand() {
         Some((name, arguments)) => {
             let request = request_of(rt.alloc(), name, arguments)?;
-            report_on(rt, path_of(arguments), &request)
+            report_on(rt, path_of(arguments), request)
         }
         None => Err(Stop::NoCommand("")),
     }
@@ -80,20 +82,21 @@ fn path_of<'a>(arguments: &ArgMatches<'a>) -> &'a str
 }
 
 /// Reports on a dump.
-fn report_on<'a>(rt: &HostRuntime, path: &'a str, request: &Request) -> Result<Outcome, Stop<'a>> {
+fn report_on<'a>(rt: &HostRuntime, path: &'a str, request: Request) -> Result<Outcome, Stop<'a>> {
     let source = open(rt, path)?;
     let mut progress = ProgressLine::new(rt, rt.stderr().is_terminal());
-    let mut writer = rt.stdout();
+    let mut output = StandardOutput::new(rt.stdout());
     let mut errors = rt.stderr();
-    ptdump_engine::run(
+    let ended = ptdump_engine::run(
         rt.alloc(),
         source,
         request,
-        &mut writer,
+        &mut output,
         &mut errors,
         &mut progress,
-    )
-    .map_err(|failure| Stop::of_run(path, failure))
+    );
+    let has_reader_left = output.has_reader_left();
+    ended.map_err(|failure| Stop::of_run(path, failure, has_reader_left))
 }
 
 /// Opens a dump, which is standard input if the path is `-`.

@@ -1,6 +1,6 @@
 //! Why the program ends without the requested report.
 ghost use Rattle.std.specs.Prelude.{◌≡◌};
-ghost use Rattle.ptdump.specs.Exit.{stop_of_run, stop_status};
+ghost use Rattle.ptdump.specs.Exit.{stop_of_output, stop_of_run, stop_status};
 
 use crate::numbers::{NumberOption, has_zero_in_front};
 use clap::error::ErrorKind;
@@ -75,18 +75,33 @@ pub enum Stop<'a> {
         /// The error of the read.
         error: io::Error,
     },
+    /// A write failed, since the reader of standard output has left. No reason is told for that.
+    ReaderLeft,
     /// The run failed for another reason, or memory allocation failed before it.
     Failed(Failure),
 }
 
 impl<'a> Stop<'a> {
-    /// Returns the reason for which a run on the file at a path failed. A failed read is one of this file.
-    pub fn of_run(path: &'a str, failure: Failure) -> Stop<'a>
-        ensures { result ≡ stop_of_run path.entry failure }
+    /// Returns the reason for which a run on the file at a path failed. A failed read is one of this file. A failed write needn't be
+    /// told if the reader of standard output has left.
+    pub fn of_run(path: &'a str, failure: Failure, has_reader_left: bool) -> Stop<'a>
+        ensures { result ≡ stop_of_run path.entry has_reader_left failure }
     {
         match failure {
             Failure::Read(error) => Stop::Unread { path, error },
+            Failure::Output => Stop::of_output(has_reader_left),
             failure => Stop::Failed(failure),
+        }
+    }
+
+    /// Returns the reason if a write failed.
+    fn of_output(has_reader_left: bool) -> Stop<'a>
+        ensures { result ≡ stop_of_output has_reader_left }
+    {
+        if has_reader_left {
+            Stop::ReaderLeft
+        } else {
+            Stop::Failed(Failure::Output)
         }
     }
 
@@ -111,11 +126,12 @@ impl<'a> Stop<'a> {
             | Stop::NoDirectMap(_)
             | Stop::NoRights(_) => 2,
             Stop::Unopened { .. } | Stop::NoLength { .. } | Stop::Unread { .. } => 3,
+            Stop::ReaderLeft => Failure::Output.status(),
             Stop::Failed(failure) => failure.status(),
         }
     }
 
-    /// Prints the reason: help and the version on standard output, everything else on standard error.
+    /// Prints the reason: help and the version on standard output, everything else on standard error, and nothing if a reader has left.
     ///
     /// # Errors
     ///
@@ -123,6 +139,7 @@ impl<'a> Stop<'a> {
     pub fn tell(&self, rt: &(impl Print + Eprint)) -> io::Result<()> {
         match self {
             Stop::Help(text) | Stop::Usage(text) => text.print(rt),
+            Stop::ReaderLeft => Ok(()),
             _ => eprintln!(rt; "error: {self}"),
         }
     }
@@ -189,6 +206,7 @@ impl Display for Stop<'_> {
                 "the end of {path} can't be seeked, as that of a pipe: write it into a file first ({error})"
             ),
             Stop::Unread { path, error } => write!(f, "{path} can't be read: {error}"),
+            Stop::ReaderLeft => f.write_str("the reader of the output has left"),
             Stop::Failed(failure) => write!(f, "{failure}"),
         }
     }

@@ -18,6 +18,7 @@ use Rattle.x86_64_model.specs.Position.{index, span}
 use Rattle.x86_64_model.proofs.Lemmas.Entries.Words.{address_within}
 use Rattle.ptdump_engine.specs.Accesses.{access_text, asked_text, is_arrived, is_there, limited, outcome_in}
 use Rattle.ptdump_engine.specs.Walks.{line}
+use Rattle.ptdump_engine.specs.declared.request.ControlsSource.{ControlsSource}
 
 -- ---- words that agree on the way
 
@@ -93,9 +94,10 @@ same_outcome c a L T W root p same =
     let settings = controls_of c in
     ap (outcome settings (access_of a) p root) (same_steps settings settings T W p L root (λ level e. refl) same)
 
-pub same_asked : (c : Settings) (asked : Option Asked) (L : ℕ) (T W : Words) (root p : ℕ) → SameBelow L T W root → asked_text c asked L T root p ≡ asked_text c asked L W root p
-same_asked c None L T W root p same = refl
-same_asked c (Some a) L T W root p same = ap (λ o. line (access_text a o)) (same_outcome c a L T W root p same)
+pub same_asked : (c : Settings) (source : ControlsSource) (asked : Option Asked) (L : ℕ) (T W : Words) (root p : ℕ) → SameBelow L T W root
+    → asked_text c source asked L T root p ≡ asked_text c source asked L W root p
+same_asked c source None L T W root p same = refl
+same_asked c source (Some a) L T W root p same = ap (λ o. line (access_text a c source o)) (same_outcome c a L T W root p same)
 
 pub same_there : (c : Settings) (asked : Option Asked) (L : ℕ) (T W : Words) (root p : ℕ) → page_walk L T root p ≡ page_walk L W root p → SameBelow L T W root
     → is_there c asked L T root p ≡ is_there c asked L W root p

@@ -14,6 +14,7 @@ pub mod Wholly
 pub mod Named
 pub mod Untold
 pub mod Renamed
+pub mod Resolved
 pub mod Counted
 pub mod Found
 pub mod Grouped

@@ -1,5 +1,5 @@
 -- Whole reports: the writer receives all that was put in, and words with equal mappings have equal reports.
-use Rattle.std.proofs.Common.{◌≡◌, ◌∙◌, ◌%◌, ◌==◌, ◌++◌, ◌||◌, ℕ, Bool, true, false, List, [], Option, None, Some, String, IfSome, IfOk, IfErr, OnOk, Result, Ok, Err, if◌then◌else◌, filter, length, inl, inr, refl, sym, ap, subst, append-nil}
+use Rattle.std.proofs.Common.{◌≡◌, ◌∙◌, ◌%◌, ◌==◌, ◌++◌, ◌||◌, ℕ, Bool, true, false, List, [], Option, None, Some, String, IfSome, IfOk, IfErr, OnOk, Result, Ok, Err, if◌then◌else◌, codes, filter, length, inl, inr, refl, sym, ap, subst, append-nil}
 use Rattle.std.proofs.KnownBytes.{Appends-trans}
 use Rattle.std.specs.Io.KnownBytes.{Appends, append_known}
 use Rattle.std.specs.List.{flat_map, list_all, list_any}
@@ -22,7 +22,7 @@ use Rattle.ptdump_engine.specs.Findings.{check_text, line_count, said_of_count}
 use Rattle.ptdump_engine.specs.Json.{json_line, json_of_access, json_of_asked, json_of_walk}
 use Rattle.ptdump_engine.specs.Lines.{mapping_line, region_line, walk_lines}
 use Rattle.ptdump_engine.specs.Program.{Machine, Opened, ReportsAll, ReportsOf, RunsAs, RunsOnDump, RunsOnProcessors, RunsOnTables, completeness_of, contents_for, dump_for, info_of, machine_for, opened_for, processors_for, report_in, report_of, start_for}
-use Rattle.ptdump_engine.specs.Reports.{address_line, addresses_text, find_text, pages_text, regions_text, walks_text}
+use Rattle.ptdump_engine.specs.Reports.{address_line, addresses_text, are_several, find_text, heading_line, none_line, pages_text, regions_text, walks_text}
 use Rattle.ptdump_engine.specs.Said.{line_of}
 use Rattle.x86_64_mappings.specs.Selections.{is_mapping_selected, is_selected}
 use Rattle.ptdump_engine.specs.Steps.{FailsBy, IsForced, and_then, of_dump}
@@ -32,6 +32,7 @@ use Rattle.ptdump_engine.specs.declared.output.Output.{Output}
 use Rattle.ptdump_engine.specs.declared.processors.Processor.{Processor}
 use Rattle.ptdump_engine.specs.declared.request.Command.{Command}
 use Rattle.ptdump_engine.specs.declared.request.Command.TheVariants as commands
+use Rattle.ptdump_engine.specs.declared.request.ControlsSource.{ControlsSource}
 use Rattle.ptdump_engine.specs.declared.request.Form.{Form}
 use Rattle.ptdump_engine.specs.declared.request.Form.TheVariants.{Text, Json}
 use Rattle.ptdump_engine.specs.declared.request.Outcome.{Outcome}
@@ -100,14 +101,15 @@ written_whole contents begun now ended text none all puts rest =
 
 -- ---- words with equal mappings
 
-same_json : (c : Controls) (asked : Option Access) (L : ℕ) (T W : Words) (root p : ℕ) → SameBelow L T W root → json_of_asked c asked L T root p ≡ json_of_asked c asked L W root p
-same_json c None L T W root p below = refl
-same_json c (Some a) L T W root p below = ap (λ o. Some (json_of_access a o)) (same_outcome c a L T W root p below)
+same_json : (c : Controls) (source : ControlsSource) (asked : Option Access) (L : ℕ) (T W : Words) (root p : ℕ) → SameBelow L T W root
+    → json_of_asked c source asked L T root p ≡ json_of_asked c source asked L W root p
+same_json c source None L T W root p below = refl
+same_json c source (Some a) L T W root p below = ap (λ o. Some (json_of_access a c source o)) (same_outcome c a L T W root p below)
 
 same_walks : (form : Form) (L : ℕ) (T W : Words) (root : ℕ) (asked : WalkOptions) (p : ℕ) → SameBelow L T W root → walk_lines form L T root asked p ≡ walk_lines form L W root asked p
 same_walks Text L T W root asked p below = λ i. let walk = same_walk T W p L root below i in walk_text asked.controls walk
-    ++ (if asked.explains then explanation_text walk else []) ++ same_asked asked.controls asked.access L T W root p below i
-same_walks Json L T W root asked p below = λ i. json_line (json_of_walk (raw L p) (same_walk T W p L root below i) (same_json asked.controls asked.access L T W root p below i))
+    ++ (if asked.explains then explanation_text walk else []) ++ same_asked asked.controls asked.source asked.access L T W root p below i
+same_walks Json L T W root asked p below = λ i. json_line (json_of_walk (raw L p) (same_walk T W p L root below i) (same_json asked.controls asked.source asked.access L T W root p below i))
 
 same_of : (form : Form) (command : Command) (L : ℕ) (T W : Words) (root : ℕ) → mappings_of L T root ≡ mappings_of L W root → SameBelow L T W root
     → report_in form command L T root ≡ report_in form command L W root
@@ -115,9 +117,10 @@ unfolding regions_text pages_text walks_text find_text addresses_text check_text
 same_of form (commands.Regions s) L T W root same below = ap (λ ms. Some (flat_map (region_line form L) (filter (is_selected L s) (regions_in L ms)))) same
 same_of form (commands.Pages s has_names) L T W root same below = ap (λ ms. Some (flat_map (mapping_line form has_names L) (filter (is_mapping_selected L s) ms))) same
 same_of form (commands.Walk addresses asked) L T W root same below =
-    λ i. Some (flat_map (λ a. same_walks form L T W root asked (a % position_count L) below i) addresses.items)
+    λ i. Some (flat_map (λ a. heading_line form (are_several addresses.items) (codes "address") a ++ same_walks form L T W root asked (a % position_count L) below i) addresses.items)
 same_of form (commands.Find addresses) L T W root same below =
-    ap (λ ms. Some (flat_map (λ a. flat_map (address_line form L a) (filter (leads_to a) ms)) addresses.items)) same
+    ap (λ ms. Some (flat_map (λ a. heading_line form (are_several addresses.items) (codes "physical") a ++ flat_map (address_line form L a) (filter (leads_to a) ms)
+    ++ none_line form (are_several addresses.items) (list_any (leads_to a) ms)) addresses.items)) same
 same_of form (commands.Check checking) L T W root same below =
     ap (λ lines. Some (flat_map (line_of form) lines ++ line_of form (said_of_count (line_count lines)))) (same_lines T W checking L root same below)
 same_of form commands.Image L T W root same below = refl

@@ -10,6 +10,8 @@ use Rattle.x86_64_model.specs.Access.{Outcome, Arrives, Faults, NoMemory, access
 use Rattle.x86_64_model.specs.Memory.{Words}
 use Rattle.x86_64_model.specs.PageWalk.{page_walk}
 use Rattle.ptdump_engine.specs.Walks.{line}
+use Rattle.ptdump_engine.specs.declared.request.ControlsSource.{ControlsSource}
+use Rattle.ptdump_engine.specs.declared.request.ControlsSource.TheVariants.{Given, Noted, Assumed}
 
 -- what the processor does with the access at position p, by the words of the tables below a root
 abbrev pub outcome_in : (L : ℕ) → Words → (root p : ℕ) → Controls → Access → Outcome
@@ -48,16 +50,39 @@ outcome_text (Arrives address) = codes " arrives at " ++ hexadecimal address
 outcome_text (Faults code level) = codes " faults at level " ++ decimal level ++ codes ", code " ++ code_text code
 outcome_text (NoMemory frame) = codes " needs the table at " ++ hexadecimal frame ++ codes ", which the dump lacks"
 
--- the name of an access, and what the processor does with it
-abbrev pub access_text : Access → Outcome → List ℕ
-access_text a outcome = access_name a ++ outcome_text outcome
+-- ---- controls
+
+-- what says the controls
+abbrev pub source_name : ControlsSource → List ℕ
+source_name Given = codes "given"
+source_name Noted = codes "noted"
+source_name Assumed = codes "assumed"
+
+-- the name of a control, behind + if it is on, and - if it is off
+unfoldable pub control_text : (is_on : Bool) → (name : List ℕ) → List ℕ
+control_text is_on name = (if is_on then codes " +" else codes " -") ++ name
+
+-- what stands between those that a note may tell and the others
+abbrev pub between_text : ControlsSource → List ℕ
+between_text Noted = codes ", assumed:"
+between_text source = []
+
+-- the controls, and what says them
+unfoldable pub controls_text : Controls → ControlsSource → List ℕ
+controls_text c source = codes " (" ++ source_name source ++ codes ":"
+    ++ control_text c.write_protect (codes "wp") ++ control_text c.smep (codes "smep") ++ control_text c.smap (codes "smap")
+    ++ between_text source ++ control_text c.no_execute (codes "nxe") ++ control_text c.ac (codes "ac") ++ codes ")"
+
+-- the name of an access, what the processor does with it, and the controls that decide it
+abbrev pub access_text : Access → Controls → ControlsSource → Outcome → List ℕ
+access_text a c source outcome = access_name a ++ outcome_text outcome ++ controls_text c source
 
 -- ---- walks
 
 -- the line of the access that is asked for, if one is
-abbrev pub asked_text : Controls → Option Access → (L : ℕ) → Words → (root p : ℕ) → List ℕ
-asked_text c None L T root p = []
-asked_text c (Some a) L T root p = line (access_text a (outcome_in L T root p c a))
+abbrev pub asked_text : Controls → ControlsSource → Option Access → (L : ℕ) → Words → (root p : ℕ) → List ℕ
+asked_text c source None L T root p = []
+asked_text c source (Some a) L T root p = line (access_text a c source (outcome_in L T root p c a))
 
 -- whether the access that is asked for arrives, or if none is, the page walk
 abbrev pub is_there : Controls → Option Access → (L : ℕ) → Words → (root p : ℕ) → Bool

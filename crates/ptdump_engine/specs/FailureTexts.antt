@@ -23,7 +23,7 @@ wrong_mode_text cpu mode = codes "processor " ++ decimal cpu ++ codes " " ++ mod
 
 -- the text of a failure to find the root; None for other failures, whose texts aren't specified
 abbrev pub failure_text : Failure → Option (List ℕ)
-failure_text NoCr3 = Some (codes "no CR3 and no VMCOREINFO in the file: give --cr3, 0x and the digits that QEMU's `info registers` prints, and on Linux `ptdump info /proc/kcore`")
+failure_text NoCr3 = Some (codes "no CR3 and no VMCOREINFO in the file: give --cr3, 0x and the digits that QEMU's `info registers` prints; on Linux `ptdump info /proc/kcore` shows it")
 failure_text VirtualBox = Some (codes "the file is a core of VirtualBox, of which no CR3 is read: give --cr3")
 failure_text (NoProcessor cpu count) = Some (no_processor_text cpu count)
 failure_text NoProcessors = Some (codes "no notes of processors in the file, which --all-cpus needs: leave it out, and give --cr3 if it is needed")

@@ -12,8 +12,9 @@ use Rattle.x86_64_model.specs.Mappings.{Mapping, Rights}
 use Rattle.x86_64_model.specs.Position.{raw}
 use Rattle.x86_64_model.specs.Regions.{Region}
 use Rattle.x86_64_model.specs.Memory.{Words}
-use Rattle.ptdump_engine.specs.Accesses.{access_name, outcome_in}
+use Rattle.ptdump_engine.specs.Accesses.{access_name, outcome_in, source_name}
 use Rattle.ptdump_engine.specs.Walks.{End, arrives_at, not_present, no_table, huge_page, Walk, line, walk_rights}
+use Rattle.ptdump_engine.specs.declared.request.ControlsSource.{ControlsSource}
 use Rattle.ptdump_engine.specs.declared.word_read.WordRead.{WordRead}
 
 -- the line of a value: its text without spaces
@@ -90,26 +91,39 @@ end_members words rights (huge_page level) =
     (member (codes "level") (count level)
     (member (codes "words") words no_members))
 
--- an access, and what a processor does with it
-abbrev pub json_of_access : Access → Outcome → Data
-json_of_access a (Arrives to) = object (
-    member (codes "end") (string (codes "arrives"))
+-- the controls that are on, and what says them
+abbrev pub json_of_controls : Controls → ControlsSource → Data
+json_of_controls c source = object (
+    member (codes "ac") (boolean c.ac)
+    (member (codes "nxe") (boolean c.no_execute)
+    (member (codes "smap") (boolean c.smap)
+    (member (codes "smep") (boolean c.smep)
+    (member (codes "source") (string (source_name source))
+    (member (codes "wp") (boolean c.write_protect) no_members))))))
+
+-- an access, what a processor does with it, and the controls that decide it
+abbrev pub json_of_access : Access → Controls → ControlsSource → Outcome → Data
+json_of_access a c source (Arrives to) = object (
+    member (codes "controls") (json_of_controls c source)
+    (member (codes "end") (string (codes "arrives"))
     (member (codes "name") (string (access_name a))
-    (member (codes "physical") (hexadecimal_string to) no_members)))
-json_of_access a (Faults code level) = object (
+    (member (codes "physical") (hexadecimal_string to) no_members))))
+json_of_access a c source (Faults code level) = object (
     member (codes "code") (hexadecimal_string code)
+    (member (codes "controls") (json_of_controls c source)
     (member (codes "end") (string (codes "fault"))
     (member (codes "level") (count level)
-    (member (codes "name") (string (access_name a)) no_members))))
-json_of_access a (NoMemory frame) = object (
-    member (codes "end") (string (codes "missing table"))
+    (member (codes "name") (string (access_name a)) no_members)))))
+json_of_access a c source (NoMemory frame) = object (
+    member (codes "controls") (json_of_controls c source)
+    (member (codes "end") (string (codes "missing table"))
     (member (codes "name") (string (access_name a))
-    (member (codes "table") (hexadecimal_string frame) no_members)))
+    (member (codes "table") (hexadecimal_string frame) no_members))))
 
 -- the access that is asked for, if one is
-abbrev pub json_of_asked : Controls → Option Access → (L : ℕ) → Words → (root p : ℕ) → Option Data
-json_of_asked c None L T root p = None
-json_of_asked c (Some a) L T root p = Some (json_of_access a (outcome_in L T root p c a))
+abbrev pub json_of_asked : Controls → ControlsSource → Option Access → (L : ℕ) → Words → (root p : ℕ) → Option Data
+json_of_asked c source None L T root p = None
+json_of_asked c source (Some a) L T root p = Some (json_of_access a c source (outcome_in L T root p c a))
 
 abbrev pub with_access : Option Data → Members → Members
 with_access None members = members

@@ -12,6 +12,7 @@ pub mod Lines
 pub mod Loaded
 pub mod MemoryRanges
 pub mod Names
+pub mod NotedControls
 pub mod NotedLevels
 pub mod Output
 pub mod Processors

@@ -37,5 +37,5 @@ found_line form a at rights = line_in form (rights_at_text at rights) (json_of_f
 -- walk if that is asked for
 abbrev pub walk_lines : Form → (L : ℕ) → Words → (root : ℕ) → WalkOptions → (p : ℕ) → List ℕ
 walk_lines Text L T root asked p = walk_text asked.controls (walk_of L T root p)
-    ++ (if asked.explains then explanation_text (walk_of L T root p) else []) ++ asked_text asked.controls asked.access L T root p
-walk_lines Json L T root asked p = json_line (json_of_walk (raw L p) (walk_of L T root p) (json_of_asked asked.controls asked.access L T root p))
+    ++ (if asked.explains then explanation_text (walk_of L T root p) else []) ++ asked_text asked.controls asked.source asked.access L T root p
+walk_lines Json L T root asked p = json_line (json_of_walk (raw L p) (walk_of L T root p) (json_of_asked asked.controls asked.source asked.access L T root p))

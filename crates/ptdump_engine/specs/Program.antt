@@ -23,9 +23,10 @@ use Rattle.ptdump_engine.specs.Findings.{check_text, finds_nothing}
 use Rattle.ptdump_engine.specs.Info.{info_in}
 use Rattle.ptdump_engine.specs.InfoTexts.{text_told}
 pub use Rattle.ptdump_engine.specs.MemoryRanges.{last_address}
+use Rattle.ptdump_engine.specs.NotedControls.{resolved}
 use Rattle.ptdump_engine.specs.NotedLevels.{levels_text}
 use Rattle.ptdump_engine.specs.Processors.{cpus_with, firsts_of, heading_text, left_out_text, modes_failure, processors_from}
-use Rattle.ptdump_engine.specs.Reports.{regions_text, pages_text, walks_text, find_text, all_arrive, all_found}
+use Rattle.ptdump_engine.specs.Reports.{regions_text, pages_text, walks_text, find_text, all_arrive, all_found, are_several}
 use Rattle.ptdump_engine.specs.Reserved.{reserved_note}
 pub use Rattle.ptdump_engine.specs.Start.{level_count}
 use Rattle.ptdump_engine.specs.Start.{start_of}
@@ -194,8 +195,8 @@ machine_for request file = and_then (dump_for request file) (λ dump.
 abbrev pub report_in : Form → Command → (L : ℕ) → Words → (root : ℕ) → Option (List ℕ)
 report_in form (commands.Regions selection) L T root = Some (regions_text selection form L T root)
 report_in form (commands.Pages selection has_names) L T root = Some (pages_text selection has_names form L T root)
-report_in form (commands.Walk addresses asked) L T root = Some (walks_text form L T root asked addresses.items)
-report_in form (commands.Find addresses) L T root = Some (find_text form L T root addresses.items)
+report_in form (commands.Walk addresses asked) L T root = Some (walks_text form (are_several addresses.items) L T root asked addresses.items)
+report_in form (commands.Find addresses) L T root = Some (find_text form (are_several addresses.items) L T root addresses.items)
 report_in form (commands.Check checking) L T root = Some (check_text form checking L T root)
 report_in form commands.Info L T root = Some []
 report_in form command L T root = None
@@ -215,9 +216,10 @@ pub record Reports (request : Request) (L : ℕ) (T : Words) (root : ℕ) (befor
   pub text : IfSome (report_of request L T root) (Appends before after)
   pub complete : outcome.is_complete ≡ completeness_of request.command L T root
 
+-- likewise in what was opened, with the controls that a processor's note tells in place of assumed ones
 abbrev pub ReportsOf : Request → (before after : Option (List ℕ)) → Outcome → Opened → Type 0
 ReportsOf request before after outcome o =
-    Reports request (level_count o.start.levels) (words_of_dump o.dump) o.start.root before after outcome
+    Reports (resolved request o.dump) (level_count o.start.levels) (words_of_dump o.dump) o.start.root before after outcome
 
 -- The result and the output of a run that reports on tables. It fails for its request or its file without writing anything, for a
 -- read only if reads may fail, and for a write only if its writers may refuse one.

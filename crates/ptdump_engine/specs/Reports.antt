@@ -1,15 +1,18 @@
 -- Reports: the texts of the program for words in a form, with L levels of tables below a root.
-use Rattle.std.specs.Prelude.{ℕ, ◌+◌, ◌-◌, ◌%◌, Bool, List, filter}
+use Rattle.std.specs.Prelude.{ℕ, ◌+◌, ◌-◌, ◌%◌, ◌++◌, Bool, true, false, List, [], codes, filter, length, nat_lt}
 use Rattle.std.specs.List.{flat_map, list_all, list_any}
 use Rattle.x86_64_model.specs.Mappings.{Mapping, mappings_of}
 use Rattle.x86_64_model.specs.Memory.{Words}
 use Rattle.x86_64_model.specs.Position.{position_count, raw}
 use Rattle.x86_64_model.specs.Regions.{regions_of}
+use Rattle.x86_64_mappings.specs.Numbers.{hexadecimal}
 use Rattle.x86_64_mappings.specs.Wanted.{leads_to}
 use Rattle.ptdump_engine.specs.Accesses.{is_there}
 use Rattle.ptdump_engine.specs.Lines.{found_line, mapping_line, region_line, walk_lines}
 use Rattle.x86_64_mappings.specs.Selections.{is_mapping_selected, is_selected}
+use Rattle.ptdump_engine.specs.Walks.{line}
 use Rattle.ptdump_engine.specs.declared.request.Form.{Form}
+use Rattle.ptdump_engine.specs.declared.request.Form.TheVariants.{Text}
 use Rattle.x86_64_mappings.specs.declared.selection.Selection.{Selection}
 use Rattle.ptdump_engine.specs.declared.request.WalkOptions.{WalkOptions}
 
@@ -21,9 +24,22 @@ regions_text s form L T root = flat_map (region_line form L) (filter (is_selecte
 unfoldable pub pages_text : Selection → (has_names : Bool) → Form → (L : ℕ) → Words → (root : ℕ) → List ℕ
 pages_text s has_names form L T root = flat_map (mapping_line form has_names L) (filter (is_mapping_selected L s) (mappings_of L T root))
 
+-- the line above what is said of an address if it is one of several, as text. An object of JSON has the address itself
+abbrev pub heading_line : Form → (several : Bool) → (name : List ℕ) → (address : ℕ) → List ℕ
+heading_line Text true name a = line (name ++ codes " " ++ hexadecimal a)
+heading_line form several name a = []
+
+-- whether there are several
+abbrev pub are_several : List ℕ → Bool
+are_several addresses = nat_lt 1 (length addresses)
+
+-- the walk to a virtual address
+abbrev pub headed_walk : Form → (several : Bool) → (L : ℕ) → Words → (root : ℕ) → WalkOptions → (address : ℕ) → List ℕ
+headed_walk form several L T root asked a = heading_line form several (codes "address") a ++ walk_lines form L T root asked (a % position_count L)
+
 -- the walks to virtual addresses
-unfoldable pub walks_text : Form → (L : ℕ) → Words → (root : ℕ) → WalkOptions → (addresses : List ℕ) → List ℕ
-walks_text form L T root asked addresses = flat_map (λ a. walk_lines form L T root asked (a % position_count L)) addresses
+unfoldable pub walks_text : Form → (several : Bool) → (L : ℕ) → Words → (root : ℕ) → WalkOptions → (addresses : List ℕ) → List ℕ
+walks_text form several L T root asked addresses = flat_map (headed_walk form several L T root asked) addresses
 
 -- the line for the virtual address in a mapping that leads to a physical address
 abbrev pub address_line : Form → (L physical : ℕ) → Mapping → List ℕ
@@ -33,9 +49,19 @@ address_line form L a m = found_line form a (raw L (m.start + (a - m.frame))) m.
 unfoldable pub addresses_text : Form → (L : ℕ) → Words → (root physical : ℕ) → List ℕ
 addresses_text form L T root a = flat_map (address_line form L a) (filter (leads_to a) (mappings_of L T root))
 
--- likewise for each of several physical addresses
-unfoldable pub find_text : Form → (L : ℕ) → Words → (root : ℕ) → (physical : List ℕ) → List ℕ
-find_text form L T root physical = flat_map (addresses_text form L T root) physical
+-- the line below the heading if no virtual address leads to a physical address
+abbrev pub none_line : Form → (several found : Bool) → List ℕ
+none_line Text true false = line (codes "not found")
+none_line form several found = []
+
+-- a line for each virtual address that leads to one of several physical addresses
+abbrev pub headed_addresses : Form → (several : Bool) → (L : ℕ) → Words → (root physical : ℕ) → List ℕ
+headed_addresses form several L T root a = heading_line form several (codes "physical") a ++ addresses_text form L T root a
+    ++ none_line form several (list_any (leads_to a) (mappings_of L T root))
+
+-- likewise for each of some physical addresses
+unfoldable pub find_text : Form → (several : Bool) → (L : ℕ) → Words → (root : ℕ) → (physical : List ℕ) → List ℕ
+find_text form several L T root physical = flat_map (headed_addresses form several L T root) physical
 
 -- ---- whether the request is fulfilled
 

@@ -11,6 +11,7 @@ ghost use Rattle.ptdump_engine.specs.Walks.{line};
 use crate::destination::Destination;
 use crate::loaded::Loaded;
 use crate::output::{Output, OutputError};
+use crate::request::ControlsSource;
 use bitflags::Flags;
 use std::fmt::{Display, Formatter, Result as FmtResult, Write};
 use x86_64_access::{Access, AccessKind, Controls, Fault, PageFaultCode, access};
@@ -24,7 +25,7 @@ use x86_64_tables::phys_memory::{IdentityMapping, PhysMemory};
 /// The largest number of bits of a physical address.
 const PHYSICAL_BITS: u8 = 52;
 
-/// Writes what a processor does with an access at an address, and returns true if the access arrives.
+/// Writes what a processor does with an access at an address, and by which controls. Returns true if the access arrives.
 ///
 /// # Errors
 ///
@@ -33,27 +34,31 @@ pub fn write_access<L: LevelCount, W: Destination>(
     loaded: &Loaded<'_, L>,
     address: VirtAddrIn<L>,
     controls: Controls,
+    source: ControlsSource,
     asked: Access,
     output: &mut Output<'_, W>,
 ) -> Result<bool, OutputError<W>>
-    ensures text { OnOk result (Puts W.contents output.old output.new (line (accesses.access_text asked
+    ensures text { OnOk result (Puts W.contents output.old output.new (line (accesses.access_text asked controls source
         (accesses.outcome_in L.LEVELS (words_loaded loaded.now) loaded.now.root address controls asked)))) }
     ensures arrives { IfOk result (λ arrives. arrives ≡ accesses.is_arrived
         (accesses.outcome_in L.LEVELS (words_loaded loaded.now) loaded.now.root address controls asked)) }
 {
-    let line = access_end(loaded, address, controls, asked);
+    let line = access_end(loaded, address, controls, source, asked);
     writeln!(output, "{line}")?;
     Ok(line.end.is_ok())
 }
 
-/// Returns what a processor does with an access at an address.
+/// Returns what a processor does with an access at an address, and by which controls.
 pub fn access_end<L: LevelCount>(
     loaded: &Loaded<'_, L>,
     address: VirtAddrIn<L>,
     controls: Controls,
+    source: ControlsSource,
     asked: Access,
 ) -> AccessLine
     ensures access { result.access ≡ asked }
+    ensures controls { result.controls ≡ controls }
+    ensures source { result.source ≡ source }
     ensures end { outcome_of result.end
         ≡ accesses.outcome_in L.LEVELS (words_loaded loaded.now) loaded.now.root address controls asked }
 {
@@ -64,7 +69,12 @@ pub fn access_end<L: LevelCount>(
         controls,
         asked,
     );
-    AccessLine { access: asked, end }
+    AccessLine {
+        access: asked,
+        controls,
+        source,
+        end,
+    }
 }
 
 /// Returns what a processor does with an access at an address: the physical address at which it arrives, or the fault.
@@ -92,21 +102,27 @@ pub fn limited(controls: Controls) -> Controls
     }
 }
 
-/// An access, and what a processor does with it, as text.
+/// An access, what a processor does with it, and the controls that decide it, as text.
 #[derive(Clone, Copy)]
 pub struct AccessLine {
     /// The access.
     pub access: Access,
+    /// What the processor is set to.
+    pub controls: Controls,
+    /// What says so.
+    pub source: ControlsSource,
     /// The physical address at which it arrives, or the fault.
     pub end: Result<PhysAddr, Fault>,
 }
 
 impl Display for AccessLine {
-    ghost output = { λ line. Some (accesses.access_text line.access (outcome_of line.end)) };
+    ghost output = { λ line. Some (
+        accesses.access_text line.access line.controls line.source (outcome_of line.end)) };
 
     fn fmt<W: Write>(&self, f: &mut Formatter<W>) -> FmtResult {
         f.write_str(access_name(self.access))?;
-        write_end(f, self.end)
+        write_end(f, self.end)?;
+        write_controls(f, self.controls, self.source)
     }
 }
 
@@ -174,4 +190,43 @@ fn write_bit<W: Write>(f: &mut Formatter<W>, code: u64, bit: u64, text: &'static
     ensures { WritesOnOk W.write_str_gives f.old result (accesses.bit_text code bit text.now) f.new }
 {
     f.write_str(if code & bit != 0 { text } else { "" })
+}
+
+/// Writes the controls of a processor, and what says them.
+#[tactic(auto, unfolding(crate::specs::Accesses::controls_text))]
+fn write_controls<W: Write>(
+    f: &mut Formatter<W>,
+    controls: Controls,
+    source: ControlsSource,
+) -> FmtResult
+    ensures { WritesOnOk W.write_str_gives f.old result (accesses.controls_text controls source) f.new }
+{
+    let name = source.name();
+    write!(f, " ({name}:")?;
+    write_control(f, controls.write_protect, "wp")?;
+    write_control(f, controls.smep, "smep")?;
+    write_control(f, controls.smap, "smap")?;
+    f.write_str(between(source))?;
+    write_control(f, controls.no_execute, "nxe")?;
+    write_control(f, controls.ac, "ac")?;
+    f.write_str(")")
+}
+
+/// Returns what stands between the controls that a note may tell and the others.
+fn between(source: ControlsSource) -> &'static str
+    ensures { result.now ≡ accesses.between_text source }
+{
+    match source {
+        ControlsSource::Noted => ", assumed:",
+        ControlsSource::Given | ControlsSource::Assumed => "",
+    }
+}
+
+/// Writes the name of a control, behind `+` if it is on, and `-` if it is off.
+#[tactic(auto, unfolding(crate::specs::Accesses::control_text))]
+fn write_control<W: Write>(f: &mut Formatter<W>, is_on: bool, name: &'static str) -> FmtResult
+    ensures { WritesOnOk W.write_str_gives f.old result (accesses.control_text is_on name.now) f.new }
+{
+    f.write_str(if is_on { " +" } else { " -" })?;
+    f.write_str(name)
 }

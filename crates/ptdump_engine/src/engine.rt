@@ -20,6 +20,7 @@ use crate::failure::Failure;
 use crate::image::write_image;
 use crate::info::write_info;
 use crate::loaded::Loaded;
+use crate::noted_controls::with_noted_controls;
 use crate::noted_levels::write_levels;
 use crate::opening::{open, write_opening};
 use crate::output::{Output, OutputError};
@@ -40,8 +41,9 @@ use x86_64_page::page::Size4KiB;
 use x86_64_tables::phys_memory::IdentityMapping;
 
 /// Runs the program on the bytes of a file: opens it as a dump, reads the tables that a root leads to, and writes the requested
-/// report to `writer`. The request is tested before anything is written there. `progress` is called as memory is searched for
-/// VMCOREINFO, and as the tables are read.
+/// report to `writer`. The request is tested before anything is written there. A walk's access is answered by the controls that the
+/// note of a processor tells, if the request only assumes them. `progress` is called as memory is searched for VMCOREINFO, and as the
+/// tables are read.
 ///
 /// `errors` receives the rest of the text for standard error: that the file is raw, or shorter than its headers say, that the root is
 /// the kernel's own by VMCOREINFO, that the dump says another number of levels than the request, which processors have no tables, how an image
@@ -57,43 +59,46 @@ use x86_64_tables::phys_memory::IdentityMapping;
 pub fn run<S: ByteSource, W: Destination, E: Destination, G: Progress>(
     alloc: Global,
     source: S,
-    request: &Request,
+    request: Request,
     writer: &mut W,
     errors: &mut E,
     progress: &mut G,
 ) -> Result<Outcome, Failure>
-    ensures run { S.IsKnown → program.Runs S.may_fail (W.may_refuse || E.may_refuse) request.now
+    ensures run { S.IsKnown → program.Runs S.may_fail (W.may_refuse || E.may_refuse) request
         (S.bytes source) (W.contents writer.old) (W.contents writer.new) result }
-    ensures notes { S.IsKnown → OnOk result (program.is_image request.now.command ≡ false →
-        program.Notes request.now (S.bytes source) (E.contents errors.old) (E.contents errors.new)) }
+    ensures notes { S.IsKnown → OnOk result (program.is_image request.command ≡ false →
+        program.Notes request (S.bytes source) (E.contents errors.old) (E.contents errors.new)) }
     ensures told { S.IsKnown → OnOk result
-        (program.ToldOfRun G.Told G.Ended request.now (S.bytes source) progress.old progress.new) }
+        (program.ToldOfRun G.Told G.Ended request (S.bytes source) progress.old progress.new) }
     ensures counted { program.ToldInTurn G.Told G.Ended progress.old progress.new }
     ensures untold { IfErr result (λ failure. IsForced S.may_fail (W.may_refuse || E.may_refuse) failure
         ⊎ (progress.new ≡ progress.old)) }
 {
     let mut notes = Output::new(alloc, errors);
-    let dump = open(alloc, source, request, &*progress)?;
+    let dump = open(alloc, source, &request, &*progress)?;
     write_opening(&dump, &mut notes)?;
     if request.command.is_info() {
-        return write_info(alloc, &dump, request, writer);
+        return write_info(alloc, &dump, &request, writer);
     }
     if request.is_of_processors() {
-        let processors = processors_for(alloc, &dump, request)?;
+        let processors = processors_for(alloc, &dump, &request)?;
         return report_on_processors(
             alloc,
             &dump,
             &processors,
-            request,
+            &request,
             writer,
             &mut notes,
             progress,
         );
     }
-    let start = start_for(alloc, &dump, request)?;
+    let start = start_for(alloc, &dump, &request)?;
     write_source(start.origin, &mut notes)?;
-    write_levels(alloc, &dump, request, start.origin, &mut notes)?;
-    report_from(alloc, &dump, &start, request, writer, &mut notes, progress)
+    write_levels(alloc, &dump, &request, start.origin, &mut notes)?;
+    let resolved = with_noted_controls(alloc, &dump, request)?;
+    report_from(
+        alloc, &dump, &start, &resolved, writer, &mut notes, progress,
+    )
 }
 
 /// Writes immediately if the root is the kernel's own, and what says so.

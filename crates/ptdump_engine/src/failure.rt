@@ -133,7 +133,7 @@ impl Display for Failure {
     fn fmt<W: Write>(&self, f: &mut Formatter<W>) -> FmtResult {
         match self {
             Failure::NoCr3 => f.write_str(
-                "no CR3 and no VMCOREINFO in the file: give --cr3, 0x and the digits that QEMU's `info registers` prints, and on Linux `ptdump info /proc/kcore`",
+                "no CR3 and no VMCOREINFO in the file: give --cr3, 0x and the digits that QEMU's `info registers` prints; on Linux `ptdump info /proc/kcore` shows it",
             ),
             Failure::VirtualBox => f.write_str(
                 "the file is a core of VirtualBox, of which no CR3 is read: give --cr3",

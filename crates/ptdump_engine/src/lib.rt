@@ -22,6 +22,7 @@ mod loaded;
 mod mode;
 mod names;
 mod naming;
+mod noted_controls;
 mod noted_levels;
 mod opening;
 mod output;
@@ -47,6 +48,7 @@ pub use failure::Failure;
 pub use loaded::Loaded;
 pub use output::{Output, OutputError};
 pub use request::{
-    AddressRange, Checking, Command, Form, Levels, Outcome, Request, Selection, WalkOptions,
+    AddressRange, Checking, Command, ControlsSource, Form, Levels, Outcome, Request, Selection,
+    WalkOptions,
 };
 pub use x86_64_dump::{NoProgress, Progress};

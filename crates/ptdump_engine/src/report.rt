@@ -1,7 +1,8 @@
 //! Reports of regions, mappings, walks and searches.
-ghost use Rattle.std.specs.Prelude.{◌≡◌, ◌^◌, nat_le, None, OnOk, IfOk};
+ghost use Rattle.std.specs.Prelude.{◌≡◌, ◌^◌, ◌%◌, nat_le, None, OnOk, IfOk};
 ghost use Rattle.std.specs.List.{find, list_any};
 ghost use Rattle.x86_64_model.specs.Mappings.{mappings_of};
+ghost use Rattle.x86_64_model.specs.Position.{position_count};
 ghost use Rattle.x86_64_mappings.specs.Wanted.{leads_to};
 ghost use Rattle.ptdump_engine.specs.Accesses.{is_there};
 ghost use Rattle.ptdump_engine.specs.Lines.{walk_lines};
@@ -107,8 +108,8 @@ fn write_pages_as_text<L: LevelCount, W: Destination>(
     }
 }
 
-/// Writes the walks to addresses, and what else is asked of each. Returns true if each access arrives, or if none is asked for, each
-/// walk.
+/// Writes the walks to addresses, and what else is asked of each, as text below the address if there are several. Returns true if
+/// each access arrives, or if none is asked for, each walk.
 ///
 /// # Errors
 ///
@@ -122,17 +123,65 @@ pub fn write_walks<L: LevelCount, W: Destination>(
     output: &mut Output<'_, W>,
 ) -> Result<bool, OutputError<W>>
     ensures text { OnOk result (Puts W.contents output.old output.new
-        (reports.walks_text form L.LEVELS (words_loaded loaded.now) loaded.now.root options addresses.now)) }
+        (reports.walks_text form (reports.are_several addresses.now)
+        L.LEVELS (words_loaded loaded.now) loaded.now.root options addresses.now)) }
     ensures complete { IfOk result (λ all.
         all ≡ reports.all_arrive L.LEVELS (words_loaded loaded.now) loaded.now.root options addresses.now) }
 {
+    let are_several = addresses.len() > 1;
     let mut is_complete = true;
     for address in addresses {
-        let address = VirtAddrIn::<L>::new_truncate(*address);
-        let arrives = write_walk_as(alloc, loaded, address, options, form, output)?;
+        let arrives = write_headed_walk(
+            alloc,
+            loaded,
+            *address,
+            are_several,
+            options,
+            form,
+            output,
+        )?;
         is_complete &= arrives;
     }
     Ok(is_complete)
+}
+
+/// Writes the walk to an address that is perhaps one of several, and what else is asked of it. Returns true if the access arrives, or
+/// if none is asked for, the walk.
+fn write_headed_walk<L: LevelCount, W: Destination>(
+    alloc: Global,
+    loaded: &Loaded<'_, L>,
+    address: u64,
+    are_several: bool,
+    options: WalkOptions,
+    form: Form,
+    output: &mut Output<'_, W>,
+) -> Result<bool, OutputError<W>>
+    ensures text { OnOk result (Puts W.contents output.old output.new (reports.headed_walk
+        form are_several L.LEVELS (words_loaded loaded.now) loaded.now.root options address)) }
+    ensures arrives { IfOk result (λ arrives.
+        arrives ≡ is_there options.controls options.access
+        L.LEVELS (words_loaded loaded.now) loaded.now.root (address % position_count L.LEVELS)) }
+{
+    write_heading(form, are_several, "address", address, output)?;
+    let virtual_address = VirtAddrIn::<L>::new_truncate(address);
+    write_walk_as(alloc, loaded, virtual_address, options, form, output)
+}
+
+/// Writes the line above what is said of an address if it is one of several, as text.
+fn write_heading<W: Destination>(
+    form: Form,
+    are_several: bool,
+    name: &'static str,
+    address: u64,
+    output: &mut Output<'_, W>,
+) -> Result<(), OutputError<W>>
+    ensures { OnOk result (Puts W.contents output.old output.new
+        (reports.heading_line form are_several name.now address)) }
+{
+    match (form, are_several) {
+        (Form::Text, true) => writeln!(output, "{name} 0x{address:x}"),
+        _ => Ok(()),
+    }
 }
 
 /// Writes the walk to an address in a form, and what else is asked of it. Returns true if the access arrives, or if none is asked
@@ -178,11 +227,12 @@ fn write_walk_by<L: LevelCount, W: Destination>(
     write_explanation(&walk, options.explains, output)?;
     match options.access {
         None => Ok(walk.arrives()),
-        Some(asked) => write_access(loaded, address, controls, asked, output),
+        Some(asked) => write_access(loaded, address, controls, options.source, asked, output),
     }
 }
 
-/// Writes the virtual addresses that lead to physical addresses, and returns true if there is one for each physical address.
+/// Writes the virtual addresses that lead to physical addresses, as text below the physical address if there are several. Returns
+/// true if there is one for each physical address.
 ///
 /// # Errors
 ///
@@ -196,17 +246,55 @@ pub fn write_found<L: LevelCount, W: Destination>(
 ) -> Result<bool, OutputError<W>>
     requires { find (λ a. nat_le (2 ^ 52) a) addresses.now ≡ None }
     ensures text { OnOk result (Puts W.contents output.old output.new
-        (reports.find_text form L.LEVELS (words_loaded loaded.now) loaded.now.root addresses.now)) }
+        (reports.find_text form (reports.are_several addresses.now)
+        L.LEVELS (words_loaded loaded.now) loaded.now.root addresses.now)) }
     ensures complete { IfOk result (λ all.
         all ≡ reports.all_found L.LEVELS (words_loaded loaded.now) loaded.now.root addresses.now) }
 {
+    let are_several = addresses.len() > 1;
     let mut is_complete = true;
     for address in addresses {
         let physical = PhysAddr::new(*address);
-        let is_found = write_addresses_to(alloc, loaded, physical, form, output)?;
+        let is_found = write_headed_addresses(alloc, loaded, physical, are_several, form, output)?;
         is_complete &= is_found;
     }
     Ok(is_complete)
+}
+
+/// Writes the virtual addresses that lead to a physical address that is perhaps one of several, and returns true if there are any.
+fn write_headed_addresses<L: LevelCount, W: Destination>(
+    alloc: Global,
+    loaded: &Loaded<'_, L>,
+    physical: PhysAddr,
+    are_several: bool,
+    form: Form,
+    output: &mut Output<'_, W>,
+) -> Result<bool, OutputError<W>>
+    ensures text { OnOk result (Puts W.contents output.old output.new (reports.headed_addresses
+        form are_several L.LEVELS (words_loaded loaded.now) loaded.now.root physical)) }
+    ensures found { IfOk result (λ found. found
+        ≡ list_any (leads_to physical) (mappings_of L.LEVELS (words_loaded loaded.now) loaded.now.root)) }
+{
+    write_heading(form, are_several, "physical", physical.as_u64(), output)?;
+    let is_found = write_addresses_to(alloc, loaded, physical, form, output)?;
+    write_none(form, are_several, is_found, output)?;
+    Ok(is_found)
+}
+
+/// Writes the line below the heading if no virtual address leads to a physical address, as text.
+fn write_none<W: Destination>(
+    form: Form,
+    are_several: bool,
+    is_found: bool,
+    output: &mut Output<'_, W>,
+) -> Result<(), OutputError<W>>
+    ensures { OnOk result (Puts W.contents output.old output.new
+        (reports.none_line form are_several is_found)) }
+{
+    match (form, are_several, is_found) {
+        (Form::Text, true, false) => output.put_line("not found"),
+        _ => Ok(()),
+    }
 }
 
 /// Writes the virtual addresses that lead to a physical address, and returns true if there are any.

@@ -4,6 +4,7 @@ use Rattle.serde_json.specs.Data.{object}
 use Rattle.serde_json.specs.View.{items_of}
 use Rattle.serde_json.specs.Written.{has_float, items_have_float}
 use Rattle.x86_64_access.specs.Accesses.{outcome_of}
+use Rattle.x86_64_access.specs.declared.controls.Controls.{Controls}
 use Rattle.x86_64_access.specs.declared.request.Access.{Access}
 use Rattle.x86_64_model.specs.Access.{Outcome, Arrives, Faults, NoMemory}
 use Rattle.ptdump_engine.specs.FindingObjects.{json_of_finding}
@@ -18,6 +19,7 @@ use Rattle.ptdump_engine.specs.declared.findings.finding.Finding.TheVariants.{Na
 use Rattle.ptdump_engine.specs.declared.mode.Mode.{Mode}
 use Rattle.ptdump_engine.specs.declared.mode.Mode.TheVariants.{NoPaging, Paging32, Paging64}
 use Rattle.ptdump_engine.specs.declared.registers.Registers.{Registers}
+use Rattle.ptdump_engine.specs.declared.request.ControlsSource.{ControlsSource}
 use Rattle.ptdump_engine.specs.declared.start.Origin.{Origin}
 use Rattle.ptdump_engine.specs.declared.start.Origin.TheVariants.{ByRequest, ByProcessor, ByKernel, ByText}
 use Rattle.ptdump_engine.specs.declared.start.Start.{Start}
@@ -26,10 +28,10 @@ use Rattle.ptdump_engine.specs.declared.walked.WalkEnd.{WalkEnd}
 use Rattle.ptdump_engine.specs.declared.walked.WalkEnd.TheVariants as ends
 use Rattle.ptdump_engine.specs.declared.word_read.WordRead.{WordRead}
 
-pub no_float_access : (a : Access) (outcome : Outcome) → has_float (json_of_access a outcome) ≡ false
-no_float_access a (Arrives to) = refl
-no_float_access a (Faults code level) = refl
-no_float_access a (NoMemory frame) = refl
+pub no_float_access : (a : Access) (c : Controls) (source : ControlsSource) (outcome : Outcome) → has_float (json_of_access a c source outcome) ≡ false
+no_float_access a c source (Arrives to) = refl
+no_float_access a c source (Faults code level) = refl
+no_float_access a c source (NoMemory frame) = refl
 
 words_have_none : (words : List WordRead) → items_have_float (items_of (map json_of_word words)) ≡ false
 words_have_none [] = refl
@@ -46,7 +48,7 @@ without address value = by value.end
 
 pub no_float_walk : (address : ℕ) (value : WalkValue) (access : Option AccessLine) → has_float (json_of_value address value (option_map json_of_line access)) ≡ false
 no_float_walk address value None = without address value
-no_float_walk address value (Some line) = rw (no_float_access line.access (outcome_of line.end)) (without address value)
+no_float_walk address value (Some line) = rw (no_float_access line.access line.controls line.source (outcome_of line.end)) (without address value)
 
 -- ---- findings
 

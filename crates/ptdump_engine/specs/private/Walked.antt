@@ -59,9 +59,9 @@ text_of_value c value = flat_map (word_lines c) value.words.items ++ line (text_
 
 -- ---- its object
 
--- an access, and what a processor does with it
+-- an access, what a processor does with it, and the controls that decide it
 abbrev pub json_of_line : AccessLine → Data
-json_of_line line = json_of_access line.access (outcome_of line.end)
+json_of_line line = json_of_access line.access line.controls line.source (outcome_of line.end)
 
 -- the members for a walk's value
 abbrev pub value_members : (address words : Data) → WalkEnd → Members

@@ -19,13 +19,13 @@ use super::{ToJson, write_json};
 use crate::access_line::{AccessLine, access_end, access_name};
 use crate::lines::Lines;
 use crate::loaded::Loaded;
-use crate::request::WalkOptions;
+use crate::request::{ControlsSource, WalkOptions};
 use crate::walked::{Walk, WalkEnd, walk_to};
 use crate::word_read::WordRead;
 use bitflags::Flags;
 use serde_json::Value;
 use std::alloc::{AllocError, Global};
-use x86_64_access::Fault;
+use x86_64_access::{Controls, Fault};
 use x86_64_addr::addr::VirtAddrIn;
 use x86_64_addr::level_count::LevelCount;
 
@@ -72,12 +72,18 @@ impl ToJson for WordRead {
 impl ToJson for AccessLine {
     ghost use Rattle.ptdump_engine.specs.private.NoFloats.{no_float_access};
 
-    ghost json = { λ line. json.json_of_access line.access (outcome_of line.end) };
+    ghost json = { λ line. json.json_of_access line.access line.controls line.source (outcome_of line.end) };
 
-    ghost no_float = { λ line. no_float_access line.access (outcome_of line.end) };
+    ghost no_float = { λ line.
+        no_float_access line.access line.controls line.source (outcome_of line.end) };
 
     fn to_json(&self, alloc: Global) -> Result<Value, AllocError> {
-        let object = Object::new(alloc).put_text("name", access_name(self.access))?;
+        let object = Object::new(alloc)
+            .put_text("name", access_name(self.access))?
+            .put(
+                "controls",
+                controls_to_json(alloc, self.controls, self.source)?,
+            )?;
         let object = match self.end {
             Ok(address) => object
                 .put_text("end", "arrives")?
@@ -92,6 +98,24 @@ impl ToJson for AccessLine {
         };
         Ok(object.finish())
     }
+}
+
+/// Returns the controls of a processor, and what says them.
+fn controls_to_json(
+    alloc: Global,
+    controls: Controls,
+    source: ControlsSource,
+) -> Result<Value, AllocError>
+    ensures { IfOk result (λ value. view value ≡ json.json_of_controls controls source) }
+{
+    let object = Object::new(alloc)
+        .put_flag("wp", controls.write_protect)?
+        .put_flag("smep", controls.smep)?
+        .put_flag("smap", controls.smap)?
+        .put_flag("nxe", controls.no_execute)?
+        .put_flag("ac", controls.ac)?
+        .put_text("source", source.name())?;
+    Ok(object.finish())
 }
 
 impl ToJson for WalkReport {
@@ -184,7 +208,7 @@ fn report_on<L: LevelCount>(
     ensures json { IfOk result (λ report. json_of_report report
         ≡ json.json_of_walk (raw L.LEVELS address)
         (walk_of L.LEVELS (words_loaded loaded.now) loaded.now.root address)
-        (json.json_of_asked options.controls options.access
+        (json.json_of_asked options.controls options.source options.access
         L.LEVELS (words_loaded loaded.now) loaded.now.root address)) }
     ensures arrives { IfOk result (λ report. report_arrives report
         ≡ is_there options.controls options.access
@@ -205,7 +229,7 @@ fn end_asked<L: LevelCount>(
     options: WalkOptions,
 ) -> Option<AccessLine>
     ensures json { option_map json_of_line result
-        ≡ json.json_of_asked options.controls options.access
+        ≡ json.json_of_asked options.controls options.source options.access
         L.LEVELS (words_loaded loaded.now) loaded.now.root address }
     ensures arrives { option_map (λ line. is_arrived (outcome_of line.end)) result
         ≡ option_map (λ a. is_arrived (
@@ -213,7 +237,7 @@ fn end_asked<L: LevelCount>(
         options.access }
 {
     match options.access {
-        Some(asked) => Some(access_end(loaded, address, options.controls, asked)),
+        Some(asked) => Some(access_end(loaded, address, options.controls, options.source, asked)),
         None => None,
     }
 }

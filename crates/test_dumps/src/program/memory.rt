@@ -9,11 +9,20 @@ use test_support::Hoard;
 /// The greatest number of rooms that are tried.
 const MOST_ROOMS: usize = 60;
 
-/// Prepares a run of each command, with writers that need no memory.
-fn runs_to_come(rt: impl Abort + Copy, alloc: Global) -> Vec<(Request, Ran)> {
-    let mut runs = Vec::new(alloc);
+/// Creates the request of each command.
+fn requests(rt: impl Abort + Copy, alloc: Global) -> Vec<Request> {
+    let mut requests = Vec::new(alloc);
     for word in EACH {
         let request = unwrap(rt, word.request(alloc));
+        assert!(rt; requests.push(request).is_ok());
+    }
+    requests
+}
+
+/// Prepares a run of each command, with writers that need no memory.
+fn runs_to_come(rt: impl Abort + Copy, alloc: Global) -> Vec<Ran> {
+    let mut runs = Vec::new(alloc);
+    for _ in EACH {
         let mut ran = Ran {
             output: Sink::wide(alloc),
             errors: Sink::wide(alloc),
@@ -21,21 +30,17 @@ fn runs_to_come(rt: impl Abort + Copy, alloc: Global) -> Vec<(Request, Ran)> {
         };
         assert!(rt; ran.output.bytes.reserve(0x1_0000).is_ok());
         assert!(rt; ran.errors.bytes.reserve(0x1_0000).is_ok());
-        assert!(rt; runs.push((request, ran)).is_ok());
+        assert!(rt; runs.push(ran).is_ok());
     }
     runs
 }
 
 /// Runs each command with room for one block of a size.
-fn run_with_room(
-    rt: impl Abort + Copy,
-    alloc: Global,
-    file: &[u8],
-    room: usize,
-) -> Vec<(Request, Ran)> {
+fn run_with_room(rt: impl Abort + Copy, alloc: Global, file: &[u8], room: usize) -> Vec<Ran> {
+    let requests = requests(rt, alloc);
     let mut runs = runs_to_come(rt, alloc);
     let hoard = unwrap(rt, Hoard::past(alloc, &[room]));
-    for (request, ran) in &mut runs {
+    for (request, ran) in requests.into_iter().zip(&mut runs) {
         ran.ended = run(
             alloc,
             file,
@@ -80,7 +85,7 @@ fn count_whole(
 ) -> usize {
     let mut done = 0_usize;
     let runs = run_with_room(rt, alloc, file, room);
-    for (number, ((_, ran), wanted)) in runs.iter().zip(wanted).enumerate() {
+    for (number, (ran, wanted)) in runs.iter().zip(wanted).enumerate() {
         if is_whole(rt, number, ran, wanted) {
             done = done.saturating_add(1);
         }

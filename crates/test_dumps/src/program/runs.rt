@@ -1,7 +1,7 @@
 //! Runs of the program, and how they end.
 use ptdump_engine::{
-    Checking, Command, Destination, Failure, Form, Outcome, Progress, Request, Selection,
-    WalkOptions, run,
+    Checking, Command, ControlsSource, Destination, Failure, Form, Outcome, Progress, Request,
+    Selection, WalkOptions, run,
 };
 use std::alloc::{AllocError, Global};
 use std::io::{self, ErrorKind, Write};
@@ -55,6 +55,7 @@ impl Word {
                 addresses: Vec::from_slice(alloc, &[0, 0x2abc])?,
                 options: WalkOptions {
                     controls: CONTROLS,
+                    source: ControlsSource::Assumed,
                     explains: true,
                     access: None,
                 },
@@ -235,7 +236,7 @@ pub fn run_into<S: ByteSource>(
     let ended = run(
         alloc,
         source,
-        &request,
+        request,
         &mut output,
         &mut errors,
         &mut watcher,

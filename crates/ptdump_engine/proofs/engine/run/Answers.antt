@@ -1,16 +1,18 @@
-use Rattle.std.proofs.Common.{rules, ◌≡◌, ◌∙◌, ◌||◌, ◌++◌, IfOk, OnOk, true, false, inl, inr, refl, sym, ap, subst, Err}
+use Rattle.std.proofs.Common.{rules, ◌≡◌, ◌∙◌, ◌||◌, ◌++◌, IfOk, OnOk, true, false, inl, inr, refl, sym, ap, subst, Ok, Err, unwrap_or}
 use Rattle.std.proofs.KnownBytes.{Appends-trans}
 use Rattle.x86_64_dump.specs.Dump.{words_of_dump}
 use Rattle.x86_64_dump.specs.Opened.{opened}
 use Rattle.ptdump_engine.specs.Failure.{failure_of}
+use Rattle.ptdump_engine.specs.NotedControls.{command_by, noted_registers, resolved}
 use Rattle.ptdump_engine.specs.NotedLevels.{levels_text}
-use Rattle.ptdump_engine.specs.Program.{Machine, Notes, NotesAs, NotesOnTables, ReportsAll, RunsAs, ToldAs, ToldOfTablesOf, is_info, is_of_processors, opening_text, source_text}
+use Rattle.ptdump_engine.specs.Program.{EndsByTotals, Machine, Notes, NotesAs, NotesOnTables, Reports, ReportsAll, RunsAs, ToldAs, ToldOfTablesOf, is_image, is_info, is_of_processors, level_count, opening_text, source_text}
 use Rattle.ptdump_engine.specs.Processors.{firsts_of}
 use Rattle.ptdump_engine.specs.Steps.{InTurn, of_dump}
 use Rattle.std.specs.Io.KnownBytes.{Appends}
 use Rattle.ptdump_engine.specs.Output.{put_in}
 use Rattle.ptdump_engine.specs.private.Roots.{AreNoted}
-use Rattle.ptdump_engine.proofs.Failing.{forced_second}
+use Rattle.ptdump_engine.proofs.Failing.{forced_found, forced_second}
+use Rattle.ptdump_engine.proofs.Resolved.{same_ends, same_image}
 use Rattle.ptdump_engine.proofs.Results.{if_err, on_ok}
 use Rattle.ptdump_engine.proofs.Wholly.{forced_run, no_processors, no_start, opens, put_first, puts_both, runs_by, runs_on_all, shows, tells_of, unopened, written_at_once}
 use Rattle.ptdump_engine.proofs.engine.run.Goals as goal
@@ -19,14 +21,14 @@ pub returns-in_err-dump-clause-run : goal.returns-in_err-dump-clause-run
 returns-in_err-dump-clause-run g c = λ known.
     let fails = g.S.ByteSource.may_fail in
     let is : c.from_residual.result ≡ Err (failure_of c.in_err-dump.field-0.0) = search rules in
-    rw is (unopened (is_info c.args.request.now.command) (is_of_processors c.args.request.now) fails (g.W.Destination.may_refuse || g.E.Destination.may_refuse) c.args.request.now (g.S.ByteSource.bytes c.args.source)
+    rw is (unopened (is_info c.args.request.command) (is_of_processors c.args.request) fails (g.W.Destination.may_refuse || g.E.Destination.may_refuse) c.args.request (g.S.ByteSource.bytes c.args.source)
     (g.W.Destination.contents c.args.writer.now) c.in_err-dump.field-0.0 (c.in_err-dump.ensures known))
 
 -- ---- a command that is about the dump alone
 
 pub returns-then-is_info-clause-run : goal.returns-then-is_info-clause-run
 returns-then-is_info-clause-run g c = λ known.
-    let request = c.args.request.now in
+    let request = c.args.request in
     let file = g.S.ByteSource.bytes c.args.source in
     let contents = g.W.Destination.contents in
     let fails = g.S.ByteSource.may_fail in
@@ -39,7 +41,7 @@ returns-then-is_info-clause-run g c = λ known.
 
 pub returns-then-is_info-clause-notes : goal.returns-then-is_info-clause-notes
 returns-then-is_info-clause-notes g c = λ known.
-    let request = c.args.request.now in
+    let request = c.args.request in
     let file = g.S.ByteSource.bytes c.args.source in
     let dump = opened g.S.ByteSource.bytes c.in_ok-dump.dump in
     let contents = g.E.Destination.contents in
@@ -55,7 +57,7 @@ returns-then-is_info-clause-notes g c = λ known.
 
 pub returns-then-is_info-clause-told : goal.returns-then-is_info-clause-told
 returns-then-is_info-clause-told g c = λ known.
-    let request = c.args.request.now in
+    let request = c.args.request in
     let is : is_info request.command ≡ true = sym c.is_info.ensures ∙ c.if-is_info.true in
     subst (λ info. OnOk c.write_info.result (ToldAs info (is_of_processors request) g.G.Progress.Told g.G.Progress.Ended request (g.S.ByteSource.bytes c.args.source) c.args.progress.now c.args.progress.now)) (sym is)
     (search rules)
@@ -64,7 +66,7 @@ returns-then-is_info-clause-told g c = λ known.
 
 pub returns-in_err-processors-clause-run : goal.returns-in_err-processors-clause-run
 returns-in_err-processors-clause-run g c = λ known.
-    let request = c.args.request.now in
+    let request = c.args.request in
     let file = g.S.ByteSource.bytes c.args.source in
     let fails = g.S.ByteSource.may_fail in
     let may = g.W.Destination.may_refuse || g.E.Destination.may_refuse in
@@ -81,7 +83,7 @@ returns-in_err-processors-clause-run g c = λ known.
 
 pub returns-then-is_of_processors-clause-run : goal.returns-then-is_of_processors-clause-run
 returns-then-is_of_processors-clause-run g c = λ known.
-    let request = c.args.request.now in
+    let request = c.args.request in
     let file = g.S.ByteSource.bytes c.args.source in
     let fails = g.S.ByteSource.may_fail in
     let may = g.W.Destination.may_refuse || g.E.Destination.may_refuse in
@@ -99,7 +101,7 @@ returns-then-is_of_processors-clause-run g c = λ known.
 
 pub returns-then-is_of_processors-clause-notes : goal.returns-then-is_of_processors-clause-notes
 returns-then-is_of_processors-clause-notes g c = λ known.
-    let request = c.args.request.now in
+    let request = c.args.request in
     let file = g.S.ByteSource.bytes c.args.source in
     let contents = g.E.Destination.contents in
     let m : Machine = record { dump = opened g.S.ByteSource.bytes c.in_ok-dump.dump; processors = c.in_ok-processors.processors.items } in
@@ -122,7 +124,7 @@ returns-then-is_of_processors-clause-notes g c = λ known.
 
 pub returns-then-is_of_processors-clause-told : goal.returns-then-is_of_processors-clause-told
 returns-then-is_of_processors-clause-told g c = λ known.
-    let request = c.args.request.now in
+    let request = c.args.request in
     let file = g.S.ByteSource.bytes c.args.source in
     let m : Machine = record { dump = opened g.S.ByteSource.bytes c.in_ok-dump.dump; processors = c.in_ok-processors.processors.items } in
     let Told = g.G.Progress.Told in
@@ -141,7 +143,7 @@ returns-then-is_of_processors-clause-told g c = λ known.
 
 pub returns-in_err-start-clause-run : goal.returns-in_err-start-clause-run
 returns-in_err-start-clause-run g c = λ known.
-    let request = c.args.request.now in
+    let request = c.args.request in
     let file = g.S.ByteSource.bytes c.args.source in
     let fails = g.S.ByteSource.may_fail in
     let may = g.W.Destination.may_refuse || g.E.Destination.may_refuse in
@@ -158,24 +160,29 @@ returns-in_err-start-clause-run g c = λ known.
 
 pub returns-clause-run : goal.returns-clause-run
 returns-clause-run g c = λ known.
-    let request = c.args.request.now in
+    let request = c.args.request in
     let file = g.S.ByteSource.bytes c.args.source in
     let dump = opened g.S.ByteSource.bytes c.in_ok-dump.dump in
     let start = c.in_ok-start.start in
     let fails = g.S.ByteSource.may_fail in
     let may = g.W.Destination.may_refuse || g.E.Destination.may_refuse in
     let contents = g.W.Destination.contents in
+    let before = contents c.args.writer.now in
+    let after = contents c.report_from.new.writer in
     let not : is_info request.command ≡ false = sym c.is_info.ensures ∙ c.if-is_info.false in
     let one : is_of_processors request ≡ false = sym c.is_of_processors.ensures ∙ c.if-is_of_processors.false in
-    subst (λ info. RunsAs info (is_of_processors request) fails may request file (contents c.args.writer.now) (contents c.report_from.new.writer) c.report_from.result) (sym not)
-    (subst (λ all. RunsAs false all fails may request file (contents c.args.writer.now) (contents c.report_from.new.writer) c.report_from.result) (sym one)
-    (runs_by fails may request file (contents c.args.writer.now) (contents c.report_from.new.writer) (record { dump = dump; start = start }) c.report_from.result
+    let found : Ok (resolved request dump) ≡ Ok c.in_ok-resolved.resolved = c.in_ok-resolved.ensures.request known in
+    let is : c.in_ok-resolved.resolved ≡ resolved request dump = cc in
+    subst (λ info. RunsAs info (is_of_processors request) fails may request file before after c.report_from.result) (sym not)
+    (subst (λ all. RunsAs false all fails may request file before after c.report_from.result) (sym one)
+    (runs_by fails may request file before after (record { dump = dump; start = start }) c.report_from.result
     (opens request file dump start (c.in_ok-dump.ensures known) (c.in_ok-start.ensures.start known))
-    (c.report_from.ensures.written known) c.report_from.ensures.errors))
+    (subst (λ asked. IfOk c.report_from.result (Reports asked (level_count start.levels) (words_of_dump dump) start.root before after)) is (c.report_from.ensures.written known))
+    c.report_from.ensures.errors))
 
 pub returns-clause-told : goal.returns-clause-told
 returns-clause-told g c = λ known.
-    let request = c.args.request.now in
+    let request = c.args.request in
     let file = g.S.ByteSource.bytes c.args.source in
     let dump = opened g.S.ByteSource.bytes c.in_ok-dump.dump in
     let start = c.in_ok-start.start in
@@ -188,7 +195,7 @@ returns-clause-told g c = λ known.
 
 pub returns-in_err-write_levels-clause-run : goal.returns-in_err-write_levels-clause-run
 returns-in_err-write_levels-clause-run g c = λ known.
-    let request = c.args.request.now in
+    let request = c.args.request in
     let fails = g.S.ByteSource.may_fail in
     let a = g.W.Destination.may_refuse in
     let b = g.E.Destination.may_refuse in
@@ -198,9 +205,20 @@ returns-in_err-write_levels-clause-run g c = λ known.
     rw is (forced_run (is_info request.command) (is_of_processors request) fails (a || b) request (g.S.ByteSource.bytes c.args.source) (contents c.args.writer.now) (contents c.args.writer.now) failure
     (forced_second fails a b failure (c.in_err-write_levels.ensures.errors known)))
 
+pub returns-in_err-resolved-clause-run : goal.returns-in_err-resolved-clause-run
+returns-in_err-resolved-clause-run g c = λ known.
+    let request = c.args.request in
+    let fails = g.S.ByteSource.may_fail in
+    let may = g.W.Destination.may_refuse || g.E.Destination.may_refuse in
+    let contents = g.W.Destination.contents in
+    let failure = c.in_err-resolved.field-0.0 in
+    let is : c.from_residual-in_err-resolved.result ≡ Err failure = search rules in
+    rw is (forced_run (is_info request.command) (is_of_processors request) fails may request (g.S.ByteSource.bytes c.args.source) (contents c.args.writer.now) (contents c.args.writer.now) failure
+    (forced_found fails may failure _ (c.in_err-resolved.ensures.request known)))
+
 pub returns-clause-notes : goal.returns-clause-notes
 returns-clause-notes g c = λ known.
-    let request = c.args.request.now in
+    let request = c.args.request in
     let file = g.S.ByteSource.bytes c.args.source in
     let dump = opened g.S.ByteSource.bytes c.in_ok-dump.dump in
     let start = c.in_ok-start.start in
@@ -214,13 +232,18 @@ returns-clause-notes g c = λ known.
     let told = put_first contents c.new-notes.result ended text c.new-notes.ensures.empty all in
     let begun : Appends (contents c.args.errors.now) (put_in contents ended) text =
     subst (λ e. Appends (contents e) (put_in contents ended) text) c.new-notes.ensures.now told in
-    on_ok c.report_from.result (λ totals not_image. let ends = totals not_image in let same = ends.0 in let tied = all.writer in
+    let registers = noted_registers (unwrap_or request.cpu 0) dump in
+    let found : Ok (resolved request dump) ≡ Ok c.in_ok-resolved.resolved = c.in_ok-resolved.ensures.request known in
+    let as_noted : c.in_ok-resolved.resolved ≡ resolved request dump = cc in
+    let is : c.in_ok-resolved.resolved.command ≡ command_by registers request.command = ap (λ r. r.command) as_noted in
+    on_ok c.report_from.result (λ totals not_image. let ends = totals (ap is_image is ∙ same_image registers request.command ∙ not_image) in let same = ends.0 in let tied = all.writer in
     let tables : NotesOnTables request file (contents c.args.errors.now) (contents c.report_from.new.notes.writer.now) = (
       record { dump = dump; start = start },
       put_in contents ended,
       opens request file dump start (c.in_ok-dump.ensures known) (c.in_ok-start.ensures.start known),
       begun,
-      ends.1,
+      same_ends registers request.command (level_count start.levels) (words_of_dump dump) start.root (put_in contents ended) (contents c.report_from.new.notes.writer.now)
+          (subst (λ asked. EndsByTotals asked (level_count start.levels) (words_of_dump dump) start.root (put_in contents ended) (contents c.report_from.new.notes.writer.now)) is ends.1),
     ) in
     let noted : Notes request file (contents c.args.errors.now) (contents c.report_from.new.notes.writer.now) =
     subst (λ info. NotesAs info (is_of_processors request) request file (contents c.args.errors.now) (contents c.report_from.new.notes.writer.now)) (sym not)

@@ -17,11 +17,12 @@ returns-in-None-clause-text g c =
     let p = c.args.address in
     let contents = g.W.Destination.contents in
     let controls = c.args.options.controls in
+    let source = c.args.options.source in
     let told = walk_text controls (walk_of L T root p) ++ (if c.args.options.explains then explanation_text (walk_of L T root p) else []) in
     let put = puts_walk contents c.args.output.now c.write_walk.new.output c.write_explanation.new.output controls c.args.options.explains (walk_of L T root p) c.in_ok-walk.walk
     c.in_ok-walk.ensures c.in_ok-write_walk.ensures c.in_ok-write_explanation.ensures in
     subst (Puts contents c.args.output.now c.write_explanation.new.output)
-    (sym (append-nil told) ∙ ap (λ asked. told ++ asked_text controls asked L T root p) (sym c.in-None.is)) put
+    (sym (append-nil told) ∙ ap (λ asked. told ++ asked_text controls source asked L T root p) (sym c.in-None.is)) put
 
 pub returns-in-None-clause-arrives : goal.returns-in-None-clause-arrives
 returns-in-None-clause-arrives g c =
@@ -39,10 +40,11 @@ returns-clause-text g c =
     let p = c.args.address in
     let contents = g.W.Destination.contents in
     let controls = c.args.options.controls in
+    let source = c.args.options.source in
     let told = walk_text controls (walk_of L T root p) ++ (if c.args.options.explains then explanation_text (walk_of L T root p) else []) in
     let put = puts_walk contents c.args.output.now c.write_walk.new.output c.write_explanation.new.output controls c.args.options.explains (walk_of L T root p) c.in_ok-walk.walk
     c.in_ok-walk.ensures c.in_ok-write_walk.ensures c.in_ok-write_explanation.ensures in
     on_ok c.write_access.result (λ access. subst (Puts contents c.args.output.now c.write_access.new.output)
-    (ap (λ asked. told ++ asked_text controls asked L T root p) (sym c.in-Some.is))
+    (ap (λ asked. told ++ asked_text controls source asked L T root p) (sym c.in-Some.is))
     (puts_both contents c.args.output.now c.write_explanation.new.output c.write_access.new.output _ _ put access))
     c.write_access.ensures.text
