@@ -206,10 +206,10 @@
  *
  * WHAT IS NOT PROVED
  *
- * This file: the prover does not read it. tools/c_library compares the functions declared below
- * with the symbols that the library exports and with the parameters in its source. It also compares
- * the order, types and offsets of the fields of each struct, and the numbers of the statuses, with
- * those in the source. The inline functions at the end of this file are tested.
+ * This file: the prover does not read it. tools/c_header compares it with the source: the functions
+ * with their parameters and results, the fields of each struct with their types and their order,
+ * and the numbers of the statuses. tools/c_library compares the functions declared below with those
+ * that the library exports. The inline functions at the end of this file are tested.
  */
 #ifndef X86_64_PAGING_H
 #define X86_64_PAGING_H
