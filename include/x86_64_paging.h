@@ -156,16 +156,16 @@
  * Each function is proved to do what the model's call does, so the laws are about these calls.
  *
  *   flushed_calls_leave_no_stale_item (crates/x86_64/src/laws.rt)
- *       Rows of calls on one root, with these flushes, which may be late: afterwards each access
- *       goes where the page walk in the present words goes, with no right more (to write, to
- *       execute, and for users).
+ *       Calls on one root, each with its flush, which may be late: afterwards each access goes
+ *       where the page walk in the present words goes, with no right more (to write, to execute,
+ *       and for users).
  *   flushed_calls_leave_no_stale_item_of_a_space (there)
  *       The same of roots that share entries, with loads of CR3 and global pages, if other PCIDs
  *       are given up, or everything is flushed.
  *   flushes_are_enough_with_switches, switching_processors_are_flushed_each (crates/x86_64_model)
  *       The same with INVPCID, and on several processors.
  *   new_roots_may_happen, given_up_roots_may_happen (crates/x86_64_model)
- *       The rows of x64_new_space and x64_give_up_space.
+ *       What the table above says of x64_new_space and x64_give_up_space.
  *   stale_accesses_go_where_pages_were_with_switches,
  *   frames_let_go_are_not_reached_with_switches (crates/x86_64_model)
  *       What accesses reach before and after a flush.
@@ -206,10 +206,10 @@
  *
  * WHAT IS NOT PROVED
  *
- * This file: the prover does not read it. tools/c_library compares the functions declared below
- * with the symbols that the library exports and with the parameters in its source. It also compares
- * the order, types and offsets of the fields of each struct, and the numbers of the statuses, with
- * those in the source. The inline functions at the end of this file are tested.
+ * This file: the prover does not read it. tools/c_header compares it with the source: the functions
+ * with their parameters and results, the fields of each struct with their types and their order,
+ * and the numbers of the statuses. tools/c_library compares the functions declared below with those
+ * that the library exports. The inline functions at the end of this file are tested.
  */
 #ifndef X86_64_PAGING_H
 #define X86_64_PAGING_H
