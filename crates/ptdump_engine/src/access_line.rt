@@ -38,7 +38,8 @@ pub fn write_access<L: LevelCount, W: Destination>(
     asked: Access,
     output: &mut Output<'_, W>,
 ) -> Result<bool, OutputError<W>>
-    ensures text { OnOk result (Puts W.contents output.old output.new (line (accesses.access_text asked controls source
+    ensures text { OnOk result (Puts W.contents output.old output.new
+        (line (accesses.access_text asked controls source
         (accesses.outcome_in L.LEVELS (words_loaded loaded.now) loaded.now.root address controls asked)))) }
     ensures arrives { IfOk result (λ arrives. arrives ≡ accesses.is_arrived
         (accesses.outcome_in L.LEVELS (words_loaded loaded.now) loaded.now.root address controls asked)) }
