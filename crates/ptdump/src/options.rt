@@ -88,7 +88,7 @@ pub static OPTIONS: [OptionHelp; 19] = [
     OptionHelp {
         name: "controls",
         takes: Takes::List("LIST"),
-        help: "Settings that are on [default: as a note says, or wp,nxe,smep,smap]",
+        help: "Settings that are on [default: as a note says]",
         excludes: &[],
         needs: Some("as"),
         is_common: false,
@@ -136,7 +136,7 @@ pub static OPTIONS: [OptionHelp; 19] = [
     OptionHelp {
         name: "cr3",
         takes: Takes::Value("N"),
-        help: "CR3 [default: as notes, or VMCOREINFO in memory, say]",
+        help: "CR3 [default: as notes or VMCOREINFO in memory say]",
         excludes: &[],
         needs: None,
         is_common: true,
