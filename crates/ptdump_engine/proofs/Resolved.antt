@@ -1,15 +1,12 @@
 -- Requests with the controls that notes tell: what doesn't depend on these.
-use Rattle.std.proofs.Common.{◌≡◌, ◌∙◌, ◌^◌, ◌++◌, ℕ, List, Option, None, Some, Ok, option_map, find, nat_le, refl, sym, ap, subst}
+use Rattle.std.proofs.Common.{◌≡◌, ◌++◌, ℕ, List, Option, refl, subst}
 use Rattle.std.specs.Io.KnownBytes.{Appends}
-use Rattle.x86_64_addr.specs.declared.level_count.Levels.{Levels}
 use Rattle.x86_64_model.specs.Memory.{Words}
 use Rattle.ptdump_engine.specs.NotedControls.{command_by}
-use Rattle.ptdump_engine.specs.Program.{EndsByTotals, IsTested, argument_failure, is_image}
+use Rattle.ptdump_engine.specs.Program.{EndsByTotals, is_image}
 use Rattle.ptdump_engine.specs.Reserved.{reserved_note}
 use Rattle.ptdump_engine.specs.Totals.{AreTotals, totals_text}
 use Rattle.ptdump_engine.specs.Walks.{line}
-use Rattle.ptdump_engine.specs.declared.failure.Failure.{Failure}
-use Rattle.ptdump_engine.specs.declared.failure.Failure.TheVariants as failures
 use Rattle.ptdump_engine.specs.declared.registers.Registers.{Registers}
 use Rattle.ptdump_engine.specs.declared.request.Command.{Command}
 use Rattle.ptdump_engine.specs.declared.request.Command.TheVariants as commands

@@ -67,11 +67,18 @@ abbrev pub between_text : ControlsSource → List ℕ
 between_text Noted = codes ", assumed:"
 between_text source = []
 
--- the controls, and what says them
+unfoldable pub notable_text : Controls → List ℕ
+notable_text c = control_text c.write_protect (codes "wp") ++ control_text c.smep (codes "smep") ++ control_text c.smap (codes "smap")
+
+unfoldable pub other_text : Controls → List ℕ
+other_text c = control_text c.no_execute (codes "nxe") ++ control_text c.ac (codes "ac")
+
+-- what says them, the controls that a note may tell, and the others
+unfoldable pub source_text : ControlsSource → List ℕ
+source_text source = codes " (" ++ source_name source ++ codes ":"
+
 unfoldable pub controls_text : Controls → ControlsSource → List ℕ
-controls_text c source = codes " (" ++ source_name source ++ codes ":"
-    ++ control_text c.write_protect (codes "wp") ++ control_text c.smep (codes "smep") ++ control_text c.smap (codes "smap")
-    ++ between_text source ++ control_text c.no_execute (codes "nxe") ++ control_text c.ac (codes "ac") ++ codes ")"
+controls_text c source = source_text source ++ notable_text c ++ between_text source ++ other_text c ++ codes ")"
 
 -- the name of an access, what the processor does with it, and the controls that decide it
 abbrev pub access_text : Access → Controls → ControlsSource → Outcome → List ℕ

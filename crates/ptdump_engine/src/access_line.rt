@@ -202,15 +202,40 @@ fn write_controls<W: Write>(
 ) -> FmtResult
     ensures { WritesOnOk W.write_str_gives f.old result (accesses.controls_text controls source) f.new }
 {
-    let name = source.name();
-    write!(f, " ({name}:")?;
+    write_source(f, source)?;
+    write_notable(f, controls)?;
+    f.write_str(between(source))?;
+    write_others(f, controls)?;
+    f.write_str(")")
+}
+
+/// Writes what says the controls.
+#[tactic(auto, unfolding(crate::specs::Accesses::source_text))]
+fn write_source<W: Write>(f: &mut Formatter<W>, source: ControlsSource) -> FmtResult
+    ensures { WritesOnOk W.write_str_gives f.old result (accesses.source_text source) f.new }
+{
+    f.write_str(" (")?;
+    f.write_str(source.name())?;
+    f.write_str(":")
+}
+
+/// Writes the controls that a processor's note may tell.
+#[tactic(auto, unfolding(crate::specs::Accesses::notable_text))]
+fn write_notable<W: Write>(f: &mut Formatter<W>, controls: Controls) -> FmtResult
+    ensures { WritesOnOk W.write_str_gives f.old result (accesses.notable_text controls) f.new }
+{
     write_control(f, controls.write_protect, "wp")?;
     write_control(f, controls.smep, "smep")?;
-    write_control(f, controls.smap, "smap")?;
-    f.write_str(between(source))?;
+    write_control(f, controls.smap, "smap")
+}
+
+/// Writes the controls that no note tells.
+#[tactic(auto, unfolding(crate::specs::Accesses::other_text))]
+fn write_others<W: Write>(f: &mut Formatter<W>, controls: Controls) -> FmtResult
+    ensures { WritesOnOk W.write_str_gives f.old result (accesses.other_text controls) f.new }
+{
     write_control(f, controls.no_execute, "nxe")?;
-    write_control(f, controls.ac, "ac")?;
-    f.write_str(")")
+    write_control(f, controls.ac, "ac")
 }
 
 /// Returns what stands between the controls that a note may tell and the others.

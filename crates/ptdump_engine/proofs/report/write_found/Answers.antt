@@ -5,7 +5,7 @@ use Rattle.x86_64_model.specs.Mappings.{mappings_of}
 use Rattle.x86_64_mappings.specs.Wanted.{leads_to}
 use Rattle.ptdump_engine.specs.Loaded.{words_loaded}
 use Rattle.ptdump_engine.specs.Output.{Puts}
-use Rattle.ptdump_engine.specs.Reports.{find_text, headed_addresses}
+use Rattle.ptdump_engine.specs.Reports.{are_several, find_text, headed_addresses}
 use Rattle.ptdump_engine.specs.private.Puts.{puts_nothing}
 use Rattle.ptdump_engine.proofs.Listed.{puts_more, all_more, none_passes}
 use Rattle.ptdump_engine.proofs.report.write_found.Goals as goal
@@ -29,9 +29,9 @@ loop-address-preserved g c =
     let xs = c.args.addresses.now in
     let i = c.loop-address.address-index in
     let at = c.new-physical.ensures in (
-      puts_more g.W.Destination.contents (headed_addresses c.args.form c.are_several L T root) c.args.output.now c.loop-address.output c.write_headed_addresses.new.output xs i 0
+      puts_more g.W.Destination.contents (headed_addresses c.args.form (are_several xs) L T root) c.args.output.now c.loop-address.output c.write_headed_addresses.new.output xs i 0
           c.loop-address-test.true c.loop-address.invariant.0
-          (subst (λ a. Puts g.W.Destination.contents c.loop-address.output c.write_headed_addresses.new.output (headed_addresses c.args.form c.are_several L T root a)) at c.in_ok-is_found.ensures.text),
+          (subst (λ a. Puts g.W.Destination.contents c.loop-address.output c.write_headed_addresses.new.output (headed_addresses c.args.form (are_several xs) L T root a)) at c.in_ok-is_found.ensures.text),
       ap₂ (λ b d. b && d) c.loop-address.invariant.1 (c.in_ok-is_found.ensures.found ∙ ap (λ a. list_any (leads_to a) (mappings_of L T root)) at)
           ∙ sym (all_more (λ a. list_any (leads_to a) (mappings_of L T root)) xs i c.loop-address-test.true),
     )
