@@ -1,5 +1,5 @@
 -- Commands that no arguments describe.
-use Rattle.std.proofs.Common.{◌≡◌, ◌∙◌, ℕ, List, Option, codes, false, true, Result, IfOk, IfErr, refl, sym, subst}
+use Rattle.std.proofs.Common.{◌≡◌, ◌∙◌, ℕ, List, codes, false, true, Result, IfOk, IfErr, refl, sym, subst}
 use Rattle.clap.specs.declared.parser.matches.Found.{Found}
 use Rattle.ptdump_engine.specs.declared.request.Checking.{Checking}
 use Rattle.ptdump_engine.specs.declared.request.Command.{Command}

@@ -2,7 +2,6 @@
 use Rattle.std.proofs.Common.{◌≡◌, ◌∙◌, ℕ, Bool, true, List, Option, Some, sym, ap, subst}
 use Rattle.std.specs.Borrow.{Bor}
 use Rattle.std.specs.Option.{option_copied}
-use Rattle.x86_64_model.specs.Mappings.{Rights}
 use Rattle.ptdump.specs.Selections.{AreRights, are_letters, has}
 
 -- the rights of letters that are given as bytes

@@ -1,6 +1,6 @@
 -- Settings that borrowed words name, and refusals of them.
 use Rattle.std.proofs.Math.Bool.{or-true}
-use Rattle.std.proofs.Common.{◌≡◌, ◌∙◌, ◌||◌, ℕ, List, [], ◌∷◌, Bool, true, false, not, cond, Option, None, Some, map, unwrap_or, sym, ap, refl, subst}
+use Rattle.std.proofs.Common.{◌≡◌, ◌∙◌, ◌||◌, ℕ, List, [], ◌∷◌, Bool, true, false, not, cond, Option, None, Some, map, unwrap_or, ap, refl, subst}
 use Rattle.std.specs.Borrow.{Bor}
 use Rattle.std.specs.List.{find, list_any}
 use Rattle.std.specs.Str.{bytes_eq}

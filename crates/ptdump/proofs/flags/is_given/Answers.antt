@@ -1,4 +1,4 @@
-use Rattle.std.proofs.Common.{◌≡◌, ℕ, Bool, true, false, List, Option, None, Some, codes, ap, refl, sym}
+use Rattle.std.proofs.Common.{◌≡◌, ℕ, Bool, true, false, List, Option, None, Some, codes, ap, refl}
 use Rattle.clap.specs.Matches.{found_of, one_text}
 use Rattle.ptdump.specs.Options.{IsFlag}
 use Rattle.ptdump.proofs.flags.is_given.Goals as goal
