@@ -5,6 +5,7 @@ use Rattle.std.specs.List.{enumerate_from, flat_map}
 use Rattle.x86_64_dump.specs.Dump.{Contents}
 use Rattle.x86_64_dump.specs.FaultTexts.{fault_text}
 use Rattle.x86_64_dump.specs.Notes.{processors_of}
+use Rattle.x86_64_dump.specs.Segments.{has_address}
 use Rattle.x86_64_dump.specs.VmCoreInfo.{kernel_in}
 use Rattle.x86_64_dump.specs.declared.error.Fault.{Fault}
 use Rattle.x86_64_dump.specs.declared.formats.Format.{Format}
@@ -12,8 +13,8 @@ use Rattle.x86_64_dump.specs.declared.note.Note.{Note}
 use Rattle.x86_64_dump.specs.declared.segment.Segment.{Segment}
 use Rattle.x86_64_dump.specs.declared.vmcoreinfo.Kernel.{Kernel}
 use Rattle.ptdump_engine.specs.FailureTexts.{failure_text}
-use Rattle.ptdump_engine.specs.InfoObjects.{json_of_format, json_of_kernel, json_of_memory, json_of_no_kernel, json_of_no_root, json_of_processor, json_of_root}
-use Rattle.ptdump_engine.specs.InfoTexts.{format_text, kernel_text, memory_text, no_kernel_text, no_root_text, processor_text, root_text}
+use Rattle.ptdump_engine.specs.InfoObjects.{json_of_format, json_of_kernel, json_of_memory, json_of_no_kernel, json_of_no_root, json_of_processor, json_of_root, json_of_unplaced}
+use Rattle.ptdump_engine.specs.InfoTexts.{format_text, kernel_text, memory_text, no_kernel_text, no_root_text, processor_text, root_text, unplaced_text}
 use Rattle.ptdump_engine.specs.Lines.{line_in}
 use Rattle.ptdump_engine.specs.MemoryRanges.{last_address}
 use Rattle.ptdump_engine.specs.Start.{registers_of}
@@ -25,10 +26,18 @@ use Rattle.ptdump_engine.specs.declared.start.Start.{Start}
 abbrev pub format_line : Form → Format → List ℕ
 format_line form format = line_in form (format_text format) (json_of_format format)
 
--- the line of a segment, if it is memory and has bytes
+-- the line of memory from an address on
+abbrev pub placed_line : Form → Segment → List ℕ
+placed_line form s = line_in form (memory_text s.address (last_address s) s.size) (json_of_memory s.address (last_address s) s.size)
+
+-- the line of memory of which the file doesn't say at which physical address it lies
+abbrev pub unplaced_line : Form → (size : ℕ) → List ℕ
+unplaced_line form size = line_in form (unplaced_text size) (json_of_unplaced size)
+
+-- the line of a segment, if its kind is memory and it has bytes
 abbrev pub memory_line : Form → Segment → List ℕ
-memory_line form s = if s.kind == 1 && not (s.size == 0)
-    then line_in form (memory_text s.address (last_address s) s.size) (json_of_memory s.address (last_address s) s.size) else []
+memory_line form s =
+    if s.kind == 1 && not (s.size == 0) then if has_address s then placed_line form s else unplaced_line form s.size else []
 
 -- ---- processors
 

@@ -31,6 +31,10 @@ json_of_memory first last size = told (codes "memory") (object (
     (member (codes "first") (hexadecimal_string first)
     (member (codes "last") (hexadecimal_string last) no_members))))
 
+-- memory without a physical address
+abbrev pub json_of_unplaced : (size : ℕ) → Data
+json_of_unplaced size = told (codes "unplaced_memory") (told (codes "bytes") (count size))
+
 -- ---- processors
 
 -- the mode of paging, and for 64 bits how many levels CR4 says

@@ -33,6 +33,10 @@ levels_text Five = codes "5 levels"
 unfoldable pub memory_text : (first last size : ℕ) → List ℕ
 memory_text first last size = codes "memory " ++ hexadecimal first ++ codes "-" ++ hexadecimal last ++ codes " " ++ size_text size
 
+-- memory without a physical address SIZE
+abbrev pub unplaced_text : (size : ℕ) → List ℕ
+unplaced_text size = codes "memory without a physical address " ++ size_text size
+
 -- ---- processors
 
 unfoldable pub register_text : (name : List ℕ) → (value : ℕ) → List ℕ

@@ -25,6 +25,7 @@ use crate::request::{Form, Outcome, Request};
 use crate::start::Start;
 pub use items::{
     DumpFormat, KernelRoot, MemoryRange, NoKernelRoot, NoRoot, Processor, Root, ToldText,
+    UnplacedMemory,
 };
 use std::alloc::{AllocError, Global};
 use std::fmt::Display;
@@ -107,7 +108,7 @@ fn write_memory<W: Destination>(
     Ok(())
 }
 
-/// Writes the line of a segment, if it is memory and has bytes.
+/// Writes the line of a segment, if its kind is memory and it has bytes.
 fn write_segment<W: Destination>(
     alloc: Global,
     form: Form,
@@ -118,6 +119,10 @@ fn write_segment<W: Destination>(
 {
     if segment.kind != Segment::LOAD || segment.size == 0 {
         return Ok(());
+    }
+    if !segment.has_address() {
+        let memory = UnplacedMemory { size: segment.size };
+        return write_as::<UnplacedMemory, Output<'_, W>>(alloc, form, memory, output);
     }
     let range = MemoryRange {
         first: segment.address,

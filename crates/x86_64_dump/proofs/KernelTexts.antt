@@ -1,10 +1,10 @@
 -- KernelTexts: memory is searched for texts segment by segment, chunk by chunk, page by page.
-use Rattle.std.proofs.Common.{◌≡◌, ℕ, zero, suc, ◌+◌, ◌-◌, ◌*◌, ◌/◌, ◌≤◌, ◌<◌, ◌==◌, ◌&&◌, Bool, true, false, cond, List, [], ◌∷◌, ◌++◌, Result, Ok, length, take, drop, refl, ap, ap₂, sym, ◌∙◌, arith, nat_le, le-leb, eqb-true, append-nil, append_assoc, add-one, drop-drop, take-take}
-use Rattle.std.specs.List.{flat_map, list_all}
-use Rattle.std.proofs.Math.Bool.{and-false}
+use Rattle.std.proofs.Common.{◌≡◌, ℕ, zero, suc, ◌+◌, ◌-◌, ◌*◌, ◌/◌, ◌≤◌, ◌<◌, ◌==◌, ◌&&◌, Bool, true, false, cond, List, [], ◌∷◌, ◌++◌, Option, None, Some, Result, Ok, length, take, drop, refl, ap, ap₂, sym, ◌∙◌, arith, nat_le, le-leb, eqb-true, append-nil, append_assoc, add-one, drop-drop, take-take}
+use Rattle.std.specs.List.{find, flat_map, list_all, range_with_len}
+use Rattle.std.specs.Option.{option_map_or}
 use Rattle.std.proofs.lemmas.Bool.{and_parts, lt-leb}
 use Rattle.std.proofs.lemmas.List.{drop-take, length-drop}
-use Rattle.x86_64_dump.specs.KernelTexts.{begins_text, ends_line, memory_size, page_count, page_gap, page_texts, segment_texts, text_from, texts_in, texts_within}
+use Rattle.x86_64_dump.specs.KernelTexts.{begins_text, line_begins, memory_size, page_count, page_gap, page_texts, segment_texts, text_begins, text_in, texts_in, texts_within}
 use Rattle.x86_64_dump.specs.Notes.{fitting}
 use Rattle.x86_64_dump.specs.Source.{part_of}
 use Rattle.x86_64_dump.specs.declared.error.Fault.{Fault}
@@ -17,37 +17,43 @@ begins_not : (bytes : List ℕ) → begins_text (0 ∷ bytes) ≡ false
 unfolding begins_text
 begins_not bytes = refl
 
--- bytes 0 have no text
-pub blank_text : (is_line : Bool) (page : List ℕ) → list_all (λ byte. byte == 0) page ≡ true → text_from is_line page ≡ []
-blank_text is_line [] blank = refl
-blank_text is_line (byte ∷ bytes) blank =
+-- the text begins nowhere in bytes 0
+blank_begins : (at : ℕ) (page : List ℕ) → list_all (λ byte. byte == 0) page ≡ true → begins_text (drop at page) ≡ false
+unfolding begins_text
+blank_begins zero [] blank = refl
+blank_begins (suc at) [] blank = refl
+blank_begins zero (byte ∷ bytes) blank =
     let each = and_parts (byte == 0) (list_all (λ byte. byte == 0) bytes) blank in
-    let begins : begins_text (byte ∷ bytes) ≡ false = ap (λ b. begins_text (b ∷ bytes)) (eqb-true byte 0 each.0) ∙ begins_not bytes in
-    ap (λ b. cond (is_line && b) (byte ∷ bytes) (text_from (ends_line byte) bytes)) begins
-    ∙ ap (λ b. cond b (byte ∷ bytes) (text_from (ends_line byte) bytes)) (and-false is_line)
-    ∙ blank_text (ends_line byte) bytes each.1
+    ap (λ b. begins_text (b ∷ bytes)) (eqb-true byte 0 each.0) ∙ begins_not bytes
+blank_begins (suc at) (byte ∷ bytes) blank = blank_begins at bytes (and_parts (byte == 0) (list_all (λ byte. byte == 0) bytes) blank).1
 
--- the text begins here
-pub text_here : (is_line begins : Bool) (byte : ℕ) (page bytes : List ℕ) → page ≡ byte ∷ bytes → begins ≡ begins_text page → (is_line && begins) ≡ true → text_from is_line page ≡ page
-text_here is_line begins byte page bytes is tested both =
-    let whole : begins_text page ≡ begins_text (byte ∷ bytes) = ap begins_text is in
-    ap (text_from is_line) is
-    ∙ ap (λ b. cond (is_line && b) (byte ∷ bytes) (text_from (ends_line byte) bytes)) (sym (tested ∙ whole))
-    ∙ ap (λ b. cond b (byte ∷ bytes) (text_from (ends_line byte) bytes)) both
-    ∙ sym is
+nowhere : (page : List ℕ) (positions : List ℕ) → list_all (λ byte. byte == 0) page ≡ true → find (text_begins page) positions ≡ None
+nowhere page [] blank = refl
+nowhere page (at ∷ positions) blank =
+    ap (λ b. cond (b && line_begins page at) (Some at) (find (text_begins page) positions)) (blank_begins at page blank) ∙ nowhere page positions blank
 
--- it begins further behind, if at all
-pub text_behind : (is_line begins ends : Bool) (byte : ℕ) (page bytes all : List ℕ) → page ≡ byte ∷ bytes → begins ≡ begins_text page → (is_line && begins) ≡ false → ends ≡ ends_line byte
-    → text_from is_line page ≡ all → text_from ends bytes ≡ all
-text_behind is_line begins ends byte page bytes all is tested not_both ended told =
-    let whole : begins_text page ≡ begins_text (byte ∷ bytes) = ap begins_text is in
-    ap (λ e. text_from e bytes) ended
-    ∙ sym (ap (text_from is_line) is
-    ∙ ap (λ b. cond (is_line && b) (byte ∷ bytes) (text_from (ends_line byte) bytes)) (sym (tested ∙ whole))
-    ∙ ap (λ b. cond b (byte ∷ bytes) (text_from (ends_line byte) bytes)) not_both)
-    ∙ told
+-- bytes 0 have no text
+pub blank_text : (page : List ℕ) → list_all (λ byte. byte == 0) page ≡ true → text_in page ≡ []
+blank_text page blank = ap (λ found. option_map_or (λ at. drop at page) found []) (nowhere page (range_with_len 0 (length page)) blank)
 
 -- ---- pages
+
+-- the texts in the pages behind the first one
+behind_first : (page pages offset : ℕ) (bytes : List ℕ) → flat_map (λ page. page_texts (offset + 4096 * page) (part_of bytes (4096 * page) 4096)) (range_with_len (page + 1) pages)
+    ≡ flat_map (λ page. page_texts (offset + 4096 + 4096 * page) (part_of (drop 4096 bytes) (4096 * page) 4096)) (range_with_len page pages)
+behind_first page zero offset bytes = refl
+behind_first page (suc pages) offset bytes =
+    let place : offset + 4096 * (page + 1) ≡ offset + 4096 + 4096 * page = omega arith in
+    let counted : 4096 * (page + 1) ≡ 4096 + 4096 * page = omega arith in
+    let part : part_of bytes (4096 * (page + 1)) 4096 ≡ part_of (drop 4096 bytes) (4096 * page) 4096 =
+    ap (λ n. take 4096 (drop n bytes)) counted ∙ ap (take 4096) (sym (drop-drop (4096 * page) 4096 bytes)) in
+    ap₂ (λ front back. front ++ back) (ap₂ page_texts place part) (behind_first (page + 1) pages offset bytes)
+
+-- the texts in pages are those in the first one, and behind it
+first_page : (pages offset : ℕ) (bytes : List ℕ) → texts_in (suc pages) offset bytes ≡ page_texts offset (take 4096 bytes) ++ texts_in pages (offset + 4096) (drop 4096 bytes)
+first_page pages offset bytes =
+    let place : offset + 4096 * 0 ≡ offset = omega arith in
+    ap₂ (λ front back. front ++ back) (ap (λ o. page_texts o (take 4096 bytes)) place) (behind_first 0 pages offset bytes)
 
 pub next_page : (offset at : ℕ) (bytes page behind : List ℕ) (now added all : List KernelText) → 4096 ≤ length bytes → page ≡ take 4096 bytes → behind ≡ drop 4096 bytes → at ≡ offset + 4096
     → added ≡ now ++ page_texts offset page → now ++ texts_in (length bytes / 4096) offset bytes ≡ all → added ++ texts_in (length behind / 4096) at behind ≡ all
@@ -56,7 +62,7 @@ next_page offset at bytes page behind now added all long front back place pushed
     let count : length bytes / 4096 ≡ suc (length behind / 4096) = omega (arith, left, long) in
     let later = texts_in (length behind / 4096) at behind in
     let step : texts_in (length bytes / 4096) offset bytes ≡ page_texts offset page ++ later =
-    ap (λ n. texts_in n offset bytes) count ∙ ap₂ (λ p b. page_texts offset p ++ texts_in (length behind / 4096) (offset + 4096) b) (sym front) (sym back)
+    ap (λ n. texts_in n offset bytes) count ∙ first_page (length behind / 4096) offset bytes ∙ ap₂ (λ p b. page_texts offset p ++ texts_in (length behind / 4096) (offset + 4096) b) (sym front) (sym back)
     ∙ ap (λ o. page_texts offset page ++ texts_in (length behind / 4096) o behind) (sym place) in
     ap (λ ts. ts ++ later) pushed ∙ append_assoc now (page_texts offset page) later ∙ ap (λ ts. now ++ ts) (sym step) ∙ told
 
@@ -72,10 +78,12 @@ taken : (pages offset : ℕ) (bytes : List ℕ) → texts_in pages offset (take 
 taken zero offset bytes = refl
 taken (suc pages) offset bytes =
     let counted : 4096 * suc pages ≡ 4096 + 4096 * pages = omega arith in
-    ap₂ (λ page behind. page_texts offset page ++ texts_in pages (offset + 4096) behind)
+    first_page pages offset (take (4096 * suc pages) bytes)
+    ∙ ap₂ (λ page behind. page_texts offset page ++ texts_in pages (offset + 4096) behind)
     (take-take 4096 (4096 * suc pages) bytes (omega arith))
     (ap (λ n. drop 4096 (take n bytes)) counted ∙ drop-take 4096 (4096 * pages) bytes)
     ∙ ap (λ ts. page_texts offset (take 4096 bytes) ++ ts) (taken pages (offset + 4096) (drop 4096 bytes))
+    ∙ sym (first_page pages offset bytes)
 
 pub chunk_added : (part file : List ℕ) (offset pages size : ℕ) (old new : List KernelText) → size ≡ 4096 * pages → length part ≡ size → part ≡ part_of file offset size
     → new ≡ old ++ texts_in (length part / 4096) offset part → old ++ texts_in pages offset (drop offset file) ≡ new
@@ -100,9 +108,11 @@ in_turn (suc done) more offset bytes =
     let place : offset + 4096 + 4096 * done ≡ offset + 4096 * suc done = omega arith in
     let counted : 4096 + 4096 * done ≡ 4096 * suc done = omega arith in
     ap (λ n. texts_in n offset bytes) all
+    ∙ first_page (done + more) offset bytes
     ∙ ap (λ ts. front ++ ts) (in_turn done more (offset + 4096) (drop 4096 bytes))
     ∙ sym (append_assoc front middle (texts_in more (offset + 4096 + 4096 * done) (drop (4096 * done) (drop 4096 bytes))))
-    ∙ ap₂ (λ o bs. (front ++ middle) ++ texts_in more o bs) place (drop-drop (4096 * done) 4096 bytes ∙ ap (λ n. drop n bytes) counted)
+    ∙ ap (λ ts. ts ++ texts_in more (offset + 4096 + 4096 * done) (drop (4096 * done) (drop 4096 bytes))) (sym (first_page done offset bytes))
+    ∙ ap₂ (λ o bs. texts_in (suc done) offset bytes ++ texts_in more o bs) place (drop-drop (4096 * done) 4096 bytes ∙ ap (λ n. drop n bytes) counted)
 
 pub chunk_passed : (file : List ℕ) (offset done more at : ℕ) (old now added : List KernelText) → at ≡ offset + 4096 * done → now ≡ old ++ texts_in done offset (drop offset file)
     → ◌≡◌ {A = Result (List KernelText) Fault} (Ok (now ++ texts_in more at (drop at file))) (Ok added) → added ≡ old ++ texts_in (done + more) offset (drop offset file)

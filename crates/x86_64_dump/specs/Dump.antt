@@ -6,6 +6,7 @@ use Rattle.std.specs.Option.{option_map}
 use Rattle.x86_64_model.specs.Entry.{is_frame}
 use Rattle.x86_64_model.specs.Memory.{Words}
 use Rattle.x86_64_dump.specs.Numbers.{u32_at, u64_at}
+use Rattle.x86_64_dump.specs.Segments.{is_memory}
 use Rattle.x86_64_dump.specs.declared.formats.Format.{Format}
 use Rattle.x86_64_dump.specs.declared.kernel_text.KernelText.{KernelText}
 use Rattle.x86_64_dump.specs.declared.segment.Segment.{Segment}
@@ -24,7 +25,7 @@ offset_in segment address = segment.offset + (address - segment.address)
 
 -- whether a segment of memory contains all 4096 bytes of a frame, and a file of this length too
 abbrev pub has_frame : (file_length frame : ℕ) → Segment → Bool
-has_frame file_length frame segment = segment.kind == 1 && nat_le segment.address frame
+has_frame file_length frame segment = is_memory segment && nat_le segment.address frame
     && nat_le (frame + 4096) (segment.address + segment.size) && nat_le (offset_in segment frame + 4096) file_length
 
 -- the offset of a frame in the file: in the first segment that contains the whole frame

@@ -1,9 +1,12 @@
 -- KernelTexts: texts of VMCOREINFO in memory. Linux keeps its text in a page, and in another one behind the head of the note that kdump
 -- gets: so a line may begin behind a byte 0. Linux, "kernel/vmcore_info.c", `vmcoreinfo_data` and `vmcoreinfo_note`.
-use Rattle.std.specs.Prelude.{ℕ, zero, suc, ◌+◌, ◌-◌, ◌*◌, ◌/◌, ◌%◌, ◌++◌, ◌==◌, ◌&&◌, ◌||◌, Bool, true, codes, cond, min, List, [], ◌∷◌, take, drop, length, nat_eq, Result, Ok, Err}
-use Rattle.std.specs.List.{flat_map, starts_with}
+use Rattle.std.specs.Prelude.{ℕ, ◌+◌, ◌-◌, ◌*◌, ◌/◌, ◌%◌, ◌==◌, ◌&&◌, ◌||◌, Bool, false, codes, if◌then◌else◌, min, List, [], ◌∷◌, drop, length, nat_eq, slice_get, Result, Ok, Err}
+use Rattle.std.specs.List.{find, flat_map, range_with_len, starts_with}
+use Rattle.std.specs.Option.{option_map_or}
 use Rattle.x86_64_dump.specs.Dump.{Contents}
 use Rattle.x86_64_dump.specs.Notes.{fitting}
+use Rattle.x86_64_dump.specs.Segments.{is_memory}
+use Rattle.x86_64_dump.specs.Source.{part_of}
 use Rattle.x86_64_dump.specs.VmCoreInfo.{kernel_of}
 use Rattle.x86_64_dump.specs.declared.kernel_text.KernelText.{KernelText}
 use Rattle.x86_64_dump.specs.declared.segment.Segment.{Segment}
@@ -20,14 +23,17 @@ begins_text bytes = starts_with nat_eq bytes (codes "OSRELEASE=")
 abbrev pub ends_line : (byte : ℕ) → Bool
 ends_line byte = byte == 10 || byte == 0
 
--- the bytes from the first line on that begins as the text does, or none; a line begins in front of them if said so
-abbrev pub text_from : (is_line : Bool) → (bytes : List ℕ) → List ℕ
-text_from is_line [] = []
-text_from is_line (byte ∷ bytes) = cond (is_line && begins_text (byte ∷ bytes)) (byte ∷ bytes) (text_from (ends_line byte) bytes)
+-- whether a line begins at a position of a page: at its beginning, or behind a byte that ends one
+abbrev pub line_begins : (page : List ℕ) → (at : ℕ) → Bool
+line_begins page at = at == 0 || option_map_or ends_line (slice_get page (at - 1)) false
 
--- the text in a page, up to the page's end
+-- whether the text begins at a position of a page
+abbrev pub text_begins : (page : List ℕ) → (at : ℕ) → Bool
+text_begins page at = begins_text (drop at page) && line_begins page at
+
+-- the text in a page: the bytes from the first position on where it begins, or none
 abbrev pub text_in : (page : List ℕ) → List ℕ
-text_in page = text_from true page
+text_in page = option_map_or (λ at. drop at page) (find (text_begins page) (range_with_len 0 (length page))) []
 
 -- a text at an offset of the file, if it says where the kernel's root is
 abbrev pub text_if : (offset : ℕ) → Result Kernel KernelFault → List KernelText
@@ -42,12 +48,11 @@ page_texts offset page = text_if (offset + (length page - length (text_in page))
 
 -- those texts in the first pages of some bytes, which are those from an offset of the file on
 abbrev pub texts_in : (pages : ℕ) → (offset : ℕ) → (bytes : List ℕ) → List KernelText
-texts_in zero offset bytes = []
-texts_in (suc pages) offset bytes = page_texts offset (take 4096 bytes) ++ texts_in pages (offset + 4096) (drop 4096 bytes)
+texts_in pages offset bytes = flat_map (λ page. page_texts (offset + 4096 * page) (part_of bytes (4096 * page) 4096)) (range_with_len 0 pages)
 
 -- the number of bytes of memory that a segment has in the file
 abbrev pub memory_size : (file_length : ℕ) → Segment → ℕ
-memory_size file_length segment = cond (segment.kind == 1) (min segment.size (file_length - segment.offset)) 0
+memory_size file_length segment = if is_memory segment then min segment.size (file_length - segment.offset) else 0
 
 -- the number of bytes in a segment before its first page, whose address is a multiple of 4096
 abbrev pub page_gap : Segment → ℕ

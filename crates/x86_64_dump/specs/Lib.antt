@@ -9,6 +9,7 @@ pub mod Notes
 pub mod VmCoreInfo
 pub mod KernelTexts
 pub mod FaultTexts
+pub mod Segments
 pub mod Source
 pub mod Reached
 pub mod Tables

@@ -52,7 +52,7 @@ table_fault file_length count header =
     if nat_lt file_length (header.headers + 56 * count) then Some (faults.HeadersOutside header.headers count file_length) else None
 
 abbrev pub has_memory : List Segment → Bool
-has_memory segments = list_any (λ segment. segment.kind == 1) segments
+has_memory segments = list_any is_memory segments
 
 -- segments, of which one is memory, as in each core file but those of Xen's `dump-core`
 abbrev pub with_memory : List Segment → Result (List Segment) Fault

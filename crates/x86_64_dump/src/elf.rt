@@ -80,7 +80,7 @@ fn with_memory(segments: Vec<Segment>) -> Result<Vec<Segment>, DumpError>
 fn has_memory(segments: &[Segment]) -> bool
     ensures { result ≡ has_memory segments.now }
 {
-    segments.iter().any(|segment| segment.kind == Segment::LOAD)
+    segments.iter().any(|segment| segment.is_memory())
 }
 
 /// Returns true if a part of a file ends after the end of the file.

@@ -102,21 +102,38 @@ fn is_blank(page: &[u8]) -> bool
     page.iter().all(|byte| *byte == 0)
 }
 
-/// Returns the bytes from the first line on that begins as the text does.
+/// Returns the bytes from the first position on where the text begins, or nothing if there is none.
 fn find_text(page: &[u8]) -> &[u8]
-    ensures text { result.now ≡ specs.text_from true page.now }
+    ensures text { result.now ≡ specs.text_in page.now }
     ensures inside { length result.now ≤ length page.now }
 {
-    let mut rest = page;
-    let mut is_line = true;
-    while let Some((first, behind)) = rest.split_first() {
-        if is_line && begins_text(rest) {
-            return rest;
-        }
-        is_line = ends_line(*first);
-        rest = behind;
+    match (0..page.len()).find(|at| text_begins(page, *at)) {
+        Some(at) => &page[at..],
+        None => &page[page.len()..],
     }
-    rest
+}
+
+/// Returns true if the text begins at a position.
+fn text_begins(page: &[u8], at: usize) -> bool
+    ensures { result ≡ specs.text_begins page.now at }
+{
+    match page.get(at..) {
+        Some(behind) => begins_text(behind) && line_begins(page, at),
+        None => false,
+    }
+}
+
+/// Returns true if a line begins at a position.
+fn line_begins(page: &[u8], at: usize) -> bool
+    ensures { result ≡ specs.line_begins page.now at }
+{
+    if at == 0 {
+        return true;
+    }
+    match page.get(at - 1) {
+        Some(byte) => ends_line(*byte),
+        None => false,
+    }
 }
 
 /// Returns true if bytes begin as the text does.

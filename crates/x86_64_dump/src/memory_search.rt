@@ -72,7 +72,7 @@ fn memory_size(segment: &Segment, length: u64) -> u64
     ensures size { result ≡ specs.memory_size length segment.now }
     ensures inside { 0 < result → segment.now.offset + result ≤ length }
 {
-    if segment.kind == Segment::LOAD {
+    if segment.is_memory() {
         segment.size.min(length.saturating_sub(segment.offset))
     } else {
         0

@@ -105,7 +105,7 @@ fn end_of_frames(segment: &Segment, length: u64) -> Option<u64>
         has_frame length frame segment.now ≡ (nat_le segment.now.address frame && nat_lt frame end)) }
     ensures none { IfNone result ((frame : ℕ) → has_frame length frame segment.now ≡ false) }
 {
-    if segment.kind != Segment::LOAD {
+    if !segment.is_memory() {
         return None;
     }
     let in_file = length.checked_sub(segment.offset)?;

@@ -64,6 +64,22 @@ impl Display for MemoryRange {
     }
 }
 
+/// Memory without a physical address, as in Linux's /proc/kcore.
+#[derive(Clone, Copy)]
+pub struct UnplacedMemory {
+    /// The number of its bytes.
+    pub size: u64,
+}
+
+impl Display for UnplacedMemory {
+    ghost output = { λ memory. Some (texts.unplaced_text memory.size) };
+
+    fn fmt<W: Write>(&self, f: &mut Formatter<W>) -> FmtResult {
+        f.write_str("memory without a physical address ")?;
+        write_size(f, self.size)
+    }
+}
+
 /// A processor.
 #[derive(Clone, Copy)]
 pub struct Processor {

@@ -9,7 +9,9 @@ ghost use Rattle.ptdump_engine.specs.private.Objects.{members_in};
 
 use super::ToJson;
 use super::object::Object;
-use crate::info::{DumpFormat, KernelRoot, MemoryRange, NoKernelRoot, NoRoot, Processor, Root};
+use crate::info::{
+    DumpFormat, KernelRoot, MemoryRange, NoKernelRoot, NoRoot, Processor, Root, UnplacedMemory,
+};
 use crate::mode::Mode;
 use crate::registers::{Registers, level_count};
 use crate::start::{Origin, levels_by};
@@ -38,6 +40,17 @@ impl ToJson for MemoryRange {
             .put_hexadecimal("last", self.last)?
             .put_number("bytes", self.size)?;
         told(alloc, "memory", memory)
+    }
+}
+
+impl ToJson for UnplacedMemory {
+    ghost json = { λ memory. objects.json_of_unplaced memory.size };
+
+    ghost no_float = { λ memory. refl };
+
+    fn to_json(&self, alloc: Global) -> Result<Value, AllocError> {
+        let memory = Object::new(alloc).put_number("bytes", self.size)?;
+        told(alloc, "unplaced_memory", memory)
     }
 }
 
