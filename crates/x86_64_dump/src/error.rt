@@ -87,7 +87,7 @@ pub enum Fault {
         /// The number of bytes in the file.
         length: u64,
     },
-    /// None of the program headers describes memory.
+    /// None of the program headers describes memory with a physical address.
     NoMemory,
     /// The file is shorter than the header of LiME's first range.
     RangeHeaderCut {
@@ -167,7 +167,7 @@ impl Display for Fault {
                 "the {count} program headers of 56 bytes begin at byte {offset}, and the file has {length} bytes: the file is damaged or cut off"
             ),
             Fault::NoMemory => f.write_str(
-                "the ELF core has no segment of memory, as cores of Xen's `dump-core` have none: write a dump within the machine, by LiME or kdump",
+                "the ELF core has no segment of memory with a physical address, as cores of Xen's `dump-core` have none: write a dump within the machine, by LiME or kdump",
             ),
             Fault::NoteCut {
                 offset,
