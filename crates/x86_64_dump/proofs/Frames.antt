@@ -4,6 +4,7 @@ use Rattle.std.specs.List.{find, range_with_len}
 use Rattle.std.specs.Option.{option_map}
 use Rattle.x86_64_model.specs.Entry.{is_frame, address}
 use Rattle.x86_64_dump.specs.Numbers.{u64_at}
+use Rattle.x86_64_dump.specs.Segments.{is_memory}
 use Rattle.x86_64_dump.specs.Dump.{Contents, without, has_frame, frame_offset, offset_in, words_at, words_of_dump}
 use Rattle.x86_64_dump.specs.declared.segment.Segment.{Segment}
 use Rattle.std.proofs.lemmas.Bool.{and_parts}
@@ -79,7 +80,7 @@ offset_inside file_length (s ∷ l) frame = by (has_frame file_length frame s) r
     by : (b : Bool) → has_frame file_length frame s ≡ b
         → IfSome (option_map (λ segment. offset_in segment frame) (find (has_frame file_length frame) l)) (λ offset. offset + 4096 ≤ file_length)
         → IfSome (option_map (λ segment. offset_in segment frame) (cond b (Some s) (find (has_frame file_length frame) l))) (λ offset. offset + 4096 ≤ file_length)
-    by true has later = leb-true _ _ (and_parts (s.kind == 1 && nat_le s.address frame && nat_le (frame + 4096) (s.address + s.size)) (nat_le (offset_in s frame + 4096) file_length) has).1
+    by true has later = leb-true _ _ (and_parts (is_memory s && nat_le s.address frame && nat_le (frame + 4096) (s.address + s.size)) (nat_le (offset_in s frame + 4096) file_length) has).1
     by false lacks later = later
 
 -- so it is below 2^64, by the stretches too

@@ -8,6 +8,7 @@ use Rattle.x86_64_dump.specs.declared.placement.Placement.{Placement}
 use Rattle.x86_64_dump.specs.declared.placement.Placement.TheVariants.{Unstated}
 use Rattle.x86_64_dump.specs.Numbers.{byte_at, u16_at, u32_at, u64_at}
 use Rattle.x86_64_dump.specs.Dump.{Contents, segments_at}
+use Rattle.x86_64_dump.specs.Segments.{is_memory}
 use Rattle.x86_64_dump.specs.declared.formats.Format.{Format}
 use Rattle.x86_64_dump.specs.declared.formats.Format.TheVariants as formats
 use Rattle.x86_64_dump.specs.declared.header.Header.{Header}

@@ -107,10 +107,12 @@ fn find_text(page: &[u8]) -> &[u8]
     ensures text { result.now ≡ specs.text_in page.now }
     ensures inside { length result.now ≤ length page.now }
 {
-    match (0..page.len()).find(|at| text_begins(page, *at)) {
-        Some(at) => &page[at..],
-        None => &page[page.len()..],
+    for at in 0..page.len() {
+        if text_begins(page, at) {
+            return &page[at..];
+        }
     }
+    &page[page.len()..]
 }
 
 /// Returns true if the text begins at a position.
