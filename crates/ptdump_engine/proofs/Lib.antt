@@ -20,6 +20,7 @@ pub mod Found
 pub mod Grouped
 pub mod InOrder
 pub mod SameTables
+pub mod ProcessorGroups
 pub mod Processing
 pub mod Turns
 pub mod OfProcessors

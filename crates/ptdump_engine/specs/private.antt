@@ -19,6 +19,7 @@ pub mod NoFloats
 pub mod Objects
 pub mod Passed
 pub mod Passing
+pub mod ProcessorGroups
 pub mod Puts
 pub mod Reaching
 pub mod Reported

@@ -27,6 +27,7 @@ mod noted_levels;
 mod opening;
 mod output;
 mod picture;
+mod processor_groups;
 mod processors;
 mod reached;
 mod registers;

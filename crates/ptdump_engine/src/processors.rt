@@ -1,5 +1,5 @@
-//! The processors of a dump, and which of them have the same tables.
-ghost use Rattle.std.specs.Prelude.{◌≡◌, IfOk};
+//! The processors of a dump.
+ghost use Rattle.std.specs.Prelude.{◌≡◌};
 ghost use Rattle.std.specs.List.{list_any};
 ghost use Rattle.x86_64_dump.specs.Notes.{processors_of};
 ghost use Rattle.x86_64_dump.specs.Opened.{opened};
@@ -11,7 +11,7 @@ use crate::mode::Mode;
 use crate::registers::Registers;
 use crate::request::Levels;
 use crate::start::{Origin, Start, levels_by, start_at};
-use std::alloc::{AllocError, Global};
+use std::alloc::Global;
 use x86_64_dump::{ByteSource, Dump, Note};
 
 /// A processor, by its note.
@@ -44,41 +44,6 @@ impl Processor {
     {
         matches!(self.mode, Mode::Paging64)
     }
-
-    /// Returns true if another processor has tables with the root and the number of levels of this one's.
-    fn shares(&self, other: &Processor) -> bool
-        ensures { result ≡ specs.shares self.now other.now }
-    {
-        other.has_tables()
-            && self.start.root == other.start.root
-            && same_levels(self.start.levels, other.start.levels)
-    }
-
-    /// Returns true if it has tables, and no processor before it has the same.
-    fn is_first(&self, processors: &[Processor]) -> bool
-        ensures { result ≡ specs.is_first processors.now self.now }
-    {
-        self.has_tables() && !self.is_later(processors)
-    }
-
-    /// Returns true if a processor before it has the same tables.
-    fn is_later(&self, processors: &[Processor]) -> bool
-        ensures { result ≡ specs.is_later processors.now self.now }
-    {
-        processors
-            .iter()
-            .any(|other| other.cpu < self.cpu && self.shares(other))
-    }
-}
-
-/// Returns true if both are the same number of levels.
-fn same_levels(one: Levels, other: Levels) -> bool
-    ensures { result ≡ specs.same_levels one other }
-{
-    matches!(
-        (one, other),
-        (Levels::Four, Levels::Four) | (Levels::Five, Levels::Five)
-    )
 }
 
 /// Reads the notes of the processors, in order. A number of levels that is given goes before those that CR4 says.
@@ -139,42 +104,4 @@ fn have_tables(processors: &[Processor]) -> bool
     ensures { result ≡ list_any specs.has_tables processors.now }
 {
     processors.iter().any(|processor| processor.has_tables())
-}
-
-/// Returns the first processor with each root and number of levels.
-///
-/// # Errors
-///
-/// `AllocError` if memory allocation fails.
-pub fn firsts_of(alloc: Global, processors: &[Processor]) -> Result<Vec<Processor>, AllocError>
-    ensures { IfOk result (λ firsts. firsts.items ≡ specs.firsts_of processors.now) }
-{
-    let mut firsts = Vec::new(alloc);
-    for processor in processors {
-        if processor.is_first(processors) {
-            firsts.push(*processor)?;
-        }
-    }
-    Ok(firsts)
-}
-
-/// Returns the numbers of the processors with the tables of one.
-///
-/// # Errors
-///
-/// `AllocError` if memory allocation fails.
-pub fn cpus_with(
-    alloc: Global,
-    processors: &[Processor],
-    one: &Processor,
-) -> Result<Vec<usize>, AllocError>
-    ensures { IfOk result (λ cpus. cpus.items ≡ specs.cpus_with processors.now one.now) }
-{
-    let mut cpus = Vec::new(alloc);
-    for processor in processors {
-        if one.shares(processor) {
-            cpus.push(processor.cpu)?;
-        }
-    }
-    Ok(cpus)
 }

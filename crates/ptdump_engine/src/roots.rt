@@ -9,6 +9,7 @@ ghost use Rattle.ptdump_engine.specs.Program as program;
 ghost use Rattle.ptdump_engine.specs.Steps.{FindsAs, InTurn, IsForced};
 ghost use Rattle.ptdump_engine.specs.Walks.{line};
 ghost use Rattle.ptdump_engine.specs.declared.request.Form.TheVariants.{Text};
+ghost use Rattle.ptdump_engine.specs.private.ProcessorGroups as grouping;
 ghost use Rattle.ptdump_engine.specs.private.Roots.{AreNoted, number_at};
 
 use crate::arguments::{argument_failure, root_failure};
@@ -18,7 +19,8 @@ use crate::failure::Failure;
 use crate::json_lines::{ProcessorGroup, write_json};
 use crate::mode::Mode;
 use crate::output::{Output, OutputError};
-use crate::processors::{Processor, cpus_with, firsts_of, modes_failure, read_processors};
+use crate::processor_groups::{ProcessorGroups, firsts_of};
+use crate::processors::{Processor, modes_failure, read_processors};
 use crate::request::{Form, Outcome, Request};
 use std::alloc::Global;
 use x86_64_dump::{ByteSource, Dump, Progress};
@@ -106,10 +108,11 @@ pub fn report_on_processors<S: ByteSource, W: Destination, E: Destination, G: Pr
     ensures counted { program.ToldInTurn G.Told G.Ended progress.old progress.new }
     ensures errors { IfErr result (IsForced S.may_fail (W.may_refuse || E.may_refuse)) }
 {
-    let firsts = firsts_of(alloc, processors)?;
+    let groups = ProcessorGroups::of(alloc, processors)?;
+    let firsts = groups.firsts(alloc)?;
     write_left_out(processors, notes)?;
     let is_complete = write_reports(
-        alloc, dump, processors, &firsts, request, writer, notes, progress,
+        alloc, dump, &groups, &firsts, request, writer, notes, progress,
     )?;
     Ok(Outcome { is_complete })
 }
@@ -118,17 +121,19 @@ pub fn report_on_processors<S: ByteSource, W: Destination, E: Destination, G: Pr
 fn write_reports<S: ByteSource, W: Destination, E: Destination, G: Progress>(
     alloc: Global,
     dump: &Dump<S>,
-    processors: &[Processor],
+    groups: &ProcessorGroups<'_>,
     firsts: &[Processor],
     request: &Request,
     writer: &mut W,
     notes: &mut Output<'_, E>,
     progress: &mut G,
 ) -> Result<bool, Failure>
+    requires groups { grouping.AreGrouped groups.now }
     requires all { program.is_of_processors request.now ≡ true }
     requires noted { string_bytes notes.old.text ≡ [] }
-    ensures text { S.IsKnown → OnOk result (Appends (W.contents writer.old) (W.contents writer.new) (flat_map
-        (program.report_below request.now (words_opened S.bytes dump.now) processors.now) firsts.now)) }
+    ensures text { S.IsKnown → OnOk result (Appends (W.contents writer.old) (W.contents writer.new)
+        (flat_map (program.report_below request.now (words_opened S.bytes dump.now)
+        groups.now.processors.now) firsts.now)) }
     ensures complete { S.IsKnown → IfOk result (λ all. all ≡ list_all
         (program.is_complete_for request.now (words_opened S.bytes dump.now)) firsts.now) }
     ensures name { S.IsKnown → OnOk result (notes.new.writer.ghost_name ≡ notes.old.writer.ghost_name) }
@@ -144,7 +149,7 @@ fn write_reports<S: ByteSource, W: Destination, E: Destination, G: Progress>(
     let mut is_complete = true;
     for first in firsts {
         let is_fulfilled = write_report_below(
-            alloc, dump, processors, first, request, writer, notes, progress,
+            alloc, dump, groups, first, request, writer, notes, progress,
         )?;
         is_complete &= is_fulfilled;
     }
@@ -157,17 +162,19 @@ fn write_reports<S: ByteSource, W: Destination, E: Destination, G: Progress>(
 fn write_report_below<S: ByteSource, W: Destination, E: Destination, G: Progress>(
     alloc: Global,
     dump: &Dump<S>,
-    processors: &[Processor],
+    groups: &ProcessorGroups<'_>,
     first: &Processor,
     request: &Request,
     writer: &mut W,
     notes: &mut Output<'_, E>,
     progress: &mut G,
 ) -> Result<bool, Failure>
+    requires groups { grouping.AreGrouped groups.now }
     requires all { program.is_of_processors request.now ≡ true }
     requires noted { string_bytes notes.old.text ≡ [] }
     ensures text { S.IsKnown → OnOk result (Appends (W.contents writer.old) (W.contents writer.new)
-        (program.report_below request.now (words_opened S.bytes dump.now) processors.now first.now)) }
+        (program.report_below request.now (words_opened S.bytes dump.now)
+        groups.now.processors.now first.now)) }
     ensures complete { S.IsKnown → IfOk result (λ is.
         is ≡ program.is_complete_for request.now (words_opened S.bytes dump.now) first.now) }
     ensures noted { OnOk result (string_bytes notes.new.text ≡ []) }
@@ -180,7 +187,7 @@ fn write_report_below<S: ByteSource, W: Destination, E: Destination, G: Progress
     ensures counted { program.ToldInTurn G.Told G.Ended progress.old progress.new }
     ensures errors { IfErr result (IsForced S.may_fail (W.may_refuse || E.may_refuse)) }
 {
-    write_heading(alloc, request.form, processors, first, writer)?;
+    write_heading(alloc, request.form, groups, first, writer)?;
     let outcome = report_from(alloc, dump, &first.start, request, writer, notes, progress)?;
     Ok(outcome.is_complete)
 }
@@ -189,16 +196,18 @@ fn write_report_below<S: ByteSource, W: Destination, E: Destination, G: Progress
 fn write_heading<W: Destination>(
     alloc: Global,
     form: Form,
-    processors: &[Processor],
+    groups: &ProcessorGroups<'_>,
     first: &Processor,
     writer: &mut W,
 ) -> Result<(), OutputError<W>>
+    requires { grouping.AreGrouped groups.now }
     ensures { OnOk result (Appends (W.contents writer.old) (W.contents writer.new)
-        (specs.heading_text form (specs.cpus_with processors.now first.now) first.now.start.root)) }
+        (specs.heading_text form (specs.cpus_with groups.now.processors.now first.now)
+        first.now.start.root)) }
 {
-    let cpus = cpus_with(alloc, processors, first)?;
+    let cpus = groups.cpus_with(first);
     let mut output = Output::new(alloc, writer);
-    write_heading_in(alloc, form, &cpus, first.start.root, &mut output)?;
+    write_heading_in(alloc, form, cpus, first.start.root, &mut output)?;
     output.finish()?;
     Ok(())
 }

@@ -1,7 +1,0 @@
-use Rattle.std.proofs.Common.{◌≡◌, filter, take}
-use Rattle.ptdump_engine.specs.Processors.{is_first}
-use Rattle.ptdump_engine.proofs.processors.firsts_of.Given as goal
-
--- the first processors among those so far
-abbrev pub invariant-loop-processor : goal.invariant-loop-processor
-invariant-loop-processor l = l.firsts.items ≡ filter (is_first l.processors) (take l.processor-index l.processors)
