@@ -19,16 +19,16 @@ use Rattle.x86_64_addr.specs.declared.level_count.Levels.{Levels}
 use Rattle.x86_64_model.specs.Memory.{Words}
 use Rattle.ptdump_engine.specs.FailureTexts.{failure_text}
 use Rattle.ptdump_engine.specs.Program.{argument_failure, is_info, is_walk, root_failure, start_for}
-use Rattle.ptdump_engine.specs.Start.{cr3_by, cr3_in, kernel_start, levels_of, mode_of, note_needed, note_of, registers_of, start_at, start_by, start_of, start_with}
+use Rattle.ptdump_engine.specs.Start.{in_64_bit, kernel_start, levels_of, mode_of, note_needed, note_of, paging_registers, registers_of, start_by, start_of, start_with}
 use Rattle.ptdump_engine.specs.Steps.{FailsBy, IsForced, and_then, of_dump, unless}
 use Rattle.ptdump_engine.specs.declared.failure.Failure.{Failure}
 use Rattle.ptdump_engine.specs.declared.failure.Failure.TheVariants as failures
 use Rattle.ptdump_engine.specs.declared.mode.Mode.{Mode}
 use Rattle.ptdump_engine.specs.declared.mode.Mode.TheVariants.{NoPaging, Paging32, Paging64}
+use Rattle.ptdump_engine.specs.declared.registers.Registers.{Registers}
 use Rattle.ptdump_engine.specs.declared.request.Command.{Command}
 use Rattle.ptdump_engine.specs.declared.request.Command.TheVariants as commands
 use Rattle.ptdump_engine.specs.declared.request.Request.{Request}
-use Rattle.ptdump_engine.specs.declared.start.Origin.{Origin}
 use Rattle.ptdump_engine.specs.declared.start.Start.{Start}
 
 -- if it is a failure, it has a text
@@ -118,29 +118,24 @@ needed_text request dump = by ((is_none request.cr3 || is_none request.levels) &
     by true = note_text (unwrap_or request.cpu 0) (processors_of dump)
     by false = tt
 
-mode_text : (cpu cr3 : ℕ) (mode : Mode) → HasText (cr3_by cpu cr3 mode)
-mode_text cpu cr3 Paging64 = tt
-mode_text cpu cr3 NoPaging = refl
-mode_text cpu cr3 Paging32 = refl
+mode_text : (cpu : ℕ) (r : Registers) (mode : Mode) → HasText (in_64_bit cpu r mode)
+mode_text cpu r Paging64 = tt
+mode_text cpu r NoPaging = refl
+mode_text cpu r Paging32 = refl
 
-cr3_text : (file : List ℕ) (cpu : ℕ) (note : Note) → HasText (cr3_in file cpu note)
-unfolding cr3_in
-cr3_text file cpu note =
-    text_then (of_dump (registers_of file note)) _ (text_of_dump (registers_of file note) (registers_text file note)) (λ registers.
-    mode_text cpu registers.cr3 (mode_of registers.cr0 registers.cr4))
+paging_text : (file : List ℕ) (cpu : ℕ) (note : Note) → HasText (paging_registers file cpu note)
+unfolding paging_registers
+paging_text file cpu note =
+    text_then (of_dump (registers_of file note)) _ (text_of_dump (registers_of file note) (registers_text file note)) (λ r. mode_text cpu r (mode_of r.cr0 r.cr4))
 
 levels_text : (file : List ℕ) (given : Option Levels) (note : Option Note) → HasText (levels_of file given note)
 levels_text file (Some levels) _ = tt
 levels_text file None None = tt
 levels_text file None (Some note) = text_then (of_dump (register_of file note 424)) _ (text_of_dump (register_of file note 424) (register_text file note 424)) (λ cr4. tt)
 
-at_text : (origin : Origin) (cr3 : ℕ) (levels : Result Levels Failure) → HasText levels → HasText (start_at origin cr3 levels)
-at_text origin cr3 levels has = text_then levels _ has (λ l. tt)
-
 with_text : (request : Request) (dump : Contents) (given : Option ℕ) (note : Option Note) → HasText (start_with request dump given note)
-with_text request dump (Some cr3) note = at_text _ cr3 (levels_of dump.file request.levels note) (levels_text dump.file request.levels note)
-with_text request dump None (Some note) = text_then (cr3_in dump.file (unwrap_or request.cpu 0) note) _ (cr3_text dump.file (unwrap_or request.cpu 0) note)
-    (λ cr3. at_text _ cr3 (levels_of dump.file request.levels (Some note)) (levels_text dump.file request.levels (Some note)))
+with_text request dump (Some cr3) note = text_then (levels_of dump.file request.levels note) _ (levels_text dump.file request.levels note) (λ levels. tt)
+with_text request dump None (Some note) = text_then (paging_registers dump.file (unwrap_or request.cpu 0) note) _ (paging_text dump.file (unwrap_or request.cpu 0) note) (λ r. tt)
 with_text request dump None None = kernel_start_text dump request.levels
 
 start_text : (request : Request) (dump : Contents) → HasText (start_of request dump)

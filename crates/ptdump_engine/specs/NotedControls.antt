@@ -1,6 +1,7 @@
 -- Noted controls: what QEMU's note of a processor says of the controls that decide accesses.
 -- Intel SDM vol. 3A, "Control Registers": bit 16 of CR0 is WP, bits 20 and 21 of CR4 are SMEP and SMAP.
 use Rattle.std.specs.Prelude.{ℕ, List, slice_get, Option, None, Some, unwrap_or, Result, Ok, Err}
+use Rattle.std.specs.Option.{option_or}
 use Rattle.x86_64_access.specs.declared.controls.Controls.{Controls}
 use Rattle.x86_64_dump.specs.Dump.{Contents}
 use Rattle.x86_64_dump.specs.Notes.{processors_of}
@@ -36,6 +37,10 @@ registers_of_note file (Some note) = registers_in (registers_of file note)
 abbrev pub noted_registers : (cpu : ℕ) → Contents → Option Registers
 noted_registers cpu dump = registers_of_note dump.file (slice_get (processors_of dump) cpu)
 
+-- the registers that were read already, or else those in the note
+abbrev pub registers_for : (read : Option Registers) → (cpu : ℕ) → Contents → Option Registers
+registers_for read cpu dump = option_or read (noted_registers cpu dump)
+
 -- controls with WP, SMEP and SMAP as registers say
 abbrev pub controls_by : Registers → Controls → Controls
 controls_by r c = record c { write_protect = has r.cr0 0x1_0000; smep = has r.cr4 0x10_0000; smap = has r.cr4 0x20_0000 }
@@ -49,6 +54,7 @@ abbrev pub command_by : Option Registers → Command → Command
 command_by registers (commands.Walk addresses options) = commands.Walk addresses (options_by options.source registers options)
 command_by registers command = command
 
--- a request, with the controls of its walk that the note of its processor tells in place of assumed ones
-abbrev pub resolved : Request → Contents → Request
-resolved request dump = record request { command = command_by (noted_registers (unwrap_or request.cpu 0) dump) request.command }
+-- a request, with the controls of its walk that its processor's registers tell in place of assumed ones: those that were read already, or
+-- those in the note
+abbrev pub resolved : Request → Contents → (read : Option Registers) → Request
+resolved request dump read = record request { command = command_by (registers_for read (unwrap_or request.cpu 0) dump) request.command }

@@ -1,5 +1,5 @@
 -- Processors: where the page walks of each processor begin, by QEMU's notes, and which processors have the same tables.
-use Rattle.std.specs.Prelude.{ℕ, ◌+◌, ◌++◌, ◌==◌, ◌&&◌, Bool, true, false, not, nat_lt, if◌then◌else◌, List, [], ◌∷◌, map, filter, slice_get, Option, None, Some, unwrap_or, Result, Ok, codes, decimal}
+use Rattle.std.specs.Prelude.{ℕ, ◌+◌, ◌++◌, ◌==◌, ◌&&◌, Bool, true, false, not, nat_lt, if◌then◌else◌, List, [], ◌∷◌, map, filter, slice_get, Option, None, Some, Result, Ok, codes, decimal}
 use Rattle.std.specs.List.{flat_map, join_by, list_any}
 use Rattle.serde_json.specs.Data.{Data, array, object, member, no_members}
 use Rattle.serde_json.specs.View.{items_of}
@@ -7,10 +7,9 @@ use Rattle.x86_64_addr.specs.declared.level_count.Levels.{Levels}
 use Rattle.x86_64_addr.specs.declared.level_count.Levels.TheVariants.{Four, Five}
 use Rattle.x86_64_dump.specs.declared.note.Note.{Note}
 use Rattle.x86_64_mappings.specs.Numbers.{hexadecimal}
-use Rattle.x86_64_model.specs.Entry.{address}
 use Rattle.ptdump_engine.specs.FailureTexts.{mode_told}
 use Rattle.ptdump_engine.specs.Json.{count, hexadecimal_string, json_line}
-use Rattle.ptdump_engine.specs.Start.{levels_by, mode_of, registers_of}
+use Rattle.ptdump_engine.specs.Start.{mode_of, registers_of, start_by_processor}
 use Rattle.ptdump_engine.specs.Steps.{and_then, of_dump}
 use Rattle.ptdump_engine.specs.Walks.{line}
 use Rattle.ptdump_engine.specs.declared.failure.Failure.{Failure}
@@ -21,7 +20,6 @@ use Rattle.ptdump_engine.specs.declared.processors.Processor.{Processor}
 use Rattle.ptdump_engine.specs.declared.registers.Registers.{Registers}
 use Rattle.ptdump_engine.specs.declared.request.Form.{Form}
 use Rattle.ptdump_engine.specs.declared.request.Form.TheVariants.{Text, Json}
-use Rattle.ptdump_engine.specs.declared.start.Origin.TheVariants.{ByProcessor}
 
 -- ---- each processor
 
@@ -30,7 +28,7 @@ abbrev pub processor_with : (given : Option Levels) → (cpu : ℕ) → Register
 processor_with given cpu r = record {
   cpu = cpu;
   mode = mode_of r.cr0 r.cr4;
-  start = record { root = address r.cr3; levels = unwrap_or given (levels_by r.cr4); origin = ByProcessor };
+  start = start_by_processor given r;
 }
 
 -- the processors of notes in order, from a number on, or why one of the notes can't be read

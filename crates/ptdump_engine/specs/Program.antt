@@ -219,7 +219,7 @@ pub record Reports (request : Request) (L : ℕ) (T : Words) (root : ℕ) (befor
 -- likewise in what was opened, with the controls that a processor's note tells in place of assumed ones
 abbrev pub ReportsOf : Request → (before after : Option (List ℕ)) → Outcome → Opened → Type 0
 ReportsOf request before after outcome o =
-    Reports (resolved request o.dump) (level_count o.start.levels) (words_of_dump o.dump) o.start.root before after outcome
+    Reports (resolved request o.dump o.start.registers) (level_count o.start.levels) (words_of_dump o.dump) o.start.root before after outcome
 
 -- The result and the output of a run that reports on tables. It fails for its request or its file without writing anything, for a
 -- read only if reads may fail, and for a write only if its writers may refuse one.
@@ -325,7 +325,7 @@ EndsByTotals command L T root before after =
 -- levels than the request, how many words have reserved bits, and the totals
 abbrev pub NotesOnTables : Request → (file : List ℕ) → (before after : Option (List ℕ)) → Type 0
 NotesOnTables request file before after = (o : Opened) × (between : Option (List ℕ)) × (opened_for request file ≡ Ok o)
-    × Appends before between (opening_text o.dump ++ source_text o.start.origin ++ levels_text request o.dump o.start.origin)
+    × Appends before between (opening_text o.dump ++ source_text o.start.origin ++ levels_text request.levels o.start.noted_levels)
     × EndsByTotals request.command (level_count o.start.levels) (words_of_dump o.dump) o.start.root between after
 
 -- likewise for the tables of a processor

@@ -38,20 +38,20 @@ note_needed request dump =
 abbrev pub mode_of : (cr0 cr4 : ℕ) → Mode
 mode_of cr0 cr4 = if not (has cr0 0x8000_0000) then NoPaging else if not (has cr4 0x20) then Paging32 else Paging64
 
--- CR3, if the mode is right
-abbrev pub cr3_by : (cpu cr3 : ℕ) → Mode → Result ℕ Failure
-cr3_by cpu cr3 Paging64 = Ok cr3
-cr3_by cpu cr3 mode = Err (failures.WrongMode cpu mode)
-
 -- the control registers of a processor by its note, which may be too short
 unfoldable pub registers_of : (file : List ℕ) → Note → Result Registers Fault
 registers_of file note = after (register_of file note 416) (λ cr3.
     after (register_of file note 392) (λ cr0.
     after (register_of file note 424) (λ cr4. Ok (record { cr0 = cr0; cr3 = cr3; cr4 = cr4 }))))
 
--- the CR3 of a processor by its note; the processor must be in 64-bit paging
-unfoldable pub cr3_in : (file : List ℕ) → (cpu : ℕ) → Note → Result ℕ Failure
-cr3_in file cpu note = and_then (of_dump (registers_of file note)) (λ registers. cr3_by cpu registers.cr3 (mode_of registers.cr0 registers.cr4))
+-- registers, if the mode is right
+abbrev pub in_64_bit : (cpu : ℕ) → Registers → Mode → Result Registers Failure
+in_64_bit cpu r Paging64 = Ok r
+in_64_bit cpu r mode = Err (failures.WrongMode cpu mode)
+
+-- the control registers of a processor by its note; the processor must be in 64-bit paging
+unfoldable pub paging_registers : (file : List ℕ) → (cpu : ℕ) → Note → Result Registers Failure
+paging_registers file cpu note = and_then (of_dump (registers_of file note)) (λ r. in_64_bit cpu r (mode_of r.cr0 r.cr4))
 
 abbrev pub level_count : Levels → ℕ
 level_count Four = 4
@@ -65,9 +65,19 @@ levels_of file (Some levels) _ = Ok levels
 levels_of file None None = Ok Four
 levels_of file None (Some note) = and_then (of_dump (register_of file note 424)) (λ cr4. Ok (levels_by cr4))
 
--- the start at the root of a CR3, with these levels
-abbrev pub start_at : Origin → (cr3 : ℕ) → Result Levels Failure → Result Start Failure
-start_at origin cr3 levels = and_then levels (λ levels. Ok (record { root = address cr3; levels = levels; origin = origin }))
+-- the start at the root of a CR3 that the request gives, with these levels
+abbrev pub start_by_request : (cr3 : ℕ) → Levels → Start
+start_by_request cr3 levels = record { root = address cr3; levels = levels; origin = ByRequest; noted_levels = None; registers = None }
+
+-- the start at the root of a processor. Levels that are given go before those that CR4 says
+abbrev pub start_by_processor : (given : Option Levels) → Registers → Start
+start_by_processor given r = record {
+  root = address r.cr3;
+  levels = unwrap_or given (levels_by r.cr4);
+  origin = ByProcessor;
+  noted_levels = Some (levels_by r.cr4);
+  registers = Some r;
+}
 
 -- what says where the kernel's root is: the first of the texts in memory, or if there are none the note
 abbrev pub origin_by : (first : Option KernelText) → Origin
@@ -78,7 +88,13 @@ abbrev pub origin_of : Contents → Origin
 origin_of dump = origin_by (slice_get dump.texts 0)
 
 abbrev pub start_by : Contents → (levels : Option Levels) → Option Kernel → Result Start Failure
-start_by dump levels (Some kernel) = Ok (record { root = kernel.root; levels = unwrap_or levels kernel.levels; origin = origin_of dump })
+start_by dump levels (Some kernel) = Ok (record {
+  root = kernel.root;
+  levels = unwrap_or levels kernel.levels;
+  origin = origin_of dump;
+  noted_levels = Some kernel.levels;
+  registers = None;
+})
 start_by dump levels None = Err (if is_of_virtualbox dump then failures.VirtualBox else failures.NoCr3)
 
 -- the start at the kernel's root, by Linux's VMCOREINFO
@@ -87,9 +103,9 @@ kernel_start dump levels = and_then (of_dump (kernel_in dump)) (start_by dump le
 
 -- the start at the CR3 of the request, or else of a processor, or else at the kernel's root
 abbrev pub start_with : Request → Contents → (given : Option ℕ) → Option Note → Result Start Failure
-start_with request dump (Some cr3) note = start_at ByRequest cr3 (levels_of dump.file request.levels note)
-start_with request dump None (Some note) = and_then (cr3_in dump.file (unwrap_or request.cpu 0) note) (λ cr3.
-    start_at ByProcessor cr3 (levels_of dump.file request.levels (Some note)))
+start_with request dump (Some cr3) note = and_then (levels_of dump.file request.levels note) (λ levels. Ok (start_by_request cr3 levels))
+start_with request dump None (Some note) = and_then (paging_registers dump.file (unwrap_or request.cpu 0) note) (λ r.
+    Ok (start_by_processor request.levels r))
 start_with request dump None None = kernel_start dump request.levels
 
 unfoldable pub start_of : Request → Contents → Result Start Failure

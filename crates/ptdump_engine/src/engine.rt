@@ -94,8 +94,8 @@ pub fn run<S: ByteSource, W: Destination, E: Destination, G: Progress>(
     }
     let start = start_for(alloc, &dump, &request)?;
     write_source(start.origin, &mut notes)?;
-    write_levels(alloc, &dump, &request, start.origin, &mut notes)?;
-    let resolved = with_noted_controls(alloc, &dump, request)?;
+    write_levels(request.levels, start.noted_levels, &mut notes)?;
+    let resolved = with_noted_controls(alloc, &dump, request, start.registers)?;
     report_from(
         alloc, &dump, &start, &resolved, writer, &mut notes, progress,
     )

@@ -26,7 +26,7 @@ const SMEP: u64 = 0x10_0000;
 const SMAP: u64 = 0x20_0000;
 
 /// Returns a request, with the controls of its walk that the note of its processor tells in place of assumed ones. A note tells them
-/// if it isn't too short, and the processor is in 64-bit paging.
+/// if it isn't too short, and the processor is in 64-bit paging. It isn't read if its registers were read before.
 ///
 /// # Errors
 ///
@@ -35,13 +35,14 @@ pub fn with_noted_controls<S: ByteSource>(
     alloc: Global,
     dump: &Dump<S>,
     request: Request,
+    read: Option<Registers>,
 ) -> Result<Request, Failure>
     ensures request { S.IsKnown → Finds S.may_fail result
-        (Ok (specs.resolved request (opened S.bytes dump.now))) }
+        (Ok (specs.resolved request (opened S.bytes dump.now) read)) }
     ensures tested { IsTested request.command → IfOk result (λ resolved. IsTested resolved.command) }
 {
     let cpu = request.cpu.unwrap_or(0);
-    let command = command_by_note(alloc, dump, cpu, request.command)?;
+    let command = command_by_note(alloc, dump, cpu, read, request.command)?;
     Ok(Request { command, ..request })
 }
 
@@ -50,15 +51,16 @@ fn command_by_note<S: ByteSource>(
     alloc: Global,
     dump: &Dump<S>,
     cpu: u64,
+    read: Option<Registers>,
     command: Command,
 ) -> Result<Command, Failure>
     ensures command { S.IsKnown → Finds S.may_fail result
-        (Ok (specs.command_by (specs.noted_registers cpu (opened S.bytes dump.now)) command)) }
+        (Ok (specs.command_by (specs.registers_for read cpu (opened S.bytes dump.now)) command)) }
     ensures tested { IsTested command → IfOk result IsTested }
 {
     match command {
         Command::Walk { addresses, options } => {
-            let options = options_by_note(alloc, dump, cpu, options)?;
+            let options = options_by_note(alloc, dump, cpu, read, options)?;
             Ok(Command::Walk { addresses, options })
         }
         other => Ok(other),
@@ -70,14 +72,15 @@ fn options_by_note<S: ByteSource>(
     alloc: Global,
     dump: &Dump<S>,
     cpu: u64,
+    read: Option<Registers>,
     options: WalkOptions,
 ) -> Result<WalkOptions, Failure>
     ensures { S.IsKnown → Finds S.may_fail result (Ok (specs.options_by options.source
-        (specs.noted_registers cpu (opened S.bytes dump.now)) options)) }
+        (specs.registers_for read cpu (opened S.bytes dump.now)) options)) }
 {
     match options.source {
         ControlsSource::Assumed => {
-            let registers = noted_registers(alloc, dump, cpu)?;
+            let registers = registers_for(alloc, dump, cpu, read)?;
             Ok(options_by(registers, options))
         }
         ControlsSource::Given | ControlsSource::Noted => Ok(options),
@@ -108,6 +111,22 @@ fn controls_by(registers: Registers, controls: Controls) -> Controls
         smep: registers.cr4 & SMEP == SMEP,
         smap: registers.cr4 & SMAP == SMAP,
         ..controls
+    }
+}
+
+/// Returns the control registers that were read, or else those that the note of a processor tells.
+fn registers_for<S: ByteSource>(
+    alloc: Global,
+    dump: &Dump<S>,
+    cpu: u64,
+    read: Option<Registers>,
+) -> Result<Option<Registers>, Failure>
+    ensures { S.IsKnown → Finds S.may_fail result
+        (Ok (specs.registers_for read cpu (opened S.bytes dump.now))) }
+{
+    match read {
+        Some(registers) => Ok(Some(registers)),
+        None => noted_registers(alloc, dump, cpu),
     }
 }
 

@@ -10,7 +10,7 @@ use crate::failure::Failure;
 use crate::mode::Mode;
 use crate::registers::Registers;
 use crate::request::Levels;
-use crate::start::{Origin, Start, levels_by, start_at};
+use crate::start::{Start, start_by_processor};
 use std::alloc::Global;
 use x86_64_dump::{ByteSource, Dump, Note};
 
@@ -30,11 +30,10 @@ impl Processor {
     fn new(cpu: usize, registers: Registers, given: Option<Levels>) -> Processor
         ensures { result ≡ specs.processor_with given cpu registers }
     {
-        let levels = given.unwrap_or(levels_by(registers.cr4));
         Processor {
             cpu,
             mode: Mode::of(registers.cr0, registers.cr4),
-            start: start_at(Origin::ByProcessor, registers.cr3, levels),
+            start: start_by_processor(given, registers),
         }
     }
 

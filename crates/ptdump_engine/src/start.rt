@@ -1,5 +1,5 @@
 //! The start of page walks.
-ghost use Rattle.std.specs.Prelude.{◌≡◌, Ok};
+ghost use Rattle.std.specs.Prelude.{◌≡◌};
 ghost use Rattle.x86_64_dump.specs.Notes.{processors_of};
 ghost use Rattle.x86_64_dump.specs.Opened.{opened};
 ghost use Rattle.x86_64_model.specs.Entry.{address};
@@ -44,6 +44,10 @@ pub struct Start {
     pub levels: Levels,
     /// What says where the root is.
     pub origin: Origin,
+    /// The number of levels that the dump says, if it says where the root is.
+    pub noted_levels: Option<Levels>,
+    /// The control registers of the processor that says where the root is, if one does.
+    pub registers: Option<Registers>,
 }
 
 /// Determines the start of page walks from the request, a processor's note, or VMCOREINFO.
@@ -78,25 +82,40 @@ fn start_with<S: ByteSource>(
     match (request.cr3, note) {
         (Some(cr3), note) => {
             let levels = levels_of(dump, request.levels, note)?;
-            Ok(start_at(Origin::ByRequest, cr3, levels))
+            Ok(start_by_request(cr3, levels))
         }
         (None, Some(note)) => {
-            let cr3 = cr3_in(dump, request.cpu.unwrap_or(0), &note)?;
-            let levels = levels_of(dump, request.levels, Some(note))?;
-            Ok(start_at(Origin::ByProcessor, cr3, levels))
+            let registers = paging_registers(dump, request.cpu.unwrap_or(0), &note)?;
+            Ok(start_by_processor(request.levels, registers))
         }
         (None, None) => kernel_start(alloc, dump, request.levels),
     }
 }
 
-/// Returns the start at the root of a CR3.
-pub fn start_at(origin: Origin, cr3: u64, levels: Levels) -> Start
-    ensures { Ok result ≡ starts.start_at origin cr3 (Ok levels) }
+/// Returns the start at the root of a CR3 that the request gives.
+fn start_by_request(cr3: u64, levels: Levels) -> Start
+    ensures { result ≡ starts.start_by_request cr3 levels }
 {
     Start {
         root: root_of(cr3),
         levels,
-        origin,
+        origin: Origin::ByRequest,
+        noted_levels: None,
+        registers: None,
+    }
+}
+
+/// Returns the start at the root of a processor. Levels that are given go before those that CR4 says.
+pub fn start_by_processor(given: Option<Levels>, registers: Registers) -> Start
+    ensures { result ≡ starts.start_by_processor given registers }
+{
+    let noted = levels_by(registers.cr4);
+    Start {
+        root: root_of(registers.cr3),
+        levels: given.unwrap_or(noted),
+        origin: Origin::ByProcessor,
+        noted_levels: Some(noted),
+        registers: Some(registers),
     }
 }
 
@@ -114,6 +133,8 @@ fn kernel_start<S: ByteSource>(
             root: kernel.root,
             levels: levels.unwrap_or(kernel.levels),
             origin: origin_of(dump),
+            noted_levels: Some(kernel.levels),
+            registers: None,
         });
     }
     if dump.is_of_virtualbox(alloc)? {
@@ -163,15 +184,19 @@ fn note_of(notes: &[Note], cpu: u64) -> Result<Option<Note>, Failure>
     }
 }
 
-/// Reads the CR3 of a processor in 64-bit paging from its note.
-#[tactic(auto, unfolding(crate::specs::Start::cr3_in))]
-fn cr3_in<S: ByteSource>(dump: &Dump<S>, cpu: u64, note: &Note) -> Result<u64, Failure>
+/// Reads the control registers of a processor in 64-bit paging from its note.
+#[tactic(auto, unfolding(crate::specs::Start::paging_registers))]
+fn paging_registers<S: ByteSource>(
+    dump: &Dump<S>,
+    cpu: u64,
+    note: &Note,
+) -> Result<Registers, Failure>
     ensures { S.IsKnown → Finds S.may_fail result
-        (starts.cr3_in (opened S.bytes dump.now).file cpu note.now) }
+        (starts.paging_registers (opened S.bytes dump.now).file cpu note.now) }
 {
     let registers = Registers::read(dump, note)?;
     match Mode::of(registers.cr0, registers.cr4) {
-        Mode::Paging64 => Ok(registers.cr3),
+        Mode::Paging64 => Ok(registers),
         mode => Err(Failure::WrongMode { cpu, mode }),
     }
 }

@@ -3,7 +3,7 @@ use Rattle.std.proofs.KnownBytes.{Appends-trans}
 use Rattle.x86_64_dump.specs.Dump.{words_of_dump}
 use Rattle.x86_64_dump.specs.Opened.{opened}
 use Rattle.ptdump_engine.specs.Failure.{failure_of}
-use Rattle.ptdump_engine.specs.NotedControls.{command_by, noted_registers, resolved}
+use Rattle.ptdump_engine.specs.NotedControls.{command_by, registers_for, resolved}
 use Rattle.ptdump_engine.specs.NotedLevels.{levels_text}
 use Rattle.ptdump_engine.specs.Program.{EndsByTotals, Machine, Notes, NotesAs, NotesOnTables, Reports, ReportsAll, RunsAs, ToldAs, ToldOfTablesOf, is_image, is_info, is_of_processors, level_count, opening_text, source_text}
 use Rattle.ptdump_engine.specs.Processors.{firsts_of}
@@ -11,7 +11,7 @@ use Rattle.ptdump_engine.specs.Steps.{InTurn, of_dump}
 use Rattle.std.specs.Io.KnownBytes.{Appends}
 use Rattle.ptdump_engine.specs.Output.{put_in}
 use Rattle.ptdump_engine.specs.private.Roots.{AreNoted}
-use Rattle.ptdump_engine.proofs.Failing.{forced_found, forced_second}
+use Rattle.ptdump_engine.proofs.Failing.{forced_found}
 use Rattle.ptdump_engine.proofs.Resolved.{same_ends, same_image}
 use Rattle.ptdump_engine.proofs.Results.{if_err, on_ok}
 use Rattle.ptdump_engine.proofs.Wholly.{forced_run, no_processors, no_start, opens, put_first, puts_both, runs_by, runs_on_all, shows, tells_of, unopened, written_at_once}
@@ -171,8 +171,8 @@ returns-clause-run g c = λ known.
     let after = contents c.report_from.new.writer in
     let not : is_info request.command ≡ false = sym c.is_info.ensures ∙ c.if-is_info.false in
     let one : is_of_processors request ≡ false = sym c.is_of_processors.ensures ∙ c.if-is_of_processors.false in
-    let found : Ok (resolved request dump) ≡ Ok c.in_ok-resolved.resolved = c.in_ok-resolved.ensures.request known in
-    let is : c.in_ok-resolved.resolved ≡ resolved request dump = cc in
+    let found : Ok (resolved request dump start.registers) ≡ Ok c.in_ok-resolved.resolved = c.in_ok-resolved.ensures.request known in
+    let is : c.in_ok-resolved.resolved ≡ resolved request dump start.registers = cc in
     subst (λ info. RunsAs info (is_of_processors request) fails may request file before after c.report_from.result) (sym not)
     (subst (λ all. RunsAs false all fails may request file before after c.report_from.result) (sym one)
     (runs_by fails may request file before after (record { dump = dump; start = start }) c.report_from.result
@@ -192,18 +192,6 @@ returns-clause-told g c = λ known.
     (subst (λ all. OnOk c.report_from.result (ToldAs false all g.G.Progress.Told g.G.Progress.Ended request file c.args.progress.now c.report_from.new.progress)) (sym one)
     (on_ok c.report_from.result (λ told. (record { dump = dump; start = start }, opens request file dump start (c.in_ok-dump.ensures known) (c.in_ok-start.ensures.start known), told))
     (c.report_from.ensures.told known)))
-
-pub returns-in_err-write_levels-clause-run : goal.returns-in_err-write_levels-clause-run
-returns-in_err-write_levels-clause-run g c = λ known.
-    let request = c.args.request in
-    let fails = g.S.ByteSource.may_fail in
-    let a = g.W.Destination.may_refuse in
-    let b = g.E.Destination.may_refuse in
-    let contents = g.W.Destination.contents in
-    let failure = c.in_err-write_levels.field-0.0 in
-    let is : c.from_residual-in_err-write_levels.result ≡ Err failure = search rules in
-    rw is (forced_run (is_info request.command) (is_of_processors request) fails (a || b) request (g.S.ByteSource.bytes c.args.source) (contents c.args.writer.now) (contents c.args.writer.now) failure
-    (forced_second fails a b failure (c.in_err-write_levels.ensures.errors known)))
 
 pub returns-in_err-resolved-clause-run : goal.returns-in_err-resolved-clause-run
 returns-in_err-resolved-clause-run g c = λ known.
@@ -225,16 +213,16 @@ returns-clause-notes g c = λ known.
     let contents = g.E.Destination.contents in
     let not : is_info request.command ≡ false = sym c.is_info.ensures ∙ c.if-is_info.false in
     let one : is_of_processors request ≡ false = sym c.is_of_processors.ensures ∙ c.if-is_of_processors.false in
-    let text = opening_text dump ++ source_text start.origin ++ levels_text request dump start.origin in
+    let text = opening_text dump ++ source_text start.origin ++ levels_text request.levels start.noted_levels in
     let ended = c.write_levels.new.notes in
     let both = puts_both contents c.new-notes.result c.write_opening.new.notes c.write_source.new.notes (opening_text dump) (source_text start.origin) (c.in_ok-write_opening.ensures.text known) c.in_ok-write_source.ensures.text in
-    let all = puts_both contents c.new-notes.result c.write_source.new.notes ended (opening_text dump ++ source_text start.origin) (levels_text request dump start.origin) both (c.in_ok-write_levels.ensures.text known) in
+    let all = puts_both contents c.new-notes.result c.write_source.new.notes ended (opening_text dump ++ source_text start.origin) (levels_text request.levels start.noted_levels) both c.in_ok-write_levels.ensures in
     let told = put_first contents c.new-notes.result ended text c.new-notes.ensures.empty all in
     let begun : Appends (contents c.args.errors.now) (put_in contents ended) text =
     subst (λ e. Appends (contents e) (put_in contents ended) text) c.new-notes.ensures.now told in
-    let registers = noted_registers (unwrap_or request.cpu 0) dump in
-    let found : Ok (resolved request dump) ≡ Ok c.in_ok-resolved.resolved = c.in_ok-resolved.ensures.request known in
-    let as_noted : c.in_ok-resolved.resolved ≡ resolved request dump = cc in
+    let registers = registers_for start.registers (unwrap_or request.cpu 0) dump in
+    let found : Ok (resolved request dump start.registers) ≡ Ok c.in_ok-resolved.resolved = c.in_ok-resolved.ensures.request known in
+    let as_noted : c.in_ok-resolved.resolved ≡ resolved request dump start.registers = cc in
     let is : c.in_ok-resolved.resolved.command ≡ command_by registers request.command = ap (λ r. r.command) as_noted in
     on_ok c.report_from.result (λ totals not_image. let ends = totals (ap is_image is ∙ same_image registers request.command ∙ not_image) in let same = ends.0 in let tied = all.writer in
     let tables : NotesOnTables request file (contents c.args.errors.now) (contents c.report_from.new.notes.writer.now) = (
