@@ -1,9 +1,9 @@
 //! Standard output, to which reports are written.
 ghost use Rattle.std.specs.IoError.{error_kind};
-ghost use Rattle.std.specs.Prelude.{◌≡◌, IfErr, false, true};
+ghost use Rattle.std.specs.Prelude.{◌≡◌, IfErr, IfOk, false, true};
 
 use ptdump_engine::Destination;
-use std::io::{ErrorKind, Result, Stdout, Write};
+use std::io::{ErrorKind, Result, Stdout};
 
 /// Standard output, and whether it is a pipe whose reader has left, as `head` does.
 #[derive(Drop)]
@@ -36,6 +36,7 @@ impl StandardOutput {
             error_kind error ≡ ErrorKind.BrokenPipe → self.new.has_reader_left ≡ true) }
         ensures other { IfErr written.now (λ error.
             ¬ (error_kind error ≡ ErrorKind.BrokenPipe) → self.new.has_reader_left ≡ false) }
+        ensures same { IfOk written.now (λ _. self.new.has_reader_left ≡ self.old.has_reader_left) }
     {
         if let Err(error) = written {
             self.has_reader_left = error.kind() == ErrorKind::BrokenPipe;
@@ -53,12 +54,12 @@ impl Destination for StandardOutput {
     ghost may_refuse = { true };
 
     fn write_all(&mut self, bytes: &[u8]) -> Result<()> {
-        let written = Write::write_all(&mut self.stdout, bytes);
+        let written = Destination::write_all(&mut self.stdout, bytes);
         self.note(&written);
         written
     }
 
     fn flush(&mut self) -> Result<()> {
-        Write::flush(&mut self.stdout)
+        Destination::flush(&mut self.stdout)
     }
 }
