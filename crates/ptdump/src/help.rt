@@ -73,11 +73,15 @@ pub static COMMANDS: [CommandHelp; 8] = [
         name: "regions",
         about: "List what is mapped, region by region",
         addresses: None,
-        options: &["from", "to", "rights", "all-cpus", "json"],
+        options: &["from", "to", "rights", "columns", "all-cpus", "json"],
         more: "\
 A region is as long as addresses go on without a gap and with the same rights.
 Each line is FIRST-LAST SIZE RIGHTS: its first and last address, how long it is,
 and what may be done there: r read, w write, x execute, u by user code.
+
+On a terminal the columns are aligned, each as wide as any text in it can be,
+and a line is FIRST - LAST SIZE RIGHTS. Elsewhere a space is between columns.
+--columns aligned and --columns plain say which of these it is.
 
 --from and --to list only regions that reach into these addresses, the last one
 included, as they are; --rights only those with at least these of the letters
@@ -105,6 +109,16 @@ Examples:
   0x403000-0x403fff 4KiB r--u
   0x405000-0x406fff 8KiB rw-u
   tables 13, mappings 18, mapped 1.0GiB
+  $ ptdump regions machine.elf --columns aligned --from 0x405000
+  0x405000           - 0x406fff                        8KiB rw-u
+  0x10000000         - 0x103fffff                      4MiB rw-u
+  0x7fffffffc000     - 0x7fffffffdfff                  8KiB rw-u
+  0xffff800000000000 - 0xffff80003fffffff              1GiB rw--
+  0xffffffff80000000 - 0xffffffff80000fff              4KiB r-x-
+  0xffffffff80001000 - 0xffffffff80002fff              8KiB r---
+  0xffffffff80003000 - 0xffffffff80004fff              8KiB rw--
+  0xffffffffff600000 - 0xffffffffff600fff              4KiB r-xu
+  tables 13, mappings 18, mapped 1.0GiB
   $ ptdump regions machine.elf
   0x0-0x1fffff 2MiB rwx-
   0x400000-0x402fff 12KiB r-xu
@@ -123,12 +137,16 @@ Examples:
         name: "pages",
         about: "List all mappings, page by page",
         addresses: None,
-        options: &["from", "to", "rights", "names", "json"],
+        options: &["from", "to", "rights", "names", "columns", "json"],
         more: "\
 Each line is START SIZE FRAME RIGHTS FLAGS: the page's first address, its size,
 the physical address to which it leads, what may be done there (r read, w write,
 x execute, u by user code; what all entries on the way allow), and the flags of
 the page's own entry, bits 0 to 11 and 52 to 63.
+
+On a terminal the columns are aligned, each as wide as any text in it can be.
+Elsewhere a space is between columns. --columns aligned and --columns plain say
+which of these it is.
 
 --from and --to list only pages that reach into these addresses, the last one
 included; --rights only those with at least these of the letters r, w, x and u.
@@ -149,6 +167,12 @@ Examples:
   0x405000 4KiB 0x204000 rw-u 0x8000000000000067 P,W,U,A,D,NX
   0x406000 4KiB 0x207000 rw-u 0x8000000000000007 P,W,U,NX
   0x10000000 2MiB 0x400000 rw-u 0x8000000000000087 P,W,U,PS,NX
+  tables 13, mappings 18, mapped 1.0GiB
+  $ ptdump pages machine.elf --columns aligned --from 0x405000 --to 0x10200000
+  0x405000           4KiB 0x204000        rw-u 0x8000000000000067
+  0x406000           4KiB 0x207000        rw-u 0x8000000000000007
+  0x10000000         2MiB 0x400000        rw-u 0x8000000000000087
+  0x10200000         2MiB 0x600000        rw-u 0x8000000000000087
   tables 13, mappings 18, mapped 1.0GiB
   $ ptdump pages machine.elf --from 0x402fff --to 0x10200000 --rights wu
   0x405000 4KiB 0x204000 rw-u 0x8000000000000067

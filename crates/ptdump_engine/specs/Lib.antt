@@ -1,5 +1,6 @@
 pub mod Accesses
 pub mod Aliases
+pub mod Columns
 pub mod Explanations
 pub mod Failure
 pub mod FailureTexts
