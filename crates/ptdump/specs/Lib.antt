@@ -1,6 +1,7 @@
 pub mod Asked
 pub mod DirectMaps
 pub mod Exit
+pub mod Listings
 pub mod Numbers
 pub mod Options
 pub mod Placements

@@ -13,6 +13,7 @@ use Rattle.ptdump_engine.specs.declared.request.Request.{Request}
 use Rattle.ptdump_engine.specs.declared.failure.Failure.TheVariants.{OutOfMemory}
 use Rattle.ptdump.specs.Asked.{AreAsked, IsBits}
 use Rattle.ptdump.specs.DirectMaps.{IsDirectMap}
+use Rattle.ptdump.specs.Listings.{columns_for}
 use Rattle.ptdump.specs.Options.{IsFlag, IsOption}
 use Rattle.ptdump.specs.Placements.{IsPlacement}
 use Rattle.ptdump.specs.Selections.{IsSelection}
@@ -55,10 +56,11 @@ abbrev pub is_json : Form → Bool
 is_json Text = false
 is_json Json = true
 
--- the request is that of the command with this name and these arguments
-pub record IsRequest (name : List ℕ) (found : Found) (request : Request) : Type 0 where
+-- the request is that of the command with this name and these arguments, with standard output a terminal or not
+pub record IsRequest (is_terminal : Bool) (name : List ℕ) (found : Found) (request : Request) : Type 0 where
   pub command : IsCommand name found request.command
   pub form : IsFlag (one_text found (codes "json")) (is_json request.form)
+  pub columns : request.columns ≡ columns_for is_terminal (first_value found (codes "columns"))
   pub cr3 : IsOption (first_value found (codes "cr3")) request.cr3
   pub vmcoreinfo : IsOption (first_value found (codes "vmcoreinfo")) request.vmcoreinfo
   pub levels : IsLevels (first_value found (codes "levels")) request.levels

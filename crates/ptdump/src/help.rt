@@ -42,7 +42,8 @@ means five levels).
 Numbers are decimal without zeros in front, or hexadecimal after 0x. Rights are
 four letters, or - for each one that is missing: r may be read, w written, x
 executed, u by user code.
-The last line, on standard error, counts tables and mappings.
+The last line, on standard error, counts tables and mappings, and says how much
+is mapped, rounded down.
 
 The exit status is 0 if all went well, 1 if there are findings or an address
 isn't found, 2 for mistakes in the command line, 3 for a file that can't be
@@ -62,7 +63,7 @@ Example, of a dump that the source of ptdump has in the folder examples:
   0xffffffff80001000-0xffffffff80002fff 8KiB r---
   0xffffffff80003000-0xffffffff80004fff 8KiB rw--
   0xffffffffff600000-0xffffffffff600fff 4KiB r-xu
-  tables 13, mappings 18, mapped 1054776KiB
+  tables 13, mappings 18, mapped 1.0GiB
 
 `ptdump COMMAND --help` has an example of each command.";
 
@@ -72,11 +73,15 @@ pub static COMMANDS: [CommandHelp; 8] = [
         name: "regions",
         about: "List what is mapped, region by region",
         addresses: None,
-        options: &["from", "to", "rights", "all-cpus", "json"],
+        options: &["from", "to", "rights", "columns", "all-cpus", "json"],
         more: "\
 A region is as long as addresses go on without a gap and with the same rights.
 Each line is FIRST-LAST SIZE RIGHTS: its first and last address, how long it is,
 and what may be done there: r read, w write, x execute, u by user code.
+
+On a terminal the columns are aligned, each as wide as any text in it can be,
+and a line is FIRST - LAST SIZE RIGHTS. Elsewhere a space is between columns.
+--columns aligned and --columns plain say which of these it is.
 
 --from and --to list only regions that reach into these addresses, the last one
 included, as they are; --rights only those with at least these of the letters
@@ -98,12 +103,22 @@ Examples:
   $ ptdump regions machine.elf --all-cpus --rights wx
   cpu 0 root 0x101000
   0x0-0x1fffff 2MiB rwx-
-  tables 13, mappings 18, mapped 1054776KiB
+  tables 13, mappings 18, mapped 1.0GiB
   $ ptdump regions machine.elf --from 0x402000 --to 0x405000
   0x400000-0x402fff 12KiB r-xu
   0x403000-0x403fff 4KiB r--u
   0x405000-0x406fff 8KiB rw-u
-  tables 13, mappings 18, mapped 1054776KiB
+  tables 13, mappings 18, mapped 1.0GiB
+  $ ptdump regions machine.elf --columns aligned --from 0x405000
+  0x405000           - 0x406fff                        8KiB rw-u
+  0x10000000         - 0x103fffff                      4MiB rw-u
+  0x7fffffffc000     - 0x7fffffffdfff                  8KiB rw-u
+  0xffff800000000000 - 0xffff80003fffffff              1GiB rw--
+  0xffffffff80000000 - 0xffffffff80000fff              4KiB r-x-
+  0xffffffff80001000 - 0xffffffff80002fff              8KiB r---
+  0xffffffff80003000 - 0xffffffff80004fff              8KiB rw--
+  0xffffffffff600000 - 0xffffffffff600fff              4KiB r-xu
+  tables 13, mappings 18, mapped 1.0GiB
   $ ptdump regions machine.elf
   0x0-0x1fffff 2MiB rwx-
   0x400000-0x402fff 12KiB r-xu
@@ -116,18 +131,22 @@ Examples:
   0xffffffff80001000-0xffffffff80002fff 8KiB r---
   0xffffffff80003000-0xffffffff80004fff 8KiB rw--
   0xffffffffff600000-0xffffffffff600fff 4KiB r-xu
-  tables 13, mappings 18, mapped 1054776KiB",
+  tables 13, mappings 18, mapped 1.0GiB",
     },
     CommandHelp {
         name: "pages",
         about: "List all mappings, page by page",
         addresses: None,
-        options: &["from", "to", "rights", "names", "json"],
+        options: &["from", "to", "rights", "names", "columns", "json"],
         more: "\
 Each line is START SIZE FRAME RIGHTS FLAGS: the page's first address, its size,
 the physical address to which it leads, what may be done there (r read, w write,
 x execute, u by user code; what all entries on the way allow), and the flags of
 the page's own entry, bits 0 to 11 and 52 to 63.
+
+On a terminal the columns are aligned, each as wide as any text in it can be.
+Elsewhere a space is between columns. --columns aligned and --columns plain say
+which of these it is.
 
 --from and --to list only pages that reach into these addresses, the last one
 included; --rights only those with at least these of the letters r, w, x and u.
@@ -148,13 +167,19 @@ Examples:
   0x405000 4KiB 0x204000 rw-u 0x8000000000000067 P,W,U,A,D,NX
   0x406000 4KiB 0x207000 rw-u 0x8000000000000007 P,W,U,NX
   0x10000000 2MiB 0x400000 rw-u 0x8000000000000087 P,W,U,PS,NX
-  tables 13, mappings 18, mapped 1054776KiB
+  tables 13, mappings 18, mapped 1.0GiB
+  $ ptdump pages machine.elf --columns aligned --from 0x405000 --to 0x10200000
+  0x405000           4KiB 0x204000        rw-u 0x8000000000000067
+  0x406000           4KiB 0x207000        rw-u 0x8000000000000007
+  0x10000000         2MiB 0x400000        rw-u 0x8000000000000087
+  0x10200000         2MiB 0x600000        rw-u 0x8000000000000087
+  tables 13, mappings 18, mapped 1.0GiB
   $ ptdump pages machine.elf --from 0x402fff --to 0x10200000 --rights wu
   0x405000 4KiB 0x204000 rw-u 0x8000000000000067
   0x406000 4KiB 0x207000 rw-u 0x8000000000000007
   0x10000000 2MiB 0x400000 rw-u 0x8000000000000087
   0x10200000 2MiB 0x600000 rw-u 0x8000000000000087
-  tables 13, mappings 18, mapped 1054776KiB
+  tables 13, mappings 18, mapped 1.0GiB
   $ ptdump pages machine.elf
   0x0 2MiB 0x0 rwx- 0xa3
   0x400000 4KiB 0x200000 r-xu 0x5
@@ -174,7 +199,7 @@ Examples:
   0xffffffff80003000 4KiB 0x222000 rw-- 0x8000000000000163
   0xffffffff80004000 4KiB 0x223000 rw-- 0x8000000000000103
   0xffffffffff600000 4KiB 0x226000 r-xu 0x105
-  tables 13, mappings 18, mapped 1054776KiB",
+  tables 13, mappings 18, mapped 1.0GiB",
     },
     CommandHelp {
         name: "walk",
@@ -224,7 +249,7 @@ Examples:
   page of 4KiB
   level 1 0x104000[1] has no write
   user-write faults at level 1, code 0x7, present, write, user (noted: +wp -smep -smap, assumed: +nxe -ac)
-  tables 13, mappings 18, mapped 1054776KiB
+  tables 13, mappings 18, mapped 1.0GiB
   $ ptdump walk machine.elf 0x405123 0x404000
   address 0x405123
   level 4 0x101000[0] 0x102027
@@ -238,7 +263,7 @@ Examples:
   level 2 0x103000[2] 0x104027
   level 1 0x104000[4] 0x5a0000
   not present
-  tables 13, mappings 18, mapped 1054776KiB",
+  tables 13, mappings 18, mapped 1.0GiB",
     },
     CommandHelp {
         name: "find",
@@ -259,18 +284,18 @@ Examples:
   $ ptdump find machine.elf 0x204123
   0x405123 rw-u
   0xffff800000204123 rw--
-  tables 13, mappings 18, mapped 1054776KiB
+  tables 13, mappings 18, mapped 1.0GiB
   $ ptdump find machine.elf 0x204123 0x7fffffff000
   physical 0x204123
   0x405123 rw-u
   0xffff800000204123 rw--
   physical 0x7fffffff000
   not found
-  tables 13, mappings 18, mapped 1054776KiB
+  tables 13, mappings 18, mapped 1.0GiB
   $ ptdump find machine.elf 0x204123 --json
   {\"address\":\"0x405123\",\"execute\":false,\"physical\":\"0x204123\",\"user\":true,\"write\":true}
   {\"address\":\"0xffff800000204123\",\"execute\":false,\"physical\":\"0x204123\",\"user\":false,\"write\":true}
-  tables 13, mappings 18, mapped 1054776KiB",
+  tables 13, mappings 18, mapped 1.0GiB",
     },
     CommandHelp {
         name: "check",
@@ -326,12 +351,12 @@ Examples:
   writable and executable 0x0-0x1fffff 2MiB rwx-
   user reaches upper half 0xffffffffff600000-0xffffffffff600fff 4KiB r-xu
   findings: 2
-  tables 13, mappings 18, mapped 1054776KiB
+  tables 13, mappings 18, mapped 1.0GiB
   $ ptdump check machine.elf --json
   {\"bytes\":2097152,\"execute\":true,\"finding\":\"writable and executable\",\"first\":\"0x0\",\"last\":\"0x1fffff\",\"user\":false,\"write\":true}
   {\"bytes\":4096,\"execute\":true,\"finding\":\"user reaches upper half\",\"first\":\"0xffffffffff600000\",\"last\":\"0xffffffffff600fff\",\"user\":true,\"write\":false}
   {\"findings\":2}
-  tables 13, mappings 18, mapped 1054776KiB",
+  tables 13, mappings 18, mapped 1.0GiB",
     },
     CommandHelp {
         name: "image",
@@ -363,7 +388,7 @@ Example:
   words without PRESENT above level one, left out: 0
   places: 14
   run: ./pagetab direct 14 < IMAGE
-  tables 13, mappings 18, mapped 1054776KiB
+  tables 13, mappings 18, mapped 1.0GiB
   $ echo walk 0x405123 | cat image.txt - | pagetab direct 14
   0x204123 write=1 user=1",
     },
@@ -379,7 +404,7 @@ rights, and the tables as a tree. A browser shows it.
 Example:
 
   $ ptdump picture machine.elf > machine.svg
-  tables 13, mappings 18, mapped 1054776KiB",
+  tables 13, mappings 18, mapped 1.0GiB",
     },
     CommandHelp {
         name: "info",

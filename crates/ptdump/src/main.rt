@@ -15,6 +15,7 @@ mod command_line;
 mod direct_map;
 mod flags;
 mod help;
+mod listing;
 mod numbers;
 mod options;
 mod placement;
@@ -67,7 +68,8 @@ fn run<'a>(rt: &HostRuntime, words: &'a [String]) -> Result<Outcome, Stop<'a>> {
     let matches = command.try_get_matches_from(words)?;
     match matches.subcommand() {
         Some((name, arguments)) => {
-            let request = request_of(rt.alloc(), name, arguments)?;
+            let is_terminal = rt.stdout().is_terminal();
+            let request = request_of(rt.alloc(), name, arguments, is_terminal)?;
             report_on(rt, path_of(arguments), request)
         }
         None => Err(Stop::NoCommand("")),

@@ -13,6 +13,8 @@ pub enum Takes {
     Nothing,
     /// A value, with the word that help has for it.
     Value(&'static str),
+    /// One of some words, with the word that help has for them.
+    OneOf(&'static str, &'static [&'static str]),
     /// A value each time that the option is given.
     Repeated(&'static str),
     /// Values with commas between them.
@@ -36,7 +38,7 @@ pub struct OptionHelp {
 }
 
 /// The options.
-pub static OPTIONS: [OptionHelp; 19] = [
+pub static OPTIONS: [OptionHelp; 20] = [
     OptionHelp {
         name: "from",
         takes: Takes::Value("ADDRESS"),
@@ -65,6 +67,14 @@ pub static OPTIONS: [OptionHelp; 19] = [
         name: "names",
         takes: Takes::Nothing,
         help: "Show the names of the flags that are set, too; not with --json",
+        excludes: &["json"],
+        needs: None,
+        is_common: false,
+    },
+    OptionHelp {
+        name: "columns",
+        takes: Takes::OneOf("HOW", &["plain", "aligned", "auto"]),
+        help: "Columns: plain, aligned or auto [default: auto]; not with --json",
         excludes: &["json"],
         needs: None,
         is_common: false,
@@ -218,6 +228,10 @@ impl OptionHelp {
         match self.takes {
             Takes::Nothing => argument.action(ArgAction::SetTrue),
             Takes::Value(name) => argument.value_name(name),
+            Takes::OneOf(name, words) => argument
+                .value_name(name)
+                .value_parser(words)
+                .hide_possible_values(true),
             Takes::Repeated(name) => argument.value_name(name).action(ArgAction::Append),
             Takes::List(name) => argument.value_name(name).value_delimiter(','),
         }

@@ -9,6 +9,7 @@ ghost use Rattle.x86_64_addr.specs.declared.level_count.Levels.{Levels};
 use crate::asked::{bits_of, options_of};
 use crate::direct_map::direct_map_of;
 use crate::flags::is_given;
+use crate::listing::columns_of;
 use crate::numbers::{NumberOption, numbers_of, option_of};
 use crate::placement::placement_of;
 use crate::selection::selection_of;
@@ -17,7 +18,7 @@ use clap::ArgMatches;
 use ptdump_engine::{Checking, Command, Form, Levels, Request};
 use std::alloc::Global;
 
-/// Returns the request for a command and its arguments.
+/// Returns the request for a command and its arguments, with standard output a terminal or not.
 ///
 /// # Errors
 ///
@@ -27,14 +28,16 @@ pub fn request_of<'a>(
     alloc: Global,
     name: &'a str,
     arguments: &ArgMatches<'a>,
+    is_terminal: bool,
 ) -> Result<Request, Stop<'a>>
-    ensures ok { IfOk result (IsRequest name.now (found_of arguments.now)) }
-    ensures err { IfErr result (IsUnread (IsRequest name.now (found_of arguments.now))) }
+    ensures ok { IfOk result (IsRequest is_terminal name.now (found_of arguments.now)) }
+    ensures err { IfErr result (IsUnread (IsRequest is_terminal name.now (found_of arguments.now))) }
     ensures reason { IfErr result (IsReasonFor name.now (found_of arguments.now)) }
 {
     Ok(Request {
         command: command_of(alloc, name, arguments)?,
         form: form_of(arguments),
+        columns: columns_of(arguments, is_terminal),
         cr3: option_of(arguments, NumberOption::Cr3)?,
         vmcoreinfo: option_of(arguments, NumberOption::VmCoreInfo)?,
         levels: levels_of(arguments)?,

@@ -30,3 +30,4 @@ pub mod Noted
 pub mod OnceInOrder
 pub mod Reaches
 pub mod FirstAliases
+pub mod Padded

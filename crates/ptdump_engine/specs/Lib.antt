@@ -1,5 +1,6 @@
 pub mod Accesses
 pub mod Aliases
+pub mod Columns
 pub mod Explanations
 pub mod Failure
 pub mod FailureTexts
@@ -33,6 +34,7 @@ pub mod FindingTexts
 pub mod Findings
 pub mod InOrder
 pub mod private
+pub use Rattle.ptdump_picture.specs.Sizes
 pub use Rattle.x86_64_dump.specs.Formats
 pub use Rattle.x86_64_dump.specs.Opening
 pub use Rattle.x86_64_mappings.specs.Texts

@@ -1,16 +1,16 @@
 -- Lines: what reports say of regions, mappings, searches and walks in each form, as lines of text or of JSON.
-use Rattle.std.specs.Prelude.{ℕ, ◌++◌, Bool, true, false, if◌then◌else◌, List, []}
+use Rattle.std.specs.Prelude.{ℕ, ◌++◌, Bool, if◌then◌else◌, List, []}
 use Rattle.serde_json.specs.Data.{Data}
-use Rattle.x86_64_mappings.specs.Texts.{mapping_text, region_text}
 use Rattle.x86_64_model.specs.Mappings.{Mapping, Rights}
 use Rattle.x86_64_model.specs.Memory.{Words}
 use Rattle.x86_64_model.specs.Position.{raw}
 use Rattle.x86_64_model.specs.Regions.{Region}
 use Rattle.ptdump_engine.specs.Accesses.{asked_text}
+use Rattle.ptdump_engine.specs.Columns.{mapping_in, region_in}
 use Rattle.ptdump_engine.specs.Explanations.{explanation_text}
 use Rattle.ptdump_engine.specs.Json.{json_line, json_of_asked, json_of_found, json_of_mapping, json_of_region, json_of_walk}
-use Rattle.ptdump_engine.specs.Names.{named_text}
 use Rattle.ptdump_engine.specs.Walks.{line, rights_at_text, walk_of, walk_text}
+use Rattle.ptdump_engine.specs.declared.request.Columns.{Columns}
 use Rattle.ptdump_engine.specs.declared.request.Form.{Form}
 use Rattle.ptdump_engine.specs.declared.request.Form.TheVariants.{Text, Json}
 use Rattle.ptdump_engine.specs.declared.request.WalkOptions.{WalkOptions}
@@ -20,14 +20,12 @@ abbrev pub line_in : Form → (text : List ℕ) → (value : Data) → List ℕ
 line_in Text text value = line text
 line_in Json text value = json_line value
 
-abbrev pub region_line : Form → (L : ℕ) → Region → List ℕ
-region_line form L r = line_in form (region_text L r) (json_of_region L r)
+abbrev pub region_line : Form → Columns → (L : ℕ) → Region → List ℕ
+region_line form columns L r = line_in form (region_in columns L r) (json_of_region L r)
 
 -- a line of text has the names of the flags too if they are asked for
-abbrev pub mapping_line : Form → (has_names : Bool) → (L : ℕ) → Mapping → List ℕ
-mapping_line Text true L m = line (named_text L m)
-mapping_line Text false L m = line (mapping_text L m)
-mapping_line Json has_names L m = json_line (json_of_mapping L m)
+abbrev pub mapping_line : Form → Columns → (has_names : Bool) → (L : ℕ) → Mapping → List ℕ
+mapping_line form columns has_names L m = line_in form (mapping_in columns has_names L m) (json_of_mapping L m)
 
 -- the line for an address that leads to a physical address, with the rights there
 abbrev pub found_line : Form → (physical address : ℕ) → Rights → List ℕ

@@ -36,6 +36,7 @@ use Rattle.ptdump_engine.specs.Walks.{line}
 use Rattle.ptdump_engine.specs.declared.failure.Failure.{Failure}
 use Rattle.ptdump_engine.specs.declared.failure.Failure.TheVariants as failures
 use Rattle.ptdump_engine.specs.declared.request.AddressRange.{AddressRange}
+use Rattle.ptdump_engine.specs.declared.request.Columns.{Columns}
 use Rattle.ptdump_engine.specs.declared.request.Command.{Command}
 use Rattle.ptdump_engine.specs.declared.request.Command.TheVariants as commands
 use Rattle.x86_64_addr.specs.declared.level_count.Levels.{Levels}
@@ -191,18 +192,18 @@ machine_for request file = and_then (dump_for request file) (λ dump.
 
 -- ---- the output
 
--- the report of a command on tables in a form, or None if it isn't specified here. `info` is about the dump alone (`info_of`)
-abbrev pub report_in : Form → Command → (L : ℕ) → Words → (root : ℕ) → Option (List ℕ)
-report_in form (commands.Regions selection) L T root = Some (regions_text selection form L T root)
-report_in form (commands.Pages selection has_names) L T root = Some (pages_text selection has_names form L T root)
-report_in form (commands.Walk addresses asked) L T root = Some (walks_text form (are_several addresses.items) L T root asked addresses.items)
-report_in form (commands.Find addresses) L T root = Some (find_text form (are_several addresses.items) L T root addresses.items)
-report_in form (commands.Check checking) L T root = Some (check_text form checking L T root)
-report_in form commands.Info L T root = Some []
-report_in form command L T root = None
+-- the report of a command on tables in a form and columns, or None if it isn't specified here. `info` is about the dump alone (`info_of`)
+abbrev pub report_in : Form → Columns → Command → (L : ℕ) → Words → (root : ℕ) → Option (List ℕ)
+report_in form columns (commands.Regions selection) L T root = Some (regions_text selection form columns L T root)
+report_in form columns (commands.Pages selection has_names) L T root = Some (pages_text selection has_names form columns L T root)
+report_in form columns (commands.Walk addresses asked) L T root = Some (walks_text form (are_several addresses.items) L T root asked addresses.items)
+report_in form columns (commands.Find addresses) L T root = Some (find_text form (are_several addresses.items) L T root addresses.items)
+report_in form columns (commands.Check checking) L T root = Some (check_text form checking L T root)
+report_in form columns commands.Info L T root = Some []
+report_in form columns command L T root = None
 
 abbrev pub report_of : Request → (L : ℕ) → Words → (root : ℕ) → Option (List ℕ)
-report_of request = report_in request.form request.command
+report_of request = report_in request.form request.columns request.command
 
 -- whether the request is fulfilled: each walk or its access arrives, each physical address is found, a check finds nothing
 abbrev pub completeness_of : Command → (L : ℕ) → Words → (root : ℕ) → Bool

@@ -11,18 +11,19 @@ use Rattle.ptdump_engine.specs.Accesses.{is_there}
 use Rattle.ptdump_engine.specs.Lines.{found_line, mapping_line, region_line, walk_lines}
 use Rattle.x86_64_mappings.specs.Selections.{is_mapping_selected, is_selected}
 use Rattle.ptdump_engine.specs.Walks.{line}
+use Rattle.ptdump_engine.specs.declared.request.Columns.{Columns}
 use Rattle.ptdump_engine.specs.declared.request.Form.{Form}
 use Rattle.ptdump_engine.specs.declared.request.Form.TheVariants.{Text}
 use Rattle.x86_64_mappings.specs.declared.selection.Selection.{Selection}
 use Rattle.ptdump_engine.specs.declared.request.WalkOptions.{WalkOptions}
 
 -- a line for each region that is selected
-unfoldable pub regions_text : Selection → Form → (L : ℕ) → Words → (root : ℕ) → List ℕ
-regions_text s form L T root = flat_map (region_line form L) (filter (is_selected L s) (regions_of L T root))
+unfoldable pub regions_text : Selection → Form → Columns → (L : ℕ) → Words → (root : ℕ) → List ℕ
+regions_text s form columns L T root = flat_map (region_line form columns L) (filter (is_selected L s) (regions_of L T root))
 
 -- a line for each mapping that is selected
-unfoldable pub pages_text : Selection → (has_names : Bool) → Form → (L : ℕ) → Words → (root : ℕ) → List ℕ
-pages_text s has_names form L T root = flat_map (mapping_line form has_names L) (filter (is_mapping_selected L s) (mappings_of L T root))
+unfoldable pub pages_text : Selection → (has_names : Bool) → Form → Columns → (L : ℕ) → Words → (root : ℕ) → List ℕ
+pages_text s has_names form columns L T root = flat_map (mapping_line form columns has_names L) (filter (is_mapping_selected L s) (mappings_of L T root))
 
 -- the line above what is said of an address if it is one of several, as text. An object of JSON has the address itself
 abbrev pub heading_line : Form → (several : Bool) → (name : List ℕ) → (address : ℕ) → List ℕ

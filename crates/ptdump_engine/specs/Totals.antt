@@ -1,13 +1,13 @@
 -- Totals: the number of tables that were read, and how much they map.
 use Rattle.std.specs.Prelude.{◌≡◌, ◌++◌, ℕ, List, codes, decimal, length, sum_by}
+use Rattle.ptdump_picture.specs.Sizes.{short_size}
 use Rattle.x86_64_dump.specs.Loaded.{IsTableCount}
-use Rattle.x86_64_mappings.specs.Texts.{size_text}
 use Rattle.x86_64_model.specs.Mappings.{Mapping, mappings_of}
 use Rattle.x86_64_model.specs.Memory.{Words}
 use Rattle.ptdump_engine.specs.declared.totals.Totals.{Totals}
 
 abbrev pub totals_text : Totals → List ℕ
-totals_text t = codes "tables " ++ decimal t.tables ++ codes ", mappings " ++ decimal t.mappings ++ codes ", mapped " ++ size_text t.bytes
+totals_text t = codes "tables " ++ decimal t.tables ++ codes ", mappings " ++ decimal t.mappings ++ codes ", mapped " ++ short_size t.bytes
 
 -- the number and the size of these mappings
 abbrev pub IsMapped : List Mapping → Totals → Type 0

@@ -1,6 +1,7 @@
 pub mod Aliasing
 pub mod AliasingLaws
 pub mod AliasingLines
+pub mod Aligning
 pub mod Alike
 pub mod Ascending
 pub mod Asked

@@ -296,16 +296,17 @@ fn write_report<L: LevelCount, S: ByteSource, W: Destination, E: Destination>(
     ensures errors { IfErr result (IsForced S.may_fail (W.may_refuse || E.may_refuse)) }
 {
     let form = request.form;
+    let columns = request.columns;
     match &request.command {
         Command::Regions(selection) => {
-            write_regions(alloc, loaded, *selection, form, output)?;
+            write_regions(alloc, loaded, *selection, form, columns, output)?;
             Ok(true)
         }
         Command::Pages {
             selection,
             has_names,
         } => {
-            write_pages(alloc, loaded, *selection, *has_names, form, output)?;
+            write_pages(alloc, loaded, *selection, *has_names, form, columns, output)?;
             Ok(true)
         }
         Command::Walk { addresses, options } => {

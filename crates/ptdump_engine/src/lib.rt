@@ -2,8 +2,11 @@
 #![tactic(auto)]
 
 mod access_line;
+mod aligned;
+mod aligning;
 mod arguments;
 mod check;
+mod columns;
 mod counted_lines;
 mod destination;
 mod engine;
@@ -49,7 +52,7 @@ pub use failure::Failure;
 pub use loaded::Loaded;
 pub use output::{Output, OutputError};
 pub use request::{
-    AddressRange, Checking, Command, ControlsSource, Form, Levels, Outcome, Request, Selection,
-    WalkOptions,
+    AddressRange, Checking, Columns, Command, ControlsSource, Form, Levels, Outcome, Request,
+    Selection, WalkOptions,
 };
 pub use x86_64_dump::{NoProgress, Progress};

@@ -6,6 +6,7 @@ ghost use Rattle.ptdump_engine.specs.Output.{Puts};
 ghost use Rattle.ptdump_engine.specs.Walks.{line};
 ghost use Rattle.ptdump_engine.specs.private.Puts.{puts_nothing, puts_both, puts_each};
 
+use crate::aligned::{AlignedMapping, AlignedNamedMapping, AlignedRegion};
 use crate::destination::Destination;
 use crate::names::NamedMapping;
 use crate::output::{Output, OutputError};
@@ -100,4 +101,61 @@ impl<L: LevelCount, W: Destination> Visitor<RegionIn<L>> for Output<'_, W> {
 
     ghost both = { λ before between after front back.
         puts_each W.contents (λ r. line (region_text L.LEVELS r)) before between after front back };
+}
+
+impl<L: LevelCount, W: Destination> Visitor<AlignedMapping<L>> for Output<'_, W> {
+    type Error = OutputError<W>;
+
+    ghost use Rattle.ptdump_engine.specs.Columns.{aligned_mapping};
+
+    ghost Visits = { λ old new mappings.
+        Puts W.contents old new (flat_map (λ m. line (aligned_mapping L.LEVELS m)) mappings) };
+
+    /// Writes a line for a mapping, in columns.
+    fn visit(&mut self, mapping: AlignedMapping<L>) -> Result<(), OutputError<W>> {
+        writeln!(self, "{mapping}")
+    }
+
+    ghost none = { λ output. puts_nothing W.contents output };
+
+    ghost both = { λ before between after front back.
+        puts_each W.contents (λ m. line (aligned_mapping L.LEVELS m)) before between after front back };
+}
+
+impl<L: LevelCount, W: Destination> Visitor<AlignedNamedMapping<L>> for Output<'_, W> {
+    type Error = OutputError<W>;
+
+    ghost use Rattle.ptdump_engine.specs.Columns.{aligned_named};
+
+    ghost Visits = { λ old new mappings.
+        Puts W.contents old new (flat_map (λ m. line (aligned_named L.LEVELS m)) mappings) };
+
+    /// Writes a line for a mapping, in columns with the names of its flags.
+    fn visit(&mut self, mapping: AlignedNamedMapping<L>) -> Result<(), OutputError<W>> {
+        writeln!(self, "{mapping}")
+    }
+
+    ghost none = { λ output. puts_nothing W.contents output };
+
+    ghost both = { λ before between after front back.
+        puts_each W.contents (λ m. line (aligned_named L.LEVELS m)) before between after front back };
+}
+
+impl<L: LevelCount, W: Destination> Visitor<AlignedRegion<L>> for Output<'_, W> {
+    type Error = OutputError<W>;
+
+    ghost use Rattle.ptdump_engine.specs.Columns.{aligned_region};
+
+    ghost Visits = { λ old new regions.
+        Puts W.contents old new (flat_map (λ r. line (aligned_region L.LEVELS r)) regions) };
+
+    /// Writes a line for a region, in columns.
+    fn visit(&mut self, region: AlignedRegion<L>) -> Result<(), OutputError<W>> {
+        writeln!(self, "{region}")
+    }
+
+    ghost none = { λ output. puts_nothing W.contents output };
+
+    ghost both = { λ before between after front back.
+        puts_each W.contents (λ r. line (aligned_region L.LEVELS r)) before between after front back };
 }

@@ -47,7 +47,7 @@ impl<L: LevelCount> Display for NamedMapping<L> {
 
 /// Writes the names of the flags in the entry of a page of a size.
 #[tactic(auto, unfolding(crate::specs::Names::names_text))]
-fn write_names<W: Write>(f: &mut Formatter<W>, size: u64, word: u64) -> FmtResult
+pub fn write_names<W: Write>(f: &mut Formatter<W>, size: u64, word: u64) -> FmtResult
     ensures { WritesOnOk W.write_str_gives f.old result (names.names_text size word) f.new }
 {
     write_set(f, word, &flags_of(size != SMALL))?;

@@ -9,11 +9,15 @@ ghost use Rattle.ptdump_engine.specs.Lines.{walk_lines};
 ghost use Rattle.ptdump_engine.specs.Loaded.{IsLoaded, words_loaded};
 ghost use Rattle.ptdump_engine.specs.Output.{Puts};
 ghost use Rattle.ptdump_engine.specs.Reports as reports;
+ghost use Rattle.ptdump_engine.specs.declared.request.Columns.TheVariants.{Aligned, Plain};
 ghost use Rattle.ptdump_engine.specs.declared.request.Form.TheVariants.{Text};
 ghost use Rattle.ptdump_engine.specs.private.Asked.{mappings_asked};
 ghost use Rattle.ptdump_engine.specs.private.Finding.{some_there, visited_lines};
 
 use crate::access_line::write_access;
+use crate::aligning::{
+    visit_aligned_mappings, visit_aligned_named_mappings, visit_aligned_regions,
+};
 use crate::destination::Destination;
 use crate::explanation::write_explanation;
 use crate::finder::Finder;
@@ -22,7 +26,7 @@ use crate::lines::Lines;
 use crate::loaded::Loaded;
 use crate::naming::visit_named_mappings;
 use crate::output::{Output, OutputError};
-use crate::request::{Form, Selection, WalkOptions};
+use crate::request::{Columns, Form, Selection, WalkOptions};
 use crate::selected::visit_selected_regions;
 use crate::walk::write_walk;
 use crate::walked::walk_to;
@@ -43,20 +47,44 @@ pub fn write_regions<L: LevelCount, W: Destination>(
     loaded: &Loaded<'_, L>,
     selection: Selection,
     form: Form,
+    columns: Columns,
     output: &mut Output<'_, W>,
 ) -> Result<(), OutputError<W>>
     requires { IsLoaded loaded.now }
-    ensures { OnOk result (Puts W.contents output.old output.new
-        (reports.regions_text selection form L.LEVELS (words_loaded loaded.now) loaded.now.root)) }
+    ensures { OnOk result (Puts W.contents output.old output.new (reports.regions_text
+        selection form columns L.LEVELS (words_loaded loaded.now) loaded.now.root)) }
 {
     match form {
-        Form::Text => visit_selected_regions::<L, Output<'_, W>>(
+        Form::Text => write_regions_as_text(loaded, selection, columns, output),
+        Form::Json => write_json_regions::<L, Output<'_, W>>(alloc, loaded, selection, output),
+    }
+}
+
+/// Writes a line of text for each region that is selected.
+#[tactic(auto, unfolding(crate::specs::Reports::regions_text))]
+fn write_regions_as_text<L: LevelCount, W: Destination>(
+    loaded: &Loaded<'_, L>,
+    selection: Selection,
+    columns: Columns,
+    output: &mut Output<'_, W>,
+) -> Result<(), OutputError<W>>
+    requires { IsLoaded loaded.now }
+    ensures { OnOk result (Puts W.contents output.old output.new (reports.regions_text
+        selection Text columns L.LEVELS (words_loaded loaded.now) loaded.now.root)) }
+{
+    match columns {
+        Columns::Plain => visit_selected_regions::<L, Output<'_, W>>(
             loaded.summaries,
             loaded.root,
             selection,
             output,
         ),
-        Form::Json => write_json_regions::<L, Output<'_, W>>(alloc, loaded, selection, output),
+        Columns::Aligned => visit_aligned_regions::<L, Output<'_, W>>(
+            loaded.summaries,
+            loaded.root,
+            selection,
+            output,
+        ),
     }
 }
 
@@ -72,14 +100,15 @@ pub fn write_pages<L: LevelCount, W: Destination>(
     selection: Selection,
     has_names: bool,
     form: Form,
+    columns: Columns,
     output: &mut Output<'_, W>,
 ) -> Result<(), OutputError<W>>
     requires { IsLoaded loaded.now }
-    ensures { OnOk result (Puts W.contents output.old output.new
-        (reports.pages_text selection has_names form L.LEVELS (words_loaded loaded.now) loaded.now.root)) }
+    ensures { OnOk result (Puts W.contents output.old output.new (reports.pages_text
+        selection has_names form columns L.LEVELS (words_loaded loaded.now) loaded.now.root)) }
 {
     match form {
-        Form::Text => write_pages_as_text(loaded, selection, has_names, output),
+        Form::Text => write_pages_as_text(loaded, selection, has_names, columns, output),
         Form::Json => write_json_pages::<L, Output<'_, W>>(alloc, loaded, selection, output),
     }
 }
@@ -90,11 +119,30 @@ fn write_pages_as_text<L: LevelCount, W: Destination>(
     loaded: &Loaded<'_, L>,
     selection: Selection,
     has_names: bool,
+    columns: Columns,
     output: &mut Output<'_, W>,
 ) -> Result<(), OutputError<W>>
     requires { IsLoaded loaded.now }
-    ensures { OnOk result (Puts W.contents output.old output.new
-        (reports.pages_text selection has_names Text L.LEVELS (words_loaded loaded.now) loaded.now.root)) }
+    ensures { OnOk result (Puts W.contents output.old output.new (reports.pages_text
+        selection has_names Text columns L.LEVELS (words_loaded loaded.now) loaded.now.root)) }
+{
+    match columns {
+        Columns::Plain => write_plain_pages(loaded, selection, has_names, output),
+        Columns::Aligned => write_aligned_pages(loaded, selection, has_names, output),
+    }
+}
+
+/// Writes a line of text for each mapping that is selected, in columns that aren't aligned.
+#[tactic(auto, unfolding(crate::specs::Reports::pages_text))]
+fn write_plain_pages<L: LevelCount, W: Destination>(
+    loaded: &Loaded<'_, L>,
+    selection: Selection,
+    has_names: bool,
+    output: &mut Output<'_, W>,
+) -> Result<(), OutputError<W>>
+    requires { IsLoaded loaded.now }
+    ensures { OnOk result (Puts W.contents output.old output.new (reports.pages_text
+        selection has_names Text Plain L.LEVELS (words_loaded loaded.now) loaded.now.root)) }
 {
     if has_names {
         visit_named_mappings::<L, Output<'_, W>>(loaded.summaries, loaded.root, selection, output)
@@ -105,6 +153,30 @@ fn write_pages_as_text<L: LevelCount, W: Destination>(
             selection,
             output,
         )
+    }
+}
+
+/// Writes a line of text for each mapping that is selected, in aligned columns.
+#[tactic(auto, unfolding(crate::specs::Reports::pages_text))]
+fn write_aligned_pages<L: LevelCount, W: Destination>(
+    loaded: &Loaded<'_, L>,
+    selection: Selection,
+    has_names: bool,
+    output: &mut Output<'_, W>,
+) -> Result<(), OutputError<W>>
+    requires { IsLoaded loaded.now }
+    ensures { OnOk result (Puts W.contents output.old output.new (reports.pages_text
+        selection has_names Text Aligned L.LEVELS (words_loaded loaded.now) loaded.now.root)) }
+{
+    if has_names {
+        visit_aligned_named_mappings::<L, Output<'_, W>>(
+            loaded.summaries,
+            loaded.root,
+            selection,
+            output,
+        )
+    } else {
+        visit_aligned_mappings::<L, Output<'_, W>>(loaded.summaries, loaded.root, selection, output)
     }
 }
 

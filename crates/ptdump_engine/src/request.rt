@@ -141,6 +141,15 @@ pub enum Form {
     Json,
 }
 
+/// The columns of a list of regions or mappings, as text.
+#[derive(Clone, Copy)]
+pub enum Columns {
+    /// A space is between two columns, for scripts.
+    Plain,
+    /// Each column is as wide as any of its texts can be, for readers.
+    Aligned,
+}
+
 /// A request for a report on a dump.
 #[derive(Drop)]
 pub struct Request {
@@ -148,6 +157,8 @@ pub struct Request {
     pub command: Command,
     /// The form of a report of regions, mappings, walks, a search or a check, or of what the dump says. Other reports have one form.
     pub form: Form,
+    /// The columns of regions or mappings, if these are listed as text. Other reports have no columns.
+    pub columns: Columns,
     /// The CR3. If `None`, it is read from a processor's note in the dump, or else VMCOREINFO says where the kernel's root is.
     pub cr3: Option<u64>,
     /// The offset in the file of Linux's text VMCOREINFO that says where the kernel's root is. If `None`, memory is searched for such

@@ -6,14 +6,14 @@ ghost use Rattle.ptdump_engine.specs.Loaded.{IsLoaded, words_loaded};
 ghost use Rattle.ptdump_engine.specs.Totals.{IsMapped};
 
 use crate::loaded::Loaded;
+use ptdump_picture::ShortSize;
 use std::fmt::{Display, Formatter, Result as FmtResult, Write};
 use x86_64_addr::addr::VirtAddrIn;
 use x86_64_addr::level_count::LevelCount;
 use x86_64_mappings::mappings_from;
-use x86_64_mappings::text::write_size;
 use x86_64_tables::phys_memory::IdentityMapping;
 
-/// The number of tables that were read, and how much they map.
+/// The number of tables that were read, and how much they map. The text has the number of bytes as a short one, rounded down.
 #[derive(Clone, Copy)]
 pub struct Totals {
     /// The number of tables.
@@ -72,7 +72,7 @@ impl Display for Totals {
     fn fmt<W: Write>(&self, f: &mut Formatter<W>) -> FmtResult {
         let tables = self.tables;
         let mappings = self.mappings;
-        write!(f, "tables {tables}, mappings {mappings}, mapped ")?;
-        write_size(f, self.bytes)
+        let mapped = ShortSize(self.bytes);
+        write!(f, "tables {tables}, mappings {mappings}, mapped {mapped}")
     }
 }

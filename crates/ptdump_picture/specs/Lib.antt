@@ -1,2 +1,3 @@
 pub mod Colours
 pub mod Links
+pub mod Sizes

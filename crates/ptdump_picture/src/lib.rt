@@ -14,4 +14,5 @@ mod tree;
 
 pub use links::{TableLink, table_links};
 pub use picture::{Mapped, Picture};
+pub use size::ShortSize;
 pub use tree::MOST_DRAWN_TABLES;

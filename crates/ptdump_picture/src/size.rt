@@ -1,5 +1,6 @@
 //! Sizes and counts as texts.
-ghost use Rattle.std.specs.Prelude.{◌<◌, ◌≤◌};
+ghost use Rattle.std.specs.Prelude.{◌≡◌, ◌<◌, ◌≤◌};
+ghost use Rattle.ptdump_picture.specs.Sizes.{unit_of};
 
 use std::fmt::{Display, Formatter, Result as FmtResult, Write};
 use x86_64_mappings::text::write_size;
@@ -7,9 +8,14 @@ use x86_64_mappings::text::write_size;
 /// A number of bytes, written in the largest of KiB, MiB, GiB and TiB that isn't larger. If the unit doesn't divide it, it has
 /// one decimal place, rounded down, unless it is 1000 units or more.
 #[derive(Clone, Copy)]
-pub(crate) struct ShortSize(pub u64);
+pub struct ShortSize(pub u64);
 
 impl Display for ShortSize {
+    ghost use Rattle.std.specs.Prelude.{Some};
+    ghost use Rattle.ptdump_picture.specs.Sizes.{short_size};
+
+    ghost output = { λ size. Some (short_size size.0) };
+
     fn fmt<W: Write>(&self, f: &mut Formatter<W>) -> FmtResult {
         let ShortSize(bytes) = *self;
         let (unit, name) = unit_of(bytes);
@@ -26,6 +32,8 @@ impl Display for ShortSize {
 
 /// Returns the largest of KiB, MiB, GiB and TiB that is at most a number of bytes, and its name, or KiB if there is none.
 fn unit_of(bytes: u64) -> (u64, &'static str)
+    ensures bytes { result.0 ≡ (unit_of bytes).bytes }
+    ensures name { result.1.now ≡ (unit_of bytes).name }
     ensures some { 0 < result.0 }
     ensures low { result.0 ≤ 0x100_0000_0000 }
 {

@@ -1,7 +1,7 @@
 //! Runs of the program, and how they end.
 use ptdump_engine::{
-    Checking, Command, ControlsSource, Destination, Failure, Form, Outcome, Progress, Request,
-    Selection, WalkOptions, run,
+    Checking, Columns, Command, ControlsSource, Destination, Failure, Form, Outcome, Progress,
+    Request, Selection, WalkOptions, run,
 };
 use std::alloc::{AllocError, Global};
 use std::io::{self, ErrorKind, Write};
@@ -73,6 +73,7 @@ impl Word {
         Ok(Request {
             command,
             form: Form::Text,
+            columns: Columns::Plain,
             cr3: None,
             vmcoreinfo: None,
             levels: None,

@@ -6,7 +6,7 @@ use Rattle.ptdump.proofs.request.request_of.Goals as goal
 
 pub returns-in_err-command_of-clause-err : goal.returns-in_err-command_of-clause-err
 returns-in_err-command_of-clause-err c =
-    let unread : IsUnread (IsRequest c.args.name.now (found_of c.args.arguments.now)) c.in_err-command_of.field-0.0 =
+    let unread : IsUnread (IsRequest c.args.is_terminal c.args.name.now (found_of c.args.arguments.now)) c.in_err-command_of.field-0.0 =
     elim c.in_err-command_of.ensures.err [
       | inl memory ↦ inl memory
       | inr none ↦ inr (λ (request : Request) is. none request.command is.command)
@@ -15,7 +15,7 @@ returns-in_err-command_of-clause-err c =
 
 pub returns-in_err-placement_of-clause-err : goal.returns-in_err-placement_of-clause-err
 returns-in_err-placement_of-clause-err c =
-    let unread : IsUnread (IsRequest c.args.name.now (found_of c.args.arguments.now)) c.in_err-placement_of.field-0.0 =
+    let unread : IsUnread (IsRequest c.args.is_terminal c.args.name.now (found_of c.args.arguments.now)) c.in_err-placement_of.field-0.0 =
     elim c.in_err-placement_of.ensures.err [
       | inl memory ↦ inl memory
       | inr none ↦ inr (λ (request : Request) is. none request.placement is.placement)

@@ -13,5 +13,5 @@ unfolding pages_text
 returns-in-Json g c =
     let L = g.L.LevelCount.LEVELS in
     on_ok c.write_json_pages.result (subst (λ ms. Puts g.W.Destination.contents c.args.output.now c.write_json_pages.new.output
-    (flat_map (mapping_line c.args.form c.args.has_names L) (filter (is_mapping_selected L c.args.selection) ms)))
+    (flat_map (mapping_line c.args.form c.args.columns c.args.has_names L) (filter (is_mapping_selected L c.args.selection) ms)))
     (all_asked c.args.loaded.now c.requires L c.args.loaded.now.root)) (rw c.in-Json.is c.write_json_pages.ensures)

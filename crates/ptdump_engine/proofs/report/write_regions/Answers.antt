@@ -9,18 +9,10 @@ use Rattle.ptdump_engine.proofs.Asked.{all_asked}
 use Rattle.ptdump_engine.proofs.Results.{on_ok}
 use Rattle.ptdump_engine.proofs.report.write_regions.Goals as goal
 
-pub returns-in-Text : goal.returns-in-Text
-unfolding regions_text
-returns-in-Text g c =
-    let L = g.L.LevelCount.LEVELS in
-    on_ok c.visit_selected_regions.result (subst (λ ms. Puts g.W.Destination.contents c.args.output.now c.visit_selected_regions.new.visitor
-    (flat_map (region_line c.args.form L) (filter (is_selected L c.args.selection) (regions_in L ms))))
-    (all_asked c.args.loaded.now c.requires L c.args.loaded.now.root)) (rw c.in-Text.is c.visit_selected_regions.ensures)
-
 pub returns-in-Json : goal.returns-in-Json
 unfolding regions_text
 returns-in-Json g c =
     let L = g.L.LevelCount.LEVELS in
     on_ok c.write_json_regions.result (subst (λ ms. Puts g.W.Destination.contents c.args.output.now c.write_json_regions.new.output
-    (flat_map (region_line c.args.form L) (filter (is_selected L c.args.selection) (regions_in L ms))))
+    (flat_map (region_line c.args.form c.args.columns L) (filter (is_selected L c.args.selection) (regions_in L ms))))
     (all_asked c.args.loaded.now c.requires L c.args.loaded.now.root)) (rw c.in-Json.is c.write_json_regions.ensures)

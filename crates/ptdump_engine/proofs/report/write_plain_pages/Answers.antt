@@ -7,10 +7,11 @@ use Rattle.ptdump_engine.specs.Output.{Puts}
 use Rattle.ptdump_engine.specs.Reports.{pages_text}
 use Rattle.x86_64_mappings.specs.Selections.{is_mapping_selected}
 use Rattle.ptdump_engine.specs.Walks.{line}
+use Rattle.ptdump_engine.specs.declared.request.Columns.TheVariants.{Plain}
 use Rattle.ptdump_engine.specs.declared.request.Form.TheVariants.{Text}
 use Rattle.ptdump_engine.proofs.Asked.{all_asked}
 use Rattle.ptdump_engine.proofs.Results.{on_ok}
-use Rattle.ptdump_engine.proofs.report.write_pages_as_text.Goals as goal
+use Rattle.ptdump_engine.proofs.report.write_plain_pages.Goals as goal
 
 pub returns-then-has_names : goal.returns-then-has_names
 unfolding pages_text
@@ -18,7 +19,7 @@ returns-then-has_names g c =
     let L = g.L.LevelCount.LEVELS in
     let root = c.args.loaded.now.root in
     let put = Puts g.W.Destination.contents c.args.output.now c.visit_named_mappings.new.visitor in
-    on_ok c.visit_named_mappings.result (λ puts. subst (λ (has : Bool). put (pages_text c.args.selection has Text L (words_loaded c.args.loaded.now) root)) (sym c.if-has_names.true)
+    on_ok c.visit_named_mappings.result (λ puts. subst (λ (has : Bool). put (pages_text c.args.selection has Text Plain L (words_loaded c.args.loaded.now) root)) (sym c.if-has_names.true)
     (subst (λ ms. put (flat_map (λ m. line (named_text L m)) (filter (is_mapping_selected L c.args.selection) ms))) (all_asked c.args.loaded.now c.requires L root) puts))
     c.visit_named_mappings.ensures
 
@@ -28,6 +29,6 @@ returns-else-has_names g c =
     let L = g.L.LevelCount.LEVELS in
     let root = c.args.loaded.now.root in
     let put = Puts g.W.Destination.contents c.args.output.now c.visit_selected_mappings.new.visitor in
-    on_ok c.visit_selected_mappings.result (λ puts. subst (λ (has : Bool). put (pages_text c.args.selection has Text L (words_loaded c.args.loaded.now) root)) (sym c.if-has_names.false)
+    on_ok c.visit_selected_mappings.result (λ puts. subst (λ (has : Bool). put (pages_text c.args.selection has Text Plain L (words_loaded c.args.loaded.now) root)) (sym c.if-has_names.false)
     (subst (λ ms. put (flat_map (λ m. line (mapping_text L m)) (filter (is_mapping_selected L c.args.selection) ms))) (all_asked c.args.loaded.now c.requires L root) puts))
     c.visit_selected_mappings.ensures
