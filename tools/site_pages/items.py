@@ -6,7 +6,7 @@ from html import escape
 from .boxes import behind, box, box_body, count_line, document, href, link_in
 from .evidence import callers, prototypes, wrong_bodies
 from .markup import anchor, code, inline, markdown, text_of
-from .model import Entry, Page, alike, entries, values_of
+from .model import Entry, Page, alike, pages, values_of
 from .names import Scope, Target, owner_name, scope_of
 from .paths import Place, constants_of, items_at
 from .reading import Reading, closure, named_in, rust_pieces
@@ -202,7 +202,7 @@ def specs_page(specs: Specs) -> str:
         f'<p class="crumbs"><a href="crate.{crate}.html">{crate}</a> › specs</p>'
         f'<h1>{"::".join(names)}</h1><div class="doc">{markdown(specs.comment, link_in(specs=specs))}</div>'
     )
-    laws = [entry for entry in entries() if entry.item.is_law]
+    laws = [entry for page in pages().values() if page.kind == "law" for entry in page.entries]
     for definition in specs.definitions.values():
         about = [anchor(law.href, law.item.name) for law in laws if law.behind.get(definition, 3) < 3]
         html += box(definition, f'<p class="where">Laws about it: {", ".join(about[:8])}</p>' if about else "")

@@ -36,7 +36,7 @@ def words(pieces: Iterable[Piece], href: Href) -> str:
     """Returns a text of the notation as HTML."""
     parts = []
     for text, kind, target in pieces:
-        name = text_of(text)
+        name = text if kind == "space" else text_of(text)
         if isinstance(target, Standard):
             group = "n" if re.fullmatch(r"[^\w\s]+", text) else "x"
             parts.append(f'<i class="{group}" title="{escape(".".join(target.module))}">{name}</i>')

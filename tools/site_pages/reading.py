@@ -159,7 +159,7 @@ def is_type(place: Place) -> bool:
 
 def rust_pieces(text: str, scope: Scope) -> Iterator[Piece]:
     """Yields the pieces of Rust, with the types and traits that it names."""
-    for match in re.finditer(r"//[^\n]*|'\w+\b|\"[^\"]*\"|[A-Za-z_]\w*(?:::\w+)*|[^A-Za-z_]", text):
+    for match in re.finditer(r"//[^\n]*|'\w+\b|\"[^\"]*\"|[A-Za-z_]\w*(?:::\w+)*|[^A-Za-z_'\"/]+|.", text):
         word = match[0]
         is_name = word[0].isalpha() and any(part[0].isupper() for part in word.split("::"))
         place = lookup(scope.crate, scope.path, tuple(word.split("::"))) if is_name and scope.crate else None
