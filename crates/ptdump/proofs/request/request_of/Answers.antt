@@ -21,3 +21,9 @@ returns-in_err-placement_of-clause-err c =
       | inr none ↦ inr (λ (request : Request) is. none request.placement is.placement)
     ] in
     search (rules, unread)
+
+pub returns-in_err-levels_of-clause-err : goal.returns-in_err-levels_of-clause-err
+returns-in_err-levels_of-clause-err c =
+    let unread : IsUnread (IsRequest c.args.is_terminal c.args.name.now (found_of c.args.arguments.now)) c.in_err-levels_of.field-0.0 =
+    inr (λ (request : Request) is. c.in_err-levels_of.ensures.err request.levels is.levels) in
+    search (rules, unread)
