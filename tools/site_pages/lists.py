@@ -23,6 +23,7 @@ DOCUMENTS = {
     "docs/DIFFERENCES.md": ("differences.html", "Differences from the Rust crate"),
     "docs/TESTED.md": ("tested.html", "What is only tested"),
     "docs/MAP.md": ("map.html", "Map of the code"),
+    "docs/PROOFS.md": ("proofs.html", "Map of the proofs"),
     "docs/DECISIONS.md": ("decisions.html", "Decisions"),
     "rust/README.md": ("rust.html", "The crate for Rust"),
 }
