@@ -60,7 +60,8 @@ pub fn run_call_in_space<
     ensures refused { OnErr result (
         (KeepsShared (M.hierarchy mapper.old) (indices_of shared) (asks P5.bits call) → ⊥)
         × (mapper.new ≡ mapper.old) × (frames.new ≡ frames.old)) }
-    ensures spaces { KeepsSpaces (indices_of shared) (M.hierarchy mapper.old) (store_of F.FrameStore frames.old)
+    ensures spaces { KeepsSpaces (indices_of shared)
+        (M.hierarchy mapper.old) (store_of F.FrameStore frames.old)
         (M.hierarchy mapper.new) (F.supply frames.new) }
     ensures keeps { Kept (M.hierarchy mapper.old) (store_of F.FrameStore frames.old)
         (M.hierarchy mapper.new) (store_of F.FrameStore frames.new) }
