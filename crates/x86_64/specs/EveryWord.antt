@@ -11,8 +11,8 @@ abbrev pub SameWords : Words → Words → Type 0
 SameWords T U = (f i : ℕ) → word T f i ≡ word U f i
 
 -- What is known after calls that led from the memory m and a pool to the memory n and the rest of the pool, and returned the
--- frames in back. The rest fits, only words of the hierarchy's own frames changed, and each free frame has zeros or the words
--- that it had.
+-- frames in back. The rest fits, only words of tables and of frames that were free changed, and each free frame has zeros or the
+-- words that it had.
 pub record IsLeft (layout : Layout) (m : Memory) (pool back : List ℕ) (n : Memory) (rest : List ℕ) : Type 0 where
   pub serves : ℕ → Bool
   pub keeps : KeepsPool layout serves m pool n rest

@@ -32,8 +32,8 @@ pub record AreAlike {Lent Other : Type 0} (levels : ℕ) (h : Hierarchy Lent) (p
   pub paths : Alike levels (paths h) (paths other)
   pub pools : pool.frames ≡ other_pool.frames
 
--- What is left of one of the mappers after it ran the calls. If there was memory, they ran with these replies, and in any case it
--- kept what calls keep.
+-- What is left of one of the mappers after it ran the calls. If there was memory for the replies, the calls ran with these, and
+-- in any case it kept what calls keep.
 pub record AfterRun {C Lent A E : Type 0} (asks : C → MapperCall) (calls : List C) (result : Result (Vec Reply A) E) (h : Hierarchy Lent) (pool : FreeFrames) (after : Hierarchy Lent) (rest : FreeFrames) : Type 0 where
   pub ran : IfOk result (λ replies. Ran asks h (pool_store pool) calls [] replies.items after rest.frames)
   pub keeps : Kept h (pool_store pool) after (pool_store rest)

@@ -113,7 +113,7 @@ pub record AreGivenUp (s : Switching) (flush : Flush) (given_up : List ℕ) : Ty
   pub others : (c : ℕ) → In given_up c → c ≢ s.pcid
   pub all : flush ≢ Everything → (c : ℕ) → c ≢ s.pcid → is_held s.reaches (s.holder c) ≡ true → In given_up c
 
--- The events of a flush: the kernel executes it, which leaves the items in after, and gives up PCIDs.
+-- The events of a flush: the kernel executes it, which leaves the items `after`, and gives up PCIDs.
 abbrev pub flush_events : List TaggedFlush → (after : List Tagged) → (given_up : List ℕ) → List SwitchEvent
 flush_events fs after given_up = map (λ f. Flushes f after) fs ++ map Abandons given_up
 

@@ -6,7 +6,7 @@ use Rattle.x86_64_model.specs.Refusal.{Done, Refused}
 use Rattle.x86_64.specs.Asked.{PageCall, MapTo, MapToWithTableFlags, IdentityMap, Unmap, UpdateFlags, SetFlags, TranslatePage, MapperCall, Of4KiB, Of2MiB, Of1GiB, Translate, TranslateAddr, CleanUp, CleanUpRange}
 use Rattle.x86_64.specs.Replies.{Reply, reply_of}
 
--- The machine's reply with frame 0 in place of the frame that an accepted call answers.
+-- The machine's reply with frame 0 in place of the frame in the answer of an accepted call.
 abbrev pub without_frame : machine.Reply → machine.Reply
 without_frame (machine.Answered (Done frame)) = machine.Answered (Done 0)
 without_frame (machine.Answered (Refused why)) = machine.Answered (Refused why)
