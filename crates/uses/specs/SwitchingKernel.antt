@@ -193,7 +193,7 @@ abbrev pub unmapped_frame : Reply → Option ℕ
 unmapped_frame (replies.Of4KiB (page_reply.Unmap (Ok done))) = Some done.0
 unmapped_frame other = None
 
--- A call in the process's own half: it touches nothing of the kernel's half, makes no page there GLOBAL, and maps no large page. What
+-- A call in the process's own half: it touches nothing of the kernel's half, makes no page GLOBAL, and maps no large page. What
 -- it makes due is late.
 pub record IsOwnCall (late : Option ℕ) (process : Process) (call : Call) : Type 0 where
   pub avoids : Avoids 4 is_kernels call

@@ -66,8 +66,8 @@ abbrev pub ArisesByCaching : Type 0
 ArisesByCaching = (l : Layout) (take_back : List ℕ → ℕ → List ℕ) (serves : ℕ → Bool) (m : Memory) (pool : List ℕ) (due : List Due) (before after : List Cached)
     → Arises l take_back serves m pool before due → CachesOften l.levels l.root (words (l laid_in m)) before after → Arises l take_back serves m pool after due
 
--- A call as `run_call` ensures it makes due what the model says, or nothing if no used entry loses anything. No map may begin
--- while tables are due, and no map of a smaller page where a larger one is due.
+-- A call as `run_call` ensures it makes due what the model's `flush_after` returns, or nothing if no used entry loses anything.
+-- No map may begin while tables are due, and no map of a smaller page where a larger one is due.
 abbrev pub ArisesByCalls : Type 0
 ArisesByCalls = (l : Layout) (take_back : List ℕ → ℕ → List ℕ) (serves : ℕ → Bool) (m n : Memory) (pool rest : List ℕ) (cached : List Cached) (due : List Due) (call : Call) (loses : Bool)
     → let machine = machine_of l take_back in

@@ -54,7 +54,7 @@ LeavesFree h store call after rest =
     KeepsFree h.layout h.memory store.frames (back_by (machine_with h store) (state_with h store) (machine_call h.layout.levels call)) after.memory rest
 
 -- A list of calls was executed. The machine's replies, one per call, follow those of before, and the state is the machine's. If
--- every reply says that nothing changed, no word did. Free frames keep their words, except that returned frames hold zeros.
+-- every reply shows that nothing changed, no word did. Free frames keep their words, except that returned frames hold zeros.
 pub record Ran {C Lent : Type 0} (asks : C → MapperCall) (h : Hierarchy Lent) (store : Store) (calls : List C) (before now : List Reply) (after : Hierarchy Lent) (rest : List ℕ) : Type 0 where
   pub replies : map Some now ≡ map Some before ++ replies_to asks (machine_with h store) (state_with h store) calls
   pub one_each : length now ≡ length before + length calls

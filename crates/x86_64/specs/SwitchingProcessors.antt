@@ -138,8 +138,8 @@ ReachedByEvents = (k : Kernel) (places : Places) (m n : Memory) (pool rest : Lis
     AllMaySwitch k now events → after_switches k now events ≡ between k (words_of n places) rest later t
     → IsReached k places n rest later t
 
--- A call as `run_call` ensures it makes due what the model says. No map may begin while tables are due for a PCID, and no map of a
--- smaller page where a larger one is due.
+-- A call as `run_call` ensures it makes due what the model's `flush_after` returns, or nothing if the kernel knows that no used
+-- entry loses anything. No map may begin while tables are due for a PCID, and no map of a smaller page where a larger one is due.
 abbrev pub ReachedByCalls : Type 0
 ReachedByCalls = (k : Kernel) (places : Places) → IsMapping places → 0 < k.levels → TakesBack k.take_back
     → (sharing : (root other : ℕ) → ℕ → Bool) (m n : Memory) (pool rest : List ℕ) (layouts : List Layout)

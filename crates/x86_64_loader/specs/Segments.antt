@@ -128,7 +128,8 @@ entries_of s level = (s.page + (s.pages - 1) * 0x1000) / span level - s.page / s
 abbrev pub tables_of : Segment → ℕ
 tables_of s = cond (s.pages == 0) 0 (entries_of s 4 + entries_of s 3 + entries_of s 2)
 
--- The number of frames that are enough to load the segments: one for each table that is on a segment's paths.
+-- A number of frames that is enough to load the segments: one for each table on the paths to a segment's pages. A table for two
+-- segments counts twice.
 abbrev pub frames_for : List Segment → ℕ
 frames_for segments = sum_by tables_of segments
 
