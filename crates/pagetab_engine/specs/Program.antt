@@ -119,7 +119,7 @@ pub data IsRun (words : List (List ℕ)) (input : List ℕ) : Ending → (replie
 abbrev pub IsFrontPart : (front line : List ℕ) → Type 0
 IsFrontPart front line = (byte : ℕ) × (left : List ℕ) × (line ≡ front ++ byte ∷ left)
 
--- Only a first part of the line was written.
+-- A first part of the line was written, but not all of it.
 abbrev pub AppendsFront : (before after : Option (List ℕ)) → (line : List ℕ) → Type 0
 AppendsFront before after line = (front : List ℕ) × IsFrontPart front line × Appends before after front
 

@@ -67,7 +67,7 @@ lower_clean_up = CleanUp 0 0x7fff_ffff_ffff
 abbrev pub ending : (pages : List ℕ) → List Call
 ending pages = unmaps pages ++ lower_clean_up ∷ []
 
--- Some entry of the process's own half of the root is used.
+-- The root has a used entry in the process's own half.
 abbrev pub IsUsed : Layout → Memory → Type 0
 IsUsed process m = HasSharedAlone is_kernels process m → ⊥
 

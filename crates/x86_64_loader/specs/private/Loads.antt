@@ -45,7 +45,7 @@ abbrev pub HoldsSegment : {Lent : Type 0} → Hierarchy Lent → Segment → Typ
 HoldsSegment h s = HoldsPart h s 0 (size_of s)
 
 -- The load of these pages, which begin at an offset in the segment, was refused for this reason at the segment's 4KiB page with
--- the number `mapped`. The pages before it are reached.
+-- the number `mapped`, counted from 0. The pages before it are reached.
 pub record IsHalted {Lent : Type 0} (h : Hierarchy Lent) (supply : Supply) (s : Segment) (pages : List PageMapping) (low mapped : ℕ) (why : Refusal) (after : Hierarchy Lent) (rest : Supply) : Type 0 where
   pub above : low ≤ mapped * 0x1000
   pub within : mapped < s.pages
