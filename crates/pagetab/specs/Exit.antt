@@ -14,6 +14,6 @@ abbrev pub Reports : Ending → ExitCode → Type 0
 Reports Done code = exit_status code ≡ status_of Done
 Reports (Stopped fault) code = (exit_status code ≡ status_of (Stopped fault)) ⊎ (exit_status code ≡ status_of (Stopped Output))
 
--- the exit code reports a run on these words, with some input
+-- The exit code reports a run on these arguments, with some input.
 abbrev pub EndsRun : (words : List (List ℕ)) → ExitCode → Type 0
 EndsRun words code = (input : List ℕ) × (ending : Ending) × (replies : List Reply) × IsRun words input ending replies × Reports ending code

@@ -9,29 +9,31 @@ use Rattle.pagetab_engine.specs.declared.statement.ImageLine.{ImageLine}
 use Rattle.pagetab_engine.specs.declared.statement.Statement as lines
 use Rattle.pagetab_engine.specs.declared.statement.Statement.TheVariants as statement
 
--- a call on the hierarchy, or a question about it
+-- A call on the hierarchy, or a question about it.
 pub data Command : Type 0 where
   Call : MapperCall → Command
-  -- where the page walk of a position (the number of an address counted without the gap) arrives
+  -- Shows where the page walk of a position (the number of an address counted without the gap) arrives.
   Walk : (position : ℕ) → Command
-  -- the word in a slot
+  -- Shows the word in a slot.
   Show : Slot → Command
-  -- the free frames
+  -- Shows the free frames.
   Pool : Command
 
--- a line of an image, or a command
+-- A line of an image, or a command.
 pub data Statement : Type 0 where
   Image : ImageLine → Statement
   Asks : Command → Statement
 
 -- ---- those of the program; bits are those of the flags of level five
 
+-- A command of the program in numbers. `bits` returns the bits of flags of level five.
 abbrev pub command_of : {L P5 : Type 0} → (bits : P5 → ℕ) → rust.Command L P5 → Command
 command_of bits (command.Call call) = Call (asks bits call)
 command_of bits (command.Walk addr) = Walk addr
 command_of bits (command.Show slot) = Show slot
 command_of bits command.Pool = Pool
 
+-- A statement of the program in numbers. `bits` returns the bits of flags of level five.
 abbrev pub statement_of : {L P5 : Type 0} → (bits : P5 → ℕ) → lines.Statement L P5 → Statement
 statement_of bits (statement.Image line) = Image line
 statement_of bits (statement.Command asked) = Asks (command_of bits asked)

@@ -6,16 +6,16 @@ use Rattle.pagetab_engine.specs.Texts.{reply_line}
 use Rattle.pagetab_engine.specs.declared.ending.Ending.{Ending}
 use Rattle.pagetab_engine.specs.declared.ending.Ending.TheVariants.{Done, Stopped}
 
--- a run ended since memory allocation, a read or a write failed
+-- The run ended because memory allocation, a read or a write failed.
 abbrev pub IsForcedEnd : Ending → Type 0
 IsForcedEnd Done = ⊥
 IsForcedEnd (Stopped fault) = IsForced fault
 
--- the lines of replies
+-- The line of each reply, in order.
 abbrev pub lines_told : List Reply → List (List ℕ)
 lines_told replies = map reply_line replies
 
--- the lines of the first replies are the first ones of the others'
+-- The lines of the replies are the first ones of the others' lines.
 abbrev pub IsFront : (replies others : List Reply) → Type 0
 IsFront replies others = (left : List (List ℕ)) × (lines_told others ≡ lines_told replies ++ left)
 
@@ -25,14 +25,15 @@ abbrev pub Decides : (ending other : Ending) (replies others : List Reply) → T
 Decides ending other replies others =
     (IsForcedEnd ending × IsFront replies others) ⊎ (IsForcedEnd other × IsFront others replies) ⊎ ((ending ≡ other) × (lines_told replies ≡ lines_told others))
 
--- this holds for any two runs with the same arguments and input
+-- Of any two runs with the same arguments and input, one was forced to stop and has the first lines of the other, or both have
+-- equal lines and the same ending.
 abbrev pub RunsAreDecided : (words : List (List ℕ)) (input : List ℕ) → Type 0
 RunsAreDecided words input =
     (ending other : Ending) (replies others : List Reply) → IsRun words input ending replies → IsRun words input other others → Decides ending other replies others
 
 -- ---- bytes
 
--- these bytes are the first ones of the others
+-- The bytes are the first ones of the others.
 abbrev pub IsFrontOf : (bytes others : List ℕ) → Type 0
 IsFrontOf bytes others = (left : List ℕ) × (others ≡ bytes ++ left)
 
@@ -42,7 +43,8 @@ abbrev pub DecidesBytes : (ending other : Ending) (bytes others : List ℕ) → 
 DecidesBytes ending other bytes others =
     (IsForcedEnd ending × IsFrontOf bytes others) ⊎ (IsForcedEnd other × IsFrontOf others bytes) ⊎ ((ending ≡ other) × (bytes ≡ others))
 
--- this holds for any two runs with the same arguments and input, if nothing was written before
+-- Of any two runs with the same arguments and input, and nothing written before, one was forced to stop and wrote the first bytes
+-- of the other, or both wrote equal bytes and have the same ending.
 abbrev pub BytesAreDecided : (words : List (List ℕ)) (input : List ℕ) → Type 0
 BytesAreDecided words input =
     (ending other : Ending) (bytes others : List ℕ) → Runs words input (Some []) (Some bytes) ending → Runs words input (Some []) (Some others) other → DecidesBytes ending other bytes others

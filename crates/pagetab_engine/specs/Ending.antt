@@ -4,7 +4,8 @@ use Rattle.pagetab_engine.specs.declared.ending.Fault.TheVariants.{BadLine, Inva
 use Rattle.pagetab_engine.specs.declared.ending.Ending.{Ending}
 use Rattle.pagetab_engine.specs.declared.ending.Ending.TheVariants.{Done, Stopped}
 
--- 0 at the end of the input, and another status for each kind of fault
+-- The exit status of an ending: 0 at the end of the input, and another one by the kind of fault, which is the same for reads and
+-- writes.
 abbrev pub status_of : Ending → ℕ
 status_of Done = 0
 status_of (Stopped (BadLine number)) = 1

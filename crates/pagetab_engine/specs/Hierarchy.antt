@@ -24,93 +24,97 @@ use Rattle.pagetab_engine.specs.declared.hierarchy.Hierarchy.{Hierarchy}
 
 -- ---- the image
 
--- in a pair both mappers got the same image
+-- In a pair the copy has the same memory, the same free frames and the same limit as these frames.
 abbrev pub IsCopy : Mode → (frames copy : Frames) → Type 0
 IsCopy (Pair levels index) frames copy = (copy.memory ≡ frames.memory) × (copy.pool.frames ≡ frames.pool.frames) × (copy.pool.limit ≡ frames.pool.limit)
 IsCopy mode frames copy = ⊤
 
+-- In a pair both mappers have the same memory, free frames and limit, as long as the image is read.
 abbrev pub HasCopy : Hierarchy → Type 0
 HasCopy hierarchy = IsCopy hierarchy.mode hierarchy.frames hierarchy.twin
 
--- the layout in which the image is tested; in a pair this is the recursive mapper's
+-- The layout in which the image is tested, which is the recursive mapper's in a pair.
 abbrev pub image_layout : Mode → Memory → Layout
 image_layout (Direct levels) memory = direct_layout (count levels)
 image_layout (Offset offset) memory = direct_layout 4
 image_layout (Recursive levels index) memory = recursive_layout (count levels) memory index
 image_layout (Pair levels index) memory = recursive_layout (count levels) memory index
 
--- the hierarchy of the image is valid, and the free frames fit it
+-- The hierarchy of the image is valid, and the free frames fit it.
 abbrev pub FitsImage : Hierarchy → Type 0
 FitsImage hierarchy = Fits (image_layout hierarchy.mode hierarchy.frames.memory laid_in hierarchy.frames.memory) (pool_store hierarchy.frames.pool)
 
--- the memory of the first commands; in a pair the direct mapper's lacks the self-entry
+-- The memory before the first command, which lacks the self-entry in a pair, since it is the direct mapper's.
 abbrev pub first_memory : Mode → Memory → Memory
 first_memory (Pair levels index) memory = without_self_entry index memory
 first_memory mode memory = memory
 
 -- ---- the commands
 
--- the layout of the mapper that executes the commands; in a pair this is the direct mapper's
+-- The layout of the mapper that executes the commands in a mode, which is the direct mapper's in a pair.
 abbrev pub layout : Mode → Memory → Layout
 layout (Pair levels index) memory = direct_layout (count levels)
 layout mode memory = image_layout mode memory
 
+-- The layout of the mapper that executes the commands on the hierarchy, which is the direct one in a pair.
 abbrev pub layout_of : Hierarchy → Layout
 layout_of hierarchy = layout hierarchy.mode hierarchy.frames.memory
 
--- the hierarchy of this mapper, as the model has it
+-- The model's hierarchy of the mapper that executes the commands, which is the direct one in a pair.
 abbrev pub hierarchy_of : Hierarchy → mapper.Hierarchy (Unit {0})
 hierarchy_of hierarchy = layout_of hierarchy laid_in hierarchy.frames.memory
 
+-- The machine of the mapper that executes the commands, with its free frames, which is the direct one in a pair.
 abbrev pub machine_of : Hierarchy → Machine
 machine_of hierarchy = runs.machine_with (hierarchy_of hierarchy) (pool_store hierarchy.frames.pool)
 
--- the path map that the words mean, and the free frames
+-- The machine's state: the path map that the hierarchy's words hold, and the free frames.
 abbrev pub hierarchy_state : Hierarchy → State
 hierarchy_state hierarchy = runs.state_with (hierarchy_of hierarchy) (pool_store hierarchy.frames.pool)
 
--- whether the recursive index of a pair is among these names
+-- Whether the mode is a pair with a recursive index among these indices.
 abbrev pub is_index_named : Mode → (names : ℕ → Bool) → Bool
 is_index_named (Pair levels index) names = names index
 is_index_named mode names = false
 
--- whether no mapper executes the call: its page or address has the recursive index of a pair
+-- Whether no mapper executes the call: its page or address has the recursive index of a pair.
 abbrev pub is_refused : Mode → MapperCall → Bool
 is_refused mode call = is_index_named mode (names_by (count (levels_of mode)) call)
 
--- the result of a call: the machine's step, or `NotAllowed` with no change if no mapper executes the call
+-- The result of a call: the machine's step, or `NotAllowed` with no change if no mapper executes the call.
 abbrev pub call_step : Hierarchy → MapperCall → AfterStep Reply
 call_step hierarchy call = cond (is_refused hierarchy.mode call)
     (record { state = hierarchy_state hierarchy; reply = Some NotAllowed })
     (runs.step_by (machine_of hierarchy) (hierarchy_state hierarchy) call)
 
--- the frames that a call returns if a mapper executes it: those of the tables that a clean up removes
+-- The frames that a call returns if a mapper executes it: those of the tables that a clean up removes.
 abbrev pub call_back : Hierarchy → MapperCall → List ℕ
 call_back hierarchy call = cond (is_refused hierarchy.mode call) [] (back_by (machine_of hierarchy) (hierarchy_state hierarchy) (machine_call (machine_of hierarchy).levels call))
 
--- free frames keep their words, except that returned frames hold zeros
+-- Free frames keep their words, except that returned frames hold zeros.
 abbrev pub KeepsFree : (before : Hierarchy) → (back : List ℕ) → (after : Hierarchy) → Type 0
 KeepsFree before back after = KeepsFreeFrames (layout_of before) before.frames.memory before.frames.pool.frames back after.frames.memory after.frames.pool.frames
 
--- the recursive mapper executes a call in these frames
+-- The recursive mapper executes the call in these frames, with this reply.
 abbrev pub AnswersRecursively : (levels index : ℕ) (before : Frames) → MapperCall → (after : Frames) → Reply → Type 0
 AnswersRecursively levels index before asked after reply =
     IsAnswered (recursive_layout levels before.memory index laid_in before.memory) (pool_store before.pool) asked (recursive_layout levels after.memory index laid_in after.memory) (pool_store after.pool) reply
 
--- in a pair the recursive mapper gives this reply too
+-- In a pair the recursive mapper executes the call, too, with this reply.
 abbrev pub TwinTells : Mode → (asked : MapperCall) → (before after : Frames) → Reply → Type 0
 TwinTells (Pair levels index) asked before after reply = AnswersRecursively (count levels) index before asked after reply
 TwinTells mode asked before after reply = ⊤
 
--- this holds if the mappers execute the call
+-- In a pair the recursive mapper executes the call with this reply, unless no mapper executes it.
 abbrev pub BothAnswer : Mode → MapperCall → Reply → (before after : Frames) → Type 0
 BothAnswer mode call reply before after = is_refused mode call ≡ false → TwinTells mode call before after reply
 
--- the mapper reaches each place of the memory
+-- The mapper of the mode reaches each place of the memory. Only an offset may be such that it doesn't.
 abbrev pub IsReached : Mode → Memory → Type 0
 IsReached (Offset offset) memory = OffsetFits 4 memory offset
 IsReached mode memory = ⊤
 
+-- The hierarchy's mapper reaches each place of its memory.
 abbrev pub ReachesAll : Hierarchy → Type 0
 ReachesAll hierarchy = IsReached hierarchy.mode hierarchy.frames.memory
 
@@ -120,18 +124,19 @@ pub record IsTwin (levels index : ℕ) (frames twin : Frames) : Type 0 where
   pub fits : Fits (recursive_layout levels twin.memory index laid_in twin.memory) (pool_store twin.pool)
   pub alike : AreAlike levels (direct_layout levels laid_in frames.memory) frames.pool (recursive_layout levels twin.memory index laid_in twin.memory) twin.pool
 
--- in a pair the two hierarchies are alike
+-- In a pair the hierarchies of both mappers are alike, and the recursive mapper's is valid.
 abbrev pub HasTwin : Mode → (frames twin : Frames) → Type 0
 HasTwin (Pair levels index) frames twin = IsTwin (count levels) index frames twin
 HasTwin mode frames twin = ⊤
 
--- the hierarchy is valid, the free frames fit it, and the mapper reaches each place; in a pair both hierarchies are so, and alike
+-- The hierarchy is valid, the free frames fit it, and the mapper reaches each place. In a pair both hierarchies are so, and
+-- alike.
 pub record IsHierarchy (hierarchy : Hierarchy) : Type 0 where
   pub fits : Fits (hierarchy_of hierarchy) (pool_store hierarchy.frames.pool)
   pub reached : ReachesAll hierarchy
   pub twin : HasTwin hierarchy.mode hierarchy.frames hierarchy.twin
 
--- The mode stays, and what calls keep of the mapper's hierarchy and free frames. What `IsHierarchy` says holds again.
+-- The mode is as before, the mapper's hierarchy and free frames keep what calls keep, and `IsHierarchy` holds again.
 pub record KeepsHierarchy (before after : Hierarchy) : Type 0 where
   pub mode : after.mode ≡ before.mode
   pub keeps : Kept (hierarchy_of before) (pool_store before.frames.pool) (hierarchy_of after) (pool_store after.frames.pool)

@@ -7,7 +7,8 @@ use Rattle.pagetab_engine.specs.declared.fields.Name.TheVariants as name
 use Rattle.pagetab_engine.specs.declared.fields.Size.{Size}
 use Rattle.pagetab_engine.specs.declared.fields.Size.TheVariants.{Size4KiB, Size2MiB, Size1GiB}
 
--- whether a name, and the numbers after a size, are a call with these levels: start addresses that suit the size, and any flags
+-- The name and the numbers after a size in bytes are a call on a page with these levels: start addresses suit the size, and any
+-- flags are accepted.
 abbrev pub IsPageCall : (levels size : ℕ) → Name → List ℕ → Type 0
 IsPageCall levels size name.Map (page ∷ frame ∷ flags ∷ []) = IsPageStart levels size page × IsFrameStart size frame
 IsPageCall levels size name.MapWith (page ∷ frame ∷ flags ∷ parent_flags ∷ []) = IsPageStart levels size page × IsFrameStart size frame
@@ -21,13 +22,13 @@ IsPageCall levels size name.P2 (page ∷ flags ∷ []) = IsPageStart levels size
 IsPageCall levels size name.TranslatePage (page ∷ []) = IsPageStart levels size page
 IsPageCall levels size name numbers = ⊥
 
--- the size in bytes
+-- The number of bytes of a page of this size.
 abbrev pub bytes_of : Size → ℕ
 bytes_of Size4KiB = 0x1000
 bytes_of Size2MiB = 0x20_0000
 bytes_of Size1GiB = 0x4000_0000
 
--- the call that they write, if they write one
+-- The call on a page that a name and the numbers after a size write, if they write one.
 abbrev pub page_call_by : (levels : ℕ) → Name → List ℕ → Option PageCall
 page_call_by levels name.Map (page ∷ frame ∷ flags ∷ []) = Some (MapTo (position_at levels page) frame flags)
 page_call_by levels name.MapWith (page ∷ frame ∷ flags ∷ parent_flags ∷ []) = Some (MapToWithTableFlags (position_at levels page) frame flags parent_flags)
@@ -41,11 +42,12 @@ page_call_by levels name.P2 (page ∷ flags ∷ []) = Some (SetFlags 2 (position
 page_call_by levels name.TranslatePage (page ∷ []) = Some (TranslatePage (position_at levels page))
 page_call_by levels name numbers = None
 
--- the call on pages of a size
+-- The mapper's call for a call on a page of this size.
 abbrev pub of_size : Size → PageCall → MapperCall
 of_size Size4KiB call = Of4KiB call
 of_size Size2MiB call = Of2MiB call
 of_size Size1GiB call = Of1GiB call
 
+-- The mapper's call that a size, a name and numbers write, if they write one.
 abbrev pub call_by : (levels : ℕ) → Size → Name → List ℕ → Option MapperCall
 call_by levels size name numbers = option_map (of_size size) (page_call_by levels name numbers)

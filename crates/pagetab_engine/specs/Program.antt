@@ -18,7 +18,7 @@ use Rattle.pagetab_engine.specs.declared.ending.Fault.TheVariants.{BadLine, Inva
 use Rattle.pagetab_engine.specs.declared.hierarchy.Hierarchy.{Hierarchy}
 use Rattle.pagetab_engine.specs.declared.statement.ImageLine.{ImageLine}
 
--- neither the arguments nor the input stop the program: memory allocation, a read or a write failed
+-- The fault is a failure of memory allocation, of a read or of a write, so neither the arguments nor the input stop the program.
 abbrev pub IsForced : Fault → Type 0
 IsForced OutOfMemory = ⊤
 IsForced Input = ⊤
@@ -27,15 +27,15 @@ IsForced fault = ⊥
 
 -- ---- the commands
 
--- the line is this command
+-- The line is this command, for this number of levels and of places.
 abbrev pub SaysCommand : (levels places : ℕ) → Numbered → Command → Type 0
 SaysCommand levels places line command = SaysAccepted levels places line.line (Asks command)
 
--- the line is this line of an image
+-- The line is this line of an image, for this number of levels and of places.
 abbrev pub SaysImage : (levels places : ℕ) → Numbered → ImageLine → Type 0
 SaysImage levels places line image = SaysAccepted levels places line.line (Image image)
 
--- The reply to a command, and its effect on the hierarchy, or on both hierarchies in a pair.
+-- A command has this reply, and this effect on the hierarchy, or on both hierarchies in a pair.
 pub record Answers (command : Command) (before : Hierarchy) (answer : Reply) (after : Hierarchy) : Type 0 where
   pub reply : command_reply before command ≡ Some answer
   pub state : hierarchy_state after ≡ command_state before command
@@ -80,7 +80,7 @@ pub record IsFirst (image first : Hierarchy) : Type 0 where
   pub mode : first.mode ≡ image.mode
   pub twin : first.twin ≡ image.twin
 
--- the image is complete: the next line is a command, or there is none
+-- The image is complete: the next line is a command, or there is none.
 abbrev pub IsRead : (levels places : ℕ) → List Numbered → Type 0
 IsRead levels places [] = ⊤
 IsRead levels places (line ∷ lines) = (command : Command) × SaysCommand levels places line command
@@ -100,7 +100,7 @@ pub data Reads (levels places : ℕ) : (lines : List Numbered) → Hierarchy →
 
 -- ---- the run
 
--- the arguments' number of levels
+-- The number of levels of tables in the arguments' mode.
 abbrev pub levels_in : Arguments → ℕ
 levels_in arguments = count (levels_of arguments.mode)
 
@@ -115,15 +115,15 @@ pub data IsRun (words : List (List ℕ)) (input : List ℕ) : Ending → (replie
       → Reads (levels_in arguments) arguments.places (numbered_from 1 (lines_of input)) hierarchy ending replies → IsRun words input ending replies
   no_memory : (arguments : Arguments) → Says words arguments → IsRun words input (Stopped OutOfMemory) []
 
--- a first part of a line, but not all of it
+-- The bytes are a first part of the line, which may be empty, but not all of it.
 abbrev pub IsFrontPart : (front line : List ℕ) → Type 0
 IsFrontPart front line = (byte : ℕ) × (left : List ℕ) × (line ≡ front ++ byte ∷ left)
 
--- only a first part of the line was written
+-- A first part of the line was written, but not all of it.
 abbrev pub AppendsFront : (before after : Option (List ℕ)) → (line : List ℕ) → Type 0
 AppendsFront before after line = (front : List ℕ) × IsFrontPart front line × Appends before after front
 
--- the replies before the last are written as lines, and only a first part of the last one's line
+-- The replies before the last are written as lines, and only a first part of the last one's line.
 abbrev pub IsCutShort : (before after : Option (List ℕ)) → (replies : List Reply) → Type 0
 IsCutShort before after replies = (whole : List Reply) × (last : Reply) × (front : List ℕ)
     × (replies ≡ whole ++ last ∷ []) × IsFrontPart front (reply_line last) × Appends before after (flat_map reply_line whole ++ front)
@@ -133,6 +133,6 @@ abbrev pub IsWritten : (before after : Option (List ℕ)) → Ending → (replie
 IsWritten before after (Stopped Output) replies = IsCutShort before after replies
 IsWritten before after ending replies = Appends before after (flat_map reply_line replies)
 
--- the replies of a run with this ending are written
+-- A run on these arguments and this input has this ending, and its replies are written.
 abbrev pub Runs : (words : List (List ℕ)) (input : List ℕ) (before after : Option (List ℕ)) → Ending → Type 0
 Runs words input before after ending = (replies : List Reply) × IsRun words input ending replies × IsWritten before after ending replies

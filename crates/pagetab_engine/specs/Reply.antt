@@ -14,43 +14,44 @@ use Rattle.pagetab_engine.specs.declared.hierarchy.Hierarchy.{Hierarchy}
 use Rattle.pagetab_engine.specs.declared.reply.Reply as rust
 use Rattle.pagetab_engine.specs.declared.reply.Reply.TheVariants as reply
 
--- the reply to a command
+-- The reply to a command: the reply to a call, where a page walk arrives, a word, or the free frames.
 pub data Reply : Type 0 where
   Answered : CallReply → Reply
   Arrival : Option Walked → Reply
   Word : ℕ → Reply
   Pool : (frames : List ℕ) → Reply
 
--- that of the program, for any number of levels
+-- A reply of the program in numbers, for any number of levels.
 abbrev pub reply_of : {L : Type 0} → rust.Reply L → Reply
 reply_of (reply.Answered answer) = Answered answer
 reply_of (reply.Arrival walked) = Arrival (option_map walked_of walked)
 reply_of (reply.Word word) = Word word
 reply_of (reply.Pool frames) = Pool frames.items
 
--- the reply to a call is the machine's, and the reply to another command is what the definitions say about the hierarchy
+-- The reply to a command. It is the machine's to a call, or else where the page walk arrives from the root in frame 0x1000, the
+-- word in the slot, or the free frames. It is `None` if the machine never replies to such a call so.
 abbrev pub command_reply : Hierarchy → Command → Option Reply
 command_reply hierarchy (Call call) = option_map Answered (call_step hierarchy call).reply
 command_reply hierarchy (Walk position) = Some (Arrival (page_walk (count (levels_of hierarchy.mode)) (words_of hierarchy.frames.memory identity_places) 0x1000 position))
 command_reply hierarchy (Show slot) = Some (Word (word_in hierarchy.frames.memory slot.place slot.index))
 command_reply hierarchy command.Pool = Some (Pool hierarchy.frames.pool.frames)
 
--- a command other than a call only reads, and so does a call that no mapper executes
+-- The command only reads: it isn't a call, or it is one that no mapper executes.
 abbrev pub OnlyReads : Hierarchy → Command → Type 0
 OnlyReads hierarchy (Call call) = is_refused hierarchy.mode call ≡ true
 OnlyReads hierarchy asked = ⊤
 
--- the state after a command: the machine's after a call, and unchanged otherwise
+-- The state after a command: the machine's after a call, and unchanged otherwise.
 abbrev pub command_state : Hierarchy → Command → State
 command_state hierarchy (Call call) = (call_step hierarchy call).state
 command_state hierarchy asked = hierarchy_state hierarchy
 
--- the frames that a command returns, which only a call may do
+-- The frames that a command returns, which only a call may do.
 abbrev pub command_back : Hierarchy → Command → List ℕ
 command_back hierarchy (Call call) = call_back hierarchy call
 command_back hierarchy asked = []
 
--- in a pair both mappers give the reply to a call if they execute it
+-- In a pair the recursive mapper has the same reply to a call, unless no mapper executes it.
 abbrev pub IsToldByBoth : (before : Hierarchy) → Command → Reply → (after : Hierarchy) → Type 0
 IsToldByBoth before (Call call) (Answered answer) after = BothAnswer before.mode call answer before.twin after.twin
 IsToldByBoth before asked told after = ⊤

@@ -4,22 +4,24 @@ use Rattle.std.specs.FinMap.{get, insert}
 use Rattle.x86_64_model.specs.Memory.{Memory}
 use Rattle.pagetab_engine.specs.declared.slot.Slot.{Slot}
 
--- the slot at an index of the table that starts at an address
+-- The slot at an index of the table in the frame that starts at an address: the table's place is the frame's number.
 abbrev pub slot_at : (start index : ℕ) → Slot
 slot_at start index = record { place = start / 4096; index = index }
 
+-- The word at an index of a table, or 0 if there is no table.
 abbrev pub word_of_table : Option (List ℕ) → (index : ℕ) → ℕ
 word_of_table None index = 0
 word_of_table (Some table) index = slice_index table index
 
--- the word at an index of the table at a place, or 0 if there is no table
+-- The word at an index of the table at a place, or 0 if there is no table.
 abbrev pub word_in : Memory → (place index : ℕ) → ℕ
 word_in memory place index = word_of_table (get memory place) index
 
+-- The memory after a word was set in this table at a place, unchanged if there is no table.
 abbrev pub stored_in : Memory → (place index word : ℕ) → Option (List ℕ) → Memory
 stored_in memory place index word None = memory
 stored_in memory place index word (Some table) = insert memory place (slice_set table index word)
 
--- the memory after a word was set, unchanged if there is no table
+-- The memory after a word was set in the table at a place, unchanged if there is no table there.
 abbrev pub stored : Memory → (place index word : ℕ) → Memory
 stored memory place index word = stored_in memory place index word (get memory place)

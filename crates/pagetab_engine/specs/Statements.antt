@@ -12,7 +12,7 @@ use Rattle.pagetab_engine.specs.declared.fields.Name.TheVariants as name
 use Rattle.pagetab_engine.specs.declared.fields.Size.{Size}
 use Rattle.pagetab_engine.specs.declared.statement.ImageLine.TheVariants.{Word, Free}
 
--- whether a name and numbers without SIZE are a statement, for this number of levels and of places
+-- The name and the numbers, without a size, are a statement for this number of levels and of places.
 abbrev pub IsPlain : (levels places : ℕ) → Name → List ℕ → Type 0
 IsPlain levels places name.Word (frame ∷ index ∷ value ∷ []) = IsTableStart places frame × (index < 512)
 IsPlain levels places name.Free (frame ∷ []) = IsTableStart places frame
@@ -25,7 +25,8 @@ IsPlain levels places name.CleanUp [] = ⊤
 IsPlain levels places name.CleanUpRange (first ∷ last ∷ []) = IsPageStart levels 4096 first × IsPageStart levels 4096 last
 IsPlain levels places other numbers = ⊥
 
--- the statement that they write, if they write one; a range of pages ends at the last address of its last page
+-- The statement that a name and numbers write without a size, if they write one. A range of pages ends at the last address of its
+-- last page.
 abbrev pub plain_by : (levels : ℕ) → Name → List ℕ → Option Statement
 plain_by levels name.Word (frame ∷ index ∷ value ∷ []) = Some (Image (Word (slot_at frame index) value))
 plain_by levels name.Free (frame ∷ []) = Some (Image (Free frame))
@@ -38,12 +39,12 @@ plain_by levels name.CleanUp [] = Some (Asks (Call CleanUp))
 plain_by levels name.CleanUpRange (first ∷ last ∷ []) = Some (Asks (Call (CleanUpRange (position_at levels first) (position_at levels last + 0xfff))))
 plain_by levels other numbers = None
 
--- whether these fields are a statement
+-- The name, the size if there is one, and the numbers are a statement for this number of levels and of places.
 abbrev pub IsStatement : (levels places : ℕ) → Name → Option Size → List ℕ → Type 0
 IsStatement levels places name None numbers = IsPlain levels places name numbers
 IsStatement levels places name (Some size) numbers = IsPageCall levels (bytes_of size) name numbers
 
--- the statement that these fields write, if they write one
+-- The statement that a name, a size if there is one, and numbers write, if they write one.
 abbrev pub statement_by : (levels : ℕ) → Name → Option Size → List ℕ → Option Statement
 statement_by levels name None numbers = plain_by levels name numbers
 statement_by levels name (Some size) numbers = option_map (λ call. Asks (Call call)) (call_by levels size name numbers)

@@ -1,7 +1,8 @@
 -- The colours of rights.
 use Rattle.std.specs.Prelude.{ℕ, Bool, true, false, List, codes}
 
--- the colour of readable memory, by whether it is writable and executable: light blue, blue, yellow and dark red
+-- The colour of readable memory, by whether it is writable and executable: light blue if neither, blue if writable, yellow if
+-- executable, dark red if both.
 abbrev pub colour_of : (write execute : Bool) → List ℕ
 colour_of false false = codes "#a6cee3"
 colour_of true false = codes "#1f6fb4"

@@ -6,6 +6,6 @@ use Rattle.x86_64_model.specs.PageWalk.{read}
 use Rattle.x86_64_tables.specs.PageTableEntry.{frame_of}
 use Rattle.ptdump_picture.specs.declared.links.TableLink.{TableLink}
 
--- the entry at the link's index exists and names the link's child
+-- The entry at the link's index in its parent table is present, isn't huge, and names the link's child.
 abbrev pub IsLink : Words → TableLink → Type 0
 IsLink words link = option_map frame_of (read words link.parent link.index) ≡ Some (Ok link.child)

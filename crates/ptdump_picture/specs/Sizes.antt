@@ -1,12 +1,12 @@
 -- Sizes: numbers of bytes as short texts.
 use Rattle.std.specs.Prelude.{ℕ, ◌==◌, ◌*◌, ◌/◌, ◌%◌, ◌^◌, ◌++◌, ◌||◌, nat_le, if◌then◌else◌, List, codes, decimal}
 
--- a unit of sizes: its number of bytes, and its name
+-- A unit of sizes: its number of bytes, and its name.
 pub record SizeUnit : Type 0 where
   pub bytes : ℕ
   pub name : List ℕ
 
--- the largest of KiB, MiB, GiB and TiB that isn't larger than a number of bytes, or KiB if there is none
+-- The largest of KiB, MiB, GiB and TiB that isn't larger than a number of bytes, or KiB if there is none.
 abbrev pub unit_of : (bytes : ℕ) → SizeUnit
 unit_of bytes =
     if nat_le (2 ^ 40) bytes then record { bytes = 2 ^ 40; name = codes "TiB" }
@@ -14,12 +14,12 @@ unit_of bytes =
     else (if nat_le (2 ^ 20) bytes then record { bytes = 2 ^ 20; name = codes "MiB" }
     else record { bytes = 2 ^ 10; name = codes "KiB" }))
 
--- a number of bytes in a unit, rounded down to tenths, or to whole units if that is exact or there are 1000 units or more
+-- A number of bytes in a unit, rounded down to tenths, or to whole units if that is exact or there are 1000 units or more.
 abbrev pub text_in : SizeUnit → (bytes : ℕ) → List ℕ
 text_in unit bytes =
     if bytes % unit.bytes == 0 || nat_le 1000 (bytes / unit.bytes) then decimal (bytes / unit.bytes) ++ unit.name
     else decimal (bytes / unit.bytes) ++ codes "." ++ decimal (bytes % unit.bytes * 10 / unit.bytes) ++ unit.name
 
--- a number of bytes as a short text
+-- A number of bytes as a short text, in the largest unit that isn't larger.
 abbrev pub short_size : (bytes : ℕ) → List ℕ
 short_size bytes = text_in (unit_of bytes) bytes

@@ -15,6 +15,6 @@ pub record InUse {Lent : Type 0} (h : Hierarchy Lent) (store : Store) (cached : 
 abbrev pub CachesIn : {Lent : Type 0} → Hierarchy Lent → (before after : List Cached) → Type 0
 CachesIn h before after = CachesOften h.layout.levels h.layout.root (words h) before after
 
--- Each access to a page goes with the page walk, with no right more.
+-- Each access goes to the page where the page walk in the hierarchy goes, with no right more.
 abbrev pub AccessesGoIn : {Lent : Type 0} → Hierarchy Lent → List Cached → Type 0
 AccessesGoIn h cached = AccessesGo h.layout h.memory cached

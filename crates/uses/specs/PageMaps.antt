@@ -10,11 +10,13 @@ use Rattle.x86_64_model.specs.Refusal.{Answer}
 use Rattle.x86_64.specs.Asked as list
 use Rattle.x86_64.specs.Asked.{MapperCall}
 
--- If the hierarchy allows the map, it gives this answer, is `after` then, and the rest of the supply is left.
+-- If the hierarchy allows the map of a 4KiB page, the map has this answer, and it leaves the hierarchy `after` and the rest of
+-- the supply.
 abbrev pub MapsIfAllowed : {Lent : Type 0} → (h : Hierarchy Lent) → (supply : List ℕ) → PageCall → Answer → (after : Hierarchy Lent) → (rest : List ℕ) → Type 0
 MapsIfAllowed h supply call answer after rest = allows_call h 1 call ≡ true → AnswersMap h supply 1 call answer after rest
 
--- The same of what the hierarchy maps and of the supply alone.
+-- If the hierarchy allows the map of a 4KiB page, the map has this answer, and turns the path map and the supply into those after
+-- it.
 abbrev pub StepsIfAllowed : {Lent : Type 0} → (h : Hierarchy Lent) → (supply : List ℕ) → PageCall → Answer → (after : Hierarchy Lent) → (rest : List ℕ) → Type 0
 StepsIfAllowed h supply call answer after rest = allows_call h 1 call ≡ true → Steps h supply (asked h 1 call) answer after rest
 
@@ -36,6 +38,6 @@ MayMapBuffer h range count = (present range.parent_flags ≡ true) × MayMapRang
 
 -- ---- a list of calls
 
--- Map a page, unmap it, and return the frames of empty tables.
+-- Three calls: the first maps a page, the second unmaps it, and the third returns the frames of all empty tables.
 abbrev pub three_calls : (page frame flags : ℕ) → List MapperCall
 three_calls page frame given = list.Of4KiB (MapTo page frame given) ∷ list.Of4KiB (Unmap page) ∷ list.CleanUp ∷ []

@@ -18,7 +18,7 @@ use Rattle.uses.specs.SpacesBeside.{OthersStay}
 abbrev pub is_kernels : (index : ℕ) → Bool
 is_kernels i = nat_le 256 i && nat_lt i 512
 
--- All keep their path maps.
+-- All of these address spaces keep their path maps from the memory m to the memory n.
 abbrev pub AllStay : (spaces : List Layout) → (m n : Memory) → Type 0
 AllStay spaces m n = (space : Layout) → In spaces space → paths (space laid_in n) ≡ paths (space laid_in m)
 
@@ -42,7 +42,7 @@ pub record IsServed {Lent : Type 0} (process : Hierarchy Lent) (store : Store) (
   pub others : (spaces : List Layout) → In spaces process.layout → AreSpaces is_kernels process.memory store.serves store.frames spaces
       → AreSpaces is_kernels after.memory store.serves rest spaces × OthersStay spaces process.layout process.memory after.memory
 
--- A call on a page, if that isn't in the kernel's half.
+-- The call on a page alone, or no call if the page is in the kernel's half.
 abbrev pub if_own : (page : ℕ) → Call → List Call
 if_own page call = if is_kernels (index 4 page) then [] else call ∷ []
 
@@ -67,7 +67,7 @@ lower_clean_up = CleanUp 0 0x7fff_ffff_ffff
 abbrev pub ending : (pages : List ℕ) → List Call
 ending pages = unmaps pages ++ lower_clean_up ∷ []
 
--- Some entry of the process's own half is used.
+-- The root has a used entry in the process's own half.
 abbrev pub IsUsed : Layout → Memory → Type 0
 IsUsed process m = HasSharedAlone is_kernels process m → ⊥
 

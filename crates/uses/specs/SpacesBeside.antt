@@ -10,7 +10,7 @@ use Rattle.x86_64_model.specs.PathMap.{entry}
 use Rattle.x86_64_model.specs.Spaces.{AreSpaces, Avoids, SparesRoot}
 use Rattle.x86_64_model.specs.Store.{Store, KeepsPool}
 
--- The spaces with another root than this one keep their path maps.
+-- The address spaces with another root than this one keep their path maps from the memory m to the memory n.
 abbrev pub OthersStay : (spaces : List Layout) → Layout → (m n : Memory) → Type 0
 OthersStay spaces one m n = (other : Layout) → In spaces other → one.root ≢ other.root → paths (other laid_in n) ≡ paths (other laid_in m)
 
@@ -22,7 +22,7 @@ pub record LeavesSpaces {Lent : Type 0} (one : Hierarchy Lent) (store : Store) (
   -- If no call touches anything below a shared index, all are address spaces again, and the others keep their path maps.
   pub users : (shared : ℕ → Bool) (spaces : List Layout) → In spaces one.layout → AreSpaces shared one.memory store.serves store.frames spaces
       → AllByRecursion (Avoids one.layout.levels shared) calls → AreSpaces shared n store.serves rest spaces × OthersStay spaces one.layout one.memory n
-  -- So too, whichever calls these are, if no index is shared.
+  -- If no index is shared, all are address spaces again, whichever calls these are, and the others keep their path maps.
   pub apart : (spaces : List Layout) → In spaces one.layout → AreSpaces (λ i. false) one.memory store.serves store.frames spaces
       → AreSpaces (λ i. false) n store.serves rest spaces × OthersStay spaces one.layout one.memory n
   -- If no call changes the root's entries at the shared indices, all are address spaces again.

@@ -31,32 +31,34 @@ use Rattle.uses.specs.declared.switching_kernel.Process.{Process}
 
 -- ---- a processor
 
--- What CR3 says: the root and the PCID. The root that the kernel knows to have loaded last with each PCID, if it does. And the
--- pages and tables that the processor has cached.
+-- What contracts see of a processor: the root and the PCID in CR3, the root that the kernel knows to have loaded last with each
+-- PCID, if it does, and the pages and tables that the processor has cached.
 pub record ProcessorState : Type 0 where
   pub root : ℕ
   pub pcid : ℕ
   pub loaded : (pcid : ℕ) → Option ℕ
   pub cached : List Tagged
 
+-- The processor's state with these cached items, and otherwise as it was.
 abbrev pub with_cached : List Tagged → ProcessorState → ProcessorState
 with_cached items s = record s { cached = items }
 
--- It has loaded no root but this one, with this PCID, and has cached nothing.
+-- The processor has loaded no root but this one, with this PCID, and has cached nothing.
 pub record BeginsWith (root pcid : ℕ) (now : ProcessorState) : Type 0 where
   pub has_root : now.root ≡ root
   pub has_pcid : now.pcid ≡ pcid
   pub loaded : (c r : ℕ) → now.loaded c ≡ Some r → holder_with pcid (Some root) (λ c. None) c ≡ Some r
   pub cached : now.cached ≡ []
 
--- It loaded CR3, and kept the items of this PCID or not (bit 63). The kernel may forget what it loaded with other PCIDs.
+-- The processor loaded CR3 with a root and a PCID, and kept the items of this PCID or not (bit 63). The kernel may forget what it
+-- loaded with other PCIDs.
 pub record LoadsCr3 (root pcid : ℕ) (keeps : Bool) (before now : ProcessorState) : Type 0 where
   pub has_root : now.root ≡ root
   pub has_pcid : now.pcid ≡ pcid
   pub loaded : (c r : ℕ) → now.loaded c ≡ Some r → holder_with pcid (Some root) before.loaded c ≡ Some r
   pub left : (c : Tagged) → In now.cached c → In before.cached c × (is_left_by_load pcid keeps c.tag ≡ true)
 
--- It executed INVPCID for all items of a PCID but global ones.
+-- The processor executed INVPCID for all items of a PCID but global ones.
 pub record FlushesPcid (pcid : ℕ) (before now : ProcessorState) : Type 0 where
   pub same : now ≡ with_cached now.cached before
   pub left : (c : Tagged) → In now.cached c → In before.cached c × (is_left 4 before.pcid (InvpcidContext pcid) c.tag c.item ≡ true)
@@ -66,7 +68,7 @@ abbrev pub CachesInTurn : (root pcid : ℕ) → Words → (before : List Tagged)
 CachesInTurn root pcid T before [] now = before ≡ now
 CachesInTurn root pcid T before (next ∷ more) now = CachesTagged 4 root pcid T before next × CachesInTurn root pcid T next more now
 
--- It cached what it found in the memory, and nothing else changed.
+-- The processor cached what it found in the memory, and nothing else changed.
 pub record CachesIn (m : Memory) (before now : ProcessorState) : Type 0 where
   pub same : now ≡ with_cached now.cached before
   pub between : List (List Tagged)
@@ -89,6 +91,7 @@ pub record KernelState : Type 0 where
   pub first : ProcessorState
   pub second : ProcessorState
 
+-- What contracts see of a kernel in Rust, by what they see of its memory and of its processors.
 abbrev pub state_of : {T C : Type 0} → (tables : T → Memory) → (state : C → ProcessorState) → KernelOf T C → KernelState
 state_of tables state kernel = record {
   processes = kernel.processes.items;
@@ -99,9 +102,11 @@ state_of tables state kernel = record {
   second = state kernel.second;
 }
 
+-- The address space of a process: four levels, its root, and each frame at the place with its number.
 abbrev pub space_of : Process → Layout
 space_of process = direct identity_places process.root
 
+-- The address spaces of the processes, in order.
 abbrev pub spaces_of : List Process → List Layout
 spaces_of processes = map space_of processes
 
@@ -155,7 +160,7 @@ pub record MapsInto (path : List ℕ) (e frame : ℕ) : Type 0 where
   pub low : offset < 4096
   pub inside : in_page 4 path (page_start (level_of 4 path) e) (frame + offset) ≡ true
 
--- So does the entry of a process.
+-- The entry of a process at a path is present, and maps a page that has an address in the frame.
 abbrev pub Maps : Memory → Process → (path : List ℕ) → (frame : ℕ) → Type 0
 Maps m process path frame = MapsInto path (entry (paths (space_of process laid_in m)) path) frame
 
@@ -183,12 +188,12 @@ UnmappedIsUnreached = (s : KernelState) → Runs s → s.late ≡ None → (fram
 
 -- ---- what the kernel does
 
--- The frame of the page, in the reply to an unmap of it.
+-- The frame in the reply to an accepted unmap of a 4KiB page.
 abbrev pub unmapped_frame : Reply → Option ℕ
 unmapped_frame (replies.Of4KiB (page_reply.Unmap (Ok done))) = Some done.0
 unmapped_frame other = None
 
--- A call in the process's own half: it touches nothing of the kernel's half, makes no page there GLOBAL, and maps no large page. What
+-- A call in the process's own half: it touches nothing of the kernel's half, makes no page GLOBAL, and maps no large page. What
 -- it makes due is late.
 pub record IsOwnCall (late : Option ℕ) (process : Process) (call : Call) : Type 0 where
   pub avoids : Avoids 4 is_kernels call

@@ -5,18 +5,20 @@ use Rattle.x86_64_model.specs.Call as machine
 pub use Rattle.x86_64_model.specs.PageCalls.{PageCall, MapTo, MapToWithTableFlags, IdentityMap, Unmap, UpdateFlags, SetFlags, TranslatePage, page_call}
 use Rattle.x86_64_model.specs.Position.{index, lower_half, position_count}
 
+-- A call of a mapper in numbers, for any number of levels: pages and addresses are positions, frames are addresses, and flags are
+-- bits.
 pub data MapperCall : Type 0 where
   Of4KiB : PageCall → MapperCall
   Of2MiB : PageCall → MapperCall
   Of1GiB : PageCall → MapperCall
   Translate : (position : ℕ) → MapperCall
   TranslateAddr : (position : ℕ) → MapperCall
-  -- of all positions
+  -- Cleans up all positions.
   CleanUp : MapperCall
-  -- of the positions from low to high
+  -- Cleans up the positions from low to high, inclusive.
   CleanUpRange : (low high : ℕ) → MapperCall
 
--- the machine's call for a call
+-- The machine's call for a mapper's call, with L levels of tables: it names a page by the path of its entry.
 abbrev pub machine_call : (L : ℕ) → MapperCall → machine.Call
 machine_call L (Of4KiB call) = page_call L 1 call
 machine_call L (Of2MiB call) = page_call L 2 call
@@ -26,14 +28,14 @@ machine_call L (TranslateAddr position) = machine.TranslateAddress position
 machine_call L CleanUp = machine.CleanUp 0 (position_count L - 1)
 machine_call L (CleanUpRange low high) = machine.CleanUp low high
 
--- the machine's calls for a list of calls
+-- The machine's calls for a list of calls of some type, each of which `asks` turns into a mapper's call in numbers.
 abbrev pub calls_by : {C : Type 0} → (asks : C → MapperCall) → (L : ℕ) → List C → List machine.Call
 calls_by asks L calls = map (λ call. machine_call L (asks call)) calls
 
 -- ---- the index of the highest level
 
--- whether the page has this index of the highest level; an identity map has one if the frame's address is in the lower half, and
--- so is its own position
+-- Whether the page of a call has the index i of the highest level. An identity map has a page only if its frame lies in the lower
+-- half, where a position equals its address.
 abbrev pub page_names : (L : ℕ) → PageCall → (i : ℕ) → Bool
 page_names L (MapTo page frame flags) i = index L page == i
 page_names L (MapToWithTableFlags page frame flags parent_flags) i = index L page == i
@@ -43,7 +45,7 @@ page_names L (UpdateFlags page flags) i = index L page == i
 page_names L (SetFlags at page flags) i = index L page == i
 page_names L (TranslatePage page) i = index L page == i
 
--- whether the call's page or address has this index of the highest level; a clean up has none
+-- Whether the page or address of a mapper's call has the index i of the highest level. A clean up names no index.
 abbrev pub names_by : (L : ℕ) → MapperCall → (i : ℕ) → Bool
 names_by L (Of4KiB call) i = page_names L call i
 names_by L (Of2MiB call) i = page_names L call i

@@ -12,11 +12,11 @@ use Rattle.std.specs.declared.convert.Infallible.{Infallible}
 use Rattle.x86_64.specs.declared.call_values.CallIn.{CallIn}
 use Rattle.x86_64.specs.declared.call_values.CallIn.TheVariants.{Of4KiB, Of2MiB, Of1GiB, Translate, TranslateAddr, CleanUp, CleanUpRange}
 
--- the bits of flags of level five with four levels, when there are no such flags
+-- The bits of the flags of an entry of level five with four levels, where there are no such flags.
 abbrev pub no_bits : Infallible → ℕ
 no_bits = elim [ ]
 
--- the call on numbers for a call on a page; bits are those of the flags of level five
+-- A call on a page of one size in numbers. `bits` returns the bits of flags of level five.
 abbrev pub size_asks : {S L P5 : Type 0} → (bits : P5 → ℕ) → SizeCallIn S L P5 → PageCall
 size_asks bits (MapTo page frame flags) = asked.MapTo page frame (bits_of flags)
 size_asks bits (MapToWithTableFlags page frame flags parent_flags) = asked.MapToWithTableFlags page frame (bits_of flags) (bits_of parent_flags)
@@ -29,7 +29,8 @@ size_asks bits (SetFlagsP3 page flags) = asked.SetFlags 3 page (bits_of flags)
 size_asks bits (SetFlagsP2 page flags) = asked.SetFlags 2 page (bits_of flags)
 size_asks bits (TranslatePage page) = asked.TranslatePage page
 
--- the call on numbers for a call of a mapper
+-- A call of a mapper in numbers. `bits` returns the bits of flags of level five. A clean up of a range goes up to the last byte
+-- of its last page.
 abbrev pub asks : {L P5 : Type 0} → (bits : P5 → ℕ) → CallIn L P5 → MapperCall
 asks bits (Of4KiB call) = asked.Of4KiB (size_asks bits call)
 asks bits (Of2MiB call) = asked.Of2MiB (size_asks bits call)
@@ -39,11 +40,13 @@ asks bits (TranslateAddr addr) = asked.TranslateAddr addr
 asks bits CleanUp = asked.CleanUp
 asks bits (CleanUpRange range) = asked.CleanUpRange range.start (range.end + 0xfff)
 
--- the page at a frame's own address; an address of the lower half is its own position, and no other frame address is a page's
+-- The position of the page at a frame's own address, if there is such a page. In the lower half an address is its own position,
+-- and no other frame's address is canonical.
 abbrev pub identity_page : (L frame : ℕ) → Option ℕ
 identity_page L frame = cond (nat_lt frame (lower_half L)) (Some frame) None
 
--- the position where the page of a call on a page starts, if there is one
+-- The position where the page of a call on a page starts, or `None` for an identity map if there is no page at the frame's
+-- address.
 abbrev pub page_of : (L : ℕ) → PageCall → Option ℕ
 page_of L (asked.MapTo page frame flags) = Some page
 page_of L (asked.MapToWithTableFlags page frame flags parent_flags) = Some page
@@ -53,7 +56,8 @@ page_of L (asked.UpdateFlags page flags) = Some page
 page_of L (asked.SetFlags at page flags) = Some page
 page_of L (asked.TranslatePage page) = Some page
 
--- the position where a call's page starts; translations of an address and clean ups have none
+-- The position where the page of a mapper's call starts, if the call has a page. Translations of an address and clean ups have
+-- none.
 abbrev pub page_start : (L : ℕ) → MapperCall → Option ℕ
 page_start L (asked.Of4KiB call) = page_of L call
 page_start L (asked.Of2MiB call) = page_of L call
@@ -63,14 +67,15 @@ page_start L (asked.TranslateAddr position) = None
 page_start L asked.CleanUp = None
 page_start L (asked.CleanUpRange low high) = None
 
--- whether the call's page has this index of the highest level
+-- Whether the page of a call on a page of one size has the index i of the highest level.
 abbrev pub size_names : {S L P5 : Type 0} → (levels : ℕ) → (bits : P5 → ℕ) → SizeCallIn S L P5 → (i : ℕ) → Bool
 size_names levels bits call i = page_names levels (size_asks bits call) i
 
--- whether the call's page or address has this index of the highest level; a clean up has none
+-- Whether the page or address of a call of a mapper has the index i of the highest level. A clean up names no index.
 abbrev pub names : {L P5 : Type 0} → (levels : ℕ) → (bits : P5 → ℕ) → CallIn L P5 → (i : ℕ) → Bool
 names levels bits call i = names_by levels (asks bits call) i
 
--- whether the page at a position lies in the hierarchy's recursive window: its index of the highest level is the recursive index
+-- Whether the page of a level at a position lies in the hierarchy's recursive window: its index of the highest level is the
+-- recursive index.
 abbrev pub in_window : {Lent : Type 0} → Hierarchy Lent → (level page : ℕ) → Bool
 in_window h level page = begins_with h.layout.window (path_of h level page)

@@ -19,7 +19,7 @@ EmptyRootsAreSpaces = (spaces : List Layout) (first : Layout) → In spaces firs
     → ((i : ℕ) → word (words (first laid_in m)) root i ≡ 0) → ((a : Layout) → In spaces a → Owns (a laid_in m) pool root → ⊥)
     → AreSpaces (λ i. false) m serves pool (direct_at first.levels first.places root ∷ spaces)
 
--- For example two empty roots, with a free frame.
+-- For example, two empty roots with a free frame are address spaces in some memory.
 abbrev pub TwoEmptyRoots : Type 0
 TwoEmptyRoots = (levels : ℕ) → 0 < levels → (m : Memory)
     × AreSpaces (λ i. false) m (λ f. true) (0x3000 ∷ []) (direct_at levels identity_places 0x1000 ∷ direct_at levels identity_places 0x2000 ∷ [])

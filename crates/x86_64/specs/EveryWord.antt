@@ -6,11 +6,13 @@ use Rattle.x86_64_model.specs.Store.{KeepsPool}
 use Rattle.x86_64_model.specs.Memory.{Memory, Words, IsMapping, word}
 use Rattle.x86_64.specs.FreeFrames.{KeepsFree}
 
--- the tables in all frames have equal words
+-- Both have equal words in every frame. In a frame without a table all words count as 0.
 abbrev pub SameWords : Words → Words → Type 0
 SameWords T U = (f i : ℕ) → word T f i ≡ word U f i
 
--- what is known of the words after calls: the frames that were returned, and what is kept
+-- What is known after calls that led from the memory m and a pool to the memory n and the rest of the pool, and returned the
+-- frames in back. The rest fits, only words of tables and of frames that were free changed, and each free frame has zeros or the
+-- words that it had.
 pub record IsLeft (layout : Layout) (m : Memory) (pool back : List ℕ) (n : Memory) (rest : List ℕ) : Type 0 where
   pub serves : ℕ → Bool
   pub keeps : KeepsPool layout serves m pool n rest

@@ -21,21 +21,23 @@ use Rattle.x86_64.specs.Replies.{SizeReply, Reply}
 use Rattle.x86_64.specs.declared.call_values.PageReply.TheVariants.{Map, Unmap, Update, TableFlags, Frame}
 use Rattle.x86_64.specs.declared.call_values.MapperReply.TheVariants as reply
 
--- the item of a page of a size, if the call was accepted
+-- The item for the page in a call's result, of this size in bytes, or none if the call was refused.
 abbrev pub page_items : {E : Type 0} → (levels size : ℕ) → Result ℕ E → List FlushItem
 page_items levels size (Ok page) = page_item levels page size ∷ []
 page_items levels size (Err why) = []
 
+-- The item for the page in the result of an `unmap`, of this size in bytes, or none if it was refused. The result holds the frame
+-- and the page.
 abbrev pub unmapped_items : {E : Type 0} → (levels size : ℕ) → Result (ℕ × ℕ) E → List FlushItem
 unmapped_items levels size (Ok unmapped) = page_item levels unmapped.1 size ∷ []
 unmapped_items levels size (Err why) = []
 
--- a change to a table entry flushes all pages
+-- The item for all pages after a change of a table entry's flags, or none if the change was refused.
 abbrev pub all_items : {X E : Type 0} → Result X E → List FlushItem
 all_items (Ok done) = All ∷ []
 all_items (Err why) = []
 
--- the items of a call on a page of a size, from its reply
+-- The items recorded for a call on a page of this size in bytes, by its reply.
 abbrev pub size_items : {S : Type 0} → (levels size : ℕ) → SizeReply S → List FlushItem
 size_items levels size (Map mapped) = page_items levels size mapped
 size_items levels size (Unmap unmapped) = unmapped_items levels size unmapped
@@ -43,7 +45,7 @@ size_items levels size (Update updated) = page_items levels size updated
 size_items levels size (TableFlags done) = all_items done
 size_items levels size (Frame frame) = []
 
--- the items of a call, from its reply
+-- The items recorded for a call of a mapper, by its reply.
 abbrev pub items_of : (levels : ℕ) → Reply → List FlushItem
 items_of levels (reply.Of4KiB answer) = size_items levels 0x1000 answer
 items_of levels (reply.Of2MiB answer) = size_items levels 0x20_0000 answer
@@ -53,21 +55,22 @@ items_of levels (reply.Address address) = []
 items_of levels reply.Cleaned = []
 items_of levels reply.NotAllowed = []
 
--- the items of a list of calls, from their replies
+-- The items recorded for a list of calls in order, by their replies.
 abbrev pub items_told : (levels : ℕ) → List Reply → List FlushItem
 items_told levels [] = []
 items_told levels (answer ∷ answers) = items_of levels answer ++ items_told levels answers
 
--- the level of pages of this size
+-- The level of the entries that map pages of this size: one for 4KiB, two for 2MiB, three for 1GiB.
 abbrev pub level_of_size : (size : ℕ) → ℕ
 level_of_size size = cond (size == 0x1000) 1 (cond (size == 0x20_0000) 2 3)
 
--- the positions that an item covers: those of the page of its size that starts there, or all
+-- The model's item for a recorded one. It covers the positions of the page of this size that starts there, or all positions.
 abbrev pub item_of : FlushItem → flush.Item
 item_of (Page start size) = flush.OnePage (path_at 4 (level_of_size size) start)
 item_of (Page57 start size) = flush.OnePage (path_at 5 (level_of_size size) start)
 item_of All = flush.Everything
 
+-- No recorded item covers the position.
 abbrev pub NoneCovers : (levels : ℕ) → List FlushItem → (position : ℕ) → Type 0
 NoneCovers levels items p = AllByRecursion (λ item. flush.covers levels (item_of item) p ≡ false) items
 
@@ -80,7 +83,8 @@ FlushesSuffice asks l take_back start calls replies U =
     IsValidFor l.levels l.window V l.root then.paths → begins_with l.window (page_path l.levels p) ≡ false → NoneCovers l.levels (items_told l.levels (drop k replies)) p
     → KeepsArrival (page_walk l.levels V l.root p) (page_walk l.levels U l.root p)
 
--- The records after calls: the items before, one for each token of an accepted call, and these suffice.
+-- After calls the records are those of before and one item for the token of each accepted call, in order, and these items
+-- suffice.
 pub record Flushed {C Lent : Type 0} (asks : C → MapperCall) (h : Hierarchy Lent) (store : Store) (calls : List C) (replies_before replies_now : List Reply) (before now : List FlushItem) (after : Hierarchy Lent) : Type 0 where
   pub items : now ≡ before ++ items_told h.layout.levels (appended replies_before replies_now)
   pub suffice : FlushesSuffice asks h.layout store.take_back (state_with h store) calls (appended replies_before replies_now) (words (h.layout laid_in after.memory))

@@ -12,64 +12,68 @@ use Rattle.x86_64.specs.Replies.{Reply, reply_of}
 use Rattle.x86_64.specs.declared.flushing.Flush.{Flush}
 use Rattle.x86_64.specs.declared.flushing.Flush.TheVariants.{Nothing, Tables, Page, Everything}
 
--- the flush for one thing that is due
+-- The flush to be executed for one thing that is due.
 abbrev pub told_of : Due → Flush
 told_of (PageDue q frame) = Page
 told_of TablesDue = Tables
 told_of WindowDue = Everything
 told_of (BelowDue q) = Everything
 
--- how much a flush drops: INVLPG drops all items of tables, too
+-- How much a flush drops, from 0 to 3. Each flush does what those below it do, since INVLPG drops all items of tables, too.
 abbrev pub rank : Flush → ℕ
 rank Nothing = 0
 rank Tables = 1
 rank Page = 2
 rank Everything = 3
 
+-- The one of two flushes that drops more.
 abbrev pub larger : Flush → Flush → Flush
 larger f g = cond (nat_lt (rank f) (rank g)) g f
 
--- the flush for all that is due: the largest of those for one thing
+-- The flush to be executed for all that is due: the largest of those for one thing.
 abbrev pub told : List Due → Flush
 told [] = Nothing
 told (d ∷ due) = larger (told_of d) (told due)
 
--- The answer is the flush for what is due after the call, with a recursive index or without. The reply stands for the machine's,
--- which may say that no used entry loses anything, and then nothing is due.
+-- The answer is the flush for all that is due after a call with this reply, with or without a recursive index. If `loses` is
+-- false, the caller knows that no used entry loses anything, and then nothing is due.
 abbrev pub TellsFlush : (L : ℕ) → MapperCall → Reply → (recursive_index : Option ℕ) → (loses : Bool) → (answer : Flush) → Type 0
 TellsFlush L call reply index loses answer = (window : Option Window) (r : machine.Reply) → option_map (λ (w : Window). w.index) window ≡ index → reply_of call r ≡ Some reply
     → answer ≡ told (cond loses (flush_after L window (machine_call L call) r) [])
 
 -- ---- flushes as the processor sees them
 
--- what the kernel executes for an answer: no flush, a load of CR3, INVLPG of the address at this position (its number counted
--- without the gap), or a flush of everything
+-- What the kernel executes for a flush: nothing, a load of CR3, INVLPG of the address at this position (its number counted
+-- without the gap), or a flush of everything.
 abbrev pub executed : Flush → (position : ℕ) → Option kernel.Flush
 executed Nothing p = None
 executed Tables p = Some LoadCr3
 executed Page p = Some (Invlpg p)
 executed Everything p = Some FlushAll
 
--- whether this is due no longer after that
+-- Whether something is due no longer after what the kernel executed, if anything.
 abbrev pub settles : (L : ℕ) → Option kernel.Flush → Due → Bool
 settles L None due = false
 settles L (Some f) due = kernel.settles L f due
 
--- the position lies in each page that is due
+-- The position lies in each page that is due.
 abbrev pub InPages : (L : ℕ) → List Due → (position : ℕ) → Type 0
 InPages L due p = (q : List ℕ) (frame : ℕ) → In due (PageDue q frame) → begins q (page_path L p) ≡ true
 
--- The answer settles all that is due, in the pages that are. For tables INVLPG of any address does, too.
+-- The flush for all that is due settles all of it, if the position of INVLPG lies in the pages that are due. If only tables are
+-- due, INVLPG of any address settles them, too.
 pub record ToldSettles (L : ℕ) (due : List Due) (p : ℕ) : Type 0 where
   pub settled : InPages L due p → (d : Due) → In due d → settles L (executed (told due) p) d ≡ true
   pub tables : told due ≡ Tables → (any : ℕ) (d : Due) → In due d → settles L (Some (Invlpg any)) d ≡ true
 
--- It is the least of the four: each that settles all that is due drops no less.
+-- The flush for all that is due is the least of the four: each one that settles all of it drops no less.
 abbrev pub ToldIsLeast : (L : ℕ) → List Due → (position : ℕ) → Type 0
 ToldIsLeast L due p = (f : Flush) → ((d : Due) → In due d → settles L (executed f p) d ≡ true) → rank (told due) ≤ rank f
 
+-- Whatever is due, the flush for all of it settles all, at a position in the pages that are due.
 abbrev pub FlushesSettle : Type 0
 FlushesSettle = (L : ℕ) (due : List Due) (p : ℕ) → ToldSettles L due p
 
+-- Whatever is due, the flush for all of it is the least that settles all.
 abbrev pub FlushesAreLeast : Type 0
 FlushesAreLeast = (L : ℕ) (due : List Due) (p : ℕ) → ToldIsLeast L due p

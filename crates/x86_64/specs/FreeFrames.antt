@@ -8,12 +8,12 @@ use Rattle.x86_64_model.specs.Lists.{In}
 use Rattle.x86_64_model.specs.Machine.{Machine, State, step}
 use Rattle.x86_64_model.specs.Memory.{Memory, word}
 
--- the frames that a call returns: those of the tables that a clean up removes
+-- The frames that a call returns to the pool: those of the tables that a clean up removes.
 abbrev pub back_by : Machine → State → Call → List ℕ
 back_by machine state (CleanUp low high) = (clean_up machine.levels state.paths low high).back
 back_by machine state call = []
 
--- the frames that a list of calls returns, in order
+-- The frames that a list of calls returns to the pool, in order.
 abbrev pub all_back : Machine → State → List Call → List ℕ
 all_back machine state [] = []
 all_back machine state (call ∷ calls) = back_by machine state call ++ all_back machine (step machine state call).state calls

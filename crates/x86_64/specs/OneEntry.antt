@@ -8,13 +8,13 @@ use Rattle.x86_64_model.specs.Path.{front_at}
 use Rattle.x86_64_model.specs.PathMap.{entry}
 use Rattle.x86_64.specs.Processors.{NoneLoses}
 
--- the path of the entry that a change of flags writes
+-- The path of the entry that a change of flags writes, or `None` for any other call.
 abbrev pub changed_by : (L : ℕ) → Call → Option (List ℕ)
 changed_by L (UpdateFlags q given) = Some q
 changed_by L (SetFlags level q given) = Some (front_at L level q)
 changed_by L call = None
 
--- If this entry loses nothing, no used entry does.
+-- If the entry that a change of flags writes loses nothing, no used entry does.
 abbrev pub OneEntryDecides : Type 0
 OneEntryDecides = (m : Machine) (s : State) (call : Call) (q : List ℕ) → changed_by m.levels call ≡ Some q
     → (used (entry s.paths q) ≡ true → LosesNothing (entry s.paths q) (entry (step m s call).state.paths q)) → NoneLoses m s call

@@ -12,12 +12,13 @@ use Rattle.x86_64.specs.Asked.{MapperCall, names_by}
 use Rattle.x86_64.specs.Replies.{Reply}
 use Rattle.x86_64.specs.Runs.{Ran}
 
--- no call names the recursive index, if there is one
+-- No call has a page or an address with the recursive index, if there is one.
 abbrev pub NoneNames : {C : Type 0} → (asks : C → MapperCall) → (levels : ℕ) → Option Window → List C → Type 0
 NoneNames asks levels None calls = ⊤
 NoneNames asks levels (Some window) calls = AllByRecursion (λ call. names_by levels (asks call) window.index ≡ false) calls
 
--- the store that a `FramePool` is: it serves the frames with numbers below its limit
+-- The store that a `FramePool` is: it serves the frames with numbers from 1 up to its limit, which isn't included, and puts a
+-- returned frame in front.
 abbrev pub pool_store : FreeFrames → Store
 pool_store pool = record { frames = pool.frames; serves = serves_below pool.limit; take_back = put_first }
 
@@ -31,7 +32,8 @@ pub record AreAlike {Lent Other : Type 0} (levels : ℕ) (h : Hierarchy Lent) (p
   pub paths : Alike levels (paths h) (paths other)
   pub pools : pool.frames ≡ other_pool.frames
 
--- What is left of one of the mappers. If there was memory, the calls ran on it with these replies.
+-- What is left of one of the mappers after it ran the calls. If there was memory for the replies, the calls ran with these, and
+-- in any case it kept what calls keep.
 pub record AfterRun {C Lent A E : Type 0} (asks : C → MapperCall) (calls : List C) (result : Result (Vec Reply A) E) (h : Hierarchy Lent) (pool : FreeFrames) (after : Hierarchy Lent) (rest : FreeFrames) : Type 0 where
   pub ran : IfOk result (λ replies. Ran asks h (pool_store pool) calls [] replies.items after rest.frames)
   pub keeps : Kept h (pool_store pool) after (pool_store rest)

@@ -12,7 +12,7 @@ abbrev pub PlacesStay : Type 0
 PlacesStay = (layout : Layout) (serves : ℕ → Bool) (m n : Memory) (pool rest : List ℕ) → PoolFits (layout laid_in m) serves pool → KeepsPool layout serves m pool n rest
     → (place : ℕ) → IsSome (get n place) ↔ IsSome (get m place)
 
--- So an offset that fits the memory still fits it.
+-- If a pool fits a hierarchy, an offset that fits its memory also fits the memory that calls on it leave.
 abbrev pub OffsetsFitStill : Type 0
 OffsetsFitStill = (layout : Layout) (serves : ℕ → Bool) (m n : Memory) (pool rest : List ℕ) → PoolFits (layout laid_in m) serves pool → KeepsPool layout serves m pool n rest
     → (levels offset : ℕ) → OffsetFits levels m offset → OffsetFits levels n offset

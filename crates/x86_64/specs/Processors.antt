@@ -23,7 +23,8 @@ use Rattle.x86_64.specs.Replies.{Reply}
 use Rattle.x86_64.specs.Runs.{step_by}
 use Rattle.x86_64.specs.declared.flushing.Flush.{Flush}
 
--- the system between two calls
+-- The model's system between two calls on a hierarchy in a memory, with its free frames, what the processor has cached, and what
+-- is due.
 abbrev pub system_in : Layout → Memory → (pool : List ℕ) → List Cached → List Due → System
 system_in l m pool cached due = record { state = state_in l m pool; paths = paths (l laid_in m); words = words (l laid_in m); cache = cached; due = due }
 
@@ -36,20 +37,20 @@ pub record Arises (l : Layout) (take_back : List ℕ → ℕ → List ℕ) (serv
   pub events : List Event
   pub happens : Happens (machine_of l take_back) l.root tables start events (system_in l m pool cached due)
 
--- each access to a page goes with the page walk in the present words, with no right more
+-- Each access goes to the page where the page walk in the present words goes, with no right more.
 abbrev pub AccessesGo : Layout → Memory → List Cached → Type 0
 AccessesGo l m cached = (p : ℕ) (w : Way) → MayAccess l.levels l.root (words (l laid_in m)) cached p w → WalksThere (walk l.levels (words (l laid_in m)) l.root p) w
 
--- the processor drops and makes items, one time after another, while the words are these
+-- The processor drops and makes items, one time after another, while the words are these.
 abbrev pub CachesOften : (L root : ℕ) → Words → (before after : List Cached) → Type 0
 CachesOften L root T before after = (between : List (List Cached)) × CachesInTurn L root T before between after
 
--- what is left was there before, and survives the flush, if there is one
+-- Each item after a flush was there before, and survives it. Without a flush the items stay.
 abbrev pub LeftBy : (L : ℕ) → Option kernel.Flush → (before after : List Cached) → Type 0
 LeftBy L None before after = before ≡ after
 LeftBy L (Some f) before after = (c : Cached) → In after c → In before c × (survives L f c ≡ true)
 
--- no used entry loses anything by a call
+-- No used entry loses anything by the machine's step for a call.
 abbrev pub NoneLoses : Machine → State → Call → Type 0
 NoneLoses m s call = (q : List ℕ) → used (entry s.paths q) ≡ true → LosesNothing (entry s.paths q) (entry (step m s call).state.paths q)
 
@@ -60,13 +61,13 @@ abbrev pub ArisesFirst : Type 0
 ArisesFirst = (l : Layout) (take_back : List ℕ → ℕ → List ℕ) (serves : ℕ → Bool) (m : Memory) (pool : List ℕ) → IsMachine (machine_of l take_back) → 0 < l.levels
     → PoolFits (l laid_in m) serves pool → Arises l take_back serves m pool [] []
 
--- the processor may cache at any moment between two calls
+-- The processor may drop and make items at any moment between two calls.
 abbrev pub ArisesByCaching : Type 0
 ArisesByCaching = (l : Layout) (take_back : List ℕ → ℕ → List ℕ) (serves : ℕ → Bool) (m : Memory) (pool : List ℕ) (due : List Due) (before after : List Cached)
     → Arises l take_back serves m pool before due → CachesOften l.levels l.root (words (l laid_in m)) before after → Arises l take_back serves m pool after due
 
--- A call as `run_call` ensures it makes due what the model says, or nothing if no used entry loses anything. No map may begin
--- while tables are due, and no map of a smaller page where a larger one is due.
+-- A call as `run_call` ensures it makes due what the model's `flush_after` returns, or nothing if no used entry loses anything.
+-- No map may begin while tables are due, and no map of a smaller page where a larger one is due.
 abbrev pub ArisesByCalls : Type 0
 ArisesByCalls = (l : Layout) (take_back : List ℕ → ℕ → List ℕ) (serves : ℕ → Bool) (m n : Memory) (pool rest : List ℕ) (cached : List Cached) (due : List Due) (call : Call) (loses : Bool)
     → let machine = machine_of l take_back in
@@ -75,13 +76,13 @@ ArisesByCalls = (l : Layout) (take_back : List ℕ → ℕ → List ℕ) (serves
     → (step machine (state_in l m pool) call).state ≡ state_in l n rest → KeepsFree l m pool (back_by machine (state_in l m pool) call) n rest → PoolFits (l laid_in n) serves rest
     → Arises l take_back serves n rest cached (cond loses (flush_after l.levels l.window call (step machine (state_in l m pool) call).reply) [] ++ due)
 
--- a flush leaves what it doesn't settle
+-- A flush leaves due what it doesn't settle.
 abbrev pub ArisesByFlushes : Type 0
 ArisesByFlushes = (l : Layout) (take_back : List ℕ → ℕ → List ℕ) (serves : ℕ → Bool) (m : Memory) (pool : List ℕ) (due : List Due) (f : Option kernel.Flush) (before after : List Cached)
     → Arises l take_back serves m pool before due → LeftBy l.levels f before after → Arises l take_back serves m pool after (filter (λ d. not (settles l.levels f d)) due)
 
--- A call as `run_call` ensures it leaves nothing due if the flush follows that `flush_after` tells, or `flush_after_change` if
--- it may be that no used entry loses anything, whatever the processor caches before the call and between the two.
+-- A call as `run_call` ensures it leaves nothing due if the flush follows that `flush_after` returns, or `flush_after_change` if
+-- the caller may know that no used entry loses anything, whatever the processor caches before the call and between the two.
 abbrev pub ArisesByFlushedCalls : Type 0
 ArisesByFlushedCalls = (l : Layout) (take_back : List ℕ → ℕ → List ℕ) (serves : ℕ → Bool) (m n : Memory) (pool rest : List ℕ) (call : MapperCall) (reply : Reply) (loses : Bool)
     → let machine = machine_of l take_back in

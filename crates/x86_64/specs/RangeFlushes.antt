@@ -12,7 +12,7 @@ use Rattle.x86_64_mappers.specs.RangeChanges.{unmaps, updates}
 use Rattle.x86_64_tables.specs.FlushRecorder.{flush_range, range_items}
 use Rattle.x86_64.specs.Flushes.{NoneCovers}
 
--- these calls unmap the first pages of a level from a page on, or set their flags
+-- The calls unmap this many pages of a level, one after another from a page on, or set their flags.
 abbrev pub AreChanges : (L level page count : ℕ) → List Call → Type 0
 AreChanges L level page count calls = (calls ≡ unmaps L level page count) ⊎ ((given : ℕ) × (calls ≡ updates L level page given count))
 

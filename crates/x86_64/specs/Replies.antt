@@ -25,41 +25,49 @@ use Rattle.x86_64.specs.declared.call_values.PageReply.TheVariants as page_reply
 use Rattle.x86_64.specs.declared.call_values.MapperReply.{MapperReply}
 use Rattle.x86_64.specs.declared.call_values.MapperReply.TheVariants as reply
 
--- a page is its position (address counted without the gap), for any number of levels
+-- A reply to a call on a page of the size S, for any number of levels. A page in it is its position (its address counted without
+-- the gap).
 abbrev pub SizeReply : (S : Type 0) → Type 0
 SizeReply S = PageReply ℕ S
 
+-- A reply to a call of a mapper, for any number of levels, with the replies to calls on pages of each size.
 abbrev pub Reply : Type 0
 Reply = MapperReply (SizeReply Small) (SizeReply Large) (SizeReply Giant)
 
+-- The error of a map for a refusal by the machine, or `None` if no map is refused for this reason.
 abbrev pub map_error : {S : Type 0} → Refusal → Option (MapToError S)
 map_error refusal.FrameAllocationFailed = Some map_to.FrameAllocationFailed
 map_error refusal.ParentEntryHugePage = Some map_to.ParentEntryHugePage
 map_error (refusal.PageAlreadyMapped frame) = Some (map_to.PageAlreadyMapped frame)
 map_error other = None
 
+-- The error of an `unmap` for a refusal by the machine, or `None` if no `unmap` is refused for this reason.
 abbrev pub unmap_error : Refusal → Option UnmapError
 unmap_error refusal.ParentEntryHugePage = Some unmap.ParentEntryHugePage
 unmap_error refusal.PageNotMapped = Some unmap.PageNotMapped
 unmap_error (refusal.InvalidFrameAddress address) = Some (unmap.InvalidFrameAddress address)
 unmap_error other = None
 
+-- The error of a change of flags for a refusal by the machine, or `None` if no change of flags is refused for this reason.
 abbrev pub update_error : Refusal → Option FlagUpdateError
 update_error refusal.PageNotMapped = Some update.PageNotMapped
 update_error refusal.ParentEntryHugePage = Some update.ParentEntryHugePage
 update_error other = None
 
+-- The error of a `translate_page` for a refusal by the machine, or `None` if none is refused for this reason.
 abbrev pub translate_error : Refusal → Option TranslateError
 translate_error refusal.PageNotMapped = Some page_frame.PageNotMapped
 translate_error refusal.ParentEntryHugePage = Some page_frame.ParentEntryHugePage
 translate_error (refusal.InvalidFrameAddress address) = Some (page_frame.InvalidFrameAddress address)
 translate_error other = None
 
+-- The result for the machine's answer: the value that `done` makes of its frame, or the error that `refused` makes of its
+-- refusal. It is `None` if there is no such error.
 abbrev pub result_of : {X E : Type 0} → (done : ℕ → X) → (refused : Refusal → Option E) → Answer → Option (Result X E)
 result_of done refused (Done frame) = Some (Ok (done frame))
 result_of done refused (Refused why) = option_map Err (refused why)
 
--- the reply to a call on a page, from the machine's answer
+-- The reply to a call on a page for the machine's answer, or `None` if the machine never answers this call so.
 abbrev pub size_reply : {S : Type 0} → PageCall → Answer → Option (SizeReply S)
 size_reply (MapTo page frame flags) answer = option_map page_reply.Map (result_of (λ mapped. page) map_error answer)
 size_reply (MapToWithTableFlags page frame flags parent_flags) answer = option_map page_reply.Map (result_of (λ mapped. page) map_error answer)
@@ -69,24 +77,29 @@ size_reply (UpdateFlags page flags) answer = option_map page_reply.Update (resul
 size_reply (SetFlags at page flags) answer = option_map page_reply.TableFlags (result_of (λ frame. tt) update_error answer)
 size_reply (TranslatePage page) answer = option_map page_reply.Frame (result_of (λ frame. frame) translate_error answer)
 
--- this, with none for a call that isn't allowed
+-- The reply to a call on a page for the machine's reply, or `None` if the machine never replies to such a call so. `Some None`
+-- stands for a call that isn't allowed.
 abbrev pub size_answer : {S : Type 0} → PageCall → machine.Reply → Option (Option (SizeReply S))
 size_answer call (machine.Answered answer) = option_map Some (size_reply call answer)
 size_answer call machine.NotAllowed = Some None
 size_answer call other = None
 
+-- The frame of a size in bytes that starts at an address, or `None` if there are no pages of this size.
 abbrev pub mapped_frame : (size start : ℕ) → Option MappedFrame
 mapped_frame size start = cond (size == 0x1000) (Some (Size4KiB start)) (cond (size == 0x20_0000) (Some (Size2MiB start)) (cond (size == 0x4000_0000) (Some (Size1GiB start)) None))
 
+-- The result of `translate` for the machine's translation of a position, or `None` if there are no pages of its size.
 abbrev pub translate_result : Translated → Option TranslateResult
 translate_result Nowhere = Some NotMapped
 translate_result (At size frame offset flags) = option_map (λ frame. Mapped frame offset (record { 0 = flags })) (mapped_frame size frame)
 
+-- The mapper's reply that holds a reply to a call on a page, as `wrap` puts it there for the page's size. For `None` it is that
+-- the call isn't allowed.
 abbrev pub sized : {S : Type 0} → (SizeReply S → Reply) → Option (SizeReply S) → Reply
 sized wrap None = reply.NotAllowed
 sized wrap (Some answer) = wrap answer
 
--- the reply to a call, from the machine's reply
+-- The reply to a mapper's call for the machine's reply, or `None` if the machine never replies to this call so.
 abbrev pub reply_of : MapperCall → machine.Reply → Option Reply
 reply_of (Of4KiB call) answer = option_map (sized reply.Of4KiB) (size_answer call answer)
 reply_of (Of2MiB call) answer = option_map (sized reply.Of2MiB) (size_answer call answer)
@@ -99,12 +112,13 @@ reply_of call other = None
 
 -- ---- replies of calls that change nothing
 
+-- Whether a call with this result was refused.
 abbrev pub is_refused : {X E : Type 0} → Result X E → Bool
 is_refused (Ok done) = false
 is_refused (Err why) = true
 
--- whether a call on a page changes nothing: a translation, or a refused call other than a map, which may have created tables
--- before
+-- Whether a reply to a call on a page shows that no word changed: the call is a translation, or it was refused and isn't a map. A
+-- refused map may have created tables.
 abbrev pub size_changes_nothing : {S : Type 0} → SizeReply S → Bool
 size_changes_nothing (page_reply.Map mapped) = false
 size_changes_nothing (page_reply.Unmap unmapped) = is_refused unmapped
@@ -112,6 +126,7 @@ size_changes_nothing (page_reply.Update updated) = is_refused updated
 size_changes_nothing (page_reply.TableFlags done) = is_refused done
 size_changes_nothing (page_reply.Frame frame) = true
 
+-- Whether a mapper's reply shows that no word changed: the call is a translation, wasn't allowed, or was refused and isn't a map.
 abbrev pub changes_nothing : Reply → Bool
 changes_nothing (reply.Of4KiB answer) = size_changes_nothing answer
 changes_nothing (reply.Of2MiB answer) = size_changes_nothing answer

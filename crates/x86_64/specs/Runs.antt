@@ -11,35 +11,35 @@ use Rattle.x86_64.specs.Asked.{MapperCall, machine_call, calls_by}
 use Rattle.x86_64.specs.FreeFrames.{KeepsFree, back_by, all_back}
 use Rattle.x86_64.specs.Replies.{Reply, reply_of, changes_nothing}
 
--- the result of a call: the machine's state and the reply, or none if the call never gets that reply of the machine
+-- The result of a call: the machine's next state, and the reply, or `None` if the machine never replies to such a call so.
 pub record AfterStep (R : Type 0) : Type 0 where
   pub state : State
   pub reply : Option R
 
--- the machine's step for a call
+-- The machine's step for a mapper's call: the next state, and the mapper's reply for that of the machine.
 abbrev pub step_by : Machine → State → MapperCall → AfterStep Reply
 step_by machine state call = let after = step machine state (machine_call machine.levels call) in record { state = after.state; reply = reply_of call after.reply }
 
--- the replies to a list of calls, one each, from a state on
+-- The replies to a list of calls, one for each, from a state of the machine on. `asks` turns each call into one in numbers.
 abbrev pub replies_to : {C : Type 0} → (asks : C → MapperCall) → Machine → State → List C → List (Option Reply)
 replies_to asks machine state [] = []
 replies_to asks machine state (call ∷ calls) = let after = step_by machine state (asks call) in after.reply ∷ replies_to asks machine after.state calls
 
--- the replies that were appended
+-- The elements that were appended to a list: those after as many as it had before.
 abbrev pub appended : {R : Type 0} → (before after : List R) → List R
 appended before after = drop (length before) after
 
--- if every reply says that nothing changed, no word did
+-- If each of these replies shows that nothing changed, the memory is the same as before.
 abbrev pub UnchangedIfRefused : List Reply → (m n : Memory) → Type 0
 UnchangedIfRefused replies m n = AllByRecursion (λ reply. changes_nothing reply ≡ true) replies → n ≡ m
 
 -- ---- of a hierarchy and a store
 
--- The machine that a hierarchy is with its store.
+-- The machine for a hierarchy and its store: it has the hierarchy's layout, and puts a returned frame where the store does.
 abbrev pub machine_with : {Lent : Type 0} → Hierarchy Lent → Store → Machine
 machine_with h store = machine_of h.layout store.take_back
 
--- The state of that machine: the path map, and the free frames.
+-- The machine's state for a hierarchy and its store: the hierarchy's path map, and the store's free frames.
 abbrev pub state_with : {Lent : Type 0} → Hierarchy Lent → Store → State
 state_with h store = state_in h.layout h.memory store.frames
 
@@ -54,7 +54,7 @@ LeavesFree h store call after rest =
     KeepsFree h.layout h.memory store.frames (back_by (machine_with h store) (state_with h store) (machine_call h.layout.levels call)) after.memory rest
 
 -- A list of calls was executed. The machine's replies, one per call, follow those of before, and the state is the machine's. If
--- every reply says that nothing changed, no word did. Free frames keep their words, except that returned frames hold zeros.
+-- every reply shows that nothing changed, no word did. Free frames keep their words, except that returned frames hold zeros.
 pub record Ran {C Lent : Type 0} (asks : C → MapperCall) (h : Hierarchy Lent) (store : Store) (calls : List C) (before now : List Reply) (after : Hierarchy Lent) (rest : List ℕ) : Type 0 where
   pub replies : map Some now ≡ map Some before ++ replies_to asks (machine_with h store) (state_with h store) calls
   pub one_each : length now ≡ length before + length calls

@@ -12,14 +12,15 @@ use Rattle.x86_64_model.specs.Machine.{Machine, State}
 use Rattle.x86_64_model.specs.Memory.{Words}
 use Rattle.x86_64_model.specs.PathMap.{PathMap}
 
--- an event: a call or a change of words for all processors, a flush or a change of caches for the one with this number
+-- An event with several processors: a call or a change of words for all of them, a flush or a change of caches for the one with
+-- this number.
 pub data SharedEvent : Type 0 where
   Makes : Call → (loses : Bool) → SharedEvent
   Writes : (paths : PathMap) → (words : Words) → SharedEvent
   Flushes : (processor : ℕ) → Flush → (after : List Cached) → SharedEvent
   Changes : (processor : ℕ) → (after : List Cached) → SharedEvent
 
--- the events as one processor sees them
+-- The events that the processor with this number sees: calls, changes of words, and its own flushes and changes of caches.
 abbrev pub seen_by : (processor : ℕ) → List SharedEvent → List Event
 seen_by k [] = []
 seen_by k (Makes call loses ∷ more) = kernel.Makes call loses ∷ seen_by k more
@@ -27,7 +28,7 @@ seen_by k (Writes N U ∷ more) = kernel.Writes N U ∷ seen_by k more
 seen_by k (Flushes j f after ∷ more) = cond (j == k) (kernel.Flushes f after ∷ seen_by k more) (seen_by k more)
 seen_by k (Changes j after ∷ more) = cond (j == k) (kernel.Changes after ∷ seen_by k more) (seen_by k more)
 
--- two processors see the same state, path map and words
+-- Two processors see the same state of the machine, the same path map and the same words.
 pub record SeeTheSame (a b : System) : Type 0 where
   pub state : a.state ≡ b.state
   pub paths : a.paths ≡ b.paths
@@ -40,7 +41,7 @@ EachIsFlushed = (m : Machine) (root : ℕ) (T : Words) (serves : ℕ → Bool) (
     → (p : ℕ) → ((due : Due) → In now.due due → concerns m.levels m.window due p ≡ false)
     → (w : Way) → MayAccess m.levels root now.words now.cache p w → WalksThere (walk m.levels now.words root p) w
 
--- All see the same words, so the page walk is the same on each.
+-- All processors see the same words, so the page walk is the same on each.
 abbrev pub AllSeeTheSame : Type 0
 AllSeeTheSame = (m : Machine) (root : ℕ) (T : Words) (s : State) (events : List SharedEvent) (j k : ℕ) (here there : System)
     → Happens m root T s (seen_by j events) here → Happens m root T s (seen_by k events) there → SeeTheSame here there

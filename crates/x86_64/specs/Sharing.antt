@@ -8,7 +8,7 @@ use Rattle.x86_64_model.specs.Spaces.{AreSpaces, SparesRoot}
 use Rattle.x86_64_model.specs.Store.{Store}
 use Rattle.x86_64.specs.Asked.{MapperCall, PageCall, machine_call, page_call}
 
--- The entries of the root: 0 at the recursive index.
+-- The root's entry at an index, which counts as 0 at the recursive index.
 abbrev pub root_entries : {Lent : Type 0} → Hierarchy Lent → (index : ℕ) → ℕ
 root_entries h i = entry (paths h) (i ∷ [])
 

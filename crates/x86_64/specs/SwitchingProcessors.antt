@@ -74,13 +74,13 @@ pub record RunsOn (k : Kernel) (places : Places) (sharing : (root other : ℕ) �
       → (one.root ≢ b.root) × Avoids one.levels (sharing one.root b.root) (machine_call one.levels call)
   pub avoids : everywhere ≡ false → Avoids one.levels k.shared (machine_call one.levels call)
 
--- What such a call makes due: nothing, if no used entry loses anything.
+-- What a call on one of the address spaces makes due, or nothing if the kernel knows that no used entry loses anything.
 abbrev pub made_by : Kernel → Layout → Memory → (pool : List ℕ) → MapperCall → (loses : Bool) → List Due
 made_by k one m pool call loses = let asked = machine_call one.levels call in
     cond loses (flush_after one.levels one.window asked (step (machine_of one k.take_back) (state_in one m pool) asked).reply) []
 
--- The system after a call that made this due, for the items of each PCID that holds a root that the call reaches, and for global
--- translations, unless it avoids the indices that all share.
+-- The system after a call that made this due: for the items of each PCID that holds a root that the call reaches, and for global
+-- translations, unless the call avoids the indices that all share.
 abbrev pub with_due : (new : List Due) (reaches : ℕ → Bool) (everywhere : Bool) → Switching → Switching
 with_due new reaches everywhere s = record s {
   under_way = [];
@@ -91,25 +91,29 @@ with_due new reaches everywhere s = record s {
 
 -- ---- its flush
 
--- What the kernel executes on the processor for an answer: no flush, INVLPG of the address at this position, or a flush of everything.
+-- What the kernel executes on the processor for a flush: nothing, INVLPG of the address at this position, or a flush of
+-- everything.
 abbrev pub executed_here : Flush → (position : ℕ) → List TaggedFlush
 executed_here Nothing p = []
 executed_here Tables p = Invlpg p ∷ []
 executed_here Page p = Invlpg p ∷ []
 executed_here Everything p = InvpcidAll ∷ []
 
--- what is left was there before, and survives the flush, if there is one
+-- Each item after a flush was on the processor before, and survives it. Without a flush the items stay. At most one flush is
+-- executed.
 abbrev pub LeftHere : (L : ℕ) → Switching → List TaggedFlush → (after : List Tagged) → Type 0
 LeftHere L s [] after = after ≡ s.cache
 LeftHere L s (f ∷ more) after = (c : Tagged) → In after c
     → In s.cache c × (is_left L s.pcid f c.tag c.item ≡ true)
 
--- The other PCIDs that hold a root that the call reaches, unless everything is flushed: the kernel no longer counts on their items.
--- So the next load of CR3 with one of them may not keep them (bit 63).
+-- The PCIDs that are given up, on whose items the kernel no longer counts: none is the current one, and unless everything is
+-- flushed, each other PCID that holds a root that the call reaches is among them. The next load of CR3 with one of them may not
+-- keep its items (bit 63).
 pub record AreGivenUp (s : Switching) (flush : Flush) (given_up : List ℕ) : Type 0 where
   pub others : (c : ℕ) → In given_up c → c ≢ s.pcid
   pub all : flush ≢ Everything → (c : ℕ) → c ≢ s.pcid → is_held s.reaches (s.holder c) ≡ true → In given_up c
 
+-- The events of a flush: the kernel executes it, which leaves the items `after`, and gives up PCIDs.
 abbrev pub flush_events : List TaggedFlush → (after : List Tagged) → (given_up : List ℕ) → List SwitchEvent
 flush_events fs after given_up = map (λ f. Flushes f after) fs ++ map Abandons given_up
 
@@ -134,8 +138,8 @@ ReachedByEvents = (k : Kernel) (places : Places) (m n : Memory) (pool rest : Lis
     AllMaySwitch k now events → after_switches k now events ≡ between k (words_of n places) rest later t
     → IsReached k places n rest later t
 
--- A call as `run_call` ensures it makes due what the model says. No map may begin while tables are due for a PCID, and no map of a
--- smaller page where a larger one is due.
+-- A call as `run_call` ensures it makes due what the model's `flush_after` returns, or nothing if the kernel knows that no used
+-- entry loses anything. No map may begin while tables are due for a PCID, and no map of a smaller page where a larger one is due.
 abbrev pub ReachedByCalls : Type 0
 ReachedByCalls = (k : Kernel) (places : Places) → IsMapping places → 0 < k.levels → TakesBack k.take_back
     → (sharing : (root other : ℕ) → ℕ → Bool) (m n : Memory) (pool rest : List ℕ) (layouts : List Layout)
@@ -149,7 +153,8 @@ ReachedByCalls = (k : Kernel) (places : Places) → IsMapping places → 0 < k.l
     → mapped_by one.levels (machine_call one.levels call) ≡ Some r → is_below q r ≡ false)
     → IsReached k places n rest layouts (with_due (made_by k one m pool call loses) reaches everywhere s)
 
--- If all that is due is among this, its flush leaves nothing due.
+-- If this list has all that is due, and each PCID for which something is due holds a root that the call reaches, the flush for
+-- the list leaves nothing due once the other PCIDs are given up.
 abbrev pub ReachedByFlushes : Type 0
 ReachedByFlushes = (k : Kernel) (places : Places) (m : Memory) (pool : List ℕ) (layouts : List Layout)
     (s : Switching)
@@ -161,8 +166,8 @@ ReachedByFlushes = (k : Kernel) (places : Places) (m : Memory) (pool : List ℕ)
     → AreGivenUp s (told due) given_up
     → let t = after_switches k s (flush_events (executed_here (told due) p) after given_up) in IsReached k places m pool layouts t × NoneDue t
 
--- A call as `run_call` ensures it leaves nothing due if the flush follows that `flush_after` tells, or `flush_after_change` if it
--- may be that no used entry loses anything.
+-- A call as `run_call` ensures it leaves nothing due if the flush follows that `flush_after` returns, or `flush_after_change` if
+-- the caller may know that no used entry loses anything, and the other PCIDs are given up.
 abbrev pub ReachedByFlushedCalls : Type 0
 ReachedByFlushedCalls = (k : Kernel) (places : Places) → IsMapping places → 0 < k.levels
     → TakesBack k.take_back

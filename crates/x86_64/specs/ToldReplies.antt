@@ -6,7 +6,7 @@ use Rattle.x86_64_model.specs.Refusal.{Done, Refused}
 use Rattle.x86_64.specs.Asked.{PageCall, MapTo, MapToWithTableFlags, IdentityMap, Unmap, UpdateFlags, SetFlags, TranslatePage, MapperCall, Of4KiB, Of2MiB, Of1GiB, Translate, TranslateAddr, CleanUp, CleanUpRange}
 use Rattle.x86_64.specs.Replies.{Reply, reply_of}
 
--- the machine's reply with frame 0 in place of its frame
+-- The machine's reply with frame 0 in place of the frame in the answer of an accepted call.
 abbrev pub without_frame : machine.Reply → machine.Reply
 without_frame (machine.Answered (Done frame)) = machine.Answered (Done 0)
 without_frame (machine.Answered (Refused why)) = machine.Answered (Refused why)
@@ -15,6 +15,8 @@ without_frame (machine.Position translated) = machine.Position translated
 without_frame (machine.Address address) = machine.Address address
 without_frame machine.Cleaned = machine.Cleaned
 
+-- The part of the machine's reply to a call on a page that the mapper's reply determines: all but the frame in the reply to a map
+-- or to a change of flags.
 abbrev pub size_told : PageCall → machine.Reply → machine.Reply
 size_told (MapTo page frame flags) r = without_frame r
 size_told (MapToWithTableFlags page frame flags parent_flags) r = without_frame r
@@ -24,7 +26,7 @@ size_told (UpdateFlags page flags) r = without_frame r
 size_told (SetFlags at page flags) r = without_frame r
 size_told (TranslatePage page) r = r
 
--- the part of the machine's reply to a call that the reply determines
+-- The part of the machine's reply to a mapper's call that the mapper's reply determines.
 abbrev pub told : MapperCall → machine.Reply → machine.Reply
 told (Of4KiB call) r = size_told call r
 told (Of2MiB call) r = size_told call r
@@ -34,6 +36,6 @@ told (TranslateAddr position) r = r
 told CleanUp r = r
 told (CleanUpRange low high) r = r
 
--- if one reply stands for two replies of the machine to a call, these agree in that part
+-- If one reply of a mapper stands for two replies of the machine to a call, these agree in the part that it determines.
 abbrev pub RepliesTell : Type 0
 RepliesTell = (call : MapperCall) (r s : machine.Reply) (reply : Reply) → reply_of call r ≡ Some reply → reply_of call s ≡ Some reply → told call r ≡ told call s

@@ -9,16 +9,17 @@ use Rattle.x86_64_loader.specs.Segments.{Disjoint, IsLoaded, IsRefused, Suffices
 use Rattle.x86_64_loader.specs.declared.segment.LoadError.{LoadError}
 use Rattle.x86_64_loader.specs.declared.segment.Segment.{Segment}
 
--- Segments were loaded in order, each with the pages that `pages_of` gives for it, with this result. Before, there were a hierarchy
--- and a supply; afterwards, there are `after` and `rest`.
+-- Segments were loaded in order, each with the pages that `pages_of` returns for it, with this result. Before, there were a
+-- hierarchy and a supply; afterwards, there are `after` and `rest`.
 pub record Loads {Lent : Type 0} (pages_of : Segment → List PageMapping) (h : Hierarchy Lent) (supply : Supply) (segments : List Segment) (result : Result (Unit {0}) LoadError) (after : Hierarchy Lent) (rest : Supply) : Type 0 where
   -- If it succeeds, each page was mapped by `map_to`, in order, and every map was accepted.
   pub accepted : OnOk result (Accepts h supply.frames (flat_map pages_of segments) after rest.frames)
-  -- Then each segment's pages are mapped with all of its flags, page walks in it arrive where they should, with exactly these rights,
+  -- If it succeeds, each segment's pages are mapped with all of its flags, and page walks in it arrive where they should, with
+  -- exactly these rights.
   pub loaded : OnOk result (All (IsLoaded pages_of after) segments)
-  -- and no two segments have a position in common.
+  -- If it succeeds, no two segments have a position in common.
   pub disjoint : OnOk result (Disjoint segments)
-  -- Otherwise every map before the page that the error names was accepted, the map of this page was refused for the error's
+  -- If it fails, every map before the page that the error names was accepted, the map of this page was refused for the error's
   -- reason, and no other page was mapped. What comes before the page is reached.
   pub refused : IfErr result (λ error. IsRefused pages_of h supply.frames segments error after rest.frames)
   -- It succeeds if nothing is mapped in the way, no two segments overlap, and there are enough frames.

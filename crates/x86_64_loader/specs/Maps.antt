@@ -17,11 +17,12 @@ pub record Made {Lent : Type 0} (h : Hierarchy Lent) (supply : List ℕ) (pages 
   pub replies : (take_back : List ℕ → ℕ → List ℕ) → replies_of (machine_of h.layout take_back) (state_of h supply) (map_calls h.layout.levels pages) ≡ answers
   pub state : (take_back : List ℕ → ℕ → List ℕ) → state_after (machine_of h.layout take_back) (state_of h supply) (map_calls h.layout.levels pages) ≡ state_of after rest
 
--- every map was accepted
+-- The pages were mapped by `map_to` in order, and every map was accepted.
 abbrev pub Accepts : {Lent : Type 0} → Hierarchy Lent → (supply : List ℕ) → List PageMapping → (after : Hierarchy Lent) → (rest : List ℕ) → Type 0
 Accepts h supply pages after rest = Made h supply pages (map accepted pages) after rest
 
--- every map was accepted but the last, which was refused for this reason
+-- The pages and then the next one were to be mapped by `map_to` in order. Every map was accepted but the last, which was refused
+-- for this reason.
 abbrev pub Refuses : {Lent : Type 0} → Hierarchy Lent → (supply : List ℕ) → List PageMapping → (next : PageMapping) → Refusal → (after : Hierarchy Lent) → (rest : List ℕ) → Type 0
 Refuses h supply pages next why after rest = Made h supply (pages ++ next ∷ []) (map accepted pages ++ Answered (Refused why) ∷ []) after rest
 

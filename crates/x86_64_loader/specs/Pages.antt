@@ -7,23 +7,24 @@ use Rattle.x86_64_model.specs.Position.{span}
 use Rattle.x86_64_mappers.specs.Supplies.{Supply}
 use Rattle.x86_64_loader.specs.Maps.{Kept}
 
--- page k of a run may be mapped to its frame: both exist, and `map_to` allows it
+-- Page k of a run, counted from 0, may be mapped to frame k of a run: both exist, and `map_to` allows it. `size` is the size of
+-- each in bytes.
 pub record MayBeMapped {Lent : Type 0} (h : Hierarchy Lent) (level size page frame flags k : ℕ) : Type 0 where
   pub page_there : page + k * size < 2 ^ 48
   pub frame_there : frame + k * size < 2 ^ 52
   pub allowed : allows h (MapTo (path_of h level (page + k * size)) (frame + k * size) flags) ≡ true
 
--- the first `count` pages of a run stand
+-- The first `count` pages of a run stand, each mapped to its frame with these flags.
 abbrev pub RunStands : {Lent : Type 0} → Hierarchy Lent → (level size page frame flags count : ℕ) → Type 0
 RunStands h level size page frame given count = (k : ℕ) → k < count → Stands h level (page + k * size) (frame + k * size) given
 
--- no page that stands overlaps these `size` positions from a start on
+-- No page that stands overlaps these `size` positions from a start on.
 abbrev pub IsFree : {Lent : Type 0} → Hierarchy Lent → (start size : ℕ) → Type 0
 IsFree h start size =
     (level page frame given : ℕ) → page % span level ≡ 0 → Stands h level page frame given
     → (p : ℕ) → start ≤ p → p < start + size → page ≤ p → p < page + span level → ⊥
 
--- the effect of maps: what they keep, and pages up to a level that stood still stand
+-- What maps leave of a hierarchy and a supply: all that maps keep, and pages up to the highest level that stood still stand.
 pub record Leaves {Lent : Type 0} (highest : ℕ) (h : Hierarchy Lent) (supply : Supply) (after : Hierarchy Lent) (rest : Supply) : Type 0 where
   pub kept : Kept h supply after rest
   pub pages : (level page frame given : ℕ) → level ≤ highest → Stands h level page frame given → Stands after level page frame given

@@ -7,7 +7,7 @@ use Rattle.x86_64.specs.declared.call_values.PageReply.TheVariants as reply
 use Rattle.x86_64.specs.declared.flushing.Flush.{Flush}
 use Rattle.x86_64.specs.declared.flushing.Flush.TheVariants.{Nothing, Page, Everything}
 
--- whether a call marks the entries above its page with NO_EXECUTE
+-- Whether a call on a page marks the entries above it with NO_EXECUTE.
 abbrev pub page_takes : PageCall → Bool
 page_takes (MapTo page frame flags) = false
 page_takes (MapToWithTableFlags page frame flags parent_flags) = no_execute parent_flags
@@ -17,6 +17,7 @@ page_takes (UpdateFlags page flags) = false
 page_takes (SetFlags at page flags) = false
 page_takes (TranslatePage page) = false
 
+-- Whether a call of a mapper marks the entries above its page with NO_EXECUTE.
 abbrev pub takes : MapperCall → Bool
 takes (Of4KiB call) = page_takes call
 takes (Of2MiB call) = page_takes call
@@ -26,7 +27,8 @@ takes (TranslateAddr position) = false
 takes CleanUp = false
 takes (CleanUpRange low high) = false
 
--- the flush after a call on a page with this reply
+-- The flush after a call on a page with this reply, by whether it marks the entries above its page with NO_EXECUTE, and whether a
+-- recursive window shows the page's entry as smaller pages.
 abbrev pub page_flush : {S : Type 0} → (takes_execute is_shown : Bool) → SizeReply S → Flush
 page_flush takes shown (reply.Map mapped) = cond takes Everything Nothing
 page_flush takes shown (reply.Unmap (Ok unmapped)) = cond shown Everything Page

@@ -15,25 +15,27 @@ use Rattle.x86_64.specs.Replies.{SizeReply, size_answer, size_changes_nothing}
 use Rattle.x86_64.specs.Runs.{AfterStep, machine_with, state_in, state_with}
 use Rattle.x86_64.specs.FreeFrames.{KeepsFree}
 
--- these items if they are recorded, and otherwise none
+-- The items if they are recorded, and otherwise none.
 abbrev pub recorded : Bool → List FlushItem → List FlushItem
 recorded true items = items
 recorded false items = []
 
+-- Where there is room for n + 1 items, there is room for n.
 pub less_room : (n room : ℕ) → n + 1 ≤ room → n ≤ room
 less_room n room h = omega arith
 
--- the items of a reply to a call on a page of a size, or none if the call isn't allowed
+-- The items recorded for a call on a page of this size in bytes, by its reply, or none if the call isn't allowed.
 abbrev pub items_where : {S : Type 0} → (levels size : ℕ) → Option (SizeReply S) → List FlushItem
 items_where levels size None = []
 items_where levels size (Some answer) = size_items levels size answer
 
--- whether a reply to a call on a page says that nothing changed, or the call isn't allowed
+-- Whether a call on a page isn't allowed, or its reply shows that no word changed.
 abbrev pub changes_nothing_where : {S : Type 0} → Option (SizeReply S) → Bool
 changes_nothing_where None = true
 changes_nothing_where (Some answer) = size_changes_nothing answer
 
--- the machine's step for a call on a page that an entry of the level maps, and the reply, or none if the call isn't allowed
+-- The machine's step for a call on a page that an entry of the level maps: the next state, and the reply, which is `Some None` if
+-- the call isn't allowed.
 abbrev pub size_step : {S : Type 0} → Machine → (level : ℕ) → State → PageCall → AfterStep (Option (SizeReply S))
 size_step machine level state call =
     let after = step machine state (page_call machine.levels level call) in
@@ -52,6 +54,6 @@ PageLeavesFree h pool after rest = KeepsFree h.layout h.memory pool [] after.mem
 abbrev pub SetsFlags : {S Lent : Type 0} → Hierarchy Lent → (level : ℕ) → PageCall → SizeReply S → (after : Hierarchy Lent) → Type 0
 SetsFlags h level call reply after = (told : Result Unit FlagUpdateError) × (reply ≡ TableFlags told) × AnswersFlags h level call told after
 
--- with four levels there are no flags of level five
+-- With four levels there are no flags of level five, so such flags would make four equal to five.
 pub no_flags : (flags : Infallible) → let four : ℕ = 4 in four ≡ 5
 no_flags none = elim none [ ]

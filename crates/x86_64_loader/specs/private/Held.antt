@@ -4,7 +4,7 @@ use Rattle.x86_64_model.specs.Mapper.{Hierarchy, Stands, path_of}
 use Rattle.x86_64_model.specs.Position.{span}
 use Rattle.x86_64_model.specs.Window.{begins_with}
 
--- a page that stands outside the recursive window has the position, and maps it to this address with these flags
+-- A page that stands outside the recursive window has the position, and maps it to this address with these flags.
 pub record IsHeld {Lent : Type 0} (h : Hierarchy Lent) (position to flags : ℕ) : Type 0 where
   pub level : ℕ
   pub page : ℕ
@@ -16,6 +16,6 @@ pub record IsHeld {Lent : Type 0} (h : Hierarchy Lent) (position to flags : ℕ)
   pub before_end : position < page + span level
   pub lands : to + page ≡ frame + position
 
--- these `size` positions from a page on are held, and mapped to the addresses from a frame on
+-- These `size` positions from a page on are held, and mapped to the addresses from a frame on.
 abbrev pub AreHeld : {Lent : Type 0} → Hierarchy Lent → (size page frame flags : ℕ) → Type 0
 AreHeld h size page frame given = (offset : ℕ) → offset < size → IsHeld h (page + offset) (frame + offset) given

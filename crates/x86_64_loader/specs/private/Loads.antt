@@ -16,7 +16,7 @@ use Rattle.x86_64_loader.specs.Maps.{Accepts, Refuses, Kept}
 use Rattle.x86_64_loader.specs.Pages.{IsFree, Leaves, RunStands}
 use Rattle.x86_64_loader.specs.Segments.{AllStand, ReachesAt, large_pages, mapping_of, run_of, size_of, small_pages}
 
--- the pages with which a segment is mapped
+-- The pages with which a segment is mapped: only those of 4KiB, or those of 2MiB where they fit, too.
 abbrev pub pages_by : Sizes → Segment → List PageMapping
 pages_by sizes.Small = small_pages
 pages_by sizes.Large = large_pages
@@ -29,23 +29,23 @@ pub record IsStopped {Lent : Type 0} (h : Hierarchy Lent) (supply : Supply) (lev
   pub leaves : Leaves level h supply after rest
   pub refused : Refuses h supply.frames (run_of level page frame flags mapped) (mapping_of level (page + mapped * span level) (frame + mapped * span level) flags) why after rest.frames
 
--- these pages of a run are mapped: they stand, no page that stood overlapped them, and what stood still stands
+-- The `count` pages of a run are mapped: they stand, no page that stood overlapped them, and what stood still stands.
 pub record AreMapped {Lent : Type 0} (h : Hierarchy Lent) (supply : Supply) (level size page frame flags count : ℕ) (after : Hierarchy Lent) (rest : Supply) : Type 0 where
   pub stand : RunStands after level size page frame flags count
   pub were_free : IsFree h page (count * size)
   pub leaves : Leaves 3 h supply after rest
   pub accepted : Accepts h supply.frames (run_of level page frame flags count) after rest.frames
 
--- the segment's positions from one offset up to another, which isn't included, are held and mapped where they should be
+-- The segment's positions from one offset up to another, which isn't included, are held and mapped where they should be.
 abbrev pub HoldsPart : {Lent : Type 0} → Hierarchy Lent → Segment → (low high : ℕ) → Type 0
 HoldsPart h s low high = (offset : ℕ) → low ≤ offset → offset < high → IsHeld h (s.page + offset) (s.frame + offset) (bits_of s.flags)
 
--- this holds for each position of the segment
+-- Each position of the segment is held and mapped where it should be.
 abbrev pub HoldsSegment : {Lent : Type 0} → Hierarchy Lent → Segment → Type 0
 HoldsSegment h s = HoldsPart h s 0 (size_of s)
 
--- the load of these pages, from an offset of the segment on, was refused for this reason after `mapped` pages; those before are
--- reached
+-- The load of these pages, which begin at an offset in the segment, was refused for this reason at the segment's 4KiB page with
+-- the number `mapped`, counted from 0. The pages before it are reached.
 pub record IsHalted {Lent : Type 0} (h : Hierarchy Lent) (supply : Supply) (s : Segment) (pages : List PageMapping) (low mapped : ℕ) (why : Refusal) (after : Hierarchy Lent) (rest : Supply) : Type 0 where
   pub above : low ≤ mapped * 0x1000
   pub within : mapped < s.pages
@@ -67,13 +67,13 @@ pub record IsMapped {Lent : Type 0} (h : Hierarchy Lent) (supply : Supply) (s : 
   pub stand : AllStand after pages
   pub accepted : Accepts h supply.frames pages after rest.frames
 
--- the effect of a load of these pages, which are `size` bytes of the segment from an offset on, by its result
+-- The effect of a load of these pages, which are `size` bytes of the segment from an offset on, by its result.
 abbrev pub LoadsPart : {Lent Value Size : Type 0} → Hierarchy Lent → (supply : Supply) → Segment → List PageMapping → (low size : ℕ) → Result Value (Stopped Size)
     → (after : Hierarchy Lent) → (rest : Supply) → Type 0
 LoadsPart h supply s pages low size (Ok _) after rest = IsMapped h supply s pages low size after rest
 LoadsPart h supply s pages low size (Err stopped) after rest = IsHalted h supply s pages low stopped.mapped (map_refusal stopped.why) after rest
 
--- the effect of the load of a whole segment, by its result
+-- The effect of the load of a whole segment, by its result.
 abbrev pub LoadsSegment : {Lent Value Size : Type 0} → (pages_of : Segment → List PageMapping) → Hierarchy Lent → (supply : Supply) → Segment → Result Value (Stopped Size)
     → (after : Hierarchy Lent) → (rest : Supply) → Type 0
 LoadsSegment pages_of h supply s result after rest = LoadsPart h supply s (pages_of s) 0 (size_of s) result after rest
