@@ -1,6 +1,6 @@
 -- VMCOREINFO: what Linux's note of this name says of its kernel. Its descriptor is text, whose lines are KEY=VALUE.
 -- Linux, "VMCOREINFO" in the documentation of kdump.
-use Rattle.std.specs.Prelude.{ℕ, ◌+◌, ◌-◌, ◌%◌, ◌^◌, ◌++◌, ◌==◌, ◌&&◌, Bool, true, false, not, codes, if◌then◌else◌, min, List, [], ◌∷◌, drop, length, nat_lt, Option, None, Some, option_map, slice_get, take, Result, Ok, Err}
+use Rattle.std.specs.Prelude.{ℕ, ◌+◌, ◌-◌, ◌%◌, ◌^◌, ◌++◌, ◌==◌, ◌&&◌, Bool, true, false, not, codes, if◌then◌else◌, min, List, [], ◌∷◌, drop, length, nat_le, nat_lt, Option, None, Some, option_map, slice_get, take, Result, Ok, Err}
 use Rattle.std.specs.Char.{is_digit}
 use Rattle.std.specs.List.{find, list_all, slice_split}
 use Rattle.std.specs.Option.{ok_or, option_and_then, option_map_or, unwrap_or}
@@ -69,6 +69,19 @@ number_of radix digits =
 unfoldable pub shift_of : (digits : List ℕ) → Option Shift
 shift_of digits = if begins_with digits (codes "-") then option_map Down (number_of 10 (drop 1 digits)) else option_map Up (number_of 10 digits)
 
+-- a number with or without a minus as a 64-bit word, modulo 2^64. It may be negative down to -2^63
+abbrev pub word_by : Shift → Option ℕ
+word_by (Up n) = Some n
+word_by (Down n) = if nat_le n (2 ^ 63) then Some ((2 ^ 64 - n) % 2 ^ 64) else None
+
+-- a value as a 64-bit word: hexadecimal digits behind 0x, or decimal digits, perhaps behind a minus
+unfoldable pub word_of : (value : List ℕ) → Option ℕ
+word_of value = if begins_with value (codes "0x") then number_of 16 (drop 2 value) else option_and_then word_by (shift_of value)
+
+-- the value of a key as a 64-bit word, if a line has the key and its value is such a number
+abbrev pub word_in : (text key : List ℕ) → Option ℕ
+word_in text key = option_and_then word_of (value_of text key)
+
 abbrev pub and_then : {A B : Type 0} → Result A KernelFault → (A → Result B KernelFault) → Result B KernelFault
 and_then (Ok a) next = next a
 and_then (Err fault) next = Err fault
@@ -111,6 +124,10 @@ kernel_of text = and_then (number_in text 16 SwapperPgDir) (λ symbol.
     and_then (ok_or (physical symbol shift) NoFrame) (λ root.
     Ok (record { root = root; levels = levels_by (unwrap_or five 0); encryption_mask = unwrap_or mask 0 }))))))))
 
+-- the text of the first of the notes VMCOREINFO, if there is one
+abbrev pub noted_text : Contents → Option (List ℕ)
+noted_text dump = option_map (text_of dump.file) (slice_get (notes_of VmCoreInfo dump) 0)
+
 abbrev pub kernel_by : (file : List ℕ) → (note : Option Note) → Result (Option Kernel) Fault
 kernel_by file None = Ok None
 kernel_by file (Some note) = result_map_both Some faults.VmCoreInfo (kernel_of (text_of file note))
@@ -124,6 +141,14 @@ noted_kernel dump = kernel_by dump.file (slice_get (notes_of VmCoreInfo dump) 0)
 -- the text at an offset of the file, of at most 4096 bytes, or why it doesn't say where the root is
 abbrev pub text_at : (file : List ℕ) → (offset : ℕ) → Result KernelText Fault
 text_at file offset = result_map_both (λ kernel. record { offset = offset; kernel = kernel }) faults.VmCoreInfo (kernel_of (part_of file offset 4096))
+
+abbrev pub text_or : Contents → (first : Option KernelText) → Option (List ℕ)
+text_or dump (Some text) = Some (part_of dump.file text.offset 4096)
+text_or dump None = noted_text dump
+
+-- the text of VMCOREINFO: the first of those in memory, or if there are none that of the first of the notes
+abbrev pub vmcoreinfo_of : Contents → Option (List ℕ)
+vmcoreinfo_of dump = text_or dump (slice_get dump.texts 0)
 
 abbrev pub same_levels : (one other : Levels) → Bool
 same_levels Four Four = true
