@@ -54,6 +54,6 @@ pub record Contents : Type 0 where
 unfoldable pub words_of_dump : Contents → Words
 words_of_dump dump frame = cond (is_frame frame) (option_map (words_at dump.cleared dump.file) (frame_offset (length dump.file) dump.segments frame)) None
 
--- Whether a file of this length ends before one of the segments does that have bytes.
+-- Whether a segment that has bytes ends after a file of this length.
 abbrev pub is_short : (file_length : ℕ) → List Segment → Bool
 is_short file_length segments = list_any (λ segment. not (segment.size == 0) && nat_lt file_length (segment.offset + segment.size)) segments

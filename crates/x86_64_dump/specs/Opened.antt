@@ -23,6 +23,6 @@ words_opened bytes dump = words_of_dump (opened bytes dump)
 abbrev pub holds : {S : Type 0} → {G : Ghosts S} → (size : S → ℕ) → Dump S G → (frame : ℕ) → Bool
 holds size dump frame = is_some (frame_offset (size dump.source) dump.segments.items frame)
 
--- Whether a segment of an opened dump ends after the file, whose length `size` returns for its source.
+-- Whether a segment of an opened dump has bytes and ends after the file, whose length `size` returns for its source.
 abbrev pub is_cut : {S : Type 0} → {G : Ghosts S} → (size : S → ℕ) → Dump S G → Bool
 is_cut size dump = is_short (size dump.source) dump.segments.items
