@@ -12,8 +12,8 @@ use Rattle.ptdump_engine.specs.Start.{level_count}
 use Rattle.ptdump_engine.specs.declared.request.Request.{Request}
 use Rattle.ptdump_engine.specs.declared.failure.Failure.TheVariants.{OutOfMemory}
 use Rattle.ptdump.specs.Asked.{AreAsked, IsBits}
+use Rattle.ptdump.specs.Columns.{columns_for}
 use Rattle.ptdump.specs.DirectMaps.{IsDirectMap}
-use Rattle.ptdump.specs.Listings.{columns_for}
 use Rattle.ptdump.specs.Options.{IsFlag, IsOption}
 use Rattle.ptdump.specs.Placements.{IsPlacement}
 use Rattle.ptdump.specs.Selections.{IsSelection}

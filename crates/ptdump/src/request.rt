@@ -7,9 +7,9 @@ ghost use Rattle.ptdump.specs.Requests.{AreNumbers, IsCommand, IsLevels, IsReque
 ghost use Rattle.x86_64_addr.specs.declared.level_count.Levels.{Levels};
 
 use crate::asked::{bits_of, options_of};
+use crate::columns::columns_of;
 use crate::direct_map::direct_map_of;
 use crate::flags::is_given;
-use crate::listing::columns_of;
 use crate::numbers::{NumberOption, numbers_of, option_of};
 use crate::placement::placement_of;
 use crate::selection::selection_of;

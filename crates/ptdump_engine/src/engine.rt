@@ -19,6 +19,7 @@ use crate::destination::Destination;
 use crate::failure::Failure;
 use crate::image::write_image;
 use crate::info::write_info;
+use crate::listing::Listing;
 use crate::loaded::Loaded;
 use crate::noted_controls::with_noted_controls;
 use crate::noted_levels::write_levels;
@@ -299,14 +300,22 @@ fn write_report<L: LevelCount, S: ByteSource, W: Destination, E: Destination>(
     let columns = request.columns;
     match &request.command {
         Command::Regions(selection) => {
-            write_regions(alloc, loaded, *selection, form, columns, output)?;
+            let listing = Listing {
+                columns,
+                has_names: false,
+            };
+            write_regions::<L, Output<'_, W>>(alloc, loaded, *selection, form, listing, output)?;
             Ok(true)
         }
         Command::Pages {
             selection,
             has_names,
         } => {
-            write_pages(alloc, loaded, *selection, *has_names, form, columns, output)?;
+            let listing = Listing {
+                columns,
+                has_names: *has_names,
+            };
+            write_pages::<L, Output<'_, W>>(alloc, loaded, *selection, form, listing, output)?;
             Ok(true)
         }
         Command::Walk { addresses, options } => {

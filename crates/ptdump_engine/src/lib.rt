@@ -3,7 +3,6 @@
 
 mod access_line;
 mod aligned;
-mod aligning;
 mod arguments;
 mod check;
 mod columns;
@@ -21,10 +20,10 @@ mod json_lines;
 mod line_count;
 mod line_output;
 mod lines;
+mod listing;
 mod loaded;
 mod mode;
 mod names;
-mod naming;
 mod noted_controls;
 mod noted_levels;
 mod opening;
@@ -41,6 +40,7 @@ mod rights_at;
 mod roots;
 mod selected;
 mod start;
+mod telling;
 mod totals;
 mod walk;
 mod walked;
