@@ -56,5 +56,5 @@ command_by registers command = command
 
 -- a request, with the controls of its walk that its processor's registers tell in place of assumed ones: those that were read already, or
 -- those in the note
-abbrev pub resolved : Request → Contents → (read : Option Registers) → Request
-resolved request dump read = record request { command = command_by (registers_for read (unwrap_or request.cpu 0) dump) request.command }
+abbrev pub with_noted_controls : Request → Contents → (read : Option Registers) → Request
+with_noted_controls request dump read = record request { command = command_by (registers_for read (unwrap_or request.cpu 0) dump) request.command }

@@ -36,6 +36,7 @@ mod registers;
 mod report;
 mod request;
 mod reserved;
+mod resolving;
 mod rights_at;
 mod roots;
 mod selected;
@@ -52,7 +53,7 @@ pub use failure::Failure;
 pub use loaded::Loaded;
 pub use output::{Output, OutputError};
 pub use request::{
-    AddressRange, Checking, Columns, Command, ControlsSource, Form, Levels, Outcome, Request,
-    Selection, WalkOptions,
+    AddressRange, AreaNames, Checking, Columns, Command, ControlsSource, Form, Levels, Outcome,
+    Request, Selection, WalkOptions,
 };
 pub use x86_64_dump::{NoProgress, Progress};

@@ -48,7 +48,7 @@ pub fn write_regions<L: LevelCount, O: Lines>(
 ) -> Result<(), O::Error>
     requires { IsLoaded loaded.now }
     ensures { OnOk result (O.puts output.old output.new (reports.regions_text
-        selection form listing.columns L.LEVELS (words_loaded loaded.now) loaded.now.root)) }
+        selection form listing.columns listing.layout L.LEVELS (words_loaded loaded.now) loaded.now.root)) }
 {
     let mut lines = CountedLines::new(alloc, form, output);
     tell_regions::<L, Listing, CountedLines<'_, O>>(loaded, selection, listing, &mut lines)?;
@@ -70,7 +70,7 @@ pub fn write_pages<L: LevelCount, O: Lines>(
 ) -> Result<(), O::Error>
     requires { IsLoaded loaded.now }
     ensures { OnOk result (O.puts output.old output.new (reports.pages_text selection
-        listing.has_names form listing.columns L.LEVELS (words_loaded loaded.now) loaded.now.root)) }
+        listing.has_names form listing.columns listing.layout L.LEVELS (words_loaded loaded.now) loaded.now.root)) }
 {
     let mut lines = CountedLines::new(alloc, form, output);
     tell_mappings::<L, Listing, CountedLines<'_, O>>(loaded, selection, listing, &mut lines)?;

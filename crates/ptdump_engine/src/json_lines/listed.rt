@@ -15,15 +15,21 @@ use std::alloc::{AllocError, Global};
 use std::fmt::{Display, Formatter, Result as FmtResult, Write};
 use x86_64_addr::addr::PhysAddr;
 use x86_64_addr::level_count::LevelCount;
-use x86_64_mappings::RegionIn;
+use x86_64_mappings::{MappingIn, RegionIn};
 
 impl<L: LevelCount> ToJson for ListedRegion<L> {
-    ghost json = { λ listed. json.json_of_region L.LEVELS listed.region };
+    ghost use Rattle.ptdump_engine.specs.private.NoFloats.{no_float_region};
 
-    ghost no_float = { λ listed. refl };
+    ghost json = { λ listed. json.json_of_region L.LEVELS listed.area listed.region };
+
+    ghost no_float = { λ listed. no_float_region L.LEVELS listed.area listed.region };
 
     fn to_json(&self, alloc: Global) -> Result<Value, AllocError> {
-        Ok(region_object(alloc, &self.region)?.finish())
+        let object = region_object(alloc, &self.region)?;
+        match self.area {
+            Some(area) => Ok(object.put_text("area", area.name())?.finish()),
+            None => Ok(object.finish()),
+        }
     }
 }
 
@@ -42,20 +48,34 @@ pub fn region_object<L: LevelCount>(
 }
 
 impl<L: LevelCount> ToJson for ListedMapping<L> {
-    ghost json = { λ listed. json.json_of_mapping L.LEVELS listed.mapping };
+    ghost use Rattle.ptdump_engine.specs.private.NoFloats.{no_float_mapping};
 
-    ghost no_float = { λ listed. refl };
+    ghost json = { λ listed. json.json_of_mapping L.LEVELS listed.area listed.mapping };
+
+    ghost no_float = { λ listed. no_float_mapping L.LEVELS listed.area listed.mapping };
 
     fn to_json(&self, alloc: Global) -> Result<Value, AllocError> {
-        let mapping = self.mapping;
-        let object = Object::new(alloc)
-            .put_hexadecimal("start", mapping.start.as_u64())?
-            .put_number("bytes", mapping.size())?
-            .put_hexadecimal("frame", mapping.frame.start_address().as_u64())?
-            .put_rights(mapping.rights)?
-            .put_hexadecimal("flags", mapping.flags.bits())?;
-        Ok(object.finish())
+        let object = mapping_object(alloc, &self.mapping)?;
+        match self.area {
+            Some(area) => Ok(object.put_text("area", area.name())?.finish()),
+            None => Ok(object.finish()),
+        }
     }
+}
+
+/// Returns the object of a mapping.
+fn mapping_object<L: LevelCount>(
+    alloc: Global,
+    mapping: &MappingIn<L>,
+) -> Result<Object, AllocError>
+    ensures { IfOk result (λ object. members_in object ≡ json.mapping_members L.LEVELS mapping.now) }
+{
+    Object::new(alloc)
+        .put_hexadecimal("start", mapping.start.as_u64())?
+        .put_number("bytes", mapping.size())?
+        .put_hexadecimal("frame", mapping.frame.start_address().as_u64())?
+        .put_rights(mapping.rights)?
+        .put_hexadecimal("flags", mapping.flags.bits())
 }
 
 /// An address that leads to a physical address.
