@@ -1,7 +1,9 @@
 -- Areas: the areas of Linux's address space and where they lie, as far as it is known.
 -- Linux, "Memory Management" in its documentation of x86-64 (Documentation/arch/x86/x86_64/mm.rst): the tables for four and for five levels.
-use Rattle.std.specs.Prelude.{ℕ, ◌+◌, ◌-◌, ◌*◌, ◌^◌, ◌&&◌, Bool, false, codes, if◌then◌else◌, min, List, [], ◌∷◌, nat_le, nat_lt, Option, None, Some, is_some, option_map}
+use Rattle.std.specs.Prelude.{ℕ, ◌+◌, ◌-◌, ◌*◌, ◌^◌, ◌&&◌, Bool, false, codes, if◌then◌else◌, min, List, [], ◌∷◌, nat_le, nat_lt, Option, None, Some, option_map}
 use Rattle.std.specs.List.{find}
+use Rattle.std.specs.Option.{option_and_then}
+use Rattle.x86_64_dump.specs.VmCoreInfo.{word_in}
 use Rattle.x86_64_addr.specs.declared.level_count.Levels.{Levels}
 use Rattle.x86_64_addr.specs.declared.level_count.Levels.TheVariants.{Four, Five}
 use Rattle.linux_areas.specs.declared.area.Area.{Area}
@@ -27,6 +29,20 @@ area_name Vsyscall = codes "vsyscall"
 -- the areas, in order of their addresses
 abbrev pub areas : List Area
 areas = User ∷ LdtRemap ∷ DirectMap ∷ Vmalloc ∷ Vmemmap ∷ CpuEntryArea ∷ EspFixup ∷ Efi ∷ KernelText ∷ Modules ∷ KernelTextOrModules ∷ Fixmap ∷ Vsyscall ∷ []
+
+-- the number that a text of VMCOREINFO tells behind a key, if there is a text
+abbrev pub told : (text : Option (List ℕ)) → (key : List ℕ) → Option ℕ
+told text key = option_and_then (λ bytes. word_in bytes key) text
+
+-- what is known of the places of areas by VMCOREINFO, with these levels of tables
+abbrev pub layout_of : (vmcoreinfo : Option (List ℕ)) → Levels → Layout
+layout_of vmcoreinfo levels = record {
+  levels = levels;
+  page_offset_base = told vmcoreinfo (codes "NUMBER(page_offset_base)=");
+  vmalloc_base = told vmcoreinfo (codes "NUMBER(vmalloc_base)=");
+  vmemmap_base = told vmcoreinfo (codes "NUMBER(vmemmap_base)=");
+  kernel_image_size = told vmcoreinfo (codes "NUMBER(KERNEL_IMAGE_SIZE)=");
+}
 
 -- ---- places that are fixed
 

@@ -1,9 +1,11 @@
 //! Where the areas lie in the address space of a kernel.
 ghost use Rattle.std.specs.Prelude.{◌≡◌, ◌<◌, ◌≤◌};
+ghost use Rattle.std.specs.Option.{option_copied};
 ghost use Rattle.linux_areas.specs.Areas as specs;
 
 use crate::area::{AREAS, Area};
 use x86_64_addr::level_count::Levels;
+use x86_64_dump::word_in;
 
 /// Where the kernel's code and data begin, `__START_KERNEL_map`.
 const KERNEL_MAP: u64 = 0xffff_ffff_8000_0000;
@@ -42,6 +44,20 @@ pub struct Layout {
 }
 
 impl Layout {
+    /// Returns what a text of VMCOREINFO tells of a kernel whose tables have so many levels, or nothing of the places that the kernel
+    /// chooses if there is no text. A number counts that is hexadecimal behind `0x`, or decimal and perhaps negative.
+    pub fn of(vmcoreinfo: Option<&[u8]>, levels: Levels) -> Layout
+        ensures { result ≡ specs.layout_of (option_copied vmcoreinfo.entry) levels }
+    {
+        Layout {
+            levels,
+            page_offset_base: told(vmcoreinfo, b"NUMBER(page_offset_base)="),
+            vmalloc_base: told(vmcoreinfo, b"NUMBER(vmalloc_base)="),
+            vmemmap_base: told(vmcoreinfo, b"NUMBER(vmemmap_base)="),
+            kernel_image_size: told(vmcoreinfo, b"NUMBER(KERNEL_IMAGE_SIZE)="),
+        }
+    }
+
     /// Returns the area in which all addresses from a first to a last one lie, if it is known.
     #[tactic(auto, unfolding(crate::specs::Areas::area_at))]
     pub fn area_at(&self, first: u64, last: u64) -> Option<Area>
@@ -97,6 +113,13 @@ impl Layout {
         let last = last_before(self.vmemmap_base, base, last);
         Some(Bounds { first: base, last })
     }
+}
+
+/// Returns the number that a text tells behind a key, if there is a text.
+fn told(text: Option<&[u8]>, key: &[u8]) -> Option<u64>
+    ensures { result ≡ specs.told (option_copied text.entry) key.now }
+{
+    word_in(text?, key)
 }
 
 /// Returns the first and the last address.

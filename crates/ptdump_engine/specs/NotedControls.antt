@@ -58,5 +58,5 @@ command_by registers command = command
 
 -- The request, in which a walk has controls by its processor's registers in place of assumed ones. The registers are those that
 -- were read already, or else those in the note.
-abbrev pub resolved : Request → Contents → (read : Option Registers) → Request
-resolved request dump read = record request { command = command_by (registers_for read (unwrap_or request.cpu 0) dump) request.command }
+abbrev pub with_noted_controls : Request → Contents → (read : Option Registers) → Request
+with_noted_controls request dump read = record request { command = command_by (registers_for read (unwrap_or request.cpu 0) dump) request.command }
