@@ -4,15 +4,15 @@ use Rattle.std.specs.List.{AllZip, slice_split}
 use Rattle.ptdump_engine.specs.declared.request.AddressRange.{AddressRange}
 use Rattle.ptdump.specs.Placements.{Denotes}
 
--- the parts of a text denote the first and the last address of a range
+-- The parts of a text are two numbers: the first and the last address of the range.
 abbrev pub AreEnds : (parts : List (List ℕ)) → AddressRange → Type 0
 AreEnds parts range = AllZip Denotes parts (range.first ∷ range.last ∷ [])
 
--- likewise for the parts between the colons of a text
+-- The text is FIRST:LAST, with the two addresses of the range.
 abbrev pub IsAddressRange : (text : List ℕ) → AddressRange → Type 0
 IsAddressRange text range = AreEnds (slice_split (λ c. c == 0x3a) text) range
 
--- the direct map is None if its text is missing, and is the range of its text otherwise
+-- The direct map is the range of the text of --direct-map, or None if the text is missing.
 abbrev pub IsDirectMap : (text : Option (List ℕ)) → Option AddressRange → Type 0
 IsDirectMap None direct_map = direct_map ≡ None
 IsDirectMap (Some text) None = ⊥

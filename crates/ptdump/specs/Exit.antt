@@ -11,7 +11,8 @@ use Rattle.ptdump_engine.specs.declared.request.Outcome.{Outcome}
 use Rattle.ptdump.specs.declared.stop.Stop.{Stop}
 use Rattle.ptdump.specs.declared.stop.Stop.TheVariants.{Help, Usage, NoText, NoCommand, NoAddress, NoNumber, NoLevels, NoRange, BaseAndRanges, NoAccess, NoSetting, NoPhysicalBits, NoDirectMap, NoRights, Unopened, NoLength, Unread, ReaderLeft, Failed}
 
--- 0: help; 2: the command line; 3: the file; 5: a reader who left; else that of the run that failed
+-- The exit status for a reason to stop: 0 for help, 2 for the command line, 3 for the file, 5 if the reader of standard output
+-- has left, and otherwise that of the run that failed.
 abbrev pub stop_status : Stop → ℕ
 stop_status (Help text) = 0
 stop_status (Usage error) = 2
@@ -33,24 +34,26 @@ stop_status (Unread path error) = 3
 stop_status ReaderLeft = 5
 stop_status (Failed failure) = status_of failure
 
--- 0: the report is complete; 1: there are findings, or an address doesn't arrive or isn't found
+-- The exit status of a run: 0 if its report is complete, 1 if there are findings, or an address doesn't arrive or isn't found,
+-- and otherwise that of the reason to stop.
 abbrev pub exit_status_of : Result Outcome Stop → ℕ
 exit_status_of (Ok outcome) = if outcome.is_complete then 0 else 1
 exit_status_of (Err stop) = stop_status stop
 
--- why the program ends if its command line can't be parsed: memory allocation failed, help or the version is asked for, or the words are wrong
+-- The reason to stop if the command line can't be parsed: memory allocation failed, help or the version is requested, or the
+-- words are wrong.
 abbrev pub stop_for : ErrorKind → Error → Stop
 stop_for kind.OutOfMemory error = Failed failures.OutOfMemory
 stop_for kind.DisplayHelp error = Help error
 stop_for kind.DisplayVersion error = Help error
 stop_for other error = Usage error
 
--- why the program ends if a write failed, perhaps since the reader of standard output has left
+-- The reason to stop if a write failed, perhaps since the reader of standard output has left.
 abbrev pub stop_of_output : (has_reader_left : Bool) → Stop
 stop_of_output true = ReaderLeft
 stop_of_output false = Failed failures.Output
 
--- why it ends if its run on the file at a path failed: a failed read is one of this file
+-- The reason to stop if the run on the file at a path failed. A failed read is one of this file.
 abbrev pub stop_of_run : (path : Bor (List ℕ)) → (has_reader_left : Bool) → Failure → Stop
 stop_of_run path left (failures.Read error) = Unread path error
 stop_of_run path left failures.Output = stop_of_output left

@@ -1,7 +1,7 @@
 pub mod Asked
+pub mod Columns
 pub mod DirectMaps
 pub mod Exit
-pub mod Listings
 pub mod Numbers
 pub mod Options
 pub mod Placements

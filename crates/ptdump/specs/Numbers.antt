@@ -5,10 +5,10 @@ use Rattle.std.specs.List.{starts_with}
 use Rattle.x86_64_mappings.specs.Numbers as lenient
 pub use Rattle.x86_64_mappings.specs.Numbers.{number_of}
 
--- whether a text begins with 0, goes on, and doesn't begin with `0x`
+-- Whether a text begins with 0, has more characters, and doesn't begin with `0x`.
 unfoldable pub has_zero_in_front : (text : List ℕ) → Bool
 has_zero_in_front text = nat_lt 1 (length text) && starts_with nat_eq text (codes "0") && not (lenient.is_hexadecimal text)
 
--- the text is a number below 2^64 without such a zero
+-- The text is a number below 2^64, in decimal digits without zeros in front, or in hexadecimal digits behind `0x`.
 abbrev pub IsNumber : (text : List ℕ) → Type 0
 IsNumber text = lenient.IsNumber text × (has_zero_in_front text ≡ false)

@@ -4,7 +4,7 @@ use Rattle.ptdump.specs.declared.numbers.NumberOption.{NumberOption}
 use Rattle.ptdump.specs.declared.numbers.NumberOption.TheVariants.{Cr3, Levels, Base, Cpu, From, To, PhysicalBits, VmCoreInfo}
 use Rattle.ptdump.specs.Numbers.{IsNumber, number_of}
 
--- the name of an option that takes a number
+-- The name of an option that takes a number, without its dashes.
 abbrev pub option_name : NumberOption → List ℕ
 option_name Cr3 = codes "cr3"
 option_name Levels = codes "levels"
@@ -15,12 +15,13 @@ option_name To = codes "to"
 option_name PhysicalBits = codes "maxphyaddr"
 option_name VmCoreInfo = codes "vmcoreinfo"
 
--- an option is None if its text is missing, and is the number of its text otherwise
+-- The number of an option is that of its text, or None if the text is missing.
 abbrev pub IsOption : (text : Option (List ℕ)) → Option ℕ → Type 0
 IsOption None number = number ≡ None
 IsOption (Some text) number = IsNumber text × (number ≡ Some (number_of text))
 
--- a flag is true if its text is "true", as where it is given, and false if its text is "false" or is missing
+-- The flag is true if its text is "true", as that of a flag on the command line is. It is false if its text is "false" or is
+-- missing.
 abbrev pub IsFlag : (text : Option (List ℕ)) → Bool → Type 0
 IsFlag None flag = flag ≡ false
 IsFlag (Some text) flag = (text ≡ codes "true" → flag ≡ true) × (text ≡ codes "false" → flag ≡ false)

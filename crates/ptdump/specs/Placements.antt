@@ -6,23 +6,24 @@ use Rattle.x86_64_dump.specs.declared.placement.Placement.TheVariants.{Unstated,
 use Rattle.x86_64_dump.specs.declared.placement.RawRange.{RawRange}
 use Rattle.ptdump.specs.Numbers.{IsNumber, number_of}
 
--- a text denotes a number
+-- The text is a number, and this is its value.
 abbrev pub Denotes : (text : List ℕ) → (number : ℕ) → Type 0
 Denotes text number = IsNumber text × (number ≡ number_of text)
 
--- the parts of a text denote the offset, the address and the size of a range
+-- The parts of a text are three numbers: the offset, the address and the size of the range.
 abbrev pub AreParts : (parts : List (List ℕ)) → RawRange → Type 0
 AreParts parts range = AllZip Denotes parts (range.offset ∷ range.address ∷ range.size ∷ [])
 
--- likewise for the parts between the colons of a text
+-- The text is OFFSET:ADDRESS:SIZE, with the numbers of the range.
 abbrev pub IsRange : (text : List ℕ) → RawRange → Type 0
 IsRange text range = AreParts (slice_split (λ c. c == 0x3a) text) range
 
--- texts denote ranges
+-- The texts are those of the ranges, in order.
 abbrev pub AreRanges : (texts : List (List ℕ)) → List RawRange → Type 0
 AreRanges texts ranges = AllZip IsRange texts ranges
 
--- the placement that a base denotes, which may be missing, or ranges; they never do so together
+-- The placement is that of --base and --range, whose texts these are. With a base there are no ranges, and without either the
+-- placement is unstated.
 abbrev pub IsPlacement : (base : Option (List ℕ)) → (ranges : List (List ℕ)) → Placement → Type 0
 IsPlacement None [] placement = placement ≡ Unstated
 IsPlacement (Some text) [] placement = IsNumber text × (placement ≡ Base (number_of text))

@@ -18,28 +18,28 @@ use Rattle.x86_64_access.specs.declared.request.Access.{Access}
 use Rattle.x86_64_dump.specs.declared.placement.RawRange.{RawRange}
 use Rattle.ptdump.specs.Numbers.{IsNumber, number_of}
 
--- the names of the commands
+-- The names of all commands.
 abbrev pub command_names : List (List ℕ)
 command_names =
     codes "regions" ∷ codes "pages" ∷ codes "walk" ∷ codes "find" ∷ codes "check" ∷ codes "image" ∷ codes "picture" ∷ codes "info" ∷ []
 
--- an option has the number as its value
+-- The option is present, and its text is this number.
 abbrev pub HasNumber : Found → (option : List ℕ) → (number : ℕ) → Type 0
 HasNumber found option number = (text : List ℕ) × (first_value found option ≡ Some text) × IsNumber text × (number_of text ≡ number)
 
--- one of the texts is no number
+-- The text is one of these texts, and is no number.
 abbrev pub IsBadNumber : (texts : List (List ℕ)) → (text : List ℕ) → Type 0
 IsBadNumber texts text = (is_listed texts text ≡ true) × ¬ (IsNumber text)
 
--- one of the texts is no range
+-- The text is one of these texts, and is no range.
 abbrev pub IsBadRange : (texts : List (List ℕ)) → (text : List ℕ) → Type 0
 IsBadRange texts text = (is_listed texts text ≡ true) × ((range : RawRange) → ¬ (IsRange text range))
 
--- one of the words is the name of no setting
+-- The word is one of these words, and is neither the name of a setting nor `none`.
 abbrev pub IsBadSetting : (words : List (List ℕ)) → (word : List ℕ) → Type 0
 IsBadSetting words word = (is_listed words word ≡ true) × (is_listed setting_names word ≡ false)
 
--- what is wrong with the arguments of a command; other reasons come from elsewhere
+-- The reason to stop is a mistake in the arguments of a command, which have this mistake. Reasons from elsewhere are no mistakes.
 abbrev pub IsMistake : Found → Stop → Type 0
 IsMistake found (NoAddress text) = IsBadNumber (values found (codes "addresses")) text.now
 IsMistake found (NoNumber option text) = (first_value found (option_name option) ≡ Some text.now) × ¬ (IsNumber text.now)
@@ -53,34 +53,34 @@ IsMistake found (NoDirectMap text) = (first_value found (codes "direct-map") ≡
 IsMistake found (NoRights text) = (first_value found (codes "rights") ≡ Some text.now) × (are_letters text.now ≡ false)
 IsMistake found stop = ⊥
 
--- the reason why the arguments of a command aren't read: one of them is wrong, or memory allocation failed
+-- The reason to stop is a mistake in the arguments of a command, or memory allocation failed.
 abbrev pub IsReason : Found → Stop → Type 0
 IsReason found (Failed failure) = failure ≡ OutOfMemory
 IsReason found stop = IsMistake found stop
 
--- likewise of the name of the command too, which may be that of none
+-- The reason to stop is a mistake in the name or in the arguments of a command, or memory allocation failed.
 abbrev pub IsReasonFor : (name : List ℕ) → Found → Stop → Type 0
 IsReasonFor name found (NoCommand word) = (word.now ≡ name) × (is_listed command_names name ≡ false)
 IsReasonFor name found stop = IsReason found stop
 
--- one of the texts is no number, or memory allocation failed
+-- The reason to stop is that one of the texts is no number, or that memory allocation failed.
 abbrev pub IsNoAddress : (texts : List (List ℕ)) → Stop → Type 0
 IsNoAddress texts (NoAddress text) = IsBadNumber texts text.now
 IsNoAddress texts (Failed failure) = failure ≡ OutOfMemory
 IsNoAddress texts stop = ⊥
 
--- one of the words is the name of no setting
+-- The reason to stop is that one of the words is neither the name of a setting nor `none`.
 abbrev pub IsNoSetting : (words : List (List ℕ)) → Stop → Type 0
 IsNoSetting words (NoSetting word) = IsBadSetting words word.now
 IsNoSetting words stop = ⊥
 
--- one of the texts is no range, or memory allocation failed
+-- The reason to stop is that one of the texts is no range, or that memory allocation failed.
 abbrev pub IsNoRange : (texts : List (List ℕ)) → Stop → Type 0
 IsNoRange texts (NoRange text) = IsBadRange texts text.now
 IsNoRange texts (Failed failure) = failure ≡ OutOfMemory
 IsNoRange texts stop = ⊥
 
--- the base is no number, one of the ranges is none, both are given, or memory allocation failed
+-- The reason to stop is that the base is no number, one of the ranges is none, both are there, or memory allocation failed.
 abbrev pub IsNoPlacement : (base : Option (List ℕ)) → (ranges : List (List ℕ)) → Stop → Type 0
 IsNoPlacement base ranges (NoNumber option text) = (option ≡ Base) × (base ≡ Some text.now) × ¬ (IsNumber text.now)
 IsNoPlacement base ranges (NoRange text) = IsBadRange ranges text.now

@@ -1,7 +1,9 @@
 -- The requests that the words of a command line describe.
-use Rattle.std.specs.Prelude.{◌≡◌, ◌⊎◌, ℕ, Bool, true, false, List, [], Option, All, codes, map, option_map, unwrap_or}
+use Rattle.std.specs.Prelude.{◌≡◌, ◌⊎◌, ℕ, Bool, true, false, List, [], Option, ⊥, All, codes, map, option_map, unwrap_or}
 use Rattle.clap.specs.Matches.{first_value, matched_of, one_text, raw_values}
 use Rattle.clap.specs.declared.parser.matches.Found.{Found}
+use Rattle.ptdump_engine.specs.declared.request.AreaNames.{AreaNames}
+use Rattle.ptdump_engine.specs.declared.request.AreaNames.TheVariants.{OfKernel, Always, By}
 use Rattle.ptdump_engine.specs.declared.request.Checking.{Checking}
 use Rattle.ptdump_engine.specs.declared.request.Command.{Command}
 use Rattle.ptdump_engine.specs.declared.request.Command.TheVariants.{Regions, Pages, Walk, Find, Check, Image, Picture, Info}
@@ -12,8 +14,8 @@ use Rattle.ptdump_engine.specs.Start.{level_count}
 use Rattle.ptdump_engine.specs.declared.request.Request.{Request}
 use Rattle.ptdump_engine.specs.declared.failure.Failure.TheVariants.{OutOfMemory}
 use Rattle.ptdump.specs.Asked.{AreAsked, IsBits}
+use Rattle.ptdump.specs.Columns.{columns_for}
 use Rattle.ptdump.specs.DirectMaps.{IsDirectMap}
-use Rattle.ptdump.specs.Listings.{columns_for}
 use Rattle.ptdump.specs.Options.{IsFlag, IsOption}
 use Rattle.ptdump.specs.Placements.{IsPlacement}
 use Rattle.ptdump.specs.Selections.{IsSelection}
@@ -56,11 +58,18 @@ abbrev pub is_json : Form → Bool
 is_json Text = false
 is_json Json = true
 
+-- lines name areas in any case if the flag is given, and otherwise if VMCOREINFO says where the root is
+abbrev pub AreNamed : (flag : Option (List ℕ)) → AreaNames → Type 0
+AreNamed flag Always = IsFlag flag true
+AreNamed flag OfKernel = IsFlag flag false
+AreNamed flag (By layout) = ⊥
+
 -- the request is that of the command with this name and these arguments, with standard output a terminal or not
 pub record IsRequest (is_terminal : Bool) (name : List ℕ) (found : Found) (request : Request) : Type 0 where
   pub command : IsCommand name found request.command
   pub form : IsFlag (one_text found (codes "json")) (is_json request.form)
   pub columns : request.columns ≡ columns_for is_terminal (first_value found (codes "columns"))
+  pub areas : AreNamed (one_text found (codes "linux")) request.areas
   pub cr3 : IsOption (first_value found (codes "cr3")) request.cr3
   pub vmcoreinfo : IsOption (first_value found (codes "vmcoreinfo")) request.vmcoreinfo
   pub levels : IsLevels (first_value found (codes "levels")) request.levels

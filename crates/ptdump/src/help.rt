@@ -73,7 +73,9 @@ pub static COMMANDS: [CommandHelp; 8] = [
         name: "regions",
         about: "List what is mapped, region by region",
         addresses: None,
-        options: &["from", "to", "rights", "columns", "all-cpus", "json"],
+        options: &[
+            "from", "to", "rights", "columns", "linux", "all-cpus", "json",
+        ],
         more: "\
 A region is as long as addresses go on without a gap and with the same rights.
 Each line is FIRST-LAST SIZE RIGHTS: its first and last address, how long it is,
@@ -137,7 +139,7 @@ Examples:
         name: "pages",
         about: "List all mappings, page by page",
         addresses: None,
-        options: &["from", "to", "rights", "names", "columns", "json"],
+        options: &["from", "to", "rights", "names", "columns", "linux", "json"],
         more: "\
 Each line is START SIZE FRAME RIGHTS FLAGS: the page's first address, its size,
 the physical address to which it leads, what may be done there (r read, w write,

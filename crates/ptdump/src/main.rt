@@ -11,11 +11,11 @@ ghost use Rattle.ptdump_engine.specs.Failure.{status_of};
 ghost use Rattle.ptdump_engine.specs.declared.failure.Failure.TheVariants.{OutOfMemory, Output};
 
 mod asked;
+mod columns;
 mod command_line;
 mod direct_map;
 mod flags;
 mod help;
-mod listing;
 mod numbers;
 mod options;
 mod placement;

@@ -38,7 +38,7 @@ pub struct OptionHelp {
 }
 
 /// The options.
-pub static OPTIONS: [OptionHelp; 20] = [
+pub static OPTIONS: [OptionHelp; 21] = [
     OptionHelp {
         name: "from",
         takes: Takes::Value("ADDRESS"),
@@ -76,6 +76,14 @@ pub static OPTIONS: [OptionHelp; 20] = [
         takes: Takes::OneOf("HOW", &["plain", "aligned", "auto"]),
         help: "Columns: plain, aligned or auto [default: auto]; not with --json",
         excludes: &["json"],
+        needs: None,
+        is_common: false,
+    },
+    OptionHelp {
+        name: "linux",
+        takes: Takes::Nothing,
+        help: "Name Linux's areas, whatever says where the root is",
+        excludes: &["all-cpus"],
         needs: None,
         is_common: false,
     },

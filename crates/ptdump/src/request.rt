@@ -3,19 +3,19 @@ ghost use Rattle.std.specs.Prelude.{Option, IfOk, IfErr, codes};
 ghost use Rattle.clap.specs.Matches.{first_value, found_of, one_text};
 ghost use Rattle.ptdump.specs.Options.{IsFlag};
 ghost use Rattle.ptdump.specs.Reasons.{IsMistake, IsReason, IsReasonFor};
-ghost use Rattle.ptdump.specs.Requests.{AreNumbers, IsCommand, IsLevels, IsRequest, IsUnread, is_json, values};
+ghost use Rattle.ptdump.specs.Requests.{AreNamed, AreNumbers, IsCommand, IsLevels, IsRequest, IsUnread, is_json, values};
 ghost use Rattle.x86_64_addr.specs.declared.level_count.Levels.{Levels};
 
 use crate::asked::{bits_of, options_of};
+use crate::columns::columns_of;
 use crate::direct_map::direct_map_of;
 use crate::flags::is_given;
-use crate::listing::columns_of;
 use crate::numbers::{NumberOption, numbers_of, option_of};
 use crate::placement::placement_of;
 use crate::selection::selection_of;
 use crate::stop::Stop;
 use clap::ArgMatches;
-use ptdump_engine::{Checking, Command, Form, Levels, Request};
+use ptdump_engine::{AreaNames, Checking, Command, Form, Levels, Request};
 use std::alloc::Global;
 
 /// Returns the request for a command and its arguments, with standard output a terminal or not.
@@ -38,6 +38,7 @@ pub fn request_of<'a>(
         command: command_of(alloc, name, arguments)?,
         form: form_of(arguments),
         columns: columns_of(arguments, is_terminal),
+        areas: areas_of(arguments),
         cr3: option_of(arguments, NumberOption::Cr3)?,
         vmcoreinfo: option_of(arguments, NumberOption::VmCoreInfo)?,
         levels: levels_of(arguments)?,
@@ -56,6 +57,17 @@ fn form_of(arguments: &ArgMatches<'_>) -> Form
         Form::Json
     } else {
         Form::Text
+    }
+}
+
+/// Returns whether lines name areas by the arguments.
+fn areas_of(arguments: &ArgMatches<'_>) -> AreaNames
+    ensures { AreNamed (one_text (found_of arguments.now) (codes "linux")) result }
+{
+    if is_given(arguments, "linux") {
+        AreaNames::Always
+    } else {
+        AreaNames::OfKernel
     }
 }
 

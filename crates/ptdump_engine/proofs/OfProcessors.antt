@@ -4,6 +4,8 @@ use Rattle.x86_64_model.specs.Memory.{Words}
 use Rattle.ptdump_engine.specs.Program.{IsTested, has_roots, is_image, is_of_processors, report_in, report_of}
 use Rattle.ptdump_engine.specs.declared.request.Command.{Command}
 use Rattle.ptdump_engine.specs.declared.request.Command.TheVariants as commands
+use Rattle.linux_areas.specs.declared.layout.Layout.{Layout}
+use Rattle.ptdump_engine.specs.NamedAreas.{layout_in}
 use Rattle.ptdump_engine.specs.declared.request.Columns.{Columns}
 use Rattle.ptdump_engine.specs.declared.request.Form.{Form}
 use Rattle.ptdump_engine.specs.declared.request.Request.{Request}
@@ -38,11 +40,11 @@ other command is = absurd (true≢false (sym is))
 pub no_image : (request : Request) → is_of_processors request ≡ true → is_image request.command ≡ false
 no_image request is = other request.command (roots_of request is)
 
-reported : (form : Form) (columns : Columns) (command : Command) (L : ℕ) (T : Words) (root : ℕ) → has_roots command ≡ true → IsSome (report_in form columns command L T root)
-reported form columns (commands.Regions selection) L T root is = refl
-reported form columns (commands.Check checking) L T root is = refl
-reported form columns command L T root is = absurd (true≢false (sym is))
+reported : (form : Form) (columns : Columns) (layout : Option Layout) (command : Command) (L : ℕ) (T : Words) (root : ℕ) → has_roots command ≡ true → IsSome (report_in form columns layout command L T root)
+reported form columns layout (commands.Regions selection) L T root is = refl
+reported form columns layout (commands.Check checking) L T root is = refl
+reported form columns layout command L T root is = absurd (true≢false (sym is))
 
 -- its report is specified
 pub has_report : (request : Request) (L : ℕ) (T : Words) (root : ℕ) → is_of_processors request ≡ true → IsSome (report_of request L T root)
-has_report request L T root is = reported request.form request.columns request.command L T root (roots_of request is)
+has_report request L T root is = reported request.form request.columns (layout_in request.areas) request.command L T root (roots_of request is)

@@ -30,6 +30,8 @@ use Rattle.ptdump_engine.specs.Walks.{walk_text}
 use Rattle.ptdump_engine.specs.declared.failure.Failure.{Failure}
 use Rattle.ptdump_engine.specs.declared.output.Output.{Output}
 use Rattle.ptdump_engine.specs.declared.processors.Processor.{Processor}
+use Rattle.linux_areas.specs.declared.layout.Layout.{Layout}
+use Rattle.ptdump_engine.specs.NamedAreas.{layout_in}
 use Rattle.ptdump_engine.specs.declared.request.Columns.{Columns}
 use Rattle.ptdump_engine.specs.declared.request.Command.{Command}
 use Rattle.ptdump_engine.specs.declared.request.Command.TheVariants as commands
@@ -112,25 +114,25 @@ same_walks Text L T W root asked p below = λ i. let walk = same_walk T W p L ro
     ++ (if asked.explains then explanation_text walk else []) ++ same_asked asked.controls asked.source asked.access L T W root p below i
 same_walks Json L T W root asked p below = λ i. json_line (json_of_walk (raw L p) (same_walk T W p L root below i) (same_json asked.controls asked.source asked.access L T W root p below i))
 
-same_of : (form : Form) (columns : Columns) (command : Command) (L : ℕ) (T W : Words) (root : ℕ) → mappings_of L T root ≡ mappings_of L W root → SameBelow L T W root
-    → report_in form columns command L T root ≡ report_in form columns command L W root
+same_of : (form : Form) (columns : Columns) (layout : Option Layout) (command : Command) (L : ℕ) (T W : Words) (root : ℕ) → mappings_of L T root ≡ mappings_of L W root → SameBelow L T W root
+    → report_in form columns layout command L T root ≡ report_in form columns layout command L W root
 unfolding regions_text pages_text walks_text find_text addresses_text check_text
-same_of form columns (commands.Regions s) L T W root same below = ap (λ ms. Some (flat_map (region_line form columns L) (filter (is_selected L s) (regions_in L ms)))) same
-same_of form columns (commands.Pages s has_names) L T W root same below = ap (λ ms. Some (flat_map (mapping_line form columns has_names L) (filter (is_mapping_selected L s) ms))) same
-same_of form columns (commands.Walk addresses asked) L T W root same below =
+same_of form columns layout (commands.Regions s) L T W root same below = ap (λ ms. Some (flat_map (region_line form columns layout L) (filter (is_selected L s) (regions_in L ms)))) same
+same_of form columns layout (commands.Pages s has_names) L T W root same below = ap (λ ms. Some (flat_map (mapping_line form columns has_names layout L) (filter (is_mapping_selected L s) ms))) same
+same_of form columns layout (commands.Walk addresses asked) L T W root same below =
     λ i. Some (flat_map (λ a. heading_line form (are_several addresses.items) (codes "address") a ++ same_walks form L T W root asked (a % position_count L) below i) addresses.items)
-same_of form columns (commands.Find addresses) L T W root same below =
+same_of form columns layout (commands.Find addresses) L T W root same below =
     ap (λ ms. Some (flat_map (λ a. heading_line form (are_several addresses.items) (codes "physical") a ++ flat_map (address_line form L a) (filter (leads_to a) ms)
     ++ none_line form (are_several addresses.items) (list_any (leads_to a) ms)) addresses.items)) same
-same_of form columns (commands.Check checking) L T W root same below =
+same_of form columns layout (commands.Check checking) L T W root same below =
     ap (λ lines. Some (flat_map (line_of form) lines ++ line_of form (said_of_count (line_count lines)))) (same_lines T W checking L root same below)
-same_of form columns commands.Image L T W root same below = refl
-same_of form columns commands.Picture L T W root same below = refl
-same_of form columns commands.Info L T W root same below = refl
+same_of form columns layout commands.Image L T W root same below = refl
+same_of form columns layout commands.Picture L T W root same below = refl
+same_of form columns layout commands.Info L T W root same below = refl
 
 pub same_report : (request : Request) (L : ℕ) (T W : Words) (root : ℕ) → mappings_of L T root ≡ mappings_of L W root → SameBelow L T W root
     → report_of request L T root ≡ report_of request L W root
-same_report request = same_of request.form request.columns request.command
+same_report request = same_of request.form request.columns (layout_in request.areas) request.command
 
 pub same_completeness : (command : Command) (L : ℕ) (T W : Words) (root : ℕ) → mappings_of L T root ≡ mappings_of L W root
     → SameBelow L T W root → ((p : ℕ) → page_walk L T root p ≡ page_walk L W root p) → completeness_of command L T root ≡ completeness_of command L W root

@@ -13,38 +13,41 @@ use Rattle.ptdump_engine.specs.Walks.{line}
 use Rattle.ptdump_engine.specs.declared.request.ControlsSource.{ControlsSource}
 use Rattle.ptdump_engine.specs.declared.request.ControlsSource.TheVariants.{Given, Noted, Assumed}
 
--- what the processor does with the access at position p, by the words of the tables below a root
+-- What the processor does with the access at position p, by the words of the tables below a root, with L levels of tables.
 abbrev pub outcome_in : (L : ℕ) → Words → (root p : ℕ) → Controls → Access → Outcome
 outcome_in L T root p c a = access L (controls_of c) T root p (access_of a)
 
+-- Whether an access arrives at a physical address.
 abbrev pub is_arrived : Outcome → Bool
 is_arrived (Arrives address) = true
 is_arrived outcome = false
 
--- settings with at most 52 bits of physical addresses
+-- The controls, with at most 52 bits of physical addresses.
 abbrev pub limited : Controls → Controls
 limited c = record c { physical_bits = min c.physical_bits 52 }
 
 -- ---- texts
 
+-- The name of a kind of access.
 abbrev pub kind_name : AccessKind → List ℕ
 kind_name Read = codes "read"
 kind_name Write = codes "write"
 kind_name Fetch = codes "fetch"
 
--- the name of an access, as user-read or supervisor-fetch
+-- The name of an access, such as user-read or supervisor-fetch.
 abbrev pub access_name : Access → List ℕ
 access_name a = (if a.user then codes "user-" else codes "supervisor-") ++ kind_name a.kind
 
--- a text if a code has a bit
+-- The text if a code has a bit, or else nothing.
 unfoldable pub bit_text : (code bit : ℕ) → (text : List ℕ) → List ℕ
 bit_text code bit text = if not (bit_and code bit == 0) then text else []
 
--- an error code, and the names of its bits
+-- The text of the error code of a page fault: its number, and the names of its bits.
 unfoldable pub code_text : (code : ℕ) → List ℕ
 code_text code = hexadecimal code ++ bit_text code 0x1 (codes ", present") ++ bit_text code 0x2 (codes ", write") ++ bit_text code 0x4 (codes ", user")
     ++ bit_text code 0x8 (codes ", reserved bit") ++ bit_text code 0x10 (codes ", fetch")
 
+-- The text of what a processor does with an access: it arrives, faults, or needs a table that the dump lacks.
 abbrev pub outcome_text : Outcome → List ℕ
 outcome_text (Arrives address) = codes " arrives at " ++ hexadecimal address
 outcome_text (Faults code level) = codes " faults at level " ++ decimal level ++ codes ", code " ++ code_text code
@@ -52,46 +55,49 @@ outcome_text (NoMemory frame) = codes " needs the table at " ++ hexadecimal fram
 
 -- ---- controls
 
--- what says the controls
+-- The word for where the controls come from: the request, a processor's note, or assumptions.
 abbrev pub source_name : ControlsSource → List ℕ
 source_name Given = codes "given"
 source_name Noted = codes "noted"
 source_name Assumed = codes "assumed"
 
--- the name of a control, behind + if it is on, and - if it is off
+-- The name of a control, behind + if it is on, and behind - if it is off.
 unfoldable pub control_text : (is_on : Bool) → (name : List ℕ) → List ℕ
 control_text is_on name = (if is_on then codes " +" else codes " -") ++ name
 
--- what stands between those that a note may tell and the others
+-- The text between the controls of a processor's note and the others, which are assumed, or nothing if they come from elsewhere.
 abbrev pub between_text : ControlsSource → List ℕ
 between_text Noted = codes ", assumed:"
 between_text source = []
 
+-- The text of the controls that a processor's note may have: WP, SMEP and SMAP.
 unfoldable pub notable_text : Controls → List ℕ
 notable_text c = control_text c.write_protect (codes "wp") ++ control_text c.smep (codes "smep") ++ control_text c.smap (codes "smap")
 
+-- The text of the controls that no processor's note has: NXE and AC.
 unfoldable pub other_text : Controls → List ℕ
 other_text c = control_text c.no_execute (codes "nxe") ++ control_text c.ac (codes "ac")
 
--- what says them, the controls that a note may tell, and the others
+-- The front of the text of controls: where they come from.
 unfoldable pub source_text : ControlsSource → List ℕ
 source_text source = codes " (" ++ source_name source ++ codes ":"
 
+-- The text of controls: where they come from, those that a processor's note may have, and the others.
 unfoldable pub controls_text : Controls → ControlsSource → List ℕ
 controls_text c source = source_text source ++ notable_text c ++ between_text source ++ other_text c ++ codes ")"
 
--- the name of an access, what the processor does with it, and the controls that decide it
+-- The text of an access: its name, what the processor does with it, and the controls that decide it.
 abbrev pub access_text : Access → Controls → ControlsSource → Outcome → List ℕ
 access_text a c source outcome = access_name a ++ outcome_text outcome ++ controls_text c source
 
 -- ---- walks
 
--- the line of the access that is asked for, if one is
+-- The line of the access at position p that is requested, or nothing if none is.
 abbrev pub asked_text : Controls → ControlsSource → Option Access → (L : ℕ) → Words → (root p : ℕ) → List ℕ
 asked_text c source None L T root p = []
 asked_text c source (Some a) L T root p = line (access_text a c source (outcome_in L T root p c a))
 
--- whether the access that is asked for arrives, or if none is, the page walk
+-- Whether the access at position p that is requested arrives, or the page walk if none is.
 abbrev pub is_there : Controls → Option Access → (L : ℕ) → Words → (root p : ℕ) → Bool
 is_there c None L T root p = is_some (page_walk L T root p)
 is_there c (Some a) L T root p = is_arrived (outcome_in L T root p c a)

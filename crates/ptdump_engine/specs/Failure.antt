@@ -6,7 +6,7 @@ use Rattle.x86_64_dump.specs.declared.error.Fault.TheVariants.{PlacementGiven, R
 use Rattle.ptdump_engine.specs.declared.failure.Failure.{Failure}
 use Rattle.ptdump_engine.specs.declared.failure.Failure.TheVariants as failures
 
--- 2: the request; 3: the file; 4: memory allocation; 5: a failed write
+-- The exit status of a run that fails: 2 for the request, 3 for the file, 4 for memory allocation, and 5 for a failed write.
 abbrev pub status_of : Failure → ℕ
 status_of failures.NoCr3 = 2
 status_of failures.VirtualBox = 2
@@ -27,7 +27,7 @@ status_of (failures.Read error) = 3
 status_of failures.OutOfMemory = 4
 status_of failures.Output = 5
 
--- the failure of a run, from that of reading the dump
+-- The failure of a run for an error that occurred while the dump was read.
 abbrev pub failure_of : DumpError → Failure
 failure_of dump.OutOfMemory = failures.OutOfMemory
 failure_of (dump.Read cause) = failures.Read cause

@@ -7,21 +7,23 @@ use Rattle.ptdump_engine.specs.declared.failure.Failure.TheVariants.{NoCr3, Virt
 use Rattle.ptdump_engine.specs.declared.mode.Mode.{Mode}
 use Rattle.ptdump_engine.specs.declared.mode.Mode.TheVariants.{NoPaging, Paging32, Paging64}
 
--- a mode of paging, and how registers say it
+-- The text of a mode of paging, with the bit of CR0 or CR4 that shows it unless it is 64-bit paging.
 abbrev pub mode_told : Mode → List ℕ
 mode_told NoPaging = codes "has no paging, as bit 31 of its CR0 is 0"
 mode_told Paging32 = codes "has 32-bit paging, as bit 5 of its CR4 is 0"
 mode_told Paging64 = codes "has 64-bit paging"
 
+-- The text of the failure that the file has no note of processor `cpu`, but `count` notes of processors.
 unfoldable pub no_processor_text : (cpu count : ℕ) → List ℕ
 no_processor_text cpu count = codes "no note of processor " ++ decimal cpu ++ codes " in the file"
     ++ (codes ", which has " ++ decimal count ++ codes ": give a smaller --cpu, or --cr3 and --levels")
 
+-- The text of the failure that processor `cpu` isn't in 64-bit paging.
 unfoldable pub wrong_mode_text : (cpu : ℕ) → Mode → List ℕ
 wrong_mode_text cpu mode = codes "processor " ++ decimal cpu ++ codes " " ++ mode_told mode
     ++ codes ": give another --cpu, or --cr3 and --levels to go on"
 
--- the text of a failure to find the root; None for other failures, whose texts aren't specified
+-- The text of a failure to find the root, or None for other failures, whose texts aren't specified.
 abbrev pub failure_text : Failure → Option (List ℕ)
 failure_text NoCr3 = Some (codes "no CR3 and no VMCOREINFO in the file: give --cr3, 0x and the digits that QEMU's `info registers` prints; on Linux `ptdump info /proc/kcore` shows it")
 failure_text VirtualBox = Some (codes "the file is a core of VirtualBox, of which no CR3 is read: give --cr3")

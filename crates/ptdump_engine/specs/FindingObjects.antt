@@ -10,22 +10,24 @@ use Rattle.ptdump_engine.specs.declared.findings.finding.Finding.TheVariants.{Na
 use Rattle.ptdump_engine.specs.declared.findings.flaw.Flaw.{Flaw}
 use Rattle.ptdump_engine.specs.declared.findings.aliased.Aliased.{Aliased}
 
--- a region with a flaw: the object of the region, with the flaw
+-- The object of a region with a flaw: the members of the region, and the flaw.
 abbrev pub json_of_flawed : (L : ℕ) → Flaw → Region → Data
 json_of_flawed L flaw r = object (put (codes "finding") (string (flaw_text flaw)) (region_members L r))
 
+-- The object of a slot: the frame of its table, and its index there.
 abbrev pub json_of_slot : Slot → Data
 json_of_slot slot = object (
     member (codes "index") (count slot.index)
     (member (codes "table") (hexadecimal_string slot.table) no_members))
 
--- a table that is mapped, by the name of the finding and the address
+-- The object of a finding with this name: the table in a frame is mapped at a virtual address.
 abbrev pub json_of_mapped : (name : List ℕ) → (frame at : ℕ) → Data
 json_of_mapped name frame at = object (
     member (codes "at") (hexadecimal_string at)
     (member (codes "finding") (string name)
     (member (codes "table") (hexadecimal_string frame) no_members)))
 
+-- The object of a finding in tables.
 abbrev pub json_of_finding : Finding → Data
 json_of_finding (NamedOften frame times) = object (
     member (codes "finding") (string (codes "table named often"))
@@ -50,11 +52,11 @@ json_of_finding (WritableForUser frame at) = json_of_mapped (codes "table mapped
 json_of_finding (MappedForUser frame at) = json_of_mapped (codes "table mapped for user") frame at
 json_of_finding (WritableOutside frame at) = json_of_mapped (codes "table mapped writable outside the direct map") frame at
 
--- the number of findings
+-- The object of the number of findings.
 abbrev pub json_of_count : (findings : ℕ) → Data
 json_of_count findings = object (member (codes "findings") (count findings) no_members)
 
--- a frame that is mapped with different rights
+-- The object of a frame that is mapped with different rights: both virtual addresses, and the rights at each.
 abbrev pub json_of_aliased : Aliased → Data
 json_of_aliased a = object (
     member (codes "at") (hexadecimal_string a.at.address)

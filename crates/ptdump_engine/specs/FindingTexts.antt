@@ -13,31 +13,32 @@ use Rattle.ptdump_engine.specs.declared.findings.aliased.Aliased.{Aliased}
 use Rattle.ptdump_engine.specs.declared.rights_at.RightsAt.{RightsAt}
 use Rattle.x86_64_tables.specs.Rights.{rights_text}
 
+-- The text of what is wrong with a region.
 abbrev pub flaw_text : Flaw → List ℕ
 flaw_text WritableAndExecutable = codes "writable and executable"
 flaw_text UserInUpperHalf = codes "user reaches upper half"
 
--- a region with a flaw
+-- The text of a region with a flaw, behind that of the flaw.
 abbrev pub flawed_text : (L : ℕ) → Flaw → Region → List ℕ
 flawed_text L flaw r = flaw_text flaw ++ codes " " ++ region_text L r
 
--- a slot as 0xTABLE[INDEX]
+-- The text 0xTABLE[INDEX] of a slot.
 abbrev pub slot_text : Slot → List ℕ
 slot_text slot = hexadecimal slot.table ++ codes "[" ++ decimal slot.index ++ codes "]"
 
--- an entry as 0xTABLE[INDEX] = 0xWORD
+-- The text 0xTABLE[INDEX] = 0xWORD of an entry.
 abbrev pub entry_text : Entry → List ℕ
 entry_text entry = slot_text entry.slot ++ codes " = " ++ hexadecimal entry.word
 
--- where a table is mapped
+-- The text of the virtual address at which a table is mapped.
 abbrev pub at_text : (at : ℕ) → List ℕ
 at_text at = codes " at " ++ hexadecimal at
 
--- for whom a table is mapped, and where
+-- The text of the virtual address at which a table is mapped for user code.
 abbrev pub for_user_text : (at : ℕ) → List ℕ
 for_user_text at = codes " for user at " ++ hexadecimal at
 
--- the line of a finding, without its line feed
+-- The line of a finding in tables, without its line feed.
 abbrev pub finding_text : Finding → List ℕ
 finding_text (NamedOften frame count) =
     codes "table " ++ hexadecimal frame ++ codes " named " ++ decimal count ++ codes " times"
@@ -54,14 +55,15 @@ finding_text (MappedForUser frame at) =
 finding_text (WritableOutside frame at) =
     codes "table " ++ hexadecimal frame ++ codes " is mapped writable" ++ at_text at
 
+-- The text of the number of findings.
 abbrev pub count_text : (findings : ℕ) → List ℕ
 count_text findings = codes "findings: " ++ decimal findings
 
--- rights, and at which address they are allowed
+-- The text of rights, and of the virtual address at which they are allowed.
 abbrev pub rights_there_text : RightsAt → List ℕ
 rights_there_text there = rights_text there.rights ++ codes " at " ++ hexadecimal there.address
 
--- a frame that is mapped with different rights
+-- The text of a frame that is mapped with different rights at two virtual addresses.
 abbrev pub aliased_text : Aliased → List ℕ
 aliased_text a =
     codes "frame " ++ hexadecimal a.frame ++ codes " is mapped " ++ rights_there_text a.at ++ codes ", and " ++ rights_there_text a.other

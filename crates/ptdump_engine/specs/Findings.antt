@@ -35,91 +35,96 @@ use Rattle.x86_64_model.specs.Access.{reserved}
 
 -- ---- regions
 
--- whether memory that may be written may also be executed, or user code reaches the upper half
+-- Whether a region has this flaw: it can be both written and executed, or user code reaches it in the upper half.
 abbrev pub has_flaw : (L : ℕ) → Flaw → Region → Bool
 has_flaw L WritableAndExecutable r = r.rights.write && r.rights.execute
 has_flaw L UserInUpperHalf r = r.rights.user && nat_le (lower_half L) r.first
 
--- what is said of a region with a flaw
+-- The text and the JSON object of a region with a flaw.
 abbrev pub said_of_flawed : (L : ℕ) → Flaw → Region → Said
 said_of_flawed L flaw r = record { text = flawed_text L flaw r; object = json_of_flawed L flaw r }
 
--- a line for each region with a flaw
+-- A line for each of the regions that has this flaw, in order.
 abbrev pub flawed_lines : (L : ℕ) → Flaw → List Region → List Said
 flawed_lines L flaw rs = map (said_of_flawed L flaw) (filter (has_flaw L flaw) rs)
 
 -- ---- tables and entries
 
--- the tables in these frames, by level: first those of a level, then those of the levels above
+-- The tables in these frames, which are lists of frames by level. The first list is of this level, and each next one of the level
+-- above.
 abbrev pub tables_from : (level : ℕ) → List (List ℕ) → List Table
 tables_from level [] = []
 tables_from level (frames ∷ above) = map (λ f. record { frame = f; level = level }) frames ++ tables_from (level + 1) above
 
--- these tables by address; a frame that has tables of several levels comes once for each of them, the lowest first
+-- The tables in these frames, by address, where the first list of frames is of level one. A frame that has tables of several
+-- levels comes once for each of them, the lowest first.
 unfoldable pub tables_in_order : List (List ℕ) → List Table
 tables_in_order levels = in_order (λ t. t.frame) (tables_from 1 levels)
 
--- the entry at an index of a table
+-- The entry at an index of a table, or None if T doesn't have the table.
 abbrev pub entry_at : Words → Table → (index : ℕ) → Option Entry
 entry_at T t i = option_map (λ e. record { slot = record { table = t.frame; index = i }; level = t.level; word = e }) (read T t.frame i)
 
--- the entries of a table, in order
+-- The entries of a table, in the order of their indices.
 unfoldable pub entries_in : Words → Table → List Entry
 entries_in T t = filter_map (entry_at T t) indices
 
 -- ---- tables that are named
 
--- an entry with PRESENT and without HUGE_PAGE names the table in a frame
+-- The name in the word of a slot: the frame of the table that it names, if it has PRESENT and lacks HUGE_PAGE.
 abbrev pub name_by : Slot → (word : ℕ) → Option Name
 name_by slot e = cond (present e && not (huge e)) (Some (record { frame = address e; by = slot })) None
 
--- the names in the table in a frame above level one
+-- The names in the table in a frame, which is above level one, in the order of their indices.
 unfoldable pub names_in : Words → (frame : ℕ) → List Name
 names_in T f = filter_map (λ i. option_and_then (name_by (record { table = f; index = i })) (read T f i)) indices
 
--- of tables that are in order, the frames of those above level one, each once
+-- The frames of those tables that are above level one, each once, if the tables are in the order of their frames.
 abbrev pub frames_above : List Table → List ℕ
 frames_above tables = dedup (λ f g. f == g) (map (λ t. t.frame) (filter (λ t. nat_lt 1 t.level) tables))
 
--- the names in these tables, by the frames that they name, and those of one frame in the order of their slots
+-- The names in these tables, by the frames that they name, and those of one frame in the order of their slots.
 unfoldable pub names_in_order : Words → List Table → List Name
 names_in_order T tables = in_order (λ n. n.frame) (flat_map (names_in T) (frames_above tables))
 
--- how often a frame is named as a table: by so many entries, and once more as the root
+-- How often a frame is named as a table: by so many names, and once more if it is the root.
 abbrev pub times : List Name → (root frame : ℕ) → ℕ
 times names root f = length (filter (λ n. n.frame == f) names) + (if f == root then 1 else 0)
 
--- a frame that is named more than once
+-- The finding of a frame that is named as a table `count` times, if that is more than once.
 abbrev pub often : (frame count : ℕ) → Option Finding
 often f count = cond (nat_lt 1 count) (Some (NamedOften f count)) None
 
--- the frames that are named more than once
+-- The findings of the frames that are named as a table more than once, if the names are in the order of their frames.
 unfoldable pub all_named_often : List Name → (root : ℕ) → List Finding
 all_named_often names root = filter_map (λ f. often f (times names root f)) (dedup (λ f g. f == g) (map (λ n. n.frame) names))
 
--- a named table that isn't in the dump
+-- The finding of a name whose table isn't in the dump, or None if it is.
 abbrev pub missing : Words → Name → Option Finding
 missing T name = cond (is_some (T name.frame)) None (Some (NotInDump name.frame name.by))
 
 -- ---- entries that are wrong by themselves
 
--- an entry with PRESENT and HUGE_PAGE above level three, where no entry maps a page
+-- The finding of an entry with PRESENT and HUGE_PAGE above level three, where no entry maps a page.
 abbrev pub huge_page : Entry → Option Finding
 huge_page e = cond (present e.word && (nat_lt 3 e.level && huge e.word)) (Some (HugePage e.slot e.level)) None
 
--- an entry with PRESENT and a reserved bit. If it has HUGE_PAGE above level three, that is the only finding.
+-- The finding of an entry with PRESENT and a bit that a processor with these controls reserves. An entry with HUGE_PAGE above
+-- level three has none, since that is a finding of its own.
 abbrev pub reserved_bits : Controls → Entry → Option Finding
 reserved_bits c e = cond (present e.word && not (nat_lt 3 e.level && huge e.word) && reserved (controls_of c) e.level e.word) (Some (ReservedBits e)) None
 
+-- The finding of an entry with this flaw, or None if the entry doesn't have it.
 abbrev pub flaw_in : EntryFlaw → Entry → Option Finding
 flaw_in flaws.HugePage e = huge_page e
 flaw_in (flaws.ReservedBits c) e = reserved_bits c e
 
--- the entries of these tables with a flaw
+-- The findings of those entries of these tables that have this flaw.
 abbrev pub flawed_entries : EntryFlaw → Words → List Table → List Finding
 flawed_entries flaw T tables = flat_map (λ t. filter_map (flaw_in flaw) (entries_in T t)) tables
 
--- the processor whose reserved bits are looked for: it has all 52 bits of physical addresses, so that it lacks no address bit, and NO_EXECUTE is on
+-- The processor whose reserved bits are looked for: it has all 52 bits of physical addresses, so that it lacks no address bit,
+-- and NO_EXECUTE is on.
 abbrev pub processor : Controls
 processor = record {
   write_protect = true;
@@ -130,50 +135,53 @@ processor = record {
   physical_bits = 52;
 }
 
--- the processor whose reserved bits a check looks for: it may lack address bits
+-- The processor whose reserved bits a check looks for. It has as many bits of physical addresses as the check states, but at most
+-- 52.
 abbrev pub processor_of : Checking → Controls
 processor_of checking = record processor { physical_bits = min checking.physical_bits 52 }
 
 -- ---- the report
 
--- the findings in tables, by their names
+-- The findings in these tables, by the names in them: frames that are named more than once, tables that aren't in the dump,
+-- HUGE_PAGE above level three, and other reserved bits.
 abbrev pub findings_by : Controls → Words → (root : ℕ) → List Table → List Name → List Finding
 findings_by processor T root tables names = all_named_often names root ++ filter_map (missing T) names
     ++ flawed_entries flaws.HugePage T tables ++ flawed_entries (flaws.ReservedBits processor) T tables
 
--- the findings in the tables that a root leads to
+-- The findings of a check in the tables that a root leads to, with L levels of tables. Those of tables to which mappings lead
+-- come last.
 unfoldable pub table_findings : Checking → (L : ℕ) → Words → (root : ℕ) → List Finding
 table_findings checking L T root = let tables = tables_in_order (tables_by_level L T root) in
     findings_by (processor_of checking) T root tables (names_in_order T tables)
     ++ (all_reached L T root tables ++ all_writable L T root checking.direct_map tables)
 
--- what is said of a finding in tables
+-- The text and the JSON object of a finding in tables.
 abbrev pub said_of : Finding → Said
 said_of finding = record { text = finding_text finding; object = json_of_finding finding }
 
--- a line for each selected mapping that has an alias, if these are looked for
+-- A line for each selected mapping that has an alias, or none if the check doesn't look for these.
 abbrev pub aliases_asked : Checking → (L : ℕ) → List Mapping → List Said
 aliases_asked checking L ms = if checking.aliases then alias_lines L checking.selection ms else []
 
--- a line for each finding in the regions that are selected, in all tables, and in the mappings that are selected
+-- A line for each finding of a check: in the regions that are selected, in all tables, and in the mappings that are selected.
 unfoldable pub finding_lines : Checking → (L : ℕ) → Words → (root : ℕ) → List Said
 finding_lines checking L T root = let regions = filter (is_selected L checking.selection) (regions_of L T root) in
     flawed_lines L WritableAndExecutable regions ++ flawed_lines L UserInUpperHalf regions ++ map said_of (table_findings checking L T root)
     ++ aliases_asked checking L (mappings_of L T root)
 
--- the number of lines, if it is less than 2^64
+-- The number of lines, or 2^64 - 1 if there are more.
 abbrev pub line_count : List Said → ℕ
 line_count lines = min (length lines) (2 ^ 64 - 1)
 
--- what is said of the number of findings
+-- The text and the JSON object of the number of findings.
 abbrev pub said_of_count : (findings : ℕ) → Said
 said_of_count findings = record { text = count_text findings; object = json_of_count findings }
 
--- a line in a form for each finding, and a line with their number
+-- The report of a check in a form: a line for each finding, and a line with their number.
 unfoldable pub check_text : Form → Checking → (L : ℕ) → Words → (root : ℕ) → List ℕ
 check_text form checking L T root = let lines = finding_lines checking L T root in
     flat_map (line_of form) lines ++ line_of form (said_of_count (line_count lines))
 
--- whether nothing is found
+-- Whether a check has no findings.
 abbrev pub finds_nothing : Checking → (L : ℕ) → Words → (root : ℕ) → Bool
 finds_nothing checking L T root = length (finding_lines checking L T root) == 0

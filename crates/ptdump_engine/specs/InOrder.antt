@@ -1,12 +1,12 @@
 -- Lists in ascending order of a number that each element has. Elements with equal numbers keep their order.
 use Rattle.std.specs.Prelude.{ℕ, cond, nat_le, List, [], ◌∷◌}
 
--- an element in front of the first one whose number isn't smaller
+-- The list, with an element in front of the first one whose number isn't smaller.
 abbrev pub placed : {X : Type 0} → (number : X → ℕ) → X → List X → List X
 placed number x [] = x ∷ []
 placed number x (y ∷ ys) = cond (nat_le (number x) (number y)) (x ∷ y ∷ ys) (y ∷ placed number x ys)
 
--- the elements in order
+-- The elements in ascending order of their numbers. Elements with equal numbers keep their order.
 abbrev pub in_order : {X : Type 0} → (number : X → ℕ) → List X → List X
 in_order number [] = []
 in_order number (x ∷ xs) = placed number x (in_order number xs)

@@ -23,57 +23,62 @@ use Rattle.ptdump_engine.specs.declared.registers.Registers.{Registers}
 use Rattle.ptdump_engine.specs.declared.request.Form.{Form}
 use Rattle.ptdump_engine.specs.declared.start.Start.{Start}
 
+-- The line of the dump's format, in a form.
 abbrev pub format_line : Form → Format → List ℕ
 format_line form format = line_in form (format_text format) (json_of_format format)
 
--- the line of memory from an address on
+-- The line of memory that has physical addresses, by its segment.
 abbrev pub placed_line : Form → Segment → List ℕ
 placed_line form s = line_in form (memory_text s.address (last_address s) s.size) (json_of_memory s.address (last_address s) s.size)
 
--- the line of memory of which the file doesn't say at which physical address it lies
+-- The line of memory of `size` bytes whose physical address the file doesn't have.
 abbrev pub unplaced_line : Form → (size : ℕ) → List ℕ
 unplaced_line form size = line_in form (unplaced_text size) (json_of_unplaced size)
 
--- the line of a segment, if its kind is memory and it has bytes
+-- The line of a segment, or nothing if its kind isn't memory or it has no bytes.
 abbrev pub memory_line : Form → Segment → List ℕ
 memory_line form s =
     if s.kind == 1 && not (s.size == 0) then if has_address s then placed_line form s else unplaced_line form s.size else []
 
 -- ---- processors
 
+-- The registers that were read from a note, or None if the note is too short.
 abbrev pub known_registers : Result Registers Fault → Option Registers
 known_registers (Ok registers) = Some registers
 known_registers (Err fault) = None
 
+-- The line of processor `cpu`, with its registers if they are known.
 abbrev pub processor_line : Form → (cpu : ℕ) → Option Registers → List ℕ
 processor_line form cpu registers = line_in form (processor_text cpu registers) (json_of_processor cpu registers)
 
--- a line for each processor, in the order of the notes
+-- A line for each processor, in the order of the notes.
 abbrev pub processor_lines : Form → (file : List ℕ) → List Note → List ℕ
 processor_lines form file notes =
     flat_map (λ (cpu, note). processor_line form cpu (known_registers (registers_of file note))) (enumerate_from 0 notes)
 
 -- ---- roots
 
--- the line for a kernel of which the note VMCOREINFO doesn't say where its root is
+-- The line that VMCOREINFO describes no kernel, and why.
 abbrev pub no_kernel_line : Form → (error : List ℕ) → List ℕ
 no_kernel_line form error = line_in form (no_kernel_text error) (json_of_no_kernel error)
 
--- what the note VMCOREINFO says, if there is one
+-- The line of the kernel that VMCOREINFO describes, or of why it describes none, or nothing without VMCOREINFO.
 abbrev pub kernel_line : Form → Result (Option Kernel) Fault → List ℕ
 kernel_line form (Ok None) = []
 kernel_line form (Ok (Some kernel)) = line_in form (kernel_text kernel) (json_of_kernel kernel)
 kernel_line form (Err fault) = no_kernel_line form (unwrap_or (fault_text fault) [])
 
+-- The line that other commands find no root, and why.
 abbrev pub no_root_line : Form → (error : List ℕ) → List ℕ
 no_root_line form error = line_in form (no_root_text error) (json_of_no_root error)
 
--- the root that other commands take if this processor is requested, or why they find none
+-- The line of the root that other commands take if processor `cpu` is requested, or of why they find none.
 abbrev pub root_line : Form → (cpu : ℕ) → Result Start Failure → List ℕ
 root_line form cpu (Ok start) = line_in form (root_text cpu start) (json_of_root cpu start)
 root_line form cpu (Err failure) = no_root_line form (unwrap_or (failure_text failure) [])
 
--- all lines, if other commands that are asked for this processor find this root
+-- The report of `ptdump info`, where `found` is the root that other commands take if processor `cpu` is requested, or why they
+-- find none.
 unfoldable pub info_in : Form → (cpu : ℕ) → Contents → Result Start Failure → List ℕ
 info_in form cpu dump found = format_line form dump.format
     ++ flat_map (memory_line form) dump.segments

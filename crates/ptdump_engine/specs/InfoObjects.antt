@@ -14,36 +14,39 @@ use Rattle.ptdump_engine.specs.declared.start.Origin.{Origin}
 use Rattle.ptdump_engine.specs.declared.start.Origin.TheVariants.{ByRequest, ByProcessor, ByKernel, ByText}
 use Rattle.ptdump_engine.specs.declared.start.Start.{Start}
 
--- an object with one member
+-- The object with this member alone.
 abbrev pub told : (name : List ℕ) → Data → Data
 told name value = object (member name value no_members)
 
--- why something isn't known
+-- The object of the reason why something isn't known.
 abbrev pub json_of_error : (error : List ℕ) → Data
 json_of_error error = told (codes "error") (string error)
 
+-- The object of a dump's format.
 abbrev pub json_of_format : Format → Data
 json_of_format format = told (codes "format") (string (format_name format))
 
+-- The object of memory with physical addresses: its number of bytes, and its first and last address.
 abbrev pub json_of_memory : (first last size : ℕ) → Data
 json_of_memory first last size = told (codes "memory") (object (
     member (codes "bytes") (count size)
     (member (codes "first") (hexadecimal_string first)
     (member (codes "last") (hexadecimal_string last) no_members))))
 
--- memory without a physical address
+-- The object of memory without a physical address: its number of bytes.
 abbrev pub json_of_unplaced : (size : ℕ) → Data
 json_of_unplaced size = told (codes "unplaced_memory") (told (codes "bytes") (count size))
 
 -- ---- processors
 
--- the mode of paging, and for 64 bits how many levels CR4 says
+-- The members of a mode of paging, and for 64-bit paging of the number of levels by CR4.
 abbrev pub paging_members : (cr4 : ℕ) → Mode → Members
 paging_members cr4 NoPaging = member (codes "mode") (string (mode_name NoPaging)) no_members
 paging_members cr4 Paging32 = member (codes "mode") (string (mode_name Paging32)) no_members
 paging_members cr4 Paging64 =
     member (codes "levels") (count (level_count (levels_by cr4))) (member (codes "mode") (string (mode_name Paging64)) no_members)
 
+-- The object of processor `cpu`: its number, its control registers, and its mode of paging.
 abbrev pub json_of_registers : (cpu : ℕ) → Registers → Mode → Data
 json_of_registers cpu r mode = object (
     member (codes "cpu") (count cpu)
@@ -52,7 +55,7 @@ json_of_registers cpu r mode = object (
     (member (codes "cr4") (hexadecimal_string r.cr4)
     (paging_members r.cr4 mode)))))
 
--- a processor, with its registers if they are known
+-- The object of processor `cpu`, with its registers if they are known, or else with the reason why they aren't.
 abbrev pub json_of_processor : (cpu : ℕ) → Option Registers → Data
 json_of_processor cpu (Some r) = told (codes "processor") (json_of_registers cpu r (mode_of r.cr0 r.cr4))
 json_of_processor cpu None = told (codes "processor") (object (
@@ -61,17 +64,19 @@ json_of_processor cpu None = told (codes "processor") (object (
 
 -- ---- roots
 
+-- The object of the kernel that VMCOREINFO describes: its root, its levels, and its encryption mask.
 abbrev pub json_of_kernel : Kernel → Data
 json_of_kernel kernel = told (codes "kernel") (object (
     member (codes "encryption_mask") (hexadecimal_string kernel.encryption_mask)
     (member (codes "levels") (count (level_count kernel.levels))
     (member (codes "root") (hexadecimal_string kernel.root) no_members))))
 
+-- The object of the reason why VMCOREINFO describes no kernel.
 abbrev pub json_of_no_kernel : (error : List ℕ) → Data
 json_of_no_kernel error = told (codes "kernel") (json_of_error error)
 
--- the address of a root, the number of levels, and what says so: --cr3, a processor, which is named, the kernel's note, or a text at
--- an offset of the file
+-- The members of a root: its address, the number of levels, and its origin. This is --cr3, a processor, which is named, the
+-- kernel's note, or a text at an offset of the file.
 abbrev pub root_members : (cpu root : ℕ) → Levels → Origin → Members
 root_members cpu root levels ByRequest =
     member (codes "address") (hexadecimal_string root)
@@ -92,9 +97,10 @@ root_members cpu root levels (ByText offset) =
     (member (codes "offset") (count offset)
     (member (codes "origin") (string (codes "memory")) no_members)))
 
--- the root that other commands take if this processor is requested
+-- The object of the root that other commands take if processor `cpu` is requested.
 abbrev pub json_of_root : (cpu : ℕ) → Start → Data
 json_of_root cpu start = told (codes "root") (object (root_members cpu start.root start.levels start.origin))
 
+-- The object of the reason why other commands find no root.
 abbrev pub json_of_no_root : (error : List ℕ) → Data
 json_of_no_root error = told (codes "root") (json_of_error error)

@@ -4,6 +4,7 @@ use Rattle.std.specs.Prelude.{ℕ, ◌+◌, ◌-◌, List, Option, None, Some, c
 use Rattle.serde_json.specs.Data.{Data, boolean, number, string, array, object, unsigned, Members, member, no_members}
 use Rattle.serde_json.specs.View.{items_of}
 use Rattle.serde_json.specs.Written.{compact_text}
+use Rattle.linux_areas.specs.declared.area.Area.{Area}
 use Rattle.x86_64_access.specs.declared.controls.Controls.{Controls}
 use Rattle.x86_64_access.specs.declared.request.Access.{Access}
 use Rattle.x86_64_mappings.specs.Numbers.{hexadecimal}
@@ -13,6 +14,7 @@ use Rattle.x86_64_model.specs.Position.{raw}
 use Rattle.x86_64_model.specs.Regions.{Region}
 use Rattle.x86_64_model.specs.Memory.{Words}
 use Rattle.ptdump_engine.specs.Accesses.{access_name, outcome_in, source_name}
+use Rattle.ptdump_engine.specs.NamedAreas.{with_area}
 use Rattle.ptdump_engine.specs.Walks.{End, arrives_at, not_present, no_table, huge_page, Walk, line, walk_rights}
 use Rattle.ptdump_engine.specs.declared.request.ControlsSource.{ControlsSource}
 use Rattle.ptdump_engine.specs.declared.word_read.WordRead.{WordRead}
@@ -39,18 +41,21 @@ region_members L r =
     (member (codes "user") (boolean r.rights.user)
     (member (codes "write") (boolean r.rights.write) no_members)))))
 
-abbrev pub json_of_region : (L : ℕ) → Region → Data
-json_of_region L r = object (region_members L r)
+abbrev pub json_of_region : (L : ℕ) → Option Area → Region → Data
+json_of_region L area r = object (with_area area (region_members L r))
 
-abbrev pub json_of_mapping : (L : ℕ) → Mapping → Data
-json_of_mapping L m = object (
+abbrev pub mapping_members : (L : ℕ) → Mapping → Members
+mapping_members L m =
     member (codes "bytes") (count m.size)
     (member (codes "execute") (boolean m.rights.execute)
     (member (codes "flags") (hexadecimal_string m.flags)
     (member (codes "frame") (hexadecimal_string m.frame)
     (member (codes "start") (hexadecimal_string (raw L m.start))
     (member (codes "user") (boolean m.rights.user)
-    (member (codes "write") (boolean m.rights.write) no_members)))))))
+    (member (codes "write") (boolean m.rights.write) no_members))))))
+
+abbrev pub json_of_mapping : (L : ℕ) → Option Area → Mapping → Data
+json_of_mapping L area m = object (with_area area (mapping_members L m))
 
 -- the address that leads to a physical address, with the rights there
 abbrev pub json_of_found : (physical address : ℕ) → Rights → Data

@@ -12,6 +12,7 @@ pub mod Laws
 pub mod Lines
 pub mod Loaded
 pub mod MemoryRanges
+pub mod NamedAreas
 pub mod Names
 pub mod NotedControls
 pub mod NotedLevels
@@ -21,6 +22,7 @@ pub mod Program
 pub mod ReachedTables
 pub mod Reports
 pub mod Reserved
+pub mod Resolved
 pub mod Said
 pub mod Selections
 pub mod Start
@@ -34,9 +36,11 @@ pub mod FindingTexts
 pub mod Findings
 pub mod InOrder
 pub mod private
+pub use Rattle.linux_areas.specs.Areas
 pub use Rattle.ptdump_picture.specs.Sizes
 pub use Rattle.x86_64_dump.specs.Formats
 pub use Rattle.x86_64_dump.specs.Opening
+pub use Rattle.x86_64_dump.specs.VmCoreInfo
 pub use Rattle.x86_64_mappings.specs.Texts
 pub use Rattle.x86_64_tables.specs.Rights
 pub use Rattle.x86_64_mappings.specs.Wanted

@@ -1,6 +1,7 @@
 -- Lines: what reports say of regions, mappings, searches and walks in each form, as lines of text or of JSON.
-use Rattle.std.specs.Prelude.{ℕ, ◌++◌, Bool, if◌then◌else◌, List, []}
+use Rattle.std.specs.Prelude.{ℕ, ◌++◌, Bool, if◌then◌else◌, List, [], Option}
 use Rattle.serde_json.specs.Data.{Data}
+use Rattle.linux_areas.specs.declared.layout.Layout.{Layout}
 use Rattle.x86_64_model.specs.Mappings.{Mapping, Rights}
 use Rattle.x86_64_model.specs.Memory.{Words}
 use Rattle.x86_64_model.specs.Position.{raw}
@@ -9,6 +10,7 @@ use Rattle.ptdump_engine.specs.Accesses.{asked_text}
 use Rattle.ptdump_engine.specs.Columns.{mapping_in, region_in}
 use Rattle.ptdump_engine.specs.Explanations.{explanation_text}
 use Rattle.ptdump_engine.specs.Json.{json_line, json_of_asked, json_of_found, json_of_mapping, json_of_region, json_of_walk}
+use Rattle.ptdump_engine.specs.NamedAreas.{area_of_mapping, area_of_region, area_text}
 use Rattle.ptdump_engine.specs.Walks.{line, rights_at_text, walk_of, walk_text}
 use Rattle.ptdump_engine.specs.declared.request.Columns.{Columns}
 use Rattle.ptdump_engine.specs.declared.request.Form.{Form}
@@ -20,12 +22,15 @@ abbrev pub line_in : Form → (text : List ℕ) → (value : Data) → List ℕ
 line_in Text text value = line text
 line_in Json text value = json_line value
 
-abbrev pub region_line : Form → Columns → (L : ℕ) → Region → List ℕ
-region_line form columns L r = line_in form (region_in columns L r) (json_of_region L r)
+-- the line for a region, with the area in which it lies if that is known
+abbrev pub region_line : Form → Columns → Option Layout → (L : ℕ) → Region → List ℕ
+region_line form columns layout L r =
+    line_in form (region_in columns L r ++ area_text (area_of_region layout L r)) (json_of_region L (area_of_region layout L r) r)
 
--- a line of text has the names of the flags too if they are asked for
-abbrev pub mapping_line : Form → Columns → (has_names : Bool) → (L : ℕ) → Mapping → List ℕ
-mapping_line form columns has_names L m = line_in form (mapping_in columns has_names L m) (json_of_mapping L m)
+-- likewise for a mapping. A line of text has the names of the flags too if they are asked for
+abbrev pub mapping_line : Form → Columns → (has_names : Bool) → Option Layout → (L : ℕ) → Mapping → List ℕ
+mapping_line form columns has_names layout L m =
+    line_in form (mapping_in columns has_names L m ++ area_text (area_of_mapping layout L m)) (json_of_mapping L (area_of_mapping layout L m) m)
 
 -- the line for an address that leads to a physical address, with the rights there
 abbrev pub found_line : Form → (physical address : ℕ) → Rights → List ℕ

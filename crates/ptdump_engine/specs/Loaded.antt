@@ -5,15 +5,15 @@ use Rattle.x86_64_dump.specs.Tables.{tables_by_level}
 use Rattle.x86_64_model.specs.Memory.{Words}
 use Rattle.ptdump_engine.specs.declared.loaded.Loaded.{Loaded}
 
--- the words of its tables
+-- The words of the tables that were loaded for reports, by their frames.
 abbrev pub words_loaded : {L : Type 0} → Loaded L → Words
 words_loaded loaded = words_in loaded.tables.now
 
--- the summaries are those of the tables, for all mappings
+-- The summaries are those of the loaded tables, for all mappings.
 pub record IsLoaded {L : Type 0} (loaded : Loaded L) : Type 0 where
   pub memory : loaded.summaries.now.memory ≡ loaded.tables.now.memory
   pub all : loaded.summaries.now.wanted ≡ None
 
--- its tables are all that the root leads to in their words
+-- The loaded tables are all that their root leads to in their words, with this number of levels of tables.
 abbrev pub HasAllTables : {L : Type 0} → (levels : ℕ) → Loaded L → Type 0
 HasAllTables levels loaded = frames_in loaded.tables.now ≡ tables_by_level levels (words_loaded loaded) loaded.root

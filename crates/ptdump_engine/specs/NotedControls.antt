@@ -19,42 +19,44 @@ use Rattle.ptdump_engine.specs.declared.request.ControlsSource.TheVariants.{Note
 use Rattle.ptdump_engine.specs.declared.request.Request.{Request}
 use Rattle.ptdump_engine.specs.declared.request.WalkOptions.{WalkOptions}
 
--- registers, if the mode is 64-bit paging
+-- The registers if the mode is 64-bit paging, or else None.
 abbrev pub registers_if : Mode → Registers → Option Registers
 registers_if Paging64 r = Some r
 registers_if mode r = None
 
--- registers that were read, if they are those of a processor in 64-bit paging
+-- The registers that were read, if they are those of a processor in 64-bit paging, or else None.
 abbrev pub registers_in : Result Registers Fault → Option Registers
 registers_in (Ok r) = registers_if (mode_of r.cr0 r.cr4) r
 registers_in (Err fault) = None
 
--- likewise those in a processor's note, if there is one
+-- The registers in a processor's note, if there is one and the processor is in 64-bit paging, or else None.
 abbrev pub registers_of_note : (file : List ℕ) → Option Note → Option Registers
 registers_of_note file None = None
 registers_of_note file (Some note) = registers_in (registers_of file note)
 
+-- The registers in the note of processor `cpu`, if the dump has one and the processor is in 64-bit paging, or else None.
 abbrev pub noted_registers : (cpu : ℕ) → Contents → Option Registers
 noted_registers cpu dump = registers_of_note dump.file (slice_get (processors_of dump) cpu)
 
--- the registers that were read already, or else those in the note
+-- The registers that were read already, or else those in the note of processor `cpu`.
 abbrev pub registers_for : (read : Option Registers) → (cpu : ℕ) → Contents → Option Registers
 registers_for read cpu dump = option_or read (noted_registers cpu dump)
 
--- controls with WP, SMEP and SMAP as registers say
+-- The controls, but with WP, SMEP and SMAP by the registers.
 abbrev pub controls_by : Registers → Controls → Controls
 controls_by r c = record c { write_protect = has r.cr0 0x1_0000; smep = has r.cr4 0x10_0000; smap = has r.cr4 0x20_0000 }
 
--- what is asked of a walk, with these controls in place of assumed ones if the registers are known
+-- The options of a walk, with controls by the registers in place of assumed ones if the registers are known.
 abbrev pub options_by : ControlsSource → Option Registers → WalkOptions → WalkOptions
 options_by Assumed (Some r) options = record options { controls = controls_by r options.controls; source = Noted }
 options_by source registers options = options
 
+-- The command, in which a walk has controls by the registers in place of assumed ones if the registers are known.
 abbrev pub command_by : Option Registers → Command → Command
 command_by registers (commands.Walk addresses options) = commands.Walk addresses (options_by options.source registers options)
 command_by registers command = command
 
--- a request, with the controls of its walk that its processor's registers tell in place of assumed ones: those that were read already, or
--- those in the note
-abbrev pub resolved : Request → Contents → (read : Option Registers) → Request
-resolved request dump read = record request { command = command_by (registers_for read (unwrap_or request.cpu 0) dump) request.command }
+-- The request, in which a walk has controls by its processor's registers in place of assumed ones. The registers are those that
+-- were read already, or else those in the note.
+abbrev pub with_noted_controls : Request → Contents → (read : Option Registers) → Request
+with_noted_controls request dump read = record request { command = command_by (registers_for read (unwrap_or request.cpu 0) dump) request.command }

@@ -23,7 +23,7 @@ use Rattle.ptdump_engine.specs.declared.request.Form.TheVariants.{Text, Json}
 
 -- ---- each processor
 
--- a processor with these control registers. Levels that are given go before those that CR4 says
+-- The processor with this number and these control registers. A number of levels in the request goes before that by CR4.
 abbrev pub processor_with : (given : Option Levels) → (cpu : ℕ) → Registers → Processor
 processor_with given cpu r = record {
   cpu = cpu;
@@ -31,74 +31,79 @@ processor_with given cpu r = record {
   start = start_by_processor given r;
 }
 
--- the processors of notes in order, from a number on, or why one of the notes can't be read
+-- The processors of notes in order, numbered from `cpu` on, or why one of the notes can't be read.
 abbrev pub processors_from : (file : List ℕ) → (given : Option Levels) → (cpu : ℕ) → List Note → Result (List Processor) Failure
 processors_from file given cpu [] = Ok []
 processors_from file given cpu (note ∷ notes) = and_then (of_dump (registers_of file note)) (λ registers.
     and_then (processors_from file given (cpu + 1) notes) (λ others. Ok (processor_with given cpu registers ∷ others)))
 
+-- Whether the mode is 64-bit paging.
 abbrev pub is_64_bit : Mode → Bool
 is_64_bit Paging64 = true
 is_64_bit mode = false
 
--- whether a processor is in 64-bit paging, and so has tables that are read here
+-- Whether a processor is in 64-bit paging, and so has tables that are read here.
 abbrev pub has_tables : Processor → Bool
 has_tables p = is_64_bit p.mode
 
--- why there are no tables, if this is the first processor and none has tables
+-- The failure that no processor has tables, by the first of the processors, if there is one.
 abbrev pub mode_failure : Option Processor → Failure
 mode_failure None = failures.NoProcessors
 mode_failure (Some p) = failures.WrongMode p.cpu p.mode
 
--- why none of the processors has tables
+-- The failure that none of the processors has tables, or None if one has.
 abbrev pub modes_failure : List Processor → Option Failure
 modes_failure ps = if list_any has_tables ps then None else Some (mode_failure (slice_get ps 0))
 
 -- ---- those with the same tables
 
+-- Whether two numbers of levels are equal.
 abbrev pub same_levels : Levels → Levels → Bool
 same_levels Four Four = true
 same_levels Five Five = true
 same_levels a b = false
 
--- whether a processor has tables with the root and the number of levels of another one's
+-- Whether the processor `other` has tables, with the root and the number of levels of `one`.
 abbrev pub shares : (one other : Processor) → Bool
 shares p q = has_tables q && p.start.root == q.start.root && same_levels p.start.levels q.start.levels
 
--- whether a processor before one has the same tables
+-- Whether one of the processors has a lower number and the same tables as this one.
 abbrev pub is_later : List Processor → Processor → Bool
 is_later ps p = list_any (λ q. nat_lt q.cpu p.cpu && shares p q) ps
 
--- whether a processor has tables, and none before it has the same
+-- Whether a processor has tables, and none of the processors with a lower number has the same.
 abbrev pub is_first : List Processor → Processor → Bool
 is_first ps p = has_tables p && not (is_later ps p)
 
--- the first processor with each root and number of levels
+-- The first of the processors with each root and number of levels, in order.
 abbrev pub firsts_of : List Processor → List Processor
 firsts_of ps = filter (is_first ps) ps
 
--- the numbers of the processors with the tables of one
+-- The numbers of those processors that have the tables of this one, in order.
 abbrev pub cpus_with : List Processor → Processor → List ℕ
 cpus_with ps p = map (λ q. q.cpu) (filter (shares p) ps)
 
 -- ---- what is said of them
 
+-- The text that processor `cpu` is left out, with its mode of paging.
 abbrev pub left_out_told : (cpu : ℕ) → Mode → List ℕ
 left_out_told cpu mode = codes "processor " ++ decimal cpu ++ codes " " ++ mode_told mode ++ codes ": it is left out"
 
--- a line for each processor that has no tables
+-- The line that a processor is left out, or nothing if it has tables.
 abbrev pub left_out_line : Processor → List ℕ
 left_out_line p = if has_tables p then [] else line (left_out_told p.cpu p.mode)
 
+-- A line for each of the processors that has no tables.
 abbrev pub left_out_text : List Processor → List ℕ
 left_out_text ps = flat_map left_out_line ps
 
+-- The JSON object of a root: the numbers of the processors that have it, and its address.
 abbrev pub json_of_group : (cpus : List ℕ) → (root : ℕ) → Data
 json_of_group cpus root = object (
     member (codes "cpus") (array (items_of (map count cpus)))
     (member (codes "root") (hexadecimal_string root) no_members))
 
--- the line above the report on a root: the processors that have it
+-- The line above the report on a root, in a form: the numbers of the processors that have it, and its address.
 abbrev pub heading_text : Form → (cpus : List ℕ) → (root : ℕ) → List ℕ
 heading_text Text cpus root = line (codes "cpu " ++ join_by decimal (codes ",") cpus ++ codes " root " ++ hexadecimal root)
 heading_text Json cpus root = json_line (json_of_group cpus root)

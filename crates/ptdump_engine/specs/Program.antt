@@ -3,6 +3,7 @@ use Rattle.std.specs.Prelude.{◌≡◌, ◌⊎◌, ℕ, ◌-◌, ◌^◌, ◌==
 use Rattle.std.specs.List.{find, flat_map, list_all}
 use Rattle.std.specs.Option.{option_or}
 use Rattle.std.specs.Io.KnownBytes.{Appends}
+use Rattle.linux_areas.specs.declared.layout.Layout.{Layout}
 use Rattle.x86_64_dump.specs.Dump.{Contents, is_short, words_of_dump}
 use Rattle.x86_64_dump.specs.Lime.{after}
 use Rattle.x86_64_dump.specs.Loaded.{IsTableCount, up_to}
@@ -23,11 +24,12 @@ use Rattle.ptdump_engine.specs.Findings.{check_text, finds_nothing}
 use Rattle.ptdump_engine.specs.Info.{info_in}
 use Rattle.ptdump_engine.specs.InfoTexts.{text_told}
 pub use Rattle.ptdump_engine.specs.MemoryRanges.{last_address}
-use Rattle.ptdump_engine.specs.NotedControls.{resolved}
+use Rattle.ptdump_engine.specs.NamedAreas.{layout_in}
 use Rattle.ptdump_engine.specs.NotedLevels.{levels_text}
 use Rattle.ptdump_engine.specs.Processors.{cpus_with, firsts_of, heading_text, left_out_text, modes_failure, processors_from}
 use Rattle.ptdump_engine.specs.Reports.{regions_text, pages_text, walks_text, find_text, all_arrive, all_found, are_several}
 use Rattle.ptdump_engine.specs.Reserved.{reserved_note}
+use Rattle.ptdump_engine.specs.Resolved.{resolved}
 pub use Rattle.ptdump_engine.specs.Start.{level_count}
 use Rattle.ptdump_engine.specs.Start.{start_of}
 use Rattle.ptdump_engine.specs.Steps.{FailsBy, InTurn, IsForced, and_then, of_dump, unless}
@@ -193,17 +195,17 @@ machine_for request file = and_then (dump_for request file) (λ dump.
 -- ---- the output
 
 -- the report of a command on tables in a form and columns, or None if it isn't specified here. `info` is about the dump alone (`info_of`)
-abbrev pub report_in : Form → Columns → Command → (L : ℕ) → Words → (root : ℕ) → Option (List ℕ)
-report_in form columns (commands.Regions selection) L T root = Some (regions_text selection form columns L T root)
-report_in form columns (commands.Pages selection has_names) L T root = Some (pages_text selection has_names form columns L T root)
-report_in form columns (commands.Walk addresses asked) L T root = Some (walks_text form (are_several addresses.items) L T root asked addresses.items)
-report_in form columns (commands.Find addresses) L T root = Some (find_text form (are_several addresses.items) L T root addresses.items)
-report_in form columns (commands.Check checking) L T root = Some (check_text form checking L T root)
-report_in form columns commands.Info L T root = Some []
-report_in form columns command L T root = None
+abbrev pub report_in : Form → Columns → Option Layout → Command → (L : ℕ) → Words → (root : ℕ) → Option (List ℕ)
+report_in form columns layout (commands.Regions selection) L T root = Some (regions_text selection form columns layout L T root)
+report_in form columns layout (commands.Pages selection has_names) L T root = Some (pages_text selection has_names form columns layout L T root)
+report_in form columns layout (commands.Walk addresses asked) L T root = Some (walks_text form (are_several addresses.items) L T root asked addresses.items)
+report_in form columns layout (commands.Find addresses) L T root = Some (find_text form (are_several addresses.items) L T root addresses.items)
+report_in form columns layout (commands.Check checking) L T root = Some (check_text form checking L T root)
+report_in form columns layout commands.Info L T root = Some []
+report_in form columns layout command L T root = None
 
 abbrev pub report_of : Request → (L : ℕ) → Words → (root : ℕ) → Option (List ℕ)
-report_of request = report_in request.form request.columns request.command
+report_of request = report_in request.form request.columns (layout_in request.areas) request.command
 
 -- whether the request is fulfilled: each walk or its access arrives, each physical address is found, a check finds nothing
 abbrev pub completeness_of : Command → (L : ℕ) → Words → (root : ℕ) → Bool
@@ -217,10 +219,10 @@ pub record Reports (request : Request) (L : ℕ) (T : Words) (root : ℕ) (befor
   pub text : IfSome (report_of request L T root) (Appends before after)
   pub complete : outcome.is_complete ≡ completeness_of request.command L T root
 
--- likewise in what was opened, with the controls that a processor's note tells in place of assumed ones
+-- likewise in what was opened, with what the dump tells in place of what the request leaves open
 abbrev pub ReportsOf : Request → (before after : Option (List ℕ)) → Outcome → Opened → Type 0
 ReportsOf request before after outcome o =
-    Reports (resolved request o.dump o.start.registers) (level_count o.start.levels) (words_of_dump o.dump) o.start.root before after outcome
+    Reports (resolved request o.dump o.start) (level_count o.start.levels) (words_of_dump o.dump) o.start.root before after outcome
 
 -- The result and the output of a run that reports on tables. It fails for its request or its file without writing anything, for a
 -- read only if reads may fail, and for a write only if its writers may refuse one.

@@ -10,35 +10,38 @@ use Rattle.ptdump_engine.specs.declared.findings.entry.Table.{Table}
 use Rattle.ptdump_engine.specs.declared.findings.finding.Finding.{Finding}
 use Rattle.ptdump_engine.specs.declared.findings.finding.Finding.TheVariants.{WritableForUser, MappedForUser}
 
--- user code can access pages with these rights
+-- The rights that a page has at least if user code can access it.
 abbrev pub for_user : Rights
 for_user = record { write = false; user = true; execute = false }
 
--- user code can write to pages with these rights
+-- The rights that a page has at least if user code can write to it.
 abbrev pub writable_for_user : Rights
 writable_for_user = record { write = true; user = true; execute = false }
 
--- the first of some mappings that has at least some rights and leads to a physical address
+-- The first of some mappings that has at least these rights and leads to a physical address.
 abbrev pub first_to : (rights : Rights) → (physical : ℕ) → List Mapping → Option Mapping
 first_to rights a ms = find (leads_to a) (filter (λ m. includes m.rights rights) ms)
 
--- the virtual address in that mapping that leads to the physical address
+-- The virtual address that leads to a physical address, in the first mapping with at least these rights that does, or None if
+-- none does.
 abbrev pub first_address : (L : ℕ) → Words → (root : ℕ) → (rights : Rights) → (physical : ℕ) → Option ℕ
 first_address L T root rights a = option_map (λ m. raw L (m.start + (a - m.frame))) (first_to rights a (mappings_of L T root))
 
--- the finding of a frame's table: where user code can write to it, or if it can't, where it can access it
+-- The finding of the table in a frame, by the virtual address where user code can write to it, or if there is none by that where
+-- user code can access it.
 abbrev pub reached_at : (frame : ℕ) → (writable mapped : Option ℕ) → Option Finding
 reached_at f (Some at) mapped = Some (WritableForUser f at)
 reached_at f None (Some at) = Some (MappedForUser f at)
 reached_at f None None = None
 
+-- The finding of the table in a frame to which a mapping for user code leads, or None if none does.
 abbrev pub reached : (L : ℕ) → Words → (root frame : ℕ) → Option Finding
 reached L T root f = reached_at f (first_address L T root writable_for_user f) (first_address L T root for_user f)
 
--- the frames of tables that are in order, each once
+-- The frames of tables, each once, if the tables are in the order of their frames.
 abbrev pub frames_in_order : List Table → List ℕ
 frames_in_order tables = dedup (λ f g. f == g) (map (λ t. t.frame) tables)
 
--- the findings of these tables
+-- The findings of those tables to which a mapping for user code leads.
 unfoldable pub all_reached : (L : ℕ) → Words → (root : ℕ) → List Table → List Finding
 all_reached L T root tables = filter_map (reached L T root) (frames_in_order tables)

@@ -1,6 +1,7 @@
 -- Reports: the texts of the program for words in a form, with L levels of tables below a root.
-use Rattle.std.specs.Prelude.{ℕ, ◌+◌, ◌-◌, ◌%◌, ◌++◌, Bool, true, false, List, [], codes, filter, length, nat_lt}
+use Rattle.std.specs.Prelude.{ℕ, ◌+◌, ◌-◌, ◌%◌, ◌++◌, Bool, true, false, List, [], codes, filter, length, nat_lt, Option}
 use Rattle.std.specs.List.{flat_map, list_all, list_any}
+use Rattle.linux_areas.specs.declared.layout.Layout.{Layout}
 use Rattle.x86_64_model.specs.Mappings.{Mapping, mappings_of}
 use Rattle.x86_64_model.specs.Memory.{Words}
 use Rattle.x86_64_model.specs.Position.{position_count, raw}
@@ -18,12 +19,12 @@ use Rattle.x86_64_mappings.specs.declared.selection.Selection.{Selection}
 use Rattle.ptdump_engine.specs.declared.request.WalkOptions.{WalkOptions}
 
 -- a line for each region that is selected
-unfoldable pub regions_text : Selection → Form → Columns → (L : ℕ) → Words → (root : ℕ) → List ℕ
-regions_text s form columns L T root = flat_map (region_line form columns L) (filter (is_selected L s) (regions_of L T root))
+unfoldable pub regions_text : Selection → Form → Columns → Option Layout → (L : ℕ) → Words → (root : ℕ) → List ℕ
+regions_text s form columns layout L T root = flat_map (region_line form columns layout L) (filter (is_selected L s) (regions_of L T root))
 
 -- a line for each mapping that is selected
-unfoldable pub pages_text : Selection → (has_names : Bool) → Form → Columns → (L : ℕ) → Words → (root : ℕ) → List ℕ
-pages_text s has_names form columns L T root = flat_map (mapping_line form columns has_names L) (filter (is_mapping_selected L s) (mappings_of L T root))
+unfoldable pub pages_text : Selection → (has_names : Bool) → Form → Columns → Option Layout → (L : ℕ) → Words → (root : ℕ) → List ℕ
+pages_text s has_names form columns layout L T root = flat_map (mapping_line form columns has_names layout L) (filter (is_mapping_selected L s) (mappings_of L T root))
 
 -- the line above what is said of an address if it is one of several, as text. An object of JSON has the address itself
 abbrev pub heading_line : Form → (several : Bool) → (name : List ℕ) → (address : ℕ) → List ℕ

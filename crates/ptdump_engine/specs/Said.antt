@@ -4,10 +4,11 @@ use Rattle.serde_json.specs.Data.{Data}
 use Rattle.ptdump_engine.specs.Lines.{line_in}
 use Rattle.ptdump_engine.specs.declared.request.Form.{Form}
 
+-- A line of a report as a text without its line feed, and as a JSON object.
 pub record Said : Type 0 where
   pub text : List ℕ
   pub object : Data
 
--- its line in a form
+-- The line in a form, with its line feed.
 abbrev pub line_of : Form → Said → List ℕ
 line_of form said = line_in form said.text said.object

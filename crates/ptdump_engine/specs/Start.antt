@@ -25,51 +25,57 @@ use Rattle.ptdump_engine.specs.declared.start.Origin.TheVariants.{ByRequest, ByP
 use Rattle.ptdump_engine.specs.declared.start.Start.{Start}
 use Rattle.ptdump_engine.specs.Steps.{and_then, of_dump}
 
--- the note of a processor; it is no failure if the file has no notes at all
+-- The note of processor `cpu`, counted from 0, None if the file has no notes of processors at all, or a failure if it has others.
 abbrev pub note_of : (cpu : ℕ) → (notes : List Note) → Result (Option Note) Failure
 note_of cpu [] = Ok None
 note_of cpu (note ∷ notes) = option_map_or (λ n. Ok (Some n)) (slice_get (note ∷ notes) cpu) (Err (failures.NoProcessor cpu (length (note ∷ notes))))
 
--- notes are read only if CR3 or the number of levels isn't given, and no text is
+-- The note of the requested processor, or None if it isn't needed. It is needed if the request has no CR3 or no number of levels,
+-- and no text of VMCOREINFO.
 abbrev pub note_needed : Request → Contents → Result (Option Note) Failure
 note_needed request dump =
     if (is_none request.cr3 || is_none request.levels) && is_none request.vmcoreinfo then note_of (unwrap_or request.cpu 0) (processors_of dump) else Ok None
 
+-- The mode of paging by the bits PG of CR0 and PAE of CR4.
 abbrev pub mode_of : (cr0 cr4 : ℕ) → Mode
 mode_of cr0 cr4 = if not (has cr0 0x8000_0000) then NoPaging else if not (has cr4 0x20) then Paging32 else Paging64
 
--- the control registers of a processor by its note, which may be too short
+-- The control registers of a processor by its note, or the fault that the note is too short.
 unfoldable pub registers_of : (file : List ℕ) → Note → Result Registers Fault
 registers_of file note = after (register_of file note 416) (λ cr3.
     after (register_of file note 392) (λ cr0.
     after (register_of file note 424) (λ cr4. Ok (record { cr0 = cr0; cr3 = cr3; cr4 = cr4 }))))
 
--- registers, if the mode is right
+-- The registers if the mode is 64-bit paging, or else the failure that processor `cpu` has another mode.
 abbrev pub in_64_bit : (cpu : ℕ) → Registers → Mode → Result Registers Failure
 in_64_bit cpu r Paging64 = Ok r
 in_64_bit cpu r mode = Err (failures.WrongMode cpu mode)
 
--- the control registers of a processor by its note; the processor must be in 64-bit paging
+-- The control registers of processor `cpu` by its note, or why they can't be read or aren't those of 64-bit paging.
 unfoldable pub paging_registers : (file : List ℕ) → (cpu : ℕ) → Note → Result Registers Failure
 paging_registers file cpu note = and_then (of_dump (registers_of file note)) (λ r. in_64_bit cpu r (mode_of r.cr0 r.cr4))
 
+-- The number of levels of tables, 4 or 5.
 abbrev pub level_count : Levels → ℕ
 level_count Four = 4
 level_count Five = 5
 
+-- The number of levels by CR4: five if LA57 is on, and four otherwise.
 abbrev pub levels_by : (cr4 : ℕ) → Levels
 levels_by cr4 = if has cr4 0x1000 then Five else Four
 
+-- The number of levels in the request, or else that by the CR4 in a processor's note, or four without a note.
 abbrev pub levels_of : (file : List ℕ) → (given : Option Levels) → Option Note → Result Levels Failure
 levels_of file (Some levels) _ = Ok levels
 levels_of file None None = Ok Four
 levels_of file None (Some note) = and_then (of_dump (register_of file note 424)) (λ cr4. Ok (levels_by cr4))
 
--- the start at the root of a CR3 that the request gives, with these levels
+-- The start of page walks at the root in the request's CR3, with these levels.
 abbrev pub start_by_request : (cr3 : ℕ) → Levels → Start
 start_by_request cr3 levels = record { root = address cr3; levels = levels; origin = ByRequest; noted_levels = None; registers = None }
 
--- the start at the root of a processor. Levels that are given go before those that CR4 says
+-- The start of page walks at the root of a processor with these registers. A number of levels in the request goes before that by
+-- CR4.
 abbrev pub start_by_processor : (given : Option Levels) → Registers → Start
 start_by_processor given r = record {
   root = address r.cr3;
@@ -79,14 +85,17 @@ start_by_processor given r = record {
   registers = Some r;
 }
 
--- what says where the kernel's root is: the first of the texts in memory, or if there are none the note
+-- The origin of the kernel's root: the first of the texts of VMCOREINFO in memory, or if there are none the note.
 abbrev pub origin_by : (first : Option KernelText) → Origin
 origin_by (Some text) = ByText text.offset
 origin_by None = ByKernel
 
+-- The origin of the kernel's root in a dump: the first of its texts of VMCOREINFO in memory, or if it has none its note.
 abbrev pub origin_of : Contents → Origin
 origin_of dump = origin_by (slice_get dump.texts 0)
 
+-- The start of page walks at a kernel's root, or the failure that there is no kernel. A number of levels in the request goes
+-- before the kernel's.
 abbrev pub start_by : Contents → (levels : Option Levels) → Option Kernel → Result Start Failure
 start_by dump levels (Some kernel) = Ok (record {
   root = kernel.root;
@@ -97,16 +106,17 @@ start_by dump levels (Some kernel) = Ok (record {
 })
 start_by dump levels None = Err (if is_of_virtualbox dump then failures.VirtualBox else failures.NoCr3)
 
--- the start at the kernel's root, by Linux's VMCOREINFO
+-- The start of page walks at the root of the kernel that VMCOREINFO describes, or why there is none.
 unfoldable pub kernel_start : Contents → (levels : Option Levels) → Result Start Failure
 kernel_start dump levels = and_then (of_dump (kernel_in dump)) (start_by dump levels)
 
--- the start at the CR3 of the request, or else of a processor, or else at the kernel's root
+-- The start of page walks at the root in the request's CR3, or else at that in a processor's note, or else at the kernel's.
 abbrev pub start_with : Request → Contents → (given : Option ℕ) → Option Note → Result Start Failure
 start_with request dump (Some cr3) note = and_then (levels_of dump.file request.levels note) (λ levels. Ok (start_by_request cr3 levels))
 start_with request dump None (Some note) = and_then (paging_registers dump.file (unwrap_or request.cpu 0) note) (λ r.
     Ok (start_by_processor request.levels r))
 start_with request dump None None = kernel_start dump request.levels
 
+-- The start of page walks in a dump for a request, or why no root is found.
 unfoldable pub start_of : Request → Contents → Result Start Failure
 start_of request dump = and_then (note_needed request dump) (start_with request dump request.cr3)

@@ -16,34 +16,35 @@ use Rattle.x86_64_model.specs.Position.{index, span}
 use Rattle.x86_64_tables.specs.Rights.{rights_text}
 use Rattle.ptdump_engine.specs.declared.word_read.WordRead.{WordRead}
 
--- the end of a walk: it arrives at a physical address in a page of some size, a word lacks PRESENT, a table is missing, or a word
--- has HUGE_PAGE at a level at which no entry maps a page
+-- The end of a walk: it arrives at a physical address in a page of `size` bytes, a word lacks PRESENT, the table in a frame is
+-- missing, or a word has HUGE_PAGE at a level at which no entry maps a page.
 pub data End : Type 0 where
   arrives_at : (address size : ℕ) → End
   not_present : End
   no_table : (frame : ℕ) → End
   huge_page : (level : ℕ) → End
 
+-- A walk: the words that it reads from the root down, and how it ends.
 pub record Walk : Type 0 where
   pub words : List WordRead
   pub end : End
 
--- a walk that reads no word and has this end
+-- The walk that reads no word and has this end.
 abbrev pub ends : End → Walk
 ends end = record { words = []; end = end }
 
--- a walk that reads a word first
+-- The walk that reads a word first, and goes on as another walk does.
 abbrev pub after : WordRead → Walk → Walk
 after word walk = record { words = word ∷ walk.words; end = walk.end }
 
--- the rest of a walk to position p after a word of a level, if `below` is the walk in the table that the word names
+-- The rest of a walk to position p after a word of a level, if `below` is the walk in the table that the word names.
 abbrev pub behind : (p level word : ℕ) → (below : Walk) → Walk
 behind p level e below = cond (present e)
     (cond (maps_page level e) (ends (arrives_at (page_start level e + p % span level) (span level)))
     (cond (huge e) (ends (huge_page level)) below))
     (ends not_present)
 
--- the rest of the walk to position p from the table of a level in a frame
+-- The rest of the walk to position p from the table of a level in a frame.
 unfoldable pub walk_from : Words → (p level frame : ℕ) → Walk
 walk_from T p zero frame = ends not_present
 walk_from T p (suc n) frame = let level = suc n in option_map_or
@@ -51,57 +52,60 @@ walk_from T p (suc n) frame = let level = suc n in option_map_or
     (read T frame (index level p))
     (ends (no_table frame))
 
+-- The walk to position p from a root, with L levels of tables.
 abbrev pub walk_of : (L : ℕ) → Words → (root p : ℕ) → Walk
 walk_of L T root p = walk_from T p L root
 
--- the rights that all words of a walk allow
+-- The rights that all words of a walk allow.
 abbrev pub walk_rights : Walk → Rights
 walk_rights walk = rights_of (map (λ w. w.word) walk.words)
 
--- the arrival of a walk, in the form of the page walk's result
+-- The arrival of a walk with these rights and this end, in the form of the page walk's result, or None if it doesn't arrive.
 abbrev pub arrival_with : Rights → End → Option Walked
 arrival_with rights (arrives_at to size) = arrives to rights.write rights.user
 arrival_with rights end = None
 
+-- The arrival of a walk, in the form of the page walk's result, or None if it doesn't arrive.
 abbrev pub arrival_of : Walk → Option Walked
 arrival_of walk = arrival_with (walk_rights walk) walk.end
 
 -- ---- texts
 
+-- The text with a line feed behind it.
 abbrev pub line : (text : List ℕ) → List ℕ
 line text = text ++ 10 ∷ []
 
--- the text "level L 0xTABLE[INDEX]"
+-- The text "level L 0xTABLE[INDEX]" of the place of a word.
 unfoldable pub place_text : WordRead → List ℕ
 place_text w = codes "level " ++ decimal w.level ++ codes " " ++ hexadecimal w.table ++ codes "[" ++ decimal w.index ++ codes "]"
 
--- the text "level L 0xTABLE[INDEX] 0xWORD"
+-- The text "level L 0xTABLE[INDEX] 0xWORD" of a word.
 abbrev pub word_text : WordRead → List ℕ
 word_text w = place_text w ++ codes " " ++ hexadecimal w.word
 
--- whether a processor with these settings faults at a word, since it is present and has a reserved bit
+-- Whether a processor with these controls faults at a word, since it is present and has a reserved bit.
 abbrev pub faults_at : Controls → WordRead → Bool
 faults_at c w = present w.word && reserved (controls_of c) w.level w.word
 
--- the line of a word, and another one if a processor faults there
+-- The line of a word, and another one if a processor with these controls faults there.
 unfoldable pub word_lines : Controls → WordRead → List ℕ
 word_lines c w = line (word_text w) ++ (if faults_at c w then line (codes "reserved bits: a processor faults here") else [])
 
--- the text "table 0xFRAME is not in the dump"
+-- The text "table 0xFRAME is not in the dump".
 abbrev pub missing_text : (frame : ℕ) → List ℕ
 missing_text frame = codes "table " ++ hexadecimal frame ++ codes " is not in the dump"
 
--- the text "0xADDRESS RIGHTS"
+-- The text "0xADDRESS RIGHTS" of an address and the rights there.
 abbrev pub rights_at_text : (address : ℕ) → Rights → List ℕ
 rights_at_text address rights = hexadecimal address ++ codes " " ++ rights_text rights
 
--- the address at which the walk arrives, or why it doesn't arrive
+-- The text of the end of a walk: the address at which it arrives with its rights, or why it doesn't arrive.
 abbrev pub end_text : Rights → End → List ℕ
 end_text rights (arrives_at to size) = rights_at_text to rights
 end_text rights not_present = codes "not present"
 end_text rights (no_table frame) = missing_text frame
 end_text rights (huge_page level) = codes "HUGE_PAGE at level " ++ decimal level
 
--- the lines of the words, and a line for the end
+-- The lines of the words of a walk, and a line for its end.
 unfoldable pub walk_text : Controls → Walk → List ℕ
 walk_text c walk = flat_map (word_lines c) walk.words ++ line (end_text (walk_rights walk) walk.end)

@@ -13,25 +13,26 @@ use Rattle.ptdump_engine.specs.declared.findings.finding.Finding.{Finding}
 use Rattle.ptdump_engine.specs.declared.findings.finding.Finding.TheVariants.{WritableOutside}
 use Rattle.ptdump_engine.specs.declared.request.AddressRange.{AddressRange}
 
--- code can write to pages with these rights
+-- The rights that a page has at least if code can write to it.
 abbrev pub writable : Rights
 writable = record { write = true; user = false; execute = false }
 
--- those of some mappings that are writable and don't lie in a range of addresses
+-- Those of some mappings that are writable and don't lie wholly in a range of addresses.
 abbrev pub writable_outside : (L : ℕ) → AddressRange → List Mapping → List Mapping
 writable_outside L range ms = filter (λ m. not (lies_in L range m)) (filter (λ m. includes m.rights writable) ms)
 
--- the virtual address in the first of these mappings that leads to a physical address
+-- The virtual address that leads to a physical address, in the first writable mapping outside the direct map that does, or None
+-- if none does.
 abbrev pub writable_address : (L : ℕ) → Words → (root : ℕ) → (direct_map : AddressRange) → (physical : ℕ) → Option ℕ
 writable_address L T root direct_map a =
     option_map (λ m. raw L (m.start + (a - m.frame))) (find (leads_to a) (writable_outside L direct_map (mappings_of L T root)))
 
--- the finding of a frame's table: where it is writable outside the direct map
+-- The finding of the table in a frame, by the virtual address where it is writable outside the direct map, if there is one.
 abbrev pub writable_at : (frame : ℕ) → (address : Option ℕ) → Option Finding
 writable_at f None = None
 writable_at f (Some at) = Some (WritableOutside f at)
 
--- the findings of these tables, if it is said where the direct map is
+-- The findings of those tables that are writable outside the direct map, or none if it isn't known where that is.
 unfoldable pub all_writable : (L : ℕ) → Words → (root : ℕ) → (direct_map : Option AddressRange) → List Table → List Finding
 all_writable L T root None tables = []
 all_writable L T root (Some range) tables = filter_map (λ f. writable_at f (writable_address L T root range f)) (frames_in_order tables)

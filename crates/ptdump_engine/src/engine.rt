@@ -19,8 +19,8 @@ use crate::destination::Destination;
 use crate::failure::Failure;
 use crate::image::write_image;
 use crate::info::write_info;
+use crate::listing::Listing;
 use crate::loaded::Loaded;
-use crate::noted_controls::with_noted_controls;
 use crate::noted_levels::write_levels;
 use crate::opening::{open, write_opening};
 use crate::output::{Output, OutputError};
@@ -28,6 +28,7 @@ use crate::picture::write_picture;
 use crate::report::{write_found, write_pages, write_regions, write_walks};
 use crate::request::{Command, Levels, Outcome, Request};
 use crate::reserved::write_reserved;
+use crate::resolving::resolve;
 use crate::roots::{processors_for, report_on_processors};
 use crate::start::{Origin, Start, start_of};
 use crate::totals::Totals;
@@ -95,7 +96,7 @@ pub fn run<S: ByteSource, W: Destination, E: Destination, G: Progress>(
     let start = start_for(alloc, &dump, &request)?;
     write_source(start.origin, &mut notes)?;
     write_levels(request.levels, start.noted_levels, &mut notes)?;
-    let resolved = with_noted_controls(alloc, &dump, request, start.registers)?;
+    let resolved = resolve(alloc, &dump, request, &start)?;
     report_from(
         alloc, &dump, &start, &resolved, writer, &mut notes, progress,
     )
@@ -297,16 +298,27 @@ fn write_report<L: LevelCount, S: ByteSource, W: Destination, E: Destination>(
 {
     let form = request.form;
     let columns = request.columns;
+    let layout = request.areas.layout();
     match &request.command {
         Command::Regions(selection) => {
-            write_regions(alloc, loaded, *selection, form, columns, output)?;
+            let listing = Listing {
+                columns,
+                has_names: false,
+                layout,
+            };
+            write_regions::<L, Output<'_, W>>(alloc, loaded, *selection, form, listing, output)?;
             Ok(true)
         }
         Command::Pages {
             selection,
             has_names,
         } => {
-            write_pages(alloc, loaded, *selection, *has_names, form, columns, output)?;
+            let listing = Listing {
+                columns,
+                has_names: *has_names,
+                layout,
+            };
+            write_pages::<L, Output<'_, W>>(alloc, loaded, *selection, form, listing, output)?;
             Ok(true)
         }
         Command::Walk { addresses, options } => {

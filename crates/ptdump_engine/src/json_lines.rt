@@ -17,12 +17,11 @@ mod walks;
 use crate::lines::Lines;
 use crate::request::Form;
 pub use group::ProcessorGroup;
-pub use listed::{Found, write_json_pages, write_json_regions};
+pub use listed::Found;
 use serde_json::Value;
 use std::alloc::{AllocError, Global};
 use std::fmt::Display;
 pub use walks::write_json_walk;
-use x86_64_mappings::Visitor;
 
 /// What a report says as a JSON object.
 pub trait ToJson {
@@ -76,50 +75,4 @@ pub fn write_as<T: Display + ToJson + Drop, O: Lines>(
         Form::Text => output.write_line(item),
         Form::Json => write_json(alloc, &item, output),
     }
-}
-
-/// A visitor that writes a line of JSON for each item.
-struct JsonLines<'a, O> {
-    /// The destination of the lines.
-    output: &'a mut O,
-    /// The allocator.
-    alloc: Global,
-}
-
-impl<O> Drop for JsonLines<'_, O> {
-    fn drop(self)
-        ensures { self.exit.0.now ≡ self.entry.output.now }
-    {
-        let JsonLines {
-            output: _output,
-            alloc: _,
-        } = self;
-    }
-}
-
-impl<'a, O: Lines> JsonLines<'a, O> {
-    /// Begins with no line.
-    fn new(alloc: Global, output: &'a mut O) -> Self
-        ensures name { result.output.ghost_name ≡ output.entry.ghost_name }
-        ensures now { result.output.now ≡ output.old }
-    {
-        JsonLines { output, alloc }
-    }
-}
-
-impl<T: ToJson + Drop, O: Lines> Visitor<T> for JsonLines<'_, O> {
-    type Error = O::Error;
-
-    ghost use Rattle.ptdump_engine.specs.private.JsonLines.{AreWritten, written_nothing, written_both};
-
-    ghost Visits = { λ old new items. AreWritten O.puts T.json old new items };
-
-    /// Writes a line for an item.
-    fn visit(&mut self, item: T) -> Result<(), O::Error> {
-        write_json(self.alloc, &item, self.output)
-    }
-
-    ghost none = { λ lines. written_nothing O.puts T.json O.nothing lines };
-
-    ghost both = { written_both O.puts T.json O.parts };
 }

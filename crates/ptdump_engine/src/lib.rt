@@ -3,7 +3,6 @@
 
 mod access_line;
 mod aligned;
-mod aligning;
 mod arguments;
 mod check;
 mod columns;
@@ -21,10 +20,10 @@ mod json_lines;
 mod line_count;
 mod line_output;
 mod lines;
+mod listing;
 mod loaded;
 mod mode;
 mod names;
-mod naming;
 mod noted_controls;
 mod noted_levels;
 mod opening;
@@ -37,10 +36,12 @@ mod registers;
 mod report;
 mod request;
 mod reserved;
+mod resolving;
 mod rights_at;
 mod roots;
 mod selected;
 mod start;
+mod telling;
 mod totals;
 mod walk;
 mod walked;
@@ -52,7 +53,7 @@ pub use failure::Failure;
 pub use loaded::Loaded;
 pub use output::{Output, OutputError};
 pub use request::{
-    AddressRange, Checking, Columns, Command, ControlsSource, Form, Levels, Outcome, Request,
-    Selection, WalkOptions,
+    AddressRange, AreaNames, Checking, Columns, Command, ControlsSource, Form, Levels, Outcome,
+    Request, Selection, WalkOptions,
 };
 pub use x86_64_dump::{NoProgress, Progress};

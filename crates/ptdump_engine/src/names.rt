@@ -1,12 +1,11 @@
 //! The names of the flags of mappings.
-ghost use Rattle.std.specs.Prelude.{◌≡◌, Some, map};
+ghost use Rattle.std.specs.Prelude.{◌≡◌, map};
 ghost use Rattle.std.specs.Fmt.{WritesOnOk};
 ghost use Rattle.ptdump_engine.specs.Names as names;
 ghost use Rattle.ptdump_engine.specs.private.Flags.{named};
 
 use bitflags::Flags;
-use std::fmt::{Display, Formatter, Result as FmtResult, Write};
-use std::marker::Model;
+use std::fmt::{Formatter, Result as FmtResult, Write};
 use x86_64_addr::level_count::LevelCount;
 use x86_64_mappings::MappingIn;
 
@@ -16,33 +15,15 @@ const SMALL: u64 = 0x1000;
 /// The bits that are software's: 9 to 11 and 52 to 58.
 const SOFTWARE: u64 = 0x07f0_0000_0000_0e00;
 
-/// A mapping with the names of its flags, as text.
-#[derive(Clone, Copy)]
-pub struct NamedMapping<L: LevelCount>(pub MappingIn<L>);
-
-impl<L: LevelCount> Model for NamedMapping<L> {
-    ghost use Rattle.std.specs.Prelude.{refl};
-    ghost use Rattle.x86_64_model.specs.Mappings.{Mapping};
-
-    ghost Value = { Mapping };
-
-    ghost view = { λ m. m.0 };
-
-    ghost inverse = { λ m. record { 0 = m } };
-
-    ghost inverse_ok = { λ m _. refl };
-}
-
-impl<L: LevelCount> Display for NamedMapping<L> {
-    ghost use Rattle.ptdump_engine.specs.Names.{named_text};
-
-    ghost output = { λ mapping. Some (named_text L.LEVELS mapping) };
-
-    fn fmt<W: Write>(&self, f: &mut Formatter<W>) -> FmtResult {
-        let mapping = self.0;
-        write!(f, "{mapping} ")?;
-        write_names(f, mapping.size(), mapping.flags.bits())
-    }
+/// Writes a mapping with the names of its flags.
+pub fn write_named<L: LevelCount, W: Write>(
+    f: &mut Formatter<W>,
+    mapping: &MappingIn<L>,
+) -> FmtResult
+    ensures { WritesOnOk W.write_str_gives f.old result (names.named_text L.LEVELS mapping.now) f.new }
+{
+    write!(f, "{mapping} ")?;
+    write_names(f, mapping.size(), mapping.flags.bits())
 }
 
 /// Writes the names of the flags in the entry of a page of a size.

@@ -38,7 +38,7 @@ pub fn with_noted_controls<S: ByteSource>(
     read: Option<Registers>,
 ) -> Result<Request, Failure>
     ensures request { S.IsKnown → Finds S.may_fail result
-        (Ok (specs.resolved request (opened S.bytes dump.now) read)) }
+        (Ok (specs.with_noted_controls request (opened S.bytes dump.now) read)) }
     ensures tested { IsTested request.command → IfOk result (λ resolved. IsTested resolved.command) }
 {
     let cpu = request.cpu.unwrap_or(0);

@@ -9,175 +9,72 @@ ghost use Rattle.ptdump_engine.specs.Lines.{walk_lines};
 ghost use Rattle.ptdump_engine.specs.Loaded.{IsLoaded, words_loaded};
 ghost use Rattle.ptdump_engine.specs.Output.{Puts};
 ghost use Rattle.ptdump_engine.specs.Reports as reports;
-ghost use Rattle.ptdump_engine.specs.declared.request.Columns.TheVariants.{Aligned, Plain};
 ghost use Rattle.ptdump_engine.specs.declared.request.Form.TheVariants.{Text};
 ghost use Rattle.ptdump_engine.specs.private.Asked.{mappings_asked};
 ghost use Rattle.ptdump_engine.specs.private.Finding.{some_there, visited_lines};
 
 use crate::access_line::write_access;
-use crate::aligning::{
-    visit_aligned_mappings, visit_aligned_named_mappings, visit_aligned_regions,
-};
+use crate::counted_lines::CountedLines;
 use crate::destination::Destination;
 use crate::explanation::write_explanation;
-use crate::finder::Finder;
-use crate::json_lines::{write_json_pages, write_json_regions, write_json_walk};
+use crate::finder::tell_addresses;
+use crate::json_lines::write_json_walk;
 use crate::lines::Lines;
+use crate::listing::Listing;
 use crate::loaded::Loaded;
-use crate::naming::visit_named_mappings;
 use crate::output::{Output, OutputError};
-use crate::request::{Columns, Form, Selection, WalkOptions};
-use crate::selected::visit_selected_regions;
+use crate::request::{Form, Selection, WalkOptions};
+use crate::telling::{tell_mappings, tell_regions};
 use crate::walk::write_walk;
 use crate::walked::walk_to;
 use std::alloc::Global;
 use x86_64_addr::addr::{PhysAddr, VirtAddrIn};
 use x86_64_addr::level_count::LevelCount;
-use x86_64_mappings::{Summaries, visit_mappings, visit_selected_mappings};
+use x86_64_mappings::Summaries;
 use x86_64_tables::phys_memory::{IdentityMapping, PhysMemory};
 
 /// Writes a line in a form for each region that is selected.
 ///
 /// # Errors
 ///
-/// `OutputError::OutOfMemory` if memory allocation fails, `OutputError::Write` if a write fails.
-#[tactic(auto, unfolding(crate::specs::Reports::regions_text))]
-pub fn write_regions<L: LevelCount, W: Destination>(
+/// The error of the destination, or of memory allocation.
+pub fn write_regions<L: LevelCount, O: Lines>(
     alloc: Global,
     loaded: &Loaded<'_, L>,
     selection: Selection,
     form: Form,
-    columns: Columns,
-    output: &mut Output<'_, W>,
-) -> Result<(), OutputError<W>>
+    listing: Listing,
+    output: &mut O,
+) -> Result<(), O::Error>
     requires { IsLoaded loaded.now }
-    ensures { OnOk result (Puts W.contents output.old output.new (reports.regions_text
-        selection form columns L.LEVELS (words_loaded loaded.now) loaded.now.root)) }
+    ensures { OnOk result (O.puts output.old output.new (reports.regions_text
+        selection form listing.columns listing.layout L.LEVELS (words_loaded loaded.now) loaded.now.root)) }
 {
-    match form {
-        Form::Text => write_regions_as_text(loaded, selection, columns, output),
-        Form::Json => write_json_regions::<L, Output<'_, W>>(alloc, loaded, selection, output),
-    }
-}
-
-/// Writes a line of text for each region that is selected.
-#[tactic(auto, unfolding(crate::specs::Reports::regions_text))]
-fn write_regions_as_text<L: LevelCount, W: Destination>(
-    loaded: &Loaded<'_, L>,
-    selection: Selection,
-    columns: Columns,
-    output: &mut Output<'_, W>,
-) -> Result<(), OutputError<W>>
-    requires { IsLoaded loaded.now }
-    ensures { OnOk result (Puts W.contents output.old output.new (reports.regions_text
-        selection Text columns L.LEVELS (words_loaded loaded.now) loaded.now.root)) }
-{
-    match columns {
-        Columns::Plain => visit_selected_regions::<L, Output<'_, W>>(
-            loaded.summaries,
-            loaded.root,
-            selection,
-            output,
-        ),
-        Columns::Aligned => visit_aligned_regions::<L, Output<'_, W>>(
-            loaded.summaries,
-            loaded.root,
-            selection,
-            output,
-        ),
-    }
+    let mut lines = CountedLines::new(alloc, form, output);
+    tell_regions::<L, Listing, CountedLines<'_, O>>(loaded, selection, listing, &mut lines)?;
+    Ok(())
 }
 
 /// Writes a line in a form for each mapping that is selected. A line of text has the names of its flags too if they are asked for.
 ///
 /// # Errors
 ///
-/// `OutputError::OutOfMemory` if memory allocation fails, `OutputError::Write` if a write fails.
-#[tactic(auto, unfolding(crate::specs::Reports::pages_text))]
-pub fn write_pages<L: LevelCount, W: Destination>(
+/// The error of the destination, or of memory allocation.
+pub fn write_pages<L: LevelCount, O: Lines>(
     alloc: Global,
     loaded: &Loaded<'_, L>,
     selection: Selection,
-    has_names: bool,
     form: Form,
-    columns: Columns,
-    output: &mut Output<'_, W>,
-) -> Result<(), OutputError<W>>
+    listing: Listing,
+    output: &mut O,
+) -> Result<(), O::Error>
     requires { IsLoaded loaded.now }
-    ensures { OnOk result (Puts W.contents output.old output.new (reports.pages_text
-        selection has_names form columns L.LEVELS (words_loaded loaded.now) loaded.now.root)) }
+    ensures { OnOk result (O.puts output.old output.new (reports.pages_text selection
+        listing.has_names form listing.columns listing.layout L.LEVELS (words_loaded loaded.now) loaded.now.root)) }
 {
-    match form {
-        Form::Text => write_pages_as_text(loaded, selection, has_names, columns, output),
-        Form::Json => write_json_pages::<L, Output<'_, W>>(alloc, loaded, selection, output),
-    }
-}
-
-/// Writes a line of text for each mapping that is selected, with the names of its flags if they are asked for.
-#[tactic(auto, unfolding(crate::specs::Reports::pages_text))]
-fn write_pages_as_text<L: LevelCount, W: Destination>(
-    loaded: &Loaded<'_, L>,
-    selection: Selection,
-    has_names: bool,
-    columns: Columns,
-    output: &mut Output<'_, W>,
-) -> Result<(), OutputError<W>>
-    requires { IsLoaded loaded.now }
-    ensures { OnOk result (Puts W.contents output.old output.new (reports.pages_text
-        selection has_names Text columns L.LEVELS (words_loaded loaded.now) loaded.now.root)) }
-{
-    match columns {
-        Columns::Plain => write_plain_pages(loaded, selection, has_names, output),
-        Columns::Aligned => write_aligned_pages(loaded, selection, has_names, output),
-    }
-}
-
-/// Writes a line of text for each mapping that is selected, in columns that aren't aligned.
-#[tactic(auto, unfolding(crate::specs::Reports::pages_text))]
-fn write_plain_pages<L: LevelCount, W: Destination>(
-    loaded: &Loaded<'_, L>,
-    selection: Selection,
-    has_names: bool,
-    output: &mut Output<'_, W>,
-) -> Result<(), OutputError<W>>
-    requires { IsLoaded loaded.now }
-    ensures { OnOk result (Puts W.contents output.old output.new (reports.pages_text
-        selection has_names Text Plain L.LEVELS (words_loaded loaded.now) loaded.now.root)) }
-{
-    if has_names {
-        visit_named_mappings::<L, Output<'_, W>>(loaded.summaries, loaded.root, selection, output)
-    } else {
-        visit_selected_mappings::<L, PhysMemory, IdentityMapping, Output<'_, W>>(
-            loaded.summaries,
-            loaded.root,
-            selection,
-            output,
-        )
-    }
-}
-
-/// Writes a line of text for each mapping that is selected, in aligned columns.
-#[tactic(auto, unfolding(crate::specs::Reports::pages_text))]
-fn write_aligned_pages<L: LevelCount, W: Destination>(
-    loaded: &Loaded<'_, L>,
-    selection: Selection,
-    has_names: bool,
-    output: &mut Output<'_, W>,
-) -> Result<(), OutputError<W>>
-    requires { IsLoaded loaded.now }
-    ensures { OnOk result (Puts W.contents output.old output.new (reports.pages_text
-        selection has_names Text Aligned L.LEVELS (words_loaded loaded.now) loaded.now.root)) }
-{
-    if has_names {
-        visit_aligned_named_mappings::<L, Output<'_, W>>(
-            loaded.summaries,
-            loaded.root,
-            selection,
-            output,
-        )
-    } else {
-        visit_aligned_mappings::<L, Output<'_, W>>(loaded.summaries, loaded.root, selection, output)
-    }
+    let mut lines = CountedLines::new(alloc, form, output);
+    tell_mappings::<L, Listing, CountedLines<'_, O>>(loaded, selection, listing, &mut lines)?;
+    Ok(())
 }
 
 /// Writes the walks to addresses, and what else is asked of each, as text below the address if there are several. Returns true if
@@ -403,11 +300,7 @@ fn write_addresses_by<L: LevelCount, O: Lines>(
     ensures found { IfOk result (λ found.
         found ≡ some_there (mappings_asked summaries.now L.LEVELS loaded.now.root)) }
 {
-    let mut finder = Finder::new(alloc, form, physical, output);
-    visit_mappings::<L, PhysMemory, IdentityMapping, Finder<'_, O>>(
-        summaries,
-        loaded.root,
-        &mut finder,
-    )?;
-    Ok(finder.is_found)
+    let mut lines = CountedLines::new(alloc, form, output);
+    tell_addresses::<L, CountedLines<'_, O>>(summaries, loaded.root, physical, &mut lines)?;
+    Ok(lines.count() > 0)
 }

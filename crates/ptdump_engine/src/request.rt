@@ -2,8 +2,10 @@
 
 ghost use Rattle.std.specs.Prelude.{◌≡◌};
 ghost use Rattle.ptdump_engine.specs.Accesses.{source_name};
+ghost use Rattle.ptdump_engine.specs.NamedAreas.{layout_in};
 ghost use Rattle.ptdump_engine.specs.Program.{has_roots, is_info, is_of_processors};
 
+use linux_areas::Layout;
 use std::fmt::{Display, Formatter, Result as FmtResult, Write};
 use x86_64_access::{Access, Controls};
 pub use x86_64_addr::level_count::Levels;
@@ -150,6 +152,29 @@ pub enum Columns {
     Aligned,
 }
 
+/// Whether lines of regions and mappings name the area of Linux's address space in which they lie.
+#[derive(Clone, Copy)]
+pub enum AreaNames {
+    /// If VMCOREINFO says where the root is, by what it tells.
+    OfKernel,
+    /// In any case, by what VMCOREINFO tells, if the dump has one. Memory isn't searched for it.
+    Always,
+    /// In any case, by this layout.
+    By(Layout),
+}
+
+impl AreaNames {
+    /// Returns the layout, if it is given.
+    pub fn layout(self) -> Option<Layout>
+        ensures { result ≡ layout_in self }
+    {
+        match self {
+            AreaNames::By(layout) => Some(layout),
+            AreaNames::OfKernel | AreaNames::Always => None,
+        }
+    }
+}
+
 /// A request for a report on a dump.
 #[derive(Drop)]
 pub struct Request {
@@ -159,6 +184,8 @@ pub struct Request {
     pub form: Form,
     /// The columns of regions or mappings, if these are listed as text. Other reports have no columns.
     pub columns: Columns,
+    /// Whether regions or mappings, if these are listed, name their areas. A report on several roots names none but by a layout.
+    pub areas: AreaNames,
     /// The CR3. If `None`, it is read from a processor's note in the dump, or else VMCOREINFO says where the kernel's root is.
     pub cr3: Option<u64>,
     /// The offset in the file of Linux's text VMCOREINFO that says where the kernel's root is. If `None`, memory is searched for such

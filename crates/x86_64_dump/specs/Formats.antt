@@ -8,20 +8,21 @@ use Rattle.x86_64_dump.specs.declared.formats.Format.TheVariants as formats
 use Rattle.x86_64_dump.specs.declared.formats.UnreadFormat.{UnreadFormat}
 use Rattle.x86_64_dump.specs.declared.formats.UnreadFormat.TheVariants as unread
 
--- a magic number, which stands at an offset of files of a format
+-- A row of the table of formats: a magic number, the offset of its first byte, and the format of files that have it.
 pub record Row : Type 0 where
   pub offset : ℕ
   pub magic : List ℕ
   pub format : Format
 
+-- The row with this offset, magic number and format.
 abbrev pub row : (offset : ℕ) → (magic : List ℕ) → Format → Row
 row offset magic format = record { offset = offset; magic = magic; format = format }
 
--- likewise for a format that isn't read
+-- The row of a magic number whose format isn't read.
 abbrev pub unread_row : (offset : ℕ) → (magic : List ℕ) → UnreadFormat → Row
 unread_row offset magic format = row offset magic (formats.Unread format)
 
--- the table of formats
+-- The table of formats. If a file has the magic numbers of several rows, the first of these rows counts.
 abbrev pub rows : List Row
 rows =
     row 0 (0x7f ∷ codes "ELF") formats.Elf
@@ -54,14 +55,15 @@ rows =
     ∷ unread_row 0 (codes "PK" ++ 0x03 ∷ 0x04 ∷ []) unread.Zip
     ∷ []
 
--- whether a file has the magic number of a row
+-- Whether a file has the magic number of a row at the row's offset.
 abbrev pub has_magic : (file : List ℕ) → Row → Bool
 has_magic file row = starts_with nat_eq (drop row.offset file) row.magic
 
--- the format of a file: that of the first row whose magic number it has, or else raw
+-- The format of a file: that of the first row whose magic number it has, or else raw.
 unfoldable pub format_of : (file : List ℕ) → Format
 format_of file = unwrap_or (option_map (λ row. row.format) (find (has_magic file) rows)) formats.Raw
 
+-- Whether the format is raw: the bytes of the file are those of physical memory.
 abbrev pub is_raw : Format → Bool
 is_raw formats.Raw = true
 is_raw format = false

@@ -14,11 +14,11 @@ use Rattle.x86_64_dump.specs.declared.note.NoteKind.TheVariants.{Qemu, VmCoreInf
 use Rattle.x86_64_dump.specs.declared.error.Fault.{Fault}
 use Rattle.x86_64_dump.specs.declared.error.Fault.TheVariants as faults
 
--- a size, rounded up to a multiple of four
+-- The size, rounded up to a multiple of four.
 abbrev pub padded : (size : ℕ) → ℕ
 padded size = (size + 3) / 4 * 4
 
--- the kind of the notes with a name, which ends with its NUL
+-- The kind of the notes with a name, which ends with its NUL.
 unfoldable pub kind_named : (name : List ℕ) → NoteKind
 kind_named name =
     if bytes_eq name (codes "QEMU" ++ 0 ∷ []) then Qemu
@@ -26,6 +26,7 @@ kind_named name =
     else if bytes_eq name (codes "VBCPU" ++ 0 ∷ []) then VirtualBox
     else Other
 
+-- Whether two kinds of notes are the same.
 abbrev pub is_kind : NoteKind → NoteKind → Bool
 is_kind Qemu Qemu = true
 is_kind VmCoreInfo VmCoreInfo = true
@@ -33,11 +34,11 @@ is_kind VirtualBox VirtualBox = true
 is_kind Other Other = true
 is_kind _ _ = false
 
--- the kind of the note at an offset. The longest of the names has eleven bytes
+-- The kind of the note at an offset of the file, by its name. The longest name of a known kind has eleven bytes.
 unfoldable pub kind_at : (file : List ℕ) → (at : ℕ) → NoteKind
 kind_at file at = if nat_lt 11 (u32_at file at) then Other else kind_named (part_of file (at + 12) (u32_at file at))
 
--- the note at an offset
+-- The note at an offset of the file, whatever its bytes are.
 unfoldable pub note_at : (file : List ℕ) → (at : ℕ) → Note
 note_at file at = record {
   kind = kind_at file at;
@@ -46,57 +47,58 @@ note_at file at = record {
   span = 12 + padded (u32_at file at) + padded (u32_at file (at + 4));
 }
 
--- consecutive notes from an offset on, whatever the bytes are
+-- The `count` notes that stand one after the other from an offset of the file on, whatever the bytes are.
 abbrev pub notes_from : (file : List ℕ) → (at count : ℕ) → List Note
 notes_from file at zero = []
 notes_from file at (suc count) = note_at file at ∷ notes_from file (at + (note_at file at).span) count
 
--- whether a note's descriptor ends at or before an offset
+-- Whether a note's descriptor ends at an offset of the file or before it.
 abbrev pub ends_by : (end : ℕ) → Note → Bool
 ends_by end note = nat_le (note.offset + note.size) end
 
--- the notes of a kind in a part of the file, up to the first note that doesn't end in the part. A note has at least twelve bytes
+-- The notes of a kind in the part of the file from `start` to `end`, up to the first note that doesn't end in the part. A note
+-- has at least twelve bytes.
 unfoldable pub notes_between : NoteKind → (file : List ℕ) → (start end : ℕ) → List Note
 notes_between kind file start end = filter (λ note. is_kind note.kind kind) (take_while (ends_by end) (notes_from file start ((end - start) / 12)))
 
--- the number of bytes of notes that a segment has in the file
+-- The number of bytes of notes that a segment has in a file of this length, which is 0 for segments of other kinds.
 abbrev pub notes_size : (file_length : ℕ) → Segment → ℕ
 notes_size file_length segment = cond (segment.kind == 4) (min segment.size (file_length - segment.offset)) 0
 
--- the notes of a kind in a segment
+-- The notes of a kind in a segment, in order, as far as the file has its bytes.
 abbrev pub notes_in : NoteKind → (file : List ℕ) → Segment → List Note
 notes_in kind file segment = notes_between kind file segment.offset (segment.offset + notes_size (length file) segment)
 
--- the longest front part of a list whose sizes add up to at most the room
+-- The longest front part of a list whose sizes add up to at most the room.
 abbrev pub fitting : {A : Type 0} → (room : ℕ) → (size : A → ℕ) → List A → List A
 fitting room size [] = []
 fitting room size (x ∷ xs) = cond (nat_le (size x) room) (x ∷ fitting (room - size x) size xs) []
 
--- the notes of a kind in a dump, in order. Segments of notes count as long as they have together no more bytes than the file, so
--- all segments count if they don't overlap
+-- The notes of a kind in a dump, in order. Segments of notes count as long as they have together no more bytes than the file, so
+-- all segments count if they don't overlap.
 abbrev pub notes_of : NoteKind → Contents → List Note
 notes_of kind dump = flat_map (notes_in kind dump.file) (fitting (length dump.file) (notes_size (length dump.file)) dump.segments)
 
--- QEMU's notes of the processors
+-- The notes of processors that QEMU wrote into a dump, in order.
 abbrev pub processors_of : Contents → List Note
 processors_of dump = notes_of Qemu dump
 
--- whether there are VirtualBox's notes of processors
+-- Whether a dump has notes of processors that VirtualBox wrote.
 abbrev pub is_of_virtualbox : Contents → Bool
 is_of_virtualbox dump = not (length (notes_of VirtualBox dump) == 0)
 
--- whether there are notes of processors, or Linux's note VMCOREINFO
+-- Whether a dump has notes of processors that QEMU wrote, or Linux's note VMCOREINFO.
 abbrev pub is_noted : Contents → Bool
 is_noted dump = not (length (notes_of Qemu dump) == 0) || not (length (notes_of VmCoreInfo dump) == 0)
 
--- whether a note's descriptor, or the file, ends before the register of eight bytes at an offset of the descriptor does
+-- Whether the register of eight bytes at the offset `at` of a note's descriptor ends after the descriptor, or after the file.
 abbrev pub is_note_cut : (file_length : ℕ) → Note → (at : ℕ) → Bool
 is_note_cut file_length note at = nat_lt note.size (at + 8) || nat_lt file_length (note.offset + (at + 8))
 
--- the fault of such a note
+-- The fault of a note that is cut before the end of the register at the offset `at` of its descriptor.
 abbrev pub note_cut : Note → (at : ℕ) → Fault
 note_cut note at = faults.NoteCut note.offset note.size (at + 8)
 
--- the register of eight bytes at an offset of a note's descriptor
+-- The register of eight bytes at the offset `at` of a note's descriptor, or the fault that the note is cut before its end.
 unfoldable pub register_of : (file : List ℕ) → Note → (at : ℕ) → Result ℕ Fault
 register_of file note at = if is_note_cut (length file) note at then Err (note_cut note at) else Ok (u64_at file (note.offset + at))

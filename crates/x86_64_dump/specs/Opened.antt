@@ -5,7 +5,7 @@ use Rattle.x86_64_model.specs.Memory.{Words}
 use Rattle.x86_64_dump.specs.declared.dump.Dump.{Dump}
 use Rattle.x86_64_dump.specs.declared.source.ByteSource.{Ghosts}
 
--- the bytes of its source, its format, its segments, its texts, and the bits that are cleared
+-- The contents of an opened dump, where `bytes` returns the bytes of its source.
 abbrev pub opened : {S : Type 0} → {G : Ghosts S} → (S → List ℕ) → Dump S G → Contents
 opened bytes dump = record {
   file = bytes dump.source;
@@ -15,14 +15,14 @@ opened bytes dump = record {
   cleared = dump.cleared;
 }
 
--- the words of its frames
+-- The words of the frames of an opened dump, where `bytes` returns the bytes of its source.
 abbrev pub words_opened : {S : Type 0} → {G : Ghosts S} → (S → List ℕ) → Dump S G → Words
 words_opened bytes dump = words_of_dump (opened bytes dump)
 
--- whether a segment has the frame, in a file of the length that the source reports
+-- Whether a segment of an opened dump has all bytes of a frame, in a file of the length that `size` returns for its source.
 abbrev pub holds : {S : Type 0} → {G : Ghosts S} → (size : S → ℕ) → Dump S G → (frame : ℕ) → Bool
 holds size dump frame = is_some (frame_offset (size dump.source) dump.segments.items frame)
 
--- whether a segment ends after the file, which has the length that the source reports
+-- Whether a segment of an opened dump has bytes and ends after the file, whose length `size` returns for its source.
 abbrev pub is_cut : {S : Type 0} → {G : Ghosts S} → (size : S → ℕ) → Dump S G → Bool
 is_cut size dump = is_short (size dump.source) dump.segments.items

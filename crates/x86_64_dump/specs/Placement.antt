@@ -8,12 +8,13 @@ use Rattle.x86_64_dump.specs.declared.segment.Segment.{Segment}
 use Rattle.x86_64_dump.specs.declared.error.Fault.{Fault}
 use Rattle.x86_64_dump.specs.declared.error.Fault.TheVariants as faults
 
--- the fault, or if there is none, the result
+-- The fault if there is one, or else the result.
 abbrev pub unless : {A : Type 0} → Option Fault → Result A Fault → Result A Fault
 unless None found = found
 unless (Some fault) found = Err fault
 
--- why a range can't be one of a file of this length: it is empty, its bytes end after the file, or its addresses above 2^64
+-- Why a range can't be one of a file of this length: it is empty, its bytes end after the file, or its addresses end above 2^64.
+-- None if it can.
 unfoldable pub range_fault : (file_length : ℕ) → RawRange → Option Fault
 range_fault file_length range =
     if range.size == 0 then Some (faults.RangeEmpty range.offset range.address)
@@ -21,25 +22,25 @@ range_fault file_length range =
     else if nat_lt (2 ^ 64) (range.address + range.size) then Some (faults.RangeTooHigh range.address range.size)
     else None
 
--- likewise for the first of the ranges that can't
+-- Why the first of the ranges that can't be in a file of this length can't, or None if all can.
 abbrev pub first_fault : (file_length : ℕ) → List RawRange → Option Fault
 first_fault file_length ranges = slice_get (filter_map (range_fault file_length) ranges) 0
 
--- the segment of memory of a range
+-- The segment of memory that a range of a raw file is.
 abbrev pub range_segment : RawRange → Segment
 range_segment range = record { kind = 1; offset = range.offset; address = range.address; size = range.size }
 
--- all bytes of a raw file, from an address on
+-- The segment with all bytes of a raw file, whose first byte has this physical address, in a list of its own.
 abbrev pub whole_file : (file_length address : ℕ) → List Segment
 whole_file file_length address = record { kind = 1; offset = 0; address = address; size = file_length } ∷ []
 
--- the segments of a raw file, or why it has none
+-- The segments of a raw file of this length with a placement, or why one of its ranges can't be in the file.
 abbrev pub raw_segments : (file_length : ℕ) → Placement → Result (List Segment) Fault
 raw_segments file_length Unstated = Ok (whole_file file_length 0)
 raw_segments file_length (Base base) = Ok (whole_file file_length base)
 raw_segments file_length (Ranges ranges) = unless (first_fault file_length ranges.items) (Ok (map range_segment ranges.items))
 
--- the placement by a base, which may be missing
+-- The placement by the physical address of the first byte, which may be missing.
 abbrev pub placed_by : (base : Option ℕ) → Placement
 placed_by None = Unstated
 placed_by (Some base) = Base base

@@ -4,7 +4,7 @@ use Rattle.x86_64_model.specs.Entry.{present, huge, address}
 use Rattle.x86_64_model.specs.Memory.{Words}
 use Rattle.x86_64_model.specs.PageWalk.{read}
 
--- T and W have equal words wherever page walks from the table of a level in a frame lead
+-- T and W have equal words wherever page walks from the table of a level in a frame lead.
 abbrev pub SameBelow : (level : ℕ) → (T W : Words) → (frame : ℕ) → Type 0
 SameBelow zero T W frame = Unit {0}
 SameBelow (suc level) T W frame = (T frame ≡ W frame)

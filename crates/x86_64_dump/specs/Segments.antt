@@ -3,10 +3,10 @@
 use Rattle.std.specs.Prelude.{◌-◌, ◌^◌, ◌==◌, ◌&&◌, Bool, not}
 use Rattle.x86_64_dump.specs.declared.segment.Segment.{Segment}
 
--- whether a segment says at which physical address its bytes lie
+-- Whether the bytes of a segment have a physical address of their own.
 abbrev pub has_address : Segment → Bool
 has_address segment = not (segment.address == 2 ^ 64 - 1)
 
--- whether a segment is physical memory
+-- Whether a segment is physical memory: its kind is `PT_LOAD`, and its bytes have an address.
 abbrev pub is_memory : Segment → Bool
 is_memory segment = segment.kind == 1 && has_address segment

@@ -5,43 +5,43 @@ use Rattle.std.specs.Option.{unwrap_or}
 use Rattle.x86_64_model.specs.Entry.{present, huge, address}
 use Rattle.x86_64_model.specs.Memory.{Words}
 
--- the frame of the table that a word above level one names, if W has the table
+-- The frame of the table that a word above level one names, if W has the table.
 abbrev pub table_named : Words → (word : ℕ) → Option ℕ
 table_named W e = cond (present e && not (huge e) && is_some (W (address e))) (Some (address e)) None
 
--- the frames of the tables that the words of a frame name, in order
+-- The frames of the tables that the words of a frame name, in order.
 abbrev pub tables_named : Words → (frame : ℕ) → List ℕ
 tables_named W f = filter_map (table_named W) (unwrap_or (W f) [])
 
--- whether a frame is among some frames
+-- Whether a frame is one of some frames.
 abbrev pub is_among : (frames : List ℕ) → (frame : ℕ) → Bool
 is_among frames f = list_any (λ g. f == g) frames
 
--- the frames found so far, with one more unless it is among them
+-- The frames that were found so far, with one more at their end unless it is one of them.
 abbrev pub met : (frames : List ℕ) → (frame : ℕ) → List ℕ
 met frames f = cond (is_among frames f) frames (frames ++ f ∷ [])
 
--- each frame once, in the order in which they are found
+-- The frames, each once, in the order in which they are found.
 abbrev pub each_once : (frames : List ℕ) → List ℕ
 each_once frames = fold met [] frames
 
--- the frames of the tables of some levels, from the frames of the highest level
+-- The frames of the tables of some levels, level by level from the highest down. `frames` are those of the highest level.
 abbrev pub tables_from : (levels : ℕ) → Words → (frames : List ℕ) → List (List ℕ)
 tables_from zero W frames = []
 tables_from (suc n) W frames = frames ∷ tables_from n W (each_once (flat_map (tables_named W) frames))
 
--- the root, if W has it
+-- The root, in a list of its own, or no frame if W doesn't have it.
 abbrev pub if_there : Words → (root : ℕ) → List ℕ
 if_there W root = cond (is_some (W root)) (root ∷ []) []
 
--- the frames of the tables that a root leads to, level one first
+-- The frames of the tables that a root leads to in W, with L levels of tables, level one first.
 unfoldable pub tables_by_level : (L : ℕ) → Words → (root : ℕ) → List (List ℕ)
 tables_by_level L W root = reverse (tables_from L W (if_there W root))
 
--- whether a frame is at one of some levels
+-- Whether a frame is at one of some levels.
 abbrev pub is_in : (levels : List (List ℕ)) → (frame : ℕ) → Bool
 is_in levels f = list_any (λ frames. is_among frames f) levels
 
--- the words of these frames only
+-- The words that W has in the frames of these levels, and none in other frames.
 abbrev pub words_in_frames : (levels : List (List ℕ)) → Words → Words
 words_in_frames levels W f = cond (is_in levels f) (W f) None

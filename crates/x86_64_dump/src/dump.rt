@@ -1,5 +1,5 @@
 //! Dump files.
-ghost use Rattle.std.specs.Prelude.{◌≡◌, ◌+◌, ◌-◌, ◌*◌, ◌≤◌, ◌<◌, ◌^◌, ℕ, true, false, if◌then◌else◌, [], IfOk, IfErr, OnOk, IfSome, is_err, is_some, Ok, Err, Some, None, length};
+ghost use Rattle.std.specs.Prelude.{◌≡◌, ◌+◌, ◌-◌, ◌*◌, ◌≤◌, ◌<◌, ◌^◌, ℕ, true, false, if◌then◌else◌, [], IfOk, IfErr, OnOk, IfSome, is_err, is_some, Ok, Err, Some, None, length, option_map};
 ghost use Rattle.std.proofs.Props.{props};
 ghost use Rattle.x86_64_dump.specs.Dump.{frame_offset, words_at};
 ghost use Rattle.x86_64_dump.specs.private.Search.{AreSorted, offset_at};
@@ -52,7 +52,8 @@ impl<S: ByteSource> Dump<S> {
     ghost use Rattle.x86_64_dump.specs.Notes.{is_note_cut, is_noted, is_of_virtualbox, note_cut, notes_of, processors_of, register_of};
     ghost use Rattle.x86_64_dump.specs.declared.error.DumpError.TheVariants as errors;
     ghost use Rattle.x86_64_dump.specs.KernelTexts.{kernel_texts};
-    ghost use Rattle.x86_64_dump.specs.VmCoreInfo.{agreed_text, decrypted, kernel_in, noted_kernel, text_at};
+    ghost use Rattle.x86_64_dump.specs.VmCoreInfo.{agreed_text, decrypted, kernel_in, noted_kernel, noted_text, text_at, vmcoreinfo_of};
+    ghost use Rattle.x86_64_dump.specs.Source.{part_of};
 
     /// Opens a dump and reads which parts of the file are memory.
     ///
@@ -330,15 +331,56 @@ impl<S: ByteSource> Dump<S> {
         ensures { S.IsKnown →
             Gives S.may_fail (λ kernel. kernel) result (noted_kernel (opened S.bytes self.now)) }
     {
-        let notes = self.notes(alloc, NoteKind::VmCoreInfo)?;
-        let Some(note) = notes.first() else {
+        let Some(text) = self.noted_text(alloc)? else {
             return Ok(None);
         };
-        let text = read_text(alloc, &self.source, note)?;
         match Kernel::of(&text) {
             Ok(kernel) => Ok(Some(kernel)),
             Err(fault) => Err(DumpError::Fault(Fault::VmCoreInfo(fault))),
         }
+    }
+
+    /// Reads the text of Linux's VMCOREINFO: the first of the dump's texts, see [`Dump::with_texts`], or if it has none that of the
+    /// first of the notes VMCOREINFO, or returns `None` if there is none either. As much is read as for [`Dump::text_at`] and
+    /// [`Dump::kernel`].
+    ///
+    /// # Errors
+    ///
+    /// `DumpError::OutOfMemory` if memory allocation fails, `DumpError::Read` if a read fails.
+    pub fn vmcoreinfo(&self, alloc: Global) -> Result<Option<Vec<u8>>, DumpError>
+        ensures { S.IsKnown → Gives S.may_fail (option_map (λ text. text.items)) result
+            (Ok (vmcoreinfo_of (opened S.bytes self.now))) }
+    {
+        match self.texts.first() {
+            Some(text) => Ok(Some(self.page_text(alloc, text.offset)?)),
+            None => self.noted_text(alloc),
+        }
+    }
+
+    /// Reads the text of the first of the notes VMCOREINFO.
+    fn noted_text(&self, alloc: Global) -> Result<Option<Vec<u8>>, DumpError>
+        ensures { S.IsKnown → Gives S.may_fail (option_map (λ text. text.items)) result
+            (Ok (noted_text (opened S.bytes self.now))) }
+    {
+        let notes = self.notes(alloc, NoteKind::VmCoreInfo)?;
+        match notes.first() {
+            Some(note) => Ok(Some(read_text(alloc, &self.source, note)?)),
+            None => Ok(None),
+        }
+    }
+
+    /// Reads 4096 bytes from an offset of the file on, as far as the file has them.
+    fn page_text(&self, alloc: Global, offset: u64) -> Result<Vec<u8>, DumpError>
+        ensures { S.IsKnown → Gives S.may_fail (λ text. text.items) result
+            (Ok (part_of (opened S.bytes self.now).file offset 4096)) }
+    {
+        let note = Note {
+            kind: NoteKind::VmCoreInfo,
+            offset,
+            size: 4096,
+            span: 4096,
+        };
+        read_descriptor(alloc, &self.source, &note)
     }
 
     /// Reads the text of Linux's VMCOREINFO at an offset of the file: its 4096 bytes from there on, as far as the file has them.
@@ -351,13 +393,7 @@ impl<S: ByteSource> Dump<S> {
         ensures { S.IsKnown → Gives S.may_fail (λ text. text) result
             (text_at (opened S.bytes self.now).file offset) }
     {
-        let note = Note {
-            kind: NoteKind::VmCoreInfo,
-            offset,
-            size: 4096,
-            span: 4096,
-        };
-        let text = read_descriptor(alloc, &self.source, &note)?;
+        let text = self.page_text(alloc, offset)?;
         match Kernel::of(&text) {
             Ok(kernel) => Ok(KernelText { offset, kernel }),
             Err(fault) => Err(DumpError::Fault(Fault::VmCoreInfo(fault))),

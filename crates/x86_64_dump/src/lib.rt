@@ -31,4 +31,4 @@ pub use placement::{Placement, RawRange};
 pub use segment::Segment;
 pub use source::{ByteSource, FileSource};
 pub use tables::{DumpTables, NoProgress, Progress, TablesByLevel, read_tables};
-pub use vmcoreinfo::{Kernel, KernelFault, Key};
+pub use vmcoreinfo::{Kernel, KernelFault, Key, word_in};

@@ -204,6 +204,43 @@ fn shift_of(text: &[u8]) -> Option<Shift>
     }
 }
 
+/// Returns the 64-bit number that is the value of a key, which has its `=`, in the first line that has it. Returns `None` if no line
+/// has it, or if the value is neither hexadecimal digits behind `0x` nor decimal digits, perhaps behind a minus, or too large. A
+/// number behind a minus counts modulo 2^64, as addresses are written that the kernel prints as signed numbers.
+pub fn word_in(text: &[u8], key: &[u8]) -> Option<u64>
+    ensures { result ≡ info.word_in text.now key.now }
+{
+    let Some(value) = value_of(text, key) else {
+        return None;
+    };
+    word_of(value)
+}
+
+/// Returns the 64-bit number that a value is.
+#[tactic(auto, unfolding(crate::specs::VmCoreInfo::word_of))]
+fn word_of(value: &[u8]) -> Option<u64>
+    ensures { result ≡ info.word_of value.now }
+{
+    if let Some(digits) = value.strip_prefix(b"0x") {
+        return number_of(digits, 16);
+    }
+    let Some(shift) = shift_of(value) else {
+        return None;
+    };
+    word_by(shift)
+}
+
+/// Returns the 64-bit number that a number with or without a minus is, modulo 2^64. It may be negative down to -2^63.
+fn word_by(shift: Shift) -> Option<u64>
+    ensures { result ≡ info.word_by shift }
+{
+    match shift {
+        Shift::Up(n) => Some(n),
+        Shift::Down(n) if n <= 1 << 63 => Some(n.wrapping_neg()),
+        Shift::Down(_) => None,
+    }
+}
+
 /// Returns where a symbol of the kernel is in physical memory, if that is the address of a frame.
 #[tactic(auto, unfolding(crate::specs::VmCoreInfo::physical))]
 fn physical(symbol: u64, shift: Shift) -> Option<PhysFrame<Size4KiB>>

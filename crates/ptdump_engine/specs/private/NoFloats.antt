@@ -4,12 +4,15 @@ use Rattle.serde_json.specs.Data.{object}
 use Rattle.serde_json.specs.View.{items_of}
 use Rattle.serde_json.specs.Written.{has_float, items_have_float}
 use Rattle.x86_64_access.specs.Accesses.{outcome_of}
+use Rattle.linux_areas.specs.declared.area.Area.{Area}
 use Rattle.x86_64_access.specs.declared.controls.Controls.{Controls}
 use Rattle.x86_64_access.specs.declared.request.Access.{Access}
 use Rattle.x86_64_model.specs.Access.{Outcome, Arrives, Faults, NoMemory}
+use Rattle.x86_64_model.specs.Mappings.{Mapping}
+use Rattle.x86_64_model.specs.Regions.{Region}
 use Rattle.ptdump_engine.specs.FindingObjects.{json_of_finding}
 use Rattle.ptdump_engine.specs.InfoObjects.{json_of_processor, json_of_registers, json_of_root, root_members, told}
-use Rattle.ptdump_engine.specs.Json.{count, json_of_access, json_of_word}
+use Rattle.ptdump_engine.specs.Json.{count, json_of_access, json_of_mapping, json_of_region, json_of_word}
 use Rattle.ptdump_engine.specs.Processors.{json_of_group}
 use Rattle.ptdump_engine.specs.Start.{mode_of}
 use Rattle.ptdump_engine.specs.private.Walked.{json_of_line, json_of_value}
@@ -60,6 +63,16 @@ no_float_finding (ReservedBits entry) = refl
 no_float_finding (WritableForUser frame at) = refl
 no_float_finding (MappedForUser frame at) = refl
 no_float_finding (WritableOutside frame at) = refl
+
+-- ---- lists
+
+pub no_float_region : (L : ℕ) (area : Option Area) (r : Region) → has_float (json_of_region L area r) ≡ false
+no_float_region L None r = refl
+no_float_region L (Some area) r = refl
+
+pub no_float_mapping : (L : ℕ) (area : Option Area) (m : Mapping) → has_float (json_of_mapping L area m) ≡ false
+no_float_mapping L None m = refl
+no_float_mapping L (Some area) m = refl
 
 -- ---- groups of processors
 

@@ -1,7 +1,5 @@
 -- Text that is put into an output in parts.
-use Rattle.std.proofs.Common.{◌∙◌, ℕ, List, [], ◌++◌, Option, String, refl, sym, subst}
-use Rattle.std.proofs.lemmas.Grind.{flat_map-append}
-use Rattle.std.specs.List.{flat_map}
+use Rattle.std.proofs.Common.{◌∙◌, ℕ, List, [], ◌++◌, Option, String, refl}
 use Rattle.std.proofs.KnownBytes.{Appends-nil, Appends-trans}
 use Rattle.std.specs.declared.alloc.Global.{Global}
 use Rattle.ptdump_engine.specs.Output.{Puts}
@@ -16,9 +14,3 @@ puts_both contents before between after front back first second = record {
   writer = second.writer ∙ first.writer;
   appends = Appends-trans _ _ _ front back first.appends second.appends;
 }
-
--- the texts of the parts of a list
-pub puts_each : {W X : Type 0} (contents : W → Option (List ℕ)) (text : X → List ℕ) (before between after : Output W (String Global)) (front back : List X)
-    → Puts contents before between (flat_map text front) → Puts contents between after (flat_map text back) → Puts contents before after (flat_map text (front ++ back))
-puts_each contents text before between after front back first second =
-    subst (Puts contents before after) (sym (flat_map-append text front back)) (puts_both contents before between after _ _ first second)

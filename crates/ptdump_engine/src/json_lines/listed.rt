@@ -1,36 +1,35 @@
 //! Regions, mappings and addresses that are found, as JSON.
-ghost use Rattle.std.specs.Prelude.{◌≡◌, filter, IfOk, OnOk, Some};
-ghost use Rattle.std.specs.List.{flat_map};
+ghost use Rattle.std.specs.Prelude.{◌≡◌, IfOk, Some};
 ghost use Rattle.std.proofs.Common.{refl};
 ghost use Rattle.ptdump_engine.specs.Json as json;
-ghost use Rattle.x86_64_mappings.specs.Selections.{is_mapping_selected, is_selected};
 ghost use Rattle.ptdump_engine.specs.Walks.{rights_at_text};
-ghost use Rattle.ptdump_engine.specs.private.Asked.{mappings_asked, regions_asked};
 ghost use Rattle.ptdump_engine.specs.private.Objects.{members_in};
 
+use super::ToJson;
 use super::object::Object;
-use super::{JsonLines, ToJson};
-use crate::lines::Lines;
-use crate::loaded::Loaded;
-use crate::request::Selection;
+use crate::listing::{ListedMapping, ListedRegion};
 use crate::rights_at::RightsAt;
-use crate::selected::visit_selected_regions;
 use bitflags::Flags;
 use serde_json::Value;
 use std::alloc::{AllocError, Global};
 use std::fmt::{Display, Formatter, Result as FmtResult, Write};
 use x86_64_addr::addr::PhysAddr;
 use x86_64_addr::level_count::LevelCount;
-use x86_64_mappings::{MappingIn, RegionIn, visit_selected_mappings};
-use x86_64_tables::phys_memory::{IdentityMapping, PhysMemory};
+use x86_64_mappings::{MappingIn, RegionIn};
 
-impl<L: LevelCount> ToJson for RegionIn<L> {
-    ghost json = { λ region. json.json_of_region L.LEVELS region };
+impl<L: LevelCount> ToJson for ListedRegion<L> {
+    ghost use Rattle.ptdump_engine.specs.private.NoFloats.{no_float_region};
 
-    ghost no_float = { λ region. refl };
+    ghost json = { λ listed. json.json_of_region L.LEVELS listed.area listed.region };
+
+    ghost no_float = { λ listed. no_float_region L.LEVELS listed.area listed.region };
 
     fn to_json(&self, alloc: Global) -> Result<Value, AllocError> {
-        Ok(region_object(alloc, self)?.finish())
+        let object = region_object(alloc, &self.region)?;
+        match self.area {
+            Some(area) => Ok(object.put_text("area", area.name())?.finish()),
+            None => Ok(object.finish()),
+        }
     }
 }
 
@@ -48,20 +47,35 @@ pub fn region_object<L: LevelCount>(
         .put_rights(region.rights)
 }
 
-impl<L: LevelCount> ToJson for MappingIn<L> {
-    ghost json = { λ mapping. json.json_of_mapping L.LEVELS mapping };
+impl<L: LevelCount> ToJson for ListedMapping<L> {
+    ghost use Rattle.ptdump_engine.specs.private.NoFloats.{no_float_mapping};
 
-    ghost no_float = { λ mapping. refl };
+    ghost json = { λ listed. json.json_of_mapping L.LEVELS listed.area listed.mapping };
+
+    ghost no_float = { λ listed. no_float_mapping L.LEVELS listed.area listed.mapping };
 
     fn to_json(&self, alloc: Global) -> Result<Value, AllocError> {
-        let object = Object::new(alloc)
-            .put_hexadecimal("start", self.start.as_u64())?
-            .put_number("bytes", self.size())?
-            .put_hexadecimal("frame", self.frame.start_address().as_u64())?
-            .put_rights(self.rights)?
-            .put_hexadecimal("flags", self.flags.bits())?;
-        Ok(object.finish())
+        let object = mapping_object(alloc, &self.mapping)?;
+        match self.area {
+            Some(area) => Ok(object.put_text("area", area.name())?.finish()),
+            None => Ok(object.finish()),
+        }
     }
+}
+
+/// Returns the object of a mapping.
+fn mapping_object<L: LevelCount>(
+    alloc: Global,
+    mapping: &MappingIn<L>,
+) -> Result<Object, AllocError>
+    ensures { IfOk result (λ object. members_in object ≡ json.mapping_members L.LEVELS mapping.now) }
+{
+    Object::new(alloc)
+        .put_hexadecimal("start", mapping.start.as_u64())?
+        .put_number("bytes", mapping.size())?
+        .put_hexadecimal("frame", mapping.frame.start_address().as_u64())?
+        .put_rights(mapping.rights)?
+        .put_hexadecimal("flags", mapping.flags.bits())
 }
 
 /// An address that leads to a physical address.
@@ -94,54 +108,4 @@ impl ToJson for Found {
             .put_rights(self.at.rights)?;
         Ok(object.finish())
     }
-}
-
-/// Writes a line of JSON for each region that is selected.
-///
-/// # Errors
-///
-/// The error of the destination, or of memory allocation.
-pub fn write_json_regions<L: LevelCount, O: Lines>(
-    alloc: Global,
-    loaded: &Loaded<'_, L>,
-    selection: Selection,
-    output: &mut O,
-) -> Result<(), O::Error>
-    ensures { OnOk result (O.puts output.old output.new (
-        flat_map (λ r. json.json_line (json.json_of_region L.LEVELS r)) (filter
-        (is_selected L.LEVELS selection)
-        (regions_asked loaded.now.summaries.now L.LEVELS loaded.now.root)))) }
-{
-    let mut lines = JsonLines::new(alloc, output);
-    visit_selected_regions::<L, JsonLines<'_, O>>(
-        loaded.summaries,
-        loaded.root,
-        selection,
-        &mut lines,
-    )
-}
-
-/// Writes a line of JSON for each mapping that is selected.
-///
-/// # Errors
-///
-/// The error of the destination, or of memory allocation.
-pub fn write_json_pages<L: LevelCount, O: Lines>(
-    alloc: Global,
-    loaded: &Loaded<'_, L>,
-    selection: Selection,
-    output: &mut O,
-) -> Result<(), O::Error>
-    ensures { OnOk result (O.puts output.old output.new (
-        flat_map (λ m. json.json_line (json.json_of_mapping L.LEVELS m)) (filter
-        (is_mapping_selected L.LEVELS selection)
-        (mappings_asked loaded.now.summaries.now L.LEVELS loaded.now.root)))) }
-{
-    let mut lines = JsonLines::new(alloc, output);
-    visit_selected_mappings::<L, PhysMemory, IdentityMapping, JsonLines<'_, O>>(
-        loaded.summaries,
-        loaded.root,
-        selection,
-        &mut lines,
-    )
 }

@@ -1,7 +1,7 @@
 //! Runs of the program, and how they end.
 use ptdump_engine::{
-    Checking, Columns, Command, ControlsSource, Destination, Failure, Form, Outcome, Progress,
-    Request, Selection, WalkOptions, run,
+    AreaNames, Checking, Columns, Command, ControlsSource, Destination, Failure, Form, Outcome,
+    Progress, Request, Selection, WalkOptions, run,
 };
 use std::alloc::{AllocError, Global};
 use std::io::{self, ErrorKind, Write};
@@ -74,6 +74,7 @@ impl Word {
             command,
             form: Form::Text,
             columns: Columns::Plain,
+            areas: AreaNames::OfKernel,
             cr3: None,
             vmcoreinfo: None,
             levels: None,

@@ -5,10 +5,10 @@ use Rattle.std.specs.Option.{option_map}
 use Rattle.x86_64_model.specs.Memory.{Words}
 use Rattle.x86_64_dump.specs.declared.tables.tables_read.TablesRead.{TablesRead}
 
--- the words of the tables that were read, by their frames
+-- The words of the tables that were read so far, by their frames.
 abbrev pub words_read : TablesRead → Words
 words_read read frame = option_map (λ table. table.value) (get nat_eq read.tables frame)
 
--- the tables that were read are those of W
+-- The tables that were read so far have the words of W.
 abbrev pub AreOf : Words → TablesRead → Type 0
 AreOf W read = (frame : ℕ) → IsSome (words_read read frame) → words_read read frame ≡ W frame

@@ -3,7 +3,8 @@ use Rattle.std.proofs.KnownBytes.{Appends-trans}
 use Rattle.x86_64_dump.specs.Dump.{words_of_dump}
 use Rattle.x86_64_dump.specs.Opened.{opened}
 use Rattle.ptdump_engine.specs.Failure.{failure_of}
-use Rattle.ptdump_engine.specs.NotedControls.{command_by, registers_for, resolved}
+use Rattle.ptdump_engine.specs.NotedControls.{command_by, registers_for}
+use Rattle.ptdump_engine.specs.Resolved.{resolved}
 use Rattle.ptdump_engine.specs.NotedLevels.{levels_text}
 use Rattle.ptdump_engine.specs.Program.{EndsByTotals, Machine, Notes, NotesAs, NotesOnTables, Reports, ReportsAll, RunsAs, ToldAs, ToldOfTablesOf, is_image, is_info, is_of_processors, level_count, opening_text, source_text}
 use Rattle.ptdump_engine.specs.Processors.{firsts_of}
@@ -171,8 +172,8 @@ returns-clause-run g c = λ known.
     let after = contents c.report_from.new.writer in
     let not : is_info request.command ≡ false = sym c.is_info.ensures ∙ c.if-is_info.false in
     let one : is_of_processors request ≡ false = sym c.is_of_processors.ensures ∙ c.if-is_of_processors.false in
-    let found : Ok (resolved request dump start.registers) ≡ Ok c.in_ok-resolved.resolved = c.in_ok-resolved.ensures.request known in
-    let is : c.in_ok-resolved.resolved ≡ resolved request dump start.registers = cc in
+    let found : Ok (resolved request dump start) ≡ Ok c.in_ok-resolved.resolved = c.in_ok-resolved.ensures.request known in
+    let is : c.in_ok-resolved.resolved ≡ resolved request dump start = cc in
     subst (λ info. RunsAs info (is_of_processors request) fails may request file before after c.report_from.result) (sym not)
     (subst (λ all. RunsAs false all fails may request file before after c.report_from.result) (sym one)
     (runs_by fails may request file before after (record { dump = dump; start = start }) c.report_from.result
@@ -221,8 +222,8 @@ returns-clause-notes g c = λ known.
     let begun : Appends (contents c.args.errors.now) (put_in contents ended) text =
     subst (λ e. Appends (contents e) (put_in contents ended) text) c.new-notes.ensures.now told in
     let registers = registers_for start.registers (unwrap_or request.cpu 0) dump in
-    let found : Ok (resolved request dump start.registers) ≡ Ok c.in_ok-resolved.resolved = c.in_ok-resolved.ensures.request known in
-    let as_noted : c.in_ok-resolved.resolved ≡ resolved request dump start.registers = cc in
+    let found : Ok (resolved request dump start) ≡ Ok c.in_ok-resolved.resolved = c.in_ok-resolved.ensures.request known in
+    let as_noted : c.in_ok-resolved.resolved ≡ resolved request dump start = cc in
     let is : c.in_ok-resolved.resolved.command ≡ command_by registers request.command = ap (λ r. r.command) as_noted in
     on_ok c.report_from.result (λ totals not_image. let ends = totals (ap is_image is ∙ same_image registers request.command ∙ not_image) in let same = ends.0 in let tied = all.writer in
     let tables : NotesOnTables request file (contents c.args.errors.now) (contents c.report_from.new.notes.writer.now) = (

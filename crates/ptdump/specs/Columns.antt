@@ -1,4 +1,4 @@
--- Listings: the columns that --columns asks for.
+-- Columns: the columns that --columns asks for.
 use Rattle.std.specs.Prelude.{ℕ, ◌&&◌, ◌||◌, Bool, if◌then◌else◌, List, Option, None, Some, codes}
 use Rattle.std.specs.Str.{bytes_eq}
 use Rattle.ptdump_engine.specs.declared.request.Columns.{Columns}

@@ -1,7 +1,7 @@
 //! The columns of lists.
 ghost use Rattle.std.specs.Prelude.{◌≡◌, codes};
 ghost use Rattle.clap.specs.Matches.{first_value, found_of};
-ghost use Rattle.ptdump.specs.Listings.{are_aligned, columns_for};
+ghost use Rattle.ptdump.specs.Columns.{are_aligned, columns_for};
 
 use clap::ArgMatches;
 use ptdump_engine::Columns;

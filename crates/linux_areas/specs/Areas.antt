@@ -1,0 +1,137 @@
+-- Areas: the areas of Linux's address space and where they lie, as far as it is known.
+-- Linux, "Memory Management" in its documentation of x86-64 (Documentation/arch/x86/x86_64/mm.rst): the tables for four and for five levels.
+use Rattle.std.specs.Prelude.{ℕ, ◌+◌, ◌-◌, ◌*◌, ◌^◌, ◌&&◌, Bool, false, codes, if◌then◌else◌, min, List, [], ◌∷◌, nat_le, nat_lt, Option, None, Some, option_map}
+use Rattle.std.specs.List.{find}
+use Rattle.std.specs.Option.{option_and_then}
+use Rattle.x86_64_dump.specs.VmCoreInfo.{word_in}
+use Rattle.x86_64_addr.specs.declared.level_count.Levels.{Levels}
+use Rattle.x86_64_addr.specs.declared.level_count.Levels.TheVariants.{Four, Five}
+use Rattle.linux_areas.specs.declared.area.Area.{Area}
+use Rattle.linux_areas.specs.declared.area.Area.TheVariants.{User, LdtRemap, DirectMap, Vmalloc, Vmemmap, CpuEntryArea, EspFixup, Efi, KernelText, Modules, KernelTextOrModules, Fixmap, Vsyscall}
+use Rattle.linux_areas.specs.declared.layout.Bounds.{Bounds}
+use Rattle.linux_areas.specs.declared.layout.Layout.{Layout}
+
+abbrev pub area_name : Area → List ℕ
+area_name User = codes "user"
+area_name LdtRemap = codes "LDT remap"
+area_name DirectMap = codes "direct map"
+area_name Vmalloc = codes "vmalloc"
+area_name Vmemmap = codes "vmemmap"
+area_name CpuEntryArea = codes "cpu entry area"
+area_name EspFixup = codes "ESP fixup"
+area_name Efi = codes "EFI"
+area_name KernelText = codes "kernel text"
+area_name Modules = codes "modules"
+area_name KernelTextOrModules = codes "kernel text or modules"
+area_name Fixmap = codes "fixmap"
+area_name Vsyscall = codes "vsyscall"
+
+-- the areas, in order of their addresses
+abbrev pub areas : List Area
+areas = User ∷ LdtRemap ∷ DirectMap ∷ Vmalloc ∷ Vmemmap ∷ CpuEntryArea ∷ EspFixup ∷ Efi ∷ KernelText ∷ Modules ∷ KernelTextOrModules ∷ Fixmap ∷ Vsyscall ∷ []
+
+-- the number that a text of VMCOREINFO tells behind a key, if there is a text
+abbrev pub told : (text : Option (List ℕ)) → (key : List ℕ) → Option ℕ
+told text key = option_and_then (λ bytes. word_in bytes key) text
+
+-- what is known of the places of areas by VMCOREINFO, with these levels of tables
+abbrev pub layout_of : (vmcoreinfo : Option (List ℕ)) → Levels → Layout
+layout_of vmcoreinfo levels = record {
+  levels = levels;
+  page_offset_base = told vmcoreinfo (codes "NUMBER(page_offset_base)=");
+  vmalloc_base = told vmcoreinfo (codes "NUMBER(vmalloc_base)=");
+  vmemmap_base = told vmcoreinfo (codes "NUMBER(vmemmap_base)=");
+  kernel_image_size = told vmcoreinfo (codes "NUMBER(KERNEL_IMAGE_SIZE)=");
+}
+
+-- ---- places that are fixed
+
+-- an area from a first to a last address
+abbrev pub between : (first last : ℕ) → Option Bounds
+between first last = Some (record { first = first; last = last })
+
+-- the lower half of the address space
+abbrev pub user_area : Levels → Option Bounds
+user_area Four = between 0 0x7fff_ffff_ffff
+user_area Five = between 0 0xff_ffff_ffff_ffff
+
+abbrev pub ldt_remap : Levels → Option Bounds
+ldt_remap Four = between 0xffff_8800_0000_0000 0xffff_887f_ffff_ffff
+ldt_remap Five = between 0xff10_0000_0000_0000 0xff10_ffff_ffff_ffff
+
+-- ---- places that the kernel chooses
+
+-- 64TiB, or 32PiB
+abbrev pub direct_map_size : Levels → ℕ
+direct_map_size Four = 64 * 2 ^ 40
+direct_map_size Five = 32 * 2 ^ 50
+
+-- 32TiB, or 12.5PiB
+abbrev pub vmalloc_size : Levels → ℕ
+vmalloc_size Four = 32 * 2 ^ 40
+vmalloc_size Five = 12800 * 2 ^ 40
+
+-- 1TiB, or half a PiB
+abbrev pub vmemmap_size : Levels → ℕ
+vmemmap_size Four = 2 ^ 40
+vmemmap_size Five = 512 * 2 ^ 40
+
+-- the last address of an area at a base, or the one before another base if that lies in it
+abbrev pub last_before : (other : Option ℕ) → (base last : ℕ) → ℕ
+last_before None base last = last
+last_before (Some other) base last = if nat_lt base other then min last (other - 1) else last
+
+-- the last address of an area of this size at a base: it ends before the next base that is known
+abbrev pub last_of : Layout → (base size : ℕ) → ℕ
+last_of l base size = last_before l.vmemmap_base base (last_before l.vmalloc_base base (last_before l.page_offset_base base
+    (min (base + (size - 1)) (2 ^ 64 - 1))))
+
+-- an area of this size at its base, if that is known
+abbrev pub based : Layout → (base : Option ℕ) → (size : ℕ) → Option Bounds
+based l base size = option_map (λ first. record { first = first; last = last_of l first size }) base
+
+-- ---- the kernel's code and data, and its modules
+
+-- where the modules begin, behind the bytes that are kept for the kernel's code and data
+abbrev pub modules_start : (size : ℕ) → ℕ
+modules_start size = 0xffff_ffff_8000_0000 + min size 0x7f00_0000
+
+abbrev pub text_area : (size : Option ℕ) → Option Bounds
+text_area None = None
+text_area (Some size) = between 0xffff_ffff_8000_0000 (modules_start size - 1)
+
+abbrev pub module_area : (size : Option ℕ) → Option Bounds
+module_area None = None
+module_area (Some size) = between (modules_start size) 0xffff_ffff_feff_ffff
+
+-- both together, if it isn't known where the modules begin
+abbrev pub text_or_modules : (size : Option ℕ) → Option Bounds
+text_or_modules None = between 0xffff_ffff_8000_0000 0xffff_ffff_feff_ffff
+text_or_modules (Some size) = None
+
+-- ---- the area of addresses
+
+-- the first and the last address of an area, if its place is known
+abbrev pub bounds_of : Layout → Area → Option Bounds
+bounds_of l User = user_area l.levels
+bounds_of l LdtRemap = ldt_remap l.levels
+bounds_of l DirectMap = based l l.page_offset_base (direct_map_size l.levels)
+bounds_of l Vmalloc = based l l.vmalloc_base (vmalloc_size l.levels)
+bounds_of l Vmemmap = based l l.vmemmap_base (vmemmap_size l.levels)
+bounds_of l CpuEntryArea = between 0xffff_fe00_0000_0000 0xffff_fe7f_ffff_ffff
+bounds_of l EspFixup = between 0xffff_ff00_0000_0000 0xffff_ff7f_ffff_ffff
+bounds_of l Efi = between 0xffff_ffef_0000_0000 0xffff_fffe_ffff_ffff
+bounds_of l KernelText = text_area l.kernel_image_size
+bounds_of l Modules = module_area l.kernel_image_size
+bounds_of l KernelTextOrModules = text_or_modules l.kernel_image_size
+bounds_of l Fixmap = between 0xffff_ffff_ff00_0000 0xffff_ffff_ff5f_ffff
+bounds_of l Vsyscall = between 0xffff_ffff_ff60_0000 0xffff_ffff_ff60_0fff
+
+-- whether all addresses from a first to a last one lie in an area whose place is known
+abbrev pub lie_in : (first last : ℕ) → Option Bounds → Bool
+lie_in first last None = false
+lie_in first last (Some area) = nat_le area.first first && nat_le last area.last
+
+-- the area in which all addresses from a first to a last one lie
+unfoldable pub area_at : Layout → (first last : ℕ) → Option Area
+area_at l first last = find (λ area. lie_in first last (bounds_of l area)) areas

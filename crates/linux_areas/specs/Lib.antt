@@ -1,0 +1,2 @@
+pub mod Areas
+pub use Rattle.x86_64_dump.specs.VmCoreInfo
