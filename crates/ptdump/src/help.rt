@@ -85,6 +85,13 @@ On a terminal the columns are aligned, each as wide as any text in it can be,
 and a line is FIRST - LAST SIZE RIGHTS. Elsewhere a space is between columns.
 --columns aligned and --columns plain say which of these it is.
 
+If VMCOREINFO says where the root is, or with --linux, a last column behind two
+spaces names the area of Linux's address space in which the whole region lies:
+user, LDT remap, direct map, vmalloc, vmemmap, cpu entry area, ESP fixup, EFI,
+kernel text, modules, kernel text or modules, fixmap or vsyscall. The bases of
+the third to the fifth, and where modules begin, are known from VMCOREINFO alone,
+and memory isn't searched for it for this. Nothing is there if no area is known.
+
 --from and --to list only regions that reach into these addresses, the last one
 included, as they are; --rights only those with at least these of the letters
 r, w, x and u. The last line counts all that is mapped. Words with reserved bits
@@ -96,9 +103,9 @@ Standard error says which ones are left out, as they have no 64-bit paging, and
 counts the tables and mappings of each root.
 
 With --json a line is an object with first and last (strings in hexadecimal),
-bytes (a number), and the rights write, execute and user (true or false). With
---all-cpus the line of a root is an object with cpus (an array of numbers) and
-root (a string in hexadecimal).
+bytes (a number), the rights write, execute and user (true or false), and area
+(a string) if it is named. With --all-cpus the line of a root is an object with
+cpus (an array of numbers) and root (a string in hexadecimal).
 
 Examples:
 
@@ -120,6 +127,14 @@ Examples:
   0xffffffff80001000 - 0xffffffff80002fff              8KiB r---
   0xffffffff80003000 - 0xffffffff80004fff              8KiB rw--
   0xffffffffff600000 - 0xffffffffff600fff              4KiB r-xu
+  tables 13, mappings 18, mapped 1.0GiB
+  $ ptdump regions machine.elf --linux --from 0x7fffffffc000
+  0x7fffffffc000-0x7fffffffdfff 8KiB rw-u  user
+  0xffff800000000000-0xffff80003fffffff 1GiB rw--
+  0xffffffff80000000-0xffffffff80000fff 4KiB r-x-  kernel text or modules
+  0xffffffff80001000-0xffffffff80002fff 8KiB r---  kernel text or modules
+  0xffffffff80003000-0xffffffff80004fff 8KiB rw--  kernel text or modules
+  0xffffffffff600000-0xffffffffff600fff 4KiB r-xu  vsyscall
   tables 13, mappings 18, mapped 1.0GiB
   $ ptdump regions machine.elf
   0x0-0x1fffff 2MiB rwx-
@@ -150,6 +165,10 @@ On a terminal the columns are aligned, each as wide as any text in it can be.
 Elsewhere a space is between columns. --columns aligned and --columns plain say
 which of these it is.
 
+If VMCOREINFO says where the root is, or with --linux, a last column behind two
+spaces names the area of Linux's address space in which the page lies, as
+`ptdump regions --help` says.
+
 --from and --to list only pages that reach into these addresses, the last one
 included; --rights only those with at least these of the letters r, w, x and u.
 Words with reserved bits are counted on standard error.
@@ -161,7 +180,8 @@ SW=0x200 (the bits 9 to 11 and 52 to 58, which are software's). PAT is shown for
 4KiB pages alone, since bit 12, where larger ones have it, isn't in this list.
 
 With --json a line is an object with start, frame and flags (strings in
-hexadecimal), bytes (a number), and write, execute and user (true or false).
+hexadecimal), bytes (a number), write, execute and user (true or false), and
+area (a string) if it is named.
 
 Examples:
 

@@ -31,4 +31,4 @@ pub mod OnceInOrder
 pub mod Reaches
 pub mod FirstAliases
 pub mod Padded
-pub mod Telling
+pub mod Told

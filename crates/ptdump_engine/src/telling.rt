@@ -29,10 +29,10 @@ pub trait Telling<T> {
 ///
 /// The destination of the lines is a type parameter so that contracts can identify it once it is returned.
 pub struct Teller<'a, T: Drop, O> {
-    /// What is said of an item.
-    telling: T,
     /// The destination of the lines.
     output: &'a mut O,
+    /// What is said of an item.
+    telling: T,
 }
 
 impl<T: Drop, O> Drop for Teller<'_, T, O> {
@@ -40,8 +40,8 @@ impl<T: Drop, O> Drop for Teller<'_, T, O> {
         ensures { self.exit.0.now ≡ self.entry.output.now }
     {
         let Teller {
-            telling: _,
             output: _output,
+            telling: _,
         } = self;
     }
 }
@@ -53,7 +53,7 @@ impl<'a, T: Drop, O: LineOutput> Teller<'a, T, O> {
         ensures now { result.output.now ≡ output.old }
         ensures telling { result.telling ≡ telling }
     {
-        Teller { telling, output }
+        Teller { output, telling }
     }
 }
 

@@ -5,7 +5,7 @@ use Rattle.x86_64_mappings.specs.Selections.{is_mapping_selected}
 use Rattle.ptdump_engine.specs.Loaded.{words_loaded}
 use Rattle.ptdump_engine.specs.private.Telling.{AreTold}
 use Rattle.ptdump_engine.proofs.Asked.{all_asked}
-use Rattle.ptdump_engine.proofs.Telling.{told_since}
+use Rattle.ptdump_engine.proofs.Told.{told_since}
 use Rattle.ptdump_engine.proofs.telling.tell_mappings.Goals as goal
 
 pub returns : goal.returns

@@ -1,10 +1,12 @@
 -- What is said of the items that visitors visit.
-use Rattle.std.proofs.Common.{◌≡◌, ◌∙◌, ◌^◌, ◌-◌, ◌++◌, ℕ, Bool, true, false, cond, min, nat_lt, List, [], ◌∷◌, Option, Some, None, filter, length, map, refl, ap, subst, arith}
+use Rattle.std.proofs.Common.{◌≡◌, ◌∙◌, ◌+◌, ◌-◌, ◌^◌, ◌++◌, ℕ, Bool, true, false, cond, min, nat_lt, List, [], ◌∷◌, Option, Some, None, filter, length, map, refl, ap, subst, arith}
 use Rattle.std.specs.List.{cons_option, filter_map, flat_map}
 use Rattle.x86_64_model.specs.Mappings.{Mapping}
 use Rattle.ptdump_engine.specs.Said.{Said, line_of}
+use Rattle.ptdump_engine.specs.declared.counted_lines.CountedLines.{CountedLines}
 use Rattle.ptdump_engine.specs.declared.request.Form.{Form}
 use Rattle.ptdump_engine.specs.declared.telling.Teller.{Teller}
+use Rattle.ptdump_engine.specs.private.Counting.{AreCounted}
 use Rattle.ptdump_engine.specs.private.Finding.{some_there}
 use Rattle.ptdump_engine.specs.private.Telling.{AreTold}
 
@@ -31,11 +33,21 @@ said_of_each said [] = refl
 said_of_each said (x ∷ xs) = ap (λ rest. said x ∷ rest) (said_of_each said xs)
 
 -- each item has a line
-pub lines_of_each : {X : Type 0} (form : Form) (said : X → Said) (xs : List X) → flat_map (line_of form) (filter_map (λ x. Some (said x)) xs) ≡ flat_map (λ x. line_of form (said x)) xs
+pub lines_of_each : {X : Type 0} (form : Form) (said : X → Said) (xs : List X) → flat_map (line_of form) (map said xs) ≡ flat_map (λ x. line_of form (said x)) xs
 lines_of_each form said [] = refl
 lines_of_each form said (x ∷ xs) = ap (λ rest. line_of form (said x) ++ rest) (lines_of_each form said xs)
 
--- there is a mapping if and only if there is a line for one
-pub some_counted : (said : Mapping → Said) (ms : List Mapping) (count : ℕ) → min count (2 ^ 64 - 1) ≡ min (length (filter_map (λ m. Some (said m)) ms)) (2 ^ 64 - 1) → nat_lt 0 count ≡ some_there ms
-some_counted said [] count is = grind (arith, is)
-some_counted said (m ∷ ms) count is = grind (arith, is)
+-- ---- lines that are counted
+
+-- the lines that have been put in since the count began
+pub put_since : {O : Type 0} (puts : O → O → List ℕ → Type 0) (old new : CountedLines O) (lines : List Said) (form : Form) (output : O)
+    → old.form ≡ form → old.output.now ≡ output → AreCounted puts old new lines → puts output new.output.now (flat_map (line_of form) lines)
+put_since puts old new lines form output is begun counted =
+    subst (λ o. puts o new.output.now (flat_map (line_of form) lines)) begun
+    (subst (λ f. puts old.output.now new.output.now (flat_map (line_of f) lines)) is counted.put)
+
+-- a line is counted if and only if there is a mapping
+pub some_counted : (said : Mapping → Said) (ms : List Mapping) (begun count : ℕ) → begun ≡ 0
+    → min count (2 ^ 64 - 1) ≡ min (begun + length (map said ms)) (2 ^ 64 - 1) → nat_lt 0 count ≡ some_there ms
+some_counted said [] begun count none is = grind (arith, none, is)
+some_counted said (m ∷ ms) begun count none is = grind (arith, none, is)

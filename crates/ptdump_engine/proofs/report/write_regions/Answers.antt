@@ -1,0 +1,32 @@
+use Rattle.std.proofs.Common.{rules, ◌≡◌, ◌∙◌, filter, Some, ap, subst}
+use Rattle.std.specs.List.{filter_map, flat_map}
+use Rattle.x86_64_model.specs.Regions.{regions_of}
+use Rattle.x86_64_mappings.specs.Selections.{is_selected}
+use Rattle.ptdump_engine.specs.Loaded.{words_loaded}
+use Rattle.ptdump_engine.specs.Reports.{regions_text}
+use Rattle.ptdump_engine.specs.Said.{line_of}
+use Rattle.ptdump_engine.specs.private.Counting.{AreCounted}
+use Rattle.ptdump_engine.specs.private.Listed.{said_of_region}
+use Rattle.ptdump_engine.proofs.Told.{lines_of_each, put_since, said_of_each}
+use Rattle.ptdump_engine.proofs.report.write_regions.Goals as goal
+
+pub returns : goal.returns
+unfolding regions_text
+returns g c =
+    let puts = g.O.Lines.puts in
+    let L = g.L.LevelCount.LEVELS in
+    let loaded = c.args.loaded.now in
+    let T = words_loaded loaded in
+    let form = c.args.form in
+    let columns = c.args.listing.columns in
+    let layout = c.args.listing.layout in
+    let said = said_of_region columns layout L in
+    let begun = c.new-lines.result in
+    let end = c.tell_regions.new.output in
+    let rs = filter (is_selected L c.args.selection) (regions_of L T loaded.root) in
+    let counted : AreCounted puts begun end (filter_map (λ x. Some (said x)) rs) = c.in_ok-tell_regions.ensures in
+    let name : c.tell_regions.new.output.output.ghost_name ≡ c.new-lines.result.output.ghost_name = counted.output in
+    let put : puts c.args.output.now c.tell_regions.new.output.output.now (regions_text c.args.selection form columns layout L T loaded.root) =
+    subst (puts c.args.output.now end.output.now) (ap (flat_map (line_of form)) (said_of_each said rs) ∙ lines_of_each form said rs)
+    (put_since puts begun end _ form c.args.output.now c.new-lines.ensures.form c.new-lines.ensures.now counted) in
+    search rules
