@@ -15,3 +15,4 @@ mod Digits
 pub mod Filling
 pub mod StepsRead
 mod Unselected
+pub mod Distinct
