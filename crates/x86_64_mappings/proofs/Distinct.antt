@@ -19,6 +19,7 @@ use Rattle.x86_64_mappings.specs.declared.selection.Selection.{Selection}
 use Rattle.x86_64_mappings.specs.declared.summaries.distinct.Distinct.{Distinct}
 use Rattle.x86_64_mappings.specs.declared.summaries.distinct.Kind.{Kind}
 use Rattle.x86_64_mappings.specs.declared.summaries.distinct.KindRights.{KindRights}
+use Rattle.x86_64_mappings.specs.declared.summaries.distinct.Memo.{Memo}
 use Rattle.x86_64_mappings.specs.declared.summaries.distinct.TableKind.{TableKind}
 use Rattle.x86_64_mappings.specs.declared.summaries.reached_table.ReachedTable.{ReachedTable}
 use Rattle.x86_64_mappings.specs.private.Distinct.{kind_eq, kind_of, kind_rights, rights_eq, table_eq, table_kind, covers, seen_after, new_among, AreSeen, AreByKind, AreKnown, IsAfter, Takes}
@@ -200,59 +201,59 @@ module _ (L : ℕ) (s : Selection) where
 
 module _ {V : Type 0} (visits : V → V → List Mapping → Type 0) (L : ℕ) (visited : ReachedTable → List Mapping) where
   -- a mapping
-  pub takes_one : (old new : Distinct V) (m : Mapping) → new.visitor.ghost_name ≡ old.visitor.ghost_name → new.selection ≡ old.selection → new.known ≡ old.known
-      → ((k : Kind) → contains kind_eq new.seen k ≡ cond (kind_eq (kind_of m) k) true (contains kind_eq old.seen k))
-      → visits old.visitor.now new.visitor.now (cond (contains kind_eq old.seen (kind_of m)) [] (m ∷ []))
+  pub takes_one : (old new : Distinct V Memo) (m : Mapping) → new.visitor.ghost_name ≡ old.visitor.ghost_name → new.selection ≡ old.selection → new.memo.known ≡ old.memo.known
+      → ((k : Kind) → contains kind_eq new.memo.seen k ≡ cond (kind_eq (kind_of m) k) true (contains kind_eq old.memo.seen k))
+      → visits old.visitor.now new.visitor.now (cond (contains kind_eq old.memo.seen (kind_of m)) [] (m ∷ []))
       → Takes visits L visited old new (m ∷ [])
   takes_one old new m name selection known updates passed = λ by_kind before.
-      let seen : (k : Kind) → contains kind_eq new.seen k ≡ with_kind (contains kind_eq old.seen) m k = λ k. updates k ∙ or_cond (kind_eq (kind_of m) k) (contains kind_eq old.seen k) in record {
+      let seen : (k : Kind) → contains kind_eq new.memo.seen k ≡ with_kind (contains kind_eq old.memo.seen) m k = λ k. updates k ∙ or_cond (kind_eq (kind_of m) k) (contains kind_eq old.memo.seen k) in record {
         visitor = name;
         selection = selection;
         seen = λ i k. seen k i;
         passed = passed;
-        known = λ t is covered. more_seen (contains kind_eq old.seen) (contains kind_eq new.seen)
-            (λ k h. seen k ∙ or_later (kind_eq (kind_of m) k) (contains kind_eq old.seen k) h) (map kind_of (visited t))
+        known = λ t is covered. more_seen (contains kind_eq old.memo.seen) (contains kind_eq new.memo.seen)
+            (λ k h. seen k ∙ or_later (kind_eq (kind_of m) k) (contains kind_eq old.memo.seen k) h) (map kind_of (visited t))
             (before t (ap (λ k. contains table_eq k (table_kind t)) (sym known) ∙ is) (ap (λ s. covers L s t) (sym selection) ∙ covered));
       }
 
   -- a table that is known
-  pub takes_known : (none : (v : V) → visits v v []) (d : Distinct V) (t : ReachedTable) → contains table_eq d.known (table_kind t) ≡ true → covers L d.selection t ≡ true
+  pub takes_known : (none : (v : V) → visits v v []) (d : Distinct V Memo) (t : ReachedTable) → contains table_eq d.memo.known (table_kind t) ≡ true → covers L d.selection t ≡ true
       → Takes visits L visited d d (visited t)
   takes_known none d t is covered = λ by_kind known.
       let seen = known t is covered in record {
         visitor = refl;
         selection = refl;
-        seen = sym (none_more (contains kind_eq d.seen) (visited t) seen);
-        passed = subst (visits d.visitor.now d.visitor.now) (sym (none_new (contains kind_eq d.seen) (visited t) seen)) (none d.visitor.now);
+        seen = sym (none_more (contains kind_eq d.memo.seen) (visited t) seen);
+        passed = subst (visits d.visitor.now d.visitor.now) (sym (none_new (contains kind_eq d.memo.seen) (visited t) seen)) (none d.visitor.now);
         known = known;
       }
 
   -- a table that becomes known
-  pub takes_remembered : (before old new : Distinct V) (t : ReachedTable) → new.visitor ≡ old.visitor → new.selection ≡ old.selection → new.seen ≡ old.seen
-      → ((k : TableKind) → contains table_eq new.known k ≡ cond (table_eq (table_kind t) k) true (contains table_eq old.known k))
+  pub takes_remembered : (before old new : Distinct V Memo) (t : ReachedTable) → new.visitor ≡ old.visitor → new.selection ≡ old.selection → new.memo.seen ≡ old.memo.seen
+      → ((k : TableKind) → contains table_eq new.memo.known k ≡ cond (table_eq (table_kind t) k) true (contains table_eq old.memo.known k))
       → covers L old.selection t ≡ true
       → Takes visits L visited before old (visited t) → Takes visits L visited before new (visited t)
   takes_remembered before old new t visitor selection same updates covered takes = λ by_kind known.
       let after = takes by_kind known in
-      let its : AreSeen (contains kind_eq new.seen) (visited t) =
-      subst (λ seen. AreSeen seen (visited t)) (sym after.seen ∙ ap (contains kind_eq) (sym same)) (all_seen (contains kind_eq before.seen) (visited t)) in record {
+      let its : AreSeen (contains kind_eq new.memo.seen) (visited t) =
+      subst (λ seen. AreSeen seen (visited t)) (sym after.seen ∙ ap (contains kind_eq) (sym same)) (all_seen (contains kind_eq before.memo.seen) (visited t)) in record {
         visitor = ap (λ v. v.ghost_name) visitor ∙ after.visitor;
         selection = selection ∙ after.selection;
         seen = ap (contains kind_eq) same ∙ after.seen;
-        passed = subst (λ v. visits before.visitor.now v.now (new_among (contains kind_eq before.seen) (visited t))) (sym visitor) after.passed;
+        passed = subst (λ v. visits before.visitor.now v.now (new_among (contains kind_eq before.memo.seen) (visited t))) (sym visitor) after.passed;
         known = λ u is also.
             let first : covers L before.selection t ≡ true = ap (λ s. covers L s t) (sym after.selection) ∙ covered in
             let second : covers L before.selection u ≡ true = ap (λ s. covers L s u) (sym (selection ∙ after.selection)) ∙ also in
             by (table_eq (table_kind t) (table_kind u)) u refl is also its (by_kind t u) first second after.known;
       }
     where
-      by : (b : Bool) (u : ReachedTable) → table_eq (table_kind t) (table_kind u) ≡ b → contains table_eq new.known (table_kind u) ≡ true → covers L new.selection u ≡ true
-          → AreSeen (contains kind_eq new.seen) (visited t)
+      by : (b : Bool) (u : ReachedTable) → table_eq (table_kind t) (table_kind u) ≡ b → contains table_eq new.memo.known (table_kind u) ≡ true → covers L new.selection u ≡ true
+          → AreSeen (contains kind_eq new.memo.seen) (visited t)
           → (table_kind t ≡ table_kind u → covers L before.selection t ≡ true → covers L before.selection u ≡ true → map kind_of (visited t) ≡ map kind_of (visited u))
           → covers L before.selection t ≡ true → covers L before.selection u ≡ true → AreKnown L visited old
-          → AreSeen (contains kind_eq new.seen) (visited u)
+          → AreSeen (contains kind_eq new.memo.seen) (visited u)
       by true u eq is also its same_kinds first second known =
-          subst (AllByRecursion (λ k. contains kind_eq new.seen k ≡ true)) (same_kinds (same_table (table_kind t) (table_kind u) eq) first second) its
+          subst (AllByRecursion (λ k. contains kind_eq new.memo.seen k ≡ true)) (same_kinds (same_table (table_kind t) (table_kind u) eq) first second) its
       by false u eq is also its same_kinds first second known =
-          let there : contains table_eq old.known (table_kind u) ≡ true = sym (updates (table_kind u) ∙ ap (λ b. cond b true (contains table_eq old.known (table_kind u))) eq) ∙ is in
+          let there : contains table_eq old.memo.known (table_kind u) ≡ true = sym (updates (table_kind u) ∙ ap (λ b. cond b true (contains table_eq old.memo.known (table_kind u))) eq) ∙ is in
           subst (λ seen. AreSeen (contains kind_eq seen) (visited u)) (sym same) (known u there (ap (λ s. covers L s u) (sym selection) ∙ also))

@@ -10,6 +10,7 @@ use Rattle.x86_64_mappings.specs.declared.selection.Selection.{Selection}
 use Rattle.x86_64_mappings.specs.declared.summaries.distinct.Distinct.{Distinct}
 use Rattle.x86_64_mappings.specs.declared.summaries.distinct.Kind.{Kind}
 use Rattle.x86_64_mappings.specs.declared.summaries.distinct.KindRights.{KindRights}
+use Rattle.x86_64_mappings.specs.declared.summaries.distinct.Memo.{Memo}
 use Rattle.x86_64_mappings.specs.declared.summaries.distinct.TableKind.{TableKind}
 use Rattle.x86_64_mappings.specs.declared.summaries.reached_table.ReachedTable.{ReachedTable}
 
@@ -65,20 +66,20 @@ AreByKind L s visited = (t u : ReachedTable) → table_kind t ≡ table_kind u �
     → map kind_of (visited t) ≡ map kind_of (visited u)
 
 -- the kinds of the mappings of known tables are seen
-abbrev pub AreKnown : {V : Type 0} → (L : ℕ) → (visited : ReachedTable → List Mapping) → Distinct V → Type 0
-AreKnown L visited d = (t : ReachedTable) → contains table_eq d.known (table_kind t) ≡ true → covers L d.selection t ≡ true
-    → AreSeen (contains kind_eq d.seen) (visited t)
+abbrev pub AreKnown : {V : Type 0} → (L : ℕ) → (visited : ReachedTable → List Mapping) → Distinct V Memo → Type 0
+AreKnown L visited d = (t : ReachedTable) → contains table_eq d.memo.known (table_kind t) ≡ true → covers L d.selection t ≡ true
+    → AreSeen (contains kind_eq d.memo.seen) (visited t)
 
 -- ---- visits
 
 -- after some mappings: those of kinds that weren't seen were passed on
-pub record IsAfter {V : Type 0} (visits : V → V → List Mapping → Type 0) (L : ℕ) (visited : ReachedTable → List Mapping) (old new : Distinct V) (ms : List Mapping) : Type 0 where
+pub record IsAfter {V : Type 0} (visits : V → V → List Mapping → Type 0) (L : ℕ) (visited : ReachedTable → List Mapping) (old new : Distinct V Memo) (ms : List Mapping) : Type 0 where
   pub visitor : new.visitor.ghost_name ≡ old.visitor.ghost_name
   pub selection : new.selection ≡ old.selection
-  pub seen : contains kind_eq new.seen ≡ seen_after (contains kind_eq old.seen) ms
-  pub passed : visits old.visitor.now new.visitor.now (new_among (contains kind_eq old.seen) ms)
+  pub seen : contains kind_eq new.memo.seen ≡ seen_after (contains kind_eq old.memo.seen) ms
+  pub passed : visits old.visitor.now new.visitor.now (new_among (contains kind_eq old.memo.seen) ms)
   pub known : AreKnown L visited new
 
 -- mappings were taken
-abbrev pub Takes : {V : Type 0} → (visits : V → V → List Mapping → Type 0) → (L : ℕ) → (visited : ReachedTable → List Mapping) → (old new : Distinct V) → List Mapping → Type 0
+abbrev pub Takes : {V : Type 0} → (visits : V → V → List Mapping → Type 0) → (L : ℕ) → (visited : ReachedTable → List Mapping) → (old new : Distinct V Memo) → List Mapping → Type 0
 Takes visits L visited old new ms = AreByKind L old.selection visited → AreKnown L visited old → IsAfter visits L visited old new ms

@@ -4,6 +4,7 @@ use Rattle.std.specs.HashSet.{contains}
 use Rattle.x86_64_model.specs.Mappings.{Mapping}
 use Rattle.x86_64_mappings.specs.declared.summaries.distinct.Distinct.{Distinct}
 use Rattle.x86_64_mappings.specs.declared.summaries.distinct.Kind.{Kind}
+use Rattle.x86_64_mappings.specs.declared.summaries.distinct.Memo.{Memo}
 use Rattle.x86_64_mappings.specs.declared.summaries.reached_table.ReachedTable.{ReachedTable}
 use Rattle.x86_64_mappings.specs.private.Distinct.{kind_eq, kind_of, seen_after, new_among, AreByKind, AreKnown, IsAfter, Takes}
 
@@ -20,21 +21,21 @@ new_among-append seen (m ∷ front) back = by (seen (kind_of m)) _ _ _ (new_amon
     by false all first second e = ap (λ ms. m ∷ ms) e
 
 module _ {V : Type 0} (visits : V → V → List Mapping → Type 0) where
-  pub taken_nothing : (none : (v : V) → visits v v []) (L : ℕ) (visited : ReachedTable → List Mapping) (visitor : Distinct V) → Takes visits L visited visitor visitor []
+  pub taken_nothing : (none : (v : V) → visits v v []) (L : ℕ) (visited : ReachedTable → List Mapping) (visitor : Distinct V Memo) → Takes visits L visited visitor visitor []
   taken_nothing none L visited visitor = λ by_kind known. record { visitor = refl; selection = refl; seen = refl; passed = none visitor.visitor.now; known = known }
 
   pub taken_both : (both : (before between after : V) (front back : List Mapping) → visits before between front → visits between after back → visits before after (front ++ back))
-      (L : ℕ) (visited : ReachedTable → List Mapping) (before between after : Distinct V) (front back : List Mapping)
+      (L : ℕ) (visited : ReachedTable → List Mapping) (before between after : Distinct V Memo) (front back : List Mapping)
       → Takes visits L visited before between front → Takes visits L visited between after back → Takes visits L visited before after (front ++ back)
   taken_both both L visited before between after front back first second = λ by_kind known.
       let one = first by_kind known in
       let two = second (subst (λ s. AreByKind L s visited) (sym one.selection) by_kind) one.known in
-      let seen = contains kind_eq before.seen in record {
+      let seen = contains kind_eq before.memo.seen in record {
         visitor = two.visitor ∙ one.visitor;
         selection = two.selection ∙ one.selection;
         seen = two.seen ∙ ap (λ seen. seen_after seen back) one.seen ∙ sym (seen_after-append seen front back);
         passed = subst (visits before.visitor.now after.visitor.now)
-            (ap (λ seen. new_among (contains kind_eq before.seen) front ++ new_among seen back) one.seen ∙ sym (new_among-append seen front back))
-            (both before.visitor.now between.visitor.now after.visitor.now (new_among seen front) (new_among (contains kind_eq between.seen) back) one.passed two.passed);
+            (ap (λ seen. new_among (contains kind_eq before.memo.seen) front ++ new_among seen back) one.seen ∙ sym (new_among-append seen front back))
+            (both before.visitor.now between.visitor.now after.visitor.now (new_among seen front) (new_among (contains kind_eq between.memo.seen) back) one.passed two.passed);
         known = two.known;
       }

@@ -1,17 +1,14 @@
 //! Visits of the first mapping of each kind.
-ghost use Rattle.std.specs.Prelude.{◌≡◌, ◌<◌, ◌≤◌, ◌+◌, ◌∷◌, List, OnOk, []};
+ghost use Rattle.std.specs.Prelude.{◌≡◌, ◌<◌, ◌≤◌, ◌+◌, []};
 ghost use Rattle.std.specs.HashSet.{keys};
-ghost use Rattle.x86_64_model.specs.Mappings.{Mapping};
 ghost use Rattle.x86_64_model.specs.Position.{position_count};
 ghost use Rattle.x86_64_mappings.specs.private.Distinct as distinct;
-ghost use Rattle.x86_64_mappings.specs.declared.summaries.reached_table.ReachedTable.{ReachedTable as Table};
 
-use crate::MappingIn;
 use crate::selection::Selection;
-use crate::span;
 use crate::summaries::reached_table::ReachedTable;
 use crate::summaries::table_visitor::TableVisitor;
 use crate::summaries::visitor::Visitor;
+use crate::{MappingIn, span};
 use std::alloc::{AllocError, Global};
 use std::collections::HashSet;
 use x86_64_addr::addr::PhysAddr;
@@ -20,7 +17,7 @@ use x86_64_tables::page_table::Rights;
 
 /// What mappings of a kind have in common.
 #[derive(Clone, Copy, PartialEq, Eq, Hash)]
-struct Kind {
+pub(crate) struct Kind {
     /// The start of the frame.
     frame: PhysAddr,
     /// The size in bytes.
@@ -31,7 +28,7 @@ struct Kind {
 
 /// What determines the kinds of the mappings of a table, whose span starts anywhere.
 #[derive(Clone, Copy, PartialEq, Eq, Hash)]
-struct TableKind {
+pub(crate) struct TableKind {
     /// The frame of the table.
     frame: PhysAddr,
     /// Its level.
@@ -40,11 +37,14 @@ struct TableKind {
     above: KindRights,
 }
 
-/// Rights that can be hashed.
+/// The rights of mappings of a kind. Unlike [`Rights`], they can be hashed.
 #[derive(Clone, Copy, PartialEq, Eq, Hash)]
-struct KindRights {
+pub(crate) struct KindRights {
+    /// Whether they may be written.
     write: bool,
+    /// Whether user code may access them.
     user: bool,
+    /// Whether they may be executed.
     execute: bool,
 }
 
@@ -75,6 +75,7 @@ impl TableKind {
 }
 
 impl KindRights {
+    /// Returns rights in this form.
     fn of(rights: Rights) -> KindRights
         ensures { result ≡ distinct.kind_rights rights }
     {
@@ -86,29 +87,36 @@ impl KindRights {
     }
 }
 
-/// A visitor that passes on the first mapping of each kind, and passes over tables that have none.
-///
-/// The visitor of these mappings is a type parameter so that contracts can identify it once it is returned.
-pub(crate) struct Distinct<'a, V> {
-    /// The visitor of the first mappings.
-    visitor: &'a mut V,
-    /// Which mappings are visited.
-    selection: Selection,
-    /// The kinds of the mappings so far.
+/// What is remembered of the mappings so far.
+#[derive(Drop)]
+pub(crate) struct Memo {
+    /// Their kinds.
     seen: HashSet<Kind>,
     /// Tables of which the kinds of all selected mappings are seen.
     known: HashSet<TableKind>,
 }
 
-impl<V> Drop for Distinct<'_, V> {
+/// A visitor that passes on the first mapping of each kind, and passes over tables that have none.
+///
+/// What it remembers is a `Memo`. This and the visitor of the first mappings are type parameters so that contracts can identify that
+/// visitor once it is returned.
+pub(crate) struct Distinct<'a, V, M: Drop = Memo> {
+    /// The visitor of the first mappings.
+    visitor: &'a mut V,
+    /// Which mappings are visited.
+    selection: Selection,
+    /// What is remembered.
+    memo: M,
+}
+
+impl<V, M: Drop> Drop for Distinct<'_, V, M> {
     fn drop(self)
         ensures { self.exit.0.now ≡ self.entry.visitor.now }
     {
         let Distinct {
             visitor: _visitor,
             selection: _,
-            seen: _seen,
-            known: _known,
+            memo: _,
         } = self;
     }
 }
@@ -119,14 +127,17 @@ impl<'a, V> Distinct<'a, V> {
         ensures name { result.visitor.ghost_name ≡ visitor.entry.ghost_name }
         ensures now { result.visitor.now ≡ visitor.old }
         ensures selection { result.selection ≡ selection }
-        ensures seen { keys result.seen ≡ [] }
-        ensures known { keys result.known ≡ [] }
+        ensures seen { keys result.memo.seen ≡ [] }
+        ensures known { keys result.memo.known ≡ [] }
     {
+        let memo = Memo {
+            seen: HashSet::new(alloc),
+            known: HashSet::new(alloc),
+        };
         Distinct {
             visitor,
             selection,
-            seen: HashSet::new(alloc),
-            known: HashSet::new(alloc),
+            memo,
         }
     }
 
@@ -134,7 +145,7 @@ impl<'a, V> Distinct<'a, V> {
     fn covers<L: LevelCount>(&self, table: &ReachedTable) -> bool
         requires low { 1 ≤ table.now.level }
         requires high { table.now.level < 5 }
-        requires inside { table.now.start + position_count table.now.level ≤ position_count L.LEVELS }
+        requires inside { table.now.start + position_count table.now.level ≤ position_count 5 }
         ensures { result ≡ distinct.covers L.LEVELS self.now.selection table.now }
     {
         let last = table.start + (span(table.level + 1) - 1);
@@ -142,7 +153,7 @@ impl<'a, V> Distinct<'a, V> {
     }
 }
 
-impl<L: LevelCount, V: Visitor<MappingIn<L>>> TableVisitor<L> for Distinct<'_, V>
+impl<L: LevelCount, V: Visitor<MappingIn<L>>> TableVisitor<MappingIn<L>> for Distinct<'_, V>
 where
     V::Error: From<AllocError>,
 {
@@ -154,12 +165,9 @@ where
     ghost Visits = { λ visited old new mappings. Takes V.Visits L.LEVELS visited old new mappings };
 
     /// Passes a mapping on, unless one of its kind was seen.
-    fn visit(&mut self, mapping: MappingIn<L>) -> Result<(), V::Error>
-        ensures { OnOk result ((visited : Table → List Mapping) →
-            distinct.Takes V.Visits L.LEVELS visited self.old self.new (mapping ∷ [])) }
-    {
+    fn visit(&mut self, mapping: MappingIn<L>) -> Result<(), V::Error> {
         let kind = Kind::of(&mapping);
-        if self.seen.insert(kind).map_err(AllocError::from)? {
+        if self.memo.seen.insert(kind).map_err(AllocError::from)? {
             self.visitor.visit(mapping)?;
         }
         Ok(())
@@ -167,14 +175,14 @@ where
 
     /// Returns true if the kinds of all selected mappings of a table are known to be seen.
     fn passes_over(&self, table: &ReachedTable) -> bool {
-        self.known.contains(&TableKind::of(table)) && self.covers::<L>(table)
+        self.memo.known.contains(&TableKind::of(table)) && self.covers::<L>(table)
     }
 
     /// Records that the kinds of all mappings of a table are seen, if all its positions are selected.
     fn remember(&mut self, table: &ReachedTable) -> Result<(), V::Error> {
         if self.covers::<L>(table) {
             let kind = TableKind::of(table);
-            self.known.insert(kind).map_err(AllocError::from)?;
+            self.memo.known.insert(kind).map_err(AllocError::from)?;
         }
         Ok(())
     }

@@ -77,8 +77,8 @@ pub fn visit_selected_mappings<
 /// Visits the first of the wanted and selected mappings of each kind below a root, in order of their starts. Mappings are of
 /// the same kind if they lead to the same frame, and have the same size and rights.
 ///
-/// A table is read once for each set of rights that the entries above it allow, however many entries name it, unless some of its
-/// span isn't selected.
+/// A table that is named by many entries is read once for each set of rights that the entries above it allow, unless only a part of
+/// its span is selected.
 ///
 /// # Errors
 ///
@@ -103,11 +103,17 @@ where
 {
     let table = ReachedTable::root::<L>(root);
     let mut firsts = Distinct::new(alloc, selection, visitor);
-    visit_table::<L, T, P, Distinct<'_, V>>(summaries, &selection, &table, &mut firsts)
+    visit_table::<L, T, P, Distinct<'_, V>>(summaries, &selection, &table, &mut firsts)?;
+    Ok(())
 }
 
 /// Visits the wanted mappings of a table that are selected.
-fn visit_table<L: LevelCount, T: TableMemory, P: PageTableFrameMapping, V: TableVisitor<L>>(
+fn visit_table<
+    L: LevelCount,
+    T: TableMemory,
+    P: PageTableFrameMapping,
+    V: TableVisitor<MappingIn<L>>,
+>(
     summaries: &Summaries<'_, T, P>,
     selection: &Selection,
     table: &ReachedTable,
@@ -206,7 +212,7 @@ fn visit_small_pages<
     L: LevelCount,
     T: TableMemory,
     P: PageTableFrameMapping,
-    V: TableVisitor<L>,
+    V: TableVisitor<MappingIn<L>>,
 >(
     query: &Query<'_, T, P>,
     selection: &Selection,
