@@ -11,6 +11,7 @@ use Rattle.x86_64_model.specs.Mappings.{Mapping, Rights}
 use Rattle.x86_64_model.specs.Position.{position_count}
 use Rattle.x86_64_model.proofs.Lemmas.Lists.All.{every_in}
 use Rattle.x86_64_model.proofs.Lemmas.Mappings.Chains.{in_chain}
+use Rattle.x86_64_model.proofs.Lemmas.Mappings.Regions.{same_rights_is}
 use Rattle.x86_64_tables.specs.Rights.{both}
 use Rattle.x86_64_mappings.specs.Kinds.{distinct, is_like}
 use Rattle.x86_64_mappings.specs.Selections.{includes, is_from, is_to, is_mapping_selected}
@@ -30,24 +31,16 @@ use Rattle.x86_64_mappings.proofs.Whole.{asked_chain}
 
 -- ---- equal kinds
 
-same_bool : (a b : Bool) → beq a b ≡ true → a ≡ b
-same_bool true true h = refl
-same_bool true false h = sym h
-same_bool false true h = h
-same_bool false false h = refl
-
 bool_itself : (a : Bool) → beq a a ≡ true
 bool_itself true = refl
 bool_itself false = refl
 
-same_rights : (r s : KindRights) → rights_eq r s ≡ true → r ≡ s
-same_rights r s h =
-    let all = and_parts (beq r.write s.write) (beq r.user s.user && beq r.execute s.execute) h in
-    let back = and_parts (beq r.user s.user) (beq r.execute s.execute) all.1 in
-    let write = same_bool r.write s.write all.0 in
-    let user = same_bool r.user s.user back.0 in
-    let execute = same_bool r.execute s.execute back.1 in
-    λ i. record { write = write i; user = user i; execute = execute i }
+abbrev rights_in : KindRights → Rights
+rights_in r = record { write = r.write; user = r.user; execute = r.execute }
+
+same_kind_rights : (r s : KindRights) → rights_eq r s ≡ true → r ≡ s
+same_kind_rights r s h =
+    ap kind_rights (same_rights_is (rights_in r) (rights_in s) (and_assoc (beq r.write s.write) (beq r.user s.user) (beq r.execute s.execute) ∙ h))
 
 same_kind : (k l : Kind) → kind_eq k l ≡ true → k ≡ l
 same_kind k l h =
@@ -55,7 +48,7 @@ same_kind k l h =
     let back = and_parts (k.size == l.size) (rights_eq k.rights l.rights) all.1 in
     let frame = eqb-true k.frame l.frame all.0 in
     let size = eqb-true k.size l.size back.0 in
-    let rights = same_rights k.rights l.rights back.1 in
+    let rights = same_kind_rights k.rights l.rights back.1 in
     λ i. record { frame = frame i; size = size i; rights = rights i }
 
 same_table : (t u : TableKind) → table_eq t u ≡ true → t ≡ u
@@ -64,7 +57,7 @@ same_table t u h =
     let back = and_parts (t.level == u.level) (rights_eq t.above u.above) all.1 in
     let frame = eqb-true t.frame u.frame all.0 in
     let level = eqb-true t.level u.level back.0 in
-    let above = same_rights t.above u.above back.1 in
+    let above = same_kind_rights t.above u.above back.1 in
     λ i. record { frame = frame i; level = level i; above = above i }
 
 kind_itself : (k : Kind) → kind_eq k k ≡ true
@@ -188,8 +181,7 @@ module _ (L : ℕ) (s : Selection) where
 
     abbrev kinds_in : TableKind → List Kind
     kinds_in k =
-        let above : Rights = record { write = k.above.write; user = k.above.user; execute = k.above.execute } in
-        map kind_of (filter (λ m. includes m.rights s.rights) (map (placed 0 above) (asked_mappings asked k.level k.frame)))
+        map kind_of (filter (λ m. includes m.rights s.rights) (map (placed 0 (rights_in k.above)) (asked_mappings asked k.level k.frame)))
 
     pub by_kind : AreByKind L s (selected_in L s asked)
     by_kind t u same first second =

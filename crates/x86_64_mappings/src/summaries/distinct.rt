@@ -98,8 +98,8 @@ pub(crate) struct Memo {
 
 /// A visitor that passes on the first mapping of each kind, and passes over tables that have none.
 ///
-/// What it remembers is a `Memo`. This and the visitor of the first mappings are type parameters so that contracts can identify that
-/// visitor once it is returned.
+/// What it remembers is a `Memo`. This and the visitor of the first mappings are type parameters so that contracts can identify
+/// that visitor once it is returned.
 pub(crate) struct Distinct<'a, V, M: Drop = Memo> {
     /// The visitor of the first mappings.
     visitor: &'a mut V,

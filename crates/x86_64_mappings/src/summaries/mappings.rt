@@ -77,12 +77,12 @@ pub fn visit_selected_mappings<
 /// Visits the first of the wanted and selected mappings of each kind below a root, in order of their starts. Mappings are of
 /// the same kind if they lead to the same frame, and have the same size and rights.
 ///
-/// A table that is named by many entries is read once for each set of rights that the entries above it allow, unless only a part of
-/// its span is selected.
+/// A table that is named by many entries is read once for each set of rights that the entries above it allow, unless only a part
+/// of its span is selected.
 ///
 /// # Errors
 ///
-/// `AllocError`, as an error of the visitor, if memory allocation fails. Otherwise the error of the visitor, which ends the visits.
+/// `AllocError`, as an error of the visitor, if memory allocation fails. An error of the visitor ends the visits.
 pub fn visit_distinct_mappings<
     L: LevelCount,
     T: TableMemory,
