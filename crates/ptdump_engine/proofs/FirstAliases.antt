@@ -9,7 +9,7 @@ use Rattle.std.specs.List.{AllByRecursion}
 use Rattle.std.specs.Option.{option_or}
 use Rattle.x86_64_mappings.specs.Kinds.{distinct, is_like}
 use Rattle.x86_64_mappings.specs.Views.{frame_at, frame_at_frame}
-use Rattle.x86_64_mappings.proofs.Kinds.{all_of_distinct, find_distinct, like_then}
+use Rattle.x86_64_mappings.proofs.FirstOfKinds.{all_of_distinct, find_distinct, like_then}
 use Rattle.x86_64_model.specs.Laws.Mappings.{InOrder}
 use Rattle.x86_64_model.specs.Mappings.{Mapping, Rights}
 use Rattle.x86_64_model.specs.Position.{position_count, raw}

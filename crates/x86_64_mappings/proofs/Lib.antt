@@ -16,4 +16,4 @@ pub mod Filling
 pub mod StepsRead
 pub mod Unselected
 pub mod Distinct
-pub mod Kinds
+pub mod FirstOfKinds
