@@ -1,12 +1,11 @@
 -- Kinds of mappings that are seen, and the first mapping of each kind.
-use Rattle.std.proofs.Common.{◌≡◌, ◌<◌, ◌≤◌, ◌∙◌, ◌+◌, ◌-◌, ◌*◌, ◌==◌, ◌&&◌, ◌||◌, ℕ, Bool, true, false, not, cond, List, [], ◌∷◌, filter, map, refl, sym, ap, ap₂, subst, arith}
+use Rattle.std.proofs.Common.{◌≡◌, ◌∙◌, ◌+◌, ◌-◌, ◌*◌, ◌==◌, ◌&&◌, ◌||◌, ℕ, Bool, true, false, not, cond, List, [], ◌∷◌, filter, map, refl, sym, ap, subst, arith}
 use Rattle.std.specs.Bool.{beq}
 use Rattle.std.specs.HashSet.{contains}
 use Rattle.std.specs.List.{AllByRecursion}
 use Rattle.std.proofs.Math.Bool.{and_assoc, or-true}
 use Rattle.std.proofs.lemmas.Bool.{and_from, and_parts, eq-eqb, eqb-true}
 use Rattle.std.proofs.lemmas.Nat.{pow_pos}
-use Rattle.x86_64_model.specs.Lists.{In}
 use Rattle.x86_64_model.specs.Mappings.{Mapping, Rights}
 use Rattle.x86_64_model.specs.Position.{position_count}
 use Rattle.x86_64_model.proofs.Lemmas.Lists.All.{every_in}
@@ -23,7 +22,7 @@ use Rattle.x86_64_mappings.specs.declared.summaries.distinct.KindRights.{KindRig
 use Rattle.x86_64_mappings.specs.declared.summaries.distinct.Memo.{Memo}
 use Rattle.x86_64_mappings.specs.declared.summaries.distinct.TableKind.{TableKind}
 use Rattle.x86_64_mappings.specs.declared.summaries.reached_table.ReachedTable.{ReachedTable}
-use Rattle.x86_64_mappings.specs.private.Distinct.{kind_eq, kind_of, kind_rights, rights_eq, table_eq, table_kind, covers, seen_after, new_among, AreSeen, AreByKind, AreKnown, IsAfter, Takes}
+use Rattle.x86_64_mappings.specs.private.Distinct.{kind_eq, kind_of, kind_rights, rights_eq, table_eq, table_kind, covers, seen_after, new_among, AreSeen, AreByKind, AreKnown, Takes}
 use Rattle.x86_64_mappings.specs.private.Placed.{placed}
 use Rattle.x86_64_mappings.specs.private.Targets.{selected_in}
 use Rattle.x86_64_mappings.proofs.Unselected.{earlier, later}

@@ -23,11 +23,12 @@ like_then m n h =
 module _ (P : Mapping → Type 0) (by_kind : (m n : Mapping) → is_like m n ≡ true → P m → P n) where
   with_others : (m : Mapping) → P m → (ns : List Mapping) → AllByRecursion P (filter (λ n. not (is_like m n)) ns) → AllByRecursion P ns
   with_others m p [] h = tt
-  with_others m p (n ∷ ns) h = by (is_like m n) refl h
+  with_others m p (n ∷ ns) h = by (is_like m n) refl (with_others m p ns) h
     where
-      by : (b : Bool) → is_like m n ≡ b → AllByRecursion P (cond (not b) (n ∷ filter (λ n. not (is_like m n)) ns) (filter (λ n. not (is_like m n)) ns)) → AllByRecursion P (n ∷ ns)
-      by true is h = (by_kind m n is p, with_others m p ns h)
-      by false is h = (h.0, with_others m p ns h.1)
+      by : (b : Bool) → is_like m n ≡ b → (AllByRecursion P (filter (λ n. not (is_like m n)) ns) → AllByRecursion P ns)
+          → AllByRecursion P (cond (not b) (n ∷ filter (λ n. not (is_like m n)) ns) (filter (λ n. not (is_like m n)) ns)) → AllByRecursion P (n ∷ ns)
+      by true is rest h = (by_kind m n is p, rest h)
+      by false is rest h = (h.0, rest h.1)
 
   pub all_of_distinct : (ms : List Mapping) → AllByRecursion P (distinct ms) → AllByRecursion P ms
   all_of_distinct [] h = tt
@@ -48,8 +49,9 @@ module _ (p : Mapping → Bool) (by_kind : (m n : Mapping) → is_like m n ≡ t
   -- the first mapping that passes a test, which passes all of a kind or none
   pub find_distinct : (ms : List Mapping) → find p (distinct ms) ≡ find p ms
   find_distinct [] = refl
-  find_distinct (m ∷ ms) = by (p m) refl
+  find_distinct (m ∷ ms) = by (p m) refl (find_distinct ms)
     where
-      by : (b : Bool) → p m ≡ b → cond b (Some m) (find p (filter (λ n. not (is_like m n)) (distinct ms))) ≡ cond b (Some m) (find p ms)
-      by true is = refl
-      by false is = find_others m is (distinct ms) ∙ find_distinct ms
+      by : (b : Bool) → p m ≡ b → find p (distinct ms) ≡ find p ms
+          → cond b (Some m) (find p (filter (λ n. not (is_like m n)) (distinct ms))) ≡ cond b (Some m) (find p ms)
+      by true is same = refl
+      by false is same = find_others m is (distinct ms) ∙ same

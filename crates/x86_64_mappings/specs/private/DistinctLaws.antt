@@ -6,7 +6,7 @@ use Rattle.x86_64_mappings.specs.declared.summaries.distinct.Distinct.{Distinct}
 use Rattle.x86_64_mappings.specs.declared.summaries.distinct.Kind.{Kind}
 use Rattle.x86_64_mappings.specs.declared.summaries.distinct.Memo.{Memo}
 use Rattle.x86_64_mappings.specs.declared.summaries.reached_table.ReachedTable.{ReachedTable}
-use Rattle.x86_64_mappings.specs.private.Distinct.{kind_eq, kind_of, seen_after, new_among, AreByKind, AreKnown, IsAfter, Takes}
+use Rattle.x86_64_mappings.specs.private.Distinct.{kind_eq, kind_of, seen_after, new_among, AreByKind, Takes}
 
 pub seen_after-append : (seen : Kind → Bool) (front back : List Mapping) → seen_after seen (front ++ back) ≡ seen_after (seen_after seen front) back
 seen_after-append seen [] back = refl

@@ -8,7 +8,7 @@ use Rattle.x86_64_model.specs.Mappings.{granted}
 use Rattle.x86_64_mappings.specs.Selections.{is_mapping_selected}
 use Rattle.x86_64_mappings.specs.Wanted.{asked_of, asked_mappings, is_wanted}
 use Rattle.x86_64_mappings.specs.private.Placed.{placed}
-use Rattle.x86_64_mappings.specs.private.Targets.{asked_by, asked_in, asked_on, selected_in}
+use Rattle.x86_64_mappings.specs.private.Targets.{asked_by, asked_on, selected_in}
 use Rattle.x86_64_mappings.proofs.Spans.{below_fits}
 use Rattle.x86_64_mappings.proofs.Tables.{asked_none, asked_table, by_nothing, by_page, by_table, none_copied}
 use Rattle.x86_64_mappings.proofs.Visited.{next_start, start_inside, start_aligned, span_below, aligned_below, kept_more, kept_page, kept_same}

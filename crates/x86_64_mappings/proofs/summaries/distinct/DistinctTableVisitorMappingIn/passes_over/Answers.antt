@@ -1,4 +1,4 @@
-use Rattle.std.proofs.Common.{◌≡◌, ◌∙◌, true, sym, ap}
+use Rattle.std.proofs.Common.{◌∙◌, sym, ap}
 use Rattle.std.specs.HashSet.{contains}
 use Rattle.x86_64_mappings.specs.private.Distinct.{table_eq}
 use Rattle.x86_64_mappings.proofs.Distinct.{takes_known}

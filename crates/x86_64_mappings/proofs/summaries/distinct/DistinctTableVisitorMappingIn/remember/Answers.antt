@@ -1,6 +1,5 @@
-use Rattle.std.proofs.Common.{rules, arith, ◌≡◌, ◌∙◌, true, cond, refl, sym, ap, subst}
+use Rattle.std.proofs.Common.{arith, ◌≡◌, ◌∙◌, true, cond, refl, sym, ap, subst}
 use Rattle.std.specs.HashSet.{contains}
-use Rattle.std.specs.Result.{MatchResult, IsErrAnd}
 use Rattle.x86_64_mappings.specs.private.Distinct.{table_eq, Takes}
 use Rattle.x86_64_mappings.specs.declared.summaries.distinct.TableKind.{TableKind}
 use Rattle.x86_64_mappings.specs.declared.summaries.distinct.Distinct.{Distinct}

@@ -2,8 +2,6 @@ use Rattle.std.proofs.Common.{rules, arith, ◌≡◌, ◌∙◌, ◌∷◌, tru
 use Rattle.std.specs.HashSet.{contains}
 use Rattle.x86_64_mappings.specs.private.Distinct.{kind_eq, kind_of, Takes}
 use Rattle.x86_64_mappings.specs.declared.summaries.distinct.Kind.{Kind}
-use Rattle.x86_64_mappings.specs.declared.summaries.distinct.Distinct.{Distinct}
-use Rattle.x86_64_mappings.specs.declared.summaries.distinct.Memo.{Memo}
 use Rattle.x86_64_mappings.proofs.Distinct.{takes_one}
 use Rattle.x86_64_mappings.proofs.summaries.distinct.DistinctTableVisitorMappingIn.visit.Goals as goal
 use Rattle.x86_64_mappings.proofs.summaries.distinct.DistinctTableVisitorMappingIn.visit.Goals.{then-branch+in_ok-visit, else-branch}
