@@ -4,6 +4,7 @@
 
 #[cfg(feature = "alloc")]
 use alloc::{collections, vec};
+use core::hash::{Hash, Hasher};
 use core::ops::{Deref, DerefMut};
 #[cfg(not(feature = "alloc"))]
 use no_heap as collections;
@@ -256,6 +257,84 @@ impl<K: Ord, V> HashMap<K, V> {
     /// Returns where a key is, or where it would be as an error.
     fn find(&self, key: &K) -> Result<usize, usize> {
         self.0.binary_search_by(|(other, _)| other.cmp(key))
+    }
+}
+
+/// A set: a table of places, each for one key. A key is at the place of its hash, or at the first free one behind that.
+pub struct HashSet<K> {
+    places: vec::Vec<Option<K>>,
+    len: usize,
+}
+
+impl<K: Eq + Hash> HashSet<K> {
+    /// Returns an empty set.
+    #[allow(clippy::new_without_default)]
+    pub fn new() -> HashSet<K> {
+        HashSet { places: vec::Vec::new(), len: 0 }
+    }
+
+    /// Adds a key. Returns true if the set didn't have it.
+    pub fn insert(&mut self, key: K) -> Result<bool, AllocError> {
+        if 2 * self.len >= self.places.len() {
+            self.grow()?;
+        }
+        let place = self.place(&key);
+        let is_new = self.places[place].is_none();
+        if is_new {
+            self.places[place] = Some(key);
+            self.len += 1;
+        }
+        Ok(is_new)
+    }
+
+    /// Returns true if the set has a key.
+    pub fn contains(&self, key: &K) -> bool {
+        self.len > 0 && self.places[self.place(key)].is_some()
+    }
+
+    /// Returns where a key is, or where it would be. Less than all places are taken.
+    fn place(&self, key: &K) -> usize {
+        let mut hasher = KeyHasher(0);
+        key.hash(&mut hasher);
+        let mut place = hasher.finish() as usize % self.places.len();
+        while self.places[place].as_ref().is_some_and(|other| other != key) {
+            place = (place + 1) % self.places.len();
+        }
+        place
+    }
+
+    /// Gives the set at least twice as many places.
+    fn grow(&mut self) -> Result<(), AllocError> {
+        let count = 2 * self.places.len() + 8;
+        let mut places = vec::Vec::new();
+        places.try_reserve_exact(count)?;
+        for _ in 0..count {
+            places.push(None);
+        }
+        for key in core::mem::replace(&mut self.places, places).into_iter().flatten() {
+            let place = self.place(&key);
+            self.places[place] = Some(key);
+        }
+        Ok(())
+    }
+}
+
+/// Hashes keys by products with an odd number.
+struct KeyHasher(u64);
+
+impl Hasher for KeyHasher {
+    fn write(&mut self, bytes: &[u8]) {
+        for byte in bytes {
+            self.write_u64(u64::from(*byte));
+        }
+    }
+
+    fn write_u64(&mut self, number: u64) {
+        self.0 = (self.0.rotate_left(29) ^ number).wrapping_mul(0x9e37_79b9_7f4a_7c15);
+    }
+
+    fn finish(&self) -> u64 {
+        self.0 ^ (self.0 >> 32)
     }
 }
 

@@ -1,9 +1,11 @@
 //! Summaries of tables, and visits by them: they count, list and join what the iterators list.
 #![cfg(feature = "alloc")]
 
-use x86_64_paging::listing::{mappings, regions, visit_mappings, visit_regions, Summaries, Visitor};
+use x86_64_paging::listing::{
+    mappings, regions, visit_distinct_mappings, visit_mappings, visit_regions, Mapping, Selection, Summaries, Visitor,
+};
 use x86_64_paging::structures::paging::{PageTable, PageTableFlags as Flags, PhysFrame};
-use x86_64_paging::support::Vec as List;
+use x86_64_paging::support::{AllocError, Vec as List};
 use x86_64_paging::{FourLevels, LentMemory, PhysAddr, ShiftMapping};
 
 /// The frames of the tables, by levels from one up. One table of level one is shared by two entries.
@@ -20,6 +22,18 @@ impl<T: std::fmt::Display> Visitor<T> for Texts {
             return Err(format!("no room for {item}"));
         }
         self.0.push(item.to_string());
+        Ok(())
+    }
+}
+
+/// Takes mappings.
+struct Taken(Vec<Mapping>);
+
+impl Visitor<Mapping> for Taken {
+    type Error = AllocError;
+
+    fn visit(&mut self, mapping: Mapping) -> Result<(), AllocError> {
+        self.0.push(mapping);
         Ok(())
     }
 }
@@ -83,4 +97,25 @@ fn visits_end_with_the_error_of_the_visitor() {
     assert_eq!(visit_mappings::<FourLevels, _, _, _>(&summaries, root, &mut found), Ok(()));
     let refused = visit_mappings::<FourLevels, _, _, _>(&summaries, root, &mut found);
     assert_eq!(refused, Err(format!("no room for {}", found.0[0])));
+}
+
+#[test]
+fn visits_meet_the_first_mapping_of_each_kind() {
+    let mut tables = tables();
+    let (memory, mapping, root) = (LentMemory::new(&mut tables), ShiftMapping::new(1), frame(0x1000));
+    let summaries = Summaries::new(&memory, &mapping, &frames(false), None).expect("there is memory");
+    // the first mapping below the last entry that names the table of level one
+    let late = mappings(&memory, &mapping, root).nth(18).expect("27 pages are mapped").start;
+    for from in [None, Some(late.as_u64() + 0x1000)] {
+        let mut firsts: Vec<Mapping> = vec![];
+        for mapping in mappings(&memory, &mapping, root).filter(|mapping| from <= Some(mapping.start.as_u64())) {
+            let kind = |other: &Mapping| (other.frame.start_address(), other.size(), other.rights);
+            if firsts.iter().all(|first| kind(first) != kind(&mapping)) {
+                firsts.push(mapping);
+            }
+        }
+        let (mut found, selection) = (Taken(vec![]), Selection { from, ..Selection::ALL });
+        visit_distinct_mappings::<FourLevels, _, _, _>(&summaries, root, selection, &mut found).expect("there is memory");
+        assert_eq!(found.0, firsts);
+    }
 }

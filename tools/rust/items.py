@@ -8,7 +8,7 @@ from functions import PROOF_ATTRIBUTES, Functions
 from uses import rewritten
 
 ATTRIBUTES = {"derive", "derive_where", "inline", "cold", "must_use", "repr"} | PROOF_ATTRIBUTES
-TAKES_APART = re.compile(r"fn drop\(self\) \{ let \w+ \{ (\w+: _,? )*\} = self; \}")
+TAKES_APART = re.compile(r"fn drop\(self\) \{ let \w+ \{ (\w+: _\w*,? )*\} = self; \}")
 
 
 class Items(Functions):

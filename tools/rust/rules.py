@@ -83,6 +83,7 @@ STD = Rules(
         "std::alloc::AllocError": "@crate::support::AllocError",
         "std::collections::VecDeque": "@crate::support::VecDeque",
         "std::collections::HashMap": "@crate::support::HashMap",
+        "std::collections::HashSet": "@crate::support::HashSet",
         "std::str::from_utf8_unchecked": "@crate::support::from_utf8_unchecked",
         "std::fmt::Formatter": "",
         "std::fmt::Result": "",

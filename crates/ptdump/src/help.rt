@@ -351,10 +351,11 @@ several with the same root once, below a line with their numbers and the root.
 --from and --to look only at regions that reach into these addresses, the last
 one included. Findings in tables are listed wherever the tables lead.
 
---aliases also finds memory that is mapped twice with different rights: for each
-page, the first other one with that memory which is larger, or is as large and
-has a lower address. Linux maps all memory once more in the upper half, so there
-nearly all pages of user code are found.
+--aliases also finds memory that is mapped twice with different rights. Of the
+pages with the same frame, size and rights it looks at the first. For that one
+it names the first other page with this memory which is larger, or is as large
+and has a lower address. Linux maps all memory once more in the upper half, so
+there nearly all memory of user code is found.
 
 With --json a line is an object whose finding is \"writable and executable\" or
 \"user reaches upper half\", with what regions --json tells of the region, \"table

@@ -7,7 +7,9 @@ use Rattle.std.proofs.lemmas.List.Folds.{find-append}
 use Rattle.std.specs.HashMap.{get}
 use Rattle.std.specs.List.{AllByRecursion}
 use Rattle.std.specs.Option.{option_or}
+use Rattle.x86_64_mappings.specs.Kinds.{distinct, is_like}
 use Rattle.x86_64_mappings.specs.Views.{frame_at, frame_at_frame}
+use Rattle.x86_64_mappings.proofs.FirstOfKinds.{all_of_distinct, find_distinct, like_then}
 use Rattle.x86_64_model.specs.Laws.Mappings.{InOrder}
 use Rattle.x86_64_model.specs.Mappings.{Mapping, Rights}
 use Rattle.x86_64_model.specs.Position.{position_count, raw}
@@ -19,7 +21,7 @@ use Rattle.x86_64_tables.specs.declared.mapper.MappedFrame.TheVariants.{Size4KiB
 use Rattle.ptdump_engine.specs.Aliases.{alias_in, aliased, contains, is_alias, said_of_aliased, said_of_mapping}
 use Rattle.ptdump_engine.specs.declared.check.first_mappings.FirstMappings.{FirstMappings}
 use Rattle.ptdump_engine.specs.declared.check.first_mappings.Firsts.{Firsts}
-use Rattle.ptdump_engine.specs.private.Aliasing.{alias_by, aliased_by, before, earlier, in_1gib, in_2mib, is_frame, is_other, key_of, noted, other_in, AreOfAll, IsAligned, IsPage, LeadsTo, Takes}
+use Rattle.ptdump_engine.specs.private.Aliasing.{alias_by, aliased_by, before, earlier, in_1gib, in_2mib, is_frame, is_other, key_of, noted, other_in, AreOfAll, IsAfter, IsAligned, IsPage, LeadsTo, Takes}
 
 -- ---- keys
 
@@ -103,6 +105,21 @@ module _ {X : Type 0} where
       by f aligned r false is =
           after.others f aligned r ∙ sym (or_none (find (is_other f r) ms))
           ∙ ap (λ b. option_or (find (is_other f r) ms) (cond b (Some m) None)) (sym (elsewhere f is r))
+
+  -- all mappings were noted if the first one of each kind was
+  pub after_distinct : (firsts : FirstMappings X) (ms : List Mapping) → IsAfter firsts (distinct ms) → IsAfter firsts ms
+  after_distinct firsts ms after = record {
+    pages = all_of_distinct IsPage same_page ms after.pages;
+    others = λ f aligned r. after.others f aligned r ∙ find_distinct (is_other f r) (same_other f r) ms;
+  }
+    where
+      same_page : (m n : Mapping) → is_like m n ≡ true → IsPage m → IsPage n
+      same_page m n like page =
+          let same = like_then m n like in
+          let leads = page.1 in (page.0, record { size = sym same.size ∙ leads.size; start = sym same.frame ∙ leads.start; aligned = leads.aligned })
+
+      same_other : (f : MappedFrame) (r : Rights) (m n : Mapping) → is_like m n ≡ true → is_other f r m ≡ is_other f r n
+      same_other f r m n like = let same = like_then m n like in λ i. is_frame f (same.frame i) (same.size i) && not (same_rights r (same.rights i))
 
 -- ---- the first of mappings in order
 

@@ -8,6 +8,7 @@ use Rattle.x86_64_model.specs.Regions.{same_rights}
 use Rattle.ptdump_engine.specs.FindingObjects.{json_of_aliased}
 use Rattle.ptdump_engine.specs.FindingTexts.{aliased_text}
 use Rattle.ptdump_engine.specs.Said.{Said}
+use Rattle.x86_64_mappings.specs.Kinds.{distinct}
 use Rattle.x86_64_mappings.specs.Selections.{is_mapping_selected}
 use Rattle.ptdump_engine.specs.declared.findings.aliased.Aliased.{Aliased}
 use Rattle.x86_64_mappings.specs.declared.selection.Selection.{Selection}
@@ -40,6 +41,6 @@ said_of_aliased a = record { text = aliased_text a; object = json_of_aliased a }
 abbrev pub said_of_mapping : (L : ℕ) → List Mapping → Mapping → Option Said
 said_of_mapping L ms m = option_map (λ n. said_of_aliased (aliased L m n)) (alias_in ms m)
 
--- a line for each selected mapping that has an alias
+-- a line for each frame, size and rights, at the first selected mapping of that kind, if that has an alias
 abbrev pub alias_lines : (L : ℕ) → Selection → List Mapping → List Said
-alias_lines L selection ms = filter_map (said_of_mapping L ms) (filter (is_mapping_selected L selection) ms)
+alias_lines L selection ms = filter_map (said_of_mapping L ms) (distinct (filter (is_mapping_selected L selection) ms))

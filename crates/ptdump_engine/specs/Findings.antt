@@ -159,7 +159,7 @@ table_findings checking L T root = let tables = tables_in_order (tables_by_level
 abbrev pub said_of : Finding → Said
 said_of finding = record { text = finding_text finding; object = json_of_finding finding }
 
--- A line for each selected mapping that has an alias, or none if the check doesn't look for these.
+-- The lines for mappings that have an alias, or none if the check doesn't look for these.
 abbrev pub aliases_asked : Checking → (L : ℕ) → List Mapping → List Said
 aliases_asked checking L ms = if checking.aliases then alias_lines L checking.selection ms else []
 

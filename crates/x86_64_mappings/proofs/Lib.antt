@@ -14,4 +14,6 @@ mod Levels
 mod Digits
 pub mod Filling
 pub mod StepsRead
-mod Unselected
+pub mod Unselected
+pub mod Distinct
+pub mod FirstOfKinds

@@ -3,9 +3,10 @@ use Rattle.std.proofs.Common.{zero, suc, ◌≡◌, ◌⊎◌, inl, inr, ⊎_eli
 use Rattle.std.proofs.lemmas.Bool.{cases_lt}
 use Rattle.std.proofs.lemmas.Nat.{pow-add}
 use Rattle.std.proofs.Math.Nat.{mul-le-mul_right, add-mul}
+use Rattle.std.proofs.Math.Pow.{pow_mono}
 use Rattle.x86_64_model.specs.Position.{lower_half, span, position_count}
 use Rattle.x86_64_model.proofs.Lemmas.Mappings.SpanEnds.{span-next, count-next}
-use Rattle.x86_64_mappings.proofs.Visited.{aligned_below}
+use Rattle.x86_64_mappings.proofs.Visited.{aligned_below, start_inside}
 
 -- the positions from one up to another, which is excluded, lie in one half
 abbrev pub AreInHalf : (L from to : ℕ) → Type 0
@@ -43,3 +44,12 @@ table_aligned zero s low aligned = absurd (omega arith)
 table_aligned (suc n) s low aligned =
     let above : s % span (suc (suc n)) ≡ 0 = ap (λ w. s % w) (span-next (suc n)) ∙ aligned in
     subst (λ k. s % span k ≡ 0) (let e : suc (suc n) - 1 ≡ suc n = omega arith in e) (aligned_below (suc (suc n)) s (omega arith) above)
+
+-- the span of a table below an entry ends within the address space of five levels
+pub below_fits : (L level s i start : ℕ) → L ≤ 5 → 1 < level → i < 512 → start ≡ s + i * span level → s + 512 * span level ≤ position_count L
+    → start + position_count (level - 1) ≤ position_count 5
+below_fits L level s i start five low less is inside =
+    let few : position_count L ≤ position_count 5 = pow_mono {j = 57} (let e : 12 + 9 * L ≤ 57 = omega (arith, five) in e) in
+    let inner = start_inside s i (span level) (position_count L) less inside in
+    let width : span level ≡ position_count (level - 1) = ap span (let e : level ≡ level - 1 + 1 = omega (arith, low) in e) ∙ span_of_table (level - 1) in
+    omega (arith, few, inner, width, is)

@@ -36,11 +36,11 @@ all_selected L (m ∷ ms) = ap₂ (λ b ns. cond b (m ∷ ns) ns) (has m.rights.
 -- ---- by the addresses
 
 module _ (L : ℕ) where
-  later : (from : Option ℕ) (p q : ℕ) → p ≤ q → is_from L from p ≡ true → is_from L from q ≡ true
+  pub later : (from : Option ℕ) (p q : ℕ) → p ≤ q → is_from L from p ≡ true → is_from L from q ≡ true
   later None p q le h = refl
   later (Some a) p q le h = let low = leb-true (a % position_count L) p h in le-leb (a % position_count L) q (omega (arith, low, le))
 
-  earlier : (to : Option ℕ) (p q : ℕ) → q ≤ p → is_to L to p ≡ true → is_to L to q ≡ true
+  pub earlier : (to : Option ℕ) (p q : ℕ) → q ≤ p → is_to L to p ≡ true → is_to L to q ≡ true
   earlier None p q le h = refl
   earlier (Some a) p q le h = let high = leb-true p (a % position_count L) h in le-leb q (a % position_count L) (omega (arith, high, le))
 

@@ -3,6 +3,7 @@ pub mod Texts
 pub mod Summaries
 pub mod Wanted
 pub mod Selections
+pub mod Kinds
 pub mod Numbers
 pub mod WalkEntries
 pub mod private

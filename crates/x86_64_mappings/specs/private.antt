@@ -6,3 +6,6 @@ pub mod Known
 pub mod Joined
 pub mod Extents
 pub mod Runs
+pub mod EachTable
+pub mod Distinct
+pub mod DistinctLaws

@@ -18,6 +18,7 @@ pub use region::{Region, Region57, RegionIn};
 pub use region_list::{Regions, Regions57, RegionsIn, regions, regions_57};
 pub use selection::{Selection, includes};
 pub use summaries::{
-    Summaries, Summary, Visitor, visit_mappings, visit_regions, visit_selected_mappings,
+    Summaries, Summary, Visitor, visit_distinct_mappings, visit_mappings, visit_regions,
+    visit_selected_mappings,
 };
 pub use walk_entries::{EntriesRead, MOST_LEVELS, WalkEnd, WalkEntry, read_entries};

@@ -41,6 +41,14 @@ impl Selection {
     {
         is_from::<L>(self.from, last) && is_to::<L>(self.to, first)
     }
+
+    /// Returns true if positions from the first to the last are all selected addresses.
+    pub(crate) fn covers<L: LevelCount>(&self, first: u64, last: u64) -> bool
+        ensures { result ≡ (selections.is_from L.LEVELS self.now.from first
+            && selections.is_to L.LEVELS self.now.to last) }
+    {
+        is_from::<L>(self.from, first) && is_to::<L>(self.to, last)
+    }
 }
 
 /// Returns true if a position isn't below that of an address, if there is one.

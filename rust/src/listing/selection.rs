@@ -35,6 +35,11 @@ impl Selection {
     pub(crate) fn reaches<L: LevelCount>(&self, first: u64, last: u64) -> bool {
         is_from::<L>(self.from, last) && is_to::<L>(self.to, first)
     }
+
+    /// Returns true if positions from the first to the last are all selected addresses.
+    pub(crate) fn covers<L: LevelCount>(&self, first: u64, last: u64) -> bool {
+        is_from::<L>(self.from, first) && is_to::<L>(self.to, last)
+    }
 }
 
 /// Returns true if a position isn't below that of an address, if there is one.

@@ -15,7 +15,7 @@ use crate::loaded::Loaded;
 use crate::request::Selection;
 use std::alloc::Global;
 use x86_64_addr::level_count::LevelCount;
-use x86_64_mappings::{MappingIn, Visitor, visit_selected_mappings};
+use x86_64_mappings::{MappingIn, Visitor, visit_distinct_mappings};
 use x86_64_tables::phys_memory::{IdentityMapping, PhysMemory};
 
 /// A visitor that writes a line for each mapping that has an alias.
@@ -81,8 +81,10 @@ fn write_alias<L: LevelCount, O: LineOutput>(
     }
 }
 
-/// Writes a line for each mapping that is selected and has an alias, by the first mappings of frames.
+/// Writes a line for each frame, size and rights, at the first selected mapping of that kind, if that has an alias, by the first
+/// mappings of frames.
 fn write_aliases_by<L: LevelCount, O: LineOutput>(
+    alloc: Global,
     loaded: &Loaded<'_, L>,
     selection: &Selection,
     firsts: &FirstMappings<L>,
@@ -95,7 +97,8 @@ fn write_aliases_by<L: LevelCount, O: LineOutput>(
         (mappings_of L.LEVELS (words_loaded loaded.now) loaded.now.root))) }
 {
     let mut lines = AliasLines::new(firsts, output);
-    visit_selected_mappings::<L, PhysMemory, IdentityMapping, AliasLines<'_, L, O>>(
+    visit_distinct_mappings::<L, PhysMemory, IdentityMapping, AliasLines<'_, L, O>>(
+        alloc,
         loaded.summaries,
         loaded.root,
         *selection,
@@ -104,7 +107,8 @@ fn write_aliases_by<L: LevelCount, O: LineOutput>(
     Ok(())
 }
 
-/// Writes a line for each mapping that is selected and has an alias, if these are looked for.
+/// Writes a line for each frame, size and rights, at the first selected mapping of that kind, if that has an alias and these are
+/// looked for.
 pub fn write_aliases<L: LevelCount, O: LineOutput>(
     alloc: Global,
     loaded: &Loaded<'_, L>,
@@ -118,6 +122,6 @@ pub fn write_aliases<L: LevelCount, O: LineOutput>(
         return Ok(());
     }
     let firsts = FirstMappings::of(alloc, loaded)?;
-    write_aliases_by::<L, O>(loaded, &subject.selection, &firsts, output)?;
+    write_aliases_by::<L, O>(alloc, loaded, &subject.selection, &firsts, output)?;
     Ok(())
 }

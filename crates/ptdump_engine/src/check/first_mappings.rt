@@ -9,7 +9,7 @@ use std::alloc::{AllocError, Global};
 use std::collections::HashMap;
 use x86_64_addr::addr::{PhysAddr, VirtAddrIn};
 use x86_64_addr::level_count::LevelCount;
-use x86_64_mappings::{MappingIn, Visitor, visit_mappings};
+use x86_64_mappings::{MappingIn, Selection, Visitor, visit_distinct_mappings};
 use x86_64_page::frame::PhysFrame;
 use x86_64_tables::mapper::MappedFrame;
 use x86_64_tables::page_table::Rights;
@@ -79,9 +79,11 @@ impl<L: LevelCount> FirstMappings<L> {
         let mut firsts = FirstMappings {
             firsts: HashMap::new(alloc),
         };
-        visit_mappings::<L, PhysMemory, IdentityMapping, FirstMappings<L>>(
+        visit_distinct_mappings::<L, PhysMemory, IdentityMapping, FirstMappings<L>>(
+            alloc,
             loaded.summaries,
             loaded.root,
+            Selection::ALL,
             &mut firsts,
         )?;
         Ok(firsts)

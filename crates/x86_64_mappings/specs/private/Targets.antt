@@ -8,7 +8,9 @@ use Rattle.x86_64_tables.specs.EntryTargets.{target_of}
 use Rattle.x86_64_tables.specs.declared.page_table.target.EntryTarget.{EntryTarget}
 use Rattle.x86_64_tables.specs.declared.page_table.target.EntryTarget.TheVariants.{Nothing, Page, Table}
 use Rattle.x86_64_mappings.specs.declared.summaries.reached_table.ReachedTable.{ReachedTable}
+use Rattle.x86_64_mappings.specs.Selections.{is_mapping_selected}
 use Rattle.x86_64_mappings.specs.Wanted.{Asked, is_wanted, asked_mappings}
+use Rattle.x86_64_mappings.specs.declared.selection.Selection.{Selection}
 use Rattle.x86_64_mappings.specs.private.Placed.{placed}
 
 -- the mappings by an entry of a level whose span starts at a position, below words with rights r, by what it leads to
@@ -29,3 +31,7 @@ asked_on asked level s r (e ∷ rest) = asked_by asked level s r e ++ asked_on a
 -- the wanted mappings of a table that is reached
 abbrev pub asked_in : Asked → ReachedTable → List Mapping
 asked_in asked table = map (placed table.start table.above) (asked_mappings asked table.level table.frame)
+
+-- those that are selected
+abbrev pub selected_in : (L : ℕ) → Selection → Asked → ReachedTable → List Mapping
+selected_in L s asked table = filter (is_mapping_selected L s) (asked_in asked table)

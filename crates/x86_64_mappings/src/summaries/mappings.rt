@@ -1,17 +1,23 @@
 //! Visits of mappings.
-ghost use Rattle.std.specs.Prelude.{◌≡◌, ◌<◌, ◌≤◌, ◌+◌, ◌*◌, ◌%◌, ◌&&◌, OnOk, filter, length, true, []};
+ghost use Rattle.std.specs.Prelude.{◌≡◌, ◌<◌, ◌≤◌, ◌+◌, ◌*◌, ◌%◌, ◌&&◌, List, OnOk, filter, length, true, []};
 ghost use Rattle.x86_64_model.specs.Position.{span as span_of, position_count};
+ghost use Rattle.x86_64_model.specs.Mappings.{Mapping};
+ghost use Rattle.x86_64_mappings.specs.Kinds.{distinct};
 ghost use Rattle.x86_64_mappings.specs.Selections.{is_mapping_selected};
 ghost use Rattle.x86_64_mappings.specs.Wanted.{asked_of, asked_mappings, is_wanted};
-ghost use Rattle.x86_64_mappings.specs.private.Targets.{asked_in, asked_on};
+ghost use Rattle.x86_64_mappings.specs.private.Targets.{asked_in, asked_on, selected_in};
 ghost use Rattle.x86_64_mappings.specs.private.Known.{asking};
+ghost use Rattle.x86_64_mappings.specs.declared.summaries.reached_table.ReachedTable.{ReachedTable as Table};
 
 use crate::selection::{Selection, includes};
+use crate::summaries::distinct::Distinct;
 use crate::summaries::query::Query;
 use crate::summaries::reached_table::ReachedTable;
 use crate::summaries::table_summaries::Summaries;
+use crate::summaries::table_visitor::{EachTable, TableVisitor};
 use crate::summaries::visitor::Visitor;
 use crate::{MappingIn, span};
+use std::alloc::{AllocError, Global};
 use x86_64_addr::level_count::LevelCount;
 use x86_64_page::frame::PhysFrame;
 use x86_64_page::page::Size4KiB;
@@ -64,11 +70,50 @@ pub fn visit_selected_mappings<
         (asked_mappings (asked_of T.tables P.places summaries.now) L.LEVELS root))) }
 {
     let table = ReachedTable::root::<L>(root);
-    visit_table::<L, T, P, V>(summaries, &selection, &table, visitor)
+    let mut each = EachTable::new(visitor);
+    visit_table::<L, T, P, EachTable<'_, V>>(summaries, &selection, &table, &mut each)
+}
+
+/// Visits the first of the wanted and selected mappings of each kind below a root, in order of their starts. Mappings are of
+/// the same kind if they lead to the same frame, and have the same size and rights.
+///
+/// A table that is named by many entries is read once for each set of rights that the entries above it allow, unless only a part
+/// of its span is selected.
+///
+/// # Errors
+///
+/// `AllocError`, as an error of the visitor, if memory allocation fails. An error of the visitor ends the visits.
+pub fn visit_distinct_mappings<
+    L: LevelCount,
+    T: TableMemory,
+    P: PageTableFrameMapping,
+    V: Visitor<MappingIn<L>>,
+>(
+    alloc: Global,
+    summaries: &Summaries<'_, T, P>,
+    root: PhysFrame<Size4KiB>,
+    selection: Selection,
+    visitor: &mut V,
+) -> Result<(), V::Error>
+where
+    V::Error: From<AllocError>,
+    ensures { OnOk result (V.Visits visitor.old visitor.new (distinct (filter
+        (is_mapping_selected L.LEVELS selection)
+        (asked_mappings (asked_of T.tables P.places summaries.now) L.LEVELS root)))) }
+{
+    let table = ReachedTable::root::<L>(root);
+    let mut firsts = Distinct::new(alloc, selection, visitor);
+    visit_table::<L, T, P, Distinct<'_, V>>(summaries, &selection, &table, &mut firsts)?;
+    Ok(())
 }
 
 /// Visits the wanted mappings of a table that are selected.
-fn visit_table<L: LevelCount, T: TableMemory, P: PageTableFrameMapping, V: Visitor<MappingIn<L>>>(
+fn visit_table<
+    L: LevelCount,
+    T: TableMemory,
+    P: PageTableFrameMapping,
+    V: TableVisitor<MappingIn<L>>,
+>(
     summaries: &Summaries<'_, T, P>,
     selection: &Selection,
     table: &ReachedTable,
@@ -78,8 +123,10 @@ fn visit_table<L: LevelCount, T: TableMemory, P: PageTableFrameMapping, V: Visit
     requires high { table.now.level ≤ 5 }
     requires aligned { table.now.start % span_of table.now.level ≡ 0 }
     requires inside { table.now.start + 512 * span_of table.now.level ≤ position_count L.LEVELS }
-    ensures { OnOk result (V.Visits visitor.old visitor.new (filter (is_mapping_selected L.LEVELS selection.now)
-        (asked_in (asked_of T.tables P.places summaries.now) table.now))) }
+    ensures { OnOk result (V.Visits
+        (selected_in L.LEVELS selection.now (asked_of T.tables P.places summaries.now))
+        visitor.old visitor.new
+        (selected_in L.LEVELS selection.now (asked_of T.tables P.places summaries.now) table.now)) }
 {
     let query = summaries.query();
     let Some(words) = query.table(table.frame) else {
@@ -108,8 +155,11 @@ fn visit_table<L: LevelCount, T: TableMemory, P: PageTableFrameMapping, V: Visit
             }
             EntryTarget::Table(frame) => {
                 let below = table.below(entry, frame, start);
-                if !maps_nothing::<L, T, P>(summaries, selection, &below) {
+                if !maps_nothing::<L, T, P>(summaries, selection, &below)
+                    && !visitor.passes_over(&below)
+                {
                     visit_table::<L, T, P, V>(summaries, selection, &below, visitor)?;
+                    visitor.remember(&below)?;
                 }
             }
             EntryTarget::Nothing => {}
@@ -142,8 +192,8 @@ fn maps_nothing<L: LevelCount, T: TableMemory, P: PageTableFrameMapping>(
     requires low { 1 ≤ table.now.level }
     requires high { table.now.level < 5 }
     requires inside { table.now.start + position_count table.now.level ≤ position_count L.LEVELS }
-    ensures { result ≡ true → filter (is_mapping_selected L.LEVELS selection.now)
-        (asked_in (asked_of T.tables P.places summaries.now) table.now) ≡ [] }
+    ensures { result ≡ true →
+        selected_in L.LEVELS selection.now (asked_of T.tables P.places summaries.now) table.now ≡ [] }
 {
     let last = table.start + (span(table.level + 1) - 1);
     if !selection.reaches::<L>(table.start, last) {
@@ -162,7 +212,7 @@ fn visit_small_pages<
     L: LevelCount,
     T: TableMemory,
     P: PageTableFrameMapping,
-    V: Visitor<MappingIn<L>>,
+    V: TableVisitor<MappingIn<L>>,
 >(
     query: &Query<'_, T, P>,
     selection: &Selection,
@@ -174,7 +224,8 @@ fn visit_small_pages<
     requires size { length entries.now ≡ 512 }
     requires aligned { start % span_of 1 ≡ 0 }
     requires inside { start + 512 * span_of 1 ≤ position_count L.LEVELS }
-    ensures { OnOk result (V.Visits visitor.old visitor.new (filter (is_mapping_selected L.LEVELS selection.now)
+    ensures { OnOk result ((visited : Table → List Mapping) → V.Visits visited visitor.old visitor.new
+        (filter (is_mapping_selected L.LEVELS selection.now)
         (asked_on (asked_of T.tables P.places (asking query.now)) 1 start above entries.now))) }
 {
     let mut start = start;

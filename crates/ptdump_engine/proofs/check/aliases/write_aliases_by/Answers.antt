@@ -2,6 +2,7 @@ use Rattle.std.proofs.Common.{rules, ◌≡◌, filter, sym, subst}
 use Rattle.x86_64_model.specs.Mappings.{mappings_of}
 use Rattle.ptdump_engine.specs.Aliases.{alias_lines}
 use Rattle.ptdump_engine.specs.Loaded.{words_loaded}
+use Rattle.x86_64_mappings.specs.Kinds.{distinct}
 use Rattle.x86_64_mappings.specs.Selections.{is_mapping_selected}
 use Rattle.ptdump_engine.specs.private.Aliasing.{AreOfAll}
 use Rattle.ptdump_engine.specs.private.AliasingLines.{AreAliased}
@@ -16,10 +17,10 @@ returns g c =
     let kept = is_mapping_selected L c.args.selection.now in
     let all = mappings_of L (words_loaded loaded) loaded.root in
     let lines = c.new-lines.result in
-    let visitor = c.visit_selected_mappings.new.visitor in
-    let visited : AreAliased Lines L lines visitor (filter kept all) = subst (λ ms. AreAliased Lines L lines visitor (filter kept ms)) (all_asked loaded c.requires.loaded L loaded.root) c.in_ok-visit_selected_mappings.ensures in
-    let name : c.visit_selected_mappings.new.visitor.output.ghost_name ≡ c.new-lines.result.output.ghost_name = visited.output in
-    let put : Lines c.args.output.now c.visit_selected_mappings.new.visitor.output.now (alias_lines L c.args.selection.now all) =
+    let visitor = c.visit_distinct_mappings.new.visitor in
+    let visited : AreAliased Lines L lines visitor (distinct (filter kept all)) = subst (λ ms. AreAliased Lines L lines visitor (distinct (filter kept ms))) (all_asked loaded c.requires.loaded L loaded.root) c.in_ok-visit_distinct_mappings.ensures in
+    let name : c.visit_distinct_mappings.new.visitor.output.ghost_name ≡ c.new-lines.result.output.ghost_name = visited.output in
+    let put : Lines c.args.output.now c.visit_distinct_mappings.new.visitor.output.now (alias_lines L c.args.selection.now all) =
     subst (λ o. Lines o visitor.output.now (alias_lines L c.args.selection.now all)) c.new-lines.ensures.now
     (visited.put all (subst (λ firsts. AreOfAll L firsts all) (sym c.new-lines.ensures.firsts) c.requires.firsts)) in
     search rules

@@ -2,16 +2,18 @@ use Rattle.std.proofs.Common.{◌≡◌, ◌<◌, ◌≤◌, ◌+◌, ◌-◌, �
 use Rattle.std.specs.Prelude.{OnOk}
 use Rattle.std.proofs.Math.Pow.{pow_mono}
 use Rattle.std.proofs.lemmas.List.{get_or_read, take_all}
+use Rattle.std.proofs.lemmas.Result.{on_ok_weaker}
 use Rattle.x86_64_model.specs.Position.{span, position_count}
 use Rattle.x86_64_model.specs.Mappings.{granted}
 use Rattle.x86_64_mappings.specs.Selections.{is_mapping_selected}
 use Rattle.x86_64_mappings.specs.Wanted.{asked_of, asked_mappings, is_wanted}
 use Rattle.x86_64_mappings.specs.private.Placed.{placed}
-use Rattle.x86_64_mappings.specs.private.Targets.{asked_by, asked_in, asked_on}
+use Rattle.x86_64_mappings.specs.private.Targets.{asked_by, asked_on, selected_in}
+use Rattle.x86_64_mappings.proofs.Spans.{below_fits}
 use Rattle.x86_64_mappings.proofs.Tables.{asked_none, asked_table, by_nothing, by_page, by_table, none_copied}
 use Rattle.x86_64_mappings.proofs.Visited.{next_start, start_inside, start_aligned, span_below, aligned_below, kept_more, kept_page, kept_same}
 use Rattle.x86_64_mappings.proofs.summaries.mappings.+visit_table.Goals as goal
-use Rattle.x86_64_mappings.proofs.summaries.mappings.+visit_table.Goals.{in-Page+then-takes+in_ok-visit-in-Page, in-Page+else-takes, in-Table+then-not-maps_nothing+in_ok-visit_table-in-Table, in-Table+else-not-maps_nothing, in-Nothing}
+use Rattle.x86_64_mappings.proofs.summaries.mappings.+visit_table.Goals.{in-Page+then-takes+in_ok-visit-in-Page, in-Page+else-takes, in-Table+then-not-maps_nothing+then-not-passes_over+in_ok-visit_table-in-Table+in_ok-remember-in-Table, in-Table+else-not-maps_nothing, else-not-maps_nothing-via-then-not-maps_nothing+else-not-passes_over, else-not-maps_nothing-via-else-not-maps_nothing, in-Nothing}
 
 pub returns-in_default : goal.returns-in_default
 returns-in_default g t c =
@@ -19,10 +21,11 @@ returns-in_default g t c =
     let none : asked.words c.args.table.now.frame ≡ None =
     ap (λ a. (asked_of g.T.TableMemory.tables g.P.PageTableFrameMapping.places a).words c.args.table.now.frame) (sym c.query-query.ensures)
     ∙ sym c.table.ensures ∙ none_copied c.table.result c.in_default.not-Some in
-    subst (g.V.Visitor.Visits c.args.visitor.now c.args.visitor.now)
+    let visited = selected_in g.L.LevelCount.LEVELS c.args.selection.now asked in
+    subst (g.V.TableVisitor.Visits visited c.args.visitor.now c.args.visitor.now)
     (sym (ap (λ ms. filter (is_mapping_selected g.L.LevelCount.LEVELS c.args.selection.now) (map (placed c.args.table.now.start c.args.table.now.above) ms))
     (asked_none asked c.args.table.now.level c.args.table.now.frame none)))
-    (g.met.V.Visitor.none c.args.visitor.now)
+    (g.met.V.TableVisitor.none visited c.args.visitor.now)
 
 pub returns-then-table-eq1 : goal.returns-then-table-eq1
 returns-then-table-eq1 g t c =
@@ -34,14 +37,15 @@ returns-then-table-eq1 g t c =
     ap (λ a. (asking_by a).words c.args.table.now.frame) (sym c.query-query.ensures) ∙ sym c.in-Some.ensures ∙ ap Some (sym c.as_slice-entries.ensures.words) in
     let size : length words ≡ 512 = ap length c.as_slice-entries.ensures.words ∙ c.as_slice-entries.ensures.size in
     let passes = is_mapping_selected g.L.LevelCount.LEVELS c.args.selection.now in
-    subst (λ ms. OnOk c.visit_small_pages.result (g.V.Visitor.Visits c.args.visitor.now c.visit_small_pages.new.visitor (filter passes ms)))
+    let visited = selected_in g.L.LevelCount.LEVELS c.args.selection.now asked in
+    subst (λ ms. OnOk c.visit_small_pages.result (g.V.TableVisitor.Visits visited c.args.visitor.now c.visit_small_pages.new.visitor (filter passes ms)))
     (ap (λ a. asked_on (asking_by a) 1 c.args.table.now.start r words) c.query-query.ensures
     ∙ ap (λ level. asked_on asked level c.args.table.now.start r words) (sym c.if-table-eq1.true)
     ∙ sym (asked_table asked c.args.table.now.level c.args.table.now.start r c.args.table.now.frame words c.requires.low there size))
-    c.visit_small_pages.ensures
+    (on_ok_weaker c.visit_small_pages.result (λ visits. visits visited) c.visit_small_pages.ensures)
 
 pub visit_table-requires : goal.visit_table-requires
-visit_table-requires g t c =
+visit_table-requires g t c κs within =
     let level = c.args.table.now.level in
     let w = span level in
     let s = c.args.table.now.start in
@@ -49,11 +53,25 @@ visit_table-requires g t c =
     let low : 1 < level = c.in-Table.ensures.table tt in
     let start : c.loop-entry.start ≡ s + i * w = c.loop-entry.invariant.start in
     let size : length c.as_slice-entries.result.now ≡ 512 = ap length c.as_slice-entries.ensures.words ∙ c.as_slice-entries.ensures.size in
-    let within = start_inside s i w (position_count g.L.LevelCount.LEVELS) (omega (arith, c.loop-entry-test.true, size)) c.requires.inside in
+    let inner = start_inside s i w (position_count g.L.LevelCount.LEVELS) (omega (arith, c.loop-entry-test.true, size)) c.requires.inside in
     let below = span_below level low in
     let aligned : c.loop-entry.start % span (level - 1) ≡ 0 = aligned_below level c.loop-entry.start low (ap (λ s. s % w) start ∙ start_aligned s i w c.requires.aligned) in
-    let inside : c.loop-entry.start + 512 * span (level - 1) ≤ position_count g.L.LevelCount.LEVELS = omega (arith, start, within, below) in
+    let inside : c.loop-entry.start + 512 * span (level - 1) ≤ position_count g.L.LevelCount.LEVELS = omega (arith, start, inner, below) in
     search rules
+
+pub passes_over-requires-clause-inside : goal.passes_over-requires-clause-inside
+passes_over-requires-clause-inside g t c =
+    let size : length c.as_slice-entries.result.now ≡ 512 = ap length c.as_slice-entries.ensures.words ∙ c.as_slice-entries.ensures.size in
+    subst (λ table. table.start + position_count table.level ≤ position_count 5) (sym c.below-below.ensures)
+    (below_fits g.L.LevelCount.LEVELS c.args.table.now.level c.args.table.now.start c.loop-entry.entry-index c.loop-entry.start
+    g.L.LevelCount.at_most_five (c.in-Table.ensures.table tt) (omega (arith, c.loop-entry-test.true, size)) c.loop-entry.invariant.start c.requires.inside)
+
+pub remember-requires-clause-inside : goal.remember-requires-clause-inside
+remember-requires-clause-inside g t c =
+    let size : length c.as_slice-entries.result.now ≡ 512 = ap length c.as_slice-entries.ensures.words ∙ c.as_slice-entries.ensures.size in
+    subst (λ table. table.start + position_count table.level ≤ position_count 5) (sym c.below-below.ensures)
+    (below_fits g.L.LevelCount.LEVELS c.args.table.now.level c.args.table.now.start c.loop-entry.entry-index c.loop-entry.start
+    g.L.LevelCount.at_most_five (c.in-Table.ensures.table tt) (omega (arith, c.loop-entry-test.true, size)) c.loop-entry.invariant.start c.requires.inside)
 
 pub overflow_add-start : goal.overflow_add-start
 overflow_add-start g t c =
@@ -84,6 +102,7 @@ loop-entry-preserved g t c =
     let passes = is_mapping_selected g.L.LevelCount.LEVELS c.args.selection.now in
     let front = filter passes (asked_on asked level s r (take i words)) in
     let next = next_start s i (span level) in
+    let visited = selected_in g.L.LevelCount.LEVELS c.args.selection.now asked in
     record {
       start = omega (arith, start, c.span-size.ensures, next);
       visited = elim c.match-target.branch [
@@ -91,37 +110,45 @@ loop-entry-preserved g t c =
             let m = w.of_page-page.result in
             let page = by_page asked level c.loop-entry.start r e m w.in-Page.ensures.value w.of_page-page.ensures aligned in
             let is : (is_wanted asked.wanted m && passes m) ≡ true = ap (λ wanted. is_wanted wanted m && passes m) (sym wanted) ∙ sym w.takes.ensures ∙ w.if-takes.true in
-            subst (λ v. g.V.Visitor.Visits old v (filter passes (asked_on asked level s r (take (i + 1) words)))) (sym w.visitor-is)
-            (kept_more asked level s r words i less (g.V.Visitor.Visits old w.visit.new.self) passes (m ∷ [])
+            subst (λ v. g.V.TableVisitor.Visits visited old v (filter passes (asked_on asked level s r (take (i + 1) words)))) (sym w.visitor-is)
+            (kept_more asked level s r words i less (g.V.TableVisitor.Visits visited old w.visit.new.self) passes (m ∷ [])
             (ap (filter passes) (here ∙ page) ∙ kept_page passes (is_wanted asked.wanted m) m ∙ ap (λ b. cond b (m ∷ []) []) is)
-            (g.met.V.Visitor.both old c.loop-entry.visitor w.visit.new.self front (m ∷ []) c.loop-entry.invariant.visited w.in_ok-visit-in-Page.ensures))
+            (g.met.V.TableVisitor.both visited old c.loop-entry.visitor w.visit.new.self front (m ∷ []) c.loop-entry.invariant.visited (w.in_ok-visit-in-Page.ensures visited)))
         | in-Page+else-takes w ↦
             let m = w.of_page-page.result in
             let page = by_page asked level c.loop-entry.start r e m w.in-Page.ensures.value w.of_page-page.ensures aligned in
             let is : (is_wanted asked.wanted m && passes m) ≡ false = ap (λ wanted. is_wanted wanted m && passes m) (sym wanted) ∙ sym w.takes.ensures ∙ w.if-takes.false in
-            subst (λ v. g.V.Visitor.Visits old v (filter passes (asked_on asked level s r (take (i + 1) words)))) (sym w.visitor-is)
-            (kept_same asked level s r words i less (g.V.Visitor.Visits old c.loop-entry.visitor) passes
+            subst (λ v. g.V.TableVisitor.Visits visited old v (filter passes (asked_on asked level s r (take (i + 1) words)))) (sym w.visitor-is)
+            (kept_same asked level s r words i less (g.V.TableVisitor.Visits visited old c.loop-entry.visitor) passes
             (ap (filter passes) (here ∙ page) ∙ kept_page passes (is_wanted asked.wanted m) m ∙ ap (λ b. cond b (m ∷ []) []) is)
             c.loop-entry.invariant.visited)
-        | in-Table+then-not-maps_nothing+in_ok-visit_table-in-Table w ↦
+        | in-Table+then-not-maps_nothing+then-not-passes_over+in_ok-visit_table-in-Table+in_ok-remember-in-Table w ↦
+            let between = c.loop-entry.visitor in
+            let after = w.remember.new.self in
             let below = filter passes (map (placed c.loop-entry.start (granted r e)) (asked_mappings asked (level - 1) w.in-Table.frame)) in
-            let visited : g.V.Visitor.Visits c.loop-entry.visitor w.visit_table.new.visitor below =
-            subst (λ table. g.V.Visitor.Visits c.loop-entry.visitor w.visit_table.new.visitor (filter passes (asked_in asked table))) w.below-below.ensures
-            w.in_ok-visit_table-in-Table.ensures in
-            subst (λ v. g.V.Visitor.Visits old v (filter passes (asked_on asked level s r (take (i + 1) words)))) (sym w.visitor-is)
-            (kept_more asked level s r words i less (g.V.Visitor.Visits old w.visit_table.new.visitor) passes below
+            let visits : g.V.TableVisitor.Visits visited between after below =
+            subst (λ table. g.V.TableVisitor.Visits visited between after (selected_in g.L.LevelCount.LEVELS c.args.selection.now asked table)) w.below-below.ensures
+            (w.in_ok-remember-in-Table.ensures visited between w.in_ok-visit_table-in-Table.ensures) in
+            subst (λ v. g.V.TableVisitor.Visits visited old v (filter passes (asked_on asked level s r (take (i + 1) words)))) (sym w.visitor-is)
+            (kept_more asked level s r words i less (g.V.TableVisitor.Visits visited old after) passes below
             (ap (filter passes) (here ∙ by_table asked level c.loop-entry.start r e w.in-Table.frame w.in-Table.ensures.value))
-            (g.met.V.Visitor.both old c.loop-entry.visitor w.visit_table.new.visitor front below c.loop-entry.invariant.visited visited))
+            (g.met.V.TableVisitor.both visited old between after front below c.loop-entry.invariant.visited visits))
         | in-Table+else-not-maps_nothing w ↦
-            let none = w.maps_nothing.ensures w.if-not-maps_nothing.false in
-            subst (λ v. g.V.Visitor.Visits old v (filter passes (asked_on asked level s r (take (i + 1) words)))) (sym w.visitor-is)
-            (kept_same asked level s r words i less (g.V.Visitor.Visits old c.loop-entry.visitor) passes
-            (ap (filter passes) (here ∙ by_table asked level c.loop-entry.start r e w.in-Table.frame w.in-Table.ensures.value
-            ∙ ap (asked_in asked) (sym w.below-below.ensures)) ∙ none)
-            c.loop-entry.invariant.visited)
+            let between = c.loop-entry.visitor in
+            let below = selected_in g.L.LevelCount.LEVELS c.args.selection.now asked w.below-below.result in
+            let visits : g.V.TableVisitor.Visits visited between between below = elim w.else-not-maps_nothing.branch [
+              | else-not-maps_nothing-via-then-not-maps_nothing+else-not-passes_over w' ↦ w'.passes_over.ensures w'.if-not-passes_over.false visited
+              | else-not-maps_nothing-via-else-not-maps_nothing w' ↦
+                  subst (g.V.TableVisitor.Visits visited between between) (sym (w.maps_nothing.ensures w'.if-not-maps_nothing.false)) (g.met.V.TableVisitor.none visited between)
+            ] in
+            subst (λ v. g.V.TableVisitor.Visits visited old v (filter passes (asked_on asked level s r (take (i + 1) words)))) (sym w.visitor-is)
+            (kept_more asked level s r words i less (g.V.TableVisitor.Visits visited old between) passes below
+            (ap (filter passes) (here ∙ by_table asked level c.loop-entry.start r e w.in-Table.frame w.in-Table.ensures.value)
+            ∙ ap (selected_in g.L.LevelCount.LEVELS c.args.selection.now asked) (sym w.below-below.ensures))
+            (g.met.V.TableVisitor.both visited old between between front below c.loop-entry.invariant.visited visits))
         | in-Nothing w ↦
-            subst (λ v. g.V.Visitor.Visits old v (filter passes (asked_on asked level s r (take (i + 1) words)))) (sym w.visitor-is)
-            (kept_same asked level s r words i less (g.V.Visitor.Visits old c.loop-entry.visitor) passes
+            subst (λ v. g.V.TableVisitor.Visits visited old v (filter passes (asked_on asked level s r (take (i + 1) words)))) (sym w.visitor-is)
+            (kept_same asked level s r words i less (g.V.TableVisitor.Visits visited old c.loop-entry.visitor) passes
             (ap (filter passes) (here ∙ by_nothing asked level c.loop-entry.start r e w.in-Nothing.ensures.value))
             c.loop-entry.invariant.visited)
       ];
@@ -137,7 +164,7 @@ returns g t c =
     ap (λ a. (asking_by a).words c.args.table.now.frame) (sym c.query-query.ensures) ∙ sym c.in-Some.ensures ∙ ap Some (sym c.as_slice-entries.ensures.words) in
     let size : length words ≡ 512 = ap length c.as_slice-entries.ensures.words ∙ c.as_slice-entries.ensures.size in
     let passes = is_mapping_selected g.L.LevelCount.LEVELS c.args.selection.now in
-    subst (λ ms. g.V.Visitor.Visits c.args.visitor.now c.loop-entry.visitor (filter passes ms))
+    subst (λ ms. g.V.TableVisitor.Visits (selected_in g.L.LevelCount.LEVELS c.args.selection.now asked) c.args.visitor.now c.loop-entry.visitor (filter passes ms))
     (ap (asked_on asked c.args.table.now.level c.args.table.now.start r) (take_all c.loop-entry.entry-index words c.loop-entry-test.false)
     ∙ sym (asked_table asked c.args.table.now.level c.args.table.now.start r c.args.table.now.frame words c.requires.low there size))
     c.loop-entry.invariant.visited

@@ -28,25 +28,25 @@ loop-entry-preserved g c =
     let front = filter passes (asked_on asked 1 s r (take i words)) in
     record {
       start = omega (arith, start);
-      visited = elim c.if-has_flag.branch [
+      visited = λ visited. elim c.if-has_flag.branch [
         | then-has_flag+then-takes+in_ok-visit w ↦
             let m = w.of_page-page.result in
             let page = by_page asked 1 c.loop-entry.start r e m (small_page e (sym c.has_flag.ensures ∙ w.if-has_flag.true)) w.of_page-page.ensures aligned in
-            subst (λ v. g.V.Visitor.Visits old v (filter passes (asked_on asked 1 s r (take (i + 1) words)))) (sym w.visitor-is)
-            (kept_more asked 1 s r words i less (g.V.Visitor.Visits old w.visit.new.self) passes (m ∷ [])
+            subst (λ v. g.V.TableVisitor.Visits visited old v (filter passes (asked_on asked 1 s r (take (i + 1) words)))) (sym w.visitor-is)
+            (kept_more asked 1 s r words i less (g.V.TableVisitor.Visits visited old w.visit.new.self) passes (m ∷ [])
             (ap (filter passes) (here ∙ page) ∙ kept_page passes (is_wanted asked.wanted m) m ∙ ap (λ b. cond b (m ∷ []) []) (sym w.takes.ensures ∙ w.if-takes.true))
-            (g.met.V.Visitor.both old c.loop-entry.visitor w.visit.new.self front (m ∷ []) c.loop-entry.invariant.visited w.in_ok-visit.ensures))
+            (g.met.V.TableVisitor.both visited old c.loop-entry.visitor w.visit.new.self front (m ∷ []) (c.loop-entry.invariant.visited visited) (w.in_ok-visit.ensures visited)))
         | then-has_flag+else-takes w ↦
             let m = w.of_page-page.result in
             let page = by_page asked 1 c.loop-entry.start r e m (small_page e (sym c.has_flag.ensures ∙ w.if-has_flag.true)) w.of_page-page.ensures aligned in
-            subst (λ v. g.V.Visitor.Visits old v (filter passes (asked_on asked 1 s r (take (i + 1) words)))) (sym w.visitor-is)
-            (kept_same asked 1 s r words i less (g.V.Visitor.Visits old c.loop-entry.visitor) passes
+            subst (λ v. g.V.TableVisitor.Visits visited old v (filter passes (asked_on asked 1 s r (take (i + 1) words)))) (sym w.visitor-is)
+            (kept_same asked 1 s r words i less (g.V.TableVisitor.Visits visited old c.loop-entry.visitor) passes
             (ap (filter passes) (here ∙ page) ∙ kept_page passes (is_wanted asked.wanted m) m ∙ ap (λ b. cond b (m ∷ []) []) (sym w.takes.ensures ∙ w.if-takes.false))
-            c.loop-entry.invariant.visited)
+            (c.loop-entry.invariant.visited visited))
         | else-has_flag w ↦
-            subst (λ v. g.V.Visitor.Visits old v (filter passes (asked_on asked 1 s r (take (i + 1) words)))) (sym w.visitor-is)
-            (kept_same asked 1 s r words i less (g.V.Visitor.Visits old c.loop-entry.visitor) passes
+            subst (λ v. g.V.TableVisitor.Visits visited old v (filter passes (asked_on asked 1 s r (take (i + 1) words)))) (sym w.visitor-is)
+            (kept_same asked 1 s r words i less (g.V.TableVisitor.Visits visited old c.loop-entry.visitor) passes
             (ap (filter passes) (here ∙ by_nothing asked 1 c.loop-entry.start r e (small_nothing e (sym c.has_flag.ensures ∙ w.if-has_flag.false))))
-            c.loop-entry.invariant.visited)
+            (c.loop-entry.invariant.visited visited))
       ];
     }
