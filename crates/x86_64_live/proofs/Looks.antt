@@ -3,9 +3,10 @@ use Rattle.std.proofs.Common.{◌≡◌, ◌≢◌, ◌<◌, ◌≤◌, ◌+◌,
 use Rattle.std.proofs.lemmas.List.{length-map, length-append, length-take, map-id, drop_all, length-drop, get_or-take}
 use Rattle.std.proofs.Math.Seq.{take-suc, drop-cons}
 use Rattle.std.specs.List.{list_any, AllByRecursion}
+use Rattle.x86_64_mappers.proofs.Translate.WalkedPart.{index_at}
 use Rattle.x86_64_model.specs.Entry.{used, huge, address, names_table}
 use Rattle.x86_64_model.specs.Hierarchy.{Holds, entry_in}
-use Rattle.x86_64_live.specs.Temp.{direct_at}
+use Rattle.x86_64_mappers.specs.Layouts.{direct_at}
 use Rattle.x86_64_live.specs.WouldAnswer.{WouldAnswer}
 use Rattle.x86_64_model.specs.Mapper.{◌laid_in◌, Hierarchy, Valid, paths, path_of, words}
 use Rattle.x86_64_model.specs.MapRule.{AfterMap, map_rule}
@@ -175,12 +176,6 @@ module _ (L : ℕ) (T : Words) (root : ℕ) (M : PathMap) (holds : Holds L T roo
       ∙ ap (λ e. cond (used e) (Refused (PageAlreadyMapped frame)) (Done frame)) (sym is)
 
 -- ---- the path of a page
-
-index_at : (L p k : ℕ) → k < L → get_or (page_path L p) k 0 ≡ index (L - k) p
-unfolding page_path
-index_at zero p k within = absurd (omega arith)
-index_at (suc n) p zero within = ap (λ level. index level p) (let e : suc n ≡ suc n - 0 = omega arith in e)
-index_at (suc n) p (suc k) within = index_at n p k (omega arith) ∙ ap (λ level. index level p) (let e : n - k ≡ suc n - suc k = omega arith in e)
 
 -- the index at position k of a page's path is that of a level
 pub index_on_path : (L level p k : ℕ) → k < L → k + level ≤ L → get_or (path_at L level p) k 0 ≡ index (L - k) p

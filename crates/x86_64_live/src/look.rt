@@ -1,6 +1,6 @@
 //! Looks down the page tables before a map.
 ghost use Rattle.std.specs.Prelude.{◌≡◌, ◌≤◌};
-ghost use Rattle.x86_64_live.specs.Temp.{direct_at};
+ghost use Rattle.x86_64_mappers.specs.Layouts.{direct_at};
 ghost use Rattle.x86_64_live.specs.WouldAnswer.{WouldAnswer};
 ghost use Rattle.x86_64_model.specs.Mapper.{◌laid_in◌, Valid};
 ghost use Rattle.x86_64_model.specs.Memory.{word, words_of};

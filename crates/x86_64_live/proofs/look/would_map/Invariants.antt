@@ -1,5 +1,5 @@
 use Rattle.x86_64_live.proofs.Looks.{LooksAt}
-use Rattle.x86_64_live.specs.Temp.{direct_at}
+use Rattle.x86_64_mappers.specs.Layouts.{direct_at}
 use Rattle.x86_64_model.specs.Mapper.{◌laid_in◌}
 use Rattle.x86_64_live.proofs.look.would_map.Given as goal
 
