@@ -1,10 +1,10 @@
 -- A look down the entries of a page's parents tells what a map of the page answers.
-use Rattle.std.proofs.Common.{◌≡◌, ◌≢◌, ◌<◌, ◌≤◌, ◌+◌, ◌-◌, ℕ, zero, suc, ◌&&◌, ◌||◌, Bool, true, false, not, cond, List, [], ◌∷◌, ◌++◌, length, take, drop, get_or, map, filter, nat_lt, Some, None, bit_or, refl, sym, ap, ap₂, ◌∙◌, subst, subst₂, arith, le-ltb, lt-ltb, zero-le, add-one, append_assoc}
+use Rattle.std.proofs.Common.{◌≡◌, ◌≢◌, ◌<◌, ◌≤◌, ◌+◌, ◌-◌, ℕ, suc, ◌&&◌, ◌||◌, Bool, true, false, not, cond, List, [], ◌∷◌, ◌++◌, length, take, drop, get_or, map, filter, nat_lt, Some, refl, sym, ap, ap₂, ◌∙◌, subst, subst₂, arith, le-ltb, lt-ltb, zero-le, add-one, append_assoc}
 use Rattle.std.proofs.lemmas.List.{length-map, length-append, length-take, map-id, drop_all, length-drop, get_or-take}
 use Rattle.std.proofs.Math.Seq.{take-suc, drop-cons}
 use Rattle.std.specs.List.{list_any, AllByRecursion}
 use Rattle.x86_64_mappers.proofs.Translate.WalkedPart.{index_at}
-use Rattle.x86_64_model.specs.Entry.{used, huge, address, names_table}
+use Rattle.x86_64_model.specs.Entry.{used, huge, address}
 use Rattle.x86_64_model.specs.Hierarchy.{Holds, entry_in}
 use Rattle.x86_64_mappers.specs.Layouts.{direct_at}
 use Rattle.x86_64_live.specs.WouldAnswer.{WouldAnswer}

@@ -37,8 +37,8 @@ pub struct PageMap<S: PageSize, L: LevelCount> {
 /// [`map_to_with_table_flags`] adds the parent flags to used entries, and takes frames for missing tables, before it finds out that it
 /// has to refuse. This looks first, as [`would_map`] does.
 ///
-/// Requires that the hierarchy is valid, that the allocator's frames fit it, and that it has `free_frames` of them. The page may be
-/// mapped with these flags if [`map_allowed`](x86_64_mappers::calls::map_allowed) of a mapper says so.
+/// Requires that the hierarchy is valid, that the allocator's frames fit it and are `free_frames`, and that the page may be mapped with
+/// these flags and parent flags, which [`map_allowed`](x86_64_mappers::calls::map_allowed) tests with a mapper.
 ///
 /// # Errors
 ///

@@ -1,8 +1,8 @@
-use Rattle.std.proofs.Common.{◌≡◌, ◌<◌, ◌≤◌, ◌∙◌, ◌+◌, ◌-◌, ◌%◌, ap, sym, subst, arith, true, false}
+use Rattle.std.proofs.Common.{◌≡◌, ◌<◌, ◌∙◌, ◌+◌, ◌-◌, ◌%◌, ap, sym, subst, arith, true, false}
 use Rattle.x86_64_live.proofs.Looks.{LooksAt, look_starts, look_passes, look_meets_huge, look_lacks_frames, look_has_frames, look_meets_free, look_meets_used}
 use Rattle.x86_64_mappers.specs.Layouts.{direct_at}
 use Rattle.x86_64_model.proofs.Lemmas.Entries.Words.{address_aligned}
-use Rattle.x86_64_model.specs.Entry.{used, huge}
+use Rattle.x86_64_model.specs.Entry.{used}
 use Rattle.x86_64_model.specs.Mapper.{◌laid_in◌, words}
 use Rattle.x86_64_model.specs.Memory.{word}
 use Rattle.x86_64_model.specs.Position.{index}
