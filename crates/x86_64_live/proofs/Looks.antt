@@ -205,9 +205,9 @@ module _ (L level : ℕ) (at_least_four : 3 < L) (low : 1 ≤ level) (high : lev
   look_starts = starts L (words h) root (paths h) valid.valid.holds free frame way
 
   -- at a parent, by its entry
-  module _ (k table : ℕ) (here : LooksAt h level page frame free k table) (within : k < L - level) (e : ℕ) (is : e ≡ word (words h) table (index (L - k) page)) where
+  module _ (k table : ℕ) (here : LooksAt h level page frame free k table) (within : k < L - level) (n : ℕ) (levels : n ≡ L) (e : ℕ) (is : e ≡ word (words h) table (index (n - k) page)) where
     read : e ≡ word (words h) table (get_or way k 0)
-    read = is ∙ ap (word (words h) table) (sym (index_on_path L level page k (omega (arith, within)) (omega (arith, within))))
+    read = is ∙ ap (word (words h) table) (ap (λ n. index (n - k) page) levels ∙ sym (index_on_path L level page k (omega (arith, within)) (omega (arith, within))))
 
     short : length way < suc L
     short = omega (arith, long, low)
@@ -215,8 +215,8 @@ module _ (L level : ℕ) (at_least_four : 3 < L) (low : 1 ≤ level) (high : lev
     more : suc k < length way
     more = omega (arith, long, within)
 
-    pub look_passes : used e ≡ true → huge e ≡ false → LooksAt h level page frame free (k + 1) (address e)
-    look_passes = passes L (words h) root (paths h) valid.valid.holds free frame way short k more table here e read
+    pub look_passes : used e ≡ true → huge e ≡ false → (below : ℕ) → below ≡ address e → LooksAt h level page frame free (k + 1) below
+    look_passes u g below names = subst (LooksAt h level page frame free (k + 1)) (sym names) (passes L (words h) root (paths h) valid.valid.holds free frame way short k more table here e read u g)
 
     pub look_meets_huge : used e ≡ true → huge e ≡ true → WouldAnswer h level page frame free (Refused ParentEntryHugePage)
     look_meets_huge u g = answer_known _ (meets_huge L (words h) root (paths h) valid.valid.holds free frame way short k more table here e read u g)
@@ -232,9 +232,9 @@ module _ (L level : ℕ) (at_least_four : 3 < L) (low : 1 ≤ level) (high : lev
     look_has_frames u enough = answer_known _ (absent_answer u ∙ ap (λ b. cond b (Refused FrameAllocationFailed) (Done frame)) (le-ltb free (L - k - level) enough))
 
   -- at the page's own entry
-  module _ (k table : ℕ) (here : LooksAt h level page frame free k table) (last : k ≡ L - level) (e : ℕ) (is : e ≡ word (words h) table (index level page)) where
-    own_index : index level page ≡ get_or way k 0
-    own_index = ap (λ n. index n page) (let n : level ≡ L - k = omega (arith, last, high, at_least_four) in n)
+  module _ (k table : ℕ) (here : LooksAt h level page frame free k table) (last : k ≡ L - level) (n : ℕ) (own : n ≡ level) (e : ℕ) (is : e ≡ word (words h) table (index n page)) where
+    own_index : index n page ≡ get_or way k 0
+    own_index = ap (λ n. index n page) (let at : n ≡ L - k = omega (arith, own, last, high, at_least_four) in at)
         ∙ sym (index_on_path L level page k (omega (arith, last, low, at_least_four)) (omega (arith, last, high, at_least_four)))
 
     own_answer : answer_by free frame (paths h) (parents way) way ≡ cond (used e) (Refused (PageAlreadyMapped frame)) (Done frame)
