@@ -215,8 +215,8 @@ module _ (L level : ℕ) (at_least_four : 3 < L) (low : 1 ≤ level) (high : lev
     more : suc k < length way
     more = omega (arith, long, within)
 
-    pub look_passes : used e ≡ true → huge e ≡ false → (below : ℕ) → below ≡ address e → LooksAt h level page frame free (k + 1) below
-    look_passes u g below names = subst (LooksAt h level page frame free (k + 1)) (sym names) (passes L (words h) root (paths h) valid.valid.holds free frame way short k more table here e read u g)
+    pub look_passes : used e ≡ true → huge e ≡ false → (f : ℕ) → f ≡ address e → LooksAt h level page frame free (k + 1) f
+    look_passes u g f names = subst (LooksAt h level page frame free (k + 1)) (sym names) (passes L (words h) root (paths h) valid.valid.holds free frame way short k more table here e read u g)
 
     pub look_meets_huge : used e ≡ true → huge e ≡ true → WouldAnswer h level page frame free (Refused ParentEntryHugePage)
     look_meets_huge u g = answer_known _ (meets_huge L (words h) root (paths h) valid.valid.holds free frame way short k more table here e read u g)

@@ -5,4 +5,4 @@ mod look;
 mod map;
 
 pub use look::would_map;
-pub use map::{PageMap, map_or_nothing};
+pub use map::{PageMap, map_or_nothing, may_map};

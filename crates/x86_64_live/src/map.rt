@@ -2,14 +2,15 @@
 ghost use Rattle.std.specs.Prelude.{◌≡◌, length, IfOk, OnErr};
 ghost use Rattle.x86_64_live.specs.MapsOrNothing.{MapsOrNothing, call_of};
 ghost use Rattle.x86_64_mappers.specs.Layouts.{direct_at};
+ghost use Rattle.x86_64_mappers.specs.PageAnswers.{allows_call};
 ghost use Rattle.x86_64_mappers.specs.Supplies.{supply_of};
-ghost use Rattle.x86_64_model.specs.Mapper.{◌laid_in◌};
+ghost use Rattle.x86_64_model.specs.Mapper.{◌laid_in◌, Valid};
 ghost use Rattle.x86_64_model.specs.PageCalls.{MayAskMap};
 ghost use Rattle.x86_64_tables.specs.MapperAnswers.{map_answer};
 
 use crate::look::would_map;
 use x86_64_addr::level_count::LevelCount;
-use x86_64_mappers::calls::map_to_with_table_flags;
+use x86_64_mappers::calls::{map_allowed, map_to_with_table_flags};
 use x86_64_mappers::mapped_page_table::MappedPageTableIn;
 use x86_64_page::frame::PhysFrame;
 use x86_64_page::page::{PageIn, PageSize, Size4KiB};
@@ -31,14 +32,33 @@ pub struct PageMap<S: PageSize, L: LevelCount> {
     pub parent_flags: PageTableFlags,
 }
 
+/// Returns true if a page may be mapped with the flags and parent flags of a map, and changes nothing.
+///
+/// Requires that the hierarchy is valid. It borrows the memory as a mapper does, whose
+/// [`map_allowed`](x86_64_mappers::calls::map_allowed) answers.
+pub fn may_map<S: PageSize, L: LevelCount, T: TableMemory, P: PageTableFrameMapping + Drop>(
+    memory: &mut T,
+    mapping: P,
+    root: PhysFrame<Size4KiB>,
+    map: PageMap<S, L>,
+) -> bool
+    requires { Valid (direct_at L.LEVELS (P.places mapping) root laid_in T.tables memory.old) }
+    ensures answer { result
+        ≡ allows_call (direct_at L.LEVELS (P.places mapping) root laid_in T.tables memory.old) S.LEVEL (call_of map) }
+    ensures kept { T.tables memory.new ≡ T.tables memory.old }
+    ensures lent { T.lent memory.new ≡ T.lent memory.old }
+{
+    let mapper = MappedPageTableIn::<_, L, T>::new(memory, root, mapping);
+    map_allowed(&mapper, map.page, map.flags, map.parent_flags)
+}
+
 /// Maps a page to a frame as [`map_to_with_table_flags`] does, or changes nothing if the map is refused: no word of the memory and no
 /// frame of the allocator.
 ///
 /// [`map_to_with_table_flags`] adds the parent flags to used entries, and takes frames for missing tables, before it finds out that it
 /// has to refuse. This looks first, as [`would_map`] does.
 ///
-/// Requires that the hierarchy is valid, that the allocator's frames fit it and are `free_frames`, and that the page may be mapped with
-/// these flags and parent flags, which [`map_allowed`](x86_64_mappers::calls::map_allowed) tests with a mapper.
+/// Requires that the hierarchy is valid, that the allocator's frames fit it and are `free_frames`, and that [`may_map`] returns true.
 ///
 /// # Errors
 ///
