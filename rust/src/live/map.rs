@@ -2,7 +2,7 @@
 
 use crate::addresses::level_count::LevelCount;
 use crate::live::look::would_map;
-use crate::mappers::calls::map_to_with_table_flags;
+use crate::mappers::calls::{map_allowed, map_to_with_table_flags};
 use crate::mappers::mapped_page_table::MappedPageTableIn;
 use crate::pages::frame::PhysFrame;
 use crate::pages::page::{PageIn, PageSize, Size4KiB};
@@ -24,14 +24,37 @@ pub struct PageMap<S: PageSize, L: LevelCount> {
     pub parent_flags: PageTableFlags,
 }
 
+/// Returns true if a page may be mapped with the flags and parent flags of a map, and changes nothing.
+///
+/// Requires that the hierarchy is valid. It borrows the memory as a mapper does, whose
+/// [`map_allowed`](crate::mappers::calls::map_allowed) answers.
+///
+/// # Proved
+///
+/// ```text
+/// requires { Valid (direct_at L.LEVELS (P.places mapping) root laid_in T.tables memory.old) }
+/// ensures answer { result ≡ allows_call (direct_at L.LEVELS (P.places mapping) root laid_in T.tables memory.old) S.LEVEL (call_of map) }
+/// ensures kept { T.tables memory.new ≡ T.tables memory.old }
+/// ensures lent { T.lent memory.new ≡ T.lent memory.old }
+/// ```
+#[inline]
+pub fn may_map<S: PageSize, L: LevelCount, T: TableMemory, P: PageTableFrameMapping>(
+    memory: &mut T,
+    mapping: P,
+    root: PhysFrame<Size4KiB>,
+    map: PageMap<S, L>,
+) -> bool {
+    let mapper = MappedPageTableIn::<_, L, T>::new(memory, root, mapping);
+    map_allowed(&mapper, map.page, map.flags, map.parent_flags)
+}
+
 /// Maps a page to a frame as [`map_to_with_table_flags`] does, or changes nothing if the map is refused: no word of the memory and no
 /// frame of the allocator.
 ///
 /// [`map_to_with_table_flags`] adds the parent flags to used entries, and takes frames for missing tables, before it finds out that it
 /// has to refuse. This looks first, as [`would_map`] does.
 ///
-/// Requires that the hierarchy is valid, that the allocator's frames fit it and are `free_frames`, and that the page may be mapped with
-/// these flags and parent flags, which [`map_allowed`](crate::mappers::calls::map_allowed) tests with a mapper.
+/// Requires that the hierarchy is valid, that the allocator's frames fit it and are `free_frames`, and that [`may_map`] returns true.
 ///
 /// # Errors
 ///

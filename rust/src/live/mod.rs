@@ -4,4 +4,4 @@ mod look;
 mod map;
 
 pub use look::would_map;
-pub use map::{map_or_nothing, PageMap};
+pub use map::{map_or_nothing, may_map, PageMap};
