@@ -12,8 +12,8 @@ use x86_64::structures::paging::{Page, PageTableFlags, PhysFrame, Size4KiB};
 use x86_64::{FramePool, IdentityMapping, TableMemory, parent_flags};
 use x86_64_live::{PageMap, map_or_nothing, may_map};
 
-/// Maps a page in any memory. Returns false if it may not be mapped with these flags. Unless it is mapped, the tables and the pool stay
-/// as they are.
+/// Maps a page in any memory. Returns false if it may not be mapped with these flags. Unless it is mapped, the tables and the
+/// pool stay as they are.
 pub fn map_in_use<T: TableMemory>(
     memory: &mut T,
     root: PhysFrame<Size4KiB>,

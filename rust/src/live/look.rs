@@ -9,13 +9,13 @@ use crate::tables::phys_memory::{table_in, PageTableFrameMapping, TableMemory};
 
 /// Returns what a map of a page to a frame would return, with this many free frames for new tables, and changes nothing.
 ///
-/// Reads one entry of each level, from the root's down to the page's own, to an unused one, or to one with `HUGE_PAGE`. The answer
-/// is the same for all flags and parent flags. Requires that the hierarchy is valid.
+/// Reads one entry of each level, from the root's down to the page's own, to an unused one, or to one with `HUGE_PAGE`. The
+/// answer is the same for all flags and parent flags. Requires that the hierarchy is valid.
 ///
 /// # Errors
 ///
-/// `ParentEntryHugePage` if a used entry above the page's own has `HUGE_PAGE`, else `FrameAllocationFailed` if more tables are missing
-/// than frames are free, else `PageAlreadyMapped` with the frame if the page's own entry is used.
+/// `ParentEntryHugePage` if a used entry above the page's own has `HUGE_PAGE`, else `FrameAllocationFailed` if more tables are
+/// missing than frames are free, else `PageAlreadyMapped` with the frame if the page's own entry is used.
 ///
 /// # Proved
 ///

@@ -48,13 +48,14 @@ pub fn may_map<S: PageSize, L: LevelCount, T: TableMemory, P: PageTableFrameMapp
     map_allowed(&mapper, map.page, map.flags, map.parent_flags)
 }
 
-/// Maps a page to a frame as [`map_to_with_table_flags`] does, or changes nothing if the map is refused: no word of the memory and no
-/// frame of the allocator.
+/// Maps a page to a frame as [`map_to_with_table_flags`] does, or changes nothing if the map is refused: no word of the memory,
+/// and no frame of the allocator.
 ///
-/// [`map_to_with_table_flags`] adds the parent flags to used entries, and takes frames for missing tables, before it finds out that it
-/// has to refuse. This looks first, as [`would_map`] does.
+/// [`map_to_with_table_flags`] adds the parent flags to used entries, and takes frames for missing tables, before it finds out
+/// that it has to refuse. This looks first, as [`would_map`] does.
 ///
-/// Requires that the hierarchy is valid, that the allocator's frames fit it and are `free_frames`, and that [`may_map`] returns true.
+/// Requires that the hierarchy is valid, that the allocator's frames fit it and are `free_frames` in number, and that [`may_map`]
+/// returns true.
 ///
 /// # Errors
 ///
