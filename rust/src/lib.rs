@@ -163,6 +163,7 @@ pub mod instructions;
 #[allow(unsafe_code)]
 pub mod kernel;
 pub mod listing;
+pub mod live;
 pub mod loader;
 #[cfg(all(feature = "instructions", target_arch = "x86_64"))]
 #[allow(unsafe_code)]

@@ -14,6 +14,7 @@ CRATES = {
     "x86_64_spaces": "spaces",
     "x86_64_access": "access",
     "x86_64_mappings": "listing",
+    "x86_64_live": "live",
     "x86_64_loader": "loader",
     "x86_64": "",
 }
@@ -158,6 +159,7 @@ pub mod instructions;
 #[allow(unsafe_code)]
 pub mod kernel;
 pub mod listing;
+pub mod live;
 pub mod loader;
 #[cfg(all(feature = "instructions", target_arch = "x86_64"))]
 #[allow(unsafe_code)]

@@ -5,8 +5,8 @@ use Rattle.x86_64_mappers.specs.Ranges.{MapRange, MayMapRange, range_of}
 use Rattle.x86_64_model.specs.Entry.{present}
 use Rattle.x86_64_model.specs.Mapper.{Hierarchy, ArrivesIn, Steps}
 use Rattle.x86_64_model.specs.MapRule.{parent_part}
-use Rattle.x86_64_model.specs.PageCalls.{PageCall, MapTo, Unmap, AnswersMap, asked}
-use Rattle.x86_64_model.specs.Refusal.{Answer}
+use Rattle.x86_64_model.specs.PageCalls.{PageCall, MapTo, MapToWithTableFlags, Unmap, AnswersMap, asked}
+use Rattle.x86_64_model.specs.Refusal.{Answer, Done}
 use Rattle.x86_64.specs.Asked as list
 use Rattle.x86_64.specs.Asked.{MapperCall}
 
@@ -24,6 +24,11 @@ StepsIfAllowed h supply call answer after rest = allows_call h 1 call ≡ true �
 -- exactly the rights of the flags.
 abbrev pub MappedArrives : {Lent E : Type 0} → (result : Result Bool E) → Hierarchy Lent → (page frame flags : ℕ) → Type 0
 MappedArrives result h page frame given = IfOk result (λ mapped. IsTrue mapped → present given ≡ true → ArrivesIn h 4096 page frame given)
+
+-- The page was mapped to the frame, and the entries above it got PRESENT, WRITABLE and USER_ACCESSIBLE as far as the flags have
+-- them.
+abbrev pub MapsByFlags : {Lent : Type 0} → (h : Hierarchy Lent) → (supply : List ℕ) → (page frame flags : ℕ) → (after : Hierarchy Lent) → (rest : List ℕ) → Type 0
+MapsByFlags h supply page frame given after rest = AnswersMap h supply 1 (MapToWithTableFlags page frame given (parent_part given)) (Done frame) after rest
 
 -- ---- a buffer
 

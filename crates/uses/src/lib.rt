@@ -8,6 +8,7 @@ pub mod guest_store;
 pub mod list_mappings;
 pub mod load_segments;
 pub mod map_buffer;
+pub mod map_in_use;
 pub mod own_allocator;
 pub mod own_memory;
 pub mod porting;

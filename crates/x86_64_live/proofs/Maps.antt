@@ -1,0 +1,95 @@
+-- A map that follows a look: it is refused as the look says, or done.
+use Rattle.std.proofs.Common.{◌≡◌, ℕ, true, false, cond, length, Result, Ok, Err, OnErr, refl, sym, ap, ◌∙◌, subst}
+use Rattle.x86_64_live.specs.MapsOrNothing.{MapsOrNothing, by_rule, call_of}
+use Rattle.x86_64_live.specs.WouldAnswer.{WouldAnswer}
+use Rattle.x86_64_live.specs.declared.map.PageMap.{PageMap}
+use Rattle.x86_64_mappers.specs.Supplies.{MapsFrom, Supply}
+use Rattle.x86_64_model.specs.Allowed.{refuses}
+use Rattle.x86_64_model.specs.Call.{Reply, Answered, NotAllowed, Position, Address, Cleaned}
+use Rattle.x86_64_model.specs.Layout.{Layout}
+use Rattle.x86_64_model.specs.Machine.{AfterCall, do_call}
+use Rattle.x86_64_model.specs.MapRule.{AfterMap}
+use Rattle.x86_64_model.specs.Mapper.{◌laid_in◌, Hierarchy, paths}
+use Rattle.x86_64_model.specs.Memory.{Memory}
+use Rattle.x86_64_model.specs.PageCalls.{PageCall}
+use Rattle.x86_64_model.specs.Refusal.{Answer, Done}
+use Rattle.x86_64_tables.specs.MapperAnswers.{map_answer}
+use Rattle.x86_64_tables.specs.declared.mapper.MapToError.{MapToError}
+
+-- ---- the rule's outcome in the machine's
+
+abbrev answer_in : Reply → Answer
+answer_in (Answered answer) = answer
+answer_in NotAllowed = Done 0
+answer_in (Position p) = Done 0
+answer_in (Address a) = Done 0
+answer_in Cleaned = Done 0
+
+abbrev map_in : AfterCall → AfterMap
+map_in a = record { paths = a.state.paths; supply = a.state.pool; answer = answer_in a.reply }
+
+module _ {Lent S L : Type 0} (h : Hierarchy Lent) (supply : Supply) (level : ℕ) (map : PageMap S L) where
+  abbrev rule : AfterMap
+  rule = by_rule h supply.frames level map
+
+  abbrev Foretold : Answer → Type 0
+  Foretold answer = WouldAnswer h level map.page map.frame (length supply.frames) answer
+
+  told : (answer : Answer) → Foretold answer → rule.answer ≡ answer
+  told answer foretold = foretold supply.frames _ _ refl
+
+  module _ (answer : Answer) (after : Hierarchy Lent) (rest : Supply) (maps : MapsFrom h supply level (call_of map) answer after rest) where
+    by_machine : rule ≡ record { paths = paths after; supply = rest.frames; answer = answer }
+    unfolding do_call
+    by_machine = ap map_in (maps.map.outcome (λ held frame. held))
+
+    is_done : Foretold (Done map.frame) → answer ≡ Done map.frame
+    is_done foretold = sym (ap (λ (a : AfterMap). a.answer) by_machine) ∙ told (Done map.frame) foretold
+
+    done_map : Foretold (Done map.frame) → MapsOrNothing h supply level map answer after rest
+    done_map foretold = record {
+      outcome = sym by_machine ∙ ap (λ a. cond (refuses a) (record { paths = paths h; supply = supply.frames; answer = rule.answer }) rule) (sym (told (Done map.frame) foretold));
+      done = λ _. maps;
+      refused = λ yes. absurd (let t : false ≡ true = sym (ap refuses (is_done foretold)) ∙ yes in cc);
+    }
+
+-- a map that is done has no error
+no_error : {S X : Type 0} (frame : ℕ) (result : Result X (MapToError S)) (P : Type 0) → map_answer frame result ≡ Done frame → OnErr result P
+no_error frame (Ok flush) P is = tt
+no_error frame (Err why) P is = let t = is in cc
+
+-- ---- the mapper's hierarchy and the words alone
+
+module _ {Lent : Type 0} (h : Hierarchy Lent) (l : Layout) (m : Memory) (layout : h.layout ≡ l) (memory : h.memory ≡ m) where
+  -- what the mapper did, of the words alone
+  in_words : (after : Hierarchy Lent) (n : Memory) → after.memory ≡ n → (supply rest : Supply) (level : ℕ) (call : PageCall) (answer : Answer)
+      → MapsFrom h supply level call answer after rest → MapsFrom (l laid_in m) supply level call answer (l laid_in n) rest
+  in_words after n left supply rest level call answer maps =
+      subst (λ l. MapsFrom (l laid_in m) supply level call answer (l laid_in n) rest) layout
+      (subst (λ m. MapsFrom (h.layout laid_in m) supply level call answer (h.layout laid_in n) rest) memory
+      (subst (λ n. MapsFrom (h.layout laid_in h.memory) supply level call answer (h.layout laid_in n) rest) left
+      (subst (λ k. MapsFrom (h.layout laid_in h.memory) supply level call answer (k laid_in after.memory) rest) maps.map.layout seen)))
+    where
+      seen : MapsFrom (h.layout laid_in h.memory) supply level call answer (after.layout laid_in after.memory) rest
+      seen = record {
+        map = record {
+          outcome = maps.map.outcome;
+          fits = maps.map.fits;
+          others = maps.map.others;
+          walks = maps.map.walks;
+          layout = maps.map.layout;
+          lent = refl;
+        };
+        serves = maps.serves;
+      }
+
+  -- a map is done if the look found no reason against it
+  pub done_after_look : {S L E X : Type 0} (after : Hierarchy Lent) (n : Memory) → after.memory ≡ n → (supply rest : Supply) (free : ℕ) → length supply.frames ≡ free → (level : ℕ) (map : PageMap S L) (result : Result X (MapToError E))
+      → WouldAnswer (l laid_in m) level map.page map.frame free (Done map.frame) → MapsFrom h supply level (call_of map) (map_answer map.frame result) after rest
+      → MapsOrNothing (l laid_in m) supply level map (map_answer map.frame result) (l laid_in n) rest × ((P : Type 0) → OnErr result P)
+  done_after_look after n left supply rest free count level map result foretold maps =
+      let here = in_words after n left supply rest level (call_of map) (map_answer map.frame result) maps in
+      let known = subst (λ n. WouldAnswer (l laid_in m) level map.page map.frame n (Done map.frame)) (sym count) foretold in (
+        done_map (l laid_in m) supply level map (map_answer map.frame result) (l laid_in n) rest here known,
+        λ P. no_error map.frame result P (is_done (l laid_in m) supply level map (map_answer map.frame result) (l laid_in n) rest here known),
+      )

@@ -1,0 +1,33 @@
+-- Maps that change nothing if they are refused.
+use Rattle.std.specs.Prelude.{◌≡◌, ℕ, true, false, cond, List}
+use Rattle.x86_64_live.specs.declared.map.PageMap.{PageMap}
+use Rattle.x86_64_mappers.specs.Supplies.{MapsFrom, Supply}
+use Rattle.x86_64_model.specs.Allowed.{refuses}
+use Rattle.x86_64_model.specs.MapRule.{AfterMap, map_call}
+use Rattle.x86_64_model.specs.Mapper.{Hierarchy, paths, path_of}
+use Rattle.x86_64_model.specs.PageCalls.{PageCall, MapToWithTableFlags}
+use Rattle.x86_64_model.specs.PathMap.{PathMap}
+use Rattle.x86_64_model.specs.Refusal.{Answer}
+use Rattle.x86_64_tables.specs.PageTableFlags.{bits_of}
+
+-- The call that a map is.
+abbrev pub call_of : {S L : Type 0} → PageMap S L → PageCall
+call_of map = MapToWithTableFlags map.page map.frame (bits_of map.flags) (bits_of map.parent_flags)
+
+-- What the rule of a map call says of a map of a page of a level.
+abbrev pub by_rule : {Lent S L : Type 0} → Hierarchy Lent → (supply : List ℕ) → (level : ℕ) → PageMap S L → AfterMap
+by_rule h supply level map =
+    map_call h.layout.levels (paths h) supply (bits_of map.parent_flags) h.layout.added_flags (path_of h level map.page) map.frame (bits_of map.flags)
+
+-- What a rule says, except that these paths and this supply stay if it refuses.
+abbrev pub or_nothing : PathMap → (supply : List ℕ) → AfterMap → AfterMap
+or_nothing paths supply after = cond (refuses after.answer) (record { paths = paths; supply = supply; answer = after.answer }) after
+
+-- The effect of a map of a page of a level that is done as a whole or changes nothing, with its answer.
+pub record MapsOrNothing {Lent S L : Type 0} (h : Hierarchy Lent) (supply : Supply) (level : ℕ) (map : PageMap S L) (answer : Answer) (after : Hierarchy Lent) (rest : Supply) : Type 0 where
+  -- Answer, paths and supply are the rule's, except that nothing changes if it refuses.
+  pub outcome : record { paths = paths after; supply = rest.frames; answer = answer } ≡ or_nothing (paths h) supply.frames (by_rule h supply.frames level map)
+  -- A map that is done has the whole effect of `map_to_with_table_flags`.
+  pub done : refuses answer ≡ false → MapsFrom h supply level (call_of map) answer after rest
+  -- A refused one leaves each word, and all frames of the supply in order.
+  pub refused : refuses answer ≡ true → (after ≡ h) × (rest ≡ supply)
