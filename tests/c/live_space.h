@@ -33,6 +33,7 @@ static void check(bool is_good, int line, const char *what) {
         return;
     if (++failed < 20)
         printf("line %d: %s\n", line, what);
+    fflush(stdout); /* a test that goes on may crash */
 }
 #define CHECK(condition) check(condition, __LINE__, #condition)
 
@@ -75,6 +76,9 @@ static bool fits(void) {
 
 /* Clears the frame of a table that was joined away, and gives it back to the pool. */
 static void give_back(uint64_t frame) {
+    CHECK(frame / 4096 - FIRST < TABLES);
+    if (frame / 4096 - FIRST >= TABLES)
+        return;
     memset(&tables[frame / 4096 - FIRST], 0, sizeof tables[0]);
     space.pool[space.free_count++] = frame;
 }
