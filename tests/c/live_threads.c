@@ -10,7 +10,7 @@
 
 #include "live_space.h"
 
-enum { TURNS = 100, MEETINGS = 500, OTHER_PAGES = 1000 };
+enum { TURNS = 100, MEETINGS = 500, ROUNDS = 10, OTHER_PAGES = 1000 };
 
 #define OTHER_FRAMES UINT64_C(0x9000000)
 
@@ -377,12 +377,12 @@ int main(int argc, char **argv) {
     operations = argc > 1 ? strtoull(argv[1], NULL, 0) : 1000000;
     CHECK(race("exchanges", change_live, false) == 0);
     CHECK(race("exchanges beside maps", change_live, true) == 0);
-    CHECK(put_back("x64_access_live", false, 50) == 0);
+    CHECK(put_back("x64_access_live", false, ROUNDS) == 0);
     CHECK(split_beside_writes(operations / 500) == 0);
     read_beside_exchanges(HEAP, X64_SIZE_4KIB);
     read_beside_exchanges(LARGE, X64_SIZE_2MIB);
     printf("%zu checks, %zu faults. And by calls that read and then write:\n", checked, failed);
     race("x64_update_flags", change_plain, false);
-    put_back("x64_access with mark", true, 50);
+    put_back("x64_access with mark", true, ROUNDS);
     return failed == 0 ? EXIT_SUCCESS : EXIT_FAILURE;
 }
