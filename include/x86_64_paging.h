@@ -204,8 +204,8 @@
  * 1. Calls that change one hierarchy run one at a time, and so do calls with one pool.
  * 2. Calls on hierarchies that own no frame in common may run at the same time, each with a pool of
  *    its own. So may calls on address spaces, as long as their pages and ranges lie below entries
- *    that aren't shared: then no frame is in two pools, and x64_spaces_fit holds of all roots with
- *    each pool. So one lock for each space is enough, and a pool for each processor.
+ *    that aren't shared, no frame is in two pools, and all roots fit together with each pool
+ *    (x64_spaces_fit). So a lock for each space is enough, and a pool for each processor.
  * 3. Calls below shared entries, of any address spaces, run one at a time. They may run beside
  *    those of 2 on other address spaces: these read and write none of the same words.
  * 4. Words of entries that name no table may be exchanged beside all of these calls, and beside
@@ -225,12 +225,12 @@
  *    nobody changes.
  *
  * Proved are laws of the model. It is as if such calls were made one after another, in any order
- * (turns_are_as_if_alone, calls_commute, pools_stay_apart: 1 and 2). A word that a caller exchanges
- * keeps the hierarchy valid and the pool fitting (entries_may_change), also during calls that don't
- * touch it (live_tables_fit: 4, of one such entry). No mark is lost by exchanges
- * (marks_are_never_lost), and reading and then writing loses some
- * (reading_and_writing_loses_marks: 5). That the functions write no words of others is proved. That
- * they read none is read in their source, and so is 3.
+ * (turns_are_as_if_alone, calls_commute, spaces_stay_apart, pools_stay_apart: this is 2). A word
+ * that a caller exchanges keeps the hierarchy valid and the pool fitting (entries_may_change), also
+ * during calls that don't touch it (live_tables_fit, of one such entry: this is 4). No mark is lost
+ * by exchanges (marks_are_never_lost), and reading and then writing loses some
+ * (reading_and_writing_loses_marks: this is 5). That the functions write no words of others is
+ * proved. That they read none is read in their source, and so is 3.
  *
  * WHAT IS NOT PROVED
  *

@@ -3,9 +3,9 @@
  * over those of x86_64_paging.h. They need a compiler that has gcc's __atomic functions, as gcc and
  * clang do.
  *
- * A processor sets X64_ACCESSED and X64_DIRTY in an entry at any moment. Whoever reads a word,
- * thinks, and writes another one loses what was set in between: x64_unmap and x64_update_flags do,
- * and x64_access with mark does it to a guest. The functions here put a word in the place of
+ * A processor sets X64_ACCESSED and X64_DIRTY in a present entry at any moment. Whoever reads a
+ * word, and then writes another one, loses what was set in between: x64_unmap and x64_update_flags
+ * do, and x64_access with mark does it to a guest. The functions here put a word in the place of
  * another one by a single locked instruction, and return the one that was there. So no mark is
  * lost: it is in the entry now, or in a word that one of these functions returned since.
  *
@@ -21,15 +21,15 @@
  *
  * WHEN
  *
- * What finds and changes entries, pages and ranges here (x64_entries_live to x64_take_range) needs
- * no lock against processors, nor against each other. The tables that a find went through must
- * still be there at the change: so no x64_clean_up, no x64_give_up_space and no x64_join_page of
- * this space may run at the same time, or between the two. Other calls on this space may run
- * meanwhile if they touch other entries: x64_map, x64_unmap and x64_update_flags touch the entry of
- * their page and those above it, ranges touch those of all their pages. x64_map_whole,
- * x64_split_page and x64_join_page are calls themselves: they run one at a time with other calls on
- * this space and with its pool, as x64_map does. See WHAT MAY RUN AT THE SAME TIME in
- * x86_64_paging.h.
+ * What finds and changes entries, pages and ranges here (x64_entries_live to x64_take_range, and
+ * x64_access_live) needs no lock against processors, nor against each other. The tables that a find
+ * went through must still be there at the change: so no x64_clean_up, no x64_give_up_space and no
+ * x64_join_page may free a table of this space, or below an entry that it shares, at the same time
+ * or between the two. Other calls on this space may run meanwhile if they touch other entries:
+ * x64_map, x64_unmap and x64_update_flags touch the entry of their page and those above it, ranges
+ * touch those of all their pages. x64_map_whole, x64_split_page and x64_join_page are calls
+ * themselves: they run one at a time with other calls on this space and with its pool, as x64_map
+ * does. See WHAT MAY RUN AT THE SAME TIME in x86_64_paging.h.
  *
  * WHAT TO FLUSH
  *
@@ -45,12 +45,12 @@
  *
  * Laws of the model (crates/x86_64_model), which say what is in memory:
  *
- *   entries_may_change   between calls a word that may be replaced (MayReplace) is replaced: one
- *                        entry changes, no table does, the hierarchy stays valid, the pool fits
- *                        again, and walks elsewhere stay
+ *   entries_may_change   if a word takes the place of another one between calls, and may do so
+ *                        (MayReplace), then this entry changes and no other one, and no table. The
+ *                        hierarchy stays valid, the pool fits again, and walks elsewhere stay
  *   live_tables_fit      so it is after any marks and exchanges, in any order. An entry may be
- *                        exchanged, too, during calls that don't touch its word: it is as if it
- *                        were changed after them. The law says this of one entry
+ *                        exchanged during calls, too, if these don't touch its word: it is as if
+ *                        it were changed after them. The law says this of one entry
  *   marks_are_never_lost a mark is in the entry, or in a word that an exchange has returned since,
  *                        if nothing else changes the word
  *   pages_may_be_split, pages_have_parts, pages_may_be_joined
@@ -70,7 +70,7 @@
 extern "C" {
 #endif
 
-/* Two statuses more. */
+/* Two more statuses. */
 enum {
     X64_HAS_TABLE = 13, /* the entry names a table: there are smaller pages, or room for them */
     X64_CHANGED = 14    /* the word isn't the one that was expected: it was changed meanwhile */
