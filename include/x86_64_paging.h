@@ -90,9 +90,11 @@
  *
  * TABLES THAT A PROCESSOR USES
  *
- * A processor caches what its page walks find: pages in the TLB, and tables on the way to them. The
- * library executes no privileged instruction, so the caller flushes. What a call makes due depends
- * on its status, and x64_flush_after returns it:
+ * A processor caches what its page walks find: pages in the TLB, and tables on the way to them. It
+ * reads ahead whatever it can reach, at any moment, and forgets when it likes. The library executes
+ * no privileged instruction, so the caller flushes. What a call makes due depends on its status,
+ * and x64_flush_after returns it. After an exchange of a word x64_flush_between does
+ * (x86_64_paging_live.h).
  *
  *   call                      status            due
  *   x64_unmap                 X64_OK            the page: INVLPG of an address in it
@@ -113,7 +115,10 @@
  *                                               root, and no PCID holds it (see below)
  *
  * After any other status nothing is due. A flush of everything settles all that is due. An INVLPG
- * settles tables and its own page, and no other page.
+ * settles tables and its own page, and no other page: two pages want two, and if there are many,
+ * flush everything. If everything is due for pages below entries that aren't shared, no global page
+ * is among them (see X64_GLOBAL): then a load of CR3 with bit 63 clear flushes enough for the PCID
+ * that it loads. This is by the manuals; the laws below don't count on it.
  *
  * Who flushes: each processor that uses the root. If the page of the call, or a part of its range,
  * lies below entries that roots share, each processor that uses one of these roots.
@@ -121,12 +126,19 @@
  * When: several calls may be made before their flushes. A flush waits no longer than this:
  *
  *   any flush   until a frame that a call let go, a page's or a table's, is used for something
- *               else. Before the flush an access may still reach the frame that the page had when
- *               the call was made. Afterwards none does.
- *   a page      until a smaller page is mapped there.
+ *               else, or is copied. Before the flush an access may still reach the frame that the
+ *               page had when the call was made, with the rights that it had. Afterwards none does.
+ *               Nor is a right gone before the flush.
+ *   a page      until a smaller page is mapped there: one INVLPG drops all of a large page only as
+ *               long as no smaller one is there.
  *   tables      until the next x64_map, x64_map_range or x64_new_space with this pool, on whatever
  *               root, and until the caller takes a free frame. A freed table may become another
  *               table or a root, which the processor would walk as the old one.
+ *
+ * x64_clean_up may put the frames of tables into an array of its own, which is passed as its pool
+ * and has room for all tables below the root (x64_pool_fits). Then maps with another pool take none
+ * of them meanwhile. After the flush the caller adds them to the pool, with their zeros. The laws
+ * below know one pool, after whose clean ups all maps wait.
  *
  * PCIDs (CR4.PCIDE): a PCID holds the root with which CR3 was last loaded under it. INVLPG flushes
  * for the PCID that is current, and global pages. A load of CR3 flushes for the PCID that it loads,
@@ -144,6 +156,10 @@
  * may then fault once, though the tables allow it (x64_access tells). The handler returns, since a
  * fault drops what is cached there (Intel SDM vol. 3A, "Operations that Invalidate TLBs and
  * Paging-Structure Caches"), or it flushes the page first.
+ *
+ * Marks: a processor that has cached a page with X64_ACCESSED or X64_DIRTY doesn't set these again.
+ * So who clears X64_DIRTY flushes the page before counting on it. Who clears X64_ACCESSED only to
+ * learn what is in use may leave that flush out.
  *
  * SMEP and SMAP: with these, X64_USER_ACCESSIBLE takes rights from a supervisor, which the model
  * doesn't count. Pages whose own entries have it may get it by a map that adds it to the entries
@@ -183,33 +199,46 @@
  * leaves out memory types, protection keys, nested paging, ASIDs and INVLPGB, and that a large page
  * may be cached in parts.
  *
- * WHAT ELSE READS AND WRITES TABLES
+ * WHAT MAY RUN AT THE SAME TIME
  *
- * Calls on one hierarchy must not run at the same time, nor calls with one pool, unless all of them
- * only read tables: these write nothing but their out parameters and marks. Calls on hierarchies
- * that own no frame in common may, if each has a pool of its own. So may calls on address spaces
- * with pools of their own, as long as their pages and ranges lie below entries that aren't shared.
- * Proved are laws of the model: it is as if such calls were made one after another, in any order
- * (turns_are_as_if_alone, calls_commute). That the functions read no words of others is read in
- * their source. That they write none is proved.
+ * 1. Calls that change one hierarchy run one at a time, and so do calls with one pool.
+ * 2. Calls on hierarchies that own no frame in common may run at the same time, each with a pool of
+ *    its own. So may calls on address spaces, as long as their pages and ranges lie below entries
+ *    that aren't shared, no frame is in two pools, and all roots fit together with each pool
+ *    (x64_spaces_fit). So a lock for each space is enough, and a pool for each processor.
+ * 3. Calls below shared entries, of any address spaces, run one at a time. They may run beside
+ *    those of 2 on other address spaces: these read and write none of the same words.
+ * 4. Words of entries that name no table may be exchanged beside all of these calls, and beside
+ *    each other, as long as no call touches the same word and no table on the way is freed between
+ *    finding a word and exchanging it. x86_64_paging_live.h has the functions, and says more.
+ *    x64_map, x64_unmap and x64_update_flags touch the entry of their page and those above it;
+ *    ranges touch those of all their pages; x64_clean_up touches all entries in its range, and
+ *    x64_give_up_space those of the root, and both free tables.
+ * 5. Processors mark entries at any moment. What they set is lost only by calls that read an entry
+ *    and then write it: x64_unmap, x64_update_flags, their ranges, x64_set_table_flags, maps that
+ *    add parent flags, and x64_access with mark. The last one may also put back an entry that a
+ *    guest took away in between. Exchanges lose nothing: a mark is in the entry, or an exchange
+ *    returned it.
+ * 6. Calls that only read tables may run at the same time: they write nothing but their out
+ *    parameters and marks. Beside exchanges of words they may load a word twice, and meet two:
+ *    x64_entries_live and x64_access_live load each word once. Tests of validity want tables that
+ *    nobody changes.
  *
- * Between calls the caller may exchange the word of an entry that names no table for another such
- * word: at level 1 any for any; at levels 2 and 3 words with X64_HUGE_PAGE, and 0. x64_entries
- * finds the word. Then the hierarchy is valid and the pool fits as before (entries_may_change, a
- * law). By the manuals its page is due then, if the old word has X64_PRESENT; no law says so.
- *
- * Calls that change an entry, such as x64_update_flags, x64_unmap and x64_access with mark, read it
- * and then write it. A bit that a processor or a guest sets in between is lost, and an entry that a
- * guest takes away in between comes back (reading_and_writing_loses_marks). If a word is changed
- * only by exchanges, each in one locked step, no bit is lost: it is in the entry, or an exchange
- * returned it (marks_are_never_lost).
+ * Proved are laws of the model. It is as if such calls were made one after another, in any order
+ * (turns_are_as_if_alone, calls_commute, spaces_stay_apart, pools_stay_apart: this is 2). A word
+ * that a caller exchanges keeps the hierarchy valid and the pool fitting (entries_may_change), also
+ * during calls that don't touch it (live_tables_fit, of one such entry: this is 4). No mark is lost
+ * by exchanges (marks_are_never_lost), and reading and then writing loses some
+ * (reading_and_writing_loses_marks: this is 5). That the functions write no words of others is
+ * proved. That they read none is read in their source, and so is 3.
  *
  * WHAT IS NOT PROVED
  *
  * This file: the prover does not read it. tools/c_header compares it with the source: the functions
  * with their parameters and results, the fields of each struct with their types and their order,
  * and the numbers of the statuses. tools/c_library compares the functions declared below with those
- * that the library exports. The inline functions at the end of this file are tested.
+ * that the library exports. The inline functions at the end of this file are tested, and so are
+ * those of x86_64_paging_live.h.
  */
 #ifndef X86_64_PAGING_H
 #define X86_64_PAGING_H

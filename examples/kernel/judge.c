@@ -79,11 +79,22 @@ static void add_rights(const x64_page *page) {
         check("x64_update_flags", x64_update_flags(&space, tables, TABLE_COUNT, page, flags));
 }
 
+/* Exchanges the word of a page, or changes it by masks. */
+static void change_word(const x64_page *page) {
+    static const uint64_t bits[] = {X64_PRESENT, X64_WRITABLE, X64_USER_ACCESSIBLE, X64_NO_EXECUTE, X64_DIRTY};
+    uint64_t old, flags = below(2) ? some_flags() : word_of(&space, page) & ~X64_ADDRESS;
+    uint64_t word = some_frame(page->size) | flags | (page->size > X64_SIZE_4KIB ? X64_HUGE_PAGE : 0);
+    if (below(2))
+        exchange_page(&space, page, below(8) ? word : below(2) ? 0 : word & ~X64_PRESENT, &old);
+    else
+        change_page(&space, page, ~bits[below(5)], below(2) ? 0 : bits[1 + below(3)], &old);
+}
+
 /* Makes a call on a number of pages, from one on, or on that page alone. */
 static void make_call(const x64_page *page, uint64_t count) {
     static uint64_t frames[MOST_PAGES];
     size_t frame_count;
-    uint64_t choice = below(10);
+    uint64_t choice = below(14);
     x64_map_request request = {*page, some_frame(page->size), some_flags(), X64_PRESENT | X64_WRITABLE | X64_USER_ACCESSIBLE};
     if (choice == 0) {
         update_flags(&space, page, count, some_flags());
@@ -94,6 +105,8 @@ static void make_call(const x64_page *page, uint64_t count) {
         clean_up(&space, page->start, below(2) ? page->start : last_page());
     } else if (choice < 5) {
         add_rights(page);
+    } else if (choice < 9) {
+        change_word(page);
     } else {
         request.parent_flags = below(4) ? request.parent_flags : some_flags();
         map(&space, &request, count);

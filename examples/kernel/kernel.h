@@ -18,7 +18,7 @@
 #define SYSTEM_CALL 32
 #define REGISTERS_SIZE 192
 #ifndef __ASSEMBLER__
-#include "x86_64_paging.h"
+#include "x86_64_paging_live.h"
 /* boot.S: lets the processor go on with these registers until an exception or an interrupt, which leaves a vector, a code and CR2. */
 struct __attribute__((aligned(16))) registers {
     uint64_t padding, cr2, r15, r14, r13, r12, r11, r10, r9, r8, rbp, rdi, rsi, rdx, rcx, rbx, rax, vector, code, rip, cs, rflags, rsp, ss;
@@ -34,6 +34,7 @@ void *memset(void *to, int byte, size_t count);
 /* memory.c: the frames of all page tables, the kernel's space, after which all others are made, and frames for pages with their uses */
 enum { TABLES_AT = 0x400000, TABLE_COUNT = 256, MOST_PAGES = 1024 };
 static x64_table *const tables = (x64_table *)(DIRECT + TABLES_AT);
+extern uint64_t pool[TABLE_COUNT];
 extern size_t free_tables;
 extern x64_hierarchy kernel_space;
 extern uint8_t uses[];
@@ -47,11 +48,22 @@ uint64_t take_frames(uint64_t count);
 /* memory.c: calls of the library with the flushes that x64_flush_after tells. The judge may leave one of these out, to see it noticed. */
 extern uint32_t left_out;
 void flush_everything(void);
+void flush(uint32_t due, const x64_page *first, uint64_t count);
 uint32_t map(const x64_hierarchy *space, const x64_map_request *request, uint64_t count);
 uint32_t unmap(const x64_hierarchy *space, const x64_page *first, uint64_t count, uint64_t frames[MOST_PAGES], size_t *frame_count);
 uint32_t update_flags(const x64_hierarchy *space, const x64_page *first, uint64_t count, uint64_t flags);
 uint32_t set_table_flags(const x64_hierarchy *space, const x64_page *page, uint64_t level, uint64_t flags);
 uint32_t clean_up(const x64_hierarchy *space, uint64_t first, uint64_t last);
+
+/* pages.c: exchanges of a page's word with the flushes that x64_flush_between tells, and pages that are on a disk */
+uint64_t word_of(const x64_hierarchy *space, const x64_page *page);
+uint32_t exchange_page(const x64_hierarchy *space, const x64_page *page, uint64_t word, uint64_t *old);
+uint32_t change_page(const x64_hierarchy *space, const x64_page *page, uint64_t keep, uint64_t set, uint64_t *old);
+void add_use(uint64_t word);
+void drop_use(uint64_t word);
+void swap_out(const x64_hierarchy *space, const x64_page *page);
+void bring_in(const x64_hierarchy *space, const x64_page *page);
+size_t take_pages(const x64_hierarchy *space, uint64_t start, uint64_t end);
 
 /* Returns the last page of the lower half, which each space has for itself. */
 static inline uint64_t last_page(void) { return (UINT64_C(1) << (11 + 9 * kernel_space.levels)) - X64_SIZE_4KIB; }

@@ -1,4 +1,4 @@
-/* Memory: page tables, which the library makes and changes, and frames for pages. */
+/* Memory: page tables, which the library makes and changes, and frames for pages. pages.c changes words of these tables. */
 #include "kernel.h"
 
 /* All spaces share the upper half: the indices of the root from SHARED_FROM up to, but not including, SHARED_TO. */
@@ -6,7 +6,7 @@ enum { SHARED_FROM = 256, SHARED_TO = 512, FRAMES_AT = 0x800000, FRAMES_END = 0x
 uint32_t left_out = X64_FLUSH_NOTHING;
 x64_hierarchy kernel_space;
 size_t free_tables = TABLE_COUNT;
-static uint64_t pool[TABLE_COUNT];
+uint64_t pool[TABLE_COUNT];
 uint8_t uses[FRAMES_END / X64_SIZE_4KIB]; /* how many pages each frame is mapped to */
 
 void flush_everything(void) {
@@ -16,17 +16,20 @@ void flush_everything(void) {
     __asm__ volatile("mov %0, %%cr4" : : "r"(cr4 | pge) : "memory");
 }
 
-/* Flushes what x64_flush_after says of a call on some pages, before any other call, and returns its status. For X64_FLUSH_TABLES the
- * INVLPG of any page does. */
-static uint32_t flush(uint32_t call, uint64_t parent_flags, const x64_page *first, uint64_t count, uint32_t status) {
-    uint32_t due = x64_flush_after(call, parent_flags, status);
+/* Flushes one of the X64_FLUSH_ kinds for some pages. For X64_FLUSH_TABLES the INVLPG of any page does. */
+void flush(uint32_t due, const x64_page *first, uint64_t count) {
     if (due == X64_FLUSH_NOTHING || due == left_out)
-        return status;
+        return;
     if (due == X64_FLUSH_EVERYTHING || count > MOST_SINGLE_FLUSHES)
         flush_everything();
     else
         for (uint64_t k = 0; k < count; k++)
             __asm__ volatile("invlpg (%0)" : : "r"(first->start + k * first->size) : "memory");
+}
+
+/* Flushes what x64_flush_after says of a call on some pages, before any other call, and returns its status. */
+static uint32_t flushed(uint32_t call, uint64_t parent_flags, const x64_page *first, uint64_t count, uint32_t status) {
+    flush(x64_flush_after(call, parent_flags, status), first, count);
     return status;
 }
 
@@ -34,7 +37,7 @@ uint32_t map(const x64_hierarchy *space, const x64_map_request *request, uint64_
     uint64_t done;
     uint32_t status = count == 1 ? x64_map(space, tables, TABLE_COUNT, pool, TABLE_COUNT, &free_tables, request)
                                  : x64_map_range(space, tables, TABLE_COUNT, pool, TABLE_COUNT, &free_tables, request, count, &done);
-    return flush(X64_CALL_MAP, request->parent_flags, &request->page, count, status);
+    return flushed(X64_CALL_MAP, request->parent_flags, &request->page, count, status);
 }
 
 /* Unmaps pages, at most MOST_PAGES. */
@@ -43,23 +46,23 @@ uint32_t unmap(const x64_hierarchy *space, const x64_page *first, uint64_t count
     *frame_count = 1;
     uint32_t status = count == 1 ? x64_unmap(space, tables, TABLE_COUNT, first, frames)
                                  : x64_unmap_range(space, tables, TABLE_COUNT, first, count, frames, MOST_PAGES, frame_count, &done);
-    return flush(X64_CALL_UNMAP, 0, first, count, status);
+    return flushed(X64_CALL_UNMAP, 0, first, count, status);
 }
 
 uint32_t update_flags(const x64_hierarchy *space, const x64_page *first, uint64_t count, uint64_t flags) {
     uint64_t changed;
     uint32_t status = count == 1 ? x64_update_flags(space, tables, TABLE_COUNT, first, flags)
                                  : x64_update_flags_range(space, tables, TABLE_COUNT, first, count, flags, &changed);
-    return flush(X64_CALL_UPDATE_FLAGS, 0, first, count, status);
+    return flushed(X64_CALL_UPDATE_FLAGS, 0, first, count, status);
 }
 
 uint32_t set_table_flags(const x64_hierarchy *space, const x64_page *page, uint64_t level, uint64_t flags) {
-    return flush(X64_CALL_SET_TABLE_FLAGS, 0, page, 1, x64_set_table_flags(space, tables, TABLE_COUNT, page, level, flags));
+    return flushed(X64_CALL_SET_TABLE_FLAGS, 0, page, 1, x64_set_table_flags(space, tables, TABLE_COUNT, page, level, flags));
 }
 
 uint32_t clean_up(const x64_hierarchy *space, uint64_t first, uint64_t last) {
     uint32_t status = x64_clean_up(space, tables, TABLE_COUNT, pool, TABLE_COUNT, &free_tables, first, last);
-    return flush(X64_CALL_CLEAN_UP, 0, &(x64_page){first, X64_SIZE_4KIB}, 1, status);
+    return flushed(X64_CALL_CLEAN_UP, 0, &(x64_page){first, X64_SIZE_4KIB}, 1, status);
 }
 
 /* Loads CR3. This flushes all pages but global ones, which only the kernel has. */

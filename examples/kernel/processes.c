@@ -22,29 +22,18 @@ static void map_pages(const struct process *process, uint64_t start, uint64_t fr
     check("x64_map", map(&process->space, &request, count));
 }
 
-/* Unmaps the pages from an address up to another, and lets go of their frames. Returns how many. */
-static size_t unmap_pages(const struct process *process, uint64_t start, uint64_t end) {
-    static uint64_t frames[MOST_PAGES];
-    size_t count;
-    x64_page first = {start, X64_SIZE_4KIB};
-    check("x64_unmap_range", unmap(&process->space, &first, (end - start) / first.size, frames, &count));
-    for (size_t k = 0; k < count; k++)
-        uses[frames[k] / X64_SIZE_4KIB]--;
-    return count;
-}
-
-/* Lets a process write to a page: to a copy of it, unless nobody shares the frame any more. */
-static const char *copy_on_write(const struct process *process, const x64_page *page, uint64_t flags) {
-    x64_translation old;
-    check("x64_translate", x64_translate(&process->space, tables, TABLE_COUNT, page->start, &old));
-    if (uses[old.frame / X64_SIZE_4KIB] == 1) {
-        check("x64_update_flags", update_flags(&process->space, page, 1, flags));
+/* Lets a process write to a page: to a copy of it, unless nobody shares the frame any more. One processor runs the process. Several would
+ * have to take the page away and flush before they exchange frames. */
+static const char *copy_on_write(const struct process *process, const x64_page *page) {
+    uint64_t old, word = word_of(&process->space, page), shared = word & X64_ADDRESS;
+    if (uses[shared / X64_SIZE_4KIB] == 1) {
+        check("x64_change_page", change_page(&process->space, page, UINT64_MAX, X64_WRITABLE, &old));
         return "may be written to";
     }
     uint64_t frame = take_frames(1);
-    memcpy((void *)(DIRECT + frame), (void *)(DIRECT + old.frame), X64_SIZE_4KIB);
-    unmap_pages(process, page->start, page->start + page->size);
-    map_pages(process, page->start, frame, 1, flags);
+    memcpy((void *)(DIRECT + frame), (void *)(DIRECT + shared), X64_SIZE_4KIB);
+    check("x64_exchange_page", exchange_page(&process->space, page, (word & ~X64_ADDRESS) | frame | X64_WRITABLE, &old));
+    drop_use(old);
     return "is copied";
 }
 
@@ -58,23 +47,35 @@ static const char *handle_fault(const struct process *process, uint64_t address,
     if (((code & WAS_WRITE) && !(area->flags & X64_WRITABLE)) || ((code & WAS_FETCH) && (area->flags & X64_NO_EXECUTE)))
         return NULL;
     if (code & WAS_PRESENT)
-        return copy_on_write(process, &page, area->flags);
+        return copy_on_write(process, &page);
+    if (word_of(&process->space, &page) != 0) {
+        bring_in(&process->space, &page);
+        return "is brought back";
+    }
     map_pages(process, page.start, take_frames(1), 1, area->flags);
     return "is mapped";
 }
 
-/* Makes a process that shares all pages with another one. Neither may write to them any more. */
+/* Lets a process share a page with another one. If it is in memory, neither may write to it any more. If it is on the disk, each brings it
+ * back for itself. */
+static void share_page(const struct process *process, const struct process *child, const x64_page *page) {
+    uint64_t word = word_of(&process->space, page), old;
+    if (word & X64_PRESENT) {
+        check("x64_change_page", change_page(&process->space, page, ~X64_WRITABLE, 0, &old));
+        word = old & ~X64_WRITABLE;
+    }
+    if (word != 0) {
+        map_pages(child, page->start, word & X64_ADDRESS, 1, word & ~X64_ADDRESS);
+        add_use(word);
+    }
+}
+
+/* Makes a process that shares all pages with another one. */
 static struct process fork(const struct process *process) {
     struct process child = {process->registers, new_space(), process->number + 1};
-    x64_mapping mapping;
-    uint64_t next = 0;
-    size_t count;
-    while (x64_mappings(&process->space, tables, TABLE_COUNT, next, &mapping, 1, &count, &next) == X64_MORE && mapping.start < DIRECT) {
-        x64_page page = {mapping.start, mapping.size};
-        check("x64_update_flags", update_flags(&process->space, &page, 1, mapping.flags & ~X64_WRITABLE));
-        map_pages(&child, page.start, mapping.frame, 1, mapping.flags & ~X64_WRITABLE);
-        uses[mapping.frame / X64_SIZE_4KIB]++;
-    }
+    for (const struct area *area = areas; area < areas + AREA_COUNT; area++)
+        for (x64_page page = {area->start, X64_SIZE_4KIB}; page.start < area->end; page.start += page.size)
+            share_page(process, &child, &page);
     child.registers.rax = 0;
     print("process %lu: makes process %lu; %lu tables are free\n", process->number, child.number, (uint64_t)free_tables);
     return child;
@@ -93,6 +94,7 @@ static void run_process(struct process *process) {
                   done ? done : "not allowed");
             goes_on = done;
         } else if (state->rax == FORK && process->number < MOST_PROCESSES) {
+            swap_out(&process->space, &(x64_page){HEAP_END - X64_SIZE_4KIB, X64_SIZE_4KIB});
             struct process child = fork(process);
             run_process(&child);
             use_space(&process->space);
@@ -105,7 +107,7 @@ static void run_process(struct process *process) {
     use_space(&kernel_space);
     size_t unmapped = 0;
     for (const struct area *area = areas; area < areas + AREA_COUNT; area++)
-        unmapped += unmap_pages(process, area->start, area->end);
+        unmapped += take_pages(&process->space, area->start, area->end);
     give_up_space(&process->space);
     print("process %lu: has ended, %lu pages are unmapped; %lu tables are free\n", process->number, unmapped, (uint64_t)free_tables);
 }
