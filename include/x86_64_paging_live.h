@@ -495,11 +495,14 @@ static inline uint32_t x64_map_whole(x64_space *space, const x64_map_request *re
         ((request->flags | request->parent_flags) & X64_ADDRESS) == 0 &&
         !(request->parent_flags & X64_HUGE_PAGE) && (own > 1 || !(request->flags & X64_HUGE_PAGE));
     for (; is_good && level >= own; level--) {
-        if (frame / 4096 - space->first >= space->table_count)
+        uint64_t number = frame / 4096 - space->first;
+        if (number >= space->table_count) {
+            is_good = false;
             break;
-        word = __atomic_load_n(&space->tables[frame / 4096 - space->first]
-                                    .words[request->page.start >> (3 + 9 * level) & 511],
-                               __ATOMIC_ACQUIRE);
+        }
+        word = __atomic_load_n(
+            &space->tables[number].words[request->page.start >> (3 + 9 * level) & 511],
+            __ATOMIC_ACQUIRE);
         if (level == own || word == 0)
             break;
         is_present = is_present && (word & X64_PRESENT);

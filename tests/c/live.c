@@ -76,6 +76,8 @@ static void try_faulty(uint64_t levels) {
         CHECK(x64_access_live(&hierarchy, tables, TABLES, &controls, &access, &scratch, &arrival) == found);
         x64_map_request request = x64_map_request_of(HEAP, X64_SIZE_4KIB, 0, USUAL);
         CHECK(fault == NO_WAY || x64_map_whole(&space, &request) == status);
+        space.free_count = 0;
+        CHECK(fault == NO_WAY || x64_map_whole(&space, &request) == status);
         CHECK(memcmp(copies, tables, sizeof tables) == 0 && memcmp(&scratch, &zeros, sizeof scratch) == 0);
     }
     start(levels);
