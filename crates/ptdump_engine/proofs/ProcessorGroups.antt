@@ -1,5 +1,5 @@
 -- Processor groups: the groups of processors by their roots and numbers of levels are those with the same tables.
-use Rattle.std.proofs.Common.{◌≡◌, ◌∙◌, ℕ, Bool, true, false, cond, nat_eq, nat_lt, ◌&&◌, ◌||◌, ◌++◌, if◌then◌else◌, List, [], ◌∷◌, map, filter, Option, None, Some, Vec, vec_len, refl, sym, ap, append-nil}
+use Rattle.std.proofs.Common.{◌≡◌, ◌∙◌, ℕ, Bool, true, false, not, cond, nat_eq, nat_lt, ◌&&◌, ◌||◌, ◌++◌, if◌then◌else◌, List, [], ◌∷◌, map, filter, Option, None, Some, Vec, vec_len, refl, sym, ap, append-nil}
 use Rattle.std.proofs.Math.Bool.{and_assoc, and-false, and-true}
 use Rattle.std.proofs.lemmas.Bool.{and_parts, eqb-true}
 use Rattle.std.specs.Bool.{beq}
@@ -10,9 +10,10 @@ use Rattle.std.specs.Option.{UnwrapsOrElse, option_map_or}
 use Rattle.std.specs.declared.alloc.Global.{Global}
 use Rattle.x86_64_addr.specs.declared.level_count.Levels.TheVariants.{Four, Five}
 use Rattle.x86_64_addr.specs.declared.level_count.Levels.{Levels}
-use Rattle.ptdump_engine.specs.Processors.{cpus_with, has_tables, is_later, same_levels, shares}
+use Rattle.ptdump_engine.specs.Processors.{cpus_with, has_tables, is_first, same_levels, shares}
+use Rattle.ptdump_engine.specs.declared.processor_groups.ProcessorGroups.{ProcessorGroups}
 use Rattle.ptdump_engine.specs.declared.processors.Processor.{Processor}
-use Rattle.ptdump_engine.specs.private.ProcessorGroups.{are_five, cpu_if, cpus_at, has_key, key_of, same_key}
+use Rattle.ptdump_engine.specs.private.ProcessorGroups.{AreGrouped, are_five, cpu_if, cpus_at, has_key, is_first_in, key_of, same_key}
 
 levels_same : (a b : Levels) → beq (are_five b) (are_five a) ≡ same_levels a b
 levels_same Four Four = refl
@@ -44,9 +45,11 @@ any_of_those t s (q ∷ ps) = by (s q) (any_of_those t s ps)
     by true are = ap (λ c. c || list_any t (map (λ q. q.cpu) (filter s ps))) (sym (and-true (t q.cpu))) ∙ ap (λ rest. (t q.cpu && true) || rest) are
     by false are = are ∙ ap (λ c. c || list_any (λ q. t q.cpu && s q) ps) (sym (and-false (t q.cpu)))
 
--- one of the processors with the tables of one is before it
-pub later_numbers : (ps : List Processor) (p : Processor) → list_any (λ cpu. nat_lt cpu p.cpu) (cpus_with ps p) ≡ is_later ps p
-later_numbers ps p = any_of_those (λ cpu. nat_lt cpu p.cpu) (shares p) ps
+-- the first of its group is the first that has these tables
+pub first_of_group : (groups : ProcessorGroups) (p : Processor) → AreGrouped groups → is_first_in groups p ≡ is_first groups.processors.now p
+first_of_group groups p grouped =
+    ap (λ cpus. has_tables p && not (list_any (λ cpu. nat_lt cpu p.cpu) cpus)) (grouped p)
+    ∙ ap (λ later. has_tables p && not later) (any_of_those (λ cpu. nat_lt cpu p.cpu) (shares p) groups.processors.now)
 
 same_key_is : (a b : ℕ × Bool) → same_key a b ≡ true → a ≡ b
 same_key_is a b same =

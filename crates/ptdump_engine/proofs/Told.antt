@@ -1,5 +1,5 @@
 -- What is said of the items that visitors visit.
-use Rattle.std.proofs.Common.{◌≡◌, ◌+◌, ◌-◌, ◌^◌, ◌++◌, ℕ, Bool, true, false, cond, min, nat_lt, List, [], ◌∷◌, Option, Some, None, filter, length, map, refl, ap, subst, arith}
+use Rattle.std.proofs.Common.{◌≡◌, ◌∙◌, ◌+◌, ◌-◌, ◌^◌, ◌++◌, ℕ, Bool, true, false, cond, min, nat_lt, List, [], ◌∷◌, Option, Some, None, filter, length, map, refl, ap, subst, arith}
 use Rattle.std.specs.List.{cons_option, filter_map, flat_map}
 use Rattle.x86_64_model.specs.Mappings.{Mapping}
 use Rattle.ptdump_engine.specs.Said.{Said, line_of}

@@ -7,7 +7,6 @@ use crate::processors::Processor;
 use crate::request::Levels;
 use std::alloc::{AllocError, Global};
 use std::collections::HashMap;
-use std::marker::Model;
 
 /// Processors, in groups that have tables with the same root and number of levels.
 #[derive(Drop)]
@@ -18,18 +17,6 @@ pub struct ProcessorGroups<'a> {
     cpus: HashMap<(u64, bool), Vec<usize>>,
 }
 
-impl<'a> Model for ProcessorGroups<'a> {
-    ghost use Rattle.std.specs.Prelude.{List};
-    ghost use Rattle.ptdump_engine.specs.declared.processors.Processor.{Processor};
-    ghost use Rattle.ptdump_engine.specs.private.ProcessorGroups.{AreGrouped};
-
-    ghost Value = { List Processor };
-
-    ghost view = { λ groups. groups.processors.now };
-
-    ghost invariant = { λ groups. AreGrouped groups.processors.now groups.cpus };
-}
-
 impl<'a> ProcessorGroups<'a> {
     /// Groups processors.
     ///
@@ -37,7 +24,8 @@ impl<'a> ProcessorGroups<'a> {
     ///
     /// `AllocError` if memory allocation fails.
     pub fn of(alloc: Global, processors: &'a [Processor]) -> Result<ProcessorGroups<'a>, AllocError>
-        ensures { IfOk result (λ groups. groups ≡ processors.now) }
+        ensures processors { IfOk result (λ all. all.processors.now ≡ processors.now) }
+        ensures groups { IfOk result grouping.AreGrouped }
     {
         let mut cpus = HashMap::new(alloc);
         for processor in processors {
@@ -52,11 +40,11 @@ impl<'a> ProcessorGroups<'a> {
     ///
     /// `AllocError` if memory allocation fails.
     pub fn firsts(&self, alloc: Global) -> Result<Vec<Processor>, AllocError>
-        ensures { IfOk result (λ firsts. firsts.items ≡ specs.firsts_of self.now) }
+        requires { grouping.AreGrouped self.now }
+        ensures { IfOk result (λ firsts. firsts.items ≡ specs.firsts_of self.now.processors.now) }
     {
-        let processors = self.processors;
         let mut firsts = Vec::new(alloc);
-        for processor in processors {
+        for processor in self.processors {
             if self.is_first(processor) {
                 firsts.push(*processor)?;
             }
@@ -66,15 +54,14 @@ impl<'a> ProcessorGroups<'a> {
 
     /// Returns true if a processor has tables, and no processor before it has the same.
     fn is_first(&self, processor: &Processor) -> bool
-        ensures { result ≡ specs.is_first self.now processor.now }
+        ensures { result ≡ grouping.is_first_in self.now processor.now }
     {
         processor.has_tables() && !self.is_later(processor)
     }
 
     /// Returns true if a processor before it has the same tables.
-    #[tactic(auto, using(crate::proofs::ProcessorGroups::later_numbers))]
     fn is_later(&self, processor: &Processor) -> bool
-        ensures { result ≡ specs.is_later self.now processor.now }
+        ensures { result ≡ grouping.is_later_in self.now processor.now }
     {
         let cpus = self.cpus_with(processor);
         cpus.iter().any(|cpu| *cpu < processor.cpu)
@@ -82,9 +69,12 @@ impl<'a> ProcessorGroups<'a> {
 
     /// Returns the numbers of the processors with the tables of one, in order.
     pub fn cpus_with(&self, one: &Processor) -> &[usize]
-        ensures { result.now ≡ specs.cpus_with self.now one.now }
+        ensures { result.now ≡ grouping.cpus_in self.now one.now }
     {
-        cpus_at(&self.cpus, key(one))
+        match self.cpus.get(&key(one)) {
+            Some(cpus) => cpus,
+            None => &[],
+        }
     }
 }
 
@@ -98,16 +88,6 @@ pub fn firsts_of(alloc: Global, processors: &[Processor]) -> Result<Vec<Processo
 {
     let groups = ProcessorGroups::of(alloc, processors)?;
     groups.firsts(alloc)
-}
-
-/// Returns the numbers that a map has for a root and whether it has five levels.
-fn cpus_at(cpus: &HashMap<(u64, bool), Vec<usize>>, key: (u64, bool)) -> &[usize]
-    ensures { result.now ≡ grouping.cpus_at cpus.now key }
-{
-    match cpus.get(&key) {
-        Some(cpus) => cpus,
-        None => &[],
-    }
 }
 
 /// Adds the number of a processor to its group, if it has tables.

@@ -9,6 +9,7 @@ ghost use Rattle.ptdump_engine.specs.Program as program;
 ghost use Rattle.ptdump_engine.specs.Steps.{FindsAs, InTurn, IsForced};
 ghost use Rattle.ptdump_engine.specs.Walks.{line};
 ghost use Rattle.ptdump_engine.specs.declared.request.Form.TheVariants.{Text};
+ghost use Rattle.ptdump_engine.specs.private.ProcessorGroups as grouping;
 ghost use Rattle.ptdump_engine.specs.private.Roots.{AreNoted, number_at};
 
 use crate::arguments::{argument_failure, root_failure};
@@ -127,11 +128,12 @@ fn write_reports<S: ByteSource, W: Destination, E: Destination, G: Progress>(
     notes: &mut Output<'_, E>,
     progress: &mut G,
 ) -> Result<bool, Failure>
+    requires groups { grouping.AreGrouped groups.now }
     requires all { program.is_of_processors request.now ≡ true }
     requires noted { string_bytes notes.old.text ≡ [] }
     ensures text { S.IsKnown → OnOk result (Appends (W.contents writer.old) (W.contents writer.new)
         (flat_map (program.report_below request.now (words_opened S.bytes dump.now)
-        groups.now) firsts.now)) }
+        groups.now.processors.now) firsts.now)) }
     ensures complete { S.IsKnown → IfOk result (λ all. all ≡ list_all
         (program.is_complete_for request.now (words_opened S.bytes dump.now)) firsts.now) }
     ensures name { S.IsKnown → OnOk result (notes.new.writer.ghost_name ≡ notes.old.writer.ghost_name) }
@@ -167,11 +169,12 @@ fn write_report_below<S: ByteSource, W: Destination, E: Destination, G: Progress
     notes: &mut Output<'_, E>,
     progress: &mut G,
 ) -> Result<bool, Failure>
+    requires groups { grouping.AreGrouped groups.now }
     requires all { program.is_of_processors request.now ≡ true }
     requires noted { string_bytes notes.old.text ≡ [] }
     ensures text { S.IsKnown → OnOk result (Appends (W.contents writer.old) (W.contents writer.new)
         (program.report_below request.now (words_opened S.bytes dump.now)
-        groups.now first.now)) }
+        groups.now.processors.now first.now)) }
     ensures complete { S.IsKnown → IfOk result (λ is.
         is ≡ program.is_complete_for request.now (words_opened S.bytes dump.now) first.now) }
     ensures noted { OnOk result (string_bytes notes.new.text ≡ []) }
@@ -197,8 +200,9 @@ fn write_heading<W: Destination>(
     first: &Processor,
     writer: &mut W,
 ) -> Result<(), OutputError<W>>
+    requires { grouping.AreGrouped groups.now }
     ensures { OnOk result (Appends (W.contents writer.old) (W.contents writer.new)
-        (specs.heading_text form (specs.cpus_with groups.now first.now)
+        (specs.heading_text form (specs.cpus_with groups.now.processors.now first.now)
         first.now.start.root)) }
 {
     let cpus = groups.cpus_with(first);

@@ -14,7 +14,7 @@ pub returns-clause-written : goal.returns-clause-written
 returns-clause-written g c = λ known.
     let T = words_of_dump (opened g.S.ByteSource.bytes c.args.dump.now) in
     let ps = c.args.processors.now in
-    let same : c.in_ok-groups.groups ≡ ps = c.in_ok-groups.ensures in
+    let same : c.in_ok-groups.groups.processors.now ≡ ps = c.in_ok-groups.ensures.processors in
     let firsts : c.deref.result.now ≡ firsts_of ps = c.deref.ensures.value ∙ c.in_ok-firsts.ensures ∙ ap firsts_of same in
     let contents = g.W.Destination.contents in
     record {
@@ -27,7 +27,7 @@ pub returns-clause-notes : goal.returns-clause-notes
 returns-clause-notes g c = λ known.
     let T = words_of_dump (opened g.S.ByteSource.bytes c.args.dump.now) in
     let ps = c.args.processors.now in
-    let firsts : c.deref.result.now ≡ firsts_of ps = c.deref.ensures.value ∙ c.in_ok-firsts.ensures ∙ ap firsts_of c.in_ok-groups.ensures in
+    let firsts : c.deref.result.now ≡ firsts_of ps = c.deref.ensures.value ∙ c.in_ok-firsts.ensures ∙ ap firsts_of c.in_ok-groups.ensures.processors in
     let contents = g.E.Destination.contents in
     let told = c.write_left_out.new.notes in (
       c.in_ok-is_complete.ensures.name known ∙ c.in_ok-write_left_out.ensures.text.writer,
@@ -39,6 +39,6 @@ returns-clause-notes g c = λ known.
 pub returns-clause-told : goal.returns-clause-told
 returns-clause-told g c = λ known.
     let T = words_of_dump (opened g.S.ByteSource.bytes c.args.dump.now) in
-    let firsts : c.deref.result.now ≡ firsts_of c.args.processors.now = c.deref.ensures.value ∙ c.in_ok-firsts.ensures ∙ ap firsts_of c.in_ok-groups.ensures in
+    let firsts : c.deref.result.now ≡ firsts_of c.args.processors.now = c.deref.ensures.value ∙ c.in_ok-firsts.ensures ∙ ap firsts_of c.in_ok-groups.ensures.processors in
     subst (λ (fs : List Processor). InTurn (ToldOfTablesOf g.G.Progress.Told g.G.Progress.Ended T) fs c.args.progress.now c.write_reports.new.progress) firsts
     (c.in_ok-is_complete.ensures.told known)

@@ -18,7 +18,7 @@ loop-first-preserved g c = (
   λ known.
       let T = words_of_dump (opened g.S.ByteSource.bytes c.args.dump.now) in
       let request = c.args.request.now in
-      let ps = c.args.groups.now in
+      let ps = c.args.groups.now.processors.now in
       let xs = c.args.firsts.now in
       let i = c.loop-first.first-index in
       let x = c.first-item.result in

@@ -18,7 +18,7 @@ invariant-loop-first g l =
     let told = ToldOfTablesOf g.G.Progress.Told g.G.Progress.Ended T in
     (string_bytes l.notes.text ≡ []) × ToldInTurn g.G.Progress.Told g.G.Progress.Ended l.fn.progress l.progress
     × (g.S.ByteSource.IsKnown → (l.notes.writer.ghost_name ≡ l.fn.notes.writer.ghost_name)
-    × Appends (g.W.Destination.contents l.fn.writer) (g.W.Destination.contents l.writer) (flat_map (report_below l.request T l.groups) done)
+    × Appends (g.W.Destination.contents l.fn.writer) (g.W.Destination.contents l.writer) (flat_map (report_below l.request T l.groups.processors.now) done)
     × (l.is_complete ≡ list_all (is_complete_for l.request T) done)
     × ((after : Option (List ℕ)) → InTurn (EndsByTotalsOf l.request.command T) left (errors l.notes.writer.now) after → InTurn (EndsByTotalsOf l.request.command T) l.firsts (errors l.fn.notes.writer.now) after)
     × ((after : g.row.G.Denot) → InTurn told left l.progress after → InTurn told l.firsts l.fn.progress after))

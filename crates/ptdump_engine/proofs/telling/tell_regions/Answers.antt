@@ -1,6 +1,6 @@
 use Rattle.std.proofs.Common.{rules, ◌≡◌, cond, filter, None, subst}
 use Rattle.std.specs.List.{filter_map}
-use Rattle.x86_64_model.specs.Regions.{regions_in, regions_of}
+use Rattle.x86_64_model.specs.Regions.{Region, regions_in, regions_of}
 use Rattle.x86_64_mappings.specs.Selections.{is_selected}
 use Rattle.ptdump_engine.specs.Loaded.{words_loaded}
 use Rattle.ptdump_engine.specs.private.Telling.{AreTold}

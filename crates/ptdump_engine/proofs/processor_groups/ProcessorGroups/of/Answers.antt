@@ -5,7 +5,7 @@ use Rattle.ptdump_engine.specs.private.ProcessorGroups.{cpu_if, key_of}
 use Rattle.ptdump_engine.proofs.ProcessorGroups.{grouped_by_key}
 use Rattle.ptdump_engine.proofs.processor_groups.ProcessorGroups.of.Goals as goal
 
-pub invariant_of-result : goal.invariant_of-result
-invariant_of-result c = λ p.
+pub returns-clause-groups : goal.returns-clause-groups
+returns-clause-groups c = λ p.
     let ps = c.args.processors.now in
     c.loop-processor.invariant (key_of p) ∙ ap (flat_map (cpu_if (key_of p))) (take_all c.loop-processor.processor-index ps c.loop-processor-test.false) ∙ grouped_by_key ps p
