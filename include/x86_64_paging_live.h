@@ -470,6 +470,46 @@ static inline uint32_t x64_take_range(const x64_space *space, uint64_t first, ui
  * MAPPING WITHOUT LEAVING ANYTHING
  */
 
+/* Returns whether x64_map looks at the tables for a request, and doesn't refuse an argument or the
+ * flags before. */
+static inline bool x64_looks_at_tables(const x64_space *space, const x64_map_request *request) {
+    uint64_t level = x64_level_of(request->page.size), levels = space->levels;
+    return level != 0 && (levels == 4 || levels == 5) &&
+           request->page.start % request->page.size == 0 &&
+           x64_is_canonical(levels, request->page.start) && (space->root & ~X64_ADDRESS) == 0 &&
+           request->frame >> 52 == 0 && request->frame % request->page.size == 0 &&
+           space->free_count <= space->capacity &&
+           ((request->flags | request->parent_flags) & X64_ADDRESS) == 0 &&
+           !(request->parent_flags & X64_HUGE_PAGE) &&
+           (level > 1 || !(request->flags & X64_HUGE_PAGE));
+}
+
+/* Returns why x64_map would refuse a request after a look at the tables, or X64_OK, also for what
+ * it refuses before it changes anything: X64_NOT_ALLOWED. */
+static inline uint32_t x64_map_refusal(const x64_space *space, const x64_map_request *request) {
+    const uint64_t own = x64_level_of(request->page.size), page = request->page.start;
+    const bool adds_present = (request->parent_flags & X64_PRESENT) != 0;
+    uint64_t frame = space->root;
+    bool is_present = true; /* all entries above that are there have X64_PRESENT */
+    for (uint64_t level = space->levels; level >= own; level--) {
+        uint64_t number = frame / 4096 - space->first;
+        if (number >= space->table_count)
+            return X64_OK; /* the root isn't there, as x64_map tells, or nothing is valid */
+        uint64_t word = __atomic_load_n(&space->tables[number].words[page >> (3 + 9 * level) & 511],
+                                        __ATOMIC_ACQUIRE);
+        if (level == own)
+            return word != 0 && (is_present || adds_present) ? X64_PAGE_ALREADY_MAPPED : X64_OK;
+        if (word == 0)
+            return space->free_count < level - own && adds_present ? X64_FRAME_ALLOCATION_FAILED
+                                                                   : X64_OK;
+        is_present = is_present && (word & X64_PRESENT);
+        if (word & X64_HUGE_PAGE)
+            return is_present || adds_present ? X64_PARENT_ENTRY_HUGE_PAGE : X64_OK;
+        frame = word & X64_ADDRESS;
+    }
+    return X64_OK;
+}
+
 /*
  * Does what x64_map does, but looks first: it returns the same status, and unless that is X64_OK,
  * nothing has changed, and nothing has to be flushed. A refused x64_map may leave new tables and
@@ -483,44 +523,11 @@ static inline uint32_t x64_take_range(const x64_space *space, uint64_t first, ui
 X64_NODISCARD
 static inline uint32_t x64_map_whole(x64_space *space, const x64_map_request *request) {
     x64_hierarchy hierarchy = x64_space_hierarchy(space);
-    uint64_t own = x64_level_of(request->page.size), level = space->levels, frame = space->root,
-             word = 0;
-    uint32_t refusal = X64_OK;
-    bool is_present = true; /* all entries above the page that are there have X64_PRESENT */
-    bool is_good =
-        own != 0 && (level == 4 || level == 5) && request->page.start % request->page.size == 0 &&
-        x64_is_canonical(level, request->page.start) && frame % 4096 == 0 &&
-        request->frame >> 52 == 0 && request->frame % request->page.size == 0 &&
-        space->free_count <= space->capacity &&
-        ((request->flags | request->parent_flags) & X64_ADDRESS) == 0 &&
-        !(request->parent_flags & X64_HUGE_PAGE) && (own > 1 || !(request->flags & X64_HUGE_PAGE));
-    for (; is_good && level >= own; level--) {
-        uint64_t number = frame / 4096 - space->first;
-        if (number >= space->table_count) {
-            is_good = false;
-            break;
-        }
-        word = __atomic_load_n(
-            &space->tables[number].words[request->page.start >> (3 + 9 * level) & 511],
-            __ATOMIC_ACQUIRE);
-        if (level == own || word == 0)
-            break;
-        is_present = is_present && (word & X64_PRESENT);
-        if (word & X64_HUGE_PAGE) {
-            refusal = X64_PARENT_ENTRY_HUGE_PAGE;
-            break;
-        }
-        frame = word & X64_ADDRESS;
-    }
-    if (level > own && word == 0 && space->free_count < level - own) {
-        refusal = X64_FRAME_ALLOCATION_FAILED;
-        is_present = false;
-    } else if (level == own && word != 0) {
-        refusal = X64_PAGE_ALREADY_MAPPED;
-    }
-    if (is_good && refusal != X64_OK && (is_present || (request->parent_flags & X64_PRESENT)))
-        return refusal; /* otherwise x64_map returns X64_NOT_ALLOWED, or refuses an argument, and
-                           changes nothing */
+    uint32_t status = X64_OK;
+    if (x64_looks_at_tables(space, request))
+        status = x64_map_refusal(space, request);
+    if (status != X64_OK)
+        return status;
     return x64_map(&hierarchy, space->tables, space->table_count, space->pool, space->capacity,
                    &space->free_count, request);
 }
@@ -707,6 +714,55 @@ typedef struct x64_scratch {
     x64_table tables[X64_MOST_LEVELS];
 } x64_scratch;
 
+/* Copies the words of a path: the k-th into the k-th table of the scratch, which is the frame k
+ * + 1. Each names the next one there, unless it reads no further, or its address has reserved bits.
+ */
+static inline void x64_copy_path(const x64_entry *entries, size_t count, uint8_t physical_bits,
+                                 x64_scratch *scratch) {
+    for (size_t k = 0; k < count; k++) {
+        uint64_t word = entries[k].word;
+        bool reads_on = (word & X64_PRESENT) && x64_names_table(entries[k].level, word);
+        bool fits = physical_bits < 64 && (word & X64_ADDRESS) >> physical_bits == 0;
+        if (reads_on && fits)
+            word = (word & ~X64_ADDRESS) | 4096 * (uint64_t)(k + 2);
+        scratch->tables[k].words[entries[k].index] = word;
+    }
+}
+
+/* Returns what x64_access says of an access by the words of a path, and writes *outcome. */
+static inline uint32_t x64_judge(uint64_t levels, const x64_controls *controls,
+                                 const x64_access_request *request, const x64_entry *entries,
+                                 size_t count, x64_scratch *scratch, x64_outcome *outcome) {
+    x64_access_request asked = *request;
+    asked.mark = false;
+    x64_hierarchy copy;
+    copy.first = 1;
+    copy.root = 4096;
+    copy.levels = levels;
+    x64_copy_path(entries, count, controls->physical_bits, scratch);
+    uint32_t status =
+        x64_access(&copy, scratch->tables, count > 0 ? count : 1, controls, &asked, outcome);
+    for (size_t k = 0; k < count; k++)
+        scratch->tables[k].words[entries[k].index] = 0;
+    if (status == X64_NO_TABLE && count > 0)
+        outcome->address = entries[count - 1].word & X64_ADDRESS;
+    return status;
+}
+
+/* Adds marks to an entry, also to entry->word, if its word is still that one, but for marks.
+ * Returns whether it is. A word that has the marks isn't looked at. */
+static inline bool x64_mark_entry(uint64_t *at, x64_entry *entry, uint64_t marks) {
+    const uint64_t judged = entry->word;
+    while ((entry->word & marks) != marks) {
+        if (__atomic_compare_exchange_n(at, &entry->word, entry->word | marks, false,
+                                        __ATOMIC_SEQ_CST, __ATOMIC_ACQUIRE))
+            entry->word |= marks;
+        else if (((entry->word ^ judged) & ~(X64_ACCESSED | X64_DIRTY)) != 0)
+            return false;
+    }
+    return true;
+}
+
 /*
  * Does what x64_access does, on tables that a guest changes meanwhile, without a lock. What
  * x64_access says of such tables needn't belong together, and with mark it may put back a word that
@@ -734,8 +790,6 @@ static inline uint32_t x64_access_live(const x64_hierarchy *hierarchy, x64_table
                                        size_t table_count, const x64_controls *controls,
                                        const x64_access_request *request, x64_scratch *scratch,
                                        x64_arrival *arrival) {
-    x64_access_request asked = *request;
-    asked.mark = false;
     x64_arrival seen;
     uint32_t status = x64_entries_live(hierarchy, tables, table_count, request->address,
                                        seen.entries, &seen.count);
@@ -743,34 +797,10 @@ static inline uint32_t x64_access_live(const x64_hierarchy *hierarchy, x64_table
         return status;
     if (status == X64_BAD_ADDRESS)
         seen.count = 0; /* x64_access looks at the kind of the access before */
-
-    /* a copy of the path: the k-th word in the k-th of the tables 1, 2, .., which names the next
-     * one, unless its address has bits that are reserved */
-    x64_hierarchy copy;
-    copy.first = 1;
-    copy.root = 4096;
-    copy.levels = hierarchy->levels;
-    uint64_t last_address = 0;
-    for (size_t k = 0; k < seen.count; k++) {
-        const x64_entry *entry = &seen.entries[k];
-        uint64_t word = entry->word;
-        bool reads_on = (word & X64_PRESENT) && x64_names_table(entry->level, word);
-        bool fits =
-            controls->physical_bits < 64 && (word & X64_ADDRESS) >> controls->physical_bits == 0;
-        if (reads_on && fits)
-            word = (word & ~X64_ADDRESS) | 4096 * (uint64_t)(k + 2);
-        scratch->tables[k].words[entry->index] = word;
-        last_address = entry->word & X64_ADDRESS;
-    }
-    size_t count = seen.count > 0 ? seen.count : 1;
-    status = x64_access(&copy, scratch->tables, count, controls, &asked, &seen.outcome);
-    for (size_t k = 0; k < seen.count; k++)
-        scratch->tables[k].words[seen.entries[k].index] = 0;
-    if (status == X64_NO_TABLE)
-        seen.outcome.address = last_address;
+    status = x64_judge(hierarchy->levels, controls, request, seen.entries, seen.count, scratch,
+                       &seen.outcome);
     if (status != X64_OK && status != X64_PAGE_FAULT && status != X64_NO_TABLE)
         return status;
-
     seen.size = 0;
     seen.write = seen.user = seen.execute = status == X64_OK;
     for (size_t k = 0; k < seen.count && status == X64_OK; k++) {
@@ -779,17 +809,11 @@ static inline uint32_t x64_access_live(const x64_hierarchy *hierarchy, x64_table
         seen.write = seen.write && (entry->word & X64_WRITABLE);
         seen.user = seen.user && (entry->word & X64_USER_ACCESSIBLE);
         seen.execute = seen.execute && !(entry->word & X64_NO_EXECUTE);
-        uint64_t marks =
-            X64_ACCESSED | (k + 1 == seen.count && request->kind == X64_WRITE ? X64_DIRTY : 0);
+        bool is_dirty = k + 1 == seen.count && request->kind == X64_WRITE;
         uint64_t *at = &tables[entry->table / 4096 - hierarchy->first].words[entry->index];
-        const uint64_t judged = entry->word;
-        while (request->mark && (entry->word & marks) != marks) {
-            if (__atomic_compare_exchange_n(at, &entry->word, entry->word | marks, false,
-                                            __ATOMIC_SEQ_CST, __ATOMIC_ACQUIRE))
-                entry->word |= marks;
-            else if (((entry->word ^ judged) & ~(X64_ACCESSED | X64_DIRTY)) != 0)
-                return X64_CHANGED;
-        }
+        if (request->mark &&
+            !x64_mark_entry(at, entry, is_dirty ? X64_ACCESSED | X64_DIRTY : X64_ACCESSED))
+            return X64_CHANGED;
     }
     *arrival = seen;
     return status;
