@@ -1,12 +1,11 @@
 -- A located hierarchy is the one in the caller's tables.
 use Rattle.std.proofs.Common.{◌≡◌, ℕ, Bool, List, refl, sym, ap, ◌∙◌, subst}
-use Rattle.x86_64_model.specs.Mapper.{Hierarchy, Valid, PoolFits, translation, walk}
+use Rattle.x86_64_model.specs.Mapper.{Hierarchy, Valid, PoolFits}
 use Rattle.x86_64_model.specs.Memory.{Memory}
 use Rattle.x86_64_mappers.specs.Layouts.{owned_at}
 use Rattle.x86_64_tables.specs.LentMemory.{numbered}
 use Rattle.x86_64_tables.specs.Shifted.{shifted_places}
-use Rattle.x86_64_c.specs.Given.{at, hierarchy_in, places_of, position_of}
-use Rattle.x86_64_c.specs.Reads.{translation_of, walk_to}
+use Rattle.x86_64_c.specs.Given.{at, hierarchy_in, places_of}
 use Rattle.x86_64_c.specs.declared.given.Hierarchy.{Hierarchy as Given}
 use Rattle.x86_64_c.specs.declared.given.Located.{Located}
 
@@ -30,11 +29,3 @@ module _ (h : Given) (located : Located) (L : ℕ) (levels : h.levels ≡ L) (ro
   -- and if the hierarchy in the caller's tables is valid, the located one is
   pub valid : (ts : List (List ℕ)) (m : Memory) → m ≡ numbered ts → Valid (hierarchy_in h ts) → Valid (at L located m)
   valid ts m tables = subst Valid (sym (located_is m ts (sym tables)))
-
-  -- walks and translations go by the caller's tables
-  module _ (m : Memory) (ts : List (List ℕ)) (tables : numbered ts ≡ m) (p a : ℕ) (position : p ≡ position_of L a) where
-    pub walks_there : walk (at L located m) p ≡ walk_to (hierarchy_in h ts) a
-    walks_there = ap (walk (at L located m)) position ∙ ap (λ k. walk_to k a) (located_is m ts tables)
-
-    pub translates_there : translation (at L located m) p ≡ translation_of (hierarchy_in h ts) a
-    translates_there = ap (translation (at L located m)) position ∙ ap (λ k. translation_of k a) (located_is m ts tables)

@@ -116,6 +116,18 @@ pub fn frame_at<S: PageSize>(start: u64) -> Option<PhysFrame<S>>
     PhysFrame::from_start_address(PhysAddr::try_new(start).ok()?).ok()
 }
 
+/// Returns the address with a raw value, if it is canonical with `L` levels of tables.
+pub fn address_of<L: LevelCount>(address: u64) -> Result<VirtAddrIn<L>, u32>
+    ensures position { IfOk result (λ canonical. canonical ≡ given.position_of L.LEVELS address) }
+    ensures good { IfOk result (λ _. given.bad_address L.LEVELS address ≡ None) }
+    ensures bad { IfErr result (λ status. given.bad_address L.LEVELS address ≡ Some status) }
+{
+    match VirtAddrIn::checked_new(address) {
+        Some(canonical) => Ok(canonical),
+        None => Err(status::BAD_ADDRESS),
+    }
+}
+
 /// Returns a page, if it is one with `L` levels of tables.
 pub fn page_of<L: LevelCount>(page: &Page) -> Option<AnyPage<L>>
     ensures some { IfSome result (λ any.

@@ -11,6 +11,7 @@ mod entries;
 mod flush;
 mod given;
 mod listing;
+mod operation;
 mod ranges;
 mod reads;
 mod runs;
