@@ -12,6 +12,7 @@ mod flush;
 mod given;
 mod listing;
 mod operation;
+mod pool;
 mod ranges;
 mod reads;
 mod runs;

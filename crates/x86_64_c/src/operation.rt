@@ -5,7 +5,7 @@ ghost use Rattle.x86_64_c.specs.Given as given;
 ghost use Rattle.x86_64_c.specs.private.Operations as operations;
 ghost use Rattle.x86_64_model.specs.Mapper as mapper;
 
-use crate::given::{Hierarchy, Located, locate_in};
+use crate::given::{Hierarchy, Located, locate};
 use crate::status;
 use x86_64::structures::paging::PageTable;
 use x86_64::{FiveLevels, FourLevels, LentMemory, LevelCount, TableMemory};
@@ -95,7 +95,7 @@ fn enter_in<L: LevelCount, O: Operation>(
         (given.hierarchy_in hierarchy.now tables.old) array.old
         (given.hierarchy_in hierarchy.now tables.new) array.new out) }
 {
-    let Some(located) = locate_in::<L>(hierarchy, tables.len()) else {
+    let Some(located) = locate::<L>(hierarchy, tables.len()) else {
         return Err(status::BAD_ROOT);
     };
     let mut memory = LentMemory::new(tables);
