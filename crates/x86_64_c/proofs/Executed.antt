@@ -1,31 +1,37 @@
 -- A request with a number of levels, stated of what the caller handed in.
-use Rattle.std.proofs.Common.{◌≡◌, ◌≤◌, ℕ, true, false, List, length, Some, None, refl, sym, ap, ap₂, ◌∙◌}
+use Rattle.std.proofs.Common.{◌≡◌, ℕ, true, false, List, Some, None, refl, sym, ap, ap₂, subst₂, ◌∙◌}
 use Rattle.std.specs.Option.{option_or}
 use Rattle.x86_64_model.specs.Position.{span}
-use Rattle.x86_64_tables.specs.LentMemory.{numbered}
-use Rattle.x86_64_tables.specs.Shifted.{shifted_places}
 use Rattle.x86_64.specs.Asked.{MapToWithTableFlags}
-use Rattle.x86_64_c.specs.Given.{IsPageOf, at, bad_frame, bad_page, places_of, starts_frame, unless}
-use Rattle.x86_64_c.specs.PoolCalls.{Executes, Loan, Request, Runs, bad_call, bad_map, map_call, on_page, pool_in}
+use Rattle.x86_64_c.specs.Given.{IsPageOf, bad_frame, bad_page, hierarchy_in, starts_frame, unless}
+use Rattle.x86_64_c.specs.PoolCalls.{Executes, Loan, Request, Runs, bad_call, bad_map, loan, map_call, on_page}
 use Rattle.x86_64_c.specs.Status as status
 use Rattle.x86_64_c.specs.declared.given.Hierarchy.{Hierarchy as Given}
-use Rattle.x86_64_c.specs.declared.given.Located.{Located}
 use Rattle.x86_64_c.specs.declared.given.MapRequest.{MapRequest}
-use Rattle.x86_64_c.proofs.Located.{given}
+use Rattle.x86_64_c.specs.private.Pools.{Leaves}
 use Rattle.x86_64_c.proofs.RangeArguments.{size_is}
 
--- once the hierarchy and the pool are right, only the call's own arguments can be wrong
-pub executes : (own : List ℕ) (h : Given) (lent : Loan) (request : Request) (L : ℕ) (located : Located) → h.levels ≡ L → located.root ≡ h.root → places_of located ≡ shifted_places h.first
-    → bad_call h lent request ≡ request.wrong L → (after : Loan) (status : ℕ) → ((why : ℕ) → request.wrong L ≡ Some why → (status ≡ why) × (after ≡ lent))
-    → (request.wrong L ≡ None → Runs (at L located (numbered lent.tables)) (pool_in own lent.array lent.free) (request.call L) (at L located (numbered after.tables)) (pool_in own after.array after.free) status)
-    → length after.array ≡ length lent.array → after.free ≤ length after.array → Executes own h lent request status after
-executes own h lent request L located levels root places wrong after status bad runs room inside = record {
-  bad = λ why is. bad why (sym wrong ∙ is);
-  runs = λ good. given h located L levels root places lent.tables after.tables (numbered lent.tables) (numbered after.tables) refl refl
-      (λ a k b. Runs a (pool_in own lent.array lent.free) (request.call k) b (pool_in own after.array after.free) status) (runs (sym wrong ∙ good));
-  room = room;
-  in_array = λ _. inside;
+-- a call with right arguments that did to the pool what was asked is executed
+pub executes : (own : List ℕ) (h : Given) (lent after : Loan) (request : Request) (status : ℕ) → bad_call h lent request ≡ None
+    → Leaves own lent.array lent.free after.array after.free (λ pool rest. Runs (hierarchy_in h lent.tables) pool (request.call h.levels) (hierarchy_in h after.tables) rest status)
+    → Executes own h lent request status after
+executes own h lent after request status good leaves = record {
+  bad = λ why is. absurd (let e : None ≡ Some why = sym good ∙ is in cc);
+  runs = λ _. leaves.does;
+  room = leaves.room;
+  in_array = λ _. leaves.in_array;
 }
+
+-- one with a wrong argument is refused
+pub refuses : (own : List ℕ) (h : Given) (ts us : List (List ℕ)) (array left : List ℕ) (free : ℕ) (request : Request) (why : ℕ) → bad_call h (loan ts array free) request ≡ Some why → us ≡ ts → left ≡ array
+    → Executes own h (loan ts array free) request why (loan us left free)
+refuses own h ts us array left free request why wrong tables same =
+    subst₂ (λ us left. Executes own h (loan ts array free) request why (loan us left free)) (sym tables) (sym same) (record {
+      bad = λ also is. (let e : Some why ≡ Some also = sym wrong ∙ is in cc, refl);
+      runs = λ good. absurd (let e : Some why ≡ None = sym wrong ∙ good in cc);
+      room = refl;
+      in_array = λ within. within;
+    })
 
 -- what is wrong with a map of a page is what is wrong with the frame
 only_frame : (L : ℕ) (request : MapRequest) (level position size : ℕ) → bad_page L request.page ≡ None → IsPageOf L request.page level position → size ≡ span level → bad_map L request ≡ bad_frame size request.frame

@@ -1,12 +1,13 @@
 -- Ranges of pages that end in a half of the address space.
-use Rattle.std.proofs.Common.{◌≡◌, ◌⊎◌, inl, inr, ℕ, ◌+◌, ◌-◌, ◌*◌, ◌<◌, ◌≤◌, cond, None, sym, ap, ◌∙◌, subst, subst₂, arith, rules}
+use Rattle.std.proofs.Common.{◌≡◌, ◌⊎◌, inl, inr, ℕ, ◌+◌, ◌-◌, ◌*◌, ◌<◌, ◌≤◌, cond, Some, None, sym, ap, ap₂, ◌∙◌, subst, subst₂, arith, rules}
 use Rattle.std.specs.Option.{option_or}
 use Rattle.std.proofs.Math.Nat.{mul-le-mul_right, add-mul}
 use Rattle.std.proofs.lemmas.Bool.{cases_lt, lt-ltb, le-ltb}
 use Rattle.x86_64_model.specs.Position.{lower_half, position_count, span}
-use Rattle.x86_64_c.specs.Given.{IsPageOf, bad_hierarchy, bad_page, level_of, position_of}
-use Rattle.x86_64_c.specs.Ranges.{half_end, bad_pages, bad_range}
-use Rattle.x86_64_c.specs.declared.given.Hierarchy.{Hierarchy}
+use Rattle.x86_64_mappers.specs.Ranges.{range_of}
+use Rattle.x86_64_c.specs.Given.{IsPageOf, bad_page, level_of, position_of}
+use Rattle.x86_64_c.specs.Ranges.{half_end, bad_frames, bad_maps, bad_pages, range_asked}
+use Rattle.x86_64_c.specs.declared.given.MapRequest.{MapRequest}
 use Rattle.x86_64_c.specs.declared.given.Page.{Page}
 
 -- each of a number of pages starts before the end of them all
@@ -47,6 +48,19 @@ ends_there L known page level position count good is fits =
     let same : p + count * page.size ≤ position_count L = omega (arith, fits, low, high) in
     subst₂ (λ q s. q + count * s ≤ position_count L) (sym is.position_is) (size_is L page good ∙ ap span (sym is.level_is)) same
 
--- what is wrong with a range, once the hierarchy is right, and has L levels
-pub range_in : (h : Hierarchy) (n : ℕ) (page : Page) (count L : ℕ) → bad_hierarchy h n ≡ None → h.levels ≡ L → bad_range h n page count ≡ bad_pages L page count
-range_in h n page count L good levels = ap (λ o. option_or o (bad_pages h.levels page count)) good ∙ ap (λ l. bad_pages l page count) levels
+-- what is wrong with maps of right pages is what is wrong with the frames
+only_frames : (L : ℕ) (request : MapRequest) (count size level : ℕ) → bad_pages L request.page count ≡ None → request.page.size ≡ span level → size ≡ span level → bad_maps L request count ≡ bad_frames size request.frame count
+only_frames L request count size level good is spans =
+    ap (λ o. option_or o (bad_frames request.page.size request.frame count)) good ∙ ap (λ s. bad_frames s request.frame count) (is ∙ sym spans)
+
+module _ (L : ℕ) (request : MapRequest) (count : ℕ) {size : ℕ} (level : ℕ) (good : bad_pages L request.page count ≡ None) (is : request.page.size ≡ span level) (spans : size ≡ span level) where
+  pub right_frames : bad_frames size request.frame count ≡ None → bad_maps L request count ≡ None
+  right_frames right = only_frames L request count size level good is spans ∙ right
+
+  pub wrong_frames : (why : ℕ) → bad_frames size request.frame count ≡ Some why → bad_maps L request count ≡ Some why
+  wrong_frames why wrong = only_frames L request count size level good is spans ∙ wrong
+
+-- the range from a page on is the one that is asked for
+pub asked : (L : ℕ) (request : MapRequest) (level position : ℕ) → IsPageOf L request.page level position
+    → range_of level position request.frame request.flags request.parent_flags ≡ range_asked L request
+asked L request level position is = ap₂ (λ v p. range_of v p request.frame request.flags request.parent_flags) is.level_is is.position_is

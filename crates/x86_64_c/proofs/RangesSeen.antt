@@ -1,6 +1,5 @@
 -- What a mapper did with a range, stated of the words in the caller's memory.
-use Rattle.std.proofs.Common.{zero, suc, ◌≡◌, inl, inr, ◌≤◌, ◌<◌, ◌+◌, ◌*◌, ℕ, Bool, false, List, [], ◌∷◌, ◌++◌, length, Result, Ok, Err, IfOk, IfErr, refl, sym, ap, ◌∙◌, subst, subst₂, arith}
-use Rattle.std.specs.Borrow.{GName}
+use Rattle.std.proofs.Common.{zero, suc, ◌≡◌, inl, inr, ◌≤◌, ◌<◌, ◌+◌, ◌*◌, ℕ, Bool, false, List, [], ◌∷◌, ◌++◌, length, Option, Some, Result, Ok, Err, IfOk, IfErr, refl, sym, ap, ◌∙◌, subst, subst₂, arith}
 use Rattle.std.proofs.lemmas.List.FromFn.{length-map-range_with_len}
 use Rattle.x86_64_model.specs.Call.{Call, Reply, NotAllowed, Answered, Position, Address, Cleaned, Unmap, UpdateFlags}
 use Rattle.x86_64_model.specs.Entry.{IsParentFlags}
@@ -21,21 +20,14 @@ use Rattle.x86_64_mappers.specs.RangeChanges.{DoesChanges, IsRange, frames_done,
 use Rattle.x86_64_mappers.specs.Ranges.{DoesMaps, IsNextMap, MapRange, MapsByResult, MapsEach, MayMapRange, StopsAt, accepted, map_at, maps, page_at}
 use Rattle.x86_64_mappers.specs.declared.access.ranges.MapRangeErrorIn.{MapRangeErrorIn}
 use Rattle.x86_64_tables.specs.FlushRecorder.{FlushRange, flush_range}
-use Rattle.x86_64_tables.specs.LentMemory.{numbered}
-use Rattle.x86_64_tables.specs.LentPool.{is_in, served_by}
-use Rattle.x86_64_tables.specs.Shifted.{shifted_places}
 use Rattle.x86_64_tables.specs.MapperAnswers.{map_refusal}
-use Rattle.x86_64_tables.proofs.LentPools.{fits_own}
 use Rattle.x86_64_c.proofs.EntryChanges.{of}
 use Rattle.x86_64_c.proofs.RangeArguments.{page_before}
 use Rattle.x86_64_c.proofs.RangeKeeps.{keeps_calls, are_calls}
-use Rattle.x86_64_c.proofs.LentRuns.{stack}
 use Rattle.x86_64_c.specs.Calls.{result_status}
-use Rattle.x86_64_c.proofs.Located.{located_is}
-use Rattle.x86_64_c.specs.Given.{IsPageOf, at, hierarchy_in, level_of, places_of, position_of}
-use Rattle.x86_64_c.specs.Ranges.{Changes, Maps, MayMap, MayUpdate, Unmaps}
-use Rattle.x86_64_c.specs.declared.given.Hierarchy.{Hierarchy as Given}
-use Rattle.x86_64_c.specs.declared.given.Located.{Located}
+use Rattle.x86_64_c.specs.Given.{IsPageOf, level_of, position_of}
+use Rattle.x86_64_c.specs.Ranges.{Changes, Maps, Unmaps}
+use Rattle.x86_64_c.specs.private.RangeMaps.{TellsUpdates}
 use Rattle.x86_64_c.specs.declared.given.Page.{Page}
 
 -- ---- the calls on a range
@@ -182,69 +174,38 @@ maps_keep l m n serves pool r count answers rest adds are fits does =
 pub mapped : {Lent S V : Type 0} (h after : Hierarchy Lent) (l : Layout) (m n : Memory) → h.layout ≡ l → h.memory ≡ m → after.memory ≡ n → IsParentFlags l.added_flags
     → (pool rest : Store) (r : MapRange) → ((k : ℕ) → AllCalls l.levels (maps l.levels r k)) → PoolFits (of l m) pool.serves pool.frames
     → (page count : ℕ) (result : Result FlushRange (MapRangeErrorIn S V)) → MapsByResult h pool.frames r count result after rest.frames → IfOk result (λ flush. flush ≡ flush_range page count)
-    → (status done : ℕ) → status ≡ result_status (λ (error : MapRangeErrorIn S V). map_refusal error.why) result → IfOk result (λ flush. done ≡ flush.count) → IfErr result (λ error. done ≡ error.mapped.count)
-    → Maps (of l m) pool r count (of l n) rest status done
-mapped h after l m n layout memory left adds pool rest r are fits page count (Ok flush) maps pages status done told all some =
-    let did = maps_did h after l m n layout memory left pool.frames r rest.frames count (accepted r count) maps in
-    record {
-      maps = inl (told, all ∙ ap (λ (f : FlushRange). f.count) pages, did);
-      keeps = maps_keep l m n pool.serves pool.frames r count (accepted r count) rest.frames adds (are count) fits did;
-    }
-mapped h after l m n layout memory left adds pool rest r are fits page count (Err error) maps pages status done told all some =
+    → (status : ℕ) (done : Option ℕ) → status ≡ result_status (λ (error : MapRangeErrorIn S V). map_refusal error.why) result → IfOk result (λ flush. done ≡ Some flush.count) → IfErr result (λ error. done ≡ Some error.mapped.count)
+    → (number : ℕ) × (done ≡ Some number) × Maps (of l m) pool r count (of l n) rest status number
+mapped h after l m n layout memory left adds pool rest r are fits page count (Ok flush) maps pages status number told all some =
+    let did = maps_did h after l m n layout memory left pool.frames r rest.frames count (accepted r count) maps in (
+      flush.count,
+      all,
+      record {
+        maps = inl (told, ap (λ (f : FlushRange). f.count) pages, did);
+        keeps = maps_keep l m n pool.serves pool.frames r count (accepted r count) rest.frames adds (are count) fits did;
+      },
+    )
+mapped h after l m n layout memory left adds pool rest r are fits page count (Err error) maps pages status number told all some =
     let answers : (k : ℕ) → List Reply = λ k. accepted r k ++ Answered (Refused (map_refusal error.why)) ∷ [] in
     let k = error.mapped.count in
-    let did = maps_did h after l m n layout memory left pool.frames r rest.frames (k + 1) (answers k) maps.1 in
-    record {
-      maps = inr (map_refusal error.why, told, subst (λ d. StopsAt (of l m) pool.frames r count d (map_refusal error.why) (of l n) rest.frames) (sym some) (maps.0, did));
-      keeps = maps_keep l m n pool.serves pool.frames r (k + 1) (answers k) rest.frames adds (are (k + 1)) fits did;
-    }
-
--- ---- maps with a pool that is lent
-
-own_maps : (own : List ℕ) (array count : GName) (serves also : ℕ → Bool) → serves ≡ served_by own array count → (h after : Hierarchy (Unit {0})) (pool rest : List ℕ) (r : MapRange) (number status done : ℕ)
-    → Maps h (stack serves pool) r number after (stack also rest) status done → Maps h (stack (is_in own) pool) r number after (stack (is_in own) rest) status done
-own_maps own array count serves also same h after pool rest r number status done maps = record {
-  maps = maps.maps;
-  keeps = record { fits = fits_own own array count same maps.keeps.fits; conserved = maps.keeps.conserved; others = maps.keeps.others };
-}
-
-pub lent_maps : (own : List ℕ) (array count : GName) (serves also : ℕ → Bool) → serves ≡ served_by own array count → (L : ℕ) (located : Located) (m n : Memory) (ts us : List (List ℕ)) (pool rest free left : List ℕ) (r : MapRange) (number status done : ℕ)
-    → m ≡ numbered ts → numbered us ≡ n → pool ≡ free → left ≡ rest
-    → Maps (at L located m) (stack serves pool) r number (at L located n) (stack also rest) status done
-    → Maps (at L located (numbered ts)) (stack (is_in own) free) r number (at L located (numbered us)) (stack (is_in own) left) status done
-lent_maps own array count serves also same L located m n ts us pool rest free left r number status done before after had has maps =
-    subst (λ l. Maps (at L located (numbered ts)) (stack (is_in own) free) r number (at L located (numbered us)) (stack (is_in own) l) status done) (sym has)
-    (subst (λ f. Maps (at L located (numbered ts)) (stack (is_in own) f) r number (at L located (numbered us)) (stack (is_in own) rest) status done) had
-    (subst (λ n. Maps (at L located (numbered ts)) (stack (is_in own) pool) r number (at L located n) (stack (is_in own) rest) status done) (sym after)
-    (subst (λ m. Maps (at L located m) (stack (is_in own) pool) r number (at L located n) (stack (is_in own) rest) status done) before
-    (own_maps own array count serves also same (at L located m) (at L located n) pool rest r number status done maps))))
+    let did = maps_did h after l m n layout memory left pool.frames r rest.frames (k + 1) (answers k) maps.1 in (
+      k,
+      some,
+      record {
+        maps = inr (map_refusal error.why, told, (maps.0, did));
+        keeps = maps_keep l m n pool.serves pool.frames r (k + 1) (answers k) rest.frames adds (are (k + 1)) fits did;
+      },
+    )
 
 -- ---- from the page on that was handed in
 
-module _ {L level position : ℕ} {page : Page} (is : IsPageOf L page level position) {h after : Hierarchy (Unit {0})} {count status : ℕ} where
-  pub unmaps_given : {array frames : List ℕ} {frame_count done : ℕ}
+module _ {L level position : ℕ} {page : Page} (is : IsPageOf L page level position) {h after : Hierarchy (Unit {0})} {count : ℕ} where
+  pub unmaps_given : {array frames : List ℕ} {status frame_count done : ℕ}
       → Unmaps h level position count array after status frames frame_count done
       → Unmaps h (level_of page.size) (position_of L page.start) count array after status frames frame_count done
-  unmaps_given {array} {frames} {frame_count} {done} =
+  unmaps_given {array} {frames} {status} {frame_count} {done} =
       subst₂ (λ v p. Unmaps h v p count array after status frames frame_count done) is.level_is is.position_is
 
-  pub updates_given : {flags was changed : ℕ} → MayUpdate h level position flags count was after status changed
-      → MayUpdate h (level_of page.size) (position_of L page.start) flags count was after status changed
-  updates_given {flags} {was} {changed} = subst₂ (λ v p. MayUpdate h v p flags count was after status changed) is.level_is is.position_is
-
--- ---- in the caller's tables
-
-module _ (h : Given) (located : Located) (L : ℕ) (levels : h.levels ≡ L) (root : located.root ≡ h.root) (places : places_of located ≡ shifted_places h.first) (s r : MapRange) (range : s ≡ r) (k n : ℕ) (count : k ≡ n) where
-  same : (ts : List (List ℕ)) → at L located (numbered ts) ≡ hierarchy_in h ts
-  same ts = located_is h located L levels root places (numbered ts) ts refl
-
-  pub may_given : (ts : List (List ℕ)) → MayMap (hierarchy_in h ts) r n → MayMap (at L located (numbered ts)) s k
-  may_given ts may = subst (λ a. MayMap a s k) (sym (same ts)) (subst₂ (MayMap (hierarchy_in h ts)) (sym range) (sym count) may)
-
-  pub given_may : (ts : List (List ℕ)) → MayMap (at L located (numbered ts)) s k → MayMap (hierarchy_in h ts) r n
-  given_may ts may = subst₂ (MayMap (hierarchy_in h ts)) range count (subst (λ a. MayMap a s k) (same ts) may)
-
-  pub maps_given : (ts us : List (List ℕ)) (pool rest : Store) (status done : ℕ) → Maps (at L located (numbered ts)) pool s k (at L located (numbered us)) rest status done → Maps (hierarchy_in h ts) pool r n (hierarchy_in h us) rest status done
-  maps_given ts us pool rest status done maps =
-      subst₂ (λ r n. Maps (hierarchy_in h ts) pool r n (hierarchy_in h us) rest status done) range count
-      (subst₂ (λ a b. Maps a pool s k b rest status done) (same ts) (same us) maps)
+  pub updates_given : {flags : ℕ} {changed : Option ℕ} → TellsUpdates h level position flags count after changed
+      → TellsUpdates h (level_of page.size) (position_of L page.start) flags count after changed
+  updates_given {flags} {changed} = subst₂ (λ v p. TellsUpdates h v p flags count after changed) is.level_is is.position_is

@@ -1,13 +1,13 @@
 -- What is wrong with the arguments of calls on several address spaces, and what these leave if something is.
-use Rattle.std.proofs.Common.{◌≡◌, inl, inr, ◌≤◌, ◌↔◌, ℕ, ◌==◌, ◌||◌, ◌&&◌, nat_le, nat_lt, Bool, true, false, List, length, Some, None, IsTrue, refl, sym, ap, ap₂, ◌∙◌, le-leb, arith}
+use Rattle.std.proofs.Common.{◌≡◌, inl, inr, ◌≤◌, ◌↔◌, ℕ, ◌==◌, ◌||◌, ◌&&◌, nat_le, Bool, true, false, List, length, Some, None, IsTrue, Option, refl, sym, ap, ap₂, subst₂, ◌∙◌, le-leb, arith}
 use Rattle.std.specs.Option.{option_or}
+use Rattle.std.proofs.lemmas.Bool.{leb-true}
 use Rattle.x86_64_c.specs.AddressSpaces.{bad_indices, bad_test, bad_new, bad_gone, MakesSpace, GivesUpSpace}
 use Rattle.x86_64_c.specs.Given.{bad_hierarchy, unless}
-use Rattle.x86_64_c.specs.PoolCalls.{Loan}
+use Rattle.x86_64_c.specs.PoolCalls.{Loan, bad_pool, loan}
 use Rattle.x86_64_c.specs.Status as status
 use Rattle.x86_64_c.specs.Validity.{test_status, TellsWhether}
 use Rattle.x86_64_c.specs.declared.given.Hierarchy.{Hierarchy}
-use Rattle.x86_64_c.proofs.Arguments.{pool_is}
 
 -- what a test tells of one fact it tells of another that holds just if the first does
 pub tells : {P Q : Type 0} (passed : Bool) (s : ℕ) → s ≡ test_status passed → (IsTrue passed ↔ P) → (P ↔ Q) → TellsWhether Q s
@@ -27,30 +27,41 @@ good_test levels from to lent marks four_or_five within enough right =
     ap (λ b. option_or (unless b status.bad_levels) (option_or (unless (nat_le lent.free (length lent.array) && nat_le (length lent.tables) marks) status.bad_array) (bad_indices from to))) four_or_five
     ∙ ap₂ (λ b c. option_or (unless (b && c) status.bad_array) (bad_indices from to)) (le-leb _ _ within) (le-leb _ _ enough) ∙ right
 
-pub good_new : (h : Hierarchy) (lent : Loan) (from to : ℕ) → bad_hierarchy h (length lent.tables) ≡ None → lent.free ≤ length lent.array → bad_indices from to ≡ None → bad_new h lent from to ≡ None
-good_new h lent from to good within right = ap (λ o. option_or o (bad_indices from to)) (pool_is h (length lent.tables) (length lent.array) lent.free good within) ∙ right
+-- nothing is wrong with any of several arguments if nothing is with the first, and with the others
+none_both : {X : Type 0} (a b : Option X) → option_or a b ≡ None → (a ≡ None) × (b ≡ None)
+none_both None b none = (refl, none)
+none_both (Some x) b none = absurd (let e : Some x ≡ None = none in cc)
 
-pub good_gone : (h : Hierarchy) (lent : Loan) (from to : ℕ) → bad_hierarchy h (length lent.tables) ≡ None → nat_lt 0 h.root ≡ true → lent.free ≤ length lent.array → bad_indices from to ≡ None → bad_gone h lent from to ≡ None
-good_gone h lent from to good nonzero within right =
-    ap (λ o. option_or o (option_or (unless (nat_lt 0 h.root) status.bad_root) (bad_new h lent from to))) good
-    ∙ ap (λ b. option_or (unless b status.bad_root) (bad_new h lent from to)) nonzero ∙ good_new h lent from to good within right
+unless_none : (b : Bool) (why : ℕ) → unless b why ≡ None → b ≡ true
+unless_none true why none = refl
+unless_none false why none = absurd (let e : Some why ≡ None = none in cc)
+
+-- so the free frames of a right pool are in its array
+pub within : (free capacity : ℕ) (other : Option ℕ) → bad_pool free capacity other ≡ None → free ≤ capacity
+within free capacity other none = leb-true free capacity (unless_none (nat_le free capacity) status.bad_array (none_both (unless (nat_le free capacity) status.bad_array) other none).0)
+
+pub within_new : (h : Hierarchy) (lent : Loan) (from to : ℕ) → bad_new h lent from to ≡ None → lent.free ≤ length lent.array
+within_new h lent from to none = within lent.free (length lent.array) (bad_indices from to) (none_both (bad_hierarchy h (length lent.tables)) _ none).1
 
 -- ---- calls that are refused for an argument
 
-pub refused_new : (own : List ℕ) (h : Hierarchy) (lent : Loan) (from to s before : ℕ) → bad_new h lent from to ≡ Some s → MakesSpace own h lent from to s before lent before
-refused_new own h lent from to s before wrong = record {
-  bad = λ why is. let same : Some s ≡ Some why = sym wrong ∙ is in (cc, refl, refl);
-  none = λ good. let z : None ≡ Some s = sym good ∙ wrong in cc;
-  made = λ good. let z : None ≡ Some s = sym good ∙ wrong in cc;
-  room = refl;
-  in_array = λ within. within;
-}
+module _ (own : List ℕ) (h : Hierarchy) (ts us : List (List ℕ)) (array left : List ℕ) (free from to s : ℕ) (tables : us ≡ ts) (same : left ≡ array) where
+  pub refused_new : (before : ℕ) → bad_new h (loan ts array free) from to ≡ Some s → MakesSpace own h (loan ts array free) from to s before (loan us left free) before
+  refused_new before wrong =
+      subst₂ (λ us left. MakesSpace own h (loan ts array free) from to s before (loan us left free) before) (sym tables) (sym same) (record {
+        bad = λ why is. let same : Some s ≡ Some why = sym wrong ∙ is in (cc, refl, refl);
+        none = λ good. let z : None ≡ Some s = sym good ∙ wrong in cc;
+        made = λ good. let z : None ≡ Some s = sym good ∙ wrong in cc;
+        room = refl;
+        in_array = λ within. within;
+      })
 
-pub refused_gone : (own : List ℕ) (h : Hierarchy) (lent : Loan) (from to s : ℕ) → bad_gone h lent from to ≡ Some s → GivesUpSpace own h lent from to s lent
-refused_gone own h lent from to s wrong = record {
-  bad = λ why is. let same : Some s ≡ Some why = sym wrong ∙ is in (cc, refl);
-  in_use = λ good. let z : None ≡ Some s = sym good ∙ wrong in cc;
-  given_up = λ good. let z : None ≡ Some s = sym good ∙ wrong in cc;
-  room = refl;
-  in_array = λ within. within;
-}
+  pub refused_gone : bad_gone h (loan ts array free) from to ≡ Some s → GivesUpSpace own h (loan ts array free) from to s (loan us left free)
+  refused_gone wrong =
+      subst₂ (λ us left. GivesUpSpace own h (loan ts array free) from to s (loan us left free)) (sym tables) (sym same) (record {
+        bad = λ why is. let same : Some s ≡ Some why = sym wrong ∙ is in (cc, refl);
+        in_use = λ good. let z : None ≡ Some s = sym good ∙ wrong in cc;
+        given_up = λ good. let z : None ≡ Some s = sym good ∙ wrong in cc;
+        room = refl;
+        in_array = λ within. within;
+      })

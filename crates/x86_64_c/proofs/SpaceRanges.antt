@@ -21,7 +21,7 @@ use Rattle.x86_64_c.proofs.RangesSeen.{maps_are}
 use Rattle.x86_64_c.proofs.TogetherFit.{has_levels, kept, none_first}
 use Rattle.x86_64_c.specs.AddressSpaces.{FitTogether, OthersStay, RangeChangesKeepOthers, RangeChangesKeepSpaces, RangeMapsKeepOthers, RangeMapsKeepSpaces, layout_given}
 use Rattle.x86_64_c.specs.Given.{bad_hierarchy, hierarchy_in, level_of}
-use Rattle.x86_64_c.specs.PoolCalls.{Loan, bad_pool, loan, pool_in}
+use Rattle.x86_64_c.specs.PoolCalls.{Loan, loan, pool_in}
 use Rattle.x86_64_c.specs.Ranges.{Maps, MapsWith, MayMap, bad_map_range, range_asked}
 use Rattle.x86_64_c.specs.declared.given.Hierarchy.{Hierarchy as Given}
 use Rattle.x86_64_c.specs.declared.given.MapRequest.{MapRequest}
@@ -110,7 +110,7 @@ module _ (stay : SpacesStay) (own : List ℕ) (shared : ℕ → Bool) (spaces : 
         by : (wrong : Option ℕ) → bad_map_range h lent request count ≡ wrong → P after
         by (Some why) wrong = subst P (sym (maps.bad why wrong).1) none
         by None good =
-            let right = none_first (bad_hierarchy h (length lent.tables)) _ (none_first (bad_pool h (length lent.tables) (length lent.array) lent.free) _ good) in
+            let right = none_first (bad_hierarchy h (length lent.tables)) _ good in
             ⊎_elim (λ may. some good (has_levels h (length lent.tables) right) (maps.maps good may))
             (λ not. subst P (sym (maps.refused good not).1) none)
             (may_map (hierarchy_in h lent.tables) (range_asked h.levels request) count)
@@ -171,7 +171,7 @@ range_maps_keep_others stay halves below own shared spaces lent after fit h memb
         few less = omega (arith, less)
 
         right : bad_hierarchy h (length lent.tables) ≡ None
-        right = none_first (bad_hierarchy h (length lent.tables)) _ (none_first (bad_pool h (length lent.tables) (length lent.array) lent.free) _ good)
+        right = none_first (bad_hierarchy h (length lent.tables)) _ good
 
         levels : 3 < h.levels
         levels = ⊎_elim (λ four. omega (arith, four)) (λ five. omega (arith, five)) (four_or_five h (length lent.tables) right)

@@ -25,7 +25,7 @@ use Rattle.x86_64.specs.Asked.{machine_call}
 use Rattle.x86_64.specs.Replies.{Reply}
 use Rattle.x86_64.specs.Runs.{AfterStep}
 use Rattle.x86_64_c.specs.Given.{bad_hierarchy}
-use Rattle.x86_64_c.specs.PoolCalls.{Loan, loan, Executes, bad_call, bad_pool, Request}
+use Rattle.x86_64_c.specs.PoolCalls.{Loan, loan, Executes, bad_call, Request}
 use Rattle.x86_64_c.specs.Validity.{test_status, TellsWhether}
 use Rattle.x86_64_c.specs.declared.given.Hierarchy.{Hierarchy as Given}
 use Rattle.x86_64_c.proofs.Arguments.{four_or_five}
@@ -117,7 +117,7 @@ module _ (stay : SpacesStay) (own : List ℕ) (shared : ℕ → Bool) (spaces : 
   executed : (lent after : Loan) → FitTogether own shared spaces lent → (request : Request) (status : ℕ) → Executes own h lent request status after
       → KeepsRootEntries shared (layout_given h) (numbered lent.tables) (numbered after.tables) → (wrong : Option ℕ) → bad_call h lent request ≡ wrong → FitTogether own shared spaces after
   executed lent after fit request status done entries None good =
-      let right = none_first (bad_hierarchy h (length lent.tables)) _ (none_first (bad_pool h (length lent.tables) (length lent.array) lent.free) _ good) in
+      let right = none_first (bad_hierarchy h (length lent.tables)) _ good in
       kept lent after fit (has_levels h (length lent.tables) right) done.room (done.runs good).keeps entries
   executed lent after fit request status done entries (Some why) wrong = subst (FitTogether own shared spaces) (sym (done.bad why wrong).1) fit
 
@@ -137,7 +137,7 @@ module _ (stay : SpacesStay) (halves : SharedHalvesStay) (below : CallsKeepBelow
   kept_others : (wrong : Option ℕ) → bad_call h lent request ≡ wrong → FitTogether own shared spaces after × OthersStay spaces h.root (numbered lent.tables) (numbered after.tables)
   kept_others None good =
       let one = layout_given h in
-      let right = none_first (bad_hierarchy h (length lent.tables)) _ (none_first (bad_pool h (length lent.tables) (length lent.array) lent.free) _ good) in
+      let right = none_first (bad_hierarchy h (length lent.tables)) _ good in
       let some = has_levels h (length lent.tables) right in
       let runs = done.runs good in
       let led = sym (ap (λ (x : AfterStep Reply). x.state) runs.step) in

@@ -19,9 +19,7 @@ use Rattle.x86_64_mappings.specs.WalkEntries.{no_limits, steps_to, rights_in, en
 use Rattle.x86_64_mappings.specs.declared.walk_entries.WalkEnd.TheVariants.{Page, NotPresent, HugePage, NoTable}
 use Rattle.x86_64_mappings.specs.declared.walk_entries.WalkEntry.{WalkEntry}
 use Rattle.x86_64_mappings.proofs.StepsRead.{step, reads_by, words_in}
-use Rattle.x86_64_c.specs.Status.{ok}
-use Rattle.x86_64_c.specs.Walks.{Tells}
-use Rattle.x86_64_c.specs.declared.walk.WalkResult.{WalkResult}
+use Rattle.x86_64_c.specs.Walks.{arrival, written as as_told}
 
 -- the arrival at the last word, with the rights of all
 abbrev pub arrival_by : (p : ℕ) → Rights → Option Step → Option Walked
@@ -200,21 +198,11 @@ tells_page L T root p before after count d writes is =
     (record { low = low.0; high = low.1; arrives = walk_by_steps L T root p ∙ there_at p (rights_in steps) (last_or None steps) t found.1 })
 
 -- so that is what is told, with the offset of an equal position
-pub tells : (L : ℕ) (T : Words) (root p q level word to : ℕ) (r : Rights) (before : WalkResult) → TellsPage L T root p level word
+pub tells : (L : ℕ) (T : Words) (root p q level word to : ℕ) (r : Rights) → TellsPage L T root p level word
     → r ≡ rights_in (steps_to L T root p) → q ≡ p → to ≡ page_start level word + q % span level
-    → Tells (page_walk L T root p) (rights_in (steps_to L T root p)).execute ok before
-    (record { address = to; write = r.write; user = r.user; execute = r.execute })
-tells L T root p q level word to r before page rights same at =
+    → Some (as_told to r) ≡ option_map (arrival (rights_in (steps_to L T root p)).execute) (page_walk L T root p)
+tells L T root p q level word to r page rights same at =
     let all = rights_in (steps_to L T root p) in
-    subst (λ o. Tells o all.execute ok before (record { address = to; write = r.write; user = r.user; execute = r.execute })) (sym page.arrives) (
-      refl,
-      ap (λ (k : Rights). record { address = to; write = k.write; user = k.user; execute = k.execute }) rights
-          ∙ ap (λ (n : ℕ). record { address = n; write = all.write; user = all.user; execute = all.execute }) (at ∙ ap (λ x. page_start level word + x % span level) same),
-    )
-
--- what is told at an equal position
-pub told_at : (L : ℕ) (T : Words) (root p q : ℕ) (before after : WalkResult) → p ≡ q
-    → Tells (page_walk L T root p) (rights_in (steps_to L T root p)).execute ok before after
-    → Tells (page_walk L T root q) (rights_in (steps_to L T root q)).execute ok before after
-told_at L T root p q before after positions told =
-    subst (λ x. Tells (page_walk L T root x) (rights_in (steps_to L T root x)).execute ok before after) positions told
+    ap (λ (k : Rights). Some (as_told to k)) rights
+    ∙ ap (λ n. Some (as_told n all)) (at ∙ ap (λ x. page_start level word + x % span level) same)
+    ∙ sym (ap (option_map (arrival all.execute)) page.arrives)

@@ -35,9 +35,13 @@ controls_of c = record {
 abbrev pub bad_access : Controls → AccessRequest → Option ℕ
 bad_access c request = unless (nat_lt request.kind 3 && (nat_le 32 c.physical_bits && nat_le c.physical_bits 52)) status.bad_access
 
+-- What is wrong with an access, with L levels.
+abbrev pub wrong : (L : ℕ) → Controls → AccessRequest → Option ℕ
+wrong L c request = option_or (bad_access c request) (bad_address L request.address)
+
 -- What is wrong with any of the arguments.
 abbrev pub bad_call : Given → (count : ℕ) → Controls → AccessRequest → Option ℕ
-bad_call h count c request = option_or (bad_hierarchy h count) (option_or (bad_access c request) (bad_address h.levels request.address))
+bad_call h count c request = option_or (bad_hierarchy h count) (wrong h.levels c request)
 
 -- ---- what comes of it
 

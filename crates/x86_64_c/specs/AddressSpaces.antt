@@ -23,7 +23,7 @@ use Rattle.x86_64_tables.specs.Shifted.{shifted_places}
 use Rattle.x86_64.specs.Asked.{machine_call}
 use Rattle.x86_64_c.specs.Calls.{Changes}
 use Rattle.x86_64_c.specs.Given.{unless, bad_hierarchy, hierarchy_in}
-use Rattle.x86_64_c.specs.PoolCalls.{Loan, loan, Request, MayExecute, Executes, bad_pool, pool_in}
+use Rattle.x86_64_c.specs.PoolCalls.{Loan, loan, Request, MayExecute, Executes, bad_lent, bad_pool, pool_in}
 pub use Rattle.x86_64_c.specs.PoolCalls.{HasPool}
 use Rattle.x86_64_c.specs.Ranges as range
 use Rattle.x86_64_c.specs.Ranges.{MapsWith, MayMapWith, range_asked}
@@ -62,12 +62,15 @@ bad_test levels from to lent marks = option_or (unless ((levels == 4) || (levels
 
 -- What is wrong with the arguments of a call that makes a space.
 abbrev pub bad_new : Given → Loan → (from to : ℕ) → Option ℕ
-bad_new h lent from to = option_or (bad_pool h (length lent.tables) (length lent.array) lent.free) (bad_indices from to)
+bad_new h lent from to = bad_lent h lent (bad_indices from to)
 
--- What is wrong with the arguments of a call that gives up a space. No pool takes frame 0.
+-- What is wrong with a root, a pool and shared indices of a call that gives up a space. No pool takes frame 0.
+abbrev pub wrong_gone : (root free capacity from to : ℕ) → Option ℕ
+wrong_gone root free capacity from to = option_or (unless (nat_lt 0 root) status.bad_root) (bad_pool free capacity (bad_indices from to))
+
+-- What is wrong with any of its arguments.
 abbrev pub bad_gone : Given → Loan → (from to : ℕ) → Option ℕ
-bad_gone h lent from to =
-    option_or (bad_hierarchy h (length lent.tables)) (option_or (unless (nat_lt 0 h.root) status.bad_root) (bad_new h lent from to))
+bad_gone h lent from to = option_or (bad_hierarchy h (length lent.tables)) (wrong_gone h.root lent.free (length lent.array) from to)
 
 -- ---- spaces that fit together
 

@@ -1,16 +1,16 @@
 -- What calls that change tables do, and their statuses.
-use Rattle.std.specs.Prelude.{◌≡◌, ℕ, Bool, true, false, ◌&&◌, nat_le, List, length, Option, Some, None, unwrap_or, Result, Ok, Err}
+use Rattle.std.specs.Prelude.{◌≡◌, ℕ, Bool, true, false, ◌&&◌, nat_le, List, Option, Some, None, unwrap_or, Result, Ok, Err}
 use Rattle.std.specs.Option.{option_or}
 use Rattle.x86_64_model.specs.Call as model
 use Rattle.x86_64_model.specs.Call.{Call}
-use Rattle.x86_64_model.specs.Mapper.{Hierarchy, Does, PoolFits, Valid, allows}
+use Rattle.x86_64_model.specs.Mapper.{Hierarchy, Does, PoolFits, allows}
 use Rattle.x86_64_model.specs.Refusal.{Refusal, PageNotMapped, ParentEntryHugePage, InvalidFrameAddress, PageAlreadyMapped, FrameAllocationFailed, Answer, Done, Refused}
 use Rattle.x86_64_tables.specs.MapperAnswers.{map_refusal, unmap_refusal, update_refusal, translate_refusal}
 use Rattle.x86_64.specs.Replies.{Reply, SizeReply}
 use Rattle.x86_64_model.specs.Store.{KeepsPool}
 use Rattle.x86_64.specs.declared.call_values.MapperReply.TheVariants.{Of4KiB, Of2MiB, Of1GiB, Translate, Address, Cleaned, NotAllowed}
 use Rattle.x86_64.specs.declared.call_values.PageReply.TheVariants.{Map, Unmap, Update, TableFlags, Frame}
-use Rattle.x86_64_c.specs.Given.{unless, bad_hierarchy, bad_page, hierarchy_in, path_of_page}
+use Rattle.x86_64_c.specs.Given.{unless, bad_hierarchy, bad_page}
 use Rattle.x86_64_c.specs.Status as status
 use Rattle.x86_64_c.specs.declared.given.Hierarchy.{Hierarchy as Given}
 use Rattle.x86_64_c.specs.declared.given.Page.{Page}
@@ -96,20 +96,3 @@ TellsUnmap h page after s address = (answer : Answer) × Changes h (model.Unmap 
 -- The page with this path was unmapped, or an unmap of it was refused, and the frame was written.
 abbrev pub Unmaps : (h : Hierarchy (Unit {0})) (page : List ℕ) (after : Hierarchy (Unit {0})) (status before frame : ℕ) → Type 0
 Unmaps h page after s before frame = (answer : Answer) × Changes h (model.Unmap page) answer after s × (frame ≡ unwrap_or (told_by answer) before)
-
--- ---- changes in the caller's tables
-
--- What is wrong with a hierarchy, a change with that number of levels, and a page.
-abbrev pub bad_change : (wrong : ℕ → Option ℕ) → Given → (count : ℕ) → Page → Option ℕ
-bad_change wrong h count page = option_or (bad_hierarchy h count) (option_or (wrong h.levels) (bad_page h.levels page))
-
--- A change may be made: if no argument is wrong, the hierarchy is valid.
-abbrev pub MayMake : (wrong : ℕ → Option ℕ) → Given → (tables : List (List ℕ)) → Page → Type 0
-MayMake wrong h tables page = bad_change wrong h (length tables) page ≡ None → Valid (hierarchy_in h tables)
-
--- A change was made in the caller's tables.
-pub record Makes (wrong : ℕ → Option ℕ) (does : Hierarchy (Unit {0}) → List ℕ → Hierarchy (Unit {0}) → ℕ → Option ℕ → Type 0) (h : Given) (tables : List (List ℕ)) (page : Page) (after : List (List ℕ)) (status : ℕ) (address : Option ℕ) : Type 0 where
-  -- If an argument is wrong, the status says what, no address is told, and nothing changes.
-  pub bad : (why : ℕ) → bad_change wrong h (length tables) page ≡ Some why → (status ≡ why) × (address ≡ None) × (after ≡ tables)
-  -- Otherwise the change tells what it did.
-  pub makes : bad_change wrong h (length tables) page ≡ None → does (hierarchy_in h tables) (path_of_page h.levels page) (hierarchy_in h after) status address

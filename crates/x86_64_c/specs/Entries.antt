@@ -11,9 +11,13 @@ use Rattle.x86_64_c.specs.Given.{unless, bad_hierarchy, bad_address, position_of
 use Rattle.x86_64_c.specs.Status as status
 use Rattle.x86_64_c.specs.declared.given.Hierarchy.{Hierarchy as Given}
 
--- What is wrong with any of the arguments. There must be room for an entry of each level.
+-- What is wrong with the room for entries and with an address. There must be room for an entry of each level.
+abbrev pub wrong : (L room address : ℕ) → Option ℕ
+wrong L room a = option_or (unless (nat_le L room) status.bad_array) (bad_address L a)
+
+-- What is wrong with any of the arguments.
 abbrev pub bad_call : Given → (count room address : ℕ) → Option ℕ
-bad_call h count room a = option_or (bad_hierarchy h count) (option_or (unless (nat_le h.levels room) status.bad_array) (bad_address h.levels a))
+bad_call h count room a = option_or (bad_hierarchy h count) (wrong h.levels room a)
 
 -- The words that the walk to an address reads, the root's first.
 abbrev pub steps_to : Hierarchy (Unit {0}) → (address : ℕ) → List Step

@@ -56,14 +56,21 @@ bad_address L a = unless (is_canonical L a) status.bad_address
 abbrev pub bad_read : Hierarchy → (count address : ℕ) → Option ℕ
 bad_read h count a = option_or (bad_hierarchy h count) (bad_address h.levels a)
 
--- What is wrong with the arguments of a test of validity. It needs a mark for each table.
+-- What is wrong with the number of marks of a test. It needs one for each table.
+abbrev pub bad_marks : (tables marks : ℕ) → Option ℕ
+bad_marks n marks = unless (nat_le n marks) status.bad_array
+
+-- What is wrong with the arguments of a test of validity.
 abbrev pub bad_test : Hierarchy → (count marks : ℕ) → Option ℕ
-bad_test h count marks = option_or (bad_hierarchy h count) (unless (nat_le count marks) status.bad_array)
+bad_test h count marks = option_or (bad_hierarchy h count) (bad_marks count marks)
+
+-- What is wrong with a number of free frames in an array, and with the marks of a test.
+abbrev pub bad_room : (free capacity tables marks : ℕ) → Option ℕ
+bad_room free capacity n marks = unless (nat_le free capacity && nat_le n marks) status.bad_array
 
 -- What is wrong with the arguments of a test of a pool.
 abbrev pub bad_fit : Hierarchy → (count capacity free marks : ℕ) → Option ℕ
-bad_fit h count capacity free marks =
-    option_or (bad_hierarchy h count) (unless (nat_le free capacity && nat_le count marks) status.bad_array)
+bad_fit h count capacity free marks = option_or (bad_hierarchy h count) (bad_room free capacity count marks)
 
 -- The position of an address: its lowest 48 bits with four levels, its lowest 57 with five.
 abbrev pub position_of : (L address : ℕ) → ℕ

@@ -11,6 +11,7 @@ pub mod PoolCalls
 pub mod AddressSpaces
 pub mod Ranges
 pub mod Flushes
+pub mod private
 pub use Rattle.x86_64_model.specs.Mapper
 pub use Rattle.x86_64_model.specs.Translation
 pub use Rattle.x86_64_model.specs.Mappings

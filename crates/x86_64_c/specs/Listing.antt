@@ -1,5 +1,5 @@
 -- What a listing of mappings writes.
-use Rattle.std.specs.Prelude.{◌≡◌, ℕ, List, [], ◌∷◌, ◌++◌, length, map, take, drop}
+use Rattle.std.specs.Prelude.{◌≡◌, ℕ, List, [], ◌∷◌, ◌++◌, length, map, take, drop, Option, Some, None}
 use Rattle.x86_64_model.specs.Mapper.{Hierarchy, words}
 use Rattle.x86_64_model.specs.Mappings as model
 use Rattle.x86_64_model.specs.Position.{raw}
@@ -23,13 +23,21 @@ written L m = record {
   execute = m.rights.execute;
 }
 
--- The status after the array is filled, and where to go on, by the mappings that are left.
-abbrev pub TellsRest : (L : ℕ) → (rest : List model.Mapping) → (status before next : ℕ) → Type 0
-TellsRest L [] s before next = (s ≡ status.ok) × (next ≡ before)
-TellsRest L (m ∷ ms) s before next = (s ≡ status.more) × (next ≡ raw L m.start)
+-- The address of the first of some mappings, if there is one.
+abbrev pub next_of : (L : ℕ) → List model.Mapping → Option ℕ
+next_of L [] = None
+next_of L (m ∷ ms) = Some (raw L m.start)
+
+-- The status after the array is filled, and where to go on, by the address of the next mapping.
+abbrev pub TellsNext : (more : Option ℕ) → (status before next : ℕ) → Type 0
+TellsNext None s before next = (s ≡ status.ok) × (next ≡ before)
+TellsNext (Some start) s before next = (s ≡ status.more) × (next ≡ start)
 
 -- The array gets as many of all mappings as it has room for, from its start on, and keeps what it holds behind them.
-pub record Lists (all : List model.Mapping) (L : ℕ) (before : List Mapping) (status : ℕ) (after : List Mapping) (count was next : ℕ) : Type 0 where
+pub record Fills (all : List model.Mapping) (L : ℕ) (before after : List Mapping) (count : ℕ) : Type 0 where
   pub number : count ≡ length (take (length before) all)
   pub array : after ≡ map (written L) (take (length before) all) ++ drop count before
-  pub rest : TellsRest L (drop (length before) all) status was next
+
+-- So many mappings are listed, and the status says whether these are all.
+abbrev pub Lists : (all : List model.Mapping) (L : ℕ) (before : List Mapping) (status : ℕ) (after : List Mapping) (count was next : ℕ) → Type 0
+Lists all L before s after count was next = Fills all L before after count × TellsNext (next_of L (drop (length before) all)) s was next

@@ -61,13 +61,17 @@ pub record Loan : Type 0 where
 abbrev pub loan : (tables : List (List ℕ)) → (array : List ℕ) → (free : ℕ) → Loan
 loan tables array free = record { tables = tables; array = array; free = free }
 
--- What is wrong with a hierarchy and with a pool of so many free frames in an array.
-abbrev pub bad_pool : Given → (count capacity free : ℕ) → Option ℕ
-bad_pool h count capacity free = option_or (bad_hierarchy h count) (unless (nat_le free capacity) status.bad_array)
+-- What is wrong with a number of free frames in an array with so many entries, or else with a call's other arguments.
+abbrev pub bad_pool : (free capacity : ℕ) → (other : Option ℕ) → Option ℕ
+bad_pool free capacity other = option_or (unless (nat_le free capacity) status.bad_array) other
+
+-- What is wrong with a hierarchy, with what a caller lends, or else with a call's other arguments.
+abbrev pub bad_lent : Given → Loan → (other : Option ℕ) → Option ℕ
+bad_lent h lent other = option_or (bad_hierarchy h (length lent.tables)) (bad_pool lent.free (length lent.array) other)
 
 -- What is wrong with any of the arguments.
 abbrev pub bad_call : Given → Loan → Request → Option ℕ
-bad_call h lent request = option_or (bad_pool h (length lent.tables) (length lent.array) lent.free) (request.wrong h.levels)
+bad_call h lent request = bad_lent h lent (request.wrong h.levels)
 
 -- ---- what a call does
 

@@ -11,18 +11,14 @@ use Rattle.x86_64_mappers.specs.RangeChanges.{DoesChanges, frames_done, unmaps, 
 use Rattle.x86_64_mappers.specs.Ranges.{MapRange, MayMapRange, MapsAll, StopsAt, range_of}
 use Rattle.x86_64_c.specs.Calls.{refusal_status}
 use Rattle.x86_64_c.specs.Given.{unless, bad_hierarchy, bad_page, bad_frame, hierarchy_in, level_of, position_of}
-use Rattle.x86_64_c.specs.PoolCalls.{HasPool, Loan, bad_pool, pool_in}
+use Rattle.x86_64_c.specs.PoolCalls.{HasPool, Loan, bad_lent, pool_in}
 use Rattle.x86_64_c.specs.Status as status
 use Rattle.x86_64_c.specs.Status.{ok, more, not_allowed}
 use Rattle.x86_64_c.specs.declared.given.Hierarchy.{Hierarchy as Given}
 use Rattle.x86_64_c.specs.declared.given.MapRequest.{MapRequest}
 use Rattle.x86_64_c.specs.declared.given.Page.{Page}
-use Rattle.x86_64_c.specs.declared.ranges.AnyRangeMap.{AnyRangeMap}
-use Rattle.x86_64_c.specs.declared.ranges.AnyRangeMap.TheVariants.{FourLevels, FiveLevels}
 use Rattle.x86_64_c.specs.declared.ranges.FrameArray.{FrameArray}
 use Rattle.x86_64_c.specs.declared.ranges.RangeMap.{RangeMap}
-use Rattle.x86_64_c.specs.declared.ranges.RangeMapIn.{RangeMapIn}
-use Rattle.x86_64_c.specs.declared.ranges.RangeMapIn.TheVariants.{Of4KiB, Of2MiB, Of1GiB}
 use Rattle.x86_64_tables.specs.PageTableFlags.{bits_of}
 
 -- ---- what is wrong with a range
@@ -50,7 +46,7 @@ bad_maps L request count = option_or (bad_pages L request.page count) (bad_frame
 
 -- What is wrong with any of its arguments.
 abbrev pub bad_map_range : Given → Loan → MapRequest → (count : ℕ) → Option ℕ
-bad_map_range h lent request count = option_or (bad_pool h (length lent.tables) (length lent.array) lent.free) (bad_maps h.levels request count)
+bad_map_range h lent request count = bad_lent h lent (bad_maps h.levels request count)
 
 -- ---- maps
 
@@ -61,30 +57,6 @@ range_asked L request = range_of (level_of request.page.size) (position_of L req
 -- The range of a map of pages of a level.
 abbrev pub range_at : {S L : Type 0} → (level : ℕ) → RangeMap S L → MapRange
 range_at level map = range_of level map.page map.frame (bits_of map.flags) (bits_of map.parent_flags)
-
--- That of a map of pages of any size, and their number.
-abbrev pub range_in : {L : Type 0} → RangeMapIn L → MapRange
-range_in (Of4KiB map) = range_at 1 map
-range_in (Of2MiB map) = range_at 2 map
-range_in (Of1GiB map) = range_at 3 map
-
-abbrev pub count_in : {L : Type 0} → RangeMapIn L → ℕ
-count_in (Of4KiB map) = map.count
-count_in (Of2MiB map) = map.count
-count_in (Of1GiB map) = map.count
-
--- Those with any number of levels, and this number.
-abbrev pub any_range : AnyRangeMap → MapRange
-any_range (FourLevels map) = range_in map
-any_range (FiveLevels map) = range_in map
-
-abbrev pub any_count : AnyRangeMap → ℕ
-any_count (FourLevels map) = count_in map
-any_count (FiveLevels map) = count_in map
-
-abbrev pub any_levels : AnyRangeMap → ℕ
-any_levels (FourLevels map) = 4
-any_levels (FiveLevels map) = 5
 
 -- The parent flags have PRESENT, and each of so many pages may be mapped.
 abbrev pub MayMap : Hierarchy (Unit {0}) → MapRange → (count : ℕ) → Type 0

@@ -6,11 +6,12 @@ ghost use Rattle.x86_64_c.specs.Given as given;
 ghost use Rattle.x86_64_c.specs.Status as statuses;
 ghost use Rattle.x86_64_tables.specs.LentMemory.{numbered};
 
-use crate::given::{Hierarchy, Located, locate};
+use crate::given::{Hierarchy, Located, address_of};
+use crate::operation::{Operation, enter};
 use crate::status;
 use bitflags::Flags;
 use x86_64::structures::paging::PageTable;
-use x86_64::{FiveLevels, FourLevels, LentMemory, LevelCount, PhysAddr, TableMemory, VirtAddrIn};
+use x86_64::{LevelCount, PhysAddr, TableMemory, VirtAddrIn};
 use x86_64_access::laws::{accesses_leave_only_marks, marks_keep_hierarchies};
 use x86_64_access::{Access, AccessKind, Fault, access, access_and_mark};
 
@@ -91,18 +92,54 @@ pub extern "C" fn x64_access(
     ensures keeps { accesses.StillFits (given.hierarchy_in hierarchy.now tables.old)
         (given.hierarchy_in hierarchy.now tables.new) }
 {
-    let located = match locate(hierarchy, tables.len()) {
-        Ok(located) => located,
-        Err(status) => return status,
-    };
-    let Some(asked) = access_of(controls, request) else {
-        return status::BAD_ACCESS;
-    };
-    let mut memory = LentMemory::new(tables);
-    if hierarchy.levels == 4 {
-        access_in::<FourLevels, _>(&mut memory, located, controls, request, asked, outcome)
-    } else {
-        access_in::<FiveLevels, _>(&mut memory, located, controls, request, asked, outcome)
+    match enter(hierarchy, tables, &mut [], &Asked { controls, request }) {
+        Ok(came) => tell(came, outcome),
+        Err(status) => status,
+    }
+}
+
+/// An access that is asked for.
+#[derive(Clone, Copy)]
+pub struct Asked<'a> {
+    controls: &'a Controls,
+    request: &'a AccessRequest,
+}
+
+impl<'a> Operation for Asked<'a> {
+    ghost use Rattle.std.specs.Prelude.{◌≡◌};
+    ghost use Rattle.x86_64_access.specs.Accesses as memory_unit;
+    ghost use Rattle.x86_64_c.specs.Accesses.{StillFits, memory_after, outcome_of, wrong};
+
+    type Out = Result<PhysAddr, Fault>;
+
+    type Entry = u64;
+
+    ghost wrong = { λ asked levels tables room. wrong levels asked.controls.now asked.request.now };
+
+    ghost may = { λ asked h array. Unit {0} };
+
+    ghost does = { λ asked h array after left came.
+        (memory_unit.outcome_of came ≡ outcome_of h asked.controls.now asked.request.now)
+        × (after.memory ≡ memory_after h asked.controls.now asked.request.now) × StillFits h after };
+
+    fn execute<L: LevelCount, T: TableMemory>(
+        &self,
+        memory: &mut T,
+        located: Located,
+        _array: &mut [u64],
+    ) -> Result<Result<PhysAddr, Fault>, u32> {
+        let Some(access) = access_of(self.controls, self.request) else {
+            return Err(status::BAD_ACCESS);
+        };
+        let address = address_of::<L>(self.request.address)?;
+        Ok(access_at(
+            memory,
+            located,
+            self.controls,
+            address,
+            access,
+            self.request.mark,
+        ))
     }
 }
 
@@ -126,36 +163,6 @@ fn access_of(controls: &Controls, request: &AccessRequest) -> Option<Access>
         kind,
         user: request.user,
     })
-}
-
-/// Does what a processor does with an access with `L` levels of tables.
-fn access_in<L: LevelCount, T: TableMemory>(
-    memory: &mut T,
-    located: Located,
-    controls: &Controls,
-    request: &AccessRequest,
-    asked: Access,
-    outcome: &mut Outcome,
-) -> u32
-    requires bits { controls.now.physical_bits ≤ 52 }
-    requires asked { memory_unit.access_of asked ≡ accesses.access_of request.now }
-    ensures bad { (status : ℕ) → given.bad_address L.LEVELS request.now.address ≡ Some status
-        → (result ≡ status) × (T.tables memory.new ≡ T.tables memory.old) × (outcome.new ≡ outcome.old) }
-    ensures told { given.bad_address L.LEVELS request.now.address ≡ None
-        → accesses.Tells (accesses.outcome_of (given.at L.LEVELS located (T.tables memory.old)) controls.now
-        request.now) result outcome.new }
-    ensures marks { given.bad_address L.LEVELS request.now.address ≡ None
-        → T.tables memory.new ≡ accesses.memory_after (given.at L.LEVELS located (T.tables memory.old))
-        controls.now request.now }
-    ensures keeps { accesses.StillFits (given.at L.LEVELS located (T.tables memory.old))
-        (given.at L.LEVELS located (T.tables memory.new)) }
-    ensures lent { T.lent memory.new ≡ T.lent memory.old }
-{
-    let Some(address) = VirtAddrIn::<L>::checked_new(request.address) else {
-        return status::BAD_ADDRESS;
-    };
-    let came = access_at(memory, located, controls, address, asked, request.mark);
-    tell(came, outcome)
 }
 
 /// Does what a processor does with an access at an address, and marks the entries if this is asked for.

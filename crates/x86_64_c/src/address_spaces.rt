@@ -1,25 +1,22 @@
 //! Several address spaces in the caller's tables: a test whether they fit together with one pool, a new space, and one that is given up.
-ghost use Rattle.std.specs.Prelude.{◌≡◌, ◌≤◌, ◌↔◌, ◌⊎◌, ℕ, List, length, reverse, IsTrue, true, Some, None, IfErr, IfNone, IfSome, OnErr, OnOk};
+ghost use Rattle.std.specs.Prelude.{◌≡◌, ◌↔◌, ◌⊎◌, ℕ, List, length, reverse, IsTrue, true, Some, None, IfOk, IfErr};
 ghost use Rattle.std.specs.FinMap.{len};
 ghost use Rattle.x86_64_c.specs.AddressSpaces as spaces;
-ghost use Rattle.x86_64_c.specs.Given as given;
 ghost use Rattle.x86_64_c.specs.PoolCalls as calls;
-ghost use Rattle.x86_64_c.specs.Status as statuses;
 ghost use Rattle.x86_64_c.specs.Validity as validity;
-ghost use Rattle.x86_64_model.specs.Store.{Fits, store_of};
 ghost use Rattle.x86_64_spaces.specs.Room.{spaces_in, ShareWithRoom};
-ghost use Rattle.x86_64_spaces.specs.SpaceCalls.{IsGivenUp, IsMade, IsReason, TakesFirst};
 ghost use Rattle.x86_64_spaces.specs.SpaceLayouts.{indices_of, spaces_at};
-ghost use Rattle.x86_64_tables.specs.LentMemory.{numbered};
 ghost use Rattle.x86_64_tables.specs.LentPool.{is_in};
 ghost use Rattle.x86_64_tables.specs.Shifted.{shifted_places};
 
-use crate::given::{Hierarchy, Located, locate};
+use crate::given::{Hierarchy, Located};
+use crate::operation::{Operation, enter};
+use crate::pool::{PoolStep, Stepped, with_pool};
 use crate::status;
 use crate::validity::status_of_test;
 use x86_64::structures::paging::{PageTable, PhysFrame, Size4KiB};
 use x86_64::{
-    FiveLevels, FourLevels, FrameStore, GiveUpError, LentMemory, LentPool, LevelCount, OwnFrames,
+    FiveLevels, FourLevels, FrameStore, GiveUpError, LentMemory, LevelCount, OwnFrames,
     SharedIndices, ShiftMapping, Space, TableMemory, give_up_space, new_space, roots_fit_by_marks,
 };
 use x86_64_model::laws::spaces::{calls_keep_what_they_avoid, shared_halves_stay, spaces_stay};
@@ -59,8 +56,9 @@ pub extern "C" fn x64_spaces_fit(
     if pool.len() < free_count || marks.len() < count {
         return status::BAD_ARRAY;
     }
-    let Some(shared) = shared_indices(shared_from, shared_to) else {
-        return status::BAD_INDICES;
+    let shared = match shared_indices(shared_from, shared_to) {
+        Ok(shared) => shared,
+        Err(status) => return status,
     };
     let memory = LentMemory::new(tables);
     let mapping = ShiftMapping::new(first);
@@ -77,16 +75,17 @@ pub extern "C" fn x64_spaces_fit(
     status_of_test(passed)
 }
 
-/// Returns the indices from a first one up to, but not including, an end, if they are in order and none is above 511.
-fn shared_indices(from: u64, to: u64) -> Option<SharedIndices>
-    ensures some { IfSome result (λ shared. shared ≡ record { from = from; to = to }) }
-    ensures good { IfSome result (λ _. spaces.bad_indices from to ≡ None) }
-    ensures bad { IfNone result (spaces.bad_indices from to ≡ Some statuses.bad_indices) }
+/// Returns the indices from a first one up to, but not including, an end, or the status that says that they are out of order or that
+/// one is above 511.
+fn shared_indices(from: u64, to: u64) -> Result<SharedIndices, u32>
+    ensures shared { IfOk result (λ shared. shared ≡ record { from = from; to = to }) }
+    ensures good { IfOk result (λ _. spaces.bad_indices from to ≡ None) }
+    ensures bad { IfErr result (λ status. spaces.bad_indices from to ≡ Some status) }
 {
     if to < from || 512 < to {
-        return None;
+        return Err(status::BAD_INDICES);
     }
-    Some(SharedIndices {
+    Ok(SharedIndices {
         from: from as u16,
         to: to as u16,
     })
@@ -121,6 +120,8 @@ fn fit<T: TableMemory>(
     }
 }
 
+// ---- a new space
+
 /// Makes one more address space: the last free frame of the pool becomes a root. It gets the template's entries from index
 /// `shared_from` up to, but not including, `shared_to`, and maps nothing elsewhere. Writes the root's address.
 ///
@@ -144,27 +145,18 @@ pub extern "C" fn x64_new_space(
     ensures { spaces.MakesSpace own template_space.now (calls.loan tables.old pool.old free_count.old)
         shared_from shared_to result root.old (calls.loan tables.new pool.new free_count.new) root.new }
 {
-    let located = match locate(template_space, tables.len()) {
-        Ok(located) => located,
+    let new = NewSpace {
+        shared_from,
+        shared_to,
+        free_count: *free_count,
+        own: OwnFrames::of(),
+    };
+    let made = match enter(template_space, tables, pool, &new) {
+        Ok(made) => made,
         Err(status) => return status,
     };
-    if pool.len() < *free_count {
-        return status::BAD_ARRAY;
-    }
-    let Some(shared) = shared_indices(shared_from, shared_to) else {
-        return status::BAD_INDICES;
-    };
-    if *free_count == 0 {
-        return status::FRAME_ALLOCATION_FAILED;
-    }
-    match make_lent(
-        located,
-        template_space.levels,
-        tables,
-        pool,
-        free_count,
-        shared,
-    ) {
+    *free_count = made.free_count;
+    match made.out {
         Some(frame) => {
             *root = frame.start_address().as_u64();
             status::OK
@@ -173,65 +165,98 @@ pub extern "C" fn x64_new_space(
     }
 }
 
-/// Makes an address space after a template in the caller's tables and pool. Returns the root, or `None` if the pool is empty.
-fn make_lent(
-    located: Located,
-    levels: u64,
-    tables: &mut [PageTable],
-    pool: &mut [u64],
-    free_count: &mut usize,
-    shared: SharedIndices,
-) -> Option<PhysFrame<Size4KiB>>
-    ghost own: { List ℕ }
-    requires levels { levels ≡ 4 ⊎ levels ≡ 5 }
-    requires in_array { free_count.old ≤ length pool.old }
-    requires room { length own ≤ length pool.old }
-    requires fits { Fits (given.at levels located (numbered tables.old))
-        (calls.pool_in own pool.old free_count.old) }
-    ensures taken { TakesFirst (calls.pool_in own pool.old free_count.old) result
-        (calls.pool_in own pool.new free_count.new) }
-    ensures made { IfSome result (λ root. IsMade (indices_of shared)
-        (given.at levels located (numbered tables.old)) (calls.pool_in own pool.old free_count.old)
-        (spaces.space_at root) (numbered tables.new) (calls.pool_in own pool.new free_count.new)) }
-    ensures room { length pool.new ≡ length pool.old }
-    ensures in_array { free_count.new ≤ length pool.new }
-{
-    let mut memory = LentMemory::new(tables);
-    let mut frames = LentPool::new(pool, free_count, OwnFrames::of());
-    if levels == 4 {
-        make_in::<FourLevels, _, _>(&mut memory, located, &mut frames, shared)
-    } else {
-        make_in::<FiveLevels, _, _>(&mut memory, located, &mut frames, shared)
+/// The making of an address space, with the number of free frames of the pool in the operation's array, and its own frames.
+#[derive(Drop)]
+pub struct NewSpace {
+    shared_from: u64,
+    shared_to: u64,
+    free_count: usize,
+    own: OwnFrames,
+}
+
+impl Operation for NewSpace {
+    ghost use Rattle.x86_64_c.specs.AddressSpaces.{bad_indices, shared_in};
+    ghost use Rattle.x86_64_c.specs.PoolCalls.{bad_pool};
+    ghost use Rattle.x86_64_c.specs.private.Pools.{FitsIn};
+    ghost use Rattle.x86_64_c.specs.private.Spaces.{MakesRoot};
+
+    type Out = Stepped<Option<PhysFrame<Size4KiB>>>;
+
+    type Entry = u64;
+
+    ghost wrong = { λ new levels tables room.
+        bad_pool new.free_count room (bad_indices new.shared_from new.shared_to) };
+
+    ghost may = { λ new h array. FitsIn new.own.frames h array new.free_count };
+
+    ghost does = { λ new h array after left made. MakesRoot new.own.frames
+        (shared_in new.shared_from new.shared_to) h array new.free_count after left made.free_count made.out };
+
+    fn execute<L: LevelCount, T: TableMemory>(
+        &self,
+        memory: &mut T,
+        located: Located,
+        array: &mut [u64],
+    ) -> Result<Stepped<Option<PhysFrame<Size4KiB>>>, u32> {
+        if array.len() < self.free_count {
+            return Err(status::BAD_ARRAY);
+        }
+        let shared = shared_indices(self.shared_from, self.shared_to)?;
+        if self.free_count == 0 {
+            return Ok(Stepped {
+                out: None,
+                free_count: 0,
+            });
+        }
+        let step = MakeRoot { shared };
+        Ok(with_pool::<L, _, _>(memory, located, &self.own, array, self.free_count, &step))
     }
 }
 
-/// Makes an address space with `L` levels of tables. Returns the root, or `None` if there is no frame.
-fn make_in<L: LevelCount, T: TableMemory, F: FrameStore>(
-    memory: &mut T,
-    located: Located,
-    frames: &mut F,
+/// The making of a root with shared entries.
+#[derive(Clone, Copy)]
+pub struct MakeRoot {
     shared: SharedIndices,
-) -> Option<PhysFrame<Size4KiB>>
-    requires { Fits (given.at L.LEVELS located (T.tables memory.old)) (store_of F.FrameStore frames.old) }
-    ensures taken { TakesFirst (store_of F.FrameStore frames.old) result (store_of F.FrameStore frames.new) }
-    ensures made { IfSome result (λ root. IsMade (indices_of shared)
-        (given.at L.LEVELS located (T.tables memory.old)) (store_of F.FrameStore frames.old)
-        (spaces.space_at root) (T.tables memory.new) (store_of F.FrameStore frames.new)) }
-    ensures lent { T.lent memory.new ≡ T.lent memory.old }
-{
-    let template = space_of(located);
-    new_space::<L, _, _, _>(memory, &located.mapping, &template, shared, None, frames)
 }
 
-/// Returns the address space of a hierarchy.
-fn space_of(located: Located) -> Space
-    ensures { result ≡ spaces.space_at located.root }
-{
-    Space {
-        root: located.root,
-        recursive: None,
+impl<L: LevelCount> PoolStep<L> for MakeRoot {
+    ghost use Rattle.std.specs.Prelude.{false, IfSome};
+    ghost use Rattle.x86_64_c.specs.AddressSpaces.{space_at};
+    ghost use Rattle.x86_64_c.specs.private.PoolLaws.{own_root};
+    ghost use Rattle.x86_64_spaces.specs.SpaceCalls.{IsMade, TakesFirst};
+    ghost use Rattle.x86_64_spaces.specs.SpaceLayouts.{indices_of};
+
+    type Out = Option<PhysFrame<Size4KiB>>;
+
+    ghost gives_root = { λ _. false };
+
+    ghost refused = { λ _. false };
+
+    ghost does = { λ make h pool after rest made. TakesFirst pool made rest × IfSome made (λ root.
+        IsMade (indices_of make.shared) h pool (space_at root) after.memory rest) };
+
+    fn take<T: TableMemory, F: FrameStore>(
+        &self,
+        memory: &mut T,
+        located: Located,
+        frames: &mut F,
+    ) -> Option<PhysFrame<Size4KiB>> {
+        let template = space_of(located);
+        new_space::<L, _, _, _>(
+            memory,
+            &located.mapping,
+            &template,
+            self.shared,
+            None,
+            frames,
+        )
     }
+
+    ghost own_frames = { λ make own array count serves same h after free rest made.
+        own_root own array count same (indices_of make.shared) h after.memory free rest made };
 }
+
+// ---- a space that is given up
 
 /// Gives up an address space: its root is cleared, and goes to the top of the pool.
 ///
@@ -255,82 +280,123 @@ pub extern "C" fn x64_give_up_space(
     ensures { spaces.GivesUpSpace own hierarchy.now (calls.loan tables.old pool.old free_count.old)
         shared_from shared_to result (calls.loan tables.new pool.new free_count.new) }
 {
-    let located = match locate(hierarchy, tables.len()) {
-        Ok(located) => located,
+    let gone = GiveUp {
+        root: hierarchy.root,
+        shared_from,
+        shared_to,
+        free_count: *free_count,
+        own: OwnFrames::of(),
+    };
+    let given_up = match enter(hierarchy, tables, pool, &gone) {
+        Ok(given_up) => given_up,
         Err(status) => return status,
     };
-    if hierarchy.root == 0 {
-        return status::BAD_ROOT;
-    }
-    if pool.len() < *free_count {
-        return status::BAD_ARRAY;
-    }
-    let Some(shared) = shared_indices(shared_from, shared_to) else {
-        return status::BAD_INDICES;
-    };
-    match give_up_lent(located, hierarchy.levels, tables, pool, free_count, shared) {
+    *free_count = given_up.free_count;
+    match given_up.out {
         Ok(()) => status::OK,
         Err(GiveUpError::EntryUsed) => status::SPACE_IN_USE,
         Err(GiveUpError::FrameZero) => status::BAD_ROOT,
     }
 }
 
-/// Gives up an address space in the caller's tables and pool, or returns the reason against it.
-fn give_up_lent(
-    located: Located,
-    levels: u64,
-    tables: &mut [PageTable],
-    pool: &mut [u64],
-    free_count: &mut usize,
-    shared: SharedIndices,
-) -> Result<(), GiveUpError>
-    ghost own: { List ℕ }
-    requires levels { levels ≡ 4 ⊎ levels ≡ 5 }
-    requires in_array { free_count.old ≤ length pool.old }
-    requires room { length own ≤ length pool.old }
-    requires root { is_in own located.root ≡ true }
-    requires fits { Fits (given.at levels located (numbered tables.old))
-        (calls.pool_in own pool.old free_count.old) }
-    ensures reason { IfErr result (λ why.
-        IsReason (indices_of shared) (given.at levels located (numbered tables.old)) why) }
-    ensures unchanged { OnErr result ((tables.new ≡ tables.old) × (pool.new ≡ pool.old)
-        × (free_count.new ≡ free_count.old)) }
-    ensures given_up { OnOk result (IsGivenUp (indices_of shared)
-        (given.at levels located (numbered tables.old)) (calls.pool_in own pool.old free_count.old)
-        (numbered tables.new) (calls.pool_in own pool.new free_count.new)) }
-    ensures room { length pool.new ≡ length pool.old }
-    ensures in_array { free_count.new ≤ length pool.new }
-{
-    let mut memory = LentMemory::new(tables);
-    let mut frames = LentPool::new(pool, free_count, OwnFrames::of());
-    if levels == 4 {
-        give_up_in::<FourLevels, _, _>(&mut memory, located, &mut frames, shared)
-    } else {
-        give_up_in::<FiveLevels, _, _>(&mut memory, located, &mut frames, shared)
+/// The giving up of the address space with this root, with the number of free frames of the pool in the operation's array, and its own
+/// frames.
+#[derive(Drop)]
+pub struct GiveUp {
+    root: u64,
+    shared_from: u64,
+    shared_to: u64,
+    free_count: usize,
+    own: OwnFrames,
+}
+
+impl Operation for GiveUp {
+    ghost use Rattle.std.specs.Prelude.{◌≡◌, true};
+    ghost use Rattle.x86_64_c.specs.AddressSpaces.{shared_in, wrong_gone};
+    ghost use Rattle.x86_64_c.specs.private.Pools.{FitsIn};
+    ghost use Rattle.x86_64_c.specs.private.Spaces.{GivesUpRoot};
+    ghost use Rattle.x86_64_tables.specs.LentPool.{is_in};
+
+    type Out = Stepped<Result<(), GiveUpError>>;
+
+    type Entry = u64;
+
+    ghost wrong = { λ gone levels tables room.
+        wrong_gone gone.root gone.free_count room gone.shared_from gone.shared_to };
+
+    ghost may = { λ gone h array.
+        FitsIn gone.own.frames h array gone.free_count × (is_in gone.own.frames h.layout.root ≡ true) };
+
+    ghost does = { λ gone h array after left given_up. GivesUpRoot gone.own.frames
+        (shared_in gone.shared_from gone.shared_to) h array gone.free_count after left given_up.free_count
+        given_up.out };
+
+    fn execute<L: LevelCount, T: TableMemory>(
+        &self,
+        memory: &mut T,
+        located: Located,
+        array: &mut [u64],
+    ) -> Result<Stepped<Result<(), GiveUpError>>, u32> {
+        if self.root == 0 {
+            return Err(status::BAD_ROOT);
+        }
+        if array.len() < self.free_count {
+            return Err(status::BAD_ARRAY);
+        }
+        let shared = shared_indices(self.shared_from, self.shared_to)?;
+        let step = GiveUpRoot { shared };
+        Ok(with_pool::<L, _, _>(memory, located, &self.own, array, self.free_count, &step))
     }
 }
 
-/// Gives up an address space with `L` levels of tables, or returns the reason against it.
-fn give_up_in<L: LevelCount, T: TableMemory, F: FrameStore>(
-    memory: &mut T,
-    located: Located,
-    frames: &mut F,
+/// The giving up of a root with shared entries.
+#[derive(Clone, Copy)]
+pub struct GiveUpRoot {
     shared: SharedIndices,
-) -> Result<(), GiveUpError>
-    requires fits { Fits (given.at L.LEVELS located (T.tables memory.old))
-        (store_of F.FrameStore frames.old) }
-    requires served { F.serves frames.old located.root ≡ true }
-    ensures reason { IfErr result (λ why.
-        IsReason (indices_of shared) (given.at L.LEVELS located (T.tables memory.old)) why) }
-    ensures unchanged { OnErr result ((memory.new ≡ memory.old) × (frames.new ≡ frames.old)) }
-    ensures given_up { OnOk result (IsGivenUp (indices_of shared)
-        (given.at L.LEVELS located (T.tables memory.old)) (store_of F.FrameStore frames.old)
-        (T.tables memory.new) (store_of F.FrameStore frames.new)) }
-    ensures lent { T.lent memory.new ≡ T.lent memory.old }
-{
-    let space = space_of(located);
-    give_up_space::<L, _, _, _>(memory, &located.mapping, &space, shared, frames)
 }
+
+impl<L: LevelCount> PoolStep<L> for GiveUpRoot {
+    ghost use Rattle.std.specs.Prelude.{true, IfErr, OnOk};
+    ghost use Rattle.x86_64_c.specs.private.PoolLaws.{own_gone};
+    ghost use Rattle.x86_64_c.specs.private.Spaces.{failed};
+    ghost use Rattle.x86_64_spaces.specs.SpaceCalls.{IsGivenUp, IsReason};
+    ghost use Rattle.x86_64_spaces.specs.SpaceLayouts.{indices_of};
+
+    type Out = Result<(), GiveUpError>;
+
+    ghost gives_root = { λ _. true };
+
+    ghost refused = { failed };
+
+    ghost does = { λ give_up h pool after rest given_up.
+        IfErr given_up (λ why. IsReason (indices_of give_up.shared) h why)
+        × OnOk given_up (IsGivenUp (indices_of give_up.shared) h pool after.memory rest) };
+
+    fn take<T: TableMemory, F: FrameStore>(
+        &self,
+        memory: &mut T,
+        located: Located,
+        frames: &mut F,
+    ) -> Result<(), GiveUpError> {
+        let space = space_of(located);
+        give_up_space::<L, _, _, _>(memory, &located.mapping, &space, self.shared, frames)
+    }
+
+    ghost own_frames = { λ give_up own array count serves same h after free rest given_up.
+        own_gone own array count same (indices_of give_up.shared) h after.memory free rest given_up };
+}
+
+/// Returns the address space of a hierarchy.
+fn space_of(located: Located) -> Space
+    ensures { result ≡ spaces.space_at located.root }
+{
+    Space {
+        root: located.root,
+        recursive: None,
+    }
+}
+
+// ---- calls on one of several spaces
 
 /// Calls on each of several address spaces that fit together may be made, and they fit together again afterwards, as long as the
 /// entries of its root at the shared indices stay. So after `x64_spaces_fit` returned `OK` no further test is needed.

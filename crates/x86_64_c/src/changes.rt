@@ -1,5 +1,5 @@
 //! Calls that change one entry: unmaps and changes of flags.
-ghost use Rattle.std.specs.Prelude.{◌≡◌, ◌≤◌, ℕ, List, true, false, length, Option, Some, None};
+ghost use Rattle.std.specs.Prelude.{◌≡◌, ◌≤◌, ℕ, List, length, Option, Some, None};
 ghost use Rattle.x86_64_c.specs.Calls as calls;
 ghost use Rattle.x86_64_c.specs.Given as given;
 ghost use Rattle.x86_64_model.specs.Call.{UpdateFlags, SetFlags};
@@ -9,7 +9,8 @@ ghost use Rattle.x86_64_model.specs.Refusal.{Refused};
 ghost use Rattle.x86_64_tables.specs.MapperAnswers.{unmap_answer, unmap_refusal, flags_answer};
 ghost use Rattle.x86_64_tables.specs.PageTableFlags.{bits_of};
 
-use crate::given::{AnyPage, Hierarchy, Located, Page, locate_in, page_of};
+use crate::given::{AnyPage, Hierarchy, Located, Page, page_of};
+use crate::operation::{Operation, enter};
 use crate::status::{self, flags_status};
 use bitflags::Flags;
 use x86_64::structures::paging::mapper::calls::{self, TableAccess};
@@ -17,38 +18,19 @@ use x86_64::structures::paging::mapper::{
     FlagUpdateError, MappedPageTableIn, MapperFlushAll, MapperFlushIn, TablesIn, UnmapError,
 };
 use x86_64::structures::paging::{PageIn, PageSize, PageTable, PageTableFlags, PhysFrame};
-use x86_64::{FiveLevels, FourLevels, LentMemory, LevelCount, TableMemory, is_outside_window};
-
-/// What a change of an entry tells.
-#[derive(Clone, Copy)]
-pub struct Told {
-    /// The status.
-    pub status: u32,
-    /// The address that the changed entry names, if the change returns it.
-    pub address: Option<u64>,
-}
-
-impl Told {
-    /// Tells only a status.
-    fn only(status: u32) -> Told
-        ensures status { result.status ≡ status }
-        ensures address { result.address ≡ None }
-    {
-        Told {
-            status,
-            address: None,
-        }
-    }
-}
+use x86_64::{LevelCount, TableMemory, is_outside_window};
 
 /// A change of one entry on the path of a page.
 pub trait EntryChange {
+    /// What the change returns.
+    type Out;
+
     /// What is wrong with the change, for a number of levels of tables.
     ghost wrong: { Self → (levels : ℕ) → Option ℕ };
 
-    /// What the change does to a hierarchy, with the path of the page, and what it tells.
+    /// What the change does to a hierarchy, with the path of the page, and what it returns.
     ghost makes: { Self → Hierarchy (Unit {0}) → (page : List ℕ) → (after : Hierarchy (Unit {0}))
-        → (status : ℕ) → (address : Option ℕ) → Type 0 };
+        → (out : Self.Out) → Type 0 };
 
     /// Returns what is wrong with the change, for a number of levels of tables.
     fn wrong_with(&self, levels: u64) -> Option<u32>
@@ -60,59 +42,53 @@ pub trait EntryChange {
         memory: &mut T,
         located: Located,
         page: PageIn<S, L>,
-    ) -> Told
+    ) -> Self::Out
         requires good { wrong self.now L.LEVELS ≡ None }
         requires valid { Valid (given.at L.LEVELS located (T.tables memory.old)) }
         ensures makes { makes self.now (given.at L.LEVELS located (T.tables memory.old))
-            (path_at L.LEVELS S.LEVEL page) (given.at L.LEVELS located (T.tables memory.new))
-            result.status result.address }
+            (path_at L.LEVELS S.LEVEL page) (given.at L.LEVELS located (T.tables memory.new)) result }
         ensures lent { T.lent memory.new ≡ T.lent memory.old };
 }
 
-/// Makes a change in the caller's tables.
-fn make<C: EntryChange>(
-    hierarchy: &Hierarchy,
-    tables: &mut [PageTable],
-    page: &Page,
-    change: &C,
-) -> Told
-    requires { calls.MayMake (C.wrong change.now) hierarchy.now tables.old page.now }
-    ensures { calls.Makes (C.wrong change.now) (C.makes change.now) hierarchy.now tables.old page.now
-        tables.new result.status result.address }
-{
-    match hierarchy.levels {
-        4 => make_in::<FourLevels, _>(hierarchy, tables, page, change),
-        5 => make_in::<FiveLevels, _>(hierarchy, tables, page, change),
-        _ => Told::only(status::BAD_LEVELS),
-    }
+/// A change of one entry on the path of this page.
+#[derive(Clone, Copy)]
+pub struct OnPage<'a, C> {
+    page: &'a Page,
+    change: &'a C,
 }
 
-/// Makes a change with `L` levels of tables.
-fn make_in<L: LevelCount, C: EntryChange>(
-    hierarchy: &Hierarchy,
-    tables: &mut [PageTable],
-    page: &Page,
-    change: &C,
-) -> Told
-    requires levels { hierarchy.now.levels ≡ L.LEVELS }
-    requires may { calls.MayMake (C.wrong change.now) hierarchy.now tables.old page.now }
-    ensures { calls.Makes (C.wrong change.now) (C.makes change.now) hierarchy.now tables.old page.now
-        tables.new result.status result.address }
-{
-    let Some(located) = locate_in::<L>(hierarchy, tables.len()) else {
-        return Told::only(status::BAD_ROOT);
-    };
-    if let Some(wrong) = change.wrong_with(L::LEVELS) {
-        return Told::only(wrong);
-    }
-    let Some(page) = page_of::<L>(page) else {
-        return Told::only(status::BAD_PAGE);
-    };
-    let mut memory = LentMemory::new(tables);
-    match page {
-        AnyPage::Of4KiB(page) => change.make(&mut memory, located, page),
-        AnyPage::Of2MiB(page) => change.make(&mut memory, located, page),
-        AnyPage::Of1GiB(page) => change.make(&mut memory, located, page),
+impl<'a, C: EntryChange> Operation for OnPage<'a, C> {
+    ghost use Rattle.std.specs.Option.{option_or};
+    ghost use Rattle.x86_64_c.specs.Given.{bad_page, path_of_page};
+    ghost use Rattle.x86_64_model.specs.Mapper.{Valid};
+
+    type Out = C::Out;
+
+    type Entry = u64;
+
+    ghost wrong = { λ on levels tables room.
+        option_or (C.wrong on.change.now levels) (bad_page levels on.page.now) };
+
+    ghost may = { λ on h array. Valid h };
+
+    ghost does = { λ on h array after left out.
+        C.makes on.change.now h (path_of_page h.layout.levels on.page.now) after out };
+
+    fn execute<L: LevelCount, T: TableMemory>(
+        &self,
+        memory: &mut T,
+        located: Located,
+        _array: &mut [u64],
+    ) -> Result<C::Out, u32> {
+        if let Some(wrong) = self.change.wrong_with(L::LEVELS) {
+            return Err(wrong);
+        }
+        let page = page_of::<L>(self.page)?;
+        Ok(match page {
+            AnyPage::Of4KiB(page) => self.change.make(memory, located, page),
+            AnyPage::Of2MiB(page) => self.change.make(memory, located, page),
+            AnyPage::Of1GiB(page) => self.change.make(memory, located, page),
+        })
     }
 }
 
@@ -139,7 +115,14 @@ pub extern "C" fn x64_unmap(
         (given.path_of_page hierarchy.now.levels page.now)
         (given.hierarchy_in hierarchy.now tables.new) result frame.old frame.new }
 {
-    let told = make(hierarchy, tables, page, &Unmap);
+    let on = OnPage {
+        page,
+        change: &Unmap,
+    };
+    let told = match enter(hierarchy, tables, &mut [], &on) {
+        Ok(told) => told,
+        Err(status) => return status,
+    };
     if let Some(address) = told.address {
         *frame = address;
     }
@@ -150,13 +133,24 @@ pub extern "C" fn x64_unmap(
 #[derive(Clone, Copy)]
 pub struct Unmap;
 
+/// What an unmap tells.
+#[derive(Clone, Copy)]
+pub struct Told {
+    /// The status.
+    pub status: u32,
+    /// The address that the page's entry names, if the unmap returns it.
+    pub address: Option<u64>,
+}
+
 impl EntryChange for Unmap {
     ghost use Rattle.std.specs.Prelude.{None};
     ghost use Rattle.x86_64_c.specs.Calls as calls;
 
+    type Out = Told;
+
     ghost wrong = { λ _ levels. None };
 
-    ghost makes = { λ _. calls.TellsUnmap };
+    ghost makes = { λ _ h page after told. calls.TellsUnmap h page after told.status told.address };
 
     fn wrong_with(&self, _levels: u64) -> Option<u32> {
         None
@@ -199,8 +193,14 @@ fn tell_refused(error: UnmapError) -> Told
     ensures address { result.address ≡ calls.told_by (Refused (unmap_refusal error)) }
 {
     match error {
-        UnmapError::PageNotMapped => Told::only(status::PAGE_NOT_MAPPED),
-        UnmapError::ParentEntryHugePage => Told::only(status::PARENT_ENTRY_HUGE_PAGE),
+        UnmapError::PageNotMapped => Told {
+            status: status::PAGE_NOT_MAPPED,
+            address: None,
+        },
+        UnmapError::ParentEntryHugePage => Told {
+            status: status::PARENT_ENTRY_HUGE_PAGE,
+            address: None,
+        },
         UnmapError::InvalidFrameAddress(address) => Told {
             status: status::INVALID_FRAME_ADDRESS,
             address: Some(address.as_u64()),
@@ -232,7 +232,14 @@ pub extern "C" fn x64_update_flags(
         (given.hierarchy_in hierarchy.now tables.new) result }
 {
     let flags = PageTableFlags::from_bits_retain(flags);
-    make(hierarchy, tables, page, &FlagsOfPage { flags }).status
+    let on = OnPage {
+        page,
+        change: &FlagsOfPage { flags },
+    };
+    match enter(hierarchy, tables, &mut [], &on) {
+        Ok(status) => status,
+        Err(status) => status,
+    }
 }
 
 /// The flags that a page's own entry is to have.
@@ -247,9 +254,11 @@ impl EntryChange for FlagsOfPage {
     ghost use Rattle.x86_64_model.specs.Call.{UpdateFlags};
     ghost use Rattle.x86_64_tables.specs.PageTableFlags.{bits_of};
 
+    type Out = u32;
+
     ghost wrong = { λ _ levels. None };
 
-    ghost makes = { λ new h page after status address.
+    ghost makes = { λ new h page after status.
         calls.MayChange h (UpdateFlags page (bits_of new.flags)) after status };
 
     fn wrong_with(&self, _levels: u64) -> Option<u32> {
@@ -261,13 +270,13 @@ impl EntryChange for FlagsOfPage {
         memory: &mut T,
         located: Located,
         page: PageIn<S, L>,
-    ) -> Told {
+    ) -> u32 {
         if self.flags.has_address_bits() {
-            return Told::only(status::NOT_ALLOWED);
+            return status::NOT_ALLOWED;
         }
         let mut mapper = MappedPageTableIn::<_, L, T>::new(memory, located.root, located.mapping);
         let updated = calls::update_flags(&mut mapper, page, self.flags);
-        Told::only(updated_status(updated))
+        updated_status(updated)
     }
 }
 
@@ -312,7 +321,14 @@ pub extern "C" fn x64_set_table_flags(
         (given.hierarchy_in hierarchy.now tables.new) result }
 {
     let flags = PageTableFlags::from_bits_retain(flags);
-    make(hierarchy, tables, page, &FlagsOfTable { level, flags }).status
+    let on = OnPage {
+        page,
+        change: &FlagsOfTable { level, flags },
+    };
+    match enter(hierarchy, tables, &mut [], &on) {
+        Ok(status) => status,
+        Err(status) => status,
+    }
 }
 
 /// The flags that the entry of a level from two up is to have.
@@ -329,9 +345,11 @@ impl EntryChange for FlagsOfTable {
     ghost use Rattle.x86_64_model.specs.Call.{SetFlags};
     ghost use Rattle.x86_64_tables.specs.PageTableFlags.{bits_of};
 
+    type Out = u32;
+
     ghost wrong = { λ new levels. unless (calls.is_table_level levels new.level) bad_levels };
 
-    ghost makes = { λ new h page after status address.
+    ghost makes = { λ new h page after status.
         calls.MayChange h (SetFlags new.level page (bits_of new.flags)) after status };
 
     fn wrong_with(&self, levels: u64) -> Option<u32> {
@@ -347,13 +365,13 @@ impl EntryChange for FlagsOfTable {
         memory: &mut T,
         located: Located,
         page: PageIn<S, L>,
-    ) -> Told {
+    ) -> u32 {
         let mut mapper = MappedPageTableIn::<_, L, T>::new(memory, located.root, located.mapping);
         if !may_set(&mapper, page, self.level, self.flags) {
-            return Told::only(status::NOT_ALLOWED);
+            return status::NOT_ALLOWED;
         }
         let set = calls::set_table_flags(&mut mapper, page, self.level, self.flags);
-        Told::only(set_status(set))
+        set_status(set)
     }
 }
 

@@ -1,20 +1,20 @@
 //! The entries that a page walk reads.
-ghost use Rattle.std.specs.Prelude.{◌≡◌, ◌≤◌, ℕ, length, Some, None};
+ghost use Rattle.std.specs.Prelude.{◌≡◌, ℕ, length, Some, None};
 ghost use Rattle.x86_64_c.specs.Entries as steps;
 ghost use Rattle.x86_64_c.specs.Given as given;
 
-use crate::given::{Hierarchy, Located, locate};
+use crate::given::{Hierarchy, Located, address_of};
+use crate::operation::{Operation, enter};
 use crate::status;
 use x86_64::structures::paging::PageTable;
-use x86_64::{FiveLevels, FourLevels, LentMemory, LevelCount, TableMemory, VirtAddrIn};
-use x86_64_mappings::{WalkEntry, read_entries};
+use x86_64::{LevelCount, TableMemory};
+use x86_64_mappings::{EntriesRead, WalkEntry, read_entries};
 
 /// Writes the entries that the page walk to an address reads, from the root's on, whatever words the tables hold, and their number.
 ///
 /// Returns `OK` if the last one maps a page, `NOT_MAPPED` if it lacks `PRESENT`, `PARENT_ENTRY_HUGE_PAGE` if it has `HUGE_PAGE` above
 /// level three, `NO_TABLE` if the table that it names isn't in the array, or what is wrong with an argument; then nothing is written.
 /// `BAD_ARRAY` says that there is room for fewer entries than levels.
-#[tactic(auto, using(crate::proofs::Arguments::handed_back))]
 #[unsafe(no_mangle)]
 pub extern "C" fn x64_entries(
     hierarchy: &Hierarchy,
@@ -31,41 +31,46 @@ pub extern "C" fn x64_entries(
         entries.old result entries.new count.new }
     ensures tables { tables.new ≡ tables.old }
 {
-    let located = match locate(hierarchy, tables.len()) {
-        Ok(located) => located,
-        Err(status) => return status,
-    };
-    if (entries.len() as u64) < hierarchy.levels {
-        return status::BAD_ARRAY;
-    }
-    let memory = LentMemory::new(tables);
-    if hierarchy.levels == 4 {
-        entries_in::<FourLevels, _>(&memory, located, address, entries, count)
-    } else {
-        entries_in::<FiveLevels, _>(&memory, located, address, entries, count)
+    match enter(hierarchy, tables, entries, &EntriesTo { address }) {
+        Ok(read) => {
+            *count = read.count;
+            status::walk_status(read.end)
+        }
+        Err(status) => status,
     }
 }
 
-/// Writes the entries that the walk to an address reads with `L` levels of tables.
-fn entries_in<L: LevelCount, T: TableMemory>(
-    memory: &T,
-    located: Located,
+/// The entries that the page walk to an address reads.
+#[derive(Clone, Copy)]
+pub struct EntriesTo {
     address: u64,
-    entries: &mut [WalkEntry],
-    count: &mut usize,
-) -> u32
-    requires { L.LEVELS ≤ length entries.old }
-    ensures bad { (status : ℕ) → given.bad_address L.LEVELS address ≡ Some status
-        → (result ≡ status) × (entries.new ≡ entries.old) × (count.new ≡ count.old) }
-    ensures writes { given.bad_address L.LEVELS address ≡ None
-        → steps.Writes (steps.steps_to (given.at L.LEVELS located (T.tables memory.now)) address)
-        entries.old result entries.new count.new }
-{
-    let Some(address) = VirtAddrIn::<L>::checked_new(address) else {
-        return status::BAD_ADDRESS;
-    };
-    let Located { root, mapping } = located;
-    let read = read_entries(memory, &mapping, root, address, entries);
-    *count = read.count;
-    status::walk_status(read.end)
+}
+
+impl Operation for EntriesTo {
+    ghost use Rattle.std.specs.Prelude.{◌≡◌};
+    ghost use Rattle.x86_64_c.specs.Entries.{Writes, status_of, steps_to, wrong};
+
+    type Out = EntriesRead;
+
+    type Entry = WalkEntry;
+
+    ghost wrong = { λ to levels tables room. wrong levels room to.address };
+
+    ghost may = { λ to h array. Unit {0} };
+
+    ghost does = { λ to h array after left read.
+        (after.memory ≡ h.memory) × Writes (steps_to h to.address) array (status_of read.end) left read.count };
+
+    fn execute<L: LevelCount, T: TableMemory>(
+        &self,
+        memory: &mut T,
+        located: Located,
+        array: &mut [WalkEntry],
+    ) -> Result<EntriesRead, u32> {
+        if (array.len() as u64) < L::LEVELS {
+            return Err(status::BAD_ARRAY);
+        }
+        let address = address_of::<L>(self.address)?;
+        Ok(read_entries(memory, &located.mapping, located.root, address, array))
+    }
 }

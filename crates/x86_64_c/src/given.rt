@@ -59,43 +59,15 @@ pub struct Located {
     pub mapping: ShiftMapping,
 }
 
-/// Locates a hierarchy in an array of so many tables, or returns the status that says what is wrong.
-pub fn locate(hierarchy: &Hierarchy, table_count: usize) -> Result<Located, u32>
-    ensures bad { IfErr result (λ status. given.bad_hierarchy hierarchy.now table_count ≡ Some status) }
-    ensures good { IfOk result (λ _. given.bad_hierarchy hierarchy.now table_count ≡ None) }
-    ensures root { IfOk result (λ located. located.root ≡ hierarchy.now.root) }
-    ensures places { IfOk result (λ located. given.places_of located ≡ shifted_places hierarchy.now.first) }
-{
-    if hierarchy.levels != 4 && hierarchy.levels != 5 {
-        return Err(status::BAD_LEVELS);
-    }
-    match locate_root(hierarchy, table_count) {
-        Some(located) => Ok(located),
-        None => Err(status::BAD_ROOT),
-    }
-}
-
 /// Locates a hierarchy of `L` levels of tables in an array of so many tables, if its root is one of them.
-pub fn locate_in<L: LevelCount>(hierarchy: &Hierarchy, table_count: usize) -> Option<Located>
+pub fn locate<L: LevelCount>(hierarchy: &Hierarchy, table_count: usize) -> Option<Located>
     requires { hierarchy.now.levels ≡ L.LEVELS }
     ensures bad { IfNone result (given.bad_hierarchy hierarchy.now table_count ≡ Some status.bad_root) }
     ensures good { IfSome result (λ _. given.bad_hierarchy hierarchy.now table_count ≡ None) }
     ensures root { IfSome result (λ located. located.root ≡ hierarchy.now.root) }
     ensures places { IfSome result (λ located. given.places_of located ≡ shifted_places hierarchy.now.first) }
 {
-    locate_root(hierarchy, table_count)
-}
-
-/// Locates a hierarchy in an array of so many tables, whatever its number of levels, if its root is one of them.
-fn locate_root(hierarchy: &Hierarchy, table_count: usize) -> Option<Located>
-    ensures there { IfSome result (λ _.
-        given.has_table hierarchy.now.first table_count hierarchy.now.root ≡ true) }
-    ensures none { IfNone result (
-        given.has_table hierarchy.now.first table_count hierarchy.now.root ≡ false) }
-    ensures root { IfSome result (λ located. located.root ≡ hierarchy.now.root) }
-    ensures places { IfSome result (λ located. given.places_of located ≡ shifted_places hierarchy.now.first) }
-{
-    let root = frame_at::<Size4KiB>(hierarchy.root)?;
+    let root = frame_at::<Size4KiB>(hierarchy.root).ok()?;
     let place = root.pfn().checked_sub(hierarchy.first)?;
     if place < table_count as u64 {
         Some(Located {
@@ -107,35 +79,63 @@ fn locate_root(hierarchy: &Hierarchy, table_count: usize) -> Option<Located>
     }
 }
 
-/// Returns the frame that starts at an address, if one does.
-pub fn frame_at<S: PageSize>(start: u64) -> Option<PhysFrame<S>>
-    ensures some { IfSome result (λ frame. frame ≡ start) }
-    ensures there { IfSome result (λ _. given.starts_frame S.SIZE start ≡ true) }
-    ensures none { IfNone result (given.starts_frame S.SIZE start ≡ false) }
+/// Returns the frame that starts at an address, or the status that says that none does.
+pub fn frame_at<S: PageSize>(start: u64) -> Result<PhysFrame<S>, u32>
+    ensures frame { IfOk result (λ frame. frame ≡ start) }
+    ensures there { IfOk result (λ _. given.starts_frame S.SIZE start ≡ true) }
+    ensures none { IfErr result (λ status. given.starts_frame S.SIZE start ≡ false) }
+    ensures good { IfOk result (λ _. given.bad_frame S.SIZE start ≡ None) }
+    ensures bad { IfErr result (λ status. given.bad_frame S.SIZE start ≡ Some status) }
 {
-    PhysFrame::from_start_address(PhysAddr::try_new(start).ok()?).ok()
+    let address = match PhysAddr::try_new(start) {
+        Ok(address) => address,
+        Err(_) => return Err(status::BAD_FRAME),
+    };
+    match PhysFrame::from_start_address(address) {
+        Ok(frame) => Ok(frame),
+        Err(_) => Err(status::BAD_FRAME),
+    }
 }
 
-/// Returns a page, if it is one with `L` levels of tables.
-pub fn page_of<L: LevelCount>(page: &Page) -> Option<AnyPage<L>>
-    ensures some { IfSome result (λ any.
-        given.IsPageOf L.LEVELS page.now (given.any_level any) (given.any_position any)) }
-    ensures good { IfSome result (λ _. given.bad_page L.LEVELS page.now ≡ None) }
-    ensures bad { IfNone result (given.bad_page L.LEVELS page.now ≡ Some status.bad_page) }
+/// Returns the address with a raw value, if it is canonical with `L` levels of tables.
+pub fn address_of<L: LevelCount>(address: u64) -> Result<VirtAddrIn<L>, u32>
+    ensures position { IfOk result (λ canonical. canonical ≡ given.position_of L.LEVELS address) }
+    ensures good { IfOk result (λ _. given.bad_address L.LEVELS address ≡ None) }
+    ensures bad { IfErr result (λ status. given.bad_address L.LEVELS address ≡ Some status) }
 {
-    Some(match page.size {
+    match VirtAddrIn::checked_new(address) {
+        Some(canonical) => Ok(canonical),
+        None => Err(status::BAD_ADDRESS),
+    }
+}
+
+/// Returns a page, or the status that says that it is none with `L` levels of tables.
+pub fn page_of<L: LevelCount>(page: &Page) -> Result<AnyPage<L>, u32>
+    ensures page { IfOk result (λ any.
+        given.IsPageOf L.LEVELS page.now (given.any_level any) (given.any_position any)) }
+    ensures good { IfOk result (λ _. given.bad_page L.LEVELS page.now ≡ None) }
+    ensures bad { IfErr result (λ status. given.bad_page L.LEVELS page.now ≡ Some status) }
+{
+    Ok(match page.size {
         Size4KiB::SIZE => AnyPage::Of4KiB(page_at(page.start)?),
         Size2MiB::SIZE => AnyPage::Of2MiB(page_at(page.start)?),
         Size1GiB::SIZE => AnyPage::Of1GiB(page_at(page.start)?),
-        _ => return None,
+        _ => return Err(status::BAD_PAGE),
     })
 }
 
-/// Returns the page of a size that starts at an address, if one does.
-pub fn page_at<S: PageSize, L: LevelCount>(start: u64) -> Option<PageIn<S, L>>
-    ensures some { IfSome result (λ page. page ≡ given.position_of L.LEVELS start) }
-    ensures good { IfSome result (λ _. given.starts_page L.LEVELS S.SIZE start ≡ true) }
-    ensures bad { IfNone result (given.starts_page L.LEVELS S.SIZE start ≡ false) }
+/// Returns the page of a size that starts at an address, or the status that says that none does.
+pub fn page_at<S: PageSize, L: LevelCount>(start: u64) -> Result<PageIn<S, L>, u32>
+    ensures page { IfOk result (λ page. page ≡ given.position_of L.LEVELS start) }
+    ensures good { IfOk result (λ _. given.starts_page L.LEVELS S.SIZE start ≡ true) }
+    ensures bad { IfErr result (λ status. given.starts_page L.LEVELS S.SIZE start ≡ false) }
+    ensures why { IfErr result (λ why. why ≡ status.bad_page) }
 {
-    PageIn::from_start_address(VirtAddrIn::checked_new(start)?).ok()
+    let Some(address) = VirtAddrIn::checked_new(start) else {
+        return Err(status::BAD_PAGE);
+    };
+    match PageIn::from_start_address(address) {
+        Ok(page) => Ok(page),
+        Err(_) => Err(status::BAD_PAGE),
+    }
 }

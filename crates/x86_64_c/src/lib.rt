@@ -11,6 +11,8 @@ mod entries;
 mod flush;
 mod given;
 mod listing;
+mod operation;
+mod pool;
 mod ranges;
 mod reads;
 mod runs;

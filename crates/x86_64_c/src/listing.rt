@@ -3,15 +3,13 @@ ghost use Rattle.std.specs.Prelude.{◌≡◌, ℕ, ◌++◌, length, map, take,
 ghost use Rattle.x86_64_c.specs.Given as given;
 ghost use Rattle.x86_64_c.specs.Listing as listing;
 
-use crate::given::{Hierarchy, Located, locate};
+use crate::given::{Hierarchy, Located, address_of};
+use crate::operation::{Operation, enter};
 use crate::status;
 use bitflags::Flags;
 use x86_64::structures::paging::PageTable;
 use x86_64::structures::paging::mapper::PageTableFrameMapping;
-use x86_64::{
-    FiveLevels, FourLevels, LentMemory, LevelCount, MappingIn, MappingsIn, TableMemory, VirtAddrIn,
-    mappings_from,
-};
+use x86_64::{LevelCount, MappingIn, MappingsIn, TableMemory, mappings_from};
 
 /// What a leaf maps: the addresses from `start` on, `size` bytes, to those from `frame` on.
 #[derive(Drop)]
@@ -54,7 +52,7 @@ impl Mapping {
 ///
 /// Writes as many mappings as the array has room for, and their number to `count`. Returns `OK` if these are all, or `MORE` if there
 /// are others; then `next` is the address to go on from. Or returns what is wrong with an argument; then nothing is written.
-#[tactic(auto, using(crate::proofs::Arguments::handed_back))]
+#[tactic(auto, using(crate::proofs::Arguments::kept))]
 #[unsafe(no_mangle)]
 pub extern "C" fn x64_mappings(
     hierarchy: &Hierarchy,
@@ -72,45 +70,66 @@ pub extern "C" fn x64_mappings(
         hierarchy.now.levels mappings.old result mappings.new count.new next.old next.new }
     ensures tables { tables.new ≡ tables.old }
 {
-    let located = match locate(hierarchy, tables.len()) {
-        Ok(located) => located,
+    let listed = match enter(hierarchy, tables, mappings, &Listing { from }) {
+        Ok(listed) => listed,
         Err(status) => return status,
     };
-    let memory = LentMemory::new(tables);
-    if hierarchy.levels == 4 {
-        list_in::<FourLevels, _>(&memory, located, from, mappings, count, next)
-    } else {
-        list_in::<FiveLevels, _>(&memory, located, from, mappings, count, next)
-    }
-}
-
-/// Lists what is mapped from an address on with `L` levels of tables.
-fn list_in<L: LevelCount, T: TableMemory>(
-    memory: &T,
-    located: Located,
-    from: u64,
-    mappings: &mut [Mapping],
-    count: &mut usize,
-    next: &mut u64,
-) -> u32
-    ensures bad { (status : ℕ) → given.bad_address L.LEVELS from ≡ Some status
-        → (result ≡ status) × (mappings.new ≡ mappings.old)
-        × (count.new ≡ count.old) × (next.new ≡ next.old) }
-    ensures lists { given.bad_address L.LEVELS from ≡ None
-        → listing.Lists (listing.mappings_at (given.at L.LEVELS located (T.tables memory.now)) from)
-        L.LEVELS mappings.old result mappings.new count.new next.old next.new }
-{
-    let Some(from) = VirtAddrIn::<L>::checked_new(from) else {
-        return status::BAD_ADDRESS;
-    };
-    let mut coming = mappings_from(memory, &located.mapping, located.root, from);
-    *count = fill(&mut coming, mappings);
-    match coming.next() {
-        Some(mapping) => {
-            *next = mapping.start.as_u64();
+    *count = listed.count;
+    match listed.next {
+        Some(start) => {
+            *next = start;
             status::MORE
         }
         None => status::OK,
+    }
+}
+
+/// The listing of what is mapped from an address on.
+#[derive(Clone, Copy)]
+pub struct Listing {
+    from: u64,
+}
+
+/// What a listing tells beside the mappings.
+#[derive(Clone, Copy)]
+pub struct Listed {
+    /// The number of mappings that were written.
+    pub count: usize,
+    /// The address of the next one, if there are more.
+    pub next: Option<u64>,
+}
+
+impl Operation for Listing {
+    ghost use Rattle.std.specs.Prelude.{◌≡◌, drop, length};
+    ghost use Rattle.x86_64_c.specs.Given.{bad_address};
+    ghost use Rattle.x86_64_c.specs.Listing.{Fills, mappings_at, next_of};
+
+    type Out = Listed;
+
+    type Entry = Mapping;
+
+    ghost wrong = { λ new levels tables room. bad_address levels new.from };
+
+    ghost may = { λ new h array. Unit {0} };
+
+    ghost does = { λ new h array after left listed. let all = mappings_at h new.from in (after.memory ≡ h.memory)
+        × Fills all h.layout.levels array left listed.count
+        × (listed.next ≡ next_of h.layout.levels (drop (length array) all)) };
+
+    fn execute<L: LevelCount, T: TableMemory>(
+        &self,
+        memory: &mut T,
+        located: Located,
+        array: &mut [Mapping],
+    ) -> Result<Listed, u32> {
+        let from = address_of::<L>(self.from)?;
+        let mut coming = mappings_from(memory, &located.mapping, located.root, from);
+        let count = fill(&mut coming, array);
+        let next = match coming.next() {
+            Some(mapping) => Some(mapping.start.as_u64()),
+            None => None,
+        };
+        Ok(Listed { count, next })
     }
 }
 

@@ -1,30 +1,25 @@
 //! Calls on ranges of pages of one size: maps, unmaps and changes of flags.
-ghost use Rattle.std.specs.Prelude.{◌≡◌, ◌≤◌, ◌⊎◌, ◌+◌, ◌-◌, ◌*◌, ℕ, List, nat_le, true, false, length, fold, Some, None, IfOk, IfErr, IfSome, IfNone};
+ghost use Rattle.std.specs.Prelude.{◌≡◌, ◌≤◌, ◌+◌, ◌-◌, ◌*◌, ℕ, List, nat_le, length, fold, Some, None, IfOk, IfErr, OnErr};
 ghost use Rattle.x86_64_c.specs.Calls.{result_status};
 ghost use Rattle.x86_64_c.specs.Given as given;
-ghost use Rattle.x86_64_c.specs.PoolCalls.{loan, pool_in};
+ghost use Rattle.x86_64_c.specs.PoolCalls.{loan};
 ghost use Rattle.x86_64_c.specs.Ranges as ranges;
-ghost use Rattle.x86_64_c.specs.Status as statuses;
-ghost use Rattle.x86_64_mappers.specs.RangeChanges.{IsRange};
-ghost use Rattle.x86_64_model.specs.Entry.{no_address};
+ghost use Rattle.x86_64_c.specs.private.Pools as pools;
+ghost use Rattle.x86_64_c.specs.private.RangeMaps as maps;
 ghost use Rattle.x86_64_model.specs.Mapper.{Valid};
 ghost use Rattle.x86_64_model.specs.Position.{position_count, span};
-ghost use Rattle.x86_64_model.specs.Store.{Fits, store_of};
-ghost use Rattle.x86_64_tables.specs.LentMemory.{numbered};
 ghost use Rattle.x86_64_tables.specs.MapperAnswers.{map_refusal};
 ghost use Rattle.x86_64_tables.specs.PageTableFlags.{bits_of};
 
-use crate::given::{AnyPage, Hierarchy, Located, MapRequest, Page, frame_at, locate, page_of};
+use crate::given::{AnyPage, Hierarchy, Located, MapRequest, Page, frame_at, page_of};
+use crate::operation::{Operation, enter};
+use crate::pool::{PoolStep, Stepped, with_pool};
 use crate::status::{self, map_status};
 use bitflags::Flags;
 use x86_64::structures::paging::mapper::calls::{self, FrameSink};
 use x86_64::structures::paging::mapper::{MapRangeErrorIn, MappedPageTableIn, MapperFlushRangeIn};
-use x86_64::structures::paging::{
-    PageIn, PageSize, PageTable, PageTableFlags, PhysFrame, Size1GiB, Size2MiB, Size4KiB,
-};
-use x86_64::{
-    FiveLevels, FourLevels, FrameStore, LentMemory, LentPool, LevelCount, OwnFrames, TableMemory,
-};
+use x86_64::structures::paging::{PageIn, PageSize, PageTable, PageTableFlags, PhysFrame};
+use x86_64::{FrameStore, LevelCount, OwnFrames, TableMemory};
 
 /// The end of physical addresses.
 const PHYSICAL_END: u64 = 1 << 52;
@@ -55,64 +50,40 @@ fn bytes_in_half<L: LevelCount>(address: u64) -> u64
     }
 }
 
-/// Returns the first of a number of pages, if all are pages in one half of the address space with `L` levels of tables.
-fn first_page<L: LevelCount>(page: &Page, count: u64) -> Option<AnyPage<L>>
-    ensures some { IfSome result (λ any.
+/// Returns the first of a number of pages, or the status that says that they aren't pages in one half of the address space with `L`
+/// levels of tables.
+fn first_page<L: LevelCount>(page: &Page, count: u64) -> Result<AnyPage<L>, u32>
+    ensures page { IfOk result (λ any.
         given.IsPageOf L.LEVELS page.now (given.any_level any) (given.any_position any)) }
-    ensures size { IfSome result (λ any. page.now.size ≡ span (given.any_level any)) }
-    ensures there { IfSome result (λ any.
+    ensures size { IfOk result (λ any. page.now.size ≡ span (given.any_level any)) }
+    ensures there { IfOk result (λ any.
         given.any_position any + count * span (given.any_level any) ≤ position_count L.LEVELS) }
-    ensures good { IfSome result (λ _. ranges.bad_pages L.LEVELS page.now count ≡ None) }
-    ensures bad { IfNone result (ranges.bad_pages L.LEVELS page.now count ≡ Some statuses.bad_page) }
+    ensures good { IfOk result (λ _. ranges.bad_pages L.LEVELS page.now count ≡ None) }
+    ensures bad { IfErr result (λ status. ranges.bad_pages L.LEVELS page.now count ≡ Some status) }
 {
     let first = page_of::<L>(page)?;
     if fit_in(count, page.size, bytes_in_half::<L>(page.start)) {
-        Some(first)
+        Ok(first)
     } else {
-        None
+        Err(status::BAD_PAGE)
     }
 }
 
-/// Returns the first of a number of frames of a size, if there are as many.
-fn first_frame<S: PageSize>(start: u64, count: u64) -> Option<PhysFrame<S>>
-    ensures some { IfSome result (λ frame. frame ≡ start) }
-    ensures good { IfSome result (λ _. ranges.bad_frames S.SIZE start count ≡ None) }
-    ensures bad { IfNone result (ranges.bad_frames S.SIZE start count ≡ Some statuses.bad_frame) }
+/// Returns the first of a number of frames of a size, or the status that says that there aren't as many.
+fn first_frame<S: PageSize>(start: u64, count: u64) -> Result<PhysFrame<S>, u32>
+    ensures frame { IfOk result (λ frame. frame ≡ start) }
+    ensures good { IfOk result (λ _. ranges.bad_frames S.SIZE start count ≡ None) }
+    ensures bad { IfErr result (λ status. ranges.bad_frames S.SIZE start count ≡ Some status) }
 {
     let first = frame_at::<S>(start)?;
     if fit_in(count, S::SIZE, PHYSICAL_END - start) {
-        Some(first)
+        Ok(first)
     } else {
-        None
+        Err(status::BAD_FRAME)
     }
 }
 
 // ---- maps
-
-/// A map of a number of pages of a size, from a page on, to as many frames, from a frame on.
-#[derive(Clone, Copy)]
-pub struct RangeMap<S: PageSize, L: LevelCount> {
-    page: PageIn<S, L>,
-    count: u64,
-    frame: PhysFrame<S>,
-    flags: PageTableFlags,
-    parent_flags: PageTableFlags,
-}
-
-/// A map of pages of one of the three sizes.
-#[derive(Clone, Copy)]
-pub enum RangeMapIn<L: LevelCount> {
-    Of4KiB(RangeMap<Size4KiB, L>),
-    Of2MiB(RangeMap<Size2MiB, L>),
-    Of1GiB(RangeMap<Size1GiB, L>),
-}
-
-/// A map of pages with four or with five levels of tables.
-#[derive(Clone, Copy)]
-pub enum AnyRangeMap {
-    FourLevels(RangeMapIn<FourLevels>),
-    FiveLevels(RangeMapIn<FiveLevels>),
-}
 
 /// Maps a number of pages, from the page of a request on, to as many frames, from its frame on: each in turn as `x64_map` does, up to
 /// the first one that is refused. Writes how many were mapped.
@@ -136,200 +107,197 @@ pub extern "C" fn x64_map_range(
     ensures { ranges.MapsWith own hierarchy.now (loan tables.old pool.old free_count.old) request.now count
         done.old result (loan tables.new pool.new free_count.new) done.new }
 {
-    let located = match locate(hierarchy, tables.len()) {
-        Ok(located) => located,
+    let map = MapFrom {
+        request,
+        count,
+        free_count: *free_count,
+        own: OwnFrames::of(),
+    };
+    let mapped = match enter(hierarchy, tables, pool, &map) {
+        Ok(mapped) => mapped,
         Err(status) => return status,
     };
-    if pool.len() < *free_count {
-        return status::BAD_ARRAY;
+    *free_count = mapped.free_count;
+    if let Some(number) = mapped.out.done {
+        *done = number;
     }
-    match range_map(hierarchy.levels, request, count) {
-        Ok(map) => map_lent(located, tables, pool, free_count, map, done),
-        Err(status) => status,
-    }
+    mapped.out.status
 }
 
-/// Returns the map that a request asks for with 4 or 5 levels of tables, or what is wrong with it.
-fn range_map(levels: u64, request: &MapRequest, count: u64) -> Result<AnyRangeMap, u32>
-    requires { levels ≡ 4 ⊎ levels ≡ 5 }
-    ensures levels { IfOk result (λ map. ranges.any_levels map ≡ levels) }
-    ensures range { IfOk result (λ map. ranges.any_range map ≡ ranges.range_asked levels request.now) }
-    ensures count { IfOk result (λ map. ranges.any_count map ≡ count) }
-    ensures good { IfOk result (λ _. ranges.bad_maps levels request.now count ≡ None) }
-    ensures bad { IfErr result (λ status. ranges.bad_maps levels request.now count ≡ Some status) }
-{
-    if levels == 4 {
-        match range_map_in(request, count) {
-            Ok(map) => Ok(AnyRangeMap::FourLevels(map)),
-            Err(status) => Err(status),
-        }
-    } else {
-        match range_map_in(request, count) {
-            Ok(map) => Ok(AnyRangeMap::FiveLevels(map)),
-            Err(status) => Err(status),
-        }
-    }
-}
-
-/// Returns the map that a request asks for with `L` levels of tables, or what is wrong with it.
-fn range_map_in<L: LevelCount>(request: &MapRequest, count: u64) -> Result<RangeMapIn<L>, u32>
-    ensures range { IfOk result (λ map. ranges.range_in map ≡ ranges.range_asked L.LEVELS request.now) }
-    ensures count { IfOk result (λ map. ranges.count_in map ≡ count) }
-    ensures good { IfOk result (λ _. ranges.bad_maps L.LEVELS request.now count ≡ None) }
-    ensures bad { IfErr result (λ status. ranges.bad_maps L.LEVELS request.now count ≡ Some status) }
-{
-    let Some(page) = first_page::<L>(&request.page, count) else {
-        return Err(status::BAD_PAGE);
-    };
-    Ok(match page {
-        AnyPage::Of4KiB(page) => RangeMapIn::Of4KiB(range_map_of(page, request, count)?),
-        AnyPage::Of2MiB(page) => RangeMapIn::Of2MiB(range_map_of(page, request, count)?),
-        AnyPage::Of1GiB(page) => RangeMapIn::Of1GiB(range_map_of(page, request, count)?),
-    })
-}
-
-/// Returns the map of pages of a size to the frames of a request, or what is wrong with the frames.
-fn range_map_of<S: PageSize, L: LevelCount>(
-    page: PageIn<S, L>,
-    request: &MapRequest,
+/// The map of a number of pages from the page of a request on, with the number of free frames of the pool in the operation's array, and
+/// its own frames.
+#[derive(Drop)]
+pub struct MapFrom<'a> {
+    request: &'a MapRequest,
     count: u64,
-) -> Result<RangeMap<S, L>, u32>
-    ensures page { IfOk result (λ map. map.page ≡ page) }
-    ensures count { IfOk result (λ map. map.count ≡ count) }
-    ensures frame { IfOk result (λ map. map.frame ≡ request.now.frame) }
-    ensures flags { IfOk result (λ map. bits_of map.flags ≡ request.now.flags) }
-    ensures parent_flags { IfOk result (λ map. bits_of map.parent_flags ≡ request.now.parent_flags) }
-    ensures good { IfOk result (λ _. ranges.bad_frames S.SIZE request.now.frame count ≡ None) }
-    ensures bad { IfErr result (λ status. ranges.bad_frames S.SIZE request.now.frame count ≡ Some status) }
-{
-    let Some(frame) = first_frame::<S>(request.frame, count) else {
-        return Err(status::BAD_FRAME);
-    };
-    Ok(RangeMap {
-        page,
-        count,
-        frame,
-        flags: PageTableFlags::from_bits_retain(request.flags),
-        parent_flags: PageTableFlags::from_bits_retain(request.parent_flags),
-    })
+    free_count: usize,
+    own: OwnFrames,
 }
 
-/// Maps pages in the caller's tables with frames of the caller's pool, writes how many were mapped, and returns the status.
-fn map_lent(
-    located: Located,
-    tables: &mut [PageTable],
-    pool: &mut [u64],
-    free_count: &mut usize,
-    map: AnyRangeMap,
-    done: &mut u64,
-) -> u32
-    ghost own: { List ℕ }
-    requires in_array { free_count.old ≤ length pool.old }
-    requires room { length own ≤ length pool.old }
-    requires fits { Fits (given.at (ranges.any_levels map) located (numbered tables.old))
-        (pool_in own pool.old free_count.old) }
-    ensures refused { (ranges.MayMap (given.at (ranges.any_levels map) located (numbered tables.old))
-        (ranges.any_range map) (ranges.any_count map) → ⊥) → (result ≡ statuses.not_allowed)
-        × (tables.new ≡ tables.old) × (pool.new ≡ pool.old) × (free_count.new ≡ free_count.old)
-        × (done.new ≡ done.old) }
-    ensures maps { ranges.MayMap (given.at (ranges.any_levels map) located (numbered tables.old))
-        (ranges.any_range map) (ranges.any_count map)
-        → ranges.Maps (given.at (ranges.any_levels map) located (numbered tables.old))
-        (pool_in own pool.old free_count.old) (ranges.any_range map) (ranges.any_count map)
-        (given.at (ranges.any_levels map) located (numbered tables.new))
-        (pool_in own pool.new free_count.new) result done.new }
-    ensures room { length pool.new ≡ length pool.old }
-    ensures in_array { free_count.new ≤ length pool.new }
-{
-    let mut memory = LentMemory::new(tables);
-    let mut frames = LentPool::new(pool, free_count, OwnFrames::of());
-    match map {
-        AnyRangeMap::FourLevels(map) => map_in(&mut memory, located, &mut frames, map, done),
-        AnyRangeMap::FiveLevels(map) => map_in(&mut memory, located, &mut frames, map, done),
+/// What a map of a range tells.
+#[derive(Clone, Copy)]
+pub struct Mapped {
+    /// The status.
+    pub status: u32,
+    /// How many pages were mapped, if the map is allowed.
+    pub done: Option<u64>,
+}
+
+impl<'a> Operation for MapFrom<'a> {
+    ghost use Rattle.x86_64_c.specs.PoolCalls.{bad_pool};
+    ghost use Rattle.x86_64_c.specs.Ranges.{bad_maps, range_asked};
+    ghost use Rattle.x86_64_c.specs.private.Pools.{FitsIn};
+    ghost use Rattle.x86_64_c.specs.private.RangeMaps.{MapsRange};
+
+    type Out = Stepped<Mapped>;
+
+    type Entry = u64;
+
+    ghost wrong = { λ map levels tables room.
+        bad_pool map.free_count room (bad_maps levels map.request.now map.count) };
+
+    ghost may = { λ map h array. FitsIn map.own.frames h array map.free_count };
+
+    ghost does = { λ map h array after left mapped. MapsRange map.own.frames
+        (range_asked h.layout.levels map.request.now) map.count h array map.free_count after left
+        mapped.free_count mapped.out };
+
+    fn execute<L: LevelCount, T: TableMemory>(
+        &self,
+        memory: &mut T,
+        located: Located,
+        array: &mut [u64],
+    ) -> Result<Stepped<Mapped>, u32> {
+        if array.len() < self.free_count {
+            return Err(status::BAD_ARRAY);
+        }
+        let page = first_page::<L>(&self.request.page, self.count)?;
+        match page {
+            AnyPage::Of4KiB(page) => self.map_from(memory, located, page, array),
+            AnyPage::Of2MiB(page) => self.map_from(memory, located, page, array),
+            AnyPage::Of1GiB(page) => self.map_from(memory, located, page, array),
+        }
     }
 }
 
-/// Maps pages with `L` levels of tables, writes how many were mapped, and returns the status.
-fn map_in<L: LevelCount, T: TableMemory, F: FrameStore>(
-    memory: &mut T,
-    located: Located,
-    frames: &mut F,
-    map: RangeMapIn<L>,
-    done: &mut u64,
-) -> u32
-    requires { Fits (given.at L.LEVELS located (T.tables memory.old)) (store_of F.FrameStore frames.old) }
-    ensures refused { (ranges.MayMap (given.at L.LEVELS located (T.tables memory.old)) (ranges.range_in map)
-        (ranges.count_in map) → ⊥) → (result ≡ statuses.not_allowed)
-        × (T.tables memory.new ≡ T.tables memory.old) × (frames.new ≡ frames.old) × (done.new ≡ done.old) }
-    ensures maps { ranges.MayMap (given.at L.LEVELS located (T.tables memory.old)) (ranges.range_in map)
-        (ranges.count_in map) → ranges.Maps (given.at L.LEVELS located (T.tables memory.old))
-        (store_of F.FrameStore frames.old) (ranges.range_in map) (ranges.count_in map)
-        (given.at L.LEVELS located (T.tables memory.new)) (store_of F.FrameStore frames.new) result done.new }
-    ensures lent { T.lent memory.new ≡ T.lent memory.old }
-    ensures serves { F.serves frames.new ≡ F.serves frames.old }
-{
-    match map {
-        RangeMapIn::Of4KiB(map) => map_pages(memory, located, frames, map, done),
-        RangeMapIn::Of2MiB(map) => map_pages(memory, located, frames, map, done),
-        RangeMapIn::Of1GiB(map) => map_pages(memory, located, frames, map, done),
+impl<'a> MapFrom<'a> {
+    /// Maps the pages from a page on to the frames of the request.
+    fn map_from<S: PageSize, L: LevelCount, T: TableMemory>(
+        &self,
+        memory: &mut T,
+        located: Located,
+        page: PageIn<S, L>,
+        array: &mut [u64],
+    ) -> Result<Stepped<Mapped>, u32>
+        requires in_array { self.now.free_count ≤ length array.old }
+        requires pages { ranges.bad_pages L.LEVELS self.now.request.now.page self.now.count ≡ None }
+        requires size { self.now.request.now.page.size ≡ span S.LEVEL }
+        requires is_page { given.IsPageOf L.LEVELS self.now.request.now.page S.LEVEL page }
+        requires fits { ranges.bad_maps L.LEVELS self.now.request.now self.now.count ≡ None
+            → pools.FitsIn self.now.own.frames (given.at L.LEVELS located (T.tables memory.old)) array.old
+            self.now.free_count }
+        ensures bad { IfErr result (λ status.
+            ranges.bad_maps L.LEVELS self.now.request.now self.now.count ≡ Some status) }
+        ensures unchanged { OnErr result ((T.tables memory.new ≡ T.tables memory.old)
+            × (array.new ≡ array.old)) }
+        ensures good { IfOk result (λ _.
+            ranges.bad_maps L.LEVELS self.now.request.now self.now.count ≡ None) }
+        ensures does { IfOk result (λ mapped. maps.MapsRange self.now.own.frames
+            (ranges.range_asked L.LEVELS self.now.request.now) self.now.count
+            (given.at L.LEVELS located (T.tables memory.old)) array.old self.now.free_count
+            (given.at L.LEVELS located (T.tables memory.new)) array.new mapped.free_count mapped.out) }
+        ensures lent { T.lent memory.new ≡ T.lent memory.old }
+    {
+        let frame = first_frame::<S>(self.request.frame, self.count)?;
+        let map = RangeMap {
+            page,
+            count: self.count,
+            frame,
+            flags: PageTableFlags::from_bits_retain(self.request.flags),
+            parent_flags: PageTableFlags::from_bits_retain(self.request.parent_flags),
+        };
+        Ok(with_pool(memory, located, &self.own, array, self.free_count, &map))
     }
 }
 
-/// Maps pages of a size, writes how many were mapped, and returns the status.
-fn map_pages<S: PageSize, L: LevelCount, T: TableMemory, F: FrameStore>(
-    memory: &mut T,
-    located: Located,
-    frames: &mut F,
-    map: RangeMap<S, L>,
-    done: &mut u64,
-) -> u32
-    requires { Fits (given.at L.LEVELS located (T.tables memory.old)) (store_of F.FrameStore frames.old) }
-    ensures refused { (ranges.MayMap (given.at L.LEVELS located (T.tables memory.old))
-        (ranges.range_at S.LEVEL map) map.count → ⊥) → (result ≡ statuses.not_allowed)
-        × (T.tables memory.new ≡ T.tables memory.old) × (frames.new ≡ frames.old) × (done.new ≡ done.old) }
-    ensures maps { ranges.MayMap (given.at L.LEVELS located (T.tables memory.old))
-        (ranges.range_at S.LEVEL map) map.count
-        → ranges.Maps (given.at L.LEVELS located (T.tables memory.old)) (store_of F.FrameStore frames.old)
-        (ranges.range_at S.LEVEL map) map.count (given.at L.LEVELS located (T.tables memory.new))
-        (store_of F.FrameStore frames.new) result done.new }
-    ensures lent { T.lent memory.new ≡ T.lent memory.old }
-    ensures serves { F.serves frames.new ≡ F.serves frames.old }
-{
-    let mut mapper = MappedPageTableIn::<_, L, T>::new(memory, located.root, located.mapping);
-    let RangeMap {
-        page,
-        count,
-        frame,
-        flags,
-        parent_flags,
-    } = map;
-    if !calls::map_range_allowed(&mapper, page, count, frame, flags, parent_flags) {
-        return status::NOT_ALLOWED;
-    }
-    let mapped = calls::map_range(&mut mapper, page, count, frame, flags, parent_flags, frames);
-    tell_mapped(mapped, done)
+/// A map of a number of pages of a size, from a page on, to as many frames, from a frame on.
+#[derive(Clone, Copy)]
+pub struct RangeMap<S: PageSize, L: LevelCount> {
+    page: PageIn<S, L>,
+    count: u64,
+    frame: PhysFrame<S>,
+    flags: PageTableFlags,
+    parent_flags: PageTableFlags,
 }
 
-/// Writes how many pages were mapped, and returns the status.
+impl<S: PageSize, L: LevelCount> PoolStep<L> for RangeMap<S, L> {
+    ghost use Rattle.std.specs.Prelude.{false};
+    ghost use Rattle.x86_64_c.specs.Ranges.{range_at};
+    ghost use Rattle.x86_64_c.specs.private.PoolLaws.{own_tells};
+    ghost use Rattle.x86_64_c.specs.private.RangeMaps.{TellsMaps, untold};
+
+    type Out = Mapped;
+
+    ghost gives_root = { λ _. false };
+
+    ghost refused = { λ mapped. untold mapped.done };
+
+    ghost does = { λ map h pool after rest mapped.
+        TellsMaps h pool (range_at S.LEVEL map) map.count after rest mapped };
+
+    fn take<T: TableMemory, F: FrameStore>(
+        &self,
+        memory: &mut T,
+        located: Located,
+        frames: &mut F,
+    ) -> Mapped {
+        let mut mapper = MappedPageTableIn::<_, L, T>::new(memory, located.root, located.mapping);
+        let RangeMap {
+            page,
+            count,
+            frame,
+            flags,
+            parent_flags,
+        } = *self;
+        if !calls::map_range_allowed(&mapper, page, count, frame, flags, parent_flags) {
+            return Mapped {
+                status: status::NOT_ALLOWED,
+                done: None,
+            };
+        }
+        let mapped = calls::map_range(&mut mapper, page, count, frame, flags, parent_flags, frames);
+        tell_mapped(mapped)
+    }
+
+    ghost own_frames = { λ map own array count serves same h after free rest mapped.
+        own_tells own array count same h after free rest _ map.count mapped };
+}
+
+/// Tells the status, and how many pages were mapped.
 fn tell_mapped<S: PageSize, L: LevelCount>(
     mapped: Result<MapperFlushRangeIn<S, L>, MapRangeErrorIn<S, L>>,
-    done: &mut u64,
-) -> u32
-    ensures status { result ≡ result_status (λ error. map_refusal error.why) mapped }
-    ensures all { IfOk mapped (λ flush. done.new ≡ flush.count) }
-    ensures some { IfErr mapped (λ error. done.new ≡ error.mapped.count) }
+) -> Mapped
+    ensures status { result.status ≡ result_status (λ error. map_refusal error.why) mapped }
+    ensures all { IfOk mapped (λ flush. result.done ≡ Some flush.count) }
+    ensures some { IfErr mapped (λ error. result.done ≡ Some error.mapped.count) }
 {
     match mapped {
         Ok(flush) => {
-            *done = flush.count();
+            let done = Some(flush.count());
             flush.ignore();
-            status::OK
+            Mapped {
+                status: status::OK,
+                done,
+            }
         }
         Err(error) => {
             let MapRangeErrorIn { mapped, why } = error;
-            *done = mapped.count();
+            let done = Some(mapped.count());
             mapped.ignore();
-            map_status(why)
+            Mapped {
+                status: map_status(why),
+                done,
+            }
         }
     }
 }
@@ -395,62 +363,61 @@ pub extern "C" fn x64_unmap_range(
         (given.position_of hierarchy.now.levels first.now.start) count frames.old
         (given.hierarchy_in hierarchy.now tables.new) result frames.new frame_count.new done.new }
 {
-    let located = match locate(hierarchy, tables.len()) {
-        Ok(located) => located,
-        Err(status) => return status,
-    };
-    let mut memory = LentMemory::new(tables);
-    if hierarchy.levels == 4 {
-        unmap_in::<FourLevels, _>(
-            &mut memory,
-            located,
-            first,
-            count,
-            frames,
-            frame_count,
-            done,
-        )
-    } else {
-        unmap_in::<FiveLevels, _>(
-            &mut memory,
-            located,
-            first,
-            count,
-            frames,
-            frame_count,
-            done,
-        )
+    match enter(hierarchy, tables, frames, &UnmapFrom { first, count }) {
+        Ok(unmapped) => {
+            *frame_count = unmapped.frame_count;
+            *done = unmapped.done;
+            end_status(unmapped.done, count)
+        }
+        Err(status) => status,
     }
 }
 
-/// Unmaps a number of pages with `L` levels of tables.
-fn unmap_in<L: LevelCount, T: TableMemory>(
-    memory: &mut T,
-    located: Located,
-    first: &Page,
+/// The unmap of a number of pages from a page on.
+#[derive(Clone, Copy)]
+pub struct UnmapFrom<'a> {
+    first: &'a Page,
     count: u64,
-    frames: &mut [u64],
-    number: &mut usize,
-    done: &mut u64,
-) -> u32
-    requires { ranges.bad_pages L.LEVELS first.now count ≡ None
-        → Valid (given.at L.LEVELS located (T.tables memory.old)) }
-    ensures bad { (status : ℕ) → ranges.bad_pages L.LEVELS first.now count ≡ Some status
-        → (result ≡ status) × (T.tables memory.new ≡ T.tables memory.old) × (frames.new ≡ frames.old)
-        × (number.new ≡ number.old) × (done.new ≡ done.old) }
-    ensures unmaps { ranges.bad_pages L.LEVELS first.now count ≡ None
-        → ranges.Unmaps (given.at L.LEVELS located (T.tables memory.old)) (given.level_of first.now.size)
-        (given.position_of L.LEVELS first.now.start) count frames.old
-        (given.at L.LEVELS located (T.tables memory.new)) result frames.new number.new done.new }
-    ensures lent { T.lent memory.new ≡ T.lent memory.old }
-{
-    let Some(page) = first_page::<L>(first, count) else {
-        return status::BAD_PAGE;
-    };
-    match page {
-        AnyPage::Of4KiB(page) => unmap_pages(memory, located, page, count, frames, number, done),
-        AnyPage::Of2MiB(page) => unmap_pages(memory, located, page, count, frames, number, done),
-        AnyPage::Of1GiB(page) => unmap_pages(memory, located, page, count, frames, number, done),
+}
+
+/// What an unmap of a range tells beside the frames.
+#[derive(Clone, Copy)]
+pub struct Unmapped {
+    /// The number of frames.
+    pub frame_count: usize,
+    /// How many pages were looked at.
+    pub done: u64,
+}
+
+impl<'a> Operation for UnmapFrom<'a> {
+    ghost use Rattle.x86_64_c.specs.Given.{level_of, position_of};
+    ghost use Rattle.x86_64_c.specs.Ranges.{Unmaps, bad_pages, end_status};
+    ghost use Rattle.x86_64_model.specs.Mapper.{Valid};
+
+    type Out = Unmapped;
+
+    type Entry = u64;
+
+    ghost wrong = { λ from levels tables room. bad_pages levels from.first.now from.count };
+
+    ghost may = { λ from h array. Valid h };
+
+    ghost does = { λ from h array after left unmapped. Unmaps h (level_of from.first.now.size)
+        (position_of h.layout.levels from.first.now.start) from.count array after
+        (end_status unmapped.done from.count) left unmapped.frame_count unmapped.done };
+
+    fn execute<L: LevelCount, T: TableMemory>(
+        &self,
+        memory: &mut T,
+        located: Located,
+        array: &mut [u64],
+    ) -> Result<Unmapped, u32> {
+        let page = first_page::<L>(self.first, self.count)?;
+        Ok(match page {
+            AnyPage::Of4KiB(page) => unmap_pages(memory, located, page, self.count, array),
+            AnyPage::Of2MiB(page) => unmap_pages(memory, located, page, self.count, array),
+            AnyPage::Of1GiB(page) => unmap_pages(memory, located, page, self.count, array),
+        })
     }
 }
 
@@ -461,23 +428,22 @@ fn unmap_pages<S: PageSize, L: LevelCount, T: TableMemory>(
     page: PageIn<S, L>,
     count: u64,
     frames: &mut [u64],
-    number: &mut usize,
-    done: &mut u64,
-) -> u32
+) -> Unmapped
     requires valid { Valid (given.at L.LEVELS located (T.tables memory.old)) }
     requires there { page + count * span S.LEVEL ≤ position_count L.LEVELS }
     ensures unmaps { ranges.Unmaps (given.at L.LEVELS located (T.tables memory.old)) S.LEVEL page count
-        frames.old (given.at L.LEVELS located (T.tables memory.new)) result frames.new number.new
-        done.new }
+        frames.old (given.at L.LEVELS located (T.tables memory.new)) (ranges.end_status result.done count)
+        frames.new result.frame_count result.done }
     ensures lent { T.lent memory.new ≡ T.lent memory.old }
 {
     let most = count.min(frames.len() as u64);
     let mut mapper = MappedPageTableIn::<_, L, T>::new(memory, located.root, located.mapping);
     let mut sink = FrameArray { frames, count: 0 };
     calls::unmap_range(&mut mapper, page, most, &mut sink).ignore();
-    *number = sink.count;
-    *done = most;
-    end_status(most, count)
+    Unmapped {
+        frame_count: sink.count,
+        done: most,
+    }
 }
 
 /// Returns the status of a call that looked at so many of a number of pages.
@@ -516,70 +482,85 @@ pub extern "C" fn x64_update_flags_range(
         (given.position_of hierarchy.now.levels first.now.start) flags count changed.old
         (given.hierarchy_in hierarchy.now tables.new) result changed.new }
 {
-    let located = match locate(hierarchy, tables.len()) {
-        Ok(located) => located,
+    let flags = PageTableFlags::from_bits_retain(flags);
+    let update = UpdateFrom {
+        first,
+        count,
+        flags,
+    };
+    let updated = match enter(hierarchy, tables, &mut [], &update) {
+        Ok(updated) => updated,
         Err(status) => return status,
     };
-    let mut memory = LentMemory::new(tables);
-    let flags = PageTableFlags::from_bits_retain(flags);
-    if hierarchy.levels == 4 {
-        update_in::<FourLevels, _>(&mut memory, located, first, count, flags, changed)
-    } else {
-        update_in::<FiveLevels, _>(&mut memory, located, first, count, flags, changed)
+    match updated {
+        Some(number) => {
+            *changed = number;
+            status::OK
+        }
+        None => status::NOT_ALLOWED,
     }
 }
 
-/// Sets the flags of a number of pages with `L` levels of tables.
-fn update_in<L: LevelCount, T: TableMemory>(
-    memory: &mut T,
-    located: Located,
-    first: &Page,
+/// The change of the flags of a number of pages from a page on.
+#[derive(Clone, Copy)]
+pub struct UpdateFrom<'a> {
+    first: &'a Page,
     count: u64,
     flags: PageTableFlags,
-    changed: &mut u64,
-) -> u32
-    requires { ranges.bad_pages L.LEVELS first.now count ≡ None
-        → Valid (given.at L.LEVELS located (T.tables memory.old)) }
-    ensures bad { (status : ℕ) → ranges.bad_pages L.LEVELS first.now count ≡ Some status
-        → (result ≡ status) × (T.tables memory.new ≡ T.tables memory.old) × (changed.new ≡ changed.old) }
-    ensures updates { ranges.bad_pages L.LEVELS first.now count ≡ None
-        → ranges.MayUpdate (given.at L.LEVELS located (T.tables memory.old)) (given.level_of first.now.size)
-        (given.position_of L.LEVELS first.now.start) (bits_of flags) count changed.old
-        (given.at L.LEVELS located (T.tables memory.new)) result changed.new }
-    ensures lent { T.lent memory.new ≡ T.lent memory.old }
-{
-    let Some(page) = first_page::<L>(first, count) else {
-        return status::BAD_PAGE;
-    };
-    match page {
-        AnyPage::Of4KiB(page) => update_pages(memory, located, page, count, flags, changed),
-        AnyPage::Of2MiB(page) => update_pages(memory, located, page, count, flags, changed),
-        AnyPage::Of1GiB(page) => update_pages(memory, located, page, count, flags, changed),
+}
+
+impl<'a> Operation for UpdateFrom<'a> {
+    ghost use Rattle.x86_64_c.specs.Given.{level_of, position_of};
+    ghost use Rattle.x86_64_c.specs.Ranges.{bad_pages};
+    ghost use Rattle.x86_64_c.specs.private.RangeMaps.{TellsUpdates};
+    ghost use Rattle.x86_64_model.specs.Mapper.{Valid};
+    ghost use Rattle.x86_64_tables.specs.PageTableFlags.{bits_of};
+
+    type Out = Option<u64>;
+
+    type Entry = u64;
+
+    ghost wrong = { λ from levels tables room. bad_pages levels from.first.now from.count };
+
+    ghost may = { λ from h array. Valid h };
+
+    ghost does = { λ from h array after left changed. TellsUpdates h (level_of from.first.now.size)
+        (position_of h.layout.levels from.first.now.start) (bits_of from.flags) from.count after changed };
+
+    fn execute<L: LevelCount, T: TableMemory>(
+        &self,
+        memory: &mut T,
+        located: Located,
+        _array: &mut [u64],
+    ) -> Result<Option<u64>, u32> {
+        let page = first_page::<L>(self.first, self.count)?;
+        Ok(match page {
+            AnyPage::Of4KiB(page) => update_pages(memory, located, page, self.count, self.flags),
+            AnyPage::Of2MiB(page) => update_pages(memory, located, page, self.count, self.flags),
+            AnyPage::Of1GiB(page) => update_pages(memory, located, page, self.count, self.flags),
+        })
     }
 }
 
-/// Sets the flags of a number of pages of a size.
+/// Sets the flags of a number of pages of a size, and returns how many were changed, or `None` if the flags have address bits.
 fn update_pages<S: PageSize, L: LevelCount, T: TableMemory>(
     memory: &mut T,
     located: Located,
     page: PageIn<S, L>,
     count: u64,
     flags: PageTableFlags,
-    changed: &mut u64,
-) -> u32
+) -> Option<u64>
     requires valid { Valid (given.at L.LEVELS located (T.tables memory.old)) }
     requires there { page + count * span S.LEVEL ≤ position_count L.LEVELS }
-    ensures updates { ranges.MayUpdate (given.at L.LEVELS located (T.tables memory.old)) S.LEVEL page
-        (bits_of flags) count changed.old (given.at L.LEVELS located (T.tables memory.new)) result
-        changed.new }
+    ensures updates { maps.TellsUpdates (given.at L.LEVELS located (T.tables memory.old)) S.LEVEL page
+        (bits_of flags) count (given.at L.LEVELS located (T.tables memory.new)) result }
     ensures lent { T.lent memory.new ≡ T.lent memory.old }
 {
     if flags.has_address_bits() {
-        return status::NOT_ALLOWED;
+        return None;
     }
     let mut mapper = MappedPageTableIn::<_, L, T>::new(memory, located.root, located.mapping);
     let (number, flush) = calls::update_flags_range(&mut mapper, page, count, flags);
     flush.ignore();
-    *changed = number;
-    status::OK
+    Some(number)
 }

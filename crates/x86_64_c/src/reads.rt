@@ -1,15 +1,16 @@
 //! Calls that read at an address: the page walk, and the translation.
-ghost use Rattle.std.specs.Prelude.{◌≡◌, ℕ, length, Some, None};
+ghost use Rattle.std.specs.Prelude.{◌≡◌, ℕ, length, option_map, Some, None};
 ghost use Rattle.x86_64_c.specs.Given as given;
 ghost use Rattle.x86_64_c.specs.Reads as reads;
-ghost use Rattle.x86_64_model.specs.Mapper.{Valid, translation as translation_at};
+ghost use Rattle.x86_64_model.specs.Mapper.{Valid};
 
-use crate::given::{Hierarchy, Located, locate_in};
+use crate::given::{Hierarchy, Located, address_of};
+use crate::operation::{Operation, enter};
 use crate::status;
 use bitflags::Flags;
 use x86_64::structures::paging::PageTable;
 use x86_64::structures::paging::mapper::{MappedPageTableIn, TranslateResult, calls};
-use x86_64::{FiveLevels, FourLevels, LentMemory, LevelCount, TableMemory, VirtAddrIn, page_walk};
+use x86_64::{LevelCount, TableMemory, page_walk};
 
 /// Where a page walk arrives, and what all entries on its way allow.
 #[derive(Drop)]
@@ -37,9 +38,25 @@ pub struct Translation {
     pub flags: u64,
 }
 
+/// Writes what was found, and returns the status that says whether anything was.
+pub fn tell<X: Drop>(found: Option<X>, place: &mut X) -> u32
+    ensures { reads.Tells found result place.old place.new }
+{
+    match found {
+        Some(found) => {
+            *place = found;
+            status::OK
+        }
+        None => status::NOT_MAPPED,
+    }
+}
+
+// ---- the page walk
+
 /// Walks to an address through the entries with `PRESENT`, whatever words the tables hold. Reserved bits don't end it.
 ///
 /// Returns `OK` with where the walk arrives, `NOT_MAPPED`, or what is wrong with an argument; then nothing is written.
+#[tactic(auto, using(crate::proofs::Arguments::kept))]
 #[unsafe(no_mangle)]
 pub extern "C" fn x64_page_walk(
     hierarchy: &Hierarchy,
@@ -50,57 +67,62 @@ pub extern "C" fn x64_page_walk(
     ensures bad { (status : ℕ) → given.bad_read hierarchy.now (length tables.old) address ≡ Some status
         → (result ≡ status) × (walked.new ≡ walked.old) }
     ensures told { given.bad_read hierarchy.now (length tables.old) address ≡ None
-        → reads.TellsWalk (reads.walk_to (given.hierarchy_in hierarchy.now tables.old) address)
+        → reads.Tells (reads.walked_to (given.hierarchy_in hierarchy.now tables.old) address)
         result walked.old walked.new }
     ensures tables { tables.new ≡ tables.old }
 {
-    match hierarchy.levels {
-        4 => walk_in::<FourLevels>(hierarchy, tables, address, walked),
-        5 => walk_in::<FiveLevels>(hierarchy, tables, address, walked),
-        _ => status::BAD_LEVELS,
+    match enter(hierarchy, tables, &mut [], &PageWalk { address }) {
+        Ok(found) => tell(found, walked),
+        Err(status) => status,
     }
 }
 
-/// Walks to an address with `L` levels of tables.
-#[tactic(auto, using(crate::proofs::Arguments::handed_back))]
-fn walk_in<L: LevelCount>(
-    hierarchy: &Hierarchy,
-    tables: &mut [PageTable],
+/// The page walk to an address.
+#[derive(Clone, Copy)]
+pub struct PageWalk {
     address: u64,
-    walked: &mut Walked,
-) -> u32
-    requires { hierarchy.now.levels ≡ L.LEVELS }
-    ensures bad { (status : ℕ) → given.bad_read hierarchy.now (length tables.old) address ≡ Some status
-        → (result ≡ status) × (walked.new ≡ walked.old) }
-    ensures told { given.bad_read hierarchy.now (length tables.old) address ≡ None
-        → reads.TellsWalk (reads.walk_to (given.hierarchy_in hierarchy.now tables.old) address)
-        result walked.old walked.new }
-    ensures tables { tables.new ≡ tables.old }
-{
-    let Some(located) = locate_in::<L>(hierarchy, tables.len()) else {
-        return status::BAD_ROOT;
-    };
-    let Some(address) = VirtAddrIn::<L>::checked_new(address) else {
-        return status::BAD_ADDRESS;
-    };
-    let memory = LentMemory::new(tables);
-    match page_walk(&memory, &located.mapping, located.root, address) {
-        Some(arrival) => {
-            *walked = Walked {
+}
+
+impl Operation for PageWalk {
+    ghost use Rattle.std.specs.Prelude.{◌≡◌};
+    ghost use Rattle.x86_64_c.specs.Given.{bad_address};
+    ghost use Rattle.x86_64_c.specs.Reads.{walked_to};
+
+    type Out = Option<Walked>;
+
+    type Entry = u64;
+
+    ghost wrong = { λ walk levels tables room. bad_address levels walk.address };
+
+    ghost may = { λ walk h array. Unit {0} };
+
+    ghost does = { λ walk h array after left found. (after.memory ≡ h.memory) × (found ≡ walked_to h walk.address) };
+
+    fn execute<L: LevelCount, T: TableMemory>(
+        &self,
+        memory: &mut T,
+        located: Located,
+        _array: &mut [u64],
+    ) -> Result<Option<Walked>, u32> {
+        let address = address_of::<L>(self.address)?;
+        match page_walk(memory, &located.mapping, located.root, address) {
+            Some(arrival) => Ok(Some(Walked {
                 address: arrival.address.as_u64(),
                 write: arrival.write,
                 user: arrival.user,
-            };
-            status::OK
+            })),
+            None => Ok(None),
         }
-        None => status::NOT_MAPPED,
     }
 }
+
+// ---- the translation
 
 /// Returns what an address is mapped to, present or not at level one, as the mapper's `translate` does.
 ///
 /// Requires that the hierarchy is valid, which `x64_is_valid` tests. Returns `OK` with the translation, `NOT_MAPPED`, or what is wrong
 /// with an argument; then nothing is written.
+#[tactic(auto, using(crate::proofs::Arguments::kept))]
 #[unsafe(no_mangle)]
 pub extern "C" fn x64_translate(
     hierarchy: &Hierarchy,
@@ -113,76 +135,59 @@ pub extern "C" fn x64_translate(
     ensures bad { (status : ℕ) → given.bad_read hierarchy.now (length tables.old) address ≡ Some status
         → (result ≡ status) × (translation.new ≡ translation.old) }
     ensures told { given.bad_read hierarchy.now (length tables.old) address ≡ None
-        → reads.TellsTranslation
-        (reads.translation_of (given.hierarchy_in hierarchy.now tables.old) address)
+        → reads.Tells (reads.translated_at (given.hierarchy_in hierarchy.now tables.old) address)
         result translation.old translation.new }
     ensures tables { tables.new ≡ tables.old }
 {
-    match hierarchy.levels {
-        4 => translate_in::<FourLevels>(hierarchy, tables, address, translation),
-        5 => translate_in::<FiveLevels>(hierarchy, tables, address, translation),
-        _ => status::BAD_LEVELS,
+    match enter(hierarchy, tables, &mut [], &Translate { address }) {
+        Ok(found) => tell(found, translation),
+        Err(status) => status,
     }
 }
 
-/// Returns what an address is mapped to with `L` levels of tables.
-#[tactic(auto, using(crate::proofs::Arguments::handed_back))]
-fn translate_in<L: LevelCount>(
-    hierarchy: &Hierarchy,
-    tables: &mut [PageTable],
+/// The translation of an address.
+#[derive(Clone, Copy)]
+pub struct Translate {
     address: u64,
-    translation: &mut Translation,
-) -> u32
-    requires levels { hierarchy.now.levels ≡ L.LEVELS }
-    requires valid { given.bad_read hierarchy.now (length tables.old) address ≡ None
-        → Valid (given.hierarchy_in hierarchy.now tables.old) }
-    ensures bad { (status : ℕ) → given.bad_read hierarchy.now (length tables.old) address ≡ Some status
-        → (result ≡ status) × (translation.new ≡ translation.old) }
-    ensures told { given.bad_read hierarchy.now (length tables.old) address ≡ None
-        → reads.TellsTranslation
-        (reads.translation_of (given.hierarchy_in hierarchy.now tables.old) address)
-        result translation.old translation.new }
-    ensures tables { tables.new ≡ tables.old }
-{
-    let Some(located) = locate_in::<L>(hierarchy, tables.len()) else {
-        return status::BAD_ROOT;
-    };
-    let Some(address) = VirtAddrIn::<L>::checked_new(address) else {
-        return status::BAD_ADDRESS;
-    };
-    let mut memory = LentMemory::new(tables);
-    translate_at(&mut memory, located, address, translation)
 }
 
-/// Returns what a canonical address is mapped to.
-fn translate_at<L: LevelCount, T: TableMemory>(
-    memory: &mut T,
-    located: Located,
-    address: VirtAddrIn<L>,
-    translation: &mut Translation,
-) -> u32
-    requires { Valid (given.at L.LEVELS located (T.tables memory.old)) }
-    ensures told { reads.TellsTranslation
-        (translation_at (given.at L.LEVELS located (T.tables memory.old)) address)
-        result translation.old translation.new }
-    ensures memory { T.tables memory.new ≡ T.tables memory.old }
-    ensures lent { T.lent memory.new ≡ T.lent memory.old }
-{
-    let mapper = MappedPageTableIn::<_, L, T>::new(memory, located.root, located.mapping);
-    match calls::translate(&mapper, address) {
-        TranslateResult::Mapped {
-            frame,
-            offset,
-            flags,
-        } => {
-            *translation = Translation {
+impl Operation for Translate {
+    ghost use Rattle.std.specs.Prelude.{◌≡◌};
+    ghost use Rattle.x86_64_c.specs.Given.{bad_address};
+    ghost use Rattle.x86_64_c.specs.Reads.{translated_at};
+    ghost use Rattle.x86_64_model.specs.Mapper.{Valid};
+
+    type Out = Option<Translation>;
+
+    type Entry = u64;
+
+    ghost wrong = { λ translate levels tables room. bad_address levels translate.address };
+
+    ghost may = { λ translate h array. Valid h };
+
+    ghost does = { λ translate h array after left found.
+        (after.memory ≡ h.memory) × (found ≡ translated_at h translate.address) };
+
+    fn execute<L: LevelCount, T: TableMemory>(
+        &self,
+        memory: &mut T,
+        located: Located,
+        _array: &mut [u64],
+    ) -> Result<Option<Translation>, u32> {
+        let address = address_of::<L>(self.address)?;
+        let mapper = MappedPageTableIn::<_, L, T>::new(memory, located.root, located.mapping);
+        match calls::translate(&mapper, address) {
+            TranslateResult::Mapped {
+                frame,
+                offset,
+                flags,
+            } => Ok(Some(Translation {
                 frame: frame.start_address().as_u64(),
                 size: frame.size(),
                 offset,
                 flags: flags.bits(),
-            };
-            status::OK
+            })),
+            _ => Ok(None),
         }
-        _ => status::NOT_MAPPED,
     }
 }

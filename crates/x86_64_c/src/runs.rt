@@ -1,17 +1,15 @@
 //! Calls that take frames from a pool or return frames to it: maps and clean ups.
-ghost use Rattle.std.specs.Prelude.{◌≡◌, ◌≤◌, ◌+◌, ℕ, List, length, None, Some};
+ghost use Rattle.std.specs.Prelude.{◌≡◌, ◌≤◌, ◌+◌, ℕ, List, length, None, Some, IfOk, IfErr, OnErr};
+ghost use Rattle.std.specs.FinMap.{len};
 ghost use Rattle.x86_64_c.specs.Calls.{result_status};
 ghost use Rattle.x86_64_c.specs.Given as given;
 ghost use Rattle.x86_64_c.specs.PoolCalls as calls;
-ghost use Rattle.x86_64_model.specs.Store.{Fits, store_of};
-ghost use Rattle.x86_64_tables.specs.LentMemory.{numbered};
+ghost use Rattle.x86_64_c.specs.private.Pools as pools;
 ghost use Rattle.x86_64_tables.specs.MapperAnswers.{map_refusal};
-ghost use Rattle.x86_64_tables.specs.PageTableFlags.{bits_of};
-ghost use Rattle.x86_64.specs.Asked as asked;
 
-use crate::given::{
-    AnyPage, Hierarchy, Located, MapRequest, frame_at, locate_in, page_at, page_of,
-};
+use crate::given::{AnyPage, Hierarchy, Located, MapRequest, frame_at, page_at, page_of};
+use crate::operation::{Operation, enter};
+use crate::pool::{PoolStep, Stepped, with_pool};
 use crate::status::{self, map_status};
 use bitflags::Flags;
 use x86_64::structures::paging::mapper::{
@@ -20,9 +18,9 @@ use x86_64::structures::paging::mapper::{
 use x86_64::structures::paging::{
     PageIn, PageSize, PageTable, PageTableFlags, PhysFrame, Size4KiB,
 };
-use x86_64::{
-    FiveLevels, FourLevels, FrameStore, LentMemory, LentPool, LevelCount, OwnFrames, TableMemory,
-};
+use x86_64::{FrameStore, LevelCount, OwnFrames, TableMemory};
+
+// ---- maps
 
 /// Maps a page, as the mapper's `map_to_with_table_flags` does. The frames of tables that are missing come from the pool.
 ///
@@ -44,118 +42,149 @@ pub extern "C" fn x64_map(
     ensures { calls.Executes own hierarchy.now (calls.loan tables.old pool.old free_count.old)
         (calls.to_map request.now) result (calls.loan tables.new pool.new free_count.new) }
 {
-    match hierarchy.levels {
-        4 => map_in::<FourLevels>(hierarchy, tables, pool, free_count, request),
-        5 => map_in::<FiveLevels>(hierarchy, tables, pool, free_count, request),
-        _ => status::BAD_LEVELS,
+    let map = Map {
+        request,
+        free_count: *free_count,
+        own: OwnFrames::of(),
+    };
+    match enter(hierarchy, tables, pool, &map) {
+        Ok(mapped) => {
+            *free_count = mapped.free_count;
+            mapped.out
+        }
+        Err(status) => status,
     }
 }
 
-/// Maps a page with `L` levels of tables.
-fn map_in<L: LevelCount>(
-    hierarchy: &Hierarchy,
-    tables: &mut [PageTable],
-    pool: &mut [u64],
-    free_count: &mut usize,
-    request: &MapRequest,
-) -> u32
-    ghost own: { List ℕ }
-    requires levels { hierarchy.now.levels ≡ L.LEVELS }
-    requires may { calls.MayExecute own hierarchy.now (calls.loan tables.old pool.old free_count.old)
-        (calls.to_map request.now) }
-    ensures { calls.Executes own hierarchy.now (calls.loan tables.old pool.old free_count.old)
-        (calls.to_map request.now) result (calls.loan tables.new pool.new free_count.new) }
-{
-    let Some(located) = locate_in::<L>(hierarchy, tables.len()) else {
-        return status::BAD_ROOT;
-    };
-    if pool.len() < *free_count {
-        return status::BAD_ARRAY;
-    }
-    let Some(page) = page_of::<L>(&request.page) else {
-        return status::BAD_PAGE;
-    };
-    match page {
-        AnyPage::Of4KiB(page) => map_page(located, page, request, tables, pool, free_count),
-        AnyPage::Of2MiB(page) => map_page(located, page, request, tables, pool, free_count),
-        AnyPage::Of1GiB(page) => map_page(located, page, request, tables, pool, free_count),
+/// The map of a page, with the number of free frames of the pool in the operation's array, and its own frames.
+#[derive(Drop)]
+pub struct Map<'a> {
+    request: &'a MapRequest,
+    free_count: usize,
+    own: OwnFrames,
+}
+
+impl<'a> Operation for Map<'a> {
+    ghost use Rattle.std.specs.Prelude.{length};
+    ghost use Rattle.x86_64_c.specs.PoolCalls.{Runs, bad_map, bad_pool, map_call};
+    ghost use Rattle.x86_64_c.specs.private.Pools.{FitsIn, Leaves};
+
+    type Out = Stepped<u32>;
+
+    type Entry = u64;
+
+    ghost wrong = { λ map levels tables room. bad_pool map.free_count room (bad_map levels map.request.now) };
+
+    ghost may = { λ map h array. FitsIn map.own.frames h array map.free_count };
+
+    ghost does = { λ map h array after left mapped.
+        Leaves map.own.frames array map.free_count left mapped.free_count
+        (λ pool rest. Runs h pool (map_call h.layout.levels map.request.now) after rest mapped.out) };
+
+    fn execute<L: LevelCount, T: TableMemory>(
+        &self,
+        memory: &mut T,
+        located: Located,
+        array: &mut [u64],
+    ) -> Result<Stepped<u32>, u32> {
+        if array.len() < self.free_count {
+            return Err(status::BAD_ARRAY);
+        }
+        let page = page_of::<L>(&self.request.page)?;
+        match page {
+            AnyPage::Of4KiB(page) => self.map_page(memory, located, page, array),
+            AnyPage::Of2MiB(page) => self.map_page(memory, located, page, array),
+            AnyPage::Of1GiB(page) => self.map_page(memory, located, page, array),
+        }
     }
 }
 
-/// Maps the page of a request to its frame in the caller's tables, with frames of the caller's pool.
-fn map_page<S: PageSize, L: LevelCount>(
-    located: Located,
-    page: PageIn<S, L>,
-    request: &MapRequest,
-    tables: &mut [PageTable],
-    pool: &mut [u64],
-    free_count: &mut usize,
-) -> u32
-    ghost own: { List ℕ }
-    requires in_array { free_count.old ≤ length pool.old }
-    requires room { length own ≤ length pool.old }
-    requires good { given.bad_page L.LEVELS request.now.page ≡ None }
-    requires is_page { given.IsPageOf L.LEVELS request.now.page S.LEVEL page }
-    requires fits { calls.bad_map L.LEVELS request.now ≡ None
-        → Fits (given.at L.LEVELS located (numbered tables.old)) (calls.pool_in own pool.old free_count.old) }
-    ensures bad { (why : ℕ) → calls.bad_map L.LEVELS request.now ≡ Some why → (result ≡ why)
-        × (calls.loan tables.new pool.new free_count.new ≡ calls.loan tables.old pool.old free_count.old) }
-    ensures runs { calls.bad_map L.LEVELS request.now ≡ None
-        → calls.Runs (given.at L.LEVELS located (numbered tables.old))
-        (calls.pool_in own pool.old free_count.old) (calls.map_call L.LEVELS request.now)
-        (given.at L.LEVELS located (numbered tables.new))
-        (calls.pool_in own pool.new free_count.new) result }
-    ensures room { length pool.new ≡ length pool.old }
-    ensures in_array { free_count.new ≤ length pool.new }
-{
-    let Some(frame) = frame_at::<S>(request.frame) else {
-        return status::BAD_FRAME;
-    };
-    let mut memory = LentMemory::new(tables);
-    let mut frames = LentPool::new(pool, free_count, OwnFrames::of());
-    let flags = PageTableFlags::from_bits_retain(request.flags);
-    let parent_flags = PageTableFlags::from_bits_retain(request.parent_flags);
-    map_to(
-        &mut memory,
-        located,
-        &mut frames,
-        page,
-        frame,
-        flags,
-        parent_flags,
-    )
+impl<'a> Map<'a> {
+    /// Maps the page to the frame of the request.
+    fn map_page<S: PageSize, L: LevelCount, T: TableMemory>(
+        &self,
+        memory: &mut T,
+        located: Located,
+        page: PageIn<S, L>,
+        array: &mut [u64],
+    ) -> Result<Stepped<u32>, u32>
+        requires in_array { self.now.free_count ≤ length array.old }
+        requires page { given.bad_page L.LEVELS self.now.request.now.page ≡ None }
+        requires is_page { given.IsPageOf L.LEVELS self.now.request.now.page S.LEVEL page }
+        requires fits { calls.bad_map L.LEVELS self.now.request.now ≡ None
+            → pools.FitsIn self.now.own.frames (given.at L.LEVELS located (T.tables memory.old)) array.old
+            self.now.free_count }
+        ensures bad { IfErr result (λ status. calls.bad_map L.LEVELS self.now.request.now ≡ Some status) }
+        ensures unchanged { OnErr result ((T.tables memory.new ≡ T.tables memory.old)
+            × (array.new ≡ array.old)) }
+        ensures good { IfOk result (λ _. calls.bad_map L.LEVELS self.now.request.now ≡ None) }
+        ensures does { IfOk result (λ mapped. pools.Leaves self.now.own.frames array.old self.now.free_count
+            array.new mapped.free_count (λ pool rest. calls.Runs
+            (given.at L.LEVELS located (T.tables memory.old)) pool
+            (calls.map_call L.LEVELS self.now.request.now)
+            (given.at L.LEVELS located (T.tables memory.new)) rest mapped.out)) }
+        ensures lent { T.lent memory.new ≡ T.lent memory.old }
+    {
+        let frame = frame_at::<S>(self.request.frame)?;
+        let map = MapTo {
+            page,
+            frame,
+            flags: PageTableFlags::from_bits_retain(self.request.flags),
+            parent_flags: PageTableFlags::from_bits_retain(self.request.parent_flags),
+        };
+        Ok(with_pool(memory, located, &self.own, array, self.free_count, &map))
+    }
 }
 
-/// Maps a page to a frame.
-fn map_to<S: PageSize, L: LevelCount, T: TableMemory, F: FrameStore>(
-    memory: &mut T,
-    located: Located,
-    frames: &mut F,
+/// The map of a page to a frame.
+#[derive(Clone, Copy)]
+pub struct MapTo<S: PageSize, L: LevelCount> {
     page: PageIn<S, L>,
     frame: PhysFrame<S>,
     flags: PageTableFlags,
     parent_flags: PageTableFlags,
-) -> u32
-    requires { Fits (given.at L.LEVELS located (T.tables memory.old)) (store_of F.FrameStore frames.old) }
-    ensures runs { calls.Runs (given.at L.LEVELS located (T.tables memory.old))
-        (store_of F.FrameStore frames.old) (calls.on_page S.LEVEL
-        (asked.MapToWithTableFlags page frame (bits_of flags) (bits_of parent_flags)))
-        (given.at L.LEVELS located (T.tables memory.new)) (store_of F.FrameStore frames.new) result }
-    ensures lent { T.lent memory.new ≡ T.lent memory.old }
-{
-    let mut mapper = MappedPageTableIn::<_, L, T>::new(memory, located.root, located.mapping);
-    if !mapper_calls::map_allowed(&mapper, page, flags, parent_flags) {
-        return status::NOT_ALLOWED;
+}
+
+impl<S: PageSize, L: LevelCount> PoolStep<L> for MapTo<S, L> {
+    ghost use Rattle.std.specs.Prelude.{false};
+    ghost use Rattle.x86_64.specs.Asked.{MapToWithTableFlags};
+    ghost use Rattle.x86_64_c.specs.PoolCalls.{Runs, on_page};
+    ghost use Rattle.x86_64_c.specs.private.PoolLaws.{own_runs};
+    ghost use Rattle.x86_64_tables.specs.PageTableFlags.{bits_of};
+
+    type Out = u32;
+
+    ghost gives_root = { λ _. false };
+
+    ghost refused = { λ _. false };
+
+    ghost does = { λ map h pool after rest status. Runs h pool (on_page S.LEVEL
+        (MapToWithTableFlags map.page map.frame (bits_of map.flags) (bits_of map.parent_flags)))
+        after rest status };
+
+    fn take<T: TableMemory, F: FrameStore>(
+        &self,
+        memory: &mut T,
+        located: Located,
+        frames: &mut F,
+    ) -> u32 {
+        let mut mapper = MappedPageTableIn::<_, L, T>::new(memory, located.root, located.mapping);
+        if !mapper_calls::map_allowed(&mapper, self.page, self.flags, self.parent_flags) {
+            return status::NOT_ALLOWED;
+        }
+        let mapped = mapper_calls::map_to_with_table_flags(
+            &mut mapper,
+            self.page,
+            self.frame,
+            self.flags,
+            self.parent_flags,
+            frames,
+        );
+        mapped_status(mapped)
     }
-    let mapped = mapper_calls::map_to_with_table_flags(
-        &mut mapper,
-        page,
-        frame,
-        flags,
-        parent_flags,
-        frames,
-    );
-    mapped_status(mapped)
+
+    ghost own_frames = { λ map own array count serves same h after free rest status.
+        own_runs own array count same h after free rest _ status };
 }
 
 /// Returns the status of a map.
@@ -172,6 +201,8 @@ fn mapped_status<S: PageSize, L: LevelCount>(
         Err(error) => map_status(error),
     }
 }
+
+// ---- clean ups
 
 /// Frees the empty tables of a range of 4KiB pages, as the mapper's `clean_up_addr_range` does, and puts their frames on the pool.
 ///
@@ -194,86 +225,102 @@ pub extern "C" fn x64_clean_up(
         (calls.to_clean_up first_page last_page) result
         (calls.loan tables.new pool.new free_count.new) }
 {
-    match hierarchy.levels {
-        4 => clean_up_in::<FourLevels>(hierarchy, tables, pool, free_count, first_page, last_page),
-        5 => clean_up_in::<FiveLevels>(hierarchy, tables, pool, free_count, first_page, last_page),
-        _ => status::BAD_LEVELS,
+    let clean_up = CleanUp {
+        first_page,
+        last_page,
+        free_count: *free_count,
+        own: OwnFrames::of(),
+    };
+    match enter(hierarchy, tables, pool, &clean_up) {
+        Ok(cleaned) => {
+            *free_count = cleaned.free_count;
+            cleaned.out
+        }
+        Err(status) => status,
     }
 }
 
-/// Frees the empty tables of a range of pages with `L` levels of tables.
-fn clean_up_in<L: LevelCount>(
-    hierarchy: &Hierarchy,
-    tables: &mut [PageTable],
-    pool: &mut [u64],
-    free_count: &mut usize,
+/// The clean up of the pages from the first to the last, with the number of free frames of the pool in the operation's array, and its
+/// own frames.
+#[derive(Drop)]
+pub struct CleanUp {
     first_page: u64,
     last_page: u64,
-) -> u32
-    ghost own: { List ℕ }
-    requires levels { hierarchy.now.levels ≡ L.LEVELS }
-    requires may { calls.MayExecute own hierarchy.now (calls.loan tables.old pool.old free_count.old)
-        (calls.to_clean_up first_page last_page) }
-    ensures { calls.Executes own hierarchy.now (calls.loan tables.old pool.old free_count.old)
-        (calls.to_clean_up first_page last_page) result
-        (calls.loan tables.new pool.new free_count.new) }
-{
-    let Some(located) = locate_in::<L>(hierarchy, tables.len()) else {
-        return status::BAD_ROOT;
-    };
-    if pool.len() < *free_count {
-        return status::BAD_ARRAY;
+    free_count: usize,
+    own: OwnFrames,
+}
+
+impl Operation for CleanUp {
+    ghost use Rattle.x86_64_c.specs.PoolCalls.{Runs, bad_pool, bad_range, clean_up_call};
+    ghost use Rattle.x86_64_c.specs.private.Pools.{FitsIn, Leaves};
+
+    type Out = Stepped<u32>;
+
+    type Entry = u64;
+
+    ghost wrong = { λ new levels tables room.
+        bad_pool new.free_count room (bad_range levels new.first_page new.last_page) };
+
+    ghost may = { λ new h array. FitsIn new.own.frames h array new.free_count };
+
+    ghost does = { λ new h array after left cleaned.
+        Leaves new.own.frames array new.free_count left cleaned.free_count (λ pool rest.
+        Runs h pool (clean_up_call h.layout.levels new.first_page new.last_page) after rest cleaned.out) };
+
+    fn execute<L: LevelCount, T: TableMemory>(
+        &self,
+        memory: &mut T,
+        located: Located,
+        array: &mut [u64],
+    ) -> Result<Stepped<u32>, u32> {
+        if array.len() < self.free_count {
+            return Err(status::BAD_ARRAY);
+        }
+        let pages = PagesTo::<L> {
+            first: page_at(self.first_page)?,
+            last: page_at(self.last_page)?,
+        };
+        Ok(with_pool(memory, located, &self.own, array, self.free_count, &pages))
     }
-    let Some(first) = page_at::<Size4KiB, L>(first_page) else {
-        return status::BAD_PAGE;
-    };
-    let Some(last) = page_at::<Size4KiB, L>(last_page) else {
-        return status::BAD_PAGE;
-    };
-    clean_up_pages(located, first, last, tables, pool, free_count)
 }
 
-/// Frees the empty tables of a range of pages in the caller's tables, and puts their frames on the caller's pool.
-fn clean_up_pages<L: LevelCount>(
-    located: Located,
+/// The pages whose tables are cleaned up.
+#[derive(Clone, Copy)]
+pub struct PagesTo<L: LevelCount> {
     first: PageIn<Size4KiB, L>,
     last: PageIn<Size4KiB, L>,
-    tables: &mut [PageTable],
-    pool: &mut [u64],
-    free_count: &mut usize,
-) -> u32
-    ghost own: { List ℕ }
-    requires in_array { free_count.old ≤ length pool.old }
-    requires room { length own ≤ length pool.old }
-    requires fits { Fits (given.at L.LEVELS located (numbered tables.old))
-        (calls.pool_in own pool.old free_count.old) }
-    ensures runs { calls.Runs (given.at L.LEVELS located (numbered tables.old))
-        (calls.pool_in own pool.old free_count.old) (asked.CleanUpRange first (last + 0xfff))
-        (given.at L.LEVELS located (numbered tables.new))
-        (calls.pool_in own pool.new free_count.new) result }
-    ensures room { length pool.new ≡ length pool.old }
-    ensures in_array { free_count.new ≤ length pool.new }
-{
-    let mut memory = LentMemory::new(tables);
-    let mut frames = LentPool::new(pool, free_count, OwnFrames::of());
-    clean_up(&mut memory, located, &mut frames, first, last)
 }
 
-/// Frees the empty tables of a range of pages.
-fn clean_up<L: LevelCount, T: TableMemory, F: FrameStore>(
-    memory: &mut T,
-    located: Located,
-    frames: &mut F,
-    first: PageIn<Size4KiB, L>,
-    last: PageIn<Size4KiB, L>,
-) -> u32
-    requires { Fits (given.at L.LEVELS located (T.tables memory.old)) (store_of F.FrameStore frames.old) }
-    ensures runs { calls.Runs (given.at L.LEVELS located (T.tables memory.old))
-        (store_of F.FrameStore frames.old) (asked.CleanUpRange first (last + 0xfff))
-        (given.at L.LEVELS located (T.tables memory.new)) (store_of F.FrameStore frames.new) result }
-    ensures lent { T.lent memory.new ≡ T.lent memory.old }
-{
-    let mut mapper = MappedPageTableIn::<_, L, T>::new(memory, located.root, located.mapping);
-    mapper_calls::clean_up_range(&mut mapper, PageIn::range_inclusive(first, last), frames);
-    status::OK
+impl<L: LevelCount> PoolStep<L> for PagesTo<L> {
+    ghost use Rattle.std.specs.Prelude.{◌+◌, false};
+    ghost use Rattle.x86_64.specs.Asked.{CleanUpRange};
+    ghost use Rattle.x86_64_c.specs.PoolCalls.{Runs};
+    ghost use Rattle.x86_64_c.specs.private.PoolLaws.{own_runs};
+
+    type Out = u32;
+
+    ghost gives_root = { λ _. false };
+
+    ghost refused = { λ _. false };
+
+    ghost does = { λ pages h pool after rest status.
+        Runs h pool (CleanUpRange pages.first (pages.last + 0xfff)) after rest status };
+
+    fn take<T: TableMemory, F: FrameStore>(
+        &self,
+        memory: &mut T,
+        located: Located,
+        frames: &mut F,
+    ) -> u32 {
+        let mut mapper = MappedPageTableIn::<_, L, T>::new(memory, located.root, located.mapping);
+        mapper_calls::clean_up_range(
+            &mut mapper,
+            PageIn::range_inclusive(self.first, self.last),
+            frames,
+        );
+        status::OK
+    }
+
+    ghost own_frames = { λ pages own array count serves same h after free rest status.
+        own_runs own array count same h after free rest _ status };
 }

@@ -1,14 +1,16 @@
 //! The page walk with all rights.
 ghost use Rattle.std.specs.Prelude.{◌≡◌, ◌≤◌, ◌+◌, ◌%◌, ℕ, length, Some, None};
 ghost use Rattle.x86_64_c.specs.Given as given;
+ghost use Rattle.x86_64_c.specs.Reads.{Tells};
 ghost use Rattle.x86_64_c.specs.Walks as walks;
 ghost use Rattle.x86_64_model.specs.PageWalk.{page_start};
 ghost use Rattle.x86_64_model.specs.Position.{span as span_of};
 
-use crate::given::{Hierarchy, Located, locate};
-use crate::status;
+use crate::given::{Hierarchy, Located, address_of};
+use crate::operation::{Operation, enter};
+use crate::reads::tell;
 use x86_64::structures::paging::PageTable;
-use x86_64::{FiveLevels, FourLevels, LentMemory, LevelCount, TableMemory, VirtAddrIn};
+use x86_64::{LevelCount, TableMemory, VirtAddrIn};
 use x86_64_mappings::{EntriesRead, MOST_LEVELS, WalkEnd, WalkEntry, read_entries, span};
 use x86_64_tables::page_table::Rights;
 
@@ -46,7 +48,7 @@ impl WalkResult {
 /// Walks to an address as `x64_page_walk` does, whatever words the tables hold, and tells all rights.
 ///
 /// Returns `OK` with where the walk arrives, `NOT_MAPPED`, or what is wrong with an argument; then nothing is written.
-#[tactic(auto, using(crate::proofs::Arguments::handed_back))]
+#[tactic(auto, using(crate::proofs::Arguments::kept))]
 #[unsafe(no_mangle)]
 pub extern "C" fn x64_walk(
     hierarchy: &Hierarchy,
@@ -57,38 +59,56 @@ pub extern "C" fn x64_walk(
     ensures bad { (status : ℕ) → given.bad_read hierarchy.now (length tables.old) address ≡ Some status
         → (result ≡ status) × (walked.new ≡ walked.old) }
     ensures told { given.bad_read hierarchy.now (length tables.old) address ≡ None
-        → walks.TellsWalk (given.hierarchy_in hierarchy.now tables.old) address
+        → Tells (walks.walked_to (given.hierarchy_in hierarchy.now tables.old) address)
         result walked.old walked.new }
     ensures tables { tables.new ≡ tables.old }
 {
-    let located = match locate(hierarchy, tables.len()) {
-        Ok(located) => located,
-        Err(status) => return status,
-    };
-    let memory = LentMemory::new(tables);
-    if hierarchy.levels == 4 {
-        walk_in::<FourLevels, _>(&memory, located, address, walked)
-    } else {
-        walk_in::<FiveLevels, _>(&memory, located, address, walked)
+    match enter(hierarchy, tables, &mut [], &Walk { address }) {
+        Ok(found) => tell(found, walked),
+        Err(status) => status,
     }
 }
 
-/// Walks to an address with `L` levels of tables.
-fn walk_in<L: LevelCount, T: TableMemory>(
+/// The page walk to an address with all rights.
+#[derive(Clone, Copy)]
+pub struct Walk {
+    address: u64,
+}
+
+impl Operation for Walk {
+    ghost use Rattle.std.specs.Prelude.{◌≡◌};
+    ghost use Rattle.x86_64_c.specs.Given.{bad_address};
+    ghost use Rattle.x86_64_c.specs.Walks.{walked_to};
+
+    type Out = Option<WalkResult>;
+
+    type Entry = u64;
+
+    ghost wrong = { λ walk levels tables room. bad_address levels walk.address };
+
+    ghost may = { λ walk h array. Unit {0} };
+
+    ghost does = { λ walk h array after left found. (after.memory ≡ h.memory) × (found ≡ walked_to h walk.address) };
+
+    fn execute<L: LevelCount, T: TableMemory>(
+        &self,
+        memory: &mut T,
+        located: Located,
+        _array: &mut [u64],
+    ) -> Result<Option<WalkResult>, u32> {
+        let address = address_of::<L>(self.address)?;
+        Ok(walk_at(memory, located, address))
+    }
+}
+
+/// Walks to an address, and returns where the walk arrives.
+fn walk_at<L: LevelCount, T: TableMemory>(
     memory: &T,
     located: Located,
-    address: u64,
-    walked: &mut WalkResult,
-) -> u32
-    ensures bad { (status : ℕ) → given.bad_address L.LEVELS address ≡ Some status
-        → (result ≡ status) × (walked.new ≡ walked.old) }
-    ensures told { given.bad_address L.LEVELS address ≡ None
-        → walks.TellsWalk (given.at L.LEVELS located (T.tables memory.now)) address
-        result walked.old walked.new }
+    address: VirtAddrIn<L>,
+) -> Option<WalkResult>
+    ensures { result ≡ walks.walked_at (given.at L.LEVELS located (T.tables memory.now)) address }
 {
-    let Some(address) = VirtAddrIn::<L>::checked_new(address) else {
-        return status::BAD_ADDRESS;
-    };
     let position = address.position();
     let Located { root, mapping } = located;
     let mut entries = [WalkEntry::NONE; MOST_LEVELS];
@@ -100,11 +120,10 @@ fn walk_in<L: LevelCount, T: TableMemory>(
         &mut entries,
     );
     if end != WalkEnd::Page {
-        return status::NOT_MAPPED;
+        return None;
     }
     let page = entries[count - 1];
-    *walked = WalkResult::of(address_in(page.level, page.word, position), rights);
-    status::OK
+    Some(WalkResult::of(address_in(page.level, page.word, position), rights))
 }
 
 /// Returns the address of a position in the page that a word of a level maps.

@@ -11,5 +11,5 @@ fit-passed-requires-clause-marks c = length-take-le (length c.args.tables.now) c
 
 pub returns-clause-fit : goal.returns-clause-fit
 returns-clause-fit c = λ good.
-    told c.args.first c.args.levels c.args.shared_from c.args.shared_to c.args.roots.now (loan c.args.tables.now c.args.pool.now c.args.free_count) c.in-Some.shared _ _ c.in-Some.ensures.some c.new-mapping.ensures
+    told c.args.first c.args.levels c.args.shared_from c.args.shared_to c.args.roots.now (loan c.args.tables.now c.args.pool.now c.args.free_count) c.in-Ok.shared _ _ c.in-Ok.ensures.shared c.new-mapping.ensures
     c.new-memory.ensures.tables c.fit-passed.result c.status_of_test.result c.status_of_test.ensures c.fit-passed.ensures

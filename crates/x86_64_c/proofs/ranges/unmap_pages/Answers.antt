@@ -26,7 +26,7 @@ returns-clause-unmaps g c =
           (λ L. unmaps L g.S.PageSize.LEVEL c.args.page most) does.0 (unmaps_are L g.S.PageSize.LEVEL g.S.PageSize.low g.S.PageSize.high g.L.LevelCount.at_least_four c.args.page most) does.1;
       taken = let array = ap (λ (a : FrameArray). a.frames.now) sink in search rules;
       number = ap (λ (a : FrameArray). a.count) sink;
-      status_is = c.end_status.ensures;
+      status_is = refl;
     }
 
 pub unmap_range-requires-clause-valid : goal.unmap_range-requires-clause-valid

@@ -14,19 +14,23 @@ returns-clause-updates g c =
     let given = bits_of c.args.flags in
     let does = c.update_flags_range-number.ensures.does in (
       λ refused. let fits = c.has_address_bits.ensures in search rules,
-      λ may. record {
-        replies = does.0;
-        changes = changes_each _ _ layout (g.T.TableMemory.tables c.args.memory.now) _ c.new-mapper.ensures.layout c.new-mapper.ensures.memory (search rules) plain
-            (λ L. updates L g.S.PageSize.LEVEL c.args.page given c.args.count) does.0
-            (updates_are L g.S.PageSize.LEVEL g.S.PageSize.low g.S.PageSize.high g.L.LevelCount.at_least_four c.args.page given c.args.count) does.1;
-        number = does.2;
-        status_is = search rules;
-      },
+      λ may. (
+        _,
+        refl,
+        record {
+          replies = does.0;
+          changes = changes_each _ _ layout (g.T.TableMemory.tables c.args.memory.now) _ c.new-mapper.ensures.layout c.new-mapper.ensures.memory (search rules) plain
+              (λ L. updates L g.S.PageSize.LEVEL c.args.page given c.args.count) does.0
+              (updates_are L g.S.PageSize.LEVEL g.S.PageSize.low g.S.PageSize.high g.L.LevelCount.at_least_four c.args.page given c.args.count) does.1;
+          number = does.2;
+          status_is = refl;
+        },
+      ),
     )
 
 pub returns-then-has_address_bits-clause-updates : goal.returns-then-has_address_bits-clause-updates
 returns-then-has_address_bits-clause-updates g c = (
-  λ refused. (refl, refl, refl),
+  λ refused. (refl, refl),
   λ may. absurd (true≢false (sym c.if-has_address_bits.true ∙ c.has_address_bits.ensures ∙ ap not may)),
 )
 

@@ -1,4 +1,4 @@
-use Rattle.std.proofs.Common.{◌∙◌, rules}
+use Rattle.std.proofs.Common.{rules}
 use Rattle.x86_64_model.specs.Call.{UpdateFlags}
 use Rattle.x86_64_model.specs.Path.{path_at}
 use Rattle.x86_64_mappers.specs.Layouts.{direct_at}
@@ -17,7 +17,7 @@ returns-clause-makes g c =
       λ may. (
         flags_answer _ c.update_flags-updated.result,
         changes _ _ layout (g.T.TableMemory.tables c.args.memory.now) _ c.new-mapper.ensures.layout c.new-mapper.ensures.memory (search rules)
-            (UpdateFlags (path_at L g.S.PageSize.LEVEL c.args.page) (bits_of c.args.self.now.flags)) _ c.only-2.result.status plain page may c.update_flags-updated.ensures.does
-            (c.only-2.ensures.status ∙ c.updated_status.ensures _),
+            (UpdateFlags (path_at L g.S.PageSize.LEVEL c.args.page) (bits_of c.args.self.now.flags)) _ c.updated_status.result plain page may c.update_flags-updated.ensures.does
+            (c.updated_status.ensures _),
       ),
     )

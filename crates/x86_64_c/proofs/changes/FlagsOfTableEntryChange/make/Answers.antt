@@ -1,4 +1,4 @@
-use Rattle.std.proofs.Common.{◌∙◌, rules}
+use Rattle.std.proofs.Common.{rules}
 use Rattle.x86_64_model.specs.Call.{SetFlags}
 use Rattle.x86_64_model.specs.Path.{path_at}
 use Rattle.x86_64_mappers.specs.Layouts.{direct_at}
@@ -17,7 +17,7 @@ returns-clause-makes g c =
       λ may. (
         flags_answer _ c.set_table_flags-set.result,
         changes _ _ layout (g.T.TableMemory.tables c.args.memory.now) _ c.new-mapper.ensures.layout c.new-mapper.ensures.memory (search rules)
-            (SetFlags c.args.self.now.level (path_at L g.S.PageSize.LEVEL c.args.page) (bits_of c.args.self.now.flags)) _ c.only-2.result.status plain (search rules, search rules, page) may
-            c.set_table_flags-set.ensures (c.only-2.ensures.status ∙ c.set_status.ensures _),
+            (SetFlags c.args.self.now.level (path_at L g.S.PageSize.LEVEL c.args.page) (bits_of c.args.self.now.flags)) _ c.set_status.result plain (search rules, search rules, page) may
+            c.set_table_flags-set.ensures (c.set_status.ensures _),
       ),
     )

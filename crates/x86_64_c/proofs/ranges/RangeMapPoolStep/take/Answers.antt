@@ -1,0 +1,37 @@
+use Rattle.std.proofs.Common.{true≢false, sym, ◌∙◌, refl, rules}
+use Rattle.x86_64_mappers.specs.Layouts.{direct_at}
+use Rattle.x86_64_c.specs.Given.{places_of}
+use Rattle.x86_64_c.specs.Ranges.{range_at}
+use Rattle.x86_64_c.proofs.EntryChanges.{plain, supply_over}
+use Rattle.x86_64_c.proofs.RangesSeen.{mapped, maps_are, range_over, range_seen}
+use Rattle.x86_64_c.proofs.ranges.RangeMapPoolStep.take.Goals as goal
+
+pub returns-clause-does : goal.returns-clause-does
+returns-clause-does g c =
+    let L = g.L.LevelCount.LEVELS in
+    let map = c.args.self.now in
+    let range = range_at g.S.PageSize.LEVEL map in (
+      λ refused.
+          let may = c.map_range_allowed.ensures.0 c.if-not-map_range_allowed.false in
+          absurd (refused (may.0, range_seen _ _ _ c.new-mapper.ensures.layout c.new-mapper.ensures.memory _ _ may.1)),
+      λ may.
+          mapped _ _ (direct_at L (places_of c.args.located) c.args.located.root) (g.T.TableMemory.tables c.args.memory.now) _ c.new-mapper.ensures.layout c.new-mapper.ensures.memory (search rules) plain
+          _ _ range
+          (maps_are L g.S.PageSize.LEVEL g.S.PageSize.low g.S.PageSize.high g.L.LevelCount.at_least_four range refl) c.requires.fits
+          map.page map.count c.map_range-mapped.result c.map_range-mapped.ensures.maps.maps c.map_range-mapped.ensures.pages
+          c.tell_mapped.result.status c.tell_mapped.result.done c.tell_mapped.ensures.status c.tell_mapped.ensures.all c.tell_mapped.ensures.some,
+    )
+
+pub returns-then-not-map_range_allowed-clause-does : goal.returns-then-not-map_range_allowed-clause-does
+returns-then-not-map_range_allowed-clause-does g c = (
+  λ refused. (refl, refl),
+  λ may.
+      let allowed = c.map_range_allowed.ensures.1 (may.0, range_over _ _ _ c.new-mapper.ensures.layout c.new-mapper.ensures.memory _ _ may.1) in
+      absurd (true≢false (sym allowed ∙ c.if-not-map_range_allowed.true)),
+)
+
+pub map_range-mapped-requires-clause-fits : goal.map_range-mapped-requires-clause-fits
+map_range-mapped-requires-clause-fits g c = supply_over _ _ _ _ c.new-mapper.ensures.layout c.new-mapper.ensures.memory _ _ c.requires.fits
+
+pub map_range-mapped-requires-clause-may : goal.map_range-mapped-requires-clause-may
+map_range-mapped-requires-clause-may g c = (c.map_range_allowed.ensures.0 c.if-not-map_range_allowed.false).1

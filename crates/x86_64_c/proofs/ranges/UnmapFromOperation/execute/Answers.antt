@@ -1,0 +1,20 @@
+use Rattle.x86_64_c.proofs.RangesSeen.{unmaps_given}
+use Rattle.x86_64_c.proofs.ranges.UnmapFromOperation.execute.Goals as goal
+
+pub unmap_pages-requires-clause-there : goal.unmap_pages-requires-clause-there
+unmap_pages-requires-clause-there g c = rw c.in-Of4KiB.is at c.in_ok-page.ensures.there
+
+pub returns-in-Of4KiB-clause-does : goal.returns-in-Of4KiB-clause-does
+returns-in-Of4KiB-clause-does g c = unmaps_given (rw c.in-Of4KiB.is at c.in_ok-page.ensures.page) c.unmap_pages.ensures.unmaps
+
+pub unmap_pages-requires-in-Of2MiB-clause-there : goal.unmap_pages-requires-in-Of2MiB-clause-there
+unmap_pages-requires-in-Of2MiB-clause-there g c = rw c.in-Of2MiB.is at c.in_ok-page.ensures.there
+
+pub returns-in-Of2MiB-clause-does : goal.returns-in-Of2MiB-clause-does
+returns-in-Of2MiB-clause-does g c = unmaps_given (rw c.in-Of2MiB.is at c.in_ok-page.ensures.page) c.unmap_pages-in-Of2MiB.ensures.unmaps
+
+pub unmap_pages-requires-in-Of1GiB-clause-there : goal.unmap_pages-requires-in-Of1GiB-clause-there
+unmap_pages-requires-in-Of1GiB-clause-there g c = rw c.in-Of1GiB.is at c.in_ok-page.ensures.there
+
+pub returns-in-Of1GiB-clause-does : goal.returns-in-Of1GiB-clause-does
+returns-in-Of1GiB-clause-does g c = unmaps_given (rw c.in-Of1GiB.is at c.in_ok-page.ensures.page) c.unmap_pages-in-Of1GiB.ensures.unmaps

@@ -1,0 +1,5 @@
+pub mod Operations
+pub mod PoolLaws
+pub mod Pools
+pub mod RangeMaps
+pub mod Spaces

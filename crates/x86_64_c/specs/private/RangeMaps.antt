@@ -1,0 +1,30 @@
+-- What operations on ranges tell.
+use Rattle.std.specs.Prelude.{◌≡◌, ℕ, Bool, true, false, List, Option, Some, None}
+use Rattle.x86_64_model.specs.Entry.{no_address}
+use Rattle.x86_64_model.specs.Mapper.{Hierarchy}
+use Rattle.x86_64_model.specs.Store.{Store}
+use Rattle.x86_64_mappers.specs.Ranges.{MapRange}
+use Rattle.x86_64_c.specs.Ranges.{Maps, MayMap, Updates}
+use Rattle.x86_64_c.specs.Status.{ok, not_allowed}
+use Rattle.x86_64_c.specs.declared.ranges.Mapped.{Mapped}
+use Rattle.x86_64_c.specs.private.Pools.{Leaves}
+
+-- Whether no number is told.
+abbrev pub untold : Option ℕ → Bool
+untold None = true
+untold (Some n) = false
+
+-- Maps of a range are refused as not allowed, or they are allowed and made, and the number of mapped pages is told.
+abbrev pub TellsMaps : (h : Hierarchy (Unit {0})) (pool : Store) (r : MapRange) (count : ℕ) (after : Hierarchy (Unit {0})) (rest : Store) → Mapped → Type 0
+TellsMaps h pool r count after rest mapped = ((MayMap h r count → ⊥) → (mapped.status ≡ not_allowed) × (mapped.done ≡ None))
+    × (MayMap h r count → (n : ℕ) × (mapped.done ≡ Some n) × Maps h pool r count after rest mapped.status n)
+
+-- They are made with the pool in an array. If no number is told, nothing changed.
+abbrev pub MapsRange : (own : List ℕ) (r : MapRange) (count : ℕ) (h : Hierarchy (Unit {0})) (array : List ℕ) (free : ℕ) (after : Hierarchy (Unit {0})) (left : List ℕ) (number : ℕ) → Mapped → Type 0
+MapsRange own r count h array free after left number mapped = Leaves own array free left number (λ pool rest. TellsMaps h pool r count after rest mapped)
+    × (untold mapped.done ≡ true → (after.memory ≡ h.memory) × (left ≡ array) × (number ≡ free))
+
+-- Changes of flags are refused as not allowed and change nothing, or they are allowed and made, and the number of changed entries is told.
+abbrev pub TellsUpdates : (h : Hierarchy (Unit {0})) (level page flags count : ℕ) (after : Hierarchy (Unit {0})) → Option ℕ → Type 0
+TellsUpdates h level page given count after changed = (no_address given ≡ false → (changed ≡ None) × (after ≡ h))
+    × (no_address given ≡ true → (n : ℕ) × (changed ≡ Some n) × Updates h level page given count after ok n)
