@@ -12,12 +12,13 @@ use Rattle.x86_64_model.specs.PageWalk.{read, page_start}
 
 -- ---- what is asked
 
+-- What an access does: it reads data, writes data, or fetches an instruction.
 pub data Kind : Type 0 where
   Read : Kind
   Write : Kind
   Fetch : Kind
 
--- An access: its kind, and whether it is a user's, made at privilege level 3. All others are a supervisor's.
+-- An access to memory: its kind, and whether it is a user's, made at privilege level 3. All others are a supervisor's.
 pub record Access : Type 0 where
   pub kind : Kind
   pub user : Bool
@@ -33,29 +34,32 @@ pub record Controls : Type 0 where
 
 -- ---- the words that are read
 
--- The bits of a page's entry that must be 0 since the page is large: 13 to 29 for 1GiB, 13 to 20 for 2MiB. Bit 12 is PAT.
+-- The mask of the address bits that must be 0 in the entry of a large page: bits 13 to 29 at level three (1GiB), bits 13 to 20 at
+-- level two (2MiB), and none at any other level. Bit 12 is the PAT bit.
 abbrev pub low_bits : (level : ℕ) → ℕ
 low_bits level = cond (level == 3) 0x3fff_e000 (cond (level == 2) 0x001f_e000 0)
 
--- Whether a present word has a bit that is reserved, and so must be 0: an address bit that the processor lacks, HUGE_PAGE above level
--- three, a low address bit of a large page, or NO_EXECUTE while this is off.
+-- Whether a word of a level has a bit set that is reserved, and so must be 0 in a present word: an address bit that the processor
+-- lacks, HUGE_PAGE above level three, a low address bit of a 2MiB or 1GiB page, or NO_EXECUTE while EFER.NXE is off.
 unfoldable pub reserved : Controls → (level word : ℕ) → Bool
 reserved c level e = nat_le (2 ^ c.physical_bits) (address e) || (huge e && (nat_le 4 level || not (bit_and e (low_bits level) == 0)))
     || (no_execute e && not c.no_execute)
 
--- A word that the processor reads: the level of its table, the frame with the table, and its index there.
+-- A word that the processor reads in a page walk: the level of its table, the frame with the table, the index there, and the word.
 pub record Step : Type 0 where
   pub level : ℕ
   pub frame : ℕ
   pub index : ℕ
   pub word : ℕ
 
--- Whether the processor reads on in the table that a word names: it is present, has no reserved bit, and maps no page.
+-- Whether the processor reads on in the table that a word of this level names: the word is present, has no reserved bit, and maps
+-- no page.
 abbrev pub reads_on : Controls → (level word : ℕ) → Bool
 reads_on c level e = present e && not (reserved c level e) && not (maps_page level e)
 
--- The words that the processor reads at position p (the number of an address counted without the gap), from a frame's table of a
--- level down. It ends at a table that isn't there.
+-- The words that the processor reads for an access at position p (the number of an address counted without the non-canonical gap),
+-- from a frame's table of a level down. They end with the first word that leads to no further table, or before a table that isn't
+-- in memory.
 unfoldable pub steps_from : Controls → Words → (p level frame : ℕ) → List Step
 steps_from c T p zero frame = []
 steps_from c T p (suc n) frame = unwrap_or (option_map
@@ -64,46 +68,52 @@ steps_from c T p (suc n) frame = unwrap_or (option_map
 
 -- ---- what comes of it
 
--- The access arrives at a physical address, or it faults, with an error code and the level of the last word that was read, or it
--- needs the table in a frame that isn't there, which is no fault of a processor.
+-- What comes of an access: it arrives at a physical address, it faults with the error code of a page fault and the level of the
+-- last word that was read, or it needs the table in a frame that isn't in memory, which is no fault of a processor.
 pub data Outcome : Type 0 where
   Arrives : (address : ℕ) → Outcome
   Faults : (code level : ℕ) → Outcome
   NoMemory : (frame : ℕ) → Outcome
 
--- Whether a page with these rights may be read, written or executed. A supervisor writes to pages without WRITABLE, unless
--- write_protect is on.
+-- Whether a page with these rights may be read, written or executed, apart from whether it is a user's. A supervisor may write to
+-- pages without WRITABLE unless CR0.WP is set, and NO_EXECUTE keeps nobody from fetching while EFER.NXE is off.
 abbrev pub kind_allowed : Controls → Access → Rights → Kind → Bool
 kind_allowed c a r Read = true
 kind_allowed c a r Write = r.write || (not a.user && not c.write_protect)
 kind_allowed c a r Fetch = r.execute || not c.no_execute
 
--- Whether a supervisor is kept from users' pages: by SMEP from fetching, by SMAP from reading and writing, but not with AC.
+-- Whether a supervisor is kept from users' pages: by SMEP from fetching, and by SMAP from reading and writing unless EFLAGS.AC is
+-- set.
 abbrev pub kept_out : Controls → Kind → Bool
 kept_out c Fetch = c.smep
 kept_out c kind = c.smap && not c.ac
 
--- Whether the rights of a page suffice: a user needs a user's page, and a supervisor may be kept from these.
+-- Whether a page with these rights allows an access: it allows the access's kind, a user needs a user's page, and SMEP or SMAP may
+-- keep a supervisor from users' pages.
 abbrev pub allowed : Controls → Access → Rights → Bool
 allowed c a r = kind_allowed c a r a.kind && cond a.user r.user (not (r.user && kept_out c a.kind))
 
+-- The bit that stands for a truth value: 1 for true, 0 for false.
 abbrev pub bit : Bool → ℕ
 bit b = cond b 1 0
 
+-- Whether the kind of an access is a write.
 abbrev pub is_write : Kind → Bool
 is_write Write = true
 is_write kind = false
 
+-- Whether the kind of an access is an instruction fetch.
 abbrev pub is_fetch : Kind → Bool
 is_fetch Fetch = true
 is_fetch kind = false
 
--- The error code of a page fault. Bit 0 says that a page or table is present, bit 1 that the access is a write, bit 2 that it is a
--- user's, bit 3 that a bit is reserved, and bit 4 that it is a fetch, if the processor tells them apart.
+-- The error code of a page fault. Bit 0 says that the last word that was read is present, bit 1 that the access is a write, bit 2
+-- that it is a user's, bit 3 that a reserved bit is set, and bit 4 that it is a fetch, if EFER.NXE or CR4.SMEP is on.
 abbrev pub code : Controls → Access → (present reserved : Bool) → ℕ
 code c a here bad = bit here + 2 * bit (is_write a.kind) + 4 * bit a.user + 8 * bit bad + 16 * bit (is_fetch a.kind && (c.no_execute || c.smep))
 
--- What comes of the last word that was read, by the rights that all words grant.
+-- The outcome of an access at position p if this word is the last one that the processor reads, and all words that it reads grant
+-- these rights together.
 abbrev pub ends_at : Controls → Access → (p : ℕ) → Rights → Step → Outcome
 ends_at c a p r s =
     cond (not (present s.word)) (Faults (code c a false false) s.level)
@@ -112,35 +122,41 @@ ends_at c a p r s =
     (cond (not (allowed c a r)) (Faults (code c a true false) s.level)
     (Arrives (page_start s.level s.word + p % span s.level)))))
 
+-- The outcome of an access at position p by the last word that the processor reads, if there is one, and the rights that all words
+-- grant. If none is read, the root's table isn't in memory.
 abbrev pub ends_by : Controls → Access → (p : ℕ) → Rights → (root : ℕ) → Option Step → Outcome
 ends_by c a p r root None = NoMemory root
 ends_by c a p r root (Some s) = ends_at c a p r s
 
--- The outcome of the words that were read.
+-- The outcome of an access at position p for which the processor reads these words, from the root's table down.
 abbrev pub outcome : Controls → Access → (p root : ℕ) → List Step → Outcome
 outcome c a p root steps = ends_by c a p (rights_of (map (λ s. s.word) steps)) root (last_or None steps)
 
--- What a processor does with an access at position p, by L levels of tables below a root.
+-- What a processor does with an access at position p (the number of an address counted without the non-canonical gap), by L levels
+-- of tables below a root.
 unfoldable pub access : (L : ℕ) → Controls → Words → (root p : ℕ) → Access → Outcome
 access L c T root p a = outcome c a p root (steps_from c T p L root)
 
 -- ---- what it leaves
 
--- The bits that the processor sets in a word over which an access arrives: ACCESSED, and DIRTY if the word maps the page of a write.
+-- The bits that the processor sets in a word of a level over which an access arrives: ACCESSED, and DIRTY too if the access is a
+-- write and the word maps its page.
 abbrev pub bits_to_set : Kind → (level word : ℕ) → ℕ
 bits_to_set kind level e = cond (is_write kind && maps_page level e) 0x60 0x20
 
--- The memory after bits of one word are set.
+-- The memory after the bits of a mask are set in the word at an index of a frame.
 abbrev pub set_bits : Places → (frame index bits : ℕ) → Memory → Memory
 set_bits places frame i bits m = let k = places.place frame in
     unwrap_or (option_map (λ table. insert m k (slice_set table i (bit_or (get_or table i 0) bits))) (get m k)) m
 
--- The memory after an access of this kind that arrives over these words.
+-- The memory after an access of this kind has arrived over these words: each has ACCESSED, and the one that maps the page of a
+-- write has DIRTY too.
 unfoldable pub marked : Places → Kind → List Step → Memory → Memory
 marked places kind [] m = m
 marked places kind (s ∷ steps) m = set_bits places s.frame s.index (bits_to_set kind s.level s.word) (marked places kind steps m)
 
--- The memory after an access: only one that arrives changes it.
+-- The memory after an access of this kind with this outcome, for which the processor read these words. Only an access that arrives
+-- changes it.
 abbrev pub memory_after : Places → Kind → List Step → Outcome → Memory → Memory
 memory_after places kind steps (Arrives to) m = marked places kind steps m
 memory_after places kind steps outcome m = m

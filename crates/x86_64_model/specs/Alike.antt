@@ -8,20 +8,23 @@ use Rattle.x86_64_model.specs.PathMap.{PathMap, entry}
 use Rattle.x86_64_model.specs.Window.{Window, begins_with}
 use Rattle.x86_64_model.specs.Call.{Call, MapTo, MapToWithTableFlags, IdentityMap, Unmap, UpdateFlags, SetFlags, TranslatePage, Translate, TranslateAddress, CleanUp}
 
+-- The entry with its flag WRITABLE cleared.
 abbrev pub without_writable : (entry : ℕ) → ℕ
 without_writable e = bit_and e 0xffff_ffff_ffff_fffd
 
+-- Both entries name a table, present or not, and they differ at most in WRITABLE.
 pub record AlikeTables (e f : ℕ) : Type 0 where
   pub one_names : names_table e ≡ true
   pub other_names : names_table f ≡ true
   pub same_else : without_writable e ≡ without_writable f
 
--- At each path the entries are equal, or both are table entries that differ at most in WRITABLE.
+-- Two path maps of hierarchies of L levels are alike: at each path the entries are equal, or both name a table and differ at most
+-- in WRITABLE.
 abbrev pub Alike : (L : ℕ) → PathMap → PathMap → Type 0
 Alike L m n = (q : List ℕ) → (entry m q ≡ entry n q) ⊎ ((length q < L) × AlikeTables (entry m q) (entry n q))
 
--- Whether a call names a page or an address in the recursive window. An identity map names a page if its frame lies below the
--- middle of the address space.
+-- Whether a call names a page or an address in the recursive window. An identity map does so only if its frame lies below the
+-- middle of the address space, and a clean up never does.
 abbrev pub names_index : (L : ℕ) → Option Window → Call → Bool
 names_index L window (MapTo q frame given) = begins_with window q
 names_index L window (MapToWithTableFlags q frame given parent_flags) = begins_with window q

@@ -11,80 +11,86 @@ use Rattle.x86_64_model.specs.PageWalk.{Walked, page_start}
 
 -- ---- ways
 
--- Where a walk has come: the path of the words that it read, the frame of the table or page that they lead to, and the rights
+-- Where a page walk has come: the path of the words that it read, the frame of the table or page that they lead to, and the rights
 -- that all of them grant.
 pub record Way : Type 0 where
   pub path : List ℕ
   pub frame : ℕ
   pub rights : Rights
 
--- The start of every walk: the root's table, with all rights.
+-- The start of every page walk: the root's table, with all rights.
 abbrev pub start : (root : ℕ) → Way
 start root = record { path = []; frame = root; rights = every_right }
 
--- Rights r are among the rights s.
+-- The rights r are among the rights s.
 pub record AtMost (r s : Rights) : Type 0 where
   pub write : r.write ≡ true → s.write ≡ true
   pub user : r.user ≡ true → s.user ≡ true
   pub execute : r.execute ≡ true → s.execute ≡ true
 
--- The way over the entry at an index of a table, to a frame.
+-- The way that goes on from a table over the entry at index i, to a frame: its path is longer by this index, and its rights are
+-- those of the way to the table that the entry grants too.
 abbrev pub over : Way → (i entry frame : ℕ) → Way
 over t i e frame = record { path = t.path ++ i ∷ []; frame = frame; rights = granted t.rights e }
 
 -- ---- items
 
--- An item of a paging-structure cache, which names a table, or of the TLB, which names a page.
+-- An item that a processor caches: of a paging-structure cache, which names a table, or of the TLB, which names a page.
 pub data Cached : Type 0 where
   Table : Way → Cached
   Page : Way → Cached
 
+-- The way to the table or page that a cached item names.
 abbrev pub way_of : Cached → Way
 way_of (Table t) = t
 way_of (Page w) = w
 
--- Where the entry at an index of a table leads. Only a present entry is cached: one that maps a page as this page, any other as
--- the table that it names. HUGE_PAGE above level three leads nowhere.
+-- The item that a processor may cache of the entry at index i of the table to which way t leads. An entry that maps a page is
+-- cached as this page, any other as the table that it names, but not if the entry isn't present, or has HUGE_PAGE above level
+-- three.
 abbrev pub leads_to : (L : ℕ) → Way → (i entry : ℕ) → Option Cached
 leads_to L t i e = let level = level_of L (t.path ++ i ∷ []) in
     cond (present e) (cond (maps_page level e) (Some (Page (over t i e (page_start level e)))) (cond (huge e) None (Some (Table (over t i e (address e)))))) None
 
--- What the processor finds if it reads the word at an index of a table.
+-- The item that a processor may cache if it reads the word at index i of the table to which way t leads.
 abbrev pub found : (L : ℕ) → Words → Way → (i : ℕ) → Option Cached
 found L tables t i = leads_to L t i (word tables t.frame i)
 
--- The processor may read on from the root's table and from each cached table.
+-- The processor may read words of the table to which way t leads: it is the root's table, or a cached one.
 abbrev pub MayRead : (root : ℕ) → List Cached → Way → Type 0
 MayRead root cache t = (t ≡ start root) ⊎ In cache (Table t)
 
--- At any moment the processor may drop items and make others: each item after it was there before, or is found in a word of a
--- table from which the processor may read on. So a walk that makes no items on the way makes and drops them.
+-- The processor may change its cached items from those before to those after, at any moment: each item after was there before, or
+-- is found in a word of the root's table or of a table cached before. A page walk that leaves no items of the tables on its way is
+-- one that makes and drops them.
 abbrev pub Caches : (L root : ℕ) → Words → (before after : List Cached) → Type 0
 Caches L root tables before after = (c : Cached) → In after c
     → In before c ⊎ ((t : Way) × (i : ℕ) × MayRead root before t × (found L tables t i ≡ Some c))
 
 -- ---- accesses
 
+-- The page to which a page walk leads over a cached item: the item's own page, or from its table the page to which the rest of the
+-- walk leads.
 abbrev pub then_on : (Way → Option Way) → Cached → Option Way
 then_on walk (Table t) = walk t
 then_on walk (Page w) = Some w
 
--- The page to which the rest of the walk at position p (the number of an address counted without the gap) leads, from a table
--- over n levels.
+-- The page to which the rest of the page walk at position p (the number of an address counted without the non-canonical gap) leads,
+-- if any, from the table of level n to which way t leads.
 unfoldable pub walk_from : (L : ℕ) → Words → (p n : ℕ) → Way → Option Way
 walk_from L tables p zero t = None
 walk_from L tables p (suc n) t = option_and_then (then_on (λ on. walk_from L tables p n on)) (found L tables t (index (suc n) p))
 
--- The page to which the whole walk leads, without any cache.
+-- The page to which the whole page walk at position p leads from the root, if any, without any cache.
 abbrev pub walk : (L : ℕ) → Words → (root p : ℕ) → Option Way
 walk L tables root p = walk_from L tables p L (start root)
 
--- What `page_walk` says of a page: the address at position p, with the rights to write and of user mode.
+-- What `page_walk` says of a page: the physical address at position p, with the page's rights to write and of user mode.
 abbrev pub walked_in : (L p : ℕ) → Way → Walked
 walked_in L p w = record { address = w.frame + p % span (level_of L w.path); write = w.rights.write; user = w.rights.user }
 
--- An access at position p may go to this page: it is in the TLB, or the walk leads to it from the root or from a cached table on
--- the path of p.
+-- An access at position p may go to this page: it is in the TLB, or the page walk leads to it from the root or from a cached table
+-- on the path of p.
 abbrev pub MayAccess : (L root : ℕ) → Words → List Cached → (p : ℕ) → (page : Way) → Type 0
 MayAccess L root tables cache p w = (In cache (Page w) × (begins w.path (page_path L p) ≡ true))
     ⊎ ((t : Way) × MayRead root cache t × (begins t.path (page_path L p) ≡ true) × (walk_from L tables p (L - length t.path) t ≡ Some w))

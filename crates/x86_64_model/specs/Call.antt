@@ -7,6 +7,8 @@ use Rattle.x86_64_model.specs.Refusal.{Answer}
 use Rattle.x86_64_model.specs.MapRule.{parent_part}
 use Rattle.x86_64_model.specs.Translation.{Translated}
 
+-- A call on a hierarchy. A page is named by its path, a frame by its address, a page size or a table entry by its level, and an
+-- address by its position (its number counted without the non-canonical gap).
 pub data Call : Type 0 where
   MapTo : (page : List ℕ) → (frame flags : ℕ) → Call
   MapToWithTableFlags : (page : List ℕ) → (frame flags parent_flags : ℕ) → Call
@@ -22,6 +24,8 @@ pub data Call : Type 0 where
   -- Cleans up the positions from low to high, inclusive.
   CleanUp : (low high : ℕ) → Call
 
+-- What a call returns: that it isn't allowed, the answer of a call on a page, what `translate` says of a position, a physical
+-- address if there is one, or nothing for a clean up.
 pub data Reply : Type 0 where
   NotAllowed : Reply
   Answered : Answer → Reply
@@ -29,7 +33,8 @@ pub data Reply : Type 0 where
   Address : Option ℕ → Reply
   Cleaned : Reply
 
--- A call names only 4KiB, 2MiB and 1GiB pages, and only levels that have entries of the kind it needs.
+-- The call is possible with L levels: it names only 4KiB, 2MiB and 1GiB pages, and only levels that have entries of the kind it
+-- needs.
 abbrev pub IsCall : (L : ℕ) → Call → Type 0
 IsCall L (MapTo q frame given) = IsPage L q
 IsCall L (MapToWithTableFlags q frame given more) = IsPage L q
@@ -42,7 +47,7 @@ IsCall L (Translate p) = Unit {0}
 IsCall L (TranslateAddress p) = Unit {0}
 IsCall L (CleanUp low high) = Unit {0}
 
--- The parent flags of a call that maps a page.
+-- The parent flags of a call that maps a page, None for any other call.
 abbrev pub parent_flags_of : Call → Option ℕ
 parent_flags_of (MapTo q frame given) = Some (parent_part given)
 parent_flags_of (MapToWithTableFlags q frame given parent_flags) = Some parent_flags

@@ -5,7 +5,7 @@ use Rattle.x86_64_model.specs.PathMap.{PathMap, table_at}
 use Rattle.x86_64_model.specs.Lists.{In, EachOnce}
 use Rattle.x86_64_model.specs.Pool.{IsTable, IsOwn}
 
--- The address of a 4KiB frame other than frame 0.
+-- The number is the address of a 4KiB frame other than frame 0.
 pub record IsFrame (f : ℕ) : Type 0 where
   pub aligned : address f ≡ f
   pub not_zero : f ≢ 0

@@ -7,16 +7,17 @@ use Rattle.x86_64_model.specs.Refusal.{Done, Refused}
 use Rattle.x86_64_model.specs.Call.{Call, MapTo, MapToWithTableFlags, IdentityMap, Unmap, UpdateFlags, SetFlags, TranslatePage, Translate, TranslateAddress, CleanUp, Reply, NotAllowed, Answered, Position, Address, Cleaned}
 use Rattle.x86_64_model.specs.Machine.{Machine, State, step}
 
+-- What is recorded for an accepted call, so that cached translations can be flushed: the page that it changed, or everything.
 pub data Item : Type 0 where
   OnePage : (page : List ℕ) → Item
   Everything : Item
 
--- Whether an item covers a position (the number of an address counted without the gap of the address space).
+-- Whether an item recorded for a flush covers a position (the number of an address counted without the non-canonical gap).
 abbrev pub covers : (L : ℕ) → Item → (position : ℕ) → Bool
 covers L (OnePage q) p = begins q (page_path L p)
 covers L Everything p = true
 
--- The item, if the call was accepted.
+-- The item, if the reply says that the call was done, otherwise no item.
 abbrev pub if_done : Reply → Item → List Item
 if_done (Answered (Done frame)) item = item ∷ []
 if_done (Answered (Refused why)) item = []
@@ -25,7 +26,7 @@ if_done (Position t) item = []
 if_done (Address a) item = []
 if_done Cleaned item = []
 
--- The items recorded for a call with this reply.
+-- The items that are recorded for a call with this reply, in a hierarchy of L levels, so that they can be flushed.
 abbrev pub items_of : (L : ℕ) → Call → Reply → List Item
 items_of L (MapTo q frame given) reply = if_done reply (OnePage q)
 items_of L (MapToWithTableFlags q frame given parent_flags) reply = if_done reply (OnePage q)
@@ -38,7 +39,7 @@ items_of L (Translate p) reply = []
 items_of L (TranslateAddress p) reply = []
 items_of L (CleanUp low high) reply = []
 
--- The items recorded for a list of calls.
+-- The items that are recorded for a list of calls, made in order from a state of the machine, so that they can be flushed.
 abbrev pub all_items : Machine → State → List Call → List Item
 all_items m s [] = []
 all_items m s (call ∷ calls) = items_of m.levels call (step m s call).reply ++ all_items m (step m s call).state calls

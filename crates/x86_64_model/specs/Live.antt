@@ -10,6 +10,7 @@ use Rattle.x86_64_model.specs.PathMap.{PathMap, entry, put}
 
 -- ---- of entries
 
+-- A change of one entry of tables in use, by a processor, a kernel or a hypervisor.
 pub data Happening : Type 0 where
   -- A processor adds a mark to the entry at a path: ACCESSED (0x20), or ACCESSED and DIRTY (0x60).
   Marks : (path : List ℕ) (mark : ℕ) → Happening
@@ -17,26 +18,31 @@ pub data Happening : Type 0 where
   -- depend on it, as in a loop that compares and exchanges until it succeeds.
   Exchanges : (path : List ℕ) (next : ℕ → ℕ) → Happening
 
--- The flags of an exchange by masks: those not kept are cleared, then those given are set.
+-- What an exchange by masks makes of an entry: the bits that aren't kept are cleared, then those given are
+-- set.
 abbrev pub by_masks : (keep given : ℕ) → (entry : ℕ) → ℕ
 by_masks keep given e = bit_or (bit_and e keep) given
 
+-- The path of the entry that a happening changes.
 abbrev pub path_of : Happening → List ℕ
 path_of (Marks q mark) = q
 path_of (Exchanges q next) = q
 
+-- The word that a happening makes of an entry.
 abbrev pub next_word : Happening → (entry : ℕ) → ℕ
 next_word (Marks q mark) e = bit_or e mark
 next_word (Exchanges q next) e = next e
 
+-- The path map after a happening has changed one entry.
 abbrev pub after_happening : PathMap → Happening → PathMap
 after_happening paths h = put paths (path_of h) (next_word h (entry paths (path_of h)))
 
+-- The path map after a list of happenings, in order.
 abbrev pub after_happenings : PathMap → List Happening → PathMap
 after_happenings paths [] = paths
 after_happenings paths (h ∷ hs) = after_happenings (after_happening paths h) hs
 
--- What the exchanges learned, in order: the paths, and the entries that were there.
+-- What the exchanges among these happenings learn, in order: the path of each, and the entry that was there.
 abbrev pub learned : PathMap → List Happening → List (List ℕ × ℕ)
 learned paths [] = []
 learned paths (Marks q mark ∷ hs) = learned (after_happening paths (Marks q mark)) hs
@@ -45,35 +51,42 @@ learned paths (Exchanges q next ∷ hs) = (q, entry paths q) ∷ learned
 
 -- ---- of words
 
--- A happening, and the word that it changes.
+-- A happening, with the frame and the index of the word that it changes.
 pub record Placed : Type 0 where
   pub what : Happening
   pub frame : ℕ
   pub index : ℕ
 
+-- The memory after a happening has changed its word.
 abbrev pub after_placed : Layout → Memory → Placed → Memory
 after_placed l m x = with_word l m x.frame x.index
     (next_word x.what (word (words (l laid_in m)) x.frame x.index))
 
+-- The memory after happenings, in order, have changed their words.
 abbrev pub after_all_placed : Layout → Memory → List Placed → Memory
 after_all_placed l m [] = m
 after_all_placed l m (x ∷ xs) = after_all_placed l (after_placed l m x) xs
 
--- The word is that of the entry, which the new word may replace.
+-- The happening may change its word: this is the word of the entry at its path, and the new word may take the
+-- entry's place.
 abbrev pub MayHappen : Layout → Memory → Placed → Type 0
 MayHappen l m x = IsInPlace l m (path_of x.what) x.frame x.index
     × MayReplace l.levels (path_of x.what) (entry (paths (l laid_in m)) (path_of x.what))
     (next_word x.what (entry (paths (l laid_in m)) (path_of x.what)))
 
+-- The happenings may change their words one after the other, each in the memory that those before it leave.
 abbrev pub AllMayHappen : Layout → Memory → List Placed → Type 0
 AllMayHappen l m [] = Unit {0}
 AllMayHappen l m (x ∷ xs) = MayHappen l m x × AllMayHappen l (after_placed l m x) xs
 
+-- What a happening that finds this entry learns, in front of what later ones learn: an exchange learns its
+-- path and the entry, a mark nothing.
 abbrev pub with_learned : Happening → (entry : ℕ) → List (List ℕ × ℕ) → List (List ℕ × ℕ)
 with_learned (Marks q mark) e more = more
 with_learned (Exchanges q next) e more = (q, e) ∷ more
 
--- What the exchanges read in memory, in order.
+-- What the exchanges among these happenings read in memory, in order: the path of each, and the word that was
+-- there.
 abbrev pub words_learned : Layout → Memory → List Placed → List (List ℕ × ℕ)
 words_learned l m [] = []
 words_learned l m (x ∷ xs) = with_learned x.what (word (words (l laid_in m)) x.frame x.index)

@@ -12,18 +12,21 @@ use Rattle.x86_64_model.specs.Pool.{TakesBack, given_back}
 use Rattle.x86_64_model.specs.Call.{Call, MapTo, MapToWithTableFlags, IdentityMap, Unmap, UpdateFlags, SetFlags, TranslatePage, Translate, TranslateAddress, CleanUp, Reply, NotAllowed, Answered, Position, Address, Cleaned}
 use Rattle.x86_64_model.specs.Allowed.{allowed}
 
--- The parameters that no call changes: the number of levels, the recursive window if there is one, the flags that a new table
--- entry gets in addition to the parent flags, and where the pool puts a returned frame.
+-- The parameters of a machine, which no call changes: the number of levels, the recursive window if there is one, the flags that a
+-- new table entry gets in addition to the parent flags, and where the pool puts a returned frame.
 pub record Machine : Type 0 where
   pub levels : ℕ
   pub window : Option Window
   pub added_flags : ℕ
   pub take_back : List ℕ → ℕ → List ℕ
 
+-- The machine's added flags have no address bits and no HUGE_PAGE, and its pool neither loses nor doubles a frame when one is
+-- returned.
 pub record IsMachine (m : Machine) : Type 0 where
   pub adds : IsParentFlags m.added_flags
   pub gives : TakesBack m.take_back
 
+-- The state of a machine: the path map of the hierarchy, and the free frames of the pool, in the order in which it hands them out.
 pub record State : Type 0 where
   pub paths : PathMap
   pub pool : List ℕ
@@ -37,19 +40,19 @@ pub record AfterCall : Type 0 where
 abbrev pub only_reply : State → Reply → AfterCall
 only_reply s reply = record { state = s; reply = reply }
 
--- The result of a map call, from its rule.
+-- The result of a map call whose effect on path map and supply, and whose answer, are these.
 abbrev pub after_map : AfterMap → AfterCall
 after_map a = record { state = record { paths = a.paths; pool = a.supply }; reply = Answered a.answer }
 
--- The result of a call on one entry, from its rule. The pool stays.
+-- The result of a call on one entry whose effect on the path map and whose answer are these. The pool stays.
 abbrev pub after_change : (pool : List ℕ) → AfterChange → AfterCall
 after_change pool a = record { state = record { paths = a.paths; pool = pool }; reply = Answered a.answer }
 
--- The result of a clean up: the frames of the removed tables return to the pool.
+-- The result of a clean up that leaves this path map and frees these frames, which return to the pool one at a time.
 abbrev pub after_clean_up : (take_back : List ℕ → ℕ → List ℕ) → (pool : List ℕ) → AfterCleanUp → AfterCall
 after_clean_up take_back pool a = record { state = record { paths = a.paths; pool = given_back take_back pool a.back }; reply = Cleaned }
 
--- The result of an allowed call.
+-- The result of an allowed call on a state of the machine: the state after it, and its reply.
 unfoldable pub do_call : Machine → State → Call → AfterCall
 do_call m s (MapTo q frame given) = after_map (map_call m.levels s.paths s.pool (parent_part given) m.added_flags q frame given)
 do_call m s (MapToWithTableFlags q frame given parent_flags) = after_map (map_call m.levels s.paths s.pool parent_flags m.added_flags q frame given)
@@ -62,15 +65,16 @@ do_call m s (Translate p) = only_reply s (Position (translate m.levels (entry_at
 do_call m s (TranslateAddress p) = only_reply s (Address (address_of (translate m.levels (entry_at m.window s.paths) p)))
 do_call m s (CleanUp low high) = after_clean_up m.take_back s.pool (clean_up m.levels s.paths low high)
 
--- The result of any call. A call that isn't allowed gets the reply `NotAllowed` and changes nothing.
+-- The result of any call on a state of the machine. A call that isn't allowed gets the reply `NotAllowed` and changes nothing.
 abbrev pub step : Machine → State → Call → AfterCall
 step m s call = if allowed m.levels m.window s.paths call then do_call m s call else only_reply s NotAllowed
 
--- A list of calls: one reply for each call, and the state at the end.
+-- The replies to a list of calls, one for each, made in order from a state of the machine.
 abbrev pub replies_of : Machine → State → List Call → List Reply
 replies_of m s [] = []
 replies_of m s (call ∷ calls) = (step m s call).reply ∷ replies_of m (step m s call).state calls
 
+-- The state of the machine after a list of calls, made in order from a state.
 abbrev pub state_after : Machine → State → List Call → State
 state_after m s [] = s
 state_after m s (call ∷ calls) = state_after m (step m s call).state calls

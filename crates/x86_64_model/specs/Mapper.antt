@@ -21,44 +21,46 @@ use Rattle.x86_64_model.specs.Layout.{Layout}
 use Rattle.std.specs.FinMap.{get}
 use Rattle.x86_64_model.specs.Window.{outside_window, entry_at, IsValidFor}
 
--- The fixed layout, the current memory, and what was lent: the memory, and what finds frames in it.
+-- A hierarchy that a mapper owns for a while: its fixed layout, the current memory, and what was lent to the mapper, which is the
+-- memory and what finds frames in it.
 pub record Hierarchy (Lent : Type 0) : Type 0 where
   pub layout : Layout
   pub memory : Memory
   pub lent : Lent
 
--- The hierarchy of a layout in a memory, where nothing is lent.
+-- The hierarchy that a layout has in a memory, with nothing lent.
 infix 50 ◌laid_in◌
 abbrev pub ◌laid_in◌ : Layout → Memory → Hierarchy (Unit {0})
 layout laid_in memory = record { layout = layout; memory = memory; lent = tt }
 
 -- ---- what it means now
 
--- The table in each frame.
+-- The table in each frame of a hierarchy's memory, None if the frame isn't covered or isn't in the memory.
 abbrev pub words : {Lent : Type 0} → Hierarchy Lent → Words
 words h = words_of h.memory h.layout.places
 
--- The path map that its words hold, with the root's word at the recursive index left out.
+-- The path map that the words of a hierarchy hold, with the root's word at the recursive index left out.
 abbrev pub paths : {Lent : Type 0} → Hierarchy Lent → PathMap
 paths h = paths_of h.layout.levels (outside_window h.layout.window h.layout.root (words h)) h.layout.root
 
--- The entry read at a path, through the recursive index if there is one.
+-- The entry of a hierarchy that is read at a path, through the recursive index if there is one.
 abbrev pub read_entry : {Lent : Type 0} → Hierarchy Lent → List ℕ → ℕ
 read_entry h q = entry_at h.layout.window (paths h) q
 
--- The result of the processor's page walk at a position (the number of an address counted without the gap of the address space).
+-- The result of the processor's page walk in a hierarchy at a position (the number of an address counted without the non-canonical
+-- gap).
 abbrev pub walk : {Lent : Type 0} → Hierarchy Lent → (position : ℕ) → Option Walked
 walk h p = page_walk h.layout.levels (words h) h.layout.root p
 
--- The answer of `translate` at a position.
+-- The answer of `translate` in a hierarchy at a position (the number of an address counted without the non-canonical gap).
 abbrev pub translation : {Lent : Type 0} → Hierarchy Lent → (position : ℕ) → Translated
 translation h p = translate h.layout.levels (read_entry h) p
 
--- The path of the entry of a level at a position.
+-- The path of the entry of a level, in a hierarchy, at a position (the number of an address counted without the non-canonical gap).
 abbrev pub path_of : {Lent : Type 0} → Hierarchy Lent → (level position : ℕ) → List ℕ
 path_of h level p = path_at h.layout.levels level p
 
--- The answer of `translate_page`.
+-- The answer of `translate_page` in a hierarchy for the page at a path.
 abbrev pub page_translation : {Lent : Type 0} → Hierarchy Lent → (page : List ℕ) → Answer
 page_translation h q = translate_page h.layout.levels (read_entry h) q
 
@@ -66,42 +68,44 @@ page_translation h q = translate_page h.layout.levels (read_entry h) q
 abbrev pub Valid : {Lent : Type 0} → Hierarchy Lent → Type 0
 Valid h = IsValidFor h.layout.levels h.layout.window (words h) h.layout.root (paths h)
 
--- The hierarchy is valid, and a pool fits it.
+-- The hierarchy is valid, and a pool of free frames fits it: they are distinct, in the memory, and neither frame 0 nor in use as
+-- tables, and the pool serves them and the frame of each table but the root.
 abbrev pub PoolFits : {Lent : Type 0} → Hierarchy Lent → (serves : ℕ → Bool) → (pool : List ℕ) → Type 0
 PoolFits h serves pool = Fits h.layout.levels h.layout.window (words h) h.layout.root (paths h) serves pool
 
--- The hierarchy is valid, and a supply (the frames to hand out, in order) fits it, whatever serves them.
+-- The hierarchy is valid, and a supply (the frames to hand out, in order) fits it, whatever serves them: they are distinct, in the
+-- memory, and neither frame 0 nor in use as tables.
 abbrev pub SupplyFits : {Lent : Type 0} → Hierarchy Lent → (supply : List ℕ) → Type 0
 SupplyFits h supply = PoolFits h (λ f. true) supply
 
--- The frame holds the root or another table, or is in the supply.
+-- The frame holds the root or another table of the hierarchy, or is in the supply.
 abbrev pub Owns : {Lent : Type 0} → Hierarchy Lent → (supply : List ℕ) → (frame : ℕ) → Type 0
 Owns h supply f = IsOwn h.layout.levels h.layout.root (paths h) supply f
 
--- Every place where none of these frames lies keeps its words.
+-- From the memory m to the memory n, every place where none of these frames lies keeps its words.
 abbrev pub KeepsOutside : Places → (frames : ℕ → Type 0) → Memory → Memory → Type 0
 KeepsOutside places frames m n = (k : ℕ) → ((f : ℕ) → frames f → places.place f ≢ k) → get n k ≡ get m k
 
--- Only words in these frames changed.
+-- From a hierarchy to the one after it, only words in these frames change.
 abbrev pub KeepsOthers : {Lent : Type 0} → (frames : ℕ → Type 0) → (h after : Hierarchy Lent) → Type 0
 KeepsOthers frames h after = KeepsOutside h.layout.places frames h.memory after.memory
 
 -- ---- what a call asks for
 
--- Whether the condition of a call holds.
+-- Whether a call is allowed in a hierarchy.
 abbrev pub allows : {Lent : Type 0} → Hierarchy Lent → Call → Bool
 allows h call = allowed h.layout.levels h.layout.window (paths h) call
 
--- Whether the page at a path may be mapped with these flags and parent flags, to any frame.
+-- Whether the page at a path may be mapped in a hierarchy with these flags and parent flags, to any frame.
 abbrev pub allows_map : {Lent : Type 0} → Hierarchy Lent → (page : List ℕ) → (flags parent_flags : ℕ) → Bool
 allows_map h q given parent_flags = map_allowed h.layout.levels h.layout.window (paths h) q given parent_flags
 
--- A call may be made if the hierarchy is valid and the call's condition holds.
+-- The call may be made: the hierarchy is valid, and the call is allowed.
 pub record May {Lent : Type 0} (h : Hierarchy Lent) (call : Call) : Type 0 where
   pub valid : Valid h
   pub allowed : allows h call ≡ true
 
--- A map may be made if, in addition, the supply of frames fits.
+-- The map may be made: the hierarchy is valid, the supply (the frames to hand out, in order) fits it, and the call is allowed.
 pub record MayMap {Lent : Type 0} (h : Hierarchy Lent) (supply : List ℕ) (call : Call) : Type 0 where
   pub fits : SupplyFits h supply
   pub allowed : allows h call ≡ true
@@ -116,11 +120,12 @@ machine_of layout take_back = record { levels = layout.levels; window = layout.w
 abbrev pub state_in : Layout → Memory → (pool : List ℕ) → State
 state_in layout memory pool = record { paths = paths (layout laid_in memory); pool = pool }
 
+-- The machine's state that a hierarchy is: the path map that its words hold, and the free frames.
 abbrev pub state_of : {Lent : Type 0} → Hierarchy Lent → (pool : List ℕ) → State
 state_of h pool = state_in h.layout h.memory pool
 
--- The allowed call turns this hierarchy and pool into those after it, with this answer. The machine does so too, wherever its
--- pool puts returned frames.
+-- The call, if it is allowed, leads the machine from this hierarchy and pool to those after it, with this answer, wherever the pool
+-- puts returned frames.
 abbrev pub Steps : {Lent : Type 0} → (h : Hierarchy Lent) → (pool : List ℕ) → Call → Answer → (after : Hierarchy Lent) → (rest : List ℕ) → Type 0
 Steps h pool call answer after rest =
     (take_back : List ℕ → ℕ → List ℕ) → do_call (machine_of h.layout take_back) (state_of h pool) call ≡ record { state = state_of after rest; reply = Answered answer }
@@ -147,19 +152,19 @@ pub record DoesMap {Lent : Type 0} (h : Hierarchy Lent) (supply : List ℕ) (cal
   pub layout : after.layout ≡ h.layout
   pub lent : after.lent ≡ h.lent
 
--- The frame that is named by the entry whose flags the call changes.
+-- The frame that is named by the entry whose flags the call changes, 0 for a call that changes no flags.
 abbrev pub named : {Lent : Type 0} → Hierarchy Lent → Call → ℕ
 named h (UpdateFlags q given) = address (read_entry h q)
 named h (SetFlags level q given) = address (read_entry h (front_at h.layout.levels level q))
 named h call = 0
 
--- The page walk at each offset of a page of this size arrives at the frame's start plus the offset, with exactly the rights of
--- the flags.
+-- The page walk at each offset of the page of this size (in bytes) that starts at a position arrives at the frame's start plus the
+-- offset, with exactly the rights to write and of user mode that the flags have.
 abbrev pub ArrivesIn : {Lent : Type 0} → Hierarchy Lent → (size page frame flags : ℕ) → Type 0
 ArrivesIn h size page frame given =
     (offset : ℕ) → offset < size → walk h (page + offset) ≡ Some (record { address = frame + offset; write = writable given; user = user given })
 
--- A page of a level stands: it is mapped to the frame as a `map_to` with these flags maps it.
+-- The page of a level that starts at a position is mapped to the frame as a `map_to` with these flags maps it.
 abbrev pub Stands : {Lent : Type 0} → Hierarchy Lent → (level page frame flags : ℕ) → Type 0
 Stands h level page frame given = StandsAt h.layout.levels level (paths h) (path_of h level page) frame given
 
@@ -169,7 +174,8 @@ Stands h level page frame given = StandsAt h.layout.levels level (paths h) (path
 abbrev pub back : {Lent : Type 0} → Hierarchy Lent → (low high : ℕ) → List ℕ
 back h low high = (clean_up h.layout.levels (paths h) low high).back
 
--- A clean up may be made if the hierarchy is valid, and the frame of each table but the root is served and not held.
+-- The clean up may be made: the hierarchy is valid, and the frame of each table but the root is served by the pool and not held in
+-- it.
 pub record MayCleanUp {Lent : Type 0} (h : Hierarchy Lent) (serves : ℕ → Bool) (held : List ℕ) : Type 0 where
   pub valid : Valid h
   pub serves_tables : (i : ℕ) (q : List ℕ) (f : ℕ) → table_at h.layout.levels h.layout.root (paths h) (i ∷ q) ≡ Some f → serves f ≡ true

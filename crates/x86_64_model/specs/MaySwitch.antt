@@ -14,11 +14,11 @@ use Rattle.x86_64_model.specs.Flushing.{PageDue, TablesDue, HasZeros, LosesNothi
 use Rattle.x86_64_model.specs.Tags.{Tag, Of, Tagged, CachesTagged, TaggedFlush, is_left, is_left_by_load}
 use Rattle.x86_64_model.specs.Switches.{Kernel, Space, AreHeld, Switching, SwitchEvent, held_by, AreDone, machine_at, state_at, with_words, with_marks, after_switch, Makes, Writes, Marks, Returns, Pools, Begins, Ends, Loads, Abandons, Flushes, Changes}
 
--- A call may begin on a space that the pool fits, when the last one is done. It waits as with one root, for
--- all PCIDs. This space's words will hold the machine's next state. Of any other each entry stays, or was the
--- caller's and will be, at the same path: so with tables that they share. It stays from roots that the call
--- doesn't reach. If the kernel learns that nothing changes below entries that all share, the call avoids
--- these.
+-- The kernel may begin a call on a space that the pool fits, when no call is under way. A map waits as long as tables are due for a
+-- PCID, and isn't of a page within a larger page that is due. The call leads this space to the machine's next path map. Each entry
+-- of another space stays, or is this space's old entry at the same path and becomes the new one, as in shared tables, and nothing
+-- changes from roots that the call doesn't reach. If the kernel learns that no used entry loses anything, none does, and if it
+-- learns that nothing changes below entries that all spaces share, the call avoids these.
 pub record MayMakeOn (k : Kernel) (s : Switching) (a : Space) (call : Call) (loses : Bool)
     (reaches : ℕ → Bool)
     (everywhere : Bool) (next : Space → PathMap) : Type 0 where
@@ -40,9 +40,9 @@ pub record MayMakeOn (k : Kernel) (s : Switching) (a : Space) (call : Call) (los
       → entry (next b) q ≡ entry b.paths q
   pub avoids : everywhere ≡ false → Avoids k.levels k.shared call
 
--- At each moment of a call the words are valid hierarchies, in which each entry is as it was or as it will
--- be. As with one root, a table that is removed has only words 0, and keeps them as long as tables are due
--- for a PCID.
+-- The words of memory may become these at any moment, also during a call: they hold a valid hierarchy for each space, in which each
+-- entry is as it was or as it will be. A table that is removed has only words 0, and free frames with only words 0 keep them as
+-- long as tables are due for a PCID.
 pub record MayWriteAll (k : Kernel) (s : Switching) (U : Words) : Type 0 where
   pub held : AreHeld k U (map (with_words k U) s.spaces)
   pub between : (a : Space) → In s.spaces a → (q : List ℕ)
@@ -53,29 +53,33 @@ pub record MayWriteAll (k : Kernel) (s : Switching) (U : Words) : Type 0 where
   pub keeps : (c : ℕ) → In (s.due (Of c)) TablesDue → (f : ℕ) → In s.pool f → HasZeros s.words f
       → HasZeros U f
 
--- Marks may come at any moment. The words hold the spaces still, each entry leads alike, and words 0 stay.
+-- A processor may set ACCESSED and DIRTY so, at any moment: the words hold the spaces still, each entry leads to the same with the
+-- same rights, now and when the call under way is done, and frames with only words 0 keep them.
 pub record MayMarkAll (k : Kernel) (s : Switching) (next : Space → PathMap) (U : Words) : Type 0 where
   pub held : AreHeld k U (map (with_marks k next U) s.spaces)
   pub now : (a : Space) → In s.spaces a → (q : List ℕ) → LeadAlike (entry a.paths q) (entry (held_by k U a) q)
   pub then : (a : Space) → In s.spaces a → (q : List ℕ) → LeadAlike (entry a.next q) (entry (next a) q)
   pub keeps : (f : ℕ) → HasZeros s.words f → HasZeros U f
 
--- No frame leaves the pool as long as tables are due for a PCID.
+-- The kernel may change the pool's free frames to these when no call is under way, but no frame leaves the pool as long as tables
+-- are due for a PCID.
 pub record MayPool (s : Switching) (pool : List ℕ) : Type 0 where
   pub done : AreDone s
   pub waits : (c : ℕ) → In (s.due (Of c)) TablesDue → (f : ℕ) → In s.pool f → In pool f
 
--- A new space is held by the words, as the others are, and no PCID holds its root.
+-- A new space may be added: no call on it is under way, the words hold it as they hold the others, and no PCID holds items of its
+-- root.
 pub record MayBegin (k : Kernel) (s : Switching) (a : Space) : Type 0 where
   pub done : a.paths ≡ a.next
   pub held : AreHeld k s.words (a ∷ s.spaces)
   pub unused : (c : ℕ) → s.holder c ≢ Some a.root
 
--- A space may be given up if no PCID holds its root.
+-- The space with this root may be given up: no PCID holds items of the root.
 abbrev pub MayEnd : Switching → (root : ℕ) → Type 0
 MayEnd s root = (c : ℕ) → s.holder c ≢ Some root
 
--- CR3 may be loaded with the root of a space. If the PCID's items are kept, they must be of this root.
+-- The processor may load CR3 with a root and a PCID: the root is that of a space, and if the PCID's items are kept, they are of
+-- this root. Each item after the load was there before and may be left by it.
 pub record MayLoad (s : Switching) (root pcid : ℕ) (keeps : Bool) (after : List Tagged) : Type 0 where
   pub space : Space
   pub there : In s.spaces space
@@ -83,10 +87,12 @@ pub record MayLoad (s : Switching) (root pcid : ℕ) (keeps : Bool) (after : Lis
   pub holds : keeps ≡ true → s.holder pcid ≡ Some root
   pub left : (c : Tagged) → In after c → In s.cache c × (is_left_by_load pcid keeps c.tag ≡ true)
 
+-- A flush may leave these items: each was cached before, and the flush doesn't drop it.
 abbrev pub MayFlushTagged : Kernel → Switching → TaggedFlush → (after : List Tagged) → Type 0
 MayFlushTagged k s f items = (c : Tagged) → In items c
     → In s.cache c × (is_left k.levels s.pcid f c.tag c.item ≡ true)
 
+-- The event may happen now, between a kernel with several address spaces and a processor that switches between them.
 abbrev pub MaySwitch : Kernel → Switching → SwitchEvent → Type 0
 MaySwitch k s (Makes a call loses reaches everywhere next) = MayMakeOn k s a call loses reaches everywhere next
 MaySwitch k s (Writes U) = MayWriteAll k s U
@@ -100,11 +106,12 @@ MaySwitch k s (Abandons pcid) = pcid ≢ s.pcid
 MaySwitch k s (Flushes f items) = MayFlushTagged k s f items
 MaySwitch k s (Changes items) = CachesTagged k.levels s.root s.pcid s.words s.cache items
 
--- A list of events, in order.
+-- The events may happen one after the other, each in the system that those before it leave.
 abbrev pub AllMaySwitch : Kernel → Switching → List SwitchEvent → Type 0
 AllMaySwitch k s [] = Unit {0}
 AllMaySwitch k s (e ∷ es) = MaySwitch k s e × AllMaySwitch k (after_switch k s e) es
 
+-- The system of a kernel with several address spaces and a processor after a list of events, in order.
 abbrev pub after_switches : Kernel → Switching → List SwitchEvent → Switching
 after_switches k s [] = s
 after_switches k s (e ∷ es) = after_switches k (after_switch k s e) es

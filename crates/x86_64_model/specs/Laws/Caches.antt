@@ -24,48 +24,53 @@ use Rattle.x86_64_model.specs.Arrivals.{KeepsArrival}
 use Rattle.x86_64_model.specs.Laws.Steps.{FitsState}
 use Rattle.x86_64_model.specs.Laws.Worked.{small_mapped, small_memory}
 
--- The walk with all rights is the page walk.
+-- The page walk arrives if and only if the walk that also says the page's path and its right to execute leads to a page, and then
+-- at this page, with the same rights to write and of user mode.
 abbrev pub WalksWithRights : Type 0
 WalksWithRights = (L : ℕ) (T : Words) (root p : ℕ) → page_walk L T root p ≡ option_map (walked_in L p) (walk L T root p)
 
--- The caches change, again and again.
+-- The processor may change its cached items step by step, from those before through each list between, of which the last one is
+-- those after.
 abbrev pub CachesInTurn : (L root : ℕ) → Words → (before : List Cached) → (between : List (List Cached)) → (after : List Cached) → Type 0
 CachesInTurn L root T before [] after = before ≡ after
 CachesInTurn L root T before (next ∷ more) after = Caches L root T before next × CachesInTurn L root T next more after
 
--- The processor may come to cache each page to which a walk leads, from whatever it has cached.
+-- From whatever it has cached, the processor may come to cache a page to which a page walk leads, and nothing else.
 abbrev pub WalksAreCached : Type 0
 WalksAreCached = (L : ℕ) (T : Words) (root p : ℕ) (w : Way) → walk L T root p ≡ Some w → (before : List Cached)
     → (between : List (List Cached)) × CachesInTurn L root T before between (Page w ∷ [])
 
--- The walk goes to the page too, with all its rights at least.
+-- The page walk leads to this page, by the same path and to the same frame, with at least its rights.
 abbrev pub WalksThere : Option Way → (page : Way) → Type 0
 WalksThere walk w = (v : Way) × (walk ≡ Some v) × (v.path ≡ w.path) × (v.frame ≡ w.frame) × AtMost w.rights v.rights
 
--- A list of events from empty caches on: calls, flushes, changes of the caches, writes elsewhere.
+-- From a state and words, with empty caches and nothing due, these events may happen in order, and lead to this system: calls,
+-- writes of words in memory, flushes, and changes of the caches.
 pub record Happens (m : Machine) (root : ℕ) (T : Words) (s : State) (events : List Event) (end : System) : Type 0 where
   pub machine : IsMachine m
   pub levels : 0 < m.levels
   pub happen : AllMayHappen m root (fresh s T) events
   pub ends : after_events m (fresh s T) events ≡ end
 
--- At every moment, also during calls, each access at a position (the number of an address counted without the gap) goes with the
--- page walk in the present words, if nothing that is due concerns the position.
+-- At every moment, also during calls, each access at a position (the number of an address counted without the non-canonical gap)
+-- goes to the page to which the page walk in the present words leads, with at most its rights, if nothing that is due concerns the
+-- position.
 abbrev pub FlushesAreEnough : Type 0
 FlushesAreEnough = (m : Machine) (root : ℕ) (T : Words) (serves : ℕ → Bool) (s : State) → FitsState m T root serves s
     → (events : List Event) (now : System) → Happens m root T s events now
     → (p : ℕ) → ((due : Due) → In now.due due → concerns m.levels m.window due p ≡ false)
     → (w : Way) → MayAccess m.levels root now.words now.cache p w → WalksThere (walk m.levels now.words root p) w
 
--- So if an access goes to a page, the page walk arrives at the same address, with the same rights to write and of user mode at least.
+-- At every moment, also during calls, if an access at a position goes to a page, and nothing that is due concerns the position, the
+-- page walk in the present words arrives at the same address, with the same rights to write and of user mode at least.
 abbrev pub AccessesAreWalks : Type 0
 AccessesAreWalks = (m : Machine) (root : ℕ) (T : Words) (serves : ℕ → Bool) (s : State) → FitsState m T root serves s
     → (events : List Event) (now : System) → Happens m root T s events now
     → (p : ℕ) → ((due : Due) → In now.due due → concerns m.levels m.window due p ≡ false)
     → (w : Way) → MayAccess m.levels root now.words now.cache p w → KeepsArrival (Some (walked_in m.levels p w)) (page_walk m.levels now.words root p)
 
--- At every moment, also during calls, the processor reads only words of tables of the hierarchy. Until a clean up is flushed it may
--- also read words of frames that it freed, all of them 0.
+-- At every moment, also during calls, the processor reads only words of tables of the hierarchy, which are in memory. Until a clean
+-- up is flushed it may also read words of free frames, all of them 0.
 abbrev pub OnlyTablesAreRead : Type 0
 OnlyTablesAreRead = (m : Machine) (root : ℕ) (T : Words) (serves : ℕ → Bool) (s : State) → FitsState m T root serves s
     → (events : List Event) (now : System) → Happens m root T s events now
@@ -74,32 +79,34 @@ OnlyTablesAreRead = (m : Machine) (root : ℕ) (T : Words) (serves : ℕ → Boo
 
 -- ---- where accesses go while something is due
 
--- The entry at the page's path maps it, present or not.
+-- The entry at the path of a page maps it, present or not, to the page's frame.
 pub record IsMapped (L : ℕ) (E : List ℕ → ℕ) (page : Way) : Type 0 where
   pub is_used : used (E page.path) ≡ true
   pub maps : maps_page (level_of L page.path) (E page.path) ≡ true
   pub frame : page.frame ≡ page_start (level_of L page.path) (E page.path)
 
--- A page that may be cached still: it is due, and its frame is the one that it had when a call let it go. Or all items on its path
--- are due, and its entry maps it, so that at most rights are wrong. Or it lies in the recursive window, which is due.
+-- The page may be cached still though entries changed: it is due, and its frame is the one that it had when a call let it go, or
+-- all items on its path are due, and its entry still maps it, so that at most its rights are wrong, or it lies in the recursive
+-- window, which is due.
 pub data IsStale (L : ℕ) (window : Option Window) (due : List Due) (E : List ℕ → ℕ) (page : Way) : Type 0 where
   WasThere : (frame : ℕ) → In due (PageDue page.path frame) → page.frame ≡ page_start (level_of L page.path) frame → IsStale L window due E page
   HadRights : (q : List ℕ) → In due (BelowDue q) → begins q page.path ≡ true → IsMapped L E page → IsStale L window due E page
   InWindow : In due WindowDue → begins_with window page.path ≡ true → IsStale L window due E page
 
--- At every moment, also during calls, each access goes with the page walk in the present words, or to a page that is due.
+-- At every moment, also during calls, each access goes to the page to which the page walk in the present words leads, with at most
+-- its rights, or to a stale page, for which something is due.
 abbrev pub StaleAccessesAreOld : Type 0
 StaleAccessesAreOld = (m : Machine) (root : ℕ) (T : Words) (serves : ℕ → Bool) (s : State) → FitsState m T root serves s
     → (events : List Event) (now : System) → Happens m root T s events now
     → (p : ℕ) (w : Way) → MayAccess m.levels root now.words now.cache p w
     → WalksThere (walk m.levels now.words root p) w ⊎ IsStale m.levels m.window now.due (entry_at m.window now.paths) w
 
--- Whether an address lies in a page in this frame.
+-- Whether a physical address lies in the page at a path, of L levels, if the page is in this frame.
 abbrev pub in_page : (L : ℕ) (path : List ℕ) (frame address : ℕ) → Bool
 in_page L q frame a = nat_le frame a && nat_lt a (frame + span_size L q)
 
--- The address lies in no page of a present entry, and in no page that is due, as it was. Nor does it lie in a page of an entry,
--- present or not, below which all items are due.
+-- The physical address lies in no page of a present entry, and in no page that is due, as it was. It lies in no page of a used
+-- entry, present or not, below a path of which all items are due, and the recursive window isn't due.
 pub record IsLetGo (L : ℕ) (window : Option Window) (due : List Due) (E : List ℕ → ℕ) (address : ℕ) : Type 0 where
   pub unmapped : (q : List ℕ) → present (E q) ≡ true → maps_page (level_of L q) (E q) ≡ true → in_page L q (page_start (level_of L q) (E q)) address ≡ false
   pub none_loose : (q r : List ℕ) → In due (BelowDue q) → begins q r ≡ true → used (E r) ≡ true → maps_page (level_of L r) (E r) ≡ true
@@ -107,7 +114,8 @@ pub record IsLetGo (L : ℕ) (window : Option Window) (due : List Due) (E : List
   pub not_due : (q : List ℕ) (frame : ℕ) → In due (PageDue q frame) → in_page L q (page_start (level_of L q) frame) address ≡ false
   pub window_flushed : In due WindowDue → ⊥
 
--- So no access reaches an address that was let go, and whose pages were flushed since: its frame may be used for anything.
+-- No access reaches a physical address that was let go, which no present entry maps, and whose pages were flushed since: its frame
+-- may be used for anything.
 abbrev pub LetGoIsUnreached : Type 0
 LetGoIsUnreached = (m : Machine) (root : ℕ) (T : Words) (serves : ℕ → Bool) (s : State) → FitsState m T root serves s
     → (events : List Event) (now : System) → Happens m root T s events now
@@ -116,7 +124,7 @@ LetGoIsUnreached = (m : Machine) (root : ℕ) (T : Words) (serves : ℕ → Bool
 
 -- ---- calls as a whole
 
--- The frames that a call frees: those of the tables that a clean up removes.
+-- The frames that a call frees: those of the tables that a clean up removes, and none for any other call.
 abbrev pub freed_by : (L : ℕ) → State → Call → List ℕ
 freed_by L s (CleanUp low high) = (clean_up L s.paths low high).back
 freed_by L s call = []
@@ -129,7 +137,8 @@ pub record IsAfterCall (m : Machine) (root : ℕ) (T U : Words) (s : State) (cal
   pub was_free : (f : ℕ) → In (step m s call).state.pool f → (In (freed_by m.levels s call) f → ⊥) → In s.pool f
   pub same_words : (f : ℕ) → In (step m s call).state.pool f → (In (freed_by m.levels s call) f → ⊥) → U f ≡ T f
 
--- If the processor does nothing during a call, the call may happen as one change of the words.
+-- A call may happen as one change of the words, if the kernel may make it, and the words after it hold the machine's next state and
+-- free frames as a call leaves them.
 abbrev pub CallsMayHappen : Type 0
 CallsMayHappen = (m : Machine) → IsMachine m → (root : ℕ) (serves : ℕ → Bool) (s : System) → FitsState m s.words root serves s.state
     → (call : Call) (loses : Bool) → MayMake m s call loses → (U : Words) → IsAfterCall m root s.words U s.state call
@@ -137,22 +146,26 @@ CallsMayHappen = (m : Machine) → IsMachine m → (root : ℕ) (serves : ℕ �
 
 -- ---- a clean up that isn't flushed: worked example, root in frame 0x1000, four levels
 
--- The page [0, 0, 0, 1] was mapped and unmapped, and the flush of each was done. Its tables are left, and are empty.
+-- The memory of a worked example, in which the page at path [0, 0, 0, 1] was mapped and unmapped, with its root in frame 0x1000.
+-- The tables above the page are left in frames 0x2000, 0x3000 and 0x4000, the last one empty.
 unfoldable pub emptied_memory : Memory
 emptied_memory = insert (insert (insert (insert (empty {X = List ℕ} {R = nat_cmp})
     1 (0x2003 ∷ replicate 511 0)) 2 (0x3003 ∷ replicate 511 0)) 3 (0x4003 ∷ replicate 511 0)) 4 (replicate 512 0)
 
--- A clean up freed them, and a map of the page [1, 0, 0, 5] to frame 0x9000 took their frames again.
+-- The memory of a worked example after a clean up freed the tables in frames 0x2000, 0x3000 and 0x4000, and a map of the page at
+-- path [1, 0, 0, 5] to frame 0x9000 took these frames again.
 unfoldable pub reused_memory : Memory
 reused_memory = insert (insert (insert (insert (empty {X = List ℕ} {R = nat_cmp})
     1 (0 ∷ 0x2003 ∷ replicate 510 0)) 2 (0x3003 ∷ replicate 511 0)) 3 (0x4003 ∷ replicate 511 0)) 4 (0 ∷ 0 ∷ 0 ∷ 0 ∷ 0 ∷ 0x9003 ∷ replicate 506 0)
 
+-- A way by this path to this frame, with the rights to write and to execute, but not of user mode.
 abbrev pub writable_way : (path : List ℕ) (frame : ℕ) → Way
 writable_way q f = record { path = q; frame = f; rights = record { write = true; user = false; execute = true } }
 
--- Before the clean up the processor caches the table [0] in frame 0x2000. A clean up records no flush. After the map it finds, from
--- this table, the page [0, 0, 0, 5], which was never mapped, and the flush of the mapped page doesn't drop it: accesses to
--- 0x5000 go to frame 0x9000, and the page walk goes nowhere.
+-- A worked example: the processor caches the table at path [0] in frame 0x2000, a clean up frees it, for which no flush is
+-- recorded, and a map of the page [1, 0, 0, 5] to frame 0x9000 uses the frame again. From the cached table the processor finds the
+-- page [0, 0, 0, 5], which was never mapped, and the flush of the mapped page doesn't drop it: accesses to 0x5000 go to frame
+-- 0x9000, while the page walk arrives nowhere.
 pub record UnflushedCleanUp : Type 0 where
   pub cached : found 4 (words_of emptied_memory identity_places) (start 0x1000) 0 ≡ Some (Table (writable_way (0 ∷ []) 0x2000))
   pub none_recorded : (low high : ℕ) → items_of 4 (CleanUp low high) Cleaned ≡ []
@@ -164,12 +177,12 @@ pub record UnflushedCleanUp : Type 0 where
 
 -- ---- a map that takes the right to execute
 
--- The page [0, 0, 0, 1], mapped as in `SmallMap`, may be executed.
+-- The way to the page at path [0, 0, 0, 1] in frame 0x5000, which may be written and executed.
 abbrev pub executable_page : Way
 executable_page = writable_way (0 ∷ 0 ∷ 0 ∷ 1 ∷ []) 0x5000
 
--- A map of the page [0, 0, 0, 2] with NO_EXECUTE among its parent flags adds it to the tables above both pages. If only the page
--- that it records is flushed, the TLB still has the other page with the right to execute.
+-- A worked example: a map of the page [0, 0, 0, 2] with NO_EXECUTE among its parent flags adds it to the tables above this page and
+-- the page [0, 0, 0, 1]. If only the page that was mapped is flushed, the TLB still has the other page with the right to execute.
 pub record UnflushedNoExecute : Type 0 where
   pub before : walk 4 (words_of small_memory identity_places) 0x1000 0x1000 ≡ Some executable_page
   pub maps : (map_call 4 small_mapped [] 0x8000_0000_0000_0003 0 (0 ∷ 0 ∷ 0 ∷ 2 ∷ []) 0x6000 3).paths
@@ -179,12 +192,14 @@ pub record UnflushedNoExecute : Type 0 where
 
 -- ---- a table that is named before it is cleared
 
--- In the middle of the map of `SmallMap`: the tables are named, and the last one still has an old word of its frame.
+-- The memory of a worked example in the middle of a map of the page at path [0, 0, 0, 1]: the new tables are named already, and the
+-- last one still has an old word of its frame, at index 2.
 unfoldable pub uncleared_memory : Memory
 uncleared_memory = insert (insert (insert (insert (empty {X = List ℕ} {R = nat_cmp})
     1 (0x2003 ∷ replicate 511 0)) 2 (0x3003 ∷ replicate 511 0)) 3 (0x4003 ∷ replicate 511 0)) 4 (0 ∷ 0 ∷ 0x7003 ∷ replicate 509 0)
 
--- The processor can find a page in the old word then. After the map the page walk goes nowhere there, and nothing is due.
+-- A worked example: during a map that names a table before it clears it, the processor can find a page in an old word of the
+-- table's frame. After the map the page walk arrives nowhere there, and nothing is due.
 pub record UnclearedTable : Type 0 where
   pub in_between : walk 4 (words_of uncleared_memory identity_places) 0x1000 0x2000 ≡ Some (writable_way (0 ∷ 0 ∷ 0 ∷ 2 ∷ []) 0x7000)
   pub afterwards : page_walk 4 (words_of small_memory identity_places) 0x1000 0x2000 ≡ None

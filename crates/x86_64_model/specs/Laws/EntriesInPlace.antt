@@ -24,33 +24,33 @@ pub record IsInPlace (l : Layout) (m : Memory) (path : List ℕ) (frame i : ℕ)
   pub small : i < 512
   pub outside : begins_with l.window path ≡ false
 
--- The memory after a word of a frame is written.
+-- The memory after a value is written to the word at an index of a frame.
 abbrev pub with_word : Layout → Memory → (frame i value : ℕ) → Memory
 with_word l m f i w = insert m (l.places.place f) (set (unwrap_or (get m (l.places.place f)) []) i w)
 
 -- ---- which words
 
--- The word at a path names no table: any word at level one. Above, 0, or at levels two and three any word
--- with HUGE_PAGE.
+-- The word, as the entry at a path, names no table: it is of level one, or it is 0, or it has HUGE_PAGE at level two or three.
 abbrev pub NamesNoTable : (L : ℕ) → List ℕ → (entry : ℕ) → Type 0
 NamesNoTable L q e = (length q ≡ L) ⊎ ((e ≡ 0) ⊎ ((level_of L q ≤ 3) × (huge e ≡ true)))
 
--- Both words name one table, present or not, whatever their other bits.
+-- The words e and w, as the entry at a path above level one, name the same table, present or not: e names a table, w has the same
+-- address, and lacks HUGE_PAGE.
 pub record NameOneTable (L : ℕ) (q : List ℕ) (e w : ℕ) : Type 0 where
   pub is_table : names_table e ≡ true
   pub above : length q < L
   pub same_address : address w ≡ address e
   pub not_huge : huge w ≡ false
 
--- The word may take the place of the entry e at a path.
+-- The word w may take the place of the entry e at a path: neither names a table, or both name the same one.
 abbrev pub MayReplace : (L : ℕ) → List ℕ → (e w : ℕ) → Type 0
 MayReplace L q e w = (NamesNoTable L q e × NamesNoTable L q w) ⊎ NameOneTable L q e w
 
 -- ---- what a write leaves
 
--- From the memory m to the memory n the path map changed at one path, and no table did. The pool fits the
--- hierarchy again, and no word elsewhere changed. Page walks of other positions outside the recursive
--- window stay.
+-- From the memory m to the memory n the path map changed at this path, to this value, and each path leads to the same table as
+-- before. The pool fits the hierarchy again, and no word changed outside the frames of its tables and of the pool. Page walks at
+-- positions outside the path's span and the recursive window stay.
 pub record OneChanged (l : Layout) (serves : ℕ → Bool) (pool : List ℕ) (m : Memory) (path : List ℕ)
     (value : ℕ) (n : Memory) : Type 0 where
   pub changed : paths (l laid_in n) ≡ put (paths (l laid_in m)) path value
@@ -61,8 +61,8 @@ pub record OneChanged (l : Layout) (serves : ℕ → Bool) (pool : List ℕ) (m 
       → begins_with l.window (page_path l.levels p) ≡ false
       → walk (l laid_in n) p ≡ walk (l laid_in m) p
 
--- A kernel may write such a word itself, at any moment between calls: what it finds there is the entry, and
--- what it leaves is a hierarchy with this one entry changed.
+-- A kernel may write a word in place itself, at any moment between calls, if it may take the place of the entry: what the kernel
+-- finds there is the entry, and what it leaves is a hierarchy with this one entry changed.
 abbrev pub EntriesMayChange : Type 0
 EntriesMayChange = (l : Layout) → IsMapping l.places → 0 < l.levels
     → (serves : ℕ → Bool) (m : Memory) (pool : List ℕ) → PoolFits (l laid_in m) serves pool
@@ -70,14 +70,15 @@ EntriesMayChange = (l : Layout) → IsMapping l.places → 0 < l.levels
     → (word (words (l laid_in m)) f i ≡ entry (paths (l laid_in m)) q)
     × OneChanged l serves pool m q w (with_word l m f i w)
 
--- The entry stays in place, so that it may be changed again.
+-- Every word that is in place stays in place after a kernel has changed an entry by one write, so that any entry may be changed
+-- next.
 abbrev pub EntriesStayInPlace : Type 0
 EntriesStayInPlace = (l : Layout) → IsMapping l.places → 0 < l.levels
     → (serves : ℕ → Bool) (m : Memory) (pool : List ℕ) → PoolFits (l laid_in m) serves pool
     → (q : List ℕ) (f i w : ℕ) → IsInPlace l m q f i → MayReplace l.levels q (entry (paths (l laid_in m)) q) w
     → (r : List ℕ) (g j : ℕ) → IsInPlace l m r g j → IsInPlace l (with_word l m f i w) r g j
 
--- Each used entry outside the window is a word in place.
+-- Each used entry outside the recursive window is a word in place: it lies in a table in memory, at the last index of its path.
 abbrev pub UsedEntriesAreInPlace : Type 0
 UsedEntriesAreInPlace = (l : Layout) (serves : ℕ → Bool) (m : Memory) (pool : List ℕ)
     → PoolFits (l laid_in m) serves pool
@@ -86,8 +87,8 @@ UsedEntriesAreInPlace = (l : Layout) (serves : ℕ → Bool) (m : Memory) (pool 
 
 -- ---- bits that no walk regards
 
--- The processor's page walk uses both words alike. They may differ in ACCESSED, DIRTY and each bit that it
--- ignores.
+-- Both words have the same address, and the same PRESENT, WRITABLE, USER_ACCESSIBLE and HUGE_PAGE, which is all that `page_walk`
+-- reads. They may differ in ACCESSED, DIRTY, NO_EXECUTE and all other bits.
 pub record AreUsedAlike (e w : ℕ) : Type 0 where
   pub present : present w ≡ present e
   pub writable : writable w ≡ writable e
@@ -95,7 +96,8 @@ pub record AreUsedAlike (e w : ℕ) : Type 0 where
   pub huge : huge w ≡ huge e
   pub address : address w ≡ address e
 
--- If an entry is changed in such bits alone, all page walks stay, also in the recursive window.
+-- If entries differ between two memories only in bits that `page_walk` doesn't read, such as ACCESSED and DIRTY, all page walks are
+-- the same, also in the recursive window.
 abbrev pub WalksIgnoreBits : Type 0
 WalksIgnoreBits = (l : Layout) (m n : Memory) (serves : ℕ → Bool) (pool pool' : List ℕ)
     → PoolFits (l laid_in m) serves pool → PoolFits (l laid_in n) serves pool'

@@ -11,13 +11,13 @@ use Rattle.x86_64_model.specs.Spaces.{is_shared}
 use Rattle.x86_64_model.specs.Tags.{global}
 use Rattle.x86_64_model.specs.Laws.Steps.{FitsState}
 
--- Only below shared indices entries of pages, present or not, have GLOBAL.
+-- Entries that map pages, present or not, have GLOBAL only if their path begins with a shared index.
 abbrev pub GlobalsBelow : (L : ℕ) → (shared : ℕ → Bool) → PathMap → Type 0
 GlobalsBelow L shared paths = (q : List ℕ) → maps_page (level_of L q) (entry paths q) ≡ true
     → global (entry paths q) ≡ true → is_shared shared q ≡ true
 
--- The flags of the call have GLOBAL only if its page is below a shared index. So have its parent flags, which
--- an entry of a larger page above may get.
+-- The entry of a page that the call writes, the flags that it sets, and the parent flags of a map, which an entry of a larger page
+-- above may get, have GLOBAL only if the path of the call's page begins with a shared index.
 abbrev pub GlobalIsShared : (L : ℕ) → (shared : ℕ → Bool) → Call → Type 0
 GlobalIsShared L shared (MapTo q frame given) = is_shared shared q ≡ false
     → global (leaf_entry L q frame given) ≡ false
@@ -33,7 +33,8 @@ GlobalIsShared L shared (Translate p) = Unit {0}
 GlobalIsShared L shared (TranslateAddress p) = Unit {0}
 GlobalIsShared L shared (CleanUp low high) = Unit {0}
 
--- Such calls keep it so.
+-- If entries that map pages have GLOBAL only below shared indices, this stays so after a call that gives GLOBAL only there, if the
+-- machine's added flags lack it.
 abbrev pub CallsKeepGlobals : Type 0
 CallsKeepGlobals = (m : Machine) → IsMachine m → global m.added_flags ≡ false
     → (T : Words) (root : ℕ) (serves : ℕ → Bool) (s : State) → FitsState m T root serves s

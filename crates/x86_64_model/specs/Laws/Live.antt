@@ -14,16 +14,16 @@ use Rattle.x86_64_model.specs.Turns.{Touch, Reads, Writes, Exchanges, Turn, AllS
 
 -- ---- marks
 
--- A mark is in the entry now, or in one that an exchange at its path has learned since. M is the path map
--- when the mark is made, and the happenings are those since then.
+-- A mark that a processor made in an entry is there now, or was in an entry that an exchange at its path has learned since. M is
+-- the path map when the mark is made, and `since` are the happenings after it.
 abbrev pub NoMarkIsLost : Type 0
 NoMarkIsLost = (M : PathMap) (q : List ℕ) (mark : ℕ) (since : List Happening)
     → let hs = Marks q mark ∷ since in
     (has (entry (after_happenings M hs) q) mark ≡ true)
     ⊎ ((e : ℕ) × In (learned M hs) (q, e) × (has e mark ≡ true))
 
--- In the memory n the pool fits the hierarchy, which has the entries that the happenings leave, and the
--- same tables. No word elsewhere changed.
+-- In the memory n the pool fits the hierarchy, which has the entries that the happenings leave, and the same tables. No word
+-- changed outside the frames of the tables and of the pool.
 pub record IsLiveAfter (l : Layout) (serves : ℕ → Bool) (pool : List ℕ) (m : Memory) (hs : List Happening)
     (n : Memory) : Type 0 where
   pub entries : paths (l laid_in n) ≡ after_happenings (paths (l laid_in m)) hs
@@ -31,8 +31,8 @@ pub record IsLiveAfter (l : Layout) (serves : ℕ → Bool) (pool : List ℕ) (m
       ≡ table_at l.levels l.root (paths (l laid_in m)) q
   pub keeps : KeepsPool l serves m pool n pool
 
--- Marks and exchanges of single words, in any order, leave a hierarchy for which the next call may be made,
--- and what the exchanges read are the entries.
+-- Marks and exchanges of single words, in any order, leave a hierarchy for which the next call may be made, and what the exchanges
+-- read in memory are the entries.
 abbrev pub LiveTablesFit : Type 0
 LiveTablesFit = (l : Layout) → IsMapping l.places → 0 < l.levels
     → (serves : ℕ → Bool) (m : Memory) (pool : List ℕ) → PoolFits (l laid_in m) serves pool
@@ -40,7 +40,7 @@ LiveTablesFit = (l : Layout) → IsMapping l.places → 0 < l.levels
     → let hs = map (λ x. x.what) placed in IsLiveAfter l serves pool m hs (after_all_placed l m placed)
     × (words_learned l m placed ≡ learned (paths (l laid_in m)) hs)
 
--- Each used entry may be marked, and get any flags but HUGE_PAGE besides.
+-- Each used entry may be marked, or get any more flags but HUGE_PAGE: the new word may take its place.
 abbrev pub MarksMayReplace : Type 0
 MarksMayReplace = (l : Layout) (serves : ℕ → Bool) (m : Memory) (pool : List ℕ)
     → PoolFits (l laid_in m) serves pool
@@ -50,9 +50,9 @@ MarksMayReplace = (l : Layout) (serves : ℕ → Bool) (m : Memory) (pool : List
 
 -- ---- during calls
 
--- An entry may also be exchanged while a processor makes calls that don't touch its word: it is as if it
--- were changed after these. Here m is the memory before, `alone` the one to which the calls of processor k
--- lead alone, and n the one to which the turns of all lead.
+-- An entry may also be exchanged while a processor makes calls that don't touch its word, and the outcome is as if it were changed
+-- after these calls. Here m is the memory before, `alone` the one to which the calls of processor k lead alone, and n the one to
+-- which the turns of all processors lead.
 abbrev pub ExchangesDuringCalls : Type 0
 ExchangesDuringCalls = (l : Layout) → IsMapping l.places → 0 < l.levels
     → (owner : (frame i : ℕ) → Option ℕ) (m n : Memory) (turns : List Turn)
@@ -70,12 +70,13 @@ ExchangesDuringCalls = (l : Layout) → IsMapping l.places → 0 < l.levels
 
 -- ---- the same of a word, whoever changes it
 
--- The turn writes the word without having seen what it overwrites.
+-- The turn isn't a plain write of this word, which would overwrite it without having seen it. It may read or exchange the word, or
+-- touch another one.
 abbrev pub DoesntWrite : (frame i : ℕ) → Turn → Type 0
 DoesntWrite f i t = (k value : ℕ) → t ≡ record { processor = k; touch = Writes f i value } → ⊥
 
--- If no turn merely writes the word, flags that it has are there at the end, or an exchange that took some
--- of them away saw all of them.
+-- If no turn is a plain write of a word, flags that the word has are there at the end, or an exchange that took some of them away
+-- saw all of them.
 abbrev pub WhoTakesFlagsSeesThem : Type 0
 WhoTakesFlagsSeesThem = (T : Words) (f i given : ℕ) (turns : List Turn) → has (word T f i) given ≡ true
     → AllSee T turns → AllByRecursion (DoesntWrite f i) turns
@@ -85,13 +86,13 @@ WhoTakesFlagsSeesThem = (T : Words) (f i given : ℕ) (turns : List Turn) → ha
 
 -- ---- reading and then writing isn't enough: worked examples
 
--- A turn of the kernel, of a processor, of a hypervisor.
+-- The turn of a processor that touches a word so.
 abbrev pub by : (processor : ℕ) → Touch → Turn
 by k touch = record { processor = k; touch = touch }
 
--- Processor 0 takes WRITABLE from a page by reading its entry and writing it again. In between processor 1
--- writes to the page, and marks the entry as dirty. The mark is neither in the entry at the end nor in what
--- processor 0 saw. If it exchanges the entry, it sees it.
+-- A worked example: processor 0 takes WRITABLE from a page by reading its entry and writing it again, and in between processor 1
+-- writes to the page, and marks the entry as dirty. The mark is neither in the entry at the end nor in what processor 0 saw. If
+-- processor 0 exchanges the entry instead, it sees the mark.
 abbrev pub MarkIsLost : Type 0
 MarkIsLost = (T : Words) (f i : ℕ) (table : List ℕ) → T f ≡ Some table → i < length table → i < 512
     → word T f i ≡ 0x5007
@@ -102,8 +103,8 @@ MarkIsLost = (T : Words) (f i : ℕ) (table : List ℕ) → T f ≡ Some table �
     × (has 0x5005 0x40 ≡ false)
     × AllSee T exchanged × (has 0x5067 0x40 ≡ true)
 
--- A hypervisor marks the entry of a guest's page by reading and writing it. In between the guest takes the
--- page away, by an exchange that sees no mark. Then the entry is back.
+-- A worked example: a hypervisor marks the entry of a guest's page by reading and writing it, and in between the guest takes the
+-- page away by an exchange, which sees no mark. The hypervisor's write puts the entry back.
 abbrev pub EntryIsPutBack : Type 0
 EntryIsPutBack = (T : Words) (f i : ℕ) (table : List ℕ) → T f ≡ Some table → i < length table → i < 512
     → word T f i ≡ 0x5007

@@ -18,7 +18,8 @@ use Rattle.x86_64_model.specs.Turns.{Turn, AllSee, after_turns, turns_of, KeepsA
 
 -- ---- what a hierarchy depends on
 
--- A frame has the same table in both: one is there if one was there, with the same 512 words.
+-- A frame has the same table in the words U as in the words T: there is one if there was one, with the same
+-- 512 words.
 pub record SameTable (T U : Words) (frame : ℕ) : Type 0 where
   pub there : IsSome (T frame) → IsSome (U frame)
   pub words : (i : ℕ) → word U frame i ≡ word T frame i
@@ -28,8 +29,9 @@ abbrev pub SameOwned : Layout → (pool : List ℕ) → (m n : Memory) → Type 
 SameOwned l pool m n = (f : ℕ) → Owns (l laid_in m) pool f
     → SameTable (words (l laid_in m)) (words (l laid_in n)) f
 
--- In the memory n the pool fits the hierarchy, which has the same path map and the same page walks as in m,
--- and each call gives the same reply and leads to the same path map and pool.
+-- In the memory n the pool fits the hierarchy, which has the same path map and the same page walks as in the
+-- memory m, and with its pool still owns its frames. Each call has the same reply and leads to the same path
+-- map and pool.
 pub record IsTheSame (l : Layout) (serves : ℕ → Bool) (pool : List ℕ) (m n : Memory) : Type 0 where
   pub fits : PoolFits (l laid_in n) serves pool
   pub paths : paths (l laid_in n) ≡ paths (l laid_in m)
@@ -39,7 +41,8 @@ pub record IsTheSame (l : Layout) (serves : ℕ → Bool) (pool : List ℕ) (m n
       → step (machine_of l take_back) (state_in l n pool) call
       ≡ step (machine_of l take_back) (state_in l m pool) call
 
--- Changes of all other words don't matter.
+-- If the frames that a hierarchy and its pool own have the same tables in two memories, the hierarchy is the
+-- same in both, whatever other words are there.
 abbrev pub HierarchiesAreLocal : Type 0
 HierarchiesAreLocal = (l : Layout) → 0 < l.levels → (serves : ℕ → Bool) (m n : Memory) (pool : List ℕ)
     → PoolFits (l laid_in m) serves pool → SameOwned l pool m n → IsTheSame l serves pool m n
@@ -70,8 +73,8 @@ CallsAreLocal = (l : Layout) → 0 < l.levels
 
 -- ---- two calls, in either order
 
--- Frames that both hierarchies or their pools own, such as those of shared tables, have the same tables in
--- both memories.
+-- The frames that both hierarchies or their pools own, such as those of shared tables, have the same tables
+-- in both memories.
 abbrev pub LeavesShared : (a b : Layout) → (pool_a pool_b : List ℕ) → (m n : Memory) → Type 0
 LeavesShared a b pool_a pool_b m n = (f : ℕ) → Owns (a laid_in m) pool_a f → Owns (b laid_in m) pool_b f
     → SameTable (words (a laid_in m)) (words (a laid_in n)) f
@@ -86,7 +89,8 @@ pub record AreTwo (a b : Layout) (m : Memory) (serves_a serves_b : ℕ → Bool)
   pub fits_a : PoolFits (a laid_in m) serves_a pool_a
   pub fits_b : PoolFits (b laid_in m) serves_b pool_b
 
--- The replies and what is left of the pools are the same, and every frame has the same table.
+-- Two orders of a call on the hierarchy a and a call on another one end alike: the replies and what is left
+-- of the pools are the same, and every frame has the same table.
 pub record SameEnds (a : Layout) (n n' : Memory) (reply_a reply_b reply_a' reply_b' : Reply)
     (rest_a rest_b rest_a' rest_b' : List ℕ) : Type 0 where
   pub replies_a : reply_a' ≡ reply_a
@@ -112,9 +116,9 @@ CallsCommute = (a b : Layout) (m : Memory) (serves_a serves_b : ℕ → Bool) (p
 
 -- ---- reads and writes in turn
 
--- To each processor it is as if the others did nothing: it sees what it would see alone, and its words end
--- as they would alone. Words that are nobody's stay. Here owner f i is the processor whose own word i of
--- frame f is, if it is anybody's.
+-- If processors only read and write words of their own, or read words that are nobody's, it is to each as if
+-- the others did nothing: it sees what it would see alone, and its words end as they would alone. Words that
+-- are nobody's stay. Here `owner f i` is the processor whose own word i of frame f is, if it is anybody's.
 abbrev pub TurnsAreAlone : Type 0
 TurnsAreAlone = (owner : (frame i : ℕ) → Option ℕ) (T : Words) (turns : List Turn)
     → AllByRecursion (KeepsApart owner) turns → AllSee T turns
@@ -124,8 +128,8 @@ TurnsAreAlone = (owner : (frame i : ℕ) → Option ℕ) (T : Words) (turns : Li
     × ((f i : ℕ) → owner f i ≡ None → word (after_turns T turns) f i ≡ word T f i)
     × ((f : ℕ) → IsSome (T f) → IsSome (after_turns T turns f))
 
--- So calls may overlap in time if those on one hierarchy don't. What is proved of the calls of one
--- processor alone, which lead to the memory `alone`, holds in the memory n to which the turns of all lead,
+-- Calls may overlap in time if those on one hierarchy don't. What is proved of the calls of one processor
+-- alone, which lead to the memory `alone`, holds in the memory n to which the turns of all processors lead,
 -- if the words of the hierarchy and its pool are its own, or nobody's.
 abbrev pub CallsInTurn : Type 0
 CallsInTurn = (l : Layout) → 0 < l.levels
@@ -140,7 +144,8 @@ CallsInTurn = (l : Layout) → 0 < l.levels
 
 -- ---- address spaces
 
--- Two address spaces that share the tables below some indices, each with a pool of its own that fits it.
+-- Two address spaces that share the tables below some indices of the highest level, each with a pool of its
+-- own that fits it.
 pub record AreTwoSpaces (shared : ℕ → Bool) (a b : Layout) (m : Memory) (serves_a serves_b : ℕ → Bool)
     (pool_a pool_b : List ℕ) : Type 0 where
   pub two : AreTwo a b m serves_a serves_b pool_a pool_b
@@ -150,8 +155,8 @@ pub record AreTwoSpaces (shared : ℕ → Bool) (a b : Layout) (m : Memory) (ser
   pub shares_b : Shares shared b m pool_b a
   pub pools : (f : ℕ) → In pool_a f → In pool_b f → ⊥
 
--- A call on one address space and a call on another may be made in either order, if both avoid the shared
--- indices.
+-- A call on one of two address spaces with pools of their own and a call on the other may be made in either
+-- order, if both avoid the indices that the two share.
 abbrev pub CallsOnSpacesCommute : Type 0
 CallsOnSpacesCommute = (shared : ℕ → Bool) (a b : Layout) (m : Memory) (serves_a serves_b : ℕ → Bool)
     (pool_a pool_b : List ℕ)
@@ -167,8 +172,8 @@ CallsOnSpacesCommute = (shared : ℕ → Bool) (a b : Layout) (m : Memory) (serv
     → Leads a take_a serves_a call_a m_b pool_a reply_a' n' rest_a'
     → SameEnds a n n' reply_a reply_b reply_a' reply_b' rest_a rest_b rest_a' rest_b'
 
--- Such a call leaves the two address spaces as they have to be for the next calls, and all that the other
--- one depends on.
+-- A call that avoids the shared indices, on one of two address spaces with pools of their own, leaves them
+-- two such spaces, and changes nothing that the other one depends on.
 abbrev pub SpacesStayApart : Type 0
 SpacesStayApart = (shared : ℕ → Bool) (a b : Layout) (m : Memory) (serves_a serves_b : ℕ → Bool)
     (pool_a pool_b : List ℕ)
@@ -179,8 +184,8 @@ SpacesStayApart = (shared : ℕ → Bool) (a b : Layout) (m : Memory) (serves_a 
     → Leads a take_a serves_a call_a m pool_a reply_a n rest_a
     → SameOwned b pool_b m n × AreTwoSpaces shared a b n serves_a serves_b rest_a pool_b
 
--- And any other two, of which nothing changed. So the calls may be on any number of address spaces, of
--- which any two are as said.
+-- Two address spaces with pools of their own, taken in either order, stay so if nothing changes that either
+-- depends on. So calls may be made on any number of address spaces, of which any two are such.
 abbrev pub OthersStayApart : Type 0
 OthersStayApart = (shared : ℕ → Bool) (a b : Layout) (m n : Memory) (serves_a serves_b : ℕ → Bool)
     (pool_a pool_b : List ℕ)
@@ -189,9 +194,9 @@ OthersStayApart = (shared : ℕ → Bool) (a b : Layout) (m n : Memory) (serves_
     → AreTwoSpaces shared a b n serves_a serves_b pool_a pool_b
     × AreTwoSpaces shared b a n serves_b serves_a pool_b pool_a
 
--- A pool for each processor: if each fits all address spaces, and no frame is in two, calls on one address
--- space with one pool leave the other pools so, if they left the root's entries at the shared indices. Here
--- `other` is another processor's pool.
+-- If the pools of two processors fit all address spaces, and no frame is in both, calls on one address space
+-- with one pool, after which the root has the same entries at the shared indices, leave the other pool
+-- fitting all spaces, still with no frame in both. Here `other` is the other processor's pool.
 abbrev pub PoolsStayApart : Type 0
 PoolsStayApart = (shared : ℕ → Bool) (spaces : List Layout) (one : Layout) → In spaces one
     → IsMapping one.places → 0 < one.levels

@@ -16,7 +16,7 @@ use Rattle.x86_64_model.specs.private.WalkDown.{walk_down}
 use Rattle.x86_64_model.specs.Conserved.{IsFrame, Conserves, Takes}
 use Rattle.x86_64_model.specs.Arrivals.{Arrives, Asks}
 
--- Walking down the parents, one at a time, has the outcome of the rule.
+-- A map that walks down the parents of a page, one at a time, has the outcome of the rule of maps.
 abbrev pub WalkedDown : Type 0
 WalkedDown = (L : ℕ) (T : Words) (root : ℕ) (M : PathMap) → Holds L T root M → (supply : List ℕ) (more added : ℕ) (q : List ℕ) (e frame : ℕ)
     → walk_down more added q e frame M supply (parents q) ≡ map_rule M supply more added (parents q) q e frame
@@ -28,7 +28,7 @@ pub record IsMapOf (L : ℕ) (window : Option Window) (T U : Words) (root : ℕ)
   pub before : IsValidFor L window T root M
   pub after : IsValidFor L window U root (map_call L M supply more added q frame given).paths
 
--- Whatever a map call answers, each walk that arrived still arrives at the same address, loses no right, and gains only rights
+-- Whatever a map call answers, each page walk that arrived still arrives at the same address, loses no right, and gains only rights
 -- that the parent flags grant.
 abbrev pub MapKeepsWalks : Type 0
 MapKeepsWalks = (L : ℕ) (window : Option Window) (T U : Words) (root : ℕ) (M : PathMap) (supply : List ℕ) (more added : ℕ) (q : List ℕ) (frame given : ℕ)
@@ -36,7 +36,7 @@ MapKeepsWalks = (L : ℕ) (window : Option Window) (T U : Words) (root : ℕ) (M
     → (p : ℕ) → Arrives more (page_walk L T root p) (page_walk L U root p)
 
 -- A `map_to` with PRESENT of a page outside the recursive window, from a supply of frames (those to hand out, in order), was
--- accepted.
+-- accepted. The words T hold the hierarchy before it, and the words U the one after it.
 pub record IsAccepted (L level : ℕ) (window : Option Window) (T U : Words) (root : ℕ) (M : PathMap) (supply : List ℕ) (added : ℕ) (q : List ℕ) (frame given : ℕ) : Type 0 where
   pub asks : Asks L level q frame given
   pub adds : IsParentFlags added
@@ -45,14 +45,17 @@ pub record IsAccepted (L level : ℕ) (window : Option Window) (T U : Words) (ro
   pub words : IsMapOf L window T U root M supply (parent_part given) added q frame given
   pub answer : (map_call L M supply (parent_part given) added q frame given).answer ≡ Done frame
 
--- After it, the walk at each position of the page (the number of an address counted without the gap) arrives at the frame's start
--- plus the offset, with exactly the requested rights.
+-- After an accepted `map_to` with PRESENT of a page outside the recursive window, the page walk at each position of the page (the
+-- number of an address counted without the non-canonical gap) arrives at the frame's start plus the offset, with exactly the
+-- requested rights to write and of user mode.
 abbrev pub MapArrives : Type 0
 MapArrives = (L level : ℕ) (window : Option Window) (T U : Words) (root : ℕ) (M : PathMap) (supply : List ℕ) (added : ℕ) (q : List ℕ) (frame given : ℕ)
     → IsAccepted L level window T U root M supply added q frame given → (p : ℕ) → take (length q) (page_path L p) ≡ q
     → page_walk L U root p ≡ Some (record { address = frame + p % span level; write = writable given; user = user given })
 
--- `MapArrives` by offsets: it covers each offset in a page that starts at a multiple of its size.
+-- After an accepted `map_to` with PRESENT of a page outside the recursive window that starts at a multiple of its size, the page
+-- walk at each offset of the page arrives at the frame's start plus the offset, with exactly the requested rights to write and of
+-- user mode.
 abbrev pub MapArrivesInPage : Type 0
 MapArrivesInPage = (L level : ℕ) (window : Option Window) (T U : Words) (root : ℕ) (M : PathMap) (supply : List ℕ) (added n frame given : ℕ)
     → let page = n * span level in IsAccepted L level window T U root M supply added (path_at L level page) frame given
@@ -61,7 +64,8 @@ MapArrivesInPage = (L level : ℕ) (window : Option Window) (T U : Words) (root 
 
 -- ---- frames
 
--- A map call conserves frames.
+-- A map call conserves frames: the set of free and table frames stays the same, and if each frame had one use before, it has one
+-- use after.
 abbrev pub MapConserves : Type 0
 MapConserves = (L : ℕ) (T : Words) (root : ℕ) (M : PathMap) (supply : List ℕ) (more added i : ℕ) (q : List ℕ) (frame given : ℕ)
     → IsParentFlags more → IsParentFlags added → AllByRecursion IsFrame supply → length (i ∷ q) ≤ L → Holds L T root M
@@ -74,8 +78,9 @@ MapTakesFew = (L : ℕ) (T : Words) (root : ℕ) (M : PathMap) (supply : List �
 
 -- ---- a refused map
 
--- A refused map keeps the addresses of used entries. Their flags only grow, by the parent flags, and only on the page's path.
--- Entries that are used below a new table are parents of the page.
+-- From the path map M to the path map N, as after a refused map of the page at path q, used entries keep their addresses. Entries
+-- change only at the page's parents, and the flags of used ones only grow, by the parent flags. Entries that are used below a new
+-- table are parents of the page.
 pub record LeftByRefused (more : ℕ) (M N : PathMap) (q : List ℕ) : Type 0 where
   pub same_addresses : (r : List ℕ) → used (entry M r) ≡ true → address (entry N r) ≡ address (entry M r)
   pub flags_kept : (r : List ℕ) (flag : ℕ) → used (entry M r) ≡ true → has (entry M r) flag ≡ true → has (entry N r) flag ≡ true
@@ -83,6 +88,8 @@ pub record LeftByRefused (more : ℕ) (M N : PathMap) (q : List ℕ) : Type 0 wh
   pub off_path : (r : List ℕ) → (In (parents q) r → ⊥) → entry N r ≡ entry M r
   pub new_tables : (i : ℕ) (r : List ℕ) (j : ℕ) → used (entry M (i ∷ r)) ≡ false → used (entry N (i ∷ r ++ j ∷ [])) ≡ true → In (parents q) (i ∷ r ++ j ∷ [])
 
+-- A refused map changes only entries at the page's parents: used ones keep their addresses and gain at most the parent flags, and
+-- unused ones may become tables.
 abbrev pub RefusedMaps : Type 0
 RefusedMaps = (L : ℕ) (window : Option Window) (T : Words) (root : ℕ) (M : PathMap) (supply : List ℕ) (more added : ℕ) (q : List ℕ) (frame given : ℕ)
     → IsValidFor L window T root M → IsParentFlags more

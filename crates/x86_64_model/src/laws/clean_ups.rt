@@ -1,7 +1,7 @@
 // Laws of clean ups.
 ghost use Rattle.x86_64_model.specs.Laws.CleanUps.{CleanUpConserves, CleanUpKeepsAnswers, CleanUpsOnce};
 
-/// A clean up conserves free and table frames, each with one use.
+/// A clean up conserves free and table frames: their set stays the same, and if each had one use before, it has one use after.
 pub fn clean_ups_conserve_frames()
     ensures { CleanUpConserves }
 {}

@@ -1,31 +1,34 @@
 // Laws of map calls.
 ghost use Rattle.x86_64_model.specs.Laws.Maps.{WalkedDown, MapKeepsWalks, MapArrives, MapArrivesInPage, MapConserves, MapTakesFew, RefusedMaps};
 
-/// Walking down the parents, one at a time, has the outcome of the rule.
+/// A map that walks down the parents of a page, one at a time, has the outcome of the rule of maps.
 pub fn walk_down_is_the_rule()
     ensures { WalkedDown }
 {}
 
-/// After any map call, each walk that arrived still arrives at the same address, loses no right, and gains only rights that the
-/// parent flags grant.
+/// After any map call, whatever its answer, each page walk that arrived still arrives at the same address, loses no right, and
+/// gains only rights that the parent flags grant.
 #[tactic(auto, using(crate::proofs::Lemmas::Maps::Calls::map_call_keeps_walks))]
 pub fn maps_keep_walks()
     ensures { MapKeepsWalks }
 {}
 
-/// After an accepted `map_to` with PRESENT, the walk arrives everywhere in the page, with exactly the requested rights.
+/// After an accepted `map_to` with PRESENT of a page outside the recursive window, the page walk arrives at each position of the
+/// page, at the frame's start plus the offset, with exactly the requested rights to write and of user mode.
 #[tactic(auto, using(crate::proofs::Lemmas::Maps::Arrives::map_to_arrives))]
 pub fn accepted_maps_arrive()
     ensures { MapArrives }
 {}
 
-/// After an accepted `map_to` with PRESENT, the walk arrives at each offset of the page.
+/// After an accepted `map_to` with PRESENT of a page outside the recursive window that starts at a multiple of its size, the page
+/// walk arrives at each offset of the page, at the frame's start plus the offset, with exactly the requested rights to write and of
+/// user mode.
 #[tactic(auto, using(crate::proofs::Lemmas::Paths::Pages::map_to_arrives_in_page))]
 pub fn accepted_maps_arrive_in_the_page()
     ensures { MapArrivesInPage }
 {}
 
-/// A map call conserves free and table frames, each with one use.
+/// A map call conserves free and table frames: their set stays the same, and if each had one use before, it has one use after.
 pub fn maps_conserve_frames()
     ensures { MapConserves }
 {}
