@@ -16,18 +16,19 @@ pub record PageMapping : Type 0 where
   pub frame : ℕ
   pub flags : ℕ
 
--- The path of the page's entry.
+-- The path of the entry that maps the page, with L levels.
 abbrev pub entry_path : (L : ℕ) → PageMapping → List ℕ
 entry_path L x = path_at L x.level x.page
 
--- The `map_to` that maps the page.
+-- The call of `map_to` that maps the page, with L levels.
 abbrev pub map_call_of : (L : ℕ) → PageMapping → Call
 map_call_of L x = MapTo (entry_path L x) x.frame x.flags
 
+-- The calls of `map_to` that map these pages, one call for each page, in order.
 abbrev pub map_calls : (L : ℕ) → List PageMapping → List Call
 map_calls L xs = map (λ x. map_call_of L x) xs
 
--- The reply that accepts this call.
+-- The reply to the page's `map_to` if it is accepted: done, with the page's frame.
 abbrev pub accepted : PageMapping → Reply
 accepted x = Answered (Done x.frame)
 
@@ -40,7 +41,7 @@ pub record IsUnmapped (paths : PathMap) (q : List ℕ) : Type 0 where
 abbrev pub AreApart : PageMapping → PageMapping → Type 0
 AreApart x y = (p : ℕ) → x.page ≤ p → p < x.page + span x.level → y.page ≤ p → p < y.page + span y.level → ⊥
 
--- No position lies in two of the pages.
+-- No position lies in two of the pages of the list.
 abbrev pub EachApart : List PageMapping → Type 0
 EachApart [] = Unit {0}
 EachApart (x ∷ xs) = AllByRecursion (AreApart x) xs × EachApart xs

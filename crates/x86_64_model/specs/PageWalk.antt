@@ -12,10 +12,11 @@ pub record Walked : Type 0 where
   pub write : Bool
   pub user : Bool
 
+-- The result of a walk that arrives at this address, with or without the right to write and that of user mode.
 abbrev pub arrives : (to : ℕ) (write user : Bool) → Option Walked
 arrives to w u = Some (record { address = to; write = w; user = u })
 
--- Word i of a frame, None if the frame isn't covered or isn't in the memory.
+-- Word i of the table in a frame, 0 past its last word, and None if the memory has no table in this frame.
 abbrev pub read : Words → (frame i : ℕ) → Option ℕ
 read tables frame i = option_map (λ words. get_or words i 0) (tables frame)
 
@@ -39,5 +40,7 @@ walk_on tables p (suc (suc n)) w u frame = let level = suc (suc n) in option_and
     (walk_on tables p (suc n) (w && writable e) (u && user e) (address e))) None)
     (read tables frame (index level p))
 
+-- The page walk of L levels at position p, from the table in the root's frame: the address and the rights with which it
+-- arrives, None if it arrives nowhere. A position is the number of an address counted without the gap of the address space.
 unfoldable pub page_walk : (L : ℕ) → Words → (root p : ℕ) → Option Walked
 page_walk L tables root p = walk_on tables p L true true root

@@ -35,10 +35,12 @@ is_below [] (j ∷ p) = true
 is_below (i ∷ q) [] = false
 is_below (i ∷ q) (j ∷ p) = (i == j) && is_below q p
 
--- The span of a path: the positions whose first indices are the path's, by their number and the first of them.
+-- The number of positions that the entry at a path spans: those whose first indices are the path's.
 abbrev pub span_size : (L : ℕ) → List ℕ → ℕ
 span_size L q = span (level_of L q)
 
+-- The first position that the entry at a path spans, that is the first whose first indices are the path's. A position is the
+-- number of an address counted without the gap of the address space.
 abbrev pub span_start : (L : ℕ) → List ℕ → ℕ
 span_start L q = fold (λ n i. n * 512 + i) 0 q * span_size L q
 
@@ -48,6 +50,7 @@ span_start L q = fold (λ n i. n * 512 + i) 0 q * span_size L q
 abbrev pub is_small : (L : ℕ) → List ℕ → Bool
 is_small L q = length q == L
 
+-- Each index of a path is below 512, the number of entries of a table.
 abbrev pub AllBelow : List ℕ → Type 0
 AllBelow [] = Unit {0}
 AllBelow (i ∷ q) = (i < 512) × AllBelow q
@@ -61,6 +64,7 @@ pub record IsPage (L : ℕ) (q : List ℕ) : Type 0 where
 
 -- ---- all paths
 
+-- The indices of a table in ascending order, from 0 to 511.
 unfoldable pub indices : List ℕ
 indices = range_with_len 0 512
 

@@ -5,6 +5,7 @@ use Rattle.std.specs.Cmp.Lexicographic.{slice_cmp}
 use Rattle.std.specs.FinMap.{FinMap, get, insert, remove}
 use Rattle.x86_64_model.specs.Entry.{used, address, names_table}
 
+-- A path map: the used entries of a hierarchy by their paths, as a finite map from paths to entries.
 abbrev pub PathMap : Type 0
 PathMap = FinMap (slice_cmp nat_cmp) ℕ
 
@@ -16,7 +17,7 @@ entry paths q = unwrap_or (get paths q) 0
 unfoldable pub put : PathMap → List ℕ → (entry : ℕ) → PathMap
 put paths q e = cond (used e) (insert paths q e) (remove paths q)
 
--- No absent entry is stored.
+-- The path map stores no absent entry (one that is 0).
 abbrev pub HasUsedAlone : PathMap → Type 0
 HasUsedAlone paths = (q : List ℕ) → get paths q ≢ Some 0
 

@@ -14,7 +14,7 @@ lower_half L = 2 ^ (11 + 9 * L)
 abbrev pub raw : (L position : ℕ) → ℕ
 raw L p = if nat_lt p (lower_half L) then p else p + (2 ^ 64 - position_count L)
 
--- The bits above the highest bit of a position are copies of it.
+-- The value is a canonical address with L levels: the bits above the highest bit of its position are copies of this bit.
 abbrev pub IsCanonical : (L value : ℕ) → Type 0
 IsCanonical L n = (n < lower_half L) ⊎ ((2 ^ 64 - lower_half L ≤ n) × (n < 2 ^ 64))
 

@@ -16,8 +16,9 @@ abbrev pub is_shared : (shared : ℕ → Bool) → List ℕ → Bool
 is_shared shared [] = false
 is_shared shared (i ∷ q) = shared i
 
--- The second hierarchy is valid in the memory, with the same mapping and number of levels, and its root has the entries of the
--- first one's at the shared indices. Its root and its other tables are neither tables of the first nor free frames.
+-- Two hierarchies share the tables below some indices of the highest level. The second is valid in the memory, with the frames
+-- at the same places and the same number of levels, and its root has the entries of the first one's at the shared indices. Its
+-- root and its tables that aren't below shared indices are neither tables of the first nor free frames.
 pub record Shares (shared : ℕ → Bool) (first : Layout) (m : Memory) (pool : List ℕ) (second : Layout) : Type 0 where
   pub places : second.places ≡ first.places
   pub levels : second.levels ≡ first.levels
@@ -33,13 +34,15 @@ pub record AreSpaces (shared : ℕ → Bool) (m : Memory) (serves : ℕ → Bool
 
 -- ---- spaces that share in pairs
 
--- Which indices two roots share. An index that they share belongs to both alike, and so it does for all roots that share it. So a
--- kernel's root and its user's root may share one half, and all kernel's roots the other one.
+-- Which indices any two roots share. If two roots share an index, each shares it with the other, and with every root that
+-- shares it with one of them. For example, a kernel's root and its user's root may share one half of the address space, and the
+-- roots of all kernels the other half.
 pub record IsSharing (sharing : (root other : ℕ) → ℕ → Bool) : Type 0 where
   pub symmetric : (a b i : ℕ) → sharing a b i ≡ true → sharing b a i ≡ true
   pub transitive : (a b c i : ℕ) → sharing a b i ≡ true → sharing b c i ≡ true → sharing a c i ≡ true
 
--- Address spaces with one pool: it fits each, no two have one root, and any two share the indices that their roots share.
+-- Address spaces with one pool: it fits each, no two have one root, and any two share the indices that `sharing` says of their
+-- roots.
 pub record ArePaired (sharing : (root other : ℕ) → ℕ → Bool) (m : Memory) (serves : ℕ → Bool) (pool : List ℕ) (spaces : List Layout) : Type 0 where
   pub fits : (a : Layout) → In spaces a → PoolFits (a laid_in m) serves pool
   pub own_roots : (a b : Layout) → In spaces a → In spaces b → a.root ≡ b.root → a ≡ b
@@ -47,7 +50,8 @@ pub record ArePaired (sharing : (root other : ℕ) → ℕ → Bool) (m : Memory
 
 -- ---- calls
 
--- The call changes nothing below a shared index: its page begins with none, and no span of one overlaps the range of a clean up.
+-- The call changes nothing below a shared index: the path of its page begins with none, and no span of one overlaps the range
+-- of a clean up.
 abbrev pub Avoids : (L : ℕ) (shared : ℕ → Bool) → Call → Type 0
 Avoids L shared (MapTo q frame given) = is_shared shared q ≡ false
 Avoids L shared (MapToWithTableFlags q frame given parent_flags) = is_shared shared q ≡ false
@@ -60,7 +64,7 @@ Avoids L shared (Translate p) = Unit {0}
 Avoids L shared (TranslateAddress p) = Unit {0}
 Avoids L shared (CleanUp low high) = (i : ℕ) → shared i ≡ true → meets L low high (i ∷ []) ≡ false
 
--- The root's entry on the path has these flags, if the path begins with a shared index.
+-- The root's entry on the path has these flags already, if the path begins with a shared index.
 abbrev pub HasFlags : (shared : ℕ → Bool) → (root_entry : ℕ → ℕ) → List ℕ → (flags : ℕ) → Type 0
 HasFlags shared root_entry [] given = Unit {0}
 HasFlags shared root_entry (i ∷ q) given = shared i ≡ true → bit_or (root_entry i) given ≡ root_entry i

@@ -4,14 +4,15 @@ use Rattle.x86_64_model.specs.Mapper.{◌laid_in◌, Hierarchy, PoolFits, Owns, 
 use Rattle.x86_64_model.specs.Layout.{Layout}
 use Rattle.x86_64_model.specs.Memory.{Memory}
 
--- What a store is: its free frames, in the order in which it hands them out, the frames that it serves (may hand out and take
+-- A store of frames: its free frames, in the order in which it hands them out, the frames that it serves (may hand out and take
 -- back), and the free frames after it takes one back.
 pub record Store : Type 0 where
   pub frames : List ℕ
   pub serves : (frame : ℕ) → Bool
   pub take_back : (frames : List ℕ) → (frame : ℕ) → List ℕ
 
--- What the ghost members of a `FrameStore` say of its values.
+-- The ghost members of a `FrameStore`: the free frames that a value holds, the frames held after one is taken back, whether a
+-- value serves a frame, and its supply (the frames to hand out, in order).
 abbrev pub StoreMembers : Type 0 → Type 0
 StoreMembers Self = record { held : Self → List ℕ; take_back : List ℕ → ℕ → List ℕ; serves : Self → ℕ → Bool; supply : Self → List ℕ }
 
@@ -23,8 +24,8 @@ store_of members value = record { frames = members.supply value; serves = member
 abbrev pub put_first : (frames : List ℕ) → (frame : ℕ) → List ℕ
 put_first frames frame = frame ∷ frames
 
--- The hierarchy is valid, and the frames of the store fit it: they are distinct, in the memory, and neither 0 nor in use as a table,
--- and the store serves them and the frame of each table but the root.
+-- The hierarchy is valid, and the frames of the store fit it: they are distinct, in the memory, and neither 0 nor in use as a
+-- table, and the store serves them and the frame of each table but the root.
 abbrev pub Fits : {Lent : Type 0} → Hierarchy Lent → Store → Type 0
 Fits h store = PoolFits h store.serves store.frames
 
@@ -37,8 +38,8 @@ pub record KeepsPool (layout : Layout) (serves : ℕ → Bool) (m : Memory) (poo
   pub others : KeepsOthers (Owns (layout laid_in m) pool) (layout laid_in m) (layout laid_in n)
 
 -- What calls keep: the rest of the store fits the hierarchy again, and serves the same frames. Free frames and frames of tables
--- together are the same set as before. No word changed outside the root, the tables and the frames that were free before. The
--- layout stays, and the memory that was lent.
+-- together are the same set as before, and no word changed outside the root, the tables and the frames that were free before.
+-- The layout stays, and what was lent.
 pub record Kept {Lent : Type 0} (h : Hierarchy Lent) (store : Store) (after : Hierarchy Lent) (rest : Store) : Type 0 where
   pub keeps : KeepsPool h.layout store.serves h.memory store.frames after.memory rest.frames
   pub serves : rest.serves ≡ store.serves

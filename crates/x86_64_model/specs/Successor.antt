@@ -2,11 +2,11 @@
 -- of addresses counted without the gap).
 use Rattle.std.specs.Prelude.{ℕ, ◌+◌, ◌-◌, nat_lt, if◌then◌else◌, Option, Some, None}
 
--- This many steps up, None if that isn't below the count.
+-- The number this many steps above the start, None if it isn't below the count.
 abbrev pub forward : (count start steps : ℕ) → Option ℕ
 forward count n steps = if nat_lt (n + steps) count then Some (n + steps) else None
 
--- This many steps down, None if that is below 0.
+-- The number this many steps below the start, None if it is below 0.
 abbrev pub backward : (start steps : ℕ) → Option ℕ
 backward n steps = if nat_lt n steps then None else Some (n - steps)
 

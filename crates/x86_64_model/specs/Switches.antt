@@ -16,17 +16,18 @@ use Rattle.x86_64_model.specs.Tags.{Tag, Of, Global, Tagged, global, TaggedFlush
 
 -- ---- spaces
 
--- The number of levels, where the pool puts a returned frame, the frames that it serves, and the indices of
--- the highest level that all spaces share. Some spaces may share more.
+-- The fixed part of a kernel with several address spaces: the number of levels, where the pool puts a
+-- returned frame, the frames that it serves, and the indices of the highest level that all spaces share.
+-- Some spaces may share more.
 pub record Kernel : Type 0 where
   pub levels : ℕ
   pub take_back : List ℕ → ℕ → List ℕ
   pub serves : ℕ → Bool
   pub shared : ℕ → Bool
 
--- An address space: its root, its recursive index if it has one, and the flags that its new tables get in
--- addition. The path map that the words of memory hold now from this root, and the one that they will hold
--- when the call under way is done.
+-- An address space: its root, its recursive index if it has one, and the flags that entries of its new
+-- tables get in addition to the parent flags. The words of memory hold the path map `paths` from this root
+-- now, and will hold `next` when the call under way is done.
 pub record Space : Type 0 where
   pub root : ℕ
   pub window : Option Window
@@ -34,7 +35,7 @@ pub record Space : Type 0 where
   pub paths : PathMap
   pub next : PathMap
 
--- The path map that words hold from the root of a space, if they hold one.
+-- The path map that words hold from the root of a space, if they hold one. A recursive index is left out.
 abbrev pub held_by : Kernel → Words → Space → PathMap
 held_by k T a = paths_of k.levels (outside_window a.window a.root T) a.root
 
@@ -53,11 +54,12 @@ pub record AreHeld (k : Kernel) (T : Words) (spaces : List Space) : Type 0 where
 
 -- ---- the system
 
--- The spaces, free frames and words. What the call under way makes due, the roots from which a change of it
--- may be seen, and whether it may change something below entries that all share. Of the processor: the
--- current root and PCID, its items, and what is due for those of each PCID and for global translations. Each
--- PCID holds items of one root. If it holds none, what the processor still has for it must not be used: the
--- next load of CR3 with this PCID drops it.
+-- A kernel and a processor at a moment. Of the kernel: the spaces, free frames and words, what the call
+-- under way makes due, the roots from which a change of it may be seen, and whether it may change something
+-- below entries that all share. Of the processor: the current root and PCID, the root of which each PCID
+-- holds items, all items, and what is due for those of each PCID and for global translations.
+-- If a PCID holds items of no root, what the processor still has for it must not be used: the next load of
+-- CR3 with this PCID drops it.
 pub record Switching : Type 0 where
   pub spaces : List Space
   pub pool : List ℕ
@@ -71,16 +73,19 @@ pub record Switching : Type 0 where
   pub cache : List Tagged
   pub due : Tag → List Due
 
--- All calls so far are done.
+-- All calls so far are done: the words hold the path map that each space has after them.
 abbrev pub AreDone : Switching → Type 0
 AreDone s = (a : Space) → In s.spaces a → a.paths ≡ a.next
 
--- Whether a call is to be flushed for the items with a tag: those of a PCID that holds a root which the call
--- reaches, and global translations if it may change something below entries that all spaces share.
+-- Whether a PCID holds items of a root from which a change of the call may be seen. The holder is this
+-- PCID's root, None if it has none.
 abbrev pub is_held : (reaches : ℕ → Bool) → (holder : Option ℕ) → Bool
 is_held reaches None = false
 is_held reaches (Some root) = reaches root
 
+-- Whether a call is to be flushed for the items with a tag: those of a PCID that holds items of a root from
+-- which a change of the call may be seen, and global translations if the call may change something below
+-- entries that all spaces share.
 abbrev pub is_concerned : (holder : ℕ → Option ℕ) → (reaches : ℕ → Bool) → (everywhere : Bool) → Tag → Bool
 is_concerned holder reaches everywhere (Of c) = is_held reaches (holder c)
 is_concerned holder reaches everywhere Global = everywhere
@@ -91,6 +96,8 @@ pending s tag = cond (is_concerned s.holder s.reaches s.everywhere tag) s.under_
 
 -- ---- events
 
+-- An event: something that a kernel does with its address spaces, or a processor that switches between them
+-- does.
 pub data SwitchEvent : Type 0 where
   -- The kernel begins a call on a space, of which it learns whether a used entry may lose anything, from
   -- which roots a change may be seen, and whether it may be below entries that all share. When it is done,
@@ -118,39 +125,48 @@ pub data SwitchEvent : Type 0 where
   -- The processor drops and makes items.
   Changes : (after : List Tagged) → SwitchEvent
 
--- The machine of calls on a space.
+-- The machine of calls on a space: the kernel's levels and pool, with the space's recursive index and added
+-- flags.
 abbrev pub machine_at : Kernel → Space → Machine
 machine_at k a = record { levels = k.levels; window = a.window; added_flags = a.added_flags; take_back = k.take_back }
 
+-- The machine's state for calls on a space: the path map that the words hold from its root now, and the
+-- free frames.
 abbrev pub state_at : Switching → Space → State
 state_at s a = record { paths = a.paths; pool = s.pool }
 
--- What a call makes due.
+-- What a call on a space makes due to be flushed, nothing if no used entry may lose anything.
 abbrev pub made_due : Kernel → Switching → Space → Call → (loses : Bool) → List Due
 made_due k s a call loses =
     cond loses (flush_after k.levels a.window call (step (machine_at k a) (state_at s a) call).reply) []
 
+-- The space with the next path map that this function returns for it.
 abbrev pub with_next : (Space → PathMap) → Space → Space
 with_next next a = record a { next = next a }
 
+-- The space with the path map that these words hold from its root.
 abbrev pub with_words : Kernel → Words → Space → Space
 with_words k T a = record a { paths = held_by k T a }
 
+-- The space with the path map that these words hold from its root, and with the next path map that this
+-- function returns for it.
 abbrev pub with_marks : Kernel → (Space → PathMap) → Words → Space → Space
 with_marks k next T a = record a { paths = held_by k T a; next = next a }
 
--- The same for all tags but those of a PCID.
+-- What is due for items with each tag, if it is replaced for those of one PCID.
 abbrev pub due_with : (pcid : ℕ) → List Due → (Tag → List Due) → Tag → List Due
 due_with pcid new due (Of c) = cond (c == pcid) new (due (Of c))
 due_with pcid new due Global = due Global
 
+-- The root of which each PCID holds items, if it is replaced for one PCID.
 abbrev pub holder_with : (pcid : ℕ) → Option ℕ → (ℕ → Option ℕ) → ℕ → Option ℕ
 holder_with pcid new holder c = cond (c == pcid) new (holder c)
 
--- What a flush leaves due for items with a tag.
+-- What a flush leaves due for items with a tag, of all that was due for them.
 abbrev pub left_due : Kernel → Switching → TaggedFlush → Tag → List Due
 left_due k s f tag = filter (λ due. not (is_settled k.levels s.pcid f tag due)) (s.due tag)
 
+-- The kernel and the processor after an event.
 abbrev pub after_switch : Kernel → Switching → SwitchEvent → Switching
 after_switch k s (Makes a call loses reaches everywhere next) = let new = made_due k s a call loses in record {
   spaces = map (with_next next) s.spaces;

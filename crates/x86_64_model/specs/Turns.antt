@@ -11,52 +11,57 @@ pub data Touch : Type 0 where
   Writes : (frame index value : ℕ) → Touch
   Exchanges : (frame index seen value : ℕ) → Touch
 
+-- The frame of the word that is read, written or exchanged.
 abbrev pub frame_of : Touch → ℕ
 frame_of (Reads f i seen) = f
 frame_of (Writes f i w) = f
 frame_of (Exchanges f i seen w) = f
 
+-- The index, in the table of its frame, of the word that is read, written or exchanged.
 abbrev pub index_of : Touch → ℕ
 index_of (Reads f i seen) = i
 index_of (Writes f i w) = i
 index_of (Exchanges f i seen w) = i
 
--- What is seen is there.
+-- A read or an exchange sees the value that the word has. A write sees nothing.
 abbrev pub Sees : Words → Touch → Type 0
 Sees tables (Reads f i seen) = word tables f i ≡ seen
 Sees tables (Writes f i w) = Unit {0}
 Sees tables (Exchanges f i seen w) = word tables f i ≡ seen
 
+-- The words of memory after one word is read, written or exchanged.
 abbrev pub after_touch : Words → Touch → Words
 after_touch tables (Reads f i seen) = tables
 after_touch tables (Writes f i w) = set_word tables f i w
 after_touch tables (Exchanges f i seen w) = set_word tables f i w
 
--- A turn of a processor.
+-- A turn of a processor, given by its number: what it does to one word.
 pub record Turn : Type 0 where
   pub processor : ℕ
   pub touch : Touch
 
--- Turns in order: each sees what is there then.
+-- Each turn of a list, in order, sees what its word holds after the turns before it.
 abbrev pub AllSee : Words → List Turn → Type 0
 AllSee tables [] = Unit {0}
 AllSee tables (t ∷ ts) = Sees tables t.touch × AllSee (after_touch tables t.touch) ts
 
+-- The words of memory after a list of turns, in order.
 abbrev pub after_turns : Words → List Turn → Words
 after_turns tables [] = tables
 after_turns tables (t ∷ ts) = after_turns (after_touch tables t.touch) ts
 
--- The turns of one processor.
+-- The turns of one processor in a list, in order.
 abbrev pub turns_of : (processor : ℕ) → List Turn → List Turn
 turns_of k turns = filter (λ t. t.processor == k) turns
 
+-- The word is only read, neither written nor exchanged.
 abbrev pub OnlyReads : Touch → Type 0
 OnlyReads (Reads f i seen) = Unit {0}
 OnlyReads (Writes f i w) = ⊥
 OnlyReads (Exchanges f i seen w) = ⊥
 
--- The turn touches a word of its processor's own, or reads one that is nobody's, such as a word of a shared
--- table.
+-- The turn touches a word that its processor owns, or only reads a word that no processor owns, such as one
+-- of a shared table.
 abbrev pub KeepsApart : (owner : (frame i : ℕ) → Option ℕ) → Turn → Type 0
 KeepsApart owner t = (owner (frame_of t.touch) (index_of t.touch) ≡ Some t.processor)
     ⊎ (OnlyReads t.touch × (owner (frame_of t.touch) (index_of t.touch) ≡ None))

@@ -12,19 +12,20 @@ pub record Window : Type 0 where
   pub index : ℕ
   pub self_entry : ℕ
 
--- Whether a path lies in the window: it begins with the recursive index.
+-- Whether a path lies in the recursive window: it begins with the recursive index.
 abbrev pub begins_with : Option Window → List ℕ → Bool
 begins_with None q = false
 begins_with (Some w) [] = false
 begins_with (Some w) (i ∷ q) = i == w.index
 
--- Inside the window a path is read without its first index, and the path of the recursive index alone leads to the self-entry.
+-- The entry read at a path if the root has a recursive index. A path that begins with this index and goes on is read without
+-- it, and the path of this index alone leads to the self-entry.
 abbrev pub windowed : Window → PathMap → List ℕ → ℕ
 windowed w paths [] = 0
 windowed w paths (i ∷ []) = cond (i == w.index) w.self_entry (entry paths (i ∷ []))
 windowed w paths (i ∷ j ∷ q) = cond (i == w.index) (windowed w paths (j ∷ q)) (entry paths (i ∷ j ∷ q))
 
--- The entry read at a path, through the window if there is one.
+-- The entry read at a path, through the recursive index if there is one.
 unfoldable pub entry_at : Option Window → PathMap → List ℕ → ℕ
 entry_at None paths q = entry paths q
 entry_at (Some w) paths q = windowed w paths q
@@ -41,6 +42,7 @@ pub record IsSelfEntry (tables : Words) (root : ℕ) (w : Window) : Type 0 where
   pub not_huge : huge w.self_entry ≡ false
   pub names_root : address w.self_entry ≡ root
 
+-- If there is a recursive index, the root's word at this index is the self-entry: it is present, isn't huge and names the root.
 abbrev pub SelfEntry : Words → (root : ℕ) → Option Window → Type 0
 SelfEntry tables root None = Unit {0}
 SelfEntry tables root (Some w) = IsSelfEntry tables root w

@@ -47,7 +47,8 @@ MappingsSucceed = (m : Machine) → IsMachine m → (T : Words) (root : ℕ) (se
 abbrev pub AsksFor : (L : ℕ) → PageMapping → Type 0
 AsksFor L x = Asks L x.level (entry_path L x) x.frame x.flags
 
--- After pages are all mapped with PRESENT, each of them stands, and so does each page that stood before.
+-- If pages are all mapped with PRESENT, one after another, each of them stands afterwards, and so does each page that stood
+-- before. A page stands if its entry is the one that `map_to` writes, below parents that name tables and have its parent flags.
 abbrev pub MappingsStand : Type 0
 MappingsStand = (m : Machine) → IsMachine m → (T : Words) (root : ℕ) (serves : ℕ → Bool) (s : State) → FitsState m T root serves s
     → (xs : List PageMapping) → AllByRecursion (AsksFor m.levels) xs → replies_of m s (map_calls m.levels xs) ≡ map accepted xs
@@ -57,20 +58,24 @@ MappingsStand = (m : Machine) → IsMachine m → (T : Words) (root : ℕ) (serv
 
 -- ---- two pages, with four levels, from an empty root and four free frames
 
+-- The machine with four levels, without a recursive index or added flags. Its pool puts a returned frame at the front.
 abbrev pub four_levels : Machine
 four_levels = record { levels = 4; window = None; added_flags = 0; take_back = λ held f. f ∷ held }
 
+-- The state of an empty root, with four free frames.
 abbrev pub nothing_yet : State
 nothing_yet = record { paths = nothing_mapped; pool = four_frames }
 
--- A 4KiB page and a 2MiB page.
+-- A 4KiB page to be mapped with PRESENT and WRITABLE, and a 2MiB page to be mapped with PRESENT.
 abbrev pub two_pages : List PageMapping
 two_pages = record { level = 1; page = 0x1000; frame = 0x6000; flags = 3 } ∷ record { level = 2; page = 0x20_0000; frame = 0x40_0000; flags = 1 } ∷ []
 
+-- The paths of three tables: those that an empty root lacks for the 4KiB page at 0x1000 and the 2MiB page at 0x20_0000.
 abbrev pub their_tables : List (List ℕ)
 their_tables = (0 ∷ []) ∷ (0 ∷ 0 ∷ []) ∷ (0 ∷ 0 ∷ 0 ∷ []) ∷ []
 
--- The two pages meet the premises of the laws, and are mapped.
+-- With four levels, an empty root and four free frames, a 4KiB page and a 2MiB page meet the premises of the laws of pages that
+-- are mapped one after another, and both are mapped.
 pub record TwoPagesMapped : Type 0 where
   pub machine : IsMachine four_levels
   pub fits : (T : Words) × FitsState four_levels T 0x1000 (λ f. true) nothing_yet

@@ -18,8 +18,8 @@ use Rattle.x86_64_model.specs.Position.{page_path}
 use Rattle.x86_64_model.specs.Spaces.{is_shared, Shares, AreSpaces, IsSharing, ArePaired, Avoids, SparesRoot}
 use Rattle.x86_64_model.specs.Window.{SelfEntry, outside_window, begins_with}
 
--- After the memory m became n, the second hierarchy is valid. Below the shared indices it is as the first one is now, elsewhere as
--- it was, and if the pool fitted it, the rest does. Both share again, so that the calls that follow may be on either.
+-- After the memory m became n, the second hierarchy is valid. Below the shared indices it is as the first one is now, elsewhere
+-- as it was, and if the pool fitted it, the rest does. Both share again, so that the calls that follow may be on either.
 pub record StaysSharing (shared : ℕ → Bool) (first second : Layout) (serves : ℕ → Bool) (m : Memory) (pool : List ℕ) (n : Memory) (rest : List ℕ) : Type 0 where
   pub valid : Valid (second laid_in n)
   pub below_shared : (q : List ℕ) → is_shared shared q ≡ true → entry (paths (second laid_in n)) q ≡ entry (paths (first laid_in n)) q
@@ -45,15 +45,17 @@ SharedEntriesAreTheSame = (shared : ℕ → Bool) (first second : Layout) → Is
     → PoolFits (first laid_in m) serves pool → Shares shared first m pool second → (q : List ℕ) → is_shared shared q ≡ true
     → entry (paths (second laid_in m)) q ≡ entry (paths (first laid_in m)) q
 
--- What calls on the first keep is enough for the second to stay and to see what they did below the shared indices, if they left
--- the root's entries there.
+-- If two hierarchies share, a pool fits the first, and calls on it conserve its frames, change no others, and keep the root's
+-- entries at the shared indices, both share again. The second is then valid, has below the shared indices what the first has
+-- now, and elsewhere what it had.
 abbrev pub SharedTablesStay : Type 0
 SharedTablesStay = (shared : ℕ → Bool) (first second : Layout) → IsMapping first.places → 0 < first.levels
     → (serves : ℕ → Bool) (m n : Memory) (pool rest : List ℕ)
     → PoolFits (first laid_in m) serves pool → KeepsPool first serves m pool n rest → KeepsRootEntries shared first m n
     → Shares shared first m pool second → StaysSharing shared first second serves m pool n rest
 
--- If they changed nothing below the shared indices, the second keeps its path map.
+-- If two hierarchies share, a pool fits the first, and calls on it conserve its frames, change no others, and change nothing
+-- below the shared indices, both share again, and the second keeps its path map.
 abbrev pub SharedHalvesStay : Type 0
 SharedHalvesStay = (shared : ℕ → Bool) (first second : Layout) → IsMapping first.places → 0 < first.levels
     → (serves : ℕ → Bool) (m n : Memory) (pool rest : List ℕ)
@@ -62,8 +64,8 @@ SharedHalvesStay = (shared : ℕ → Bool) (first second : Layout) → IsMapping
 
 -- ---- what the processor sees
 
--- Two hierarchies that share have the same page walks at positions (the numbers of addresses counted without the gap) below the
--- shared indices and outside the windows.
+-- Two hierarchies that share, the first with a pool that fits, have the same page walks at positions (the numbers of addresses
+-- counted without the gap) below the shared indices and outside their recursive windows.
 abbrev pub SharedWalksAreTheSame : Type 0
 SharedWalksAreTheSame = (shared : ℕ → Bool) (first second : Layout) → IsMapping first.places → 0 < first.levels
     → (serves : ℕ → Bool) (m : Memory) (pool : List ℕ)
@@ -72,7 +74,9 @@ SharedWalksAreTheSame = (shared : ℕ → Bool) (first second : Layout) → IsMa
     → begins_with second.window (page_path second.levels p) ≡ false
     → walk (second laid_in m) p ≡ walk (first laid_in m) p
 
--- Elsewhere the walks of the second one stay after calls on the first that left the root's entries at the shared indices.
+-- If two hierarchies share, a pool fits the first, and calls on it conserve its frames, change no others, and keep the root's
+-- entries at the shared indices, the page walks of the second stay at positions (the numbers of addresses counted without the
+-- gap) that aren't below shared indices, outside its recursive window.
 abbrev pub WalksStay : Type 0
 WalksStay = (shared : ℕ → Bool) (first second : Layout) → IsMapping first.places → 0 < first.levels
     → (serves : ℕ → Bool) (m n : Memory) (pool rest : List ℕ)
@@ -93,7 +97,8 @@ CallsKeepBelow = (shared : ℕ → Bool) (layout : Layout) → IsParentFlags lay
     → PoolFits (layout laid_in m) serves pool → Led layout take_back m pool calls n rest
     → AllByRecursion (Avoids layout.levels shared) calls → KeepsBelow shared layout m n
 
--- Calls that spare the root's entries at the shared indices leave these.
+-- If each call of a list adds and sets no flags in the root's entries at the shared indices, and cleans up elsewhere, all calls
+-- together leave these entries, with at least four levels.
 abbrev pub CallsKeepRootEntries : Type 0
 CallsKeepRootEntries = (shared : ℕ → Bool) (layout : Layout) → 3 < layout.levels → IsParentFlags layout.added_flags
     → (take_back : List ℕ → ℕ → List ℕ) → TakesBack take_back
@@ -108,12 +113,13 @@ PinnedEntriesStay = (L : ℕ) (M : PathMap) (low high i : ℕ) (q : List ℕ) �
 
 -- ---- any number of them
 
--- One hierarchy that the pool fits is an address space.
+-- A hierarchy that the pool fits is an address space, if there is no other.
 abbrev pub OneIsASpace : Type 0
 OneIsASpace = (shared : ℕ → Bool) (one : Layout) (serves : ℕ → Bool) (m : Memory) (pool : List ℕ) → PoolFits (one laid_in m) serves pool
     → AreSpaces shared m serves pool (one ∷ [])
 
--- What calls on one of many address spaces keep is enough for all to stay, if they left the root's entries at the shared indices.
+-- If calls on one of many address spaces conserve its frames, change no others, and keep its root's entries at the shared
+-- indices, all are address spaces again, with the rest of the pool.
 abbrev pub SpacesStay : Type 0
 SpacesStay = (shared : ℕ → Bool) (spaces : List Layout) (one : Layout) → In spaces one → IsMapping one.places → 0 < one.levels
     → (serves : ℕ → Bool) (m n : Memory) (pool rest : List ℕ)
@@ -127,8 +133,8 @@ abbrev pub SpacesArePaired : Type 0
 SpacesArePaired = (shared : ℕ → Bool) (m : Memory) (serves : ℕ → Bool) (pool : List ℕ) (spaces : List Layout)
     → AreSpaces shared m serves pool spaces → ArePaired (λ a b. shared) m serves pool spaces
 
--- What calls on one of many address spaces keep is enough for all to stay, also if they share in pairs, if they left the root's
--- entries at the indices that it shares with any.
+-- If calls on one of many address spaces that share in pairs conserve its frames, change no others, and keep its root's entries
+-- at the indices that it shares with any other, all are address spaces that share in pairs again, with the rest of the pool.
 abbrev pub PairedSpacesStay : Type 0
 PairedSpacesStay = (sharing : (root other : ℕ) → ℕ → Bool) → IsSharing sharing → (spaces : List Layout) (one : Layout) → In spaces one → IsMapping one.places → 0 < one.levels
     → (serves : ℕ → Bool) (m n : Memory) (pool rest : List ℕ)
@@ -138,8 +144,8 @@ PairedSpacesStay = (sharing : (root other : ℕ) → ℕ → Bool) → IsSharing
 
 -- ---- one more, or one less
 
--- From the memory m to n a frame became the root of a new hierarchy. Its words are the entries of the first one's root at the shared
--- indices, and 0 elsewhere but for a self-entry. Other frames keep their words.
+-- From the memory m to n a frame became the root of a new hierarchy. Its words are the entries of the first one's root at the
+-- shared indices, and 0 elsewhere but for a self-entry. Other frames keep their words.
 pub record IsNewRoot (shared : ℕ → Bool) (first : Layout) (m n : Memory) (new : Layout) : Type 0 where
   pub places : new.places ≡ first.places
   pub levels : new.levels ≡ first.levels
@@ -149,20 +155,23 @@ pub record IsNewRoot (shared : ℕ → Bool) (first : Layout) (m n : Memory) (ne
   pub self : SelfEntry (words (new laid_in n)) new.root new.window
   pub others : KeepsOthers (λ f. f ≡ new.root) (first laid_in m) (first laid_in n)
 
--- A frame of the pool becomes the root of one more address space.
+-- A frame of the pool becomes the root of one more address space, if its words are another root's entries at the shared
+-- indices, and 0 elsewhere but for a self-entry.
 abbrev pub NewSpaces : Type 0
 NewSpaces = (shared : ℕ → Bool) (spaces : List Layout) (first new : Layout) → In spaces first → IsMapping first.places → 0 < first.levels
     → (serves : ℕ → Bool) (m n : Memory) (rest : List ℕ)
     → AreSpaces shared m serves (new.root ∷ rest) spaces → IsNewRoot shared first m n new → AreSpaces shared n serves rest (new ∷ spaces)
 
--- The root of an address space that is given up goes back to the pool, if it is served and isn't frame 0.
+-- The root of an address space that is given up may go back to the pool, if it is served and isn't frame 0: the others are
+-- address spaces with this pool.
 abbrev pub SpacesAreGivenUp : Type 0
 SpacesAreGivenUp = (shared : ℕ → Bool) (gone : Layout) (spaces : List Layout) → (In spaces gone → ⊥) → IsMapping gone.places
     → (take_back : List ℕ → ℕ → List ℕ) → TakesBack take_back
     → (serves : ℕ → Bool) → serves gone.root ≡ true → gone.root ≢ 0 → (m : Memory) (pool : List ℕ) → AreSpaces shared m serves pool (gone ∷ spaces)
     → AreSpaces shared m serves (take_back pool gone.root) spaces
 
--- If it had no tables but the root and the shared ones, no frame is lost: what it owned any other one owns with the pool.
+-- If an address space that is given up had no tables but its root and the shared ones, no frame is lost when its root goes back
+-- to the pool: what it owned any other one owns with the pool.
 abbrev pub NoFrameIsLost : Type 0
 NoFrameIsLost = (shared : ℕ → Bool) (gone other : Layout) (spaces : List Layout) → (In spaces gone → ⊥) → In spaces other
     → IsMapping gone.places → 0 < gone.levels → (take_back : List ℕ → ℕ → List ℕ) → TakesBack take_back
@@ -187,7 +196,8 @@ pub record AreSynced (more : ℕ → Bool) (first : Layout) (spaces : List Layou
   pub self : (b : Layout) → In spaces b → first.root ≢ b.root → SelfEntry (words (b laid_in n)) b.root b.window
   pub others : KeepsOthers (λ f. (b : Layout) × (In spaces b) × (first.root ≢ b.root) × (f ≡ b.root)) (first laid_in m) (first laid_in n)
 
--- Then the address spaces share these indices too.
+-- If all roots of address spaces get the entries of one of them at more indices, and no other word changes, they share these
+-- indices too.
 abbrev pub SyncedSpaces : Type 0
 SyncedSpaces = (shared more : ℕ → Bool) (spaces : List Layout) (first : Layout) → In spaces first → IsMapping first.places
     → 0 < first.levels → (serves : ℕ → Bool) (m n : Memory) (pool : List ℕ)

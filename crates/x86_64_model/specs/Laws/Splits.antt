@@ -25,16 +25,18 @@ pub record Arrival : Type 0 where
   pub address : ℕ
   pub rights : Rights
 
+-- Where an access at position p arrives over the words of a way that leads to a page, with L levels.
 abbrev pub arrival_in : (L p : ℕ) → Way → Arrival
 arrival_in L p w = record { address = w.frame + p % span (level_of L w.path); rights = w.rights }
 
--- The result of the walk at a position (the number of an address counted without the gap of the address
--- space).
+-- Where an access at position p (the number of an address counted without the gap of the address space)
+-- arrives by a walk from the root, without any cache, None if it arrives nowhere.
 abbrev pub arrival : (L : ℕ) → Words → (root p : ℕ) → Option Arrival
 arrival L tables root p = option_map (arrival_in L p) (caches.walk L tables root p)
 
--- The entry e of the level above maps a page. Below the entry t, which names a table, the words of the
--- table, of this level, map the parts of this page, and grant what e grants.
+-- The words of a table of this level are the parts of a page that the entry e of the level above maps: word
+-- j maps the part at index j of its 512 parts of equal size. Below the entry t, which names the table, each
+-- grants what e grants.
 pub record AreParts (level e t : ℕ) (part : ℕ → ℕ) : Type 0 where
   pub pages : (j : ℕ) → j < 512 → maps_page level (part j) ≡ true
   pub frames : (j : ℕ) → j < 512 → page_start level (part j) ≡ page_start (suc level) e + j * span level
@@ -43,8 +45,8 @@ pub record AreParts (level e t : ℕ) (part : ℕ → ℕ) : Type 0 where
   pub user : (j : ℕ) → j < 512 → (user t && user (part j)) ≡ user e
   pub execute : (j : ℕ) → j < 512 → (not (no_execute t) && not (no_execute (part j))) ≡ not (no_execute e)
 
--- The entry e at a path maps a 2MiB or 1GiB page, t names the table in a frame, is present, and the words
--- of the table are the parts.
+-- The entry e at a path maps a 2MiB or 1GiB page, t names the table in a frame and is present, and the
+-- words of this table are the parts of the page.
 pub record IsInParts (L : ℕ) (path : List ℕ) (e t frame : ℕ) (part : ℕ → ℕ) : Type 0 where
   pub at_least : 2 ≤ level_of L path
   pub at_most : level_of L path ≤ 3
@@ -60,7 +62,7 @@ pub record IsInParts (L : ℕ) (path : List ℕ) (e t frame : ℕ) (part : ℕ �
 abbrev pub with_table : Layout → Memory → (frame : ℕ) → (table : List ℕ) → (above i entry : ℕ) → Memory
 with_table l m g table f i t = with_word l (insert m (l.places.place g) table) f i t
 
--- The path map has t at the path, the parts below it, and is as before elsewhere.
+-- The path map N has t at the path, the parts directly below it, and is as M elsewhere.
 pub record HasParts (path : List ℕ) (t : ℕ) (part : ℕ → ℕ) (M N : PathMap) : Type 0 where
   pub itself : entry N path ≡ t
   pub below : (j : ℕ) → j < 512 → entry N (path ++ j ∷ []) ≡ part j
@@ -82,7 +84,7 @@ PagesMayBeSplit = (l : Layout) → IsMapping l.places → 0 < l.levels
 
 -- ---- join
 
--- The path map has e at the path and nothing below, and is as before elsewhere.
+-- The path map N has e at the path and no entry directly below it, and is as M elsewhere.
 pub record IsJoined (path : List ℕ) (e : ℕ) (M N : PathMap) : Type 0 where
   pub itself : entry N path ≡ e
   pub below : (j : ℕ) → entry N (path ++ j ∷ []) ≡ 0
@@ -111,18 +113,20 @@ abbrev pub part_of_2mib : (entry j : ℕ) → ℕ
 part_of_2mib e j = bit_or (page_start 2 e + j * span 1)
     (bit_or (bit_and e 0xfff0_0000_0000_0f7f) (cond (has e 0x1000) 0x80 0))
 
--- The j-th part of a 1GiB page, as the entry of a 2MiB page.
+-- The j-th part of a 1GiB page, as the entry of a 2MiB page, with all flags. The PAT bit, bit 12, is left
+-- out.
 abbrev pub part_of_1gib : (entry j : ℕ) → ℕ
 part_of_1gib e j = bit_or (page_start 3 e + j * span 2) (flags e)
 
--- The entry allows all that the entries below it allow.
+-- The entry of a table takes no right from the entries below it: it has WRITABLE and USER_ACCESSIBLE, and
+-- lacks NO_EXECUTE.
 pub record AllowsAll (t : ℕ) : Type 0 where
   pub write : writable t ≡ true
   pub user : user t ≡ true
   pub execute : no_execute t ≡ false
 
--- Words like these are the parts of a page, below a table's entry that allows all. Of a 1GiB page, if its
--- PAT bit, bit 12, is clear.
+-- The words of `part_of_2mib` are the parts of a 2MiB page, and those of `part_of_1gib` the parts of a 1GiB
+-- page whose PAT bit, bit 12, is clear, both below a table's entry that takes no right from them.
 abbrev pub PagesHaveParts : Type 0
 PagesHaveParts = (e t : ℕ) (part : ℕ → ℕ) → AllowsAll t
     → (((j : ℕ) → j < 512 → part j ≡ part_of_2mib e j) → AreParts 1 e t part)
@@ -131,14 +135,16 @@ PagesHaveParts = (e t : ℕ) (part : ℕ → ℕ) → AllowsAll t
 
 -- ---- and the page walk
 
--- The page walk is where accesses arrive, without the right to execute.
+-- The page walk arrives where an access without any cache arrives, with its rights to write and of user
+-- mode.
 abbrev pub ArrivalsSayWalks : Type 0
 ArrivalsSayWalks = (L : ℕ) (T : Words) (root p : ℕ)
     → page_walk L T root p ≡ option_map
     (λ a. record { address = a.address; write = a.rights.write; user = a.rights.user }) (arrival L T root p)
 
--- So each 2MiB page may be split, and each 1GiB page whose PAT bit is clear, by a table of such words in any
--- free frame, named with PRESENT, WRITABLE and USER_ACCESSIBLE.
+-- A table with the words of `part_of_2mib` has the parts of each 2MiB page, and one with those of
+-- `part_of_1gib` the parts of each 1GiB page whose PAT bit is clear. The table may be in any frame, and its
+-- entry has PRESENT, WRITABLE and USER_ACCESSIBLE.
 abbrev pub LargePagesHaveTables : Type 0
 LargePagesHaveTables = (L : ℕ) (q : List ℕ) (e g : ℕ) (table : List ℕ) → is_frame g ≡ true → huge e ≡ true
     → (level_of L q ≡ 2 → ((j : ℕ) → j < 512 → get_or table j 0 ≡ part_of_2mib e j)

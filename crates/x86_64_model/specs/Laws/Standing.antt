@@ -15,7 +15,8 @@ use Rattle.x86_64_model.specs.Refusal.{Done, Refused, ParentEntryHugePage}
 use Rattle.x86_64_model.specs.Standing.{StandsAt}
 use Rattle.x86_64_model.specs.Window.{Window, begins_with, IsValidFor}
 
--- After an accepted `map_to` with PRESENT its page stands.
+-- After an accepted `map_to` with PRESENT its page stands: its own entry is the requested one, and each parent names a table
+-- and has the parent flags.
 abbrev pub AcceptedMapsStand : Type 0
 AcceptedMapsStand = (L level : ℕ) (T : Words) (root : ℕ) (M : PathMap) (supply : List ℕ) (added : ℕ) (q : List ℕ) (frame given : ℕ)
     → Holds L T root M → IsParentFlags added → AllByRecursion IsFrame supply → Asks L level q frame given
@@ -30,8 +31,8 @@ MapsLeaveStanding = (L level : ℕ) (T : Words) (root : ℕ) (M : PathMap) (supp
     → let after = map_call L M supply more added q frame given in
     (length q ≤ length page) ⊎ (after.answer ≢ Refused ParentEntryHugePage) → StandsAt L level after.paths page f flags
 
--- The walk at each position (the number of an address counted without the gap) of a page that stands arrives at the frame's start
--- plus the offset, with exactly the rights of its flags.
+-- The walk at each position (the number of an address counted without the gap) of a page that stands, outside the recursive
+-- window, arrives at the frame's start plus the offset, with exactly the rights of its flags.
 abbrev pub StandingPagesArrive : Type 0
 StandingPagesArrive = (L level : ℕ) (window : Option Window) (T : Words) (root : ℕ) (M : PathMap) (q : List ℕ) (frame given : ℕ)
     → IsValidFor L window T root M → begins_with window q ≡ false → StandsAt L level M q frame given

@@ -20,16 +20,19 @@ use Rattle.x86_64_model.specs.Refusal.{Done}
 abbrev pub FitsState : (m : Machine) → Words → (root : ℕ) → (serves : ℕ → Bool) → State → Type 0
 FitsState m T root serves s = Fits m.levels m.window T root s.paths serves s.pool
 
+-- Each call of a list names only 4KiB, 2MiB and 1GiB pages, and only levels that have entries of the kind it needs.
 abbrev pub AllCalls : (L : ℕ) → List Call → Type 0
 AllCalls L calls = AllByRecursion (IsCall L) calls
 
--- One step keeps the state fitting, with any valid words that mean it afterwards, if they have the frames that were there.
+-- After one step of the machine the pool fits again, with any words that are a valid hierarchy, mean the state after the step,
+-- and have the frames that were there.
 abbrev pub StepKeepsFit : Type 0
 StepKeepsFit = (m : Machine) → IsMachine m → (T U : Words) (root : ℕ) (serves : ℕ → Bool) (s : State) (call : Call) → IsCall m.levels call
     → FitsState m T root serves s → IsValidFor m.levels m.window U root (step m s call).state.paths → ((f : ℕ) → IsSome (T f) → IsSome (U f))
     → FitsState m U root serves (step m s call).state
 
--- After one step there are such words, in which all frames are unchanged that were neither free nor a table's.
+-- After one step of the machine there are words that are a valid hierarchy and mean the state, and the pool fits them. In these
+-- words all frames are unchanged that were neither free nor a table's.
 abbrev pub StepIsHeld : Type 0
 StepIsHeld = (m : Machine) → IsMachine m → (T : Words) (root : ℕ) (serves : ℕ → Bool) (s : State) (call : Call) → IsCall m.levels call
     → FitsState m T root serves s
@@ -41,13 +44,15 @@ RunConserves = (m : Machine) → IsMachine m → (T : Words) (root : ℕ) (serve
     → FitsState m T root serves s
     → (f : ℕ) → IsOwn m.levels root s.paths s.pool f ↔ IsOwn m.levels root (state_after m s calls).paths (state_after m s calls).pool f
 
--- After any list of calls the pool fits again.
+-- After any list of calls the pool fits again, with any words that are a valid hierarchy, mean the state after the calls, and
+-- have the frames that were there.
 abbrev pub RunKeepsFit : Type 0
 RunKeepsFit = (m : Machine) → IsMachine m → (T U : Words) (root : ℕ) (serves : ℕ → Bool) (s : State) (calls : List Call) → AllCalls m.levels calls
     → FitsState m T root serves s → IsValidFor m.levels m.window U root (state_after m s calls).paths → ((f : ℕ) → IsSome (T f) → IsSome (U f))
     → FitsState m U root serves (state_after m s calls)
 
--- After any list of calls there are such words, in which all frames are unchanged that were neither free nor a table's.
+-- After any list of calls there are words that are a valid hierarchy and mean the state, and the pool fits them. In these words
+-- all frames are unchanged that were neither free nor a table's.
 abbrev pub RunIsHeld : Type 0
 RunIsHeld = (m : Machine) → IsMachine m → (T : Words) (root : ℕ) (serves : ℕ → Bool) (s : State) (calls : List Call) → AllCalls m.levels calls
     → FitsState m T root serves s
@@ -55,6 +60,7 @@ RunIsHeld = (m : Machine) → IsMachine m → (T : Words) (root : ℕ) (serves :
 
 -- ---- what is flushed
 
+-- None of the items recorded for flushes covers the position, with L levels.
 abbrev pub NoneCovers : (L : ℕ) → List Item → (position : ℕ) → Type 0
 NoneCovers L items p = AllByRecursion (λ item. covers L item p ≡ false) items
 
@@ -70,7 +76,7 @@ FlushesSuffice = (m : Machine) → IsMachine m → (T V U : Words) (root : ℕ) 
 
 -- ---- maps
 
--- The page, the frame and the flags of a `map_to` or an `identity_map`.
+-- The page, the frame and the flags of a `map_to` or an `identity_map`, None for any other call.
 abbrev pub asked_of : (L : ℕ) → Call → Option (List ℕ × (ℕ × ℕ))
 asked_of L (MapTo q frame given) = Some (q, (frame, given))
 asked_of L (IdentityMap level frame given) = Some (path_at L level frame, (frame, given))

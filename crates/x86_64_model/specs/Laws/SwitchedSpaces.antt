@@ -32,8 +32,9 @@ space_in k T l = record {
   next = paths_of k.levels (outside_window l.window l.root T) l.root;
 }
 
--- The layouts have this mapping and the kernel's number of levels. Only below the shared indices entries of
--- pages have GLOBAL, no recursive index is shared, and all layouts have one, or none.
+-- A processor may switch between the layouts: they have frames at these places and the kernel's number of
+-- levels. Only below the shared indices entries of pages have GLOBAL, no recursive index is shared, and all
+-- layouts have one, or none.
 pub record MaySwitchIn (k : Kernel) (places : Places) (T : Words) (layouts : List Layout) : Type 0 where
   pub mapping : (l : Layout) → In layouts l → l.places ≡ places
   pub same_levels : (l : Layout) → In layouts l → l.levels ≡ k.levels
@@ -49,8 +50,8 @@ pub record MaySwitchIn (k : Kernel) (places : Places) (T : Words) (layouts : Lis
 abbrev pub AllShare : Kernel → (sharing : (root other : ℕ) → ℕ → Bool) → Type 0
 AllShare k sharing = (root other i : ℕ) → k.shared i ≡ true → sharing root other i ≡ true
 
--- Address spaces of a memory are spaces that the words hold: so a processor may start there, and a new one
--- may begin.
+-- Address spaces of a memory, between which a processor may switch, are spaces whose path maps the words
+-- hold.
 abbrev pub SpacesAreHeld : Type 0
 SpacesAreHeld = (k : Kernel) (places : Places) → IsMapping places → 0 < k.levels
     → (sharing : (root other : ℕ) → ℕ → Bool) → AllShare k sharing
@@ -80,6 +81,8 @@ started_in k T pool layouts one pcid = record {
   due = λ tag. [];
 }
 
+-- A processor may start in any of the address spaces of a memory between which it may switch, with any
+-- PCID. Nothing is cached or due then, and no other PCID holds a root.
 abbrev pub SpacesMayStart : Type 0
 SpacesMayStart = (k : Kernel) (places : Places) → IsMapping places → 0 < k.levels
     → (sharing : (root other : ℕ) → ℕ → Bool) → AllShare k sharing
@@ -88,7 +91,7 @@ SpacesMayStart = (k : Kernel) (places : Places) → IsMapping places → 0 < k.l
     → (one : Layout) → In layouts one → (pcid : ℕ)
     → IsStarted k (started_in k (words_of m places) pool layouts one pcid)
 
--- One more address space may begin, if no PCID holds its root.
+-- One more address space of a memory may begin while a processor switches, if no PCID holds its root.
 abbrev pub NewSpacesMayBegin : Type 0
 NewSpacesMayBegin = (k : Kernel) (places : Places) → IsMapping places → 0 < k.levels
     → (sharing : (root other : ℕ) → ℕ → Bool) → AllShare k sharing
@@ -99,9 +102,9 @@ NewSpacesMayBegin = (k : Kernel) (places : Places) → IsMapping places → 0 < 
     → MayBegin k (between k (words_of m places) pool layouts s) (space_in k (words_of m places) new)
 
 -- A call on one of the address spaces led from the memory m and a pool to the memory n and the rest of the
--- pool. It kept what calls keep, the root's entries at the indices that it shares, and free frames. Before
--- it, no PCID's due tables or pages forbid it. It is to be flushed for the roots with which it shares an
--- index that it doesn't avoid, and for its own.
+-- pool. It conserved frames, kept the root's entries at the indices that it shares, and left in each free
+-- frame what was there, or words 0 if it freed the frame. No tables or pages that are due forbid it, and it
+-- is to be flushed for its own root, and for each root with which it shares an index that it doesn't avoid.
 pub record CallsOn (k : Kernel) (places : Places) (sharing : (root other : ℕ) → ℕ → Bool)
     (m : Memory) (pool : List ℕ) (n : Memory) (rest : List ℕ) (layouts : List Layout) (one : Layout)
     (s : Switching) (call : Call) (loses : Bool) (reaches : ℕ → Bool) (everywhere : Bool) : Type 0 where
@@ -132,13 +135,16 @@ pub record CallsOn (k : Kernel) (places : Places) (sharing : (root other : ℕ) 
       → (one.root ≢ b.root) × Avoids k.levels (sharing one.root b.root) call
   pub avoids : everywhere ≡ false → Avoids k.levels k.shared call
 
--- The events of such a call.
+-- The events of a call on the space of a layout: the kernel begins the call, the words of memory change
+-- from T to U, and the call is done.
 abbrev pub call_events : Kernel → (before after : Words) → (one : Layout) → Call → (loses : Bool)
     → (reaches : ℕ → Bool) → (everywhere : Bool) → List SwitchEvent
 call_events k T U one call loses reaches everywhere =
     Makes (space_in k T one) call loses reaches everywhere (held_by k U) ∷ Writes U ∷ Returns ∷ []
 
--- Such a call may happen, and leads to the system with the words and the pool after it.
+-- A call on one of the address spaces of a memory, which conserves frames and keeps the root's entries at
+-- shared indices, may happen while a processor switches between them. It leads to the system with the words
+-- and the pool after it.
 abbrev pub CallsMaySwitch : Type 0
 CallsMaySwitch = (k : Kernel) (places : Places) → IsMapping places → 0 < k.levels → TakesBack k.take_back
     → (sharing : (root other : ℕ) → ℕ → Bool) (m n : Memory) (pool rest : List ℕ)
@@ -152,12 +158,14 @@ CallsMaySwitch = (k : Kernel) (places : Places) → IsMapping places → 0 < k.l
 
 -- ---- one more space, or one less
 
--- The kernel takes a frame of the pool, which leaves the rest, writes it, and the space with this root begins.
+-- The events by which a space begins: the kernel takes its root from the pool, which leaves the rest,
+-- writes words, and begins the space.
 abbrev pub new_events : Kernel → (after : Words) → (rest : List ℕ) → (new : Layout) → List SwitchEvent
 new_events k U rest new = Pools rest ∷ Writes U ∷ Begins (space_in k U new) ∷ []
 
--- A frame of the pool may become the root of one more address space, if no PCID's tables are due, and none
--- holds this root.
+-- A frame of the pool may become the root of one more address space while a processor switches, if no
+-- PCID's tables are due, and none holds this root. This leads to the system with the words, the rest of the
+-- pool and the space.
 abbrev pub NewSpacesMaySwitch : Type 0
 NewSpacesMaySwitch = (k : Kernel) (places : Places) → IsMapping places → 0 < k.levels
     → (shared : ℕ → Bool) → ((i : ℕ) → k.shared i ≡ true → shared i ≡ true)
@@ -171,11 +179,12 @@ NewSpacesMaySwitch = (k : Kernel) (places : Places) → IsMapping places → 0 <
     AllMaySwitch k now events
     × (after_switches k now events ≡ between k U rest (new ∷ layouts) (after_switches k now events))
 
--- A space ends, and its root goes back to the pool.
+-- The events by which a space ends: the kernel gives it up, and returns its root to the pool.
 abbrev pub end_events : Kernel → (pool : List ℕ) → (gone : Layout) → List SwitchEvent
 end_events k pool gone = Ends gone.root ∷ Pools (k.take_back pool gone.root) ∷ []
 
--- It may, if no PCID holds its root, which no other space has.
+-- An address space may end while a processor switches, and its root go back to the pool, if no PCID holds
+-- the root and no other space has it.
 abbrev pub GivenUpMaySwitch : Type 0
 GivenUpMaySwitch = (k : Kernel) → TakesBack k.take_back → (T : Words) (pool : List ℕ) (gone : Layout)
     (layouts : List Layout)

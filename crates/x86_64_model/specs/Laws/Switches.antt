@@ -10,8 +10,8 @@ use Rattle.x86_64_model.specs.Switches.{Kernel, Space, AreHeld, Switching, AreDo
 use Rattle.x86_64_model.specs.MaySwitch.{AllMaySwitch, after_switches}
 use Rattle.x86_64_model.specs.Laws.Caches.{WalksThere, IsStale, IsLetGo}
 
--- The processor starts with the root of a space, which its PCID holds. No call is under way, nothing is
--- cached, and nothing due.
+-- The words hold the path map of each space, and the processor starts with the root of one, which its PCID
+-- holds. No call is under way, nothing is cached, and nothing due.
 pub record IsStarted (k : Kernel) (s : Switching) : Type 0 where
   pub held : AreHeld k s.words s.spaces
   pub done : AreDone s
@@ -23,8 +23,8 @@ pub record IsStarted (k : Kernel) (s : Switching) : Type 0 where
   pub none_due : (tag : Tag) → s.due tag ≡ []
   pub none_under_way : s.under_way ≡ []
 
--- A list of events from there on: calls on spaces, writes, new spaces and given up ones, loads of CR3,
--- flushes, and what the processor caches at any moment.
+-- A list of events leads from the start of a kernel and a processor to now: calls on spaces, writes, new
+-- spaces and given up ones, loads of CR3, flushes, and what the processor caches at any moment.
 pub record Switches (k : Kernel) (start : Switching) (events : List SwitchEvent)
     (now : Switching) : Type 0 where
   pub gives : TakesBack k.take_back
@@ -48,8 +48,9 @@ SwitchesAreFlushed = (k : Kernel) (start : Switching) (events : List SwitchEvent
     → (w : Way) → MayAccess k.levels now.root now.words (usable now.pcid now.cache) p w
     → WalksThere (walk k.levels now.words now.root p) w
 
--- While something is due, it goes there, or to a page that is due here, in the frame that it had when a call
--- let it go.
+-- At every moment, also during calls, each access in a space goes with the page walk from its root in the
+-- present words, or to a page that may be cached still. Such a page is due here, in the frame that it had
+-- when a call let it go, or all items on its path or the recursive window in which it lies are due here.
 abbrev pub StaleSwitchesAreOld : Type 0
 StaleSwitchesAreOld = (k : Kernel) (start : Switching) (events : List SwitchEvent) (now : Switching)
     → Switches k start events now
@@ -64,7 +65,9 @@ CurrentIsASpace = (k : Kernel) (start : Switching) (events : List SwitchEvent) (
     → Switches k start events now
     → AreHeld k now.words now.spaces × (a : Space) × In now.spaces a × (a.root ≡ now.root)
 
--- So no access in a space reaches an address that it let go, and whose pages were flushed here since.
+-- No access in a space reaches an address that lies in no page of a present entry of the space, in no page
+-- that is due here, as it was, and in no page of an entry, present or not, below which all items are due
+-- here, if the recursive window isn't due here. So its frame may be used for anything.
 abbrev pub LetGoIsUnreachedHere : Type 0
 LetGoIsUnreachedHere = (k : Kernel) (start : Switching) (events : List SwitchEvent) (now : Switching)
     → Switches k start events now
@@ -90,7 +93,7 @@ is_seen_by_all (Abandons pcid) = false
 is_seen_by_all (Flushes f after) = false
 is_seen_by_all (Changes after) = false
 
--- The events that processor j sees, of those with the number of the processor of each.
+-- The events that processor j sees, of a list of events with the number of the processor of each.
 abbrev pub seen_by : (j : ℕ) → List (ℕ × SwitchEvent) → List SwitchEvent
 seen_by j [] = []
 seen_by j (e ∷ more) = cond ((e.0 == j) || is_seen_by_all e.1) (e.1 ∷ seen_by j more) (seen_by j more)
@@ -101,8 +104,10 @@ pub record SeeTheSame (a b : Switching) : Type 0 where
   pub pool : a.pool ≡ b.pool
   pub words : a.words ≡ b.words
 
--- If what a processor sees may happen, each of its accesses goes with the page walk, if nothing that is due
--- here on it concerns the position. So a call waits until tables are flushed on each.
+-- Of several processors, each access of any one in a space goes with the page walk from its root in the
+-- present words, with no right more, if the events that it sees may happen, and nothing that is due for its
+-- items concerns the position. So it has to be flushed for itself, and a call waits until tables are
+-- flushed on each.
 abbrev pub EachIsFlushedHere : Type 0
 EachIsFlushedHere = (k : Kernel) (events : List (ℕ × SwitchEvent)) (j : ℕ) (start now : Switching)
     → Switches k start (seen_by j events) now

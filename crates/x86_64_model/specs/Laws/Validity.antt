@@ -10,16 +10,17 @@ use Rattle.x86_64_model.specs.private.Tables.{tables_from, NoneHuge, SoundTables
 use Rattle.x86_64_model.specs.private.Marks.{spot_of, slot_in, IsSpots, mark_all}
 use Rattle.x86_64_model.specs.Pool.{serves_below}
 
--- Some path map makes the words a valid hierarchy if and only if the map of the words does.
+-- Some path map makes the words a valid hierarchy from a root if and only if the one that is read from the words does.
 abbrev pub ValidForItsPaths : Type 0
 ValidForItsPaths = (n : ℕ) (T : Words) (root : ℕ) → ((M : PathMap) × IsValid (suc n) T root M) ↔ IsValid (suc n) T root (paths_of (suc n) T root)
 
--- A hierarchy is valid if and only if the list of its tables is sound.
+-- The words are a valid hierarchy from a root if and only if the list of its tables is sound: each is in the memory and visited
+-- once, only the root may be in frame 0, and no word above level three is huge.
 abbrev pub SoundIsValid : Type 0
 SoundIsValid = (n : ℕ) (T : Words) (root : ℕ) → SoundTables n T root (serves_below (2 ^ 40)) [] ↔ IsValid (suc n) T root (paths_of (suc n) T root)
 
--- A pool of a limit fits a hierarchy if and only if the list of its tables and the pool is sound, with or without a recursive
--- index.
+-- A pool that serves the frames below a limit fits a hierarchy if and only if the list of its tables and of the pool's frames
+-- is sound, with or without a recursive index.
 abbrev pub SoundIsFitting : Type 0
 SoundIsFitting = (n : ℕ) (window : Option Window) (T : Words) (root limit : ℕ) (pool : List ℕ) → OnlyFrames T → SelfEntry T root window
     → SoundTables n (outside_window window root T) root (serves_below limit) pool
@@ -30,7 +31,7 @@ SoundIsFitting = (n : ℕ) (window : Option Window) (T : Words) (root limit : �
 abbrev pub MemoriesHaveSpots : Type 0
 MemoriesHaveSpots = (memory : Memory) (places : Places) → Distinct places → IsSpots (words_of memory places) (length (keys memory)) (spot_of memory places)
 
--- From clear marks, all the tables and the pool can be marked if and only if they are sound.
+-- From clear marks, the tables from a root and the frames of a pool can all be marked if and only if they are sound.
 abbrev pub MarksTell : Type 0
 MarksTell = (W T : Words) (size : ℕ) (spot : ℕ → Option ℕ) → IsSpots W size spot → ((f : ℕ) → IsSome (W f) ↔ IsSome (T f))
     → (n root : ℕ) (serves : ℕ → Bool) (pool : List ℕ) (marks : List Bool) → ((k : ℕ) → k < size → get_or marks k true ≡ false) → NoneHuge n T root

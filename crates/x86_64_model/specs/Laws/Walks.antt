@@ -9,16 +9,19 @@ use Rattle.x86_64_model.specs.Translation.{translate, Agrees}
 use Rattle.x86_64_model.specs.WrittenOut.{walk_4, walk_5, translate_4, translate_5}
 use Rattle.x86_64_model.specs.Arrivals.{Reaches, leads}
 
--- The walk and `translate` of four and of five levels equal those written out.
+-- The page walk of four levels equals the one that is written out word by word.
 abbrev pub FourWrittenOut : Type 0
 FourWrittenOut = (T : Words) (root p : ℕ) → page_walk 4 T root p ≡ walk_4 T root p
 
+-- The page walk of five levels equals the one that reads the root's word and goes on with the walk of four levels.
 abbrev pub FiveWrittenOut : Type 0
 FiveWrittenOut = (T : Words) (root p : ℕ) → page_walk 5 T root p ≡ walk_5 T root p
 
+-- The answer of `translate` with four levels equals the one that is written out entry by entry.
 abbrev pub TranslateWrittenOut : Type 0
 TranslateWrittenOut = (E : List ℕ → ℕ) (p : ℕ) → translate 4 E p ≡ translate_4 E p
 
+-- The answer of `translate` with five levels equals the one that reads the root's entry and goes on with that of four levels.
 abbrev pub TranslateFiveWrittenOut : Type 0
 TranslateFiveWrittenOut = (E : List ℕ → ℕ) (p : ℕ) → translate 5 E p ≡ translate_5 E p
 

@@ -16,27 +16,31 @@ use Rattle.x86_64_model.specs.Mapper.{◌laid_in◌, KeepsOthers, Owns, SupplyFi
 abbrev pub Uses : Layout → Memory → (supply rest : List ℕ) → (frame : ℕ) → Type 0
 Uses l m supply rest f = Owns (l laid_in m) supply f × (In rest f → ⊥)
 
--- A call that maps a page. The path map, the supply and the answer are those of the map rule, the hierarchy is valid again, and
--- the rest of the supply fits it. Only words in the root, the tables and the taken frames change. Each page walk that arrived
--- still arrives at the same address, loses no right, and gains only rights that the parent flags grant.
+-- What a call that maps a page leaves in the memory n, if it began in the memory m. The path map, the supply and the answer are
+-- those of the map rule, the hierarchy is valid again, and the rest of the supply fits it. Only words in the root, the tables
+-- and the taken frames change. Each page walk that arrived still arrives at the same address, loses no right, and gains only
+-- rights that the parent flags grant.
 pub record IsMapped (l : Layout) (m : Memory) (supply : List ℕ) (page : List ℕ) (frame flags parent_flags : ℕ) (answer : Answer) (n : Memory) (rest : List ℕ) : Type 0 where
   pub outcome : map_call l.levels (paths (l laid_in m)) supply parent_flags l.added_flags page frame flags ≡ record { paths = paths (l laid_in n); supply = rest; answer = answer }
   pub ready : SupplyFits (l laid_in n) rest
   pub others : KeepsOthers (Uses l m supply rest) (l laid_in m) (l laid_in n)
   pub walks : (p : ℕ) → Arrives parent_flags (walk (l laid_in m) p) (walk (l laid_in n) p)
 
--- The outcomes of the calls on one entry, for the hierarchy in a memory.
+-- The result of `unmap` for the hierarchy of a layout in a memory: the path map and the answer.
 abbrev pub after_unmap : Layout → Memory → (page : List ℕ) → AfterChange
 after_unmap l m page = unmap l.levels (read_entry (l laid_in m)) (paths (l laid_in m)) page
 
+-- The result of `update_flags` for the hierarchy of a layout in a memory: the path map and the answer.
 abbrev pub after_update : Layout → Memory → (page : List ℕ) → (flags : ℕ) → AfterChange
 after_update l m page given = update_flags l.levels (read_entry (l laid_in m)) (paths (l laid_in m)) page given
 
+-- The result of a call that sets the flags of the entry of a level on a page's path, for the hierarchy of a layout in a memory:
+-- the path map and the answer.
 abbrev pub after_set_flags : Layout → Memory → (level : ℕ) → (page : List ℕ) → (flags : ℕ) → AfterChange
 after_set_flags l m level page given = set_flags l.levels (read_entry (l laid_in m)) (paths (l laid_in m)) level page given
 
--- A call that changes at most one entry. The path map is that of the rule, the hierarchy is valid again, a supply that fitted
--- still fits, and only words in the root and the tables change.
+-- What a call that changes at most one entry leaves in the memory n, if it began in the memory m. The path map is that of the
+-- rule, the hierarchy is valid again, a supply that fitted still fits, and only words in the root and the tables change.
 pub record IsChanged (l : Layout) (m : Memory) (after : AfterChange) (n : Memory) : Type 0 where
   pub meant : after.paths ≡ paths (l laid_in n)
   pub valid : Valid (l laid_in n)

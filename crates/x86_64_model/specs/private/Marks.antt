@@ -11,11 +11,11 @@ use Rattle.x86_64_model.specs.Memory.{Memory, Places, Words}
 unfoldable pub spot_of : Memory → Places → (frame : ℕ) → Option ℕ
 spot_of memory places f = cond (places.covers f) (position (eq_by_cmp nat_cmp (places.place f)) (keys memory)) None
 
--- The spot of a frame that may be visited: the root, or a frame that is served.
+-- The spot of a frame that may be visited, which is the root or a frame that is served, None for any other frame.
 abbrev pub slot_in : (spot : ℕ → Option ℕ) → (root : ℕ) → (serves : ℕ → Bool) → (frame : ℕ) → Option ℕ
 slot_in spot root serves f = cond ((f == root) || serves f) (spot f) None
 
--- The frames that have a table have distinct spots, below the size.
+-- The frames that have a table, and no others, have spots, which are distinct and below the size.
 pub record IsSpots (T : Words) (size : ℕ) (spot : ℕ → Option ℕ) : Type 0 where
   pub within : (f k : ℕ) → spot f ≡ Some k → k < size
   pub apart : (f g k : ℕ) → spot f ≡ Some k → spot g ≡ Some k → f ≡ g
@@ -25,7 +25,7 @@ pub record IsSpots (T : Words) (size : ℕ) (spot : ℕ → Option ℕ) : Type 0
 unfoldable pub mark_one : (slot : ℕ → Option ℕ) → List Bool → (frame : ℕ) → Option (List Bool)
 mark_one slot marks f = option_and_then (λ k. cond (get_or marks k true) None (Some (set marks k true))) (slot f)
 
--- The marks after these frames are visited, one after another.
+-- The marks after these frames are visited, one after another. None if one may not be visited, or was before.
 unfoldable pub mark_all : (slot : ℕ → Option ℕ) → List Bool → (frames : List ℕ) → Option (List Bool)
 mark_all slot marks [] = Some marks
 mark_all slot marks (f ∷ fs) = option_and_then (λ m. mark_all slot m fs) (mark_one slot marks f)

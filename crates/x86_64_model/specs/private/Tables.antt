@@ -13,7 +13,7 @@ unfoldable pub tables_from : (n : ℕ) → Words → (frame : ℕ) → List ℕ
 tables_from zero T f = f ∷ []
 tables_from (suc n) T f = f ∷ flat_map (λ i. cond (names_table (word T f i)) (tables_from n T (address (word T f i))) []) indices
 
--- The words, with word r of the root read as 0 if there is an r.
+-- The words, with word r of the root read as 0, or as they are if r is None.
 abbrev pub without_word : (r : Option ℕ) → (root : ℕ) → Words → Words
 without_word None root T = T
 without_word (Some r) root T = set_word T root r 0

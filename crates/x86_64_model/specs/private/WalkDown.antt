@@ -10,7 +10,9 @@ abbrev pub with_first : {X : Type 0} → List ℕ → (none : X) → (some : ℕ
 with_first [] none some = none
 with_first (f ∷ fs) none some = some f fs
 
--- The outcome if the parents ps are still to be handled.
+-- The result of a map call to `frame`, with the requested entry e at path q, if the parents ps of q are still to be handled,
+-- from the first to the last. A used parent gets the parent flags `more`, and refuses the call if it is huge. An unused one
+-- becomes a new table in the first frame of the supply, and refuses the call if there is none.
 abbrev pub walk_down : (parent_flags added_flags : ℕ) (q : List ℕ) (e frame : ℕ) → PathMap → (supply : List ℕ) → (ps : List (List ℕ)) → AfterMap
 walk_down more added q e frame M supply [] = cond (used (entry M q))
     (record { paths = M; supply = supply; answer = Refused (PageAlreadyMapped frame) })

@@ -1,7 +1,7 @@
 // Laws of address spaces: hierarchies that share the tables below some indices of the highest level.
 ghost use Rattle.x86_64_model.specs.Laws.Spaces.{SharedEntriesAreTheSame, SharedTablesStay, SharedHalvesStay, SharedWalksAreTheSame, WalksStay, CallsKeepBelow, CallsKeepRootEntries, PinnedEntriesStay, OneIsASpace, SpacesStay, SpacesArePaired, PairedSpacesStay, NewSpaces, SpacesAreGivenUp, NoFrameIsLost, SyncedSpaces, FewerAreShared};
 
-/// Two hierarchies that share have the same entries below the shared indices.
+/// Two hierarchies that share have the same entries below the shared indices, if a pool fits the first.
 pub fn shared_entries_are_the_same()
     ensures { SharedEntriesAreTheSame }
 {}
@@ -17,8 +17,8 @@ pub fn shared_halves_stay()
     ensures { SharedHalvesStay }
 {}
 
-/// Two hierarchies that share have the same page walks below the shared indices. Elsewhere the walks of one stay after calls on the
-/// other that left the root's entries at these indices.
+/// Two hierarchies that share have the same page walks below the shared indices, outside the recursive windows. Elsewhere the
+/// walks of one stay after calls on the other that left the root's entries at these indices.
 pub fn shared_walks_stay()
     ensures same { SharedWalksAreTheSame }
     ensures elsewhere { WalksStay }
@@ -39,7 +39,8 @@ pub fn pinned_entries_stay()
     ensures { PinnedEntriesStay }
 {}
 
-/// A hierarchy that the pool fits is an address space, so the premise that there are some can be met.
+/// A hierarchy that a pool fits is an address space, if there is no other. So the premise that there are address spaces can be
+/// met.
 #[tactic(auto, using(crate::proofs::Lemmas::Spaces::Many::one_is_a_space))]
 pub fn one_hierarchy_is_a_space()
     ensures { OneIsASpace }
@@ -50,7 +51,8 @@ pub fn spaces_stay()
     ensures { SpacesStay }
 {}
 
-/// A frame of the pool that gets the entries of a root at the shared indices, and 0 elsewhere, is the root of one more address space.
+/// A frame of the pool that gets the entries of a root at the shared indices, and 0 elsewhere but for a self-entry, is the root
+/// of one more address space.
 pub fn new_spaces_share()
     ensures { NewSpaces }
 {}
