@@ -3,13 +3,13 @@ use Rattle.std.specs.Prelude.{◌≡◌, ◌⊎◌, ℕ}
 use Rattle.x86_64_addr.specs.declared.index.PageTableLevel.{PageTableLevel}
 use Rattle.x86_64_addr.specs.declared.index.PageTableLevel.TheVariants.{One, Two, Three, Four}
 
--- The number of a level, counted from the tables whose entries map 4KiB pages.
+-- The number of a level of page tables: one for the tables whose entries map 4KiB pages, and one more for each level above.
 abbrev pub level_number : PageTableLevel → ℕ
 level_number One = 1
 level_number Two = 2
 level_number Three = 3
 level_number Four = 4
 
--- There are four levels, or five.
+-- The number of levels of page tables is four or five.
 abbrev pub IsLevelCount : (levels : ℕ) → Type 0
 IsLevelCount levels = (levels ≡ 4) ⊎ (levels ≡ 5)

@@ -2,7 +2,8 @@
 use Rattle.std.specs.Prelude.{◌≡◌, ℕ, ◌+◌, ◌%◌}
 use Rattle.x86_64_page.specs.Blocks.{Ends, front_taken, back_taken}
 
--- If the ends of a range are multiples of the size, taking no block changes nothing, and each further block equals one more call.
+-- Taking no block from a range that excludes its end changes nothing. If both ends are multiples of the size, taking n + 1 blocks
+-- equals taking n and then one more, from the front and from the back.
 pub record AreTakenInTurn (size : ℕ) : Type 0 where
   pub none : (r : Ends) → front_taken size 0 r ≡ r
   pub front : (r : Ends) (n : ℕ) → r.start % size ≡ 0 → r.end % size ≡ 0 → front_taken size 1 (front_taken size n r) ≡ front_taken size (n + 1) r

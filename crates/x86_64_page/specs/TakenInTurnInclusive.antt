@@ -2,8 +2,8 @@
 use Rattle.std.specs.Prelude.{◌≡◌, ℕ, ◌+◌, ◌%◌, ◌<◌}
 use Rattle.x86_64_page.specs.Blocks.{front_taken_inclusive, back_taken_inclusive, Ends}
 
--- If the ends of a range are multiples of the size below the limit, taking no block changes nothing, and each further block
--- equals one more call.
+-- Taking no block from a range that includes its end changes nothing. If both ends are multiples of the size, taking n + 1 blocks
+-- equals taking n and then one more, from the front and from the back. From the front this is for ends below the limit.
 pub record AreTakenInTurnInclusive (size limit : ℕ) : Type 0 where
   pub none : (r : Ends) → r.start < limit → front_taken_inclusive size limit 0 r ≡ r
   pub front : (r : Ends) (n : ℕ) → r.start % size ≡ 0 → r.end % size ≡ 0 → r.start < limit → r.end < limit

@@ -3,13 +3,15 @@ use Rattle.std.specs.Prelude.{◌≡◌, ◌↔◌, ℕ, ◌*◌, ◌%◌, ◌<�
 use Rattle.x86_64_model.specs.Lists.{In, EachOnce}
 use Rattle.x86_64_model.specs.Pool.{serves_below}
 
--- the free frames, each with a number from 1 to limit - 1
+-- The free frames of a pool, in the order in which they are handed out, each with a number from 1 to `limit` - 1. A frame is
+-- given by its start address, which is 4096 times its number.
 pub record FreeFrames : Type 0 where
   pub frames : List ℕ
   pub limit : ℕ
   pub served : (f : ℕ) → In frames f → serves_below limit f ≡ true
 
--- The frames are distinct, and each number below the limit has a mark, set exactly if its frame is among them.
+-- The frames are distinct and their addresses are multiples of 4096. For each n below the number of marks, mark n is set if and
+-- only if the frame with number n is among them.
 pub record IsMarked (frames : List ℕ) (marks : List Bool) : Type 0 where
   pub aligned : (f : ℕ) → In frames f → f % 4096 ≡ 0
   pub each_once : EachOnce frames

@@ -5,10 +5,10 @@ use Rattle.std.specs.List.{range_with_len}
 use Rattle.x86_64_model.specs.Memory.{Memory}
 use Rattle.x86_64_tables.specs.PhysMemory.{tables_at}
 
--- the n-th table at place n
+-- The memory that has the n-th of these tables, counted from 0, at place n.
 abbrev pub numbered : List (List ℕ) → Memory
 numbered tables = tables_at (range_with_len 0 (length tables)) tables
 
--- the tables of a memory, in the order of their places
+-- The tables of a memory, in increasing order of their places.
 abbrev pub tables_in_order : Memory → List (List ℕ)
 tables_in_order memory = map (λ e. e.1) (entries memory)

@@ -6,11 +6,12 @@ use Rattle.x86_64_model.specs.Hierarchy.{paths_of}
 use Rattle.x86_64_model.specs.Memory.{Words}
 use Rattle.x86_64_model.specs.Pool.{Fits}
 
--- the free frames in an array whose first entries they are: the last of them first, since it is handed out first
+-- The free frames in an array whose first `count` entries are their addresses, in the order in which they are handed out: the
+-- last of these entries comes first.
 abbrev pub stacked : (entries : List ℕ) → (count : ℕ) → List ℕ
 stacked entries count = reverse (take count entries)
 
--- whether a frame is in a list
+-- Whether a frame is in a list of frames.
 abbrev pub is_in : (frames : List ℕ) → (frame : ℕ) → Bool
 is_in frames f = list_any (λ g. g == f) frames
 
@@ -19,8 +20,8 @@ is_in frames f = list_any (λ g. g == f) frames
 abbrev pub served_by : (own : List ℕ) → (array count : GName) → (frame : ℕ) → Bool
 served_by own array count f = cond (f % 4096 == 0) (is_in own f) (f == 4096 * array + 1 || f == 4096 * count + 2)
 
--- The hierarchy is valid, a pool fits it, and an array has room for every frame that the pool may ever hold: its own frames, and
--- those of the tables below the root.
+-- The words below the root form a valid hierarchy of L levels, and a pool of free frames fits it. A list of at most `capacity`
+-- frames has all frames that the pool may ever hold: its frames now, and those of the tables below the root.
 pub record FitsRoom (L : ℕ) (T : Words) (root capacity : ℕ) (pool : List ℕ) : Type 0 where
   pub own : List ℕ
   pub few : length own ≤ capacity

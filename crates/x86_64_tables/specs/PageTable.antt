@@ -4,7 +4,7 @@ use Rattle.std.proofs.Common.{sym, ◌∙◌}
 use Rattle.std.proofs.lemmas.Grind.{same_number_lists}
 use Rattle.std.proofs.lemmas.List.{length-replicate, get_or-replicate}
 
--- the table of unused entries: 512 words 0
+-- The words of a page table of unused entries: 512 words 0.
 unfoldable pub zero_words : List ℕ
 zero_words = replicate 512 0
 
@@ -16,7 +16,7 @@ pub get_or-zero_words : (k : ℕ) → k < 512 → get_or zero_words k 0 ≡ 0
 unfolding zero_words
 get_or-zero_words k h = get_or-replicate {A = ℕ} 512 k 0 0 h
 
--- a table whose words are all 0 is the table of unused entries
+-- A table whose 512 words are all 0 is the table of unused entries.
 pub all_zero : (xs : List ℕ) → length xs ≡ 512 → ((k : ℕ) → k < 512 → get_or xs k 0 ≡ 0) → xs ≡ zero_words
 all_zero xs l h =
     same_number_lists xs zero_words (l ∙ sym length-zero_words) (λ k b.

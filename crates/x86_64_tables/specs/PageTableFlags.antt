@@ -3,11 +3,11 @@ use Rattle.std.specs.Prelude.{◌≡◌, ℕ, ◌^◌, List, [], ◌∷◌, code
 use Rattle.bitflags.specs.Sets.{known_bits, known_from}
 use Rattle.x86_64_tables.specs.declared.page_table.flags.PageTableFlags.{PageTableFlags}
 
--- the flags as bits of a word
+-- The flags as a number, whose bits are those of an entry's word.
 abbrev pub bits_of : PageTableFlags → ℕ
 bits_of given = given.0
 
--- the name and the bits of each flag
+-- The names of the flags of a page table entry, as text, each with its bit in the entry's word.
 abbrev pub flag_table : List (List ℕ × ℕ)
 flag_table =
     (codes "PRESENT", 2 ^ 0) ∷
@@ -35,7 +35,7 @@ flag_table =
     (codes "BIT_62", 2 ^ 62) ∷
     (codes "NO_EXECUTE", 2 ^ 63) ∷ []
 
--- the known flags are all bits except 12 to 51
+-- The flags with a name are all bits of an entry's word except 12 to 51, which hold the address.
 pub known_bits-flag_table : known_bits flag_table ≡ 0xfff0_0000_0000_0fff
 unfolding known_from
 known_bits-flag_table = refl

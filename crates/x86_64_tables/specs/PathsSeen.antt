@@ -7,27 +7,36 @@ use Rattle.x86_64_model.specs.PathMap.{PathMap}
 use Rattle.x86_64_model.specs.Window.{outside_window}
 use Rattle.x86_64_tables.specs.SelfEntries.{window_in}
 
--- each frame at the place with its number, or the given places
+-- The mapping by which a comparison of hierarchies finds tables: each frame lies at the place with its number if `by_number` is
+-- true, and where the given mapping says otherwise.
 abbrev pub places_for : (by_number : Bool) → Places → Places
 places_for false places = places
 places_for true places = identity_places
 
--- the path map of words, of the given levels, without the root's word at the recursive index if there is one
+-- The path map, the entry at each path, of the hierarchy of this many levels that words hold below a root. If there is a
+-- recursive index, the root's word at this index is read as 0.
 abbrev pub paths_in : (levels : ℕ) → Words → (root : ℕ) → (recursive : Option ℕ) → PathMap
 paths_in levels words root recursive = paths_of levels (outside_window (window_in words root recursive) root words) root
 
--- the path map of the memory's words
+-- The path map, the entry at each path, of the hierarchy of this many levels that a memory holds below a root. If there is a
+-- recursive index, each frame lies at the place with its number, and the root's word at this index is read as 0. If there is
+-- none, frames lie where the given mapping says.
 abbrev pub paths_seen_at : (levels : ℕ) → Memory → Places → (root : ℕ) → (recursive : Option ℕ) → PathMap
 paths_seen_at levels memory places root recursive = paths_in levels (words_of memory (places_for (is_some recursive) places)) root recursive
 
--- the path map of four levels
+-- The path map, the entry at each path, of the hierarchy of four levels that a memory holds below a root. If there is a recursive
+-- index, each frame lies at the place with its number, and the root's word at this index is read as 0. If there is none, frames
+-- lie where the given mapping says.
 abbrev pub paths_seen : Memory → Places → (root : ℕ) → (recursive : Option ℕ) → PathMap
 paths_seen memory places root recursive = paths_seen_at 4 memory places root recursive
 
--- the path map of five levels
+-- The path map, the entry at each path, of the hierarchy of five levels that a memory holds below a root. If there is a recursive
+-- index, each frame lies at the place with its number, and the root's word at this index is read as 0. If there is none, frames
+-- lie where the given mapping says.
 abbrev pub paths_seen_57 : Memory → Places → (root : ℕ) → (recursive : Option ℕ) → PathMap
 paths_seen_57 memory places root recursive = paths_seen_at 5 memory places root recursive
 
--- the entries at each path from the tables in two frames are alike, with n levels of tables below each
+-- At each path from the table in frame f of the words T, and from the table in frame g of the words U, the two entries are equal,
+-- or both name tables and differ at most in WRITABLE. Each of the two tables has n levels of tables below it.
 pub record AlikeFrom (n : ℕ) (T : Words) (f : ℕ) (U : Words) (g : ℕ) : Type 0 where
   pub at : (q : List ℕ) → (read_at (suc n) T f q ≡ read_at (suc n) U g q) ⊎ ((length q < suc n) × AlikeTables (read_at (suc n) T f q) (read_at (suc n) U g q))

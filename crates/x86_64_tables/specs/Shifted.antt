@@ -6,7 +6,8 @@ use Rattle.x86_64_model.specs.Entry.{is_frame}
 use Rattle.x86_64_model.proofs.Lemmas.Entries.Bits.{same_frame}
 use Rattle.x86_64_model.specs.Memory.{IsMapping, Places}
 
--- each frame with a number from the first on, at the place with this number minus the first
+-- The mapping of each frame, from the one with number `first` on, to the place with the frame's number minus `first`. Other
+-- frames have no place.
 abbrev pub shifted_places : (first : ℕ) → Places
 shifted_places first = record { covers = λ f. is_frame f && nat_le first (f / 4096); place = λ f. f / 4096 - first }
 

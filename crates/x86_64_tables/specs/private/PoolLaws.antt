@@ -10,7 +10,7 @@ use Rattle.x86_64_model.specs.Lists.{EachOnce}
 use Rattle.x86_64_model.proofs.Lemmas.Entries.Words.{address_aligned}
 use Rattle.x86_64_tables.specs.LentPool.{is_in, served_by}
 
--- that each element is there once has one proof at most, as a fact that a value keeps must
+-- There is at most one proof that a list has no duplicates, as must be so for a fact that a value keeps.
 pub EachOnce-prop : (frames : List ℕ) → IsProp (EachOnce frames)
 EachOnce-prop [] = Unit-prop
 EachOnce-prop (f ∷ frames) = ×_prop (→_prop (λ e. absurd e)) (EachOnce-prop frames)
@@ -21,7 +21,7 @@ is_address f is = elim (eqb_tells (address f) f) [ inl same ↦ same.1 | inr oth
 pub frame_aligned : (f : ℕ) → is_frame f ≡ true → f % 4096 ≡ 0
 frame_aligned f is = subst (λ a. a % 4096 ≡ 0) (is_address f is) (address_aligned f)
 
--- frames are served by the list alone
+-- A number that is a multiple of 4096 is served by a pool if and only if it is among the pool's own frames.
 pub served_aligned : (own : List ℕ) (array count : GName) (f : ℕ) → f % 4096 ≡ 0 → served_by own array count f ≡ is_in own f
 served_aligned own array count f multiple =
     ap (λ b. cond b (is_in own f) (f == 4096 * array + 1 || f == 4096 * count + 2)) (eq-eqb (f % 4096) 0 multiple)

@@ -12,7 +12,7 @@ use Rattle.x86_64_model.specs.Memory.{Memory}
 use Rattle.x86_64_tables.specs.LentMemory.{numbered}
 use Rattle.x86_64_tables.specs.PhysMemory.{tables_at}
 
--- the memory keeps its places when a table is inserted
+-- The memory keeps its places when a table is inserted.
 pub stays_there : (memory : Memory) (place : ℕ) (table : List ℕ) (other : ℕ)
     → IsSome (get memory other) → IsSome (get (insert memory place table) other)
 stays_there memory place table other there =
@@ -22,11 +22,11 @@ stays_there memory place table other there =
     at true = refl
     at false = there
 
--- a memory with the given tables at the places from k on
+-- The memory that has the given tables, in their order, at the consecutive places from k on.
 abbrev from : (k : ℕ) → List (List ℕ) → Memory
 from k ts = tables_at (range_with_len k (length ts)) ts
 
--- the last insertion at a place counts, and insertions at two places can be swapped
+-- The last insertion at a place counts.
 put_again : (m : Memory) (k : ℕ) (t w : List ℕ) → insert m k w ≡ insert (insert m k t) k w
 put_again m k t w = same_map nat_cmp_total nat_cmp-IsAntisymmetric _ _ (λ q.
     get-insert nat_cmp_total m k w q ∙ either q (eq_by_cmp nat_cmp q k) (get-insert nat_cmp_total m k t q)
@@ -37,6 +37,7 @@ put_again m k t w = same_map nat_cmp_total nat_cmp-IsAntisymmetric _ _ (λ q.
     either q true e = refl
     either q false e = ap (λ o. o) (sym e)
 
+-- Insertions at two different places can be swapped.
 put_swapped : (m : Memory) (k j : ℕ) (t w : List ℕ) → k ≢ j → insert (insert m j w) k t ≡ insert (insert m k t) j w
 put_swapped m k j t w apart = same_map nat_cmp_total nat_cmp-IsAntisymmetric _ _ (λ q.
     get-insert nat_cmp_total (insert m j w) k t q ∙ ap (cond (eq_by_cmp nat_cmp q k) (Some t)) (get-insert nat_cmp_total m j w q)
@@ -58,6 +59,7 @@ put_swapped m k j t w apart = same_map nat_cmp_total nat_cmp-IsAntisymmetric _ _
     there : (q : ℕ) → q ≢ k → Same q (eq_by_cmp nat_cmp q k) (eq_by_cmp nat_cmp q j)
     there q n = subst (λ (a : Bool). Same q a (eq_by_cmp nat_cmp q j)) (sym (other_key q k n)) (second q _)
 
+-- If tables lie at the places from k on, replacing the i-th of them is an insertion at place k + i.
 set-from : (k : ℕ) (ts : List (List ℕ)) (i : ℕ) (w : List ℕ) → i < length ts
     → tables_at (range_with_len k (length ts)) (slice_set ts i w) ≡ insert (from k ts) (k + i) w
 set-from k [] i w h = absurd (omega arith)
@@ -69,7 +71,7 @@ set-from k (t ∷ ts) (suc i) w h =
     ap (λ m. insert m k t) (set-from (k + 1) ts i w (omega (arith, h)) ∙ ap (λ j. insert (from (k + 1) ts) j w) e)
     ∙ put_swapped (from (k + 1) ts) k (k + suc i) t w (λ f. absurd (omega (arith, f)))
 
--- there is a place from k on for each table, and no other place
+-- If tables lie at the places from k on, the memory has a place for each of them.
 there-from : (k : ℕ) (ts : List (List ℕ)) (i : ℕ) → i < length ts → IsSome (get (from k ts) (k + i))
 there-from k [] i h = absurd (omega arith)
 there-from k (t ∷ ts) zero h =
@@ -81,6 +83,7 @@ there-from k (t ∷ ts) (suc i) h =
     stays_there (from (k + 1) ts) k t (k + suc i)
     (subst (λ (j : ℕ). IsSome (get (from (k + 1) ts) j)) e (there-from (k + 1) ts i (omega (arith, h))))
 
+-- If tables lie at the places from k on, the memory has no place past the last of them.
 within-from : (k : ℕ) (ts : List (List ℕ)) (q : ℕ) → IsSome (get (from k ts) q) → q < k + length ts
 within-from k [] q has = absurd (false≢true (ap is_some (sym (get-empty nat_cmp q)) ∙ has))
 within-from k (t ∷ ts) q has = ⊎_elim
@@ -89,7 +92,7 @@ within-from k (t ∷ ts) q has = ⊎_elim
     ∙ ap (λ b. cond b (Some t) (get (from (k + 1) ts) q)) (other_key q k n))) ∙ has) in omega (arith, far))
     (cases_eq q k)
 
--- setting a table of a slice inserts it at its place
+-- Replacing a table of a slice inserts it, in the memory over the slice, at the place with its index.
 pub numbered_set : (tables : List (List ℕ)) (place : ℕ) (table : List ℕ) → IsSome (get (numbered tables) place)
     → numbered (slice_set tables place table) ≡ insert (numbered tables) place table
 numbered_set tables place table there =
@@ -100,7 +103,7 @@ numbered_set tables place table there =
     from_zero : 0 + place ≡ place
     from_zero = omega arith
 
--- the memory keeps its places when a table of the slice is set
+-- The memory over a slice of tables keeps its places when one of the tables is replaced.
 pub stays_numbered : (tables : List (List ℕ)) (place : ℕ) (table : List ℕ) (other : ℕ)
     → IsSome (get (numbered tables) other) → IsSome (get (numbered (slice_set tables place table)) other)
 stays_numbered tables place table other there =
