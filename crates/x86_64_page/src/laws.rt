@@ -37,7 +37,8 @@ pub fn frames_are_ordered_by_address<S: PageSize + Hash>(left: PhysFrame<S>, rig
     ensures hash { ⟦<PhysFrame<S> as Hash>⟧.hash_input left ≡ fed.u64 left }
 {}
 
-/// Steps through pages compose, steps back undo steps forward, and `steps_between` counts them.
+/// Steps of m pages and then of n pages are steps of m + n pages, steps back undo steps forward and the other way round, and
+/// `steps_between` counts the steps forward.
 pub fn page_steps_are_counted<S: PageSize, L: LevelCount>()
     ensures { ArePageSteps L.LEVELS S.SIZE }
 {}

@@ -236,21 +236,21 @@ impl<S: PageSize, L: LevelCount> PageIn<S, L> {
         S::SIZE
     }
 
-    /// Returns the index of level four.
+    /// Returns the index of level four: bits 39 to 47 of the start address.
     pub fn p4_index(self) -> PageTableIndex
         ensures { result ≡ index 4 self }
     {
         self.start_address.p4_index()
     }
 
-    /// Returns the index of level three.
+    /// Returns the index of level three: bits 30 to 38 of the start address.
     pub fn p3_index(self) -> PageTableIndex
         ensures { result ≡ index 3 self }
     {
         self.start_address.p3_index()
     }
 
-    /// Returns the index of a level.
+    /// Returns the index of a level: the nine bits of the start address from bit 9 * `level` + 3 on.
     ///
     /// Requires that the level is from one to the number of levels.
     pub fn table_index(self, level: u64) -> PageTableIndex
@@ -278,7 +278,7 @@ impl<S: PageSize> Page57<S> {
         self.start_address.page_table_index(level)
     }
 
-    /// Returns the index of level five.
+    /// Returns the index of level five: bits 48 to 56 of the start address.
     pub fn p5_index(self) -> PageTableIndex
         ensures { result ≡ index 5 self }
     {
@@ -287,7 +287,7 @@ impl<S: PageSize> Page57<S> {
 }
 
 impl<S: NotGiantPageSize, L: LevelCount> PageIn<S, L> {
-    /// Returns the index of level two.
+    /// Returns the index of level two: bits 21 to 29 of the start address.
     pub fn p2_index(self) -> PageTableIndex
         ensures { result ≡ index 2 self }
     {
@@ -296,7 +296,7 @@ impl<S: NotGiantPageSize, L: LevelCount> PageIn<S, L> {
 }
 
 impl<L: LevelCount> PageIn<Size4KiB, L> {
-    /// Returns the index of level one.
+    /// Returns the index of level one: bits 12 to 20 of the start address.
     pub fn p1_index(self) -> PageTableIndex
         ensures { result ≡ index 1 self }
     {

@@ -41,7 +41,7 @@ pub trait Block: Copy + sealed::Sealed {
     /// The size in bytes.
     const SIZE: u64;
 
-    /// The end of the last block.
+    /// The end of the last block: 2^48 or 2^57 for pages with four or five levels of page tables, and 2^52 for frames.
     const LIMIT: u64;
 
     /// The name of a range that excludes its end.

@@ -36,7 +36,7 @@ pub enum MappedFrame {
 impl MappedFrame {
     ghost use Rattle.x86_64_tables.specs.Translations.{frame_start, frame_size};
 
-    /// Returns the start address.
+    /// Returns the start address of the frame.
     pub fn start_address(&self) -> PhysAddr
         ensures { result ≡ frame_start self.now }
     {
@@ -47,7 +47,7 @@ impl MappedFrame {
         }
     }
 
-    /// Returns the size in bytes.
+    /// Returns the size of the frame in bytes.
     pub fn size(&self) -> u64
         ensures { result ≡ frame_size self.now }
     {
@@ -62,7 +62,8 @@ impl MappedFrame {
 /// The result of translating a virtual address.
 #[derive(Clone, Copy, Debug, PartialEq)]
 pub enum TranslateResult {
-    /// The address lies in a mapped page.
+    /// The address lies in a mapped page. The entry of a 4KiB page is used, but may lack `PRESENT`; the entries above it, and
+    /// the entry of a larger page, have it.
     Mapped {
         /// The frame that the page is mapped to.
         frame: MappedFrame,
@@ -71,7 +72,7 @@ pub enum TranslateResult {
         /// The flags of the entry that maps the page.
         flags: PageTableFlags,
     },
-    /// The address lies in no mapped page.
+    /// The address lies in no mapped page: on its path an entry above level one lacks `PRESENT`, or that of level one is unused.
     NotMapped,
     /// An entry names no frame. No translation returns this.
     InvalidFrameAddress(PhysAddr),

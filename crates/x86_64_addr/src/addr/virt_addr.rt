@@ -159,7 +159,7 @@ impl<L: LevelCount> VirtAddrIn<L> {
         PageOffset::new((self.position() % 4096) as u16)
     }
 
-    /// Returns the index in the root table.
+    /// Returns the index in the root table, which is of level `L::LEVELS`.
     pub fn root_index(self) -> PageTableIndex
         ensures { result ≡ index L.LEVELS self }
     {
@@ -194,7 +194,7 @@ impl<L: LevelCount> VirtAddrIn<L> {
         self.table_index(4)
     }
 
-    /// Returns the index of a level.
+    /// Returns the index of a level: the nine bits from bit 9 * `level` + 3 on.
     ///
     /// Requires that the level is from one to the number of levels.
     pub fn table_index(self, level: u64) -> PageTableIndex

@@ -23,7 +23,7 @@ impl Display for PfnNotValid {
 }
 
 impl<S: PageSize> PhysFrame<S> {
-    /// Returns the frame with a number.
+    /// Returns the frame with a number: it starts at the number times the size.
     ///
     /// Requires that the frame's start is below 2^52. Check this with [`try_from_pfn`](Self::try_from_pfn).
     pub fn from_pfn(pfn: u64) -> Self
@@ -33,7 +33,7 @@ impl<S: PageSize> PhysFrame<S> {
         Self::from_start_address_unchecked(PhysAddr::new(pfn * S::SIZE))
     }
 
-    /// Returns the frame with a number.
+    /// Returns the frame with a number: it starts at the number times the size.
     ///
     /// Requires that the frame's start is below 2^52, as for [`from_pfn`](Self::from_pfn).
     pub fn from_pfn_unchecked(pfn: u64) -> Self
@@ -43,7 +43,7 @@ impl<S: PageSize> PhysFrame<S> {
         Self::from_pfn(pfn)
     }
 
-    /// Returns the frame with a number.
+    /// Returns the frame with a number: it starts at the number times the size.
     ///
     /// # Errors
     ///
@@ -60,7 +60,7 @@ impl<S: PageSize> PhysFrame<S> {
         }
     }
 
-    /// Returns the number: the start divided by the size.
+    /// Returns the frame's number: its start divided by its size.
     pub fn pfn(self) -> u64
         ensures { result ≡ self / S.SIZE }
     {

@@ -26,7 +26,9 @@ impl<S: PageSize> AddAssign<u64> for PhysFrame<S> {
 
     ghost add_assign_gives = { λ frame count sum. sum ≡ frame + count * S.SIZE };
 
-    /// Moves up by `rhs` frames, under the condition of `+`.
+    /// Moves up by `rhs` frames.
+    ///
+    /// Requires that the new start is below 2^52, as for `+`.
     fn add_assign(&mut self, rhs: u64) {
         *self = *self + rhs;
     }
@@ -41,7 +43,7 @@ impl<S: PageSize> Sub<u64> for PhysFrame<S> {
 
     /// Returns the frame `rhs` frames below.
     ///
-    /// Requires that its start isn't negative. Check this with `<=` on the count and [`PhysFrame::pfn`].
+    /// Requires that its start isn't below 0. Check this with `<=` on the count and [`PhysFrame::pfn`].
     fn sub(self, rhs: u64) -> PhysFrame<S> {
         PhysFrame::from_start_address_unchecked(self.start_address() - rhs * S::SIZE)
     }
@@ -52,7 +54,9 @@ impl<S: PageSize> SubAssign<u64> for PhysFrame<S> {
 
     ghost sub_assign_gives = { λ frame count difference. difference ≡ frame - count * S.SIZE };
 
-    /// Moves down by `rhs` frames, under the condition of `-`.
+    /// Moves down by `rhs` frames.
+    ///
+    /// Requires that the new start isn't below 0, as for `-`.
     fn sub_assign(&mut self, rhs: u64) {
         *self = *self - rhs;
     }

@@ -45,7 +45,7 @@ impl<S: PageSize> Block for PhysFrame<S> {
 }
 
 impl<S: PageSize> PhysFrame<S> {
-    /// Returns the frames from `start` up to but excluding `end`.
+    /// Returns the frames from `start` up to but excluding `end`. The range is empty unless `start` lies before `end`.
     pub fn range(start: Self, end: Self) -> PhysFrameRange<S>
         ensures start { result.start ≡ start }
         ensures end { result.end ≡ end }
@@ -53,7 +53,7 @@ impl<S: PageSize> PhysFrame<S> {
         PhysFrameRange { start, end }
     }
 
-    /// Returns the frames from `start` up to and including `end`.
+    /// Returns the frames from `start` up to and including `end`. The range is empty if `start` lies after `end`.
     pub fn range_inclusive(start: Self, end: Self) -> PhysFrameRangeInclusive<S>
         ensures start { result.start ≡ start }
         ensures end { result.end ≡ end }

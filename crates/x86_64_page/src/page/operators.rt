@@ -17,8 +17,8 @@ impl<S: PageSize, L: LevelCount> Add<u64> for PageIn<S, L> {
 
     /// Returns the page whose raw start is `rhs` pages above.
     ///
-    /// Requires that the raw start is canonical, and that the distance fits 64 bits. Check this with [`u64::checked_mul`],
-    /// [`u64::checked_add`] and [`try_new`](x86_64_addr::addr::VirtAddr::try_new).
+    /// Requires that this raw start is canonical, and that `rhs` pages have less than 2^64 bytes. Check this with
+    /// [`u64::checked_mul`], [`u64::checked_add`] and [`try_new`](x86_64_addr::addr::VirtAddr::try_new).
     fn add(self, rhs: u64) -> PageIn<S, L> {
         PageIn::from_start_address_unchecked(self.start_address() + rhs * S::SIZE)
     }
@@ -30,7 +30,9 @@ impl<S: PageSize, L: LevelCount> AddAssign<u64> for PageIn<S, L> {
 
     ghost add_assign_gives = { λ page count sum. raw L.LEVELS sum ≡ raw L.LEVELS page + count * S.SIZE };
 
-    /// Moves up by `rhs` pages, under the conditions of `+`.
+    /// Moves up by `rhs` pages, by raw start.
+    ///
+    /// Requires that the new raw start is canonical, and that `rhs` pages have less than 2^64 bytes, as for `+`.
     fn add_assign(&mut self, rhs: u64) {
         *self = *self + rhs;
     }
@@ -46,7 +48,7 @@ impl<S: PageSize, L: LevelCount> Sub<u64> for PageIn<S, L> {
 
     /// Returns the page whose raw start is `rhs` pages below.
     ///
-    /// Requires that the raw start is canonical and isn't negative. Check this with [`u64::checked_mul`], [`u64::checked_sub`]
+    /// Requires that this raw start is canonical and isn't below 0. Check this with [`u64::checked_mul`], [`u64::checked_sub`]
     /// and [`try_new`](x86_64_addr::addr::VirtAddr::try_new).
     fn sub(self, rhs: u64) -> PageIn<S, L> {
         PageIn::from_start_address_unchecked(self.start_address() - rhs * S::SIZE)
@@ -59,7 +61,9 @@ impl<S: PageSize, L: LevelCount> SubAssign<u64> for PageIn<S, L> {
 
     ghost sub_assign_gives = { λ page count rest. raw L.LEVELS rest ≡ raw L.LEVELS page - count * S.SIZE };
 
-    /// Moves down by `rhs` pages, under the conditions of `-`.
+    /// Moves down by `rhs` pages, by raw start.
+    ///
+    /// Requires that the new raw start is canonical and isn't below 0, as for `-`.
     fn sub_assign(&mut self, rhs: u64) {
         *self = *self - rhs;
     }
@@ -72,7 +76,8 @@ impl<S: PageSize, L: LevelCount> Sub<PageIn<S, L>> for PageIn<S, L> {
 
     ghost sub_gives = { λ page other count. count ≡ (raw L.LEVELS page - raw L.LEVELS other) / S.SIZE };
 
-    /// Returns the number of pages from the raw start of `rhs` up to that of `self`.
+    /// Returns the number of pages from the raw start of `rhs` up to that of `self`, which includes the gap if that lies between
+    /// the pages.
     ///
     /// Requires that `rhs` isn't above `self`. Check this with `<=` on the pages.
     fn sub(self, rhs: PageIn<S, L>) -> u64 {

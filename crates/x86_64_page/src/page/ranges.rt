@@ -54,7 +54,8 @@ impl<S: PageSize, L: LevelCount> Block for PageIn<S, L> {
 }
 
 impl<S: PageSize> Page<S> {
-    /// Returns the pages from `start` up to but excluding `end`.
+    /// Returns the pages from `start` up to but excluding `end`. The range continues after the gap in the middle of the address
+    /// space, and is empty unless `start` lies before `end`.
     pub fn range(start: Self, end: Self) -> PageRange<S>
         ensures start { result.start ≡ start }
         ensures end { result.end ≡ end }
@@ -64,7 +65,8 @@ impl<S: PageSize> Page<S> {
 }
 
 impl<S: PageSize, L: LevelCount> PageIn<S, L> {
-    /// Returns the pages from `start` up to and including `end`.
+    /// Returns the pages from `start` up to and including `end`. The range continues after the gap in the middle of the address
+    /// space, and is empty if `start` lies after `end`.
     pub fn range_inclusive(start: Self, end: Self) -> BlockRangeInclusive<Self>
         ensures start { result.start ≡ start }
         ensures end { result.end ≡ end }

@@ -23,14 +23,14 @@ impl<S: PageSize, L: LevelCount> PageIn<S, L> {
 
     /// Returns the page `count` pages before `start`.
     ///
-    /// Returns `None` if `count` pages have more bytes than lie below the start.
+    /// Returns `None` if `count` pages have more bytes than the position of `start`.
     pub fn backward_checked(start: Self, count: usize) -> Option<Self>
         ensures { result ≡ backward start (count * S.SIZE) }
     {
         places::backward_checked(start, count)
     }
 
-    /// Returns the number of pages from `start` to `end`, as equal lower and upper bounds.
+    /// Returns the number of pages from `start` up to but excluding `end`, as equal lower and upper bounds.
     ///
     /// Returns `(0, None)` if `end` is below `start`.
     pub fn steps_between(start: &Self, end: &Self) -> (usize, Option<usize>)

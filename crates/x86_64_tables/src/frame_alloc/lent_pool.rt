@@ -53,9 +53,11 @@ pub struct LentPool<'a> {
 }
 
 impl<'a> LentPool<'a> {
-    /// Makes a pool of an array whose first `count` entries are the addresses of the free frames.
+    /// Makes a pool of an array whose first `count` entries are the addresses of the free frames, the last of which is handed out
+    /// first. Neither the array nor the count changes.
     ///
-    /// Requires that each free frame is there once, that `own` has it, and that the array has an entry for each frame of `own`.
+    /// Requires that the array has at least `count` entries, and at least as many as `own` has frames. Each of its first `count`
+    /// entries must be the address of a 4KiB frame (a multiple of 4096 below 2^52) that is there once and that `own` has.
     pub fn new(entries: &'a mut [u64], count: &'a mut usize, own: OwnFrames) -> LentPool<'a>
         requires in_array { count.old ≤ length entries.old }
         requires room { length own.frames ≤ length entries.old }

@@ -72,7 +72,7 @@ impl<S: PageSize, L: LevelCount> MapperFlushIn<S, L> {
         Ok(())
     }
 
-    /// Consumes the token without a flush.
+    /// Consumes the token without a flush. The TLB may keep the mapping that the page had before.
     pub fn ignore(self) {
         let MapperFlushIn { page: _ } = self;
     }
@@ -118,9 +118,9 @@ impl<S: PageSize, L: LevelCount> Model for MapperFlushRangeIn<S, L> {
 }
 
 impl<S: PageSize, L: LevelCount> MapperFlushRangeIn<S, L> {
-    /// Creates a token for a number of pages, from a page on.
+    /// Creates a token for `count` pages, from a page on. The range continues after the gap in the middle of the address space.
     ///
-    /// Requires that all of these pages exist.
+    /// Requires that none of these pages lies past the end of the address space.
     pub fn new(page: PageIn<S, L>, count: u64) -> Self
         requires { (k : ℕ) → k < count → page + k * S.SIZE < position_count L.LEVELS }
         ensures { result ≡ flush_range page count }
@@ -168,7 +168,7 @@ impl<S: PageSize, L: LevelCount> MapperFlushRangeIn<S, L> {
         Ok(())
     }
 
-    /// Consumes the token without a flush.
+    /// Consumes the token without a flush. The TLB may keep the mappings that the pages had before.
     pub fn ignore(self) {
         let MapperFlushRangeIn { page: _, count: _ } = self;
     }
@@ -218,7 +218,7 @@ impl MapperFlushAll {
         Ok(())
     }
 
-    /// Consumes the token without a flush.
+    /// Consumes the token without a flush. The TLB may keep stale mappings of any pages.
     pub fn ignore(self) {
         let MapperFlushAll(_) = self;
     }
@@ -268,7 +268,9 @@ fn record_each<S: PageSize, L: LevelCount>(
     }
 }
 
-/// Returns the page this number of pages after a page. Requires that it exists.
+/// Returns the page `count` pages after a page. Steps continue after the gap in the middle of the address space.
+///
+/// Requires that the page doesn't lie past the end of the address space. Check this with [`PageIn::forward_checked`].
 pub fn page_after<S: PageSize, L: LevelCount>(page: PageIn<S, L>, count: u64) -> PageIn<S, L>
     requires { page + count * S.SIZE < position_count L.LEVELS }
     ensures { result ≡ page + count * S.SIZE }

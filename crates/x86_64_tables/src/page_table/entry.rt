@@ -12,7 +12,7 @@ use x86_64_addr::addr::PhysAddr;
 use x86_64_page::frame::PhysFrame;
 use x86_64_page::page::Size4KiB;
 
-/// The bits of an entry that hold an address.
+/// The bits of an entry that hold an address: bits 12 to 51. All others are flags.
 pub const ADDRESS_MASK: u64 = 0x000f_ffff_ffff_f000;
 
 /// The bits of an entry that are flags.
@@ -170,9 +170,9 @@ impl fmt::Debug for PageTableEntry {
     }
 }
 
-/// Returns true if an entry has a flag.
+/// Returns true if an entry has a flag, or each of several flags.
 ///
-/// Requires that the flag has none of the bits 12 to 51.
+/// Requires that none of the bits 12 to 51, which hold the address, is among the flags.
 pub fn has_flag(entry: &PageTableEntry, flag: PageTableFlags) -> bool
     requires { bit_and 0xfff0_0000_0000_0fff (bits_of flag) ≡ bits_of flag }
     ensures { result ≡ has entry.now (bits_of flag) }

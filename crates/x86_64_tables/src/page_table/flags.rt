@@ -23,17 +23,19 @@ bitflag_items! {
         const WRITABLE = 1 << 1;
         /// Allows user code to access the page, or all pages below the table.
         const USER_ACCESSIBLE = 1 << 2;
-        /// Uses write-through caching in place of write-back.
+        /// The bit PWT: uses write-through caching in place of write-back for the page, or for the table that the entry names.
         const WRITE_THROUGH = 1 << 3;
-        /// Disables caching.
+        /// The bit PCD: disables caching of the page, or of the table that the entry names.
         const NO_CACHE = 1 << 4;
-        /// Set by the processor on an access.
+        /// Set by the processor when it translates an address through the entry.
         const ACCESSED = 1 << 5;
-        /// Set by the processor on a write to the page.
+        /// Set by the processor on a write to the page. Ignored in an entry that names a table.
         const DIRTY = 1 << 6;
-        /// The bit PS: at level two the entry maps a 2MiB page, at level three a 1GiB page, instead of naming a table.
+        /// The bit PS: at level two the entry maps a 2MiB page, at level three a 1GiB page, instead of naming a table. At level
+        /// one it is the bit PAT, and above level three it is reserved.
         const HUGE_PAGE = 1 << 7;
-        /// Keeps the page's translation in the TLB when the address space is switched.
+        /// Keeps the page's translation in the TLB when the address space is switched, if the processor has this feature
+        /// enabled. Ignored in an entry that names a table.
         const GLOBAL = 1 << 8;
         /// Ignored by the processor.
         const BIT_9 = 1 << 9;
@@ -63,7 +65,8 @@ bitflag_items! {
         const BIT_61 = 1 << 61;
         /// Ignored by the processor unless protection keys are enabled.
         const BIT_62 = 1 << 62;
-        /// Forbids instruction fetches, if the processor has this feature enabled.
+        /// Forbids instruction fetches from the page, or from all pages below the table, if the processor has this feature
+        /// enabled. Otherwise it is reserved.
         const NO_EXECUTE = 1 << 63;
     }
 }

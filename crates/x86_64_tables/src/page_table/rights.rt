@@ -7,17 +7,19 @@ use super::{PageTableEntry, PageTableFlags, has_flag};
 use std::fmt::{Display, Formatter, Result as FmtResult, Write};
 use std::marker::Model;
 
-/// What entries of page tables allow, beside reads by privileged code.
+/// What the entries of page tables on the way to a page allow together, beside reads by privileged code.
+///
+/// Intel SDM vol. 3A, "Determination of Access Rights"; AMD APM vol. 2, "Page-Protection Checks".
 ///
 /// As text these are the letters `rwxu`: whether pages may be read, written, executed, and accessed by user code. A letter is
 /// replaced by `-` if its right is missing.
 #[derive(Clone, Copy, Debug, PartialEq, Eq)]
 pub struct Rights {
-    /// Whether all have `WRITABLE`.
+    /// Whether all entries have `WRITABLE`.
     pub write: bool,
-    /// Whether all have `USER_ACCESSIBLE`.
+    /// Whether all entries have `USER_ACCESSIBLE`.
     pub user: bool,
-    /// Whether none has `NO_EXECUTE`.
+    /// Whether no entry has `NO_EXECUTE`.
     pub execute: bool,
 }
 
@@ -35,21 +37,21 @@ impl Model for Rights {
 }
 
 impl Rights {
-    /// What is allowed before the first entry: everything.
+    /// All rights: what is allowed before any entry restricts it.
     pub const ALL: Rights = Rights {
         write: true,
         user: true,
         execute: true,
     };
 
-    /// What nothing allows.
+    /// No rights: no writes, no access by user code, and no execution.
     pub const NONE: Rights = Rights {
         write: false,
         user: false,
         execute: false,
     };
 
-    /// Returns what is still allowed below an entry.
+    /// Returns the rights that are left below an entry: those of `self` that the entry allows too.
     pub fn below(self, entry: &PageTableEntry) -> Rights
         ensures { result ≡ granted self entry.now }
     {
@@ -60,7 +62,7 @@ impl Rights {
         }
     }
 
-    /// Returns what both allow.
+    /// Returns the rights that are both in `self` and in `others`.
     pub fn and(self, others: Rights) -> Rights
         ensures { result ≡ both self others }
     {
@@ -71,7 +73,7 @@ impl Rights {
         }
     }
 
-    /// Returns what at least one of them allows.
+    /// Returns the rights that are in `self`, in `others`, or in both.
     pub fn or(self, others: Rights) -> Rights
         ensures { result ≡ either self others }
     {

@@ -20,7 +20,7 @@ pub enum EntryTarget {
 }
 
 impl PageTableEntry {
-    /// Returns what the entry leads to if its table is of a level.
+    /// Returns what the entry leads to if it is in a table of a level. Entries of level one map 4KiB pages.
     ///
     /// Requires that the level is at least one.
     #[tactic(auto, using(x86_64_model::proofs::Lemmas::Entries::Words::address_aligned))]

@@ -105,7 +105,11 @@ impl<'a, L: LevelCount, T: TableMemory, P: PageTableFrameMapping> HierarchyView<
         }
     }
 
-    /// Returns the frame of the table that the word at an index of the table in a frame names, if it names one.
+    /// Returns the frame of the table that the word at an index of the table in a frame names. This is meant for tables above level
+    /// one, whose words name tables.
+    ///
+    /// Returns `None` if the word is unused or has `HUGE_PAGE`, if the frame has no table in the memory, or for the root's word at
+    /// the recursive index. The word may lack `PRESENT`.
     ///
     /// Requires that the index is below 512.
     pub fn table_below(
@@ -122,7 +126,8 @@ impl<'a, L: LevelCount, T: TableMemory, P: PageTableFrameMapping> HierarchyView<
         }
     }
 
-    /// Returns the word at an index of the table in a frame, or 0 if there is none.
+    /// Returns the word at an index of the table in a frame, or 0 if the frame has no table in the memory. The root's word at the
+    /// recursive index, if there is one, is read as 0.
     ///
     /// Requires that the index is below 512.
     pub fn word(&self, frame: PhysFrame<Size4KiB>, index: usize) -> u64

@@ -17,7 +17,7 @@ use x86_64_addr::level_count::LevelCount;
 use x86_64_page::frame::PhysFrame;
 use x86_64_page::page::Size4KiB;
 
-/// Returns whether the words below the root are a valid hierarchy, and takes no memory.
+/// Returns true if the words below the root form a valid hierarchy. Allocates no memory.
 ///
 /// The hierarchies are those of [`is_valid_hierarchy`](super::is_valid_hierarchy) with four levels, and of
 /// [`is_valid_hierarchy_57`](super::is_valid_hierarchy_57) with five. The marks are the test's to write to.
@@ -38,8 +38,8 @@ pub fn is_valid_by_marks<L: LevelCount, T: TableMemory, P: PageTableFrameMapping
     view.test(FRAME_COUNT).mark_hierarchy(marks)
 }
 
-/// Returns whether the words below the root are a valid hierarchy, a pool fits it, and an array has room for every frame that the
-/// pool may ever hold, and takes no memory.
+/// Returns true if the words below the root form a valid hierarchy, a pool fits it, and an array has room for every frame that the
+/// pool may ever hold. Allocates no memory.
 ///
 /// The pool is a stack of the addresses of frames: the last is handed out first. An address that is no multiple of 4096 below 2^52
 /// fits no hierarchy. The array has places for `capacity` frames, which are those of the pool, and those of the tables but for the
@@ -83,7 +83,8 @@ impl<'a, L: LevelCount, T: TableMemory, P: PageTableFrameMapping> HierarchyTest<
         count_set(marks) <= capacity.saturating_add(1)
     }
 
-    /// Marks the frame at each address. Returns false if an address isn't that of a frame, or its frame can't be marked.
+    /// Marks the frame at each address, in order. Returns false, perhaps with some of them marked, if an address isn't that of a
+    /// frame (a multiple of 4096 below 2^52), or its frame has no mark or was marked before.
     ///
     /// Requires that there are as many marks as places.
     pub fn mark_frames(&self, marks: &mut [bool], frames: &[u64]) -> bool
@@ -120,7 +121,7 @@ fn frame_at(address: u64) -> Option<PhysFrame<Size4KiB>>
     PhysFrame::from_start_address(address).ok()
 }
 
-/// Returns how many marks are set.
+/// Returns the number of marks that are set.
 pub fn count_set(marks: &[bool]) -> usize
     ensures { result ≡ count_by (λ mark. mark) marks.now }
 {

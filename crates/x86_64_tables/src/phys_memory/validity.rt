@@ -265,7 +265,7 @@ impl<'a, L: LevelCount, T: TableMemory, P: PageTableFrameMapping> HierarchyView<
         Ok(test.mark_hierarchy(marks) && test.mark_pool(marks, pool))
     }
 
-    /// Returns a test of the hierarchy in which the frames with numbers below a limit may be met.
+    /// Returns a test of the hierarchy in which the root and the frames with numbers from 1 to `limit` - 1 may be met.
     pub fn test(&self, limit: u64) -> HierarchyTest<'a, L, T, P>
         ensures { result ≡ record { limit = limit; view = self.now } }
     {
@@ -292,7 +292,7 @@ pub fn clear_marks<T: TableMemory>(alloc: Global, memory: &T) -> Result<Vec<bool
 
 /// A hierarchy to be tested. The frames that may be met are the root, and those with numbers from 1 to `limit` - 1.
 ///
-/// There is a mark for each place of the memory, which is set when its frame is met.
+/// There is a mark for each place (the number of a table in the memory), which is set when the place's frame is met.
 #[derive(Drop)]
 pub struct HierarchyTest<'a, L, T, P> {
     /// The hierarchy.
@@ -316,7 +316,8 @@ impl<'a, L: LevelCount, T: TableMemory, P: PageTableFrameMapping> HierarchyTest<
             && self.view.none_huge(self.view.root, levels)
     }
 
-    /// Marks the table in a frame and the tables of `levels` levels below it. Returns false if one of them can't be marked.
+    /// Marks the table in a frame and the tables of `levels` levels below it. Returns false, perhaps with some of them marked, if
+    /// one of them has no mark or was marked before.
     ///
     /// Requires that there are as many marks as places.
     pub fn mark_tables(&self, marks: &mut [bool], frame: PhysFrame<Size4KiB>, levels: u8) -> bool
@@ -339,7 +340,8 @@ impl<'a, L: LevelCount, T: TableMemory, P: PageTableFrameMapping> HierarchyTest<
         true
     }
 
-    /// Marks each frame of a pool. Returns false if one of them can't be marked.
+    /// Marks each frame of a pool. Returns false, perhaps with some of them marked, if one of them has no mark or was marked
+    /// before.
     ///
     /// Requires that there are as many marks as places.
     pub fn mark_pool(&self, marks: &mut [bool], pool: &FramePool) -> bool
@@ -357,7 +359,7 @@ impl<'a, L: LevelCount, T: TableMemory, P: PageTableFrameMapping> HierarchyTest<
         true
     }
 
-    /// Marks a frame. Returns false if the frame has no mark, or was marked before.
+    /// Marks a frame. Returns false if the frame was marked before, or has no mark: it may not be met, or isn't in the memory.
     ///
     /// Requires that there are as many marks as places.
     #[tactic(auto, unfolding(x86_64_model::specs::private::Marks::mark_one))]

@@ -135,7 +135,8 @@ fn arrive<S: PageSize>(entry: &PageTableEntry, position: u64, rights: Rights) ->
     }
 }
 
-/// Returns the index of a level at a position.
+/// Returns the index of a level at a position (the number of an address counted without the gap): nine bits of it, from bit 12
+/// on at level one, from bit 21 on at level two, and so on. It is below 512.
 ///
 /// Requires that the level is from one to five.
 #[tactic(auto, using(x86_64_model::proofs::Lemmas::Entries::Bits::low_nine), unfolding(x86_64_model::specs::Position::index))]
