@@ -2,8 +2,9 @@
 use Rattle.std.specs.Prelude.{◌≡◌, ℕ, ◌+◌, ◌%◌, ◌<◌}
 use Rattle.x86_64_page.specs.Blocks.{front_taken_inclusive, back_taken_inclusive, Ends}
 
--- Taking no block from a range that includes its end changes nothing. If both ends are multiples of the size, taking n + 1 blocks
--- equals taking n and then one more, from the front and from the back. From the front this is for ends below the limit.
+-- Taking n + 1 blocks from a range that includes its end equals taking n and then one more, from the front and from the back, if
+-- both ends are multiples of the size, and for the front below the limit. Taking no block changes nothing, for the front if the
+-- start is below the limit.
 pub record AreTakenInTurnInclusive (size limit : ℕ) : Type 0 where
   pub none : (r : Ends) → r.start < limit → front_taken_inclusive size limit 0 r ≡ r
   pub front : (r : Ends) (n : ℕ) → r.start % size ≡ 0 → r.end % size ≡ 0 → r.start < limit → r.end < limit

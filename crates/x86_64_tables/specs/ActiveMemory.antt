@@ -61,7 +61,7 @@ abbrev pub kept_of : {L T : Type 0} → Active L T → (kept : Bool) → Option 
 kept_of active true = Some active
 kept_of active false = None
 
--- If r is an active memory, the loan goes on in it: the memory that was lent ends as the memory of r does. If r is None, the loan
--- has ended, and the memory that was lent is unchanged.
+-- The loan of a memory goes on in the active memory r, or has ended with the memory unchanged if r is None. If it goes on, the
+-- memory that was lent ends as the memory of r does.
 abbrev pub RestsUnlessKept : {L : Type 0} → Active L Memory → Option (Active L Memory) → Fml
 RestsUnlessKept active r = RestsIfNone memory_row active.memory lent r (λ memory. memory ≡ active.memory.now)

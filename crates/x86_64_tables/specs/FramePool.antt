@@ -10,8 +10,8 @@ pub record FreeFrames : Type 0 where
   pub limit : ℕ
   pub served : (f : ℕ) → In frames f → serves_below limit f ≡ true
 
--- The frames are distinct and their addresses are multiples of 4096. For each n below the number of marks, mark n is set if and
--- only if the frame with number n is among them.
+-- For each n below the number of marks, mark n is set if and only if the frame with number n is among the frames. The frames are
+-- distinct and their addresses are multiples of 4096.
 pub record IsMarked (frames : List ℕ) (marks : List Bool) : Type 0 where
   pub aligned : (f : ℕ) → In frames f → f % 4096 ≡ 0
   pub each_once : EachOnce frames

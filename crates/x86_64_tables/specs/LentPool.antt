@@ -15,8 +15,9 @@ stacked entries count = reverse (take count entries)
 abbrev pub is_in : (frames : List ℕ) → (frame : ℕ) → Bool
 is_in frames f = list_any (λ g. g == f) frames
 
--- What a pool serves: its own frames, whose addresses are multiples of 4096, and two other numbers. These name the array and the
--- count that are lent, so that the loans stay if what is served stays.
+-- Whether a pool in a lent array serves a frame, whose address is a multiple of 4096: it serves its own frames. It also serves
+-- two numbers that are no frames: they name the array and the count that are lent, so that the loans stay if what is served
+-- stays.
 abbrev pub served_by : (own : List ℕ) → (array count : GName) → (frame : ℕ) → Bool
 served_by own array count f = cond (f % 4096 == 0) (is_in own f) (f == 4096 * array + 1 || f == 4096 * count + 2)
 

@@ -8,10 +8,12 @@ use Rattle.std.proofs.lemmas.List.{length-replicate, get_or-replicate}
 unfoldable pub zero_words : List ℕ
 zero_words = replicate 512 0
 
+-- The table of unused entries has 512 words.
 pub length-zero_words : length zero_words ≡ 512
 unfolding zero_words
 length-zero_words = length-replicate {A = ℕ} 512 0
 
+-- Each of the 512 words of the table of unused entries is 0.
 pub get_or-zero_words : (k : ℕ) → k < 512 → get_or zero_words k 0 ≡ 0
 unfolding zero_words
 get_or-zero_words k h = get_or-replicate {A = ℕ} 512 k 0 0 h

@@ -23,6 +23,7 @@ tables_at (place ∷ places) (table ∷ tables) = insert (tables_at places table
 abbrev pub zero_tables_at : (places : List ℕ) → Memory
 zero_tables_at places = tables_at places (replicate (length places) zero_words)
 
+-- A memory has as many keys as places.
 pub length_keys : (memory : Memory) → length (keys memory) ≡ len memory
 length_keys memory = length-map (entries memory) (λ e. e.0) ∙ sym (len-entries memory)
 

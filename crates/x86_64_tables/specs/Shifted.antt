@@ -11,6 +11,8 @@ use Rattle.x86_64_model.specs.Memory.{IsMapping, Places}
 abbrev pub shifted_places : (first : ℕ) → Places
 shifted_places first = record { covers = λ f. is_frame f && nat_le first (f / 4096); place = λ f. f / 4096 - first }
 
+-- The mapping of the frames from a first one on to the places from 0 on covers only frames, and distinct ones have distinct
+-- places.
 pub shifted_is_mapping : (first : ℕ) → IsMapping (shifted_places first)
 shifted_is_mapping first = record {
   frames = λ f h. (and_parts (is_frame f) (nat_le first (f / 4096)) h).0;

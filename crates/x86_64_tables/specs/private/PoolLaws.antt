@@ -15,9 +15,11 @@ pub EachOnce-prop : (frames : List ℕ) → IsProp (EachOnce frames)
 EachOnce-prop [] = Unit-prop
 EachOnce-prop (f ∷ frames) = ×_prop (→_prop (λ e. absurd e)) (EachOnce-prop frames)
 
+-- The address of a frame has address bits only.
 pub is_address : (f : ℕ) → is_frame f ≡ true → address f ≡ f
 is_address f is = elim (eqb_tells (address f) f) [ inl same ↦ same.1 | inr other ↦ cc ]
 
+-- The address of a frame is a multiple of 4096.
 pub frame_aligned : (f : ℕ) → is_frame f ≡ true → f % 4096 ≡ 0
 frame_aligned f is = subst (λ a. a % 4096 ≡ 0) (is_address f is) (address_aligned f)
 
@@ -26,5 +28,6 @@ pub served_aligned : (own : List ℕ) (array count : GName) (f : ℕ) → f % 40
 served_aligned own array count f multiple =
     ap (λ b. cond b (is_in own f) (f == 4096 * array + 1 || f == 4096 * count + 2)) (eq-eqb (f % 4096) 0 multiple)
 
+-- A pool serves each frame that is among its own frames.
 pub served_frame : (own : List ℕ) (array count : GName) (f : ℕ) → is_frame f ≡ true → is_in own f ≡ true → served_by own array count f ≡ true
 served_frame own array count f is among = served_aligned own array count f (frame_aligned f is) ∙ among

@@ -9,9 +9,9 @@ use Rattle.x86_64_tables.specs.SelfEntries.{window_in}
 use Rattle.x86_64_tables.specs.Views.{words_seen, mark_of}
 use Rattle.x86_64_tables.specs.declared.phys_memory.validity.HierarchyTest.{HierarchyTest}
 
--- If there is a recursive index, the root's word at this index is present, isn't huge and names the root. With this word read as
--- 0, the tables from the root through this many levels below it, and the pool's frames, are each in the memory, there once, and
--- served if they aren't the root, and no word above level three is huge.
+-- The tables from the root through this many levels below it, and a pool's frames, are each in the memory, there once, and served
+-- if they aren't the root, and no word above level three is huge. If there is a recursive index, the root's word at this index is
+-- present, isn't huge and names the root, and the rest is so with this word read as 0.
 pub record IsSound (levels : ℕ) (T : Words) (root : ℕ) (recursive : Option ℕ) (serves : ℕ → Bool) (pool : List ℕ) : Type 0 where
   pub self : SelfEntry T root (window_in T root recursive)
   pub tables : SoundTables levels (without_word recursive root T) root serves pool

@@ -63,8 +63,13 @@ pub fn tables_alike<
 /// Returns true if two hierarchies of five levels are alike: their path maps are equal except for `WRITABLE` of table
 /// entries.
 ///
-/// The hierarchies are read as by `tables_alike`, and as by `is_valid_recursive_57` if an index is given, or by
-/// `is_valid_hierarchy_57` if none is. The test terminates for any words, and allocates no memory.
+/// If an index is given, the hierarchy is read as by `is_valid_recursive_57`: each frame lies at the place (the number of its
+/// table in the memory) with the frame's number, whatever the given mapping says, and the root's word at the index is read
+/// as 0. If none is given, the hierarchy is read as by `is_valid_hierarchy_57`. Entries without `PRESENT` count like others,
+/// and entries that name no table are compared in full.
+///
+/// The test terminates for any words: a table that the memory lacks is read as one of unused entries. It allocates no
+/// memory.
 pub fn tables_alike_57<
     T: TableMemory,
     P: PageTableFrameMapping,

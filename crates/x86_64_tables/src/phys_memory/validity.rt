@@ -46,8 +46,9 @@ pub fn is_valid_hierarchy<T: TableMemory, P: PageTableFrameMapping>(
 
 /// Returns true if the words below the root form a valid hierarchy of five levels.
 ///
-/// This is defined as for `is_valid_hierarchy`, with one more level: each table that a used word of level five names is also
-/// in the memory and named once, and no word of levels five and four has `HUGE_PAGE`.
+/// In a valid hierarchy the root is in the memory, and so is each table that a used word without `HUGE_PAGE` above level one
+/// names, present or not. No two of these words name the same table, and none names the root. No table but the root is in
+/// frame 0, and no word of levels five and four has `HUGE_PAGE`. Words of level one may have any value.
 ///
 /// The test terminates for any words. It allocates only one mark for each place.
 ///
@@ -93,11 +94,11 @@ pub fn is_valid_recursive<T: TableMemory>(
     )
 }
 
-/// Returns true if the words below the root form a valid hierarchy of five levels with a recursive index. Each frame lies at
-/// the place with its number.
+/// Returns true if the words below the root form a valid hierarchy of five levels with a recursive index, the index at which
+/// the root names itself. Each frame lies at the place with its number.
 ///
-/// This is defined as for `is_valid_recursive`, with one more level: with the root's word at the index read as 0, the
-/// hierarchy is valid as defined for `is_valid_hierarchy_57`.
+/// In such a hierarchy the root's word at the index has `PRESENT`, lacks `HUGE_PAGE` and names the root. With that word read
+/// as 0, the hierarchy is valid as defined for `is_valid_hierarchy_57`.
 ///
 /// The test terminates for any words. It allocates only one mark for each place.
 ///
@@ -146,7 +147,9 @@ pub fn pool_fits<T: TableMemory, P: PageTableFrameMapping>(
 
 /// Returns true if the words below the root form a valid hierarchy of five levels, and a pool fits it.
 ///
-/// The hierarchy is valid as defined for `is_valid_hierarchy_57`, and a pool fits as defined for `pool_fits`.
+/// The hierarchy is valid as defined for `is_valid_hierarchy_57`. A pool fits if its frames are distinct, covered and in the
+/// memory, none of them is frame 0, the root or a table, and the pool serves the frame of every table but the root: the
+/// frame's number is below the pool's limit.
 ///
 /// The test terminates for any words and any pool. It allocates only one mark for each place.
 ///
@@ -170,8 +173,9 @@ pub fn pool_fits_57<T: TableMemory, P: PageTableFrameMapping>(
 /// Returns true if the words below the root form a valid hierarchy of four levels with a recursive index, and a pool fits
 /// it. Each frame lies at the place with its number.
 ///
-/// The hierarchy is valid as defined for `is_valid_recursive`. A pool fits as defined for `pool_fits`, for the hierarchy
-/// without the word at the index.
+/// The hierarchy is valid as defined for `is_valid_recursive`. With the root's word at the index read as 0, a pool fits if
+/// its frames are distinct and in the memory, none of them is frame 0, the root or a table, and the pool serves the frame of
+/// every table but the root: the frame's number is below the pool's limit.
 ///
 /// The test terminates for any words and any pool. It allocates only one mark for each place.
 ///
@@ -197,7 +201,9 @@ pub fn pool_fits_recursive<T: TableMemory>(
 /// Returns true if the words below the root form a valid hierarchy of five levels with a recursive index, and a pool fits
 /// it. Each frame lies at the place with its number.
 ///
-/// The hierarchy is valid as defined for `is_valid_recursive_57`, and a pool fits as defined for `pool_fits_recursive`.
+/// The hierarchy is valid as defined for `is_valid_recursive_57`. With the root's word at the index read as 0, a pool fits if
+/// its frames are distinct and in the memory, none of them is frame 0, the root or a table, and the pool serves the frame of
+/// every table but the root: the frame's number is below the pool's limit.
 ///
 /// The test terminates for any words and any pool. It allocates only one mark for each place.
 ///
