@@ -8,14 +8,17 @@ use Rattle.x86_64_access.specs.declared.request.Fault.{Fault}
 use Rattle.x86_64_access.specs.declared.request.Fault.TheVariants.{PageFault, NoMemory}
 use Rattle.x86_64_access.specs.declared.controls.Controls.{Controls}
 
+-- The kind of an access in the model that a kind in Rust stands for.
 abbrev pub kind_of : AccessKind → model.Kind
 kind_of Read = model.Read
 kind_of Write = model.Write
 kind_of Fetch = model.Fetch
 
+-- The access in the model that an access in Rust stands for.
 abbrev pub access_of : Access → model.Access
 access_of a = record { kind = kind_of a.kind; user = a.user }
 
+-- The controls of a processor in the model that the controls in Rust stand for.
 abbrev pub controls_of : Controls → model.Controls
 controls_of c = record {
   write_protect = c.write_protect;
@@ -26,10 +29,13 @@ controls_of c = record {
   physical_bits = c.physical_bits;
 }
 
+-- The outcome of an access in the model that a fault in Rust stands for: a page fault with its code and level, or a table that is
+-- missing in the memory.
 abbrev pub fault_of : Fault → model.Outcome
 fault_of (PageFault code level) = model.Faults code.0 level
 fault_of (NoMemory frame) = model.NoMemory frame
 
+-- The outcome of an access in the model that a result in Rust stands for: the physical address at which it arrives, or a fault.
 abbrev pub outcome_of : Result ℕ Fault → model.Outcome
 outcome_of (Ok address) = model.Arrives address
 outcome_of (Err fault) = fault_of fault

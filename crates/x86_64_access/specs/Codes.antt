@@ -1,7 +1,7 @@
 -- The bits of the error code of a page fault.
 use Rattle.std.specs.Prelude.{ℕ, ◌^◌, List, [], ◌∷◌, codes}
 
--- The name and the bit of each flag.
+-- The name and the bit of each flag of a page fault's error code, in the order of the bits.
 abbrev pub code_table : List (List ℕ × ℕ)
 code_table =
     (codes "PROTECTION_VIOLATION", 2 ^ 0) ∷

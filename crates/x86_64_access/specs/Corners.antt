@@ -10,21 +10,24 @@ use Rattle.x86_64_model.specs.Position.{index}
 
 -- ---- the first word that is read
 
--- The word that the processor reads first for position p, from a root's table of level L.
+-- The word e is the one that the processor reads first for position p (the number of an address counted without the non-canonical
+-- gap): that of the root's table, which is of level L.
 abbrev pub ReadsFirst : (L : ℕ) → Words → (root p word : ℕ) → Type 0
 ReadsFirst L T root p e = (1 ≤ L) × (Some e ≡ read T root (index L p))
 
--- If it is missing, the access faults with P = 0, and a reserved bit below isn't seen.
+-- If the first word that is read isn't present, the access faults with P = 0, whatever the words below are.
 abbrev pub MissingEntriesFault : Type 0
 MissingEntriesFault = (L : ℕ) (c : Controls) (T : Words) (root p e : ℕ) (a : Access)
     → ReadsFirst L T root p e → present e ≡ false → access L c T root p a ≡ Faults (code c a false false) L
 
--- If it has a reserved bit, the access faults with P and RSVD, and a missing entry below isn't seen.
+-- If the first word that is read is present and has a reserved bit, the access faults with P and RSVD, whatever the words below
+-- are.
 abbrev pub ReservedBitsFault : Type 0
 ReservedBitsFault = (L : ℕ) (c : Controls) (T : Words) (root p e : ℕ) (a : Access)
     → ReadsFirst L T root p e → present e ≡ true → reserved c L e ≡ true → access L c T root p a ≡ Faults (code c a true true) L
 
--- While EFER.NXE is off, NO_EXECUTE (bit 63) is a reserved bit, for reads and writes, too.
+-- While EFER.NXE is off, NO_EXECUTE (bit 63) is a reserved bit: if the first word that is read is present and has it, the access
+-- faults with P and RSVD, also for a read or a write.
 abbrev pub NoExecuteIsReserved : Type 0
 NoExecuteIsReserved = (L : ℕ) (c : Controls) (T : Words) (root p e : ℕ) (a : Access)
     → ReadsFirst L T root p e → present e ≡ true → no_execute e ≡ true → c.no_execute ≡ false

@@ -7,7 +7,7 @@ use Rattle.x86_64_model.specs.Memory.{Words}
 use Rattle.x86_64_model.specs.PageWalk.{Walked, page_walk}
 use Rattle.x86_64_model.specs.Access.{Access, Arrives, Controls, Step, access, allowed, reserved, steps_from}
 
--- An access that arrives does so where the page walk does.
+-- An access that arrives does so at the address at which the page walk of its position arrives.
 abbrev pub ArriveWhereWalksDo : Type 0
 ArriveWhereWalksDo = (L : ℕ) (c : Controls) (T : Words) (root p : ℕ) (a : Access) (to : ℕ)
     → access L c T root p a ≡ Arrives to → Reaches (page_walk L T root p) to

@@ -17,46 +17,52 @@ use Rattle.x86_64_access.specs.Marks.{GetsMarks, OnlyMarks, window_in}
 
 -- ---- a kernel and a processor
 
--- Marks come at any moment, also during a call: present words, however many, get ACCESSED, DIRTY or both. The other events are calls,
--- writes, flushes and changes of the caches.
+-- An event of a system whose processor marks: marks, at any moment and also during a call, by which present words get ACCESSED,
+-- DIRTY or both; or a call, a write, a flush or a change of the caches.
 pub data MarkingEvent : Type 0 where
   Marks : (called : PathMap) → (words : Words) → MarkingEvent
   Other : Event → MarkingEvent
 
--- The machine whose self-entry is the root's word at the recursive index, which gets marks, too.
+-- The machine whose self-entry, if there is a recursive index, is the word that the root has at this index now, with the marks that
+-- it got.
 abbrev pub machine_in : Words → (root : ℕ) → Machine → Machine
 machine_in T root m = record { levels = m.levels; window = window_in T root m.window; added_flags = m.added_flags; take_back = m.take_back }
 
--- The path map of words.
+-- The path map that the words hold below the root, with the root's word at the recursive index left out.
 abbrev pub held_by : Machine → (root : ℕ) → Words → PathMap
 held_by m root T = paths_of m.levels (outside_window m.window root T) root
 
--- After marks memory holds the path map of its words, and the calls so far lead to another path map than before.
+-- The system after an event. After marks, memory has the words with the marks and the path map that they hold, and the calls so far
+-- lead to the path map `called`.
 abbrev pub after_marking : Machine → (root : ℕ) → System → MarkingEvent → System
 after_marking m root s (Marks called U) = record { state = record { paths = called; pool = s.state.pool }; paths = held_by m root U; words = U; cache = s.cache; due = s.due }
 after_marking m root s (Other e) = after_event (machine_in s.words root m) s e
 
--- Which marks last after the call under way is left open: those of words that it doesn't change, or reads later. If it has read a word
--- before the mark and writes it later, the mark is lost.
+-- Marks may lead from the words of a system to U, and let its calls lead to the path map `called`, which is as before but for
+-- marks. Which marks last after the call under way is left open: a mark is lost if the call read the word before and writes it
+-- later.
 pub record MayMark (s : System) (called : PathMap) (U : Words) : Type 0 where
   pub words : OnlyMarks s.words U
   pub paths : (q : List ℕ) → GetsMarks (entry s.state.paths q) (entry called q)
   pub used_alone : HasUsedAlone called
 
+-- An event may happen in a system whose processor marks: marks of present words, or an event that may happen with the self-entry
+-- that the root has now.
 abbrev pub MarkingMayHappen : Machine → (root : ℕ) → System → MarkingEvent → Type 0
 MarkingMayHappen m root s (Marks called U) = MayMark s called U
 MarkingMayHappen m root s (Other e) = MayHappen (machine_in s.words root m) root s e
 
--- A list of events, in order.
+-- Each event of a list may happen when it comes, in order.
 abbrev pub AllMarkingMayHappen : Machine → (root : ℕ) → System → List MarkingEvent → Type 0
 AllMarkingMayHappen m root s [] = Unit {0}
 AllMarkingMayHappen m root s (e ∷ es) = MarkingMayHappen m root s e × AllMarkingMayHappen m root (after_marking m root s e) es
 
+-- The system after all events of a list, in order.
 abbrev pub after_all_marking : Machine → (root : ℕ) → System → List MarkingEvent → System
 after_all_marking m root s [] = s
 after_all_marking m root s (e ∷ es) = after_all_marking m root (after_marking m root s e) es
 
--- The system that a list of events leads to, from empty caches on.
+-- A list of events that may happen, marks among them, leads to the system `now`, from empty caches on.
 pub record IsReached (m : Machine) (root : ℕ) (T : Words) (s : State) (events : List MarkingEvent) (now : System) : Type 0 where
   pub machine : IsMachine m
   pub levels : 0 < m.levels
@@ -65,11 +71,10 @@ pub record IsReached (m : Machine) (root : ℕ) (T : Words) (s : State) (events 
 
 -- ---- laws
 
--- What holds at a moment. Each access at a position (the number of an address counted without the gap) goes with the page walk in the
--- present words, if nothing that is due concerns the position. So the page walk arrives at the same address, with no right less. While
--- something is due, it goes there, or to a page that is due, as it was. So no access reaches an address that was let go, and whose
--- pages were flushed since. And the processor reads only words of tables of the hierarchy, and until a clean up is flushed words 0 of
--- frames that it freed.
+-- Flushes are enough at this moment. An access at a position (the number of an address counted without the non-canonical gap) that
+-- nothing due concerns arrives where the page walk in the present words does, with no right less; any other goes there too, or to a
+-- page for which a flush is due. No access reaches an address that no present or due page contains, and the processor reads only
+-- tables of the hierarchy and, until a clean up is flushed, words 0 of freed frames.
 pub record IsCovered (m : Machine) (root : ℕ) (now : System) : Type 0 where
   pub goes : (p : ℕ) → ((due : Due) → In now.due due → concerns m.levels m.window due p ≡ false)
       → (w : Way) → MayAccess m.levels root now.words now.cache p w → WalksThere (walk m.levels now.words root p) w
@@ -82,12 +87,13 @@ pub record IsCovered (m : Machine) (root : ℕ) (now : System) : Type 0 where
   pub reads : (t : Way) → MayRead root now.cache t
       → (IsTable m.levels root now.paths t.frame × IsSome (now.words t.frame)) ⊎ (In now.due TablesDue × In now.state.pool t.frame × HasZeros now.words t.frame)
 
--- What has to be flushed after each call is enough for a processor that marks, at every moment, also during calls.
+-- What has to be flushed after each call is enough for a processor that sets ACCESSED and DIRTY, at every moment, also during
+-- calls.
 abbrev pub FlushesAreEnoughWithMarks : Type 0
 FlushesAreEnoughWithMarks = (m : Machine) (root : ℕ) (T : Words) (serves : ℕ → Bool) (s : State) → FitsState m T root serves s
     → (events : List MarkingEvent) (now : System) → IsReached m root T s events now → IsCovered m root now
 
--- If all calls are done, any marks may happen, such as those of an access, and then all calls are done.
+-- If all calls are done, any marks of present words may happen, such as those of an access, and after them all calls are done.
 abbrev pub MarksMayHappen : Type 0
 MarksMayHappen = (m : Machine) (root : ℕ) (T : Words) (serves : ℕ → Bool) (s : State) → FitsState m T root serves s
     → (events : List MarkingEvent) (now : System) → IsReached m root T s events now → IsDone now → (U : Words) → OnlyMarks now.words U

@@ -10,19 +10,20 @@ use Rattle.x86_64_model.specs.Switches.{Kernel, Switching, SwitchEvent, Marks, h
 use Rattle.x86_64_model.specs.Window.{begins_with}
 use Rattle.x86_64_access.specs.Marks.{OnlyMarks}
 
--- The words of roots that get no marks, since they have them: the self-entry, and entries at the indices that a root shares.
+-- The roots' self-entries, and their entries at the indices that a root shares with another one, are the same after as before: they
+-- get no marks.
 abbrev pub RootsStay : (sharing : (root other : ℕ) → ℕ → Bool) → (before after : Words) → List Layout → Type 0
 RootsStay sharing T U layouts = (l : Layout) → In layouts l → (i : ℕ)
     → (begins_with l.window (i ∷ []) ≡ true)
     ⊎ ((b : Layout) × In layouts b × (l.root ≢ b.root) × (sharing l.root b.root i ≡ true))
     → word U l.root i ≡ word T l.root i
 
--- The event of marks that led to these words.
+-- The list of the one event of marks that leads to these words.
 abbrev pub mark_events : Kernel → (after : Words) → List SwitchEvent
 mark_events k U = Marks (held_by k U) U ∷ []
 
--- Marks of a memory with address spaces may happen while no call is under way. They lead to the system with the words after them, in
--- which these are address spaces again.
+-- Marks of a memory with address spaces may happen while no call is under way, if the roots' self-entries and shared entries get
+-- none. They lead to the system with the words after them, in which these are address spaces again.
 abbrev pub MarksMaySwitch : Type 0
 MarksMaySwitch = (k : Kernel) (places : Places) → IsMapping places → 0 < k.levels
     → (sharing : (root other : ℕ) → ℕ → Bool) → IsSharing sharing → AllShare k sharing

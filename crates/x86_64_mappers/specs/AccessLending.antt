@@ -8,22 +8,22 @@ use Rattle.x86_64_model.specs.Mapper.{◌laid_in◌, Hierarchy, words}
 use Rattle.x86_64_tables.specs.PageTable.{zero_words}
 use Rattle.x86_64_tables.specs.contracts.page_table.entry.PageTableEntry.{the_row as entry_row}
 
--- the table in a frame
+-- The words of the table in a frame, which lies in the memory where the layout says, or no words if the memory has no such table.
 abbrev pub table_in : Layout → Memory → (frame : ℕ) → List ℕ
 table_in l m f = unwrap_or (words (l laid_in m) f) []
 
--- the table in a frame, with another word at an index
+-- The words of the table in a frame of the hierarchy, with another word at an index.
 abbrev pub table_with : {Lent : Type 0} → Hierarchy Lent → (frame index word : ℕ) → List ℕ
 table_with h f i w = slice_set (table_in h.layout h.memory f) i w
 
--- the memory with another table in a frame
+-- The hierarchy's memory, with a table put at the place of a frame.
 abbrev pub put_table : {Lent : Type 0} → Hierarchy Lent → (frame : ℕ) → List ℕ → Memory
 put_table h f table = insert h.memory (h.layout.places.place f) table
 
--- the hierarchy after all words of a frame's table were set to 0
+-- The hierarchy after all words of the table in a frame were set to 0.
 abbrev pub with_zeros : {Lent : Type 0} → Hierarchy Lent → (frame : ℕ) → Hierarchy Lent
 with_zeros h f = record { layout = h.layout; memory = put_table h f zero_words; lent = h.lent }
 
--- a mapper ends as F of the last word behind the lent reference r
+-- A mapper lends the entry behind the reference r. When the loan ends, the mapper is F of the entry's last word.
 abbrev pub LendsEntryBy : (mapper : RattleType) → MutBor mapper.Denot → (r : MutBor ℕ) → (F : ℕ → mapper.Denot) → Fml
 LendsEntryBy mapper s r F = Lends mapper entry_row s r F

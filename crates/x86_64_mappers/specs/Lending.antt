@@ -16,7 +16,7 @@ use Rattle.x86_64_addr.specs.contracts.level_count.FourLevels as four
 use Rattle.x86_64_addr.specs.contracts.level_count.FourLevelsLevelCount.TheImpl as four_count
 use Rattle.x86_64_mappers.specs.contracts.mapped_page_table.Direct.{the_row as mapper_row}
 
--- the root stays in a memory that keeps its places (a place is the index of a table in memory)
+-- The root's frame still has its table in a memory that keeps its places (a place is the index of a table in memory).
 pub root_stays : (places : Places) (root : ℕ) (before after : Memory) → ((place : ℕ) → IsSome (get before place) → IsSome (get after place))
     → HasRoot places root before → HasRoot places root after
 root_stays places root before after stays = by (places.covers root)
@@ -25,7 +25,8 @@ root_stays places root before after stays = by (places.covers root)
     by true there = stays (places.place root) there
     by false there = there
 
--- the mapper ends with the last table behind r in the root's frame
+-- A mapper that finds tables by a frame mapping lends its root's table behind the reference r. When the loan ends, the mapper has
+-- the last words behind r as the table in the root's frame.
 abbrev pub LendsDirectRoot : (P L T : RattleType) (G : Ghosts P.Denot) (N : Count L.Denot) (H : Held T.Denot)
     → MutBor (Direct P.Denot L.Denot T.Denot G N H) → MutBor (List ℕ) → Fml
 LendsDirectRoot P L T G N H s r = Lends (mapper_row (record { mir = named 1; lft = [] }) P L T G N H) table_row s r
@@ -35,12 +36,14 @@ LendsDirectRoot P L T G N H s r = Lends (mapper_row (record { mir = named 1; lft
       has_root = root_stays places s.now.root (H.tables now) (H.tables after) (H.keeps_places now (places.place s.now.root) table) s.now.has_root;
     })
 
--- this at four levels
+-- A mapper of four levels that finds tables by a frame mapping lends its root's table behind the reference r. When the loan ends,
+-- the mapper has the last words behind r as the table in the root's frame.
 abbrev pub LendsRootTable : (P T : RattleType) (G : Ghosts P.Denot) (H : Held T.Denot)
     → MutBor (Direct P.Denot four.the_row.Denot T.Denot G four_count.ghosts H) → MutBor (List ℕ) → Fml
 LendsRootTable P T G H s r = LendsDirectRoot P four.the_row T G four_count.ghosts H s r
 
--- this at five levels
+-- A mapper of five levels that finds tables by a frame mapping lends its root's table behind the reference r. When the loan ends,
+-- the mapper has the last words behind r as the table in the root's frame.
 abbrev pub LendsRootTable57 : (P T : RattleType) (G : Ghosts P.Denot) (H : Held T.Denot)
     → MutBor (Direct P.Denot five.the_row.Denot T.Denot G five_count.ghosts H) → MutBor (List ℕ) → Fml
 LendsRootTable57 P T G H s r = LendsDirectRoot P five.the_row T G five_count.ghosts H s r

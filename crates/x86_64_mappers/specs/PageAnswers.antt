@@ -8,7 +8,7 @@ use Rattle.x86_64_model.specs.Refusal.{Answer}
 use Rattle.x86_64_tables.specs.MapperAnswers.{flags_answer}
 use Rattle.x86_64_tables.specs.declared.mapper.FlagUpdateError.{FlagUpdateError}
 
--- Whether the condition of the call holds.
+-- Whether the hierarchy allows a call on a page of a level: the call's own condition holds.
 abbrev pub allows_call : {Lent : Type 0} → Hierarchy Lent → (level : ℕ) → PageCall → Bool
 allows_call h level call = allows h (asked h level call)
 
@@ -25,7 +25,8 @@ translated_page h level page = page_translation h (path_of h level page)
 abbrev pub DoesFlags : {Lent X : Type 0} → Hierarchy Lent → Call → Result X FlagUpdateError → (after : Hierarchy Lent) → Type 0
 DoesFlags h call result after = Does h call (flags_answer (named h call) result) after
 
--- This for a change of flags on the path of a page of a level.
+-- The hierarchy answers a change of flags on the path of a page of a level, and is `after` then. If the change is done, the answer
+-- names the frame that the changed entry names.
 abbrev pub AnswersFlags : {Lent X : Type 0} → Hierarchy Lent → (level : ℕ) → PageCall → Result X FlagUpdateError → (after : Hierarchy Lent) → Type 0
 AnswersFlags h level call result after = DoesFlags h (asked h level call) result after
 

@@ -11,20 +11,21 @@ use Rattle.x86_64_model.specs.Position.{span, position_count}
 use Rattle.x86_64_model.specs.Refusal.{Done, Refused}
 use Rattle.x86_64_model.specs.Window.{begins_with}
 
--- The first pages of a level, from a page on, exist and are outside the recursive window.
+-- The first `count` pages of a level, from the page at a position (an address counted without the non-canonical gap) on, exist and
+-- are outside the recursive window.
 pub record IsRange {Lent : Type 0} (h : Hierarchy Lent) (level page count : ℕ) : Type 0 where
   pub there : (k : ℕ) → k < count → page + k * span level < position_count h.layout.levels
   pub outside : (k : ℕ) → k < count → begins_with h.layout.window (path_of h level (page + k * span level)) ≡ false
 
--- the unmaps of the first pages of a level, from a page on, with L levels of tables
+-- The calls that unmap the first `count` pages of a level, from a page on, in order, with L levels of tables.
 abbrev pub unmaps : (L level page count : ℕ) → List Call
 unmaps L level page count = map (λ k. Unmap (path_at L level (page + k * span level))) (range_with_len 0 count)
 
--- the changes of their flags
+-- The calls that set the flags of the first `count` pages of a level, from a page on, in order, with L levels of tables.
 abbrev pub updates : (L level page flags count : ℕ) → List Call
 updates L level page given count = map (λ k. UpdateFlags (path_at L level (page + k * span level)) given) (range_with_len 0 count)
 
--- the frames of the calls that were done, in order
+-- The frames that the replies of done calls name, in order. Other replies are passed over.
 abbrev pub frames_done : List Reply → List ℕ
 frames_done [] = []
 frames_done (Answered (Done f) ∷ rs) = f ∷ frames_done rs
@@ -34,8 +35,9 @@ frames_done (Position t ∷ rs) = frames_done rs
 frames_done (Address a ∷ rs) = frames_done rs
 frames_done (Cleaned ∷ rs) = frames_done rs
 
--- What such calls, one after another, leave. Replies and state are the machine's for this list of calls, with any pool; refused calls
--- are passed over. The hierarchy is valid, a supply that fitted still fits, and only words in the root and the tables change.
+-- What calls that take no frames, such as unmaps and changes of flags, leave if they are made one after another. Replies and state
+-- are the machine's for this list of calls, with any pool; refused calls are passed over. The hierarchy is valid, a supply that
+-- fitted still fits, and only words in the root and the tables change.
 pub record DoesChanges {Lent : Type 0} (h : Hierarchy Lent) (calls : List Call) (answers : List Reply) (after : Hierarchy Lent) : Type 0 where
   pub replies : (pool : List ℕ) (take_back : List ℕ → ℕ → List ℕ) → replies_of (machine_of h.layout take_back) (state_of h pool) calls ≡ answers
   pub state : (pool : List ℕ) (take_back : List ℕ → ℕ → List ℕ) → state_after (machine_of h.layout take_back) (state_of h pool) calls ≡ state_of after pool
@@ -49,6 +51,6 @@ pub record DoesChanges {Lent : Type 0} (h : Hierarchy Lent) (calls : List Call) 
 abbrev pub UnmapsEach : {Lent : Type 0} → Hierarchy Lent → (level page count : ℕ) → (replies : List Reply) → (after : Hierarchy Lent) → Type 0
 UnmapsEach h level page count replies after = DoesChanges h (unmaps h.layout.levels level page count) replies after
 
--- Their flags were set one after another, with these replies.
+-- The flags of the first pages of a level, from a page on, were set one after another, with these replies.
 abbrev pub UpdatesEach : {Lent : Type 0} → Hierarchy Lent → (level page flags count : ℕ) → (replies : List Reply) → (after : Hierarchy Lent) → Type 0
 UpdatesEach h level page given count replies after = DoesChanges h (updates h.layout.levels level page given count) replies after

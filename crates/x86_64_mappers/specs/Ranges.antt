@@ -13,7 +13,8 @@ use Rattle.x86_64_tables.specs.MapperAnswers.{map_refusal}
 use Rattle.x86_64_mappers.specs.Supplies.{Supply}
 use Rattle.x86_64_mappers.specs.declared.access.ranges.MapRangeErrorIn.{MapRangeErrorIn}
 
--- the first page, by its position, and the first frame of a range of pages of a level, with the flags of each map
+-- A range of pages of a level that are mapped to frames: the position of the first page (an address counted without the
+-- non-canonical gap), the address of the first frame, and the flags and parent flags of each map.
 pub record MapRange : Type 0 where
   pub level : ℕ
   pub page : ℕ
@@ -21,41 +22,44 @@ pub record MapRange : Type 0 where
   pub flags : ℕ
   pub parent_flags : ℕ
 
+-- The range of pages of a level, from a page on, that are mapped to the frames from a frame on with these flags and parent flags.
 abbrev pub range_of : (level page frame flags parent_flags : ℕ) → MapRange
 range_of level page frame given more = record { level = level; page = page; frame = frame; flags = given; parent_flags = more }
 
--- page k of a range, and its frame
+-- The position of page k of a range, counted from 0 (a position is an address counted without the non-canonical gap).
 abbrev pub page_at : MapRange → (k : ℕ) → ℕ
 page_at r k = r.page + k * span r.level
 
+-- The address of the frame to which page k of a range is mapped, counted from 0.
 abbrev pub frame_at : MapRange → (k : ℕ) → ℕ
 frame_at r k = r.frame + k * span r.level
 
--- the call that maps page k, with L levels of tables
+-- The call that maps page k of a range, counted from 0, to its frame, with L levels of tables.
 abbrev pub map_at : (L : ℕ) → MapRange → (k : ℕ) → Call
 map_at L r k = MapToWithTableFlags (path_at L r.level (page_at r k)) (frame_at r k) r.flags r.parent_flags
 
--- the calls that map the first pages of a range, in order, and the replies if all are accepted
+-- The calls that map the first `count` pages of a range, in order, with L levels of tables.
 abbrev pub maps : (L : ℕ) → MapRange → (count : ℕ) → List Call
 maps L r count = map (λ k. map_at L r k) (range_with_len 0 count)
 
+-- The replies of the maps of the first `count` pages of a range, in order, if all of them are done.
 abbrev pub accepted : MapRange → (count : ℕ) → List Reply
 accepted r count = map (λ k. Answered (Done (frame_at r k))) (range_with_len 0 count)
 
--- The first pages of a range may be mapped: each page and its frame exist, and the map's own condition holds.
+-- The first `count` pages of a range may be mapped: each page and its frame exist, and the map's own condition holds.
 pub record MayMapRange {Lent : Type 0} (h : Hierarchy Lent) (r : MapRange) (count : ℕ) : Type 0 where
   pub pages : (k : ℕ) → k < count → page_at r k < position_count h.layout.levels
   pub frames : (k : ℕ) → k < count → frame_at r k < 2 ^ 52
   pub allowed : (k : ℕ) → k < count → allows_map h (path_of h r.level (page_at r k)) r.flags r.parent_flags ≡ true
 
--- A map that may be made, was made, and got the last of these answers.
+-- A map that may be made was made, and `answers` is the list `before` with its answer at the end.
 pub record IsNextMap {Lent : Type 0} (h : Hierarchy Lent) (supply : List ℕ) (call : Call) (before answers : List Reply) (after : Hierarchy Lent) (rest : List ℕ) : Type 0 where
   pub answer : Answer
   pub may : MayMap h supply call
   pub does : DoesMap h supply call answer after rest
   pub last : answers ≡ before ++ Answered answer ∷ []
 
--- The first pages of a range were mapped one after another, and each map did what a single one does.
+-- The first `count` pages of a range were mapped one after another with these answers, and each map did what a single one does.
 abbrev pub MapsEach : {Lent : Type 0} → Hierarchy Lent → (supply : List ℕ) → MapRange → (count : ℕ) → (answers : List Reply) → (after : Hierarchy Lent) → (rest : List ℕ) → Type 0
 MapsEach h supply r zero answers after rest = (answers ≡ []) × (after ≡ h) × (rest ≡ supply)
 MapsEach {Lent} h supply r (suc k) answers after rest = (now : Hierarchy Lent) × (left : List ℕ) × (before : List Reply) × MapsEach h supply r k before now left
@@ -74,11 +78,13 @@ pub record DoesMaps {Lent : Type 0} (h : Hierarchy Lent) (supply : List ℕ) (r 
   pub layout : after.layout ≡ h.layout
   pub lent : after.lent ≡ h.lent
 
--- all of the first pages were mapped
+-- All of the first `count` pages of a range were mapped one after another, and each map did what a single one does. The rest of the
+-- supply is left.
 abbrev pub MapsAll : {Lent : Type 0} → Hierarchy Lent → (supply : List ℕ) → MapRange → (count : ℕ) → (after : Hierarchy Lent) → (rest : List ℕ) → Type 0
 MapsAll h supply r count after rest = DoesMaps h supply r count (accepted r count) after rest
 
--- this many were mapped, and the map of the next one was refused; no further one was made
+-- The first `done` pages of a range were mapped, and the map of the next one was refused for this reason. No further one of the
+-- first `count` pages was mapped.
 abbrev pub StopsAt : {Lent : Type 0} → Hierarchy Lent → (supply : List ℕ) → MapRange → (count done : ℕ) → Refusal → (after : Hierarchy Lent) → (rest : List ℕ) → Type 0
 StopsAt h supply r count done why after rest =
     (done < count) × DoesMaps h supply r (done + 1) (accepted r done ++ Answered (Refused why) ∷ []) after rest

@@ -6,14 +6,15 @@ use Rattle.x86_64_model.specs.Memory.{Memory}
 use Rattle.x86_64_model.specs.Mapper.{◌laid_in◌, Hierarchy, words}
 use Rattle.x86_64_model.specs.Window.{SelfEntry}
 
--- The words lead along the path to the table in the frame, which is in the memory. So is the root, with its self-entry if there
--- is a recursive index.
+-- The words lead along the path, on which each entry is present and names a table, to the table in the frame. This table and the
+-- root are in the memory, and the root has its self-entry if there is a recursive index.
 pub record IsReached (l : Layout) (m : Memory) (path : List ℕ) (frame : ℕ) : Type 0 where
   pub way : leads (words (l laid_in m)) l.root path ≡ Some frame
   pub there : IsSome (words (l laid_in m) frame)
   pub root_there : IsSome (words (l laid_in m) l.root)
   pub self : SelfEntry (words (l laid_in m)) l.root l.window
 
--- the words of a hierarchy lead along a path to the table in a frame
+-- The words of the hierarchy lead along a path, on which each entry is present and names a table, to the table in a frame. This
+-- table and the root are in the memory, and the root has its self-entry if there is a recursive index.
 abbrev pub Reaches : {Lent : Type 0} → Hierarchy Lent → (path : List ℕ) → (frame : ℕ) → Type 0
 Reaches h path frame = IsReached h.layout h.memory path frame

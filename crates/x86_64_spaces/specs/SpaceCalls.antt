@@ -26,7 +26,7 @@ pub record MayBeTemplate {Lent : Type 0} (shared : ℕ → Bool) (recursive : Op
   pub fits : Fits template store
   pub index_unused : (r : ℕ) → recursive ≡ Some r → shared r ≡ true → entry (paths template) (r ∷ []) ≡ 0
 
--- The layout of another space in a memory that has its tables at the same places.
+-- The layout of a space in a memory, with the number of levels and the places of frames of a hierarchy.
 abbrev pub layout_beside : {Lent : Type 0} → Hierarchy Lent → Memory → Space → Layout
 layout_beside h memory space = layout_of h.layout.levels h.layout.places memory space
 

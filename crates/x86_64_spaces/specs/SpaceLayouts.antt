@@ -8,7 +8,7 @@ use Rattle.x86_64_spaces.specs.declared.space.SharedIndices.{SharedIndices}
 use Rattle.x86_64_spaces.specs.declared.space.Space.{Space}
 use Rattle.x86_64_tables.specs.SelfEntries.{window_in}
 
--- Whether an index of the highest level is shared.
+-- Whether an index of the highest level is one of the shared indices.
 abbrev pub indices_of : SharedIndices → (index : ℕ) → Bool
 indices_of shared i = nat_le shared.from i && nat_lt i shared.to
 
@@ -35,7 +35,7 @@ space_in levels places memory space = layout_of levels places memory space laid_
 abbrev pub layouts_of : (levels : ℕ) → Places → Memory → List Space → List Layout
 layouts_of levels places memory spaces = map (layout_of levels places memory) spaces
 
--- The frames of the roots.
+-- The frames of the roots of address spaces.
 abbrev pub roots_of : List Space → List ℕ
 roots_of spaces = map (λ space. space.root) spaces
 

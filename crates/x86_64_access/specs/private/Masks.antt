@@ -2,24 +2,25 @@
 use Rattle.std.specs.Prelude.{ℕ, ◌-◌, ◌^◌, ◌&&◌, ◌||◌, not, Bool, cond, bit_and}
 use Rattle.x86_64_model.specs.Access.{Access, Controls, Kind, Read, Write, Fetch}
 
--- NO_EXECUTE, if it is off.
+-- The bit NO_EXECUTE if EFER.NXE is off, so that the bit is reserved, and otherwise none.
 abbrev pub off_bits : Controls → ℕ
 off_bits c = cond c.no_execute 0 0x8000_0000_0000_0000
 
--- The address bits that the processor lacks.
+-- The address bits of an entry that the processor lacks, by its number of bits of physical addresses.
 abbrev pub high_bits : Controls → ℕ
 high_bits c = bit_and 0x000f_ffff_ffff_f000 (2 ^ 64 - 2 ^ c.physical_bits)
 
--- The right that the kind of an access needs.
+-- The bit of the right that an access of this kind needs, or none if it needs no right: WRITABLE for a write, or the right to
+-- execute, at the place of NO_EXECUTE, for a fetch.
 abbrev pub kind_bits : Controls → Access → Kind → ℕ
 kind_bits c a Read = 0
 kind_bits c a Write = cond (a.user || c.write_protect) 0x2 0
 kind_bits c a Fetch = cond c.no_execute 0x8000_0000_0000_0000 0
 
--- The right of users, if a user asks.
+-- The bit USER_ACCESSIBLE if a user asks, and otherwise none.
 abbrev pub user_bits : Bool → ℕ
 user_bits user = cond user 0x4 0
 
--- The right of users, if it keeps a supervisor out.
+-- The bit USER_ACCESSIBLE if a supervisor asks who is kept from users' pages, and otherwise none.
 abbrev pub kept_bits : (user kept : Bool) → ℕ
 kept_bits user kept = cond (not user && kept) 0x4 0

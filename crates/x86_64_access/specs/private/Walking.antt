@@ -7,7 +7,8 @@ use Rattle.x86_64_model.specs.Mappings.{Rights, rights_of}
 use Rattle.x86_64_model.specs.Memory.{Words}
 use Rattle.x86_64_tables.specs.Rights.{both}
 
--- The outcome at position p (the number of an address counted without the gap), from a frame's table of a level down.
+-- The outcome of an access at position p (the number of an address counted without the non-canonical gap), from a frame's table of
+-- a level down, if the words above grant these rights.
 unfoldable pub access_on : Controls → Words → (p : ℕ) → Access → (level frame : ℕ) → Rights → Outcome
 access_on c T p a level frame r = let steps = steps_from c T p level frame in
     ends_by c a p (both r (rights_of (map (λ s. s.word) steps))) frame (last_or None steps)
@@ -20,6 +21,7 @@ may_read_on c e = present e && (not (huge e) && (nat_lt (address e) (2 ^ c.physi
 abbrev pub rights_by : (bits : ℕ) → Rights
 rights_by bits = record { write = has bits 0x2; user = has bits 0x4; execute = has bits 0x8000_0000_0000_0000 }
 
--- The access arrives, if it comes to a frame's table of a level with some rights.
+-- For some rights granted by the words above, an access at position p (the number of an address counted without the non-canonical
+-- gap) arrives from a frame's table of a level on.
 abbrev pub ArrivesFrom : Controls → Words → (p : ℕ) → Access → (level frame : ℕ) → Type 0
 ArrivesFrom c T p a level frame = (r : Rights) × (to : ℕ) × (access_on c T p a level frame r ≡ Arrives to)

@@ -16,11 +16,12 @@ use Rattle.x86_64_mappers.specs.CleanUps.{CleansUpInto}
 
 -- ---- the range
 
--- the position (address counted without the gap) of the last byte of the 4KiB page with a path
+-- The position (an address counted without the non-canonical gap) of the last byte of the 4KiB page with a path, with L levels of
+-- tables.
 abbrev pub span_end : (L : ℕ) → List ℕ → ℕ
 span_end L q = span_start L q + 0xfff
 
--- the paths of the first and of the last page of a range that isn't empty
+-- These are the paths of the first and of the last 4KiB page of a range that isn't empty, with L levels of tables.
 pub record IsPageRange (L : ℕ) (first last : List ℕ) : Type 0 where
   pub first_long : length first ≡ L
   pub last_long : length last ≡ L
@@ -63,7 +64,8 @@ IsEntryCleaned L M low high r N back =
     ⊎ ((in_range L M low high r ≡ true) × ((j : ℕ) × (entry (cleaned_below L M low high r) (r ++ j ∷ []) ≢ 0)) × (N ≡ cleaned_below L M low high r) × (back ≡ back_below L M low high r))
     ⊎ ((in_range L M low high r ≡ true) × ((j : ℕ) → entry (cleaned_below L M low high r) (r ++ j ∷ []) ≡ 0) × (N ≡ put (cleaned_below L M low high r) r 0) × (back ≡ back_below L M low high r ++ address (entry M r) ∷ []))
 
--- the memory and the held frames after the clean up of the entry at the path r
+-- The entry at the path r, with all tables below it, was cleaned up for the positions from low to high. The clean up led from the
+-- memory m and the held frames to the memory n and the frames rest.
 pub record IsCleanedAt (l : Layout) (take_back : List ℕ → ℕ → List ℕ) (m : Memory) (held : List ℕ) (low high : ℕ) (r : List ℕ) (n : Memory) (rest : List ℕ) : Type 0 where
   pub N : PathMap
   pub back : List ℕ
@@ -72,25 +74,28 @@ pub record IsCleanedAt (l : Layout) (take_back : List ℕ → ℕ → List ℕ) 
 
 -- ---- a clean up of the pages from a first to a last one, given by their paths
 
--- it is at the table in the frame, to which the path leads
+-- A clean up of the pages from a first to a last one, given by their paths, is at the table in the frame, to which the path leads.
 abbrev pub VisitsTable : {Lent : Type 0} → Hierarchy Lent → (first last path : List ℕ) → (frame : ℕ) → Type 0
 VisitsTable h first last path frame = IsVisited h.layout h.memory (span_start h.layout.levels first) (span_end h.layout.levels last) path frame
 
--- the span of the entry at the path meets the pages
+-- The span of the entry at the path meets the pages from a first to a last one, given by their paths.
 abbrev pub MeetsPages : {Lent : Type 0} → Hierarchy Lent → (first last path : List ℕ) → Type 0
 MeetsPages h first last path = meets h.layout.levels (span_start h.layout.levels first) (span_end h.layout.levels last) path ≡ true
 
--- the tables below the table that the path leads to were cleaned up; the store is `rest` then
+-- The tables below the table that the path leads to were cleaned up for the pages from a first to a last one, given by their paths.
+-- The store is `rest` then, and serves the same frames.
 pub record CleansBelow {Lent : Type 0} (h : Hierarchy Lent) (store : Store) (first last path : List ℕ) (after : Hierarchy Lent) (rest : Store) : Type 0 where
   pub below : IsCleaned h.layout store.take_back h.memory store.frames (cleaned_below h.layout.levels (paths h) (span_start h.layout.levels first) (span_end h.layout.levels last) path)
       (back_below h.layout.levels (paths h) (span_start h.layout.levels first) (span_end h.layout.levels last) path) after.memory rest.frames
   pub serves : rest.serves ≡ store.serves
 
--- the entry at the path was cleaned up
+-- The entry at the path, with all tables below it, was cleaned up for the pages from a first to a last one, given by their paths.
+-- The store is `rest` then, and serves the same frames.
 pub record CleansEntry {Lent : Type 0} (h : Hierarchy Lent) (store : Store) (first last path : List ℕ) (after : Hierarchy Lent) (rest : Store) : Type 0 where
   pub cleaned : IsCleanedAt h.layout store.take_back h.memory store.frames (span_start h.layout.levels first) (span_end h.layout.levels last) path after.memory rest.frames
   pub serves : rest.serves ≡ store.serves
 
--- the pages were cleaned up
+-- The hierarchy was cleaned up for the pages from a first to a last one, given by their paths, and is `after` then. The frames of
+-- the removed tables were returned to the store, which is `rest` then.
 abbrev pub CleansUpPages : {Lent : Type 0} → Hierarchy Lent → Store → (first last : List ℕ) → (after : Hierarchy Lent) → (rest : Store) → Type 0
 CleansUpPages h store first last after rest = CleansUpInto h store (span_start h.layout.levels first) (span_end h.layout.levels last) after rest

@@ -6,12 +6,14 @@ use Rattle.x86_64_model.specs.Mapper.{◌laid_in◌, paths}
 use Rattle.x86_64_model.specs.Memory.{Memory}
 use Rattle.x86_64_model.specs.PathMap.{PathMap, entry, table_at}
 
--- the parent flags have PRESENT, or every parent is present, down to and including the first huge one
+-- The parent flags have PRESENT, or every entry on the path of a page's parents is present, down to and including the first huge
+-- one.
 abbrev pub WillBePresent : PathMap → (parent_flags : ℕ) → (parents : List ℕ) → Type 0
 WillBePresent M more path = (present more ≡ true)
     ⊎ ((j : ℕ) → j < length path → ((h : ℕ) → h < j → huge (entry M (take (suc h) path)) ≡ false) → present (entry M (take (suc j) path)) ≡ true)
 
--- the first k parents lead to the table in a frame
+-- The first k parents of a page are present and lead to the table in a frame. The parent flags have PRESENT, or the parents to come
+-- are present, down to and including the first huge one.
 pub record IsOpenWay (l : Layout) (m : Memory) (parent_flags : ℕ) (path : List ℕ) (k frame : ℕ) : Type 0 where
   pub leads : table_at l.levels l.root (paths (l laid_in m)) (take k path) ≡ Some frame
   pub small : (j : ℕ) → j < k → get_or path j 0 < 512

@@ -4,19 +4,21 @@ use Rattle.x86_64_model.specs.Entry.{address}
 use Rattle.x86_64_model.specs.Refusal.{Refusal, PageNotMapped}
 use Rattle.x86_64_mappers.specs.private.LeafFrames.{leaf_frame, maps_page}
 
--- an unmap makes the entry unused and answers with its frame
+-- The decision of an unmap by the frame that the page's entry names, or by a refusal: the entry's new word is 0 and the answer has
+-- this frame, or the unmap is refused.
 abbrev pub unused_after : Result ℕ Refusal → Result (ℕ × ℕ) Refusal
 unused_after (Ok frame) = Ok (0, frame)
 unused_after (Err why) = Err why
 
--- what the entry of a page of a level decides for an unmap
+-- What the entry of a page of a level decides for an unmap: its new word and the frame in the answer, or the refusal.
 abbrev pub unmap_says : (level entry : ℕ) → Result (ℕ × ℕ) Refusal
 unmap_says level e = unused_after (leaf_frame level e)
 
--- the word of a page's entry with an address and flags
+-- The word of the entry of a page of a level with an address and flags. It has HUGE_PAGE in addition above level one.
 abbrev pub page_word : (level address flags : ℕ) → ℕ
 page_word level a given = bit_or a (cond (level == 1) given (bit_or given 0x80))
 
--- a change of flags keeps the address
+-- What the entry of a page of a level decides for a change of flags: its new word, which keeps the address, and the frame in the
+-- answer, or the refusal.
 abbrev pub update_says : (level flags entry : ℕ) → Result (ℕ × ℕ) Refusal
 update_says level given e = cond (maps_page level e) (Ok (page_word level (address e) given, address e)) (Err PageNotMapped)

@@ -15,21 +15,24 @@ use Rattle.x86_64_model.specs.Refusal.{Refusal, Refused}
 use Rattle.x86_64_mappers.specs.private.EntryCalls.{word_said, answer_said}
 use Rattle.x86_64_mappers.specs.private.Stops.{IsFound}
 
--- a table's words after calls on n entries from index i on, each of which says what its word becomes
+-- The words of a table after one call on each of n entries, from index i on. The function `says` tells an entry's new word and the
+-- frame in the answer, or the refusal, by its old word.
 abbrev pub with_words : (says : ℕ → Result (ℕ × ℕ) Refusal) → (i : ℕ) → List ℕ → (n : ℕ) → List ℕ
 with_words says i t zero = t
 with_words says i t (suc n) = set (with_words says i t n) (i + n) (word_said (get_or t (i + n) 0) (says (get_or t (i + n) 0)))
 
--- their replies
+-- The replies of one call on each of n entries of a table, from index i on, by the table's words before. The function `says` tells
+-- an entry's new word and the frame in the answer, or the refusal, by its old word.
 abbrev pub replies_said : (says : ℕ → Result (ℕ × ℕ) Refusal) → (i : ℕ) → List ℕ → (n : ℕ) → List Reply
 replies_said says i t n = map (λ k. Answered (answer_said (says (get_or t (i + k) 0)))) (range_with_len 0 n)
 
--- 1 for a call that was done, 0 for a refused one
+-- How many calls were done, for one call: 1 if there is no refusal, 0 if there is one.
 abbrev pub count_unless : Option Refusal → ℕ
 count_unless None = 1
 count_unless (Some why) = 0
 
--- the entries of the table below the parents were changed so
+-- The `count` entries from index i on of the table below a page's parents were changed by one call each, with these replies. The
+-- function `says` tells an entry's new word and the frame in the answer, or the refusal, by its old word.
 pub record AreChanged (l : Layout) (m : Memory) (parents : List ℕ) (says : ℕ → Result (ℕ × ℕ) Refusal) (i count : ℕ) (answers : List Reply) (n : Memory) : Type 0 where
   pub frame : ℕ
   pub found : IsFound l m parents (Ok frame)
@@ -39,37 +42,45 @@ pub record AreChanged (l : Layout) (m : Memory) (parents : List ℕ) (says : ℕ
   pub put : n ≡ insert m (l.places.place frame) (with_words says i table count)
   pub replies : answers ≡ replies_said says i table count
 
--- the path of the table with the entry at a path, and the entry's index in it
+-- The path of the table with the entry at a path: all indices but the last.
 abbrev pub table_path : List ℕ → List ℕ
 table_path q = take (length q - 1) q
 
+-- The index of the entry at a path in its table, which is the path's last index.
 abbrev pub last_index : List ℕ → ℕ
 last_index q = get_or q (length q - 1) 0
 
--- for this reason a parent refuses each of the first pages of a level, from a page on
+-- For this one reason parents refuse each of the first `count` pages of a level, from a page on, in the memory.
 abbrev pub AreStoppedIn : Layout → Memory → (level page count : ℕ) → Refusal → Type 0
 AreStoppedIn l m level page count why = (k : ℕ) → k < count → IsFound l m (table_path (path_at l.levels level (page + k * span level))) (Err why)
 
--- this for the pages of a hierarchy
+-- For this one reason parents refuse each of the first `count` pages of a level, from a page on, in the hierarchy.
 abbrev pub AreStopped : {Lent : Type 0} → Hierarchy Lent → (level page count : ℕ) → Refusal → Type 0
 AreStopped h level page count why = AreStoppedIn h.layout h.memory level page count why
 
--- or parents refused all calls
+-- Parents refused the calls on the first `count` pages of a level, from a page on, all for one reason, and nothing changed.
 pub record AreRefused (l : Layout) (m : Memory) (level page count : ℕ) (answers : List Reply) (n : Memory) : Type 0 where
   pub why : Refusal
   pub stopped : AreStoppedIn l m level page count why
   pub same : n ≡ m
   pub replies : answers ≡ replicate count (Answered (Refused why))
 
--- the first pages of a level, from a page on, were changed, or were refused
+-- The entries of the first `count` pages of a level, from a page on, which are all in one table, were changed by one call each, or
+-- parents refused all these calls. The function `says` tells an entry's new word and the frame in the answer, or the refusal, by
+-- its old word.
 abbrev pub IsPartChanged : Layout → Memory → (level page : ℕ) → (says : ℕ → Result (ℕ × ℕ) Refusal) → (count : ℕ) → (answers : List Reply) → Memory → Type 0
 IsPartChanged l m level page says count answers n = let q = path_at l.levels level page in
     (last_index q + count ≤ 512) × AreChanged l m (table_path q) says (last_index q) count answers n ⊎ AreRefused l m level page count answers n
 
+-- The entries of the first `count` pages of a level, from a page on, which are all in one table of the hierarchy, were changed by
+-- one call each, or parents refused all these calls. The function `says` tells an entry's new word and the frame in the answer, or
+-- the refusal, by its old word.
 abbrev pub ChangesPart : {Lent : Type 0} → Hierarchy Lent → (level page : ℕ) → (says : ℕ → Result (ℕ × ℕ) Refusal) → (count : ℕ) → (answers : List Reply) → (after : Hierarchy Lent) → Type 0
 ChangesPart h level page says count answers after = IsPartChanged h.layout h.memory level page says count answers after.memory
 
--- what calls that each change at most one entry, one after another, leave in a memory: each table stays where it is
+-- What calls that each change at most one page's entry leave in a memory if they are made one after another. Replies and state are
+-- the machine's, the hierarchy is valid, and a supply that fitted still fits. Each table stays where it is, and only words in the
+-- root and the tables change.
 pub record IsChangeRun (l : Layout) (m : Memory) (calls : List Call) (answers : List Reply) (n : Memory) : Type 0 where
   pub replies : (pool : List ℕ) (take_back : List ℕ → ℕ → List ℕ) → replies_of (machine_of l take_back) (state_in l m pool) calls ≡ answers
   pub state : (pool : List ℕ) (take_back : List ℕ → ℕ → List ℕ) → state_after (machine_of l take_back) (state_in l m pool) calls ≡ state_in l n pool

@@ -10,32 +10,33 @@ use Rattle.x86_64_mappers.specs.declared.access.map.PageTableCreateError.{PageTa
 use Rattle.x86_64_mappers.specs.declared.access.map.PageTableCreateError.TheVariants.{MappedToHugePage, FrameAllocationFailed}
 use Rattle.x86_64_mappers.specs.declared.access.find.PageTableWalkError.TheVariants as walk
 
--- the refusal for the error of a step of a map
+-- The refusal for the Rust error of a step of a map that goes down to a table and creates it if it is missing.
 abbrev pub create_refusal : PageTableCreateError → Refusal
 create_refusal MappedToHugePage = refusal.ParentEntryHugePage
 create_refusal FrameAllocationFailed = refusal.FrameAllocationFailed
 
--- the result of a step of a map, which creates a missing table
+-- The result of a step of a map that goes down to a table and creates it if it is missing, with the refusal in place of the Rust
+-- error.
 abbrev pub create_result : {X : Type 0} → Result X PageTableCreateError → Result X Refusal
 create_result (Ok x) = Ok x
 create_result (Err why) = Err (create_refusal why)
 
--- the refusal for the error of a step down
+-- The refusal for the Rust error of a step down to a table that has to exist.
 abbrev pub walk_refusal : PageTableWalkError → Refusal
 walk_refusal walk.NotMapped = refusal.PageNotMapped
 walk_refusal walk.MappedToHugePage = refusal.ParentEntryHugePage
 
--- the result of a step down to a table that exists
+-- The result of a step down to a table that has to exist, with the refusal in place of the Rust error.
 abbrev pub walk_result : {X : Type 0} → Result X PageTableWalkError → Result X Refusal
 walk_result (Ok x) = Ok x
 walk_result (Err why) = Err (walk_refusal why)
 
--- the result of a step of a page's translation
+-- The result of a step of a page's translation, with the refusal in place of the Rust error.
 abbrev pub translate_result : {X : Type 0} → Result X TranslateError → Result X Refusal
 translate_result (Ok x) = Ok x
 translate_result (Err why) = Err (translate_refusal why)
 
--- the result of a step of an unmap
+-- The result of a step of an unmap, with the refusal in place of the Rust error.
 abbrev pub unmap_result : {X : Type 0} → Result X UnmapError → Result X Refusal
 unmap_result (Ok x) = Ok x
 unmap_result (Err why) = Err (unmap_refusal why)

@@ -3,12 +3,13 @@ use Rattle.std.specs.Prelude.{◌≡◌, ◌≢◌, ℕ, ◌<◌, ◌&&◌, nat_
 use Rattle.std.specs.FinMap.{get}
 use Rattle.x86_64_model.specs.Memory.{Memory}
 
--- The memory holds the table at a place, and elsewhere what it held.
+-- The memory n has this table at a place, and elsewhere what the memory m has.
 pub record Stores (m : Memory) (place : ℕ) (table : List ℕ) (n : Memory) : Type 0 where
   pub here : get n place ≡ Some table
   pub others : (k : ℕ) → k ≢ place → get n k ≡ get m k
 
--- The table at a place has the words at the shared indices up to one, and is 0 elsewhere.
+-- The memory n has a table at a place with the words at the shared indices below `upto`, and 0 elsewhere. All other places have
+-- what the memory m has.
 pub record HasShared (shared : ℕ → Bool) (words : ℕ → ℕ) (m : Memory) (place upto : ℕ) (n : Memory) : Type 0 where
   pub table : List ℕ
   pub size : length table ≡ 512
