@@ -12,8 +12,8 @@ abbrev pub ArriveWhereWalksDo : Type 0
 ArriveWhereWalksDo = (L : ℕ) (c : Controls) (T : Words) (root p : ℕ) (a : Access) (to : ℕ)
     → access L c T root p a ≡ Arrives to → Reaches (page_walk L T root p) to
 
--- If the page walk arrives, no word on its way has a reserved bit, and the rights that all these words grant suffice, then the access
--- arrives, and at the same address.
+-- If the page walk arrives, no word on its way has a reserved bit, and the rights that all these words grant suffice, then the
+-- access arrives, and at the same address.
 abbrev pub WalksAllowedArrive : Type 0
 WalksAllowedArrive = (L : ℕ) (c : Controls) (T : Words) (root p : ℕ) (a : Access) (w : Walked) → page_walk L T root p ≡ Some w
     → ((s : Step) → In (steps_from c T p L root) s → reserved c s.level s.word ≡ false)

@@ -20,14 +20,14 @@ pub struct Controls {
     pub smep: bool,
     /// CR4.SMAP: a supervisor can't read or write users' pages, unless `ac` is set.
     pub smap: bool,
-    /// EFLAGS.AC.
+    /// EFLAGS.AC: while it is set, SMAP keeps no supervisor out.
     pub ac: bool,
     /// MAXPHYADDR: the number of bits of physical addresses, from 32 to 52. Higher address bits of entries are reserved.
     pub physical_bits: u8,
 }
 
 impl Controls {
-    /// Returns true if an entry of a level has a bit that is reserved.
+    /// Returns true if an entry of a level, present or not, has a bit that is reserved.
     ///
     /// Reserved are: address bits that the processor lacks; `HUGE_PAGE` above level three; bits 13 to 29 of a 1GiB page, and bits
     /// 13 to 20 of a 2MiB page; and `NO_EXECUTE` while it is off.
@@ -45,7 +45,9 @@ impl Controls {
         is_beyond || is_misplaced || is_off
     }
 
-    /// Returns true if the rights of a page suffice for an access.
+    /// Returns true if the rights of a page, which all entries on its path grant together, suffice for an access.
+    ///
+    /// Intel SDM vol. 3A, "Access Rights".
     pub fn allows(&self, access: Access, rights: Rights) -> bool
         ensures { result ≡ model.allowed (controls_of self.now) (access_of access) rights }
     {
@@ -72,7 +74,10 @@ impl Controls {
         }
     }
 
-    /// Returns the error code of a page fault: whether the entry that faults is present, and has a reserved bit.
+    /// Returns the error code of an access that ends in a page fault, by whether the entry at which it faults is present, and
+    /// whether that entry has a reserved bit.
+    ///
+    /// Intel SDM vol. 3A, "Page-Fault Exceptions".
     pub fn code(&self, access: Access, present: bool, reserved: bool) -> PageFaultCode
         ensures { result.0 ≡ model.code (controls_of self.now) (access_of access) present reserved }
     {

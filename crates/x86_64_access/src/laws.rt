@@ -6,7 +6,7 @@ ghost use Rattle.x86_64_access.specs.RightsTable.{CodesAreListed, RightsAreListe
 ghost use Rattle.x86_64_access.specs.SwitchingMarks.{MarksMaySwitch};
 ghost use Rattle.x86_64_access.specs.Laws.{ArriveWhereWalksDo, WalksAllowedArrive};
 
-/// An access that arrives does so where the page walk does.
+/// An access that arrives does so at the address at which the page walk arrives.
 #[tactic(auto, using(crate::proofs::Agreement::arrive_where_walks_do))]
 pub fn accesses_arrive_where_walks_do()
     ensures { ArriveWhereWalksDo }
@@ -18,13 +18,13 @@ pub fn allowed_walks_arrive()
     ensures { WalksAllowedArrive }
 {}
 
-/// Marks change no page walk.
+/// Marks (`ACCESSED` and `DIRTY` of present words) change no page walk.
 #[tactic(auto, using(crate::proofs::Marks::walks_stay))]
 pub fn marks_keep_walks()
     ensures { WalksStay }
 {}
 
-/// Marks change no access.
+/// Marks (`ACCESSED` and `DIRTY` of present words) change the outcome of no access.
 #[tactic(auto, using(crate::proofs::Marks::accesses_stay))]
 pub fn marks_keep_accesses()
     ensures { AccessesStay }
@@ -36,22 +36,24 @@ pub fn accesses_leave_only_marks()
     ensures { AccessesLeaveMarks }
 {}
 
-/// Marks keep a hierarchy valid, and each pool that fits it, and its entries only get marks.
+/// Marks (`ACCESSED` and `DIRTY` of present words) keep a hierarchy valid and each pool that fits it, and change its entries by
+/// marks alone.
 pub fn marks_keep_hierarchies()
     ensures { FitsStay }
 {}
 
-/// Marks change nothing of what a processor may cache.
+/// Marks (`ACCESSED` and `DIRTY` of present words) change nothing of what a processor may cache.
 pub fn marks_keep_caches()
     ensures { CachesStay }
 {}
 
-/// What has to be flushed after each call is enough for a processor that marks, too, at every moment, also during calls.
+/// What has to be flushed after each call is enough for a processor that sets `ACCESSED` and `DIRTY`, too, at every moment, also
+/// during calls.
 pub fn flushes_are_enough_with_marks()
     ensures { FlushesAreEnoughWithMarks }
 {}
 
-/// If all calls are done, any marks may happen, and then all calls are done.
+/// If all calls are done, any marks of present words may happen (`ACCESSED` and `DIRTY`), and then all calls are done.
 pub fn marks_may_happen()
     ensures { MarksMayHappen }
 {}

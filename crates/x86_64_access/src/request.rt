@@ -18,7 +18,7 @@ pub enum AccessKind {
 /// An access to memory.
 #[derive(Clone, Copy, Debug, PartialEq, Eq)]
 pub struct Access {
-    /// Its kind.
+    /// Whether the access reads, writes or fetches.
     pub kind: AccessKind,
     /// Whether the processor is at privilege level 3. Otherwise the access is a supervisor's.
     pub user: bool,
@@ -34,9 +34,10 @@ pub enum Fault {
         /// The level of the entry that faults, or of the page whose rights don't suffice.
         level: u64,
     },
-    /// The table in a frame isn't covered by the mapping or isn't in the memory. A processor knows no such fault.
+    /// The table in a frame isn't covered by the mapping or isn't in the memory, so the access can't be decided. A processor knows
+    /// no such fault.
     NoMemory {
-        /// The frame.
+        /// The frame of the missing table.
         frame: PhysFrame<Size4KiB>,
     },
 }

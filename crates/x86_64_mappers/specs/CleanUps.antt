@@ -16,8 +16,8 @@ store_of members value = record { frames = members.held value; serves = members.
 abbrev pub MayCleanUpInto : {Lent : Type 0} → Hierarchy Lent → Store → Type 0
 MayCleanUpInto h store = MayCleanUp h store.serves store.frames
 
--- The effect of a clean up of the positions from low to high that returns frames to the store. It is `rest` then, and serves the same
--- frames.
+-- The effect of a clean up of the positions from low to high that returns frames to the store. It is `rest` then, and serves the
+-- same frames.
 pub record CleansUpInto {Lent : Type 0} (h : Hierarchy Lent) (store : Store) (low high : ℕ) (after : Hierarchy Lent) (rest : Store) : Type 0 where
   pub cleans : CleansUp h store.take_back store.frames low high after rest.frames
   pub serves : rest.serves ≡ store.serves

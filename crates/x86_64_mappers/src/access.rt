@@ -46,20 +46,28 @@ pub trait TableAccess: Tables {
         ensures { bits_of result ≡ (Self.hierarchy self.now).layout.added_flags };
 
     /// Returns the table in the frame that a path leads to.
+    ///
+    /// Requires that the path leads to the table in this frame, through present entries that name tables, and that it
+    /// has fewer indices than there are levels.
     fn table(&self, path: &[PageTableIndex], frame: PhysFrame<Size4KiB>) -> &PageTable
         requires reached { Reaches (Self.hierarchy self.now) path.now frame }
         requires short { length path.now < (Self.hierarchy self.now).layout.levels }
         ensures { words (Self.hierarchy self.now) frame ≡ Some result.now };
 
     /// Lends the table in the frame that a path leads to.
+    ///
+    /// Requires that the path leads to the table in this frame, through present entries that name tables, and that it
+    /// has fewer indices than there are levels.
     fn table_mut(&mut self, path: &[PageTableIndex], frame: PhysFrame<Size4KiB>) -> &mut PageTable
         requires reached { Reaches (Self.hierarchy self.old) path.now frame }
         requires short { length path.now < (Self.hierarchy self.old).layout.levels }
         ensures* lends { sem 𝓛 (LendsTableBy Self.row self.entry result (Self.with_table self.old frame)) }
         ensures value { words (Self.hierarchy self.old) frame ≡ Some result.now };
 
-    /// Clears the table in a frame and returns true, if the mapper reaches tables that no entry names. Otherwise returns
-    /// false, and changes nothing.
+    /// Clears the table in a frame and returns true, if the mapper reaches tables that no entry names. Otherwise
+    /// returns false, and changes nothing.
+    ///
+    /// Requires that the frame's table is in the memory.
     fn clear_unnamed(&mut self, frame: PhysFrame<Size4KiB>) -> bool
         requires { IsSome (words (Self.hierarchy self.old) frame) }
         ensures result { result ≡ Self.reaches_unnamed }

@@ -31,7 +31,8 @@ use x86_64_tables::mapper::{
 };
 use x86_64_tables::page_table::PageTableFlags;
 
-/// Maps a page to a frame, and adds the parent flags to the entries above it.
+/// Maps a page to a frame with these flags, and adds the parent flags to the entries above it. Missing tables are
+/// created in frames of the allocator.
 ///
 /// Conditions and errors are those of
 /// [`Mapper::map_to_with_table_flags`](crate::mapper::Mapper::map_to_with_table_flags).
@@ -68,10 +69,20 @@ pub fn map_to_with_table_flags<
     Ok(MapperFlushIn::new(page))
 }
 
-/// Maps a page to a frame. The entries above it get `PRESENT`, `WRITABLE` and `USER_ACCESSIBLE` as far as the flags
-/// have them.
+/// Maps a page to a frame with these flags. The entries above it get those of `PRESENT`, `WRITABLE` and
+/// `USER_ACCESSIBLE` that the flags have. Missing tables are created in frames of the allocator.
 ///
-/// Conditions and errors are those of [`Mapper::map_to`](crate::mapper::Mapper::map_to).
+/// Requires that the hierarchy is valid, that the frames that the allocator can hand out are distinct and in the
+/// memory, and neither frame 0 nor the frame of a table, and that [`map_allowed`] returns true for the flags and these
+/// parent flags.
+///
+/// # Errors
+///
+/// - `ParentEntryHugePage` if an entry above the page's own has `HUGE_PAGE`.
+/// - Otherwise `FrameAllocationFailed` if the allocator has too few frames.
+/// - Otherwise `PageAlreadyMapped` with the given frame if the page's entry is used.
+///
+/// The changes made before the refusal remain: new tables, and flags added to the entries above.
 pub fn map_to<
     S: PageSize,
     L: LevelCount,
@@ -132,7 +143,8 @@ pub fn identity_map<
     )
 }
 
-/// Returns true if a page may be mapped with these flags and parent flags.
+/// Returns true if a page may be mapped with these flags and parent flags, as
+/// [`Mapper::map_allowed`](crate::mapper::Mapper::map_allowed) says.
 ///
 /// Requires that the hierarchy is valid.
 pub fn map_allowed<S: PageSize, L: LevelCount, M: TableAccess + TablesIn<L>>(
@@ -205,7 +217,9 @@ pub fn set_table_flags<S: PageSize, L: LevelCount, M: TableAccess + TablesIn<L>>
     Ok(MapperFlushAll::new())
 }
 
-/// Returns true if the flags of the entry of level three or two on a page's path may be set to these.
+/// Returns true if the flags of the entry of level three or two on a page's path may be set to these, as
+/// [`Mapper::p3_flags_allowed`](crate::mapper::Mapper::p3_flags_allowed) and
+/// [`Mapper::p2_flags_allowed`](crate::mapper::Mapper::p2_flags_allowed) say.
 ///
 /// Requires that the hierarchy is valid.
 pub fn table_flags_allowed<S: PageSize, L: LevelCount, M: TableAccess + TablesIn<L>>(
@@ -240,7 +254,8 @@ pub fn translate_page<S: PageSize, L: LevelCount, M: TableAccess + TablesIn<L>>(
 
 /// Removes the empty tables of the whole address space, and returns their frames to the deallocator.
 ///
-/// Requires the conditions of [`clean_up_range`].
+/// Requires that the hierarchy is valid, and that the deallocator serves the frame of each table but the root and
+/// doesn't hold it.
 pub fn clean_up<L: LevelCount, M: TableAccess + TablesIn<L>, D: FrameDeallocator<Size4KiB>>(
     mapper: &mut M,
     frame_deallocator: &mut D,

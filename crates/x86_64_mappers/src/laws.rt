@@ -25,8 +25,9 @@ pub fn offset_has_the_tables_of_the_identity<L: LevelCount, T: TableMemory>(
         identity_places (offset_places L.LEVELS phys_offset) }
 {}
 
-/// If an entry of the root names the root itself, the page walk of a window arrives at the window's table, whatever
-/// all other words are.
+/// If an entry of the root names the root itself, and each entry on the path to a table names a table, all of them with
+/// `PRESENT` and without `HUGE_PAGE`, the page walk of the table's window arrives at the table, whatever all other
+/// words are.
 #[tactic(auto, using(crate::proofs::Window::Windows::windows_show_tables))]
 pub fn windows_show_their_tables()
     ensures { WindowsShowTables }

@@ -63,13 +63,14 @@ impl<P: PageTableFrameMapping> PageTableFrameMapping for GivenMapping<P> {
     ghost is_mapping = { P.is_mapping };
 }
 
-/// A mapper for a hierarchy of any number of levels of page tables.
+/// A mapper for a hierarchy of any number of levels of page tables, which finds them by a frame mapping that the caller
+/// gives.
 pub type MappedPageTableIn<'a, P, L, T = PhysMemory> = Direct<'a, GivenMapping<P>, L, T>;
 
-/// A mapper for a hierarchy of four levels of page tables.
+/// A [`MappedPageTableIn`] with four levels of page tables.
 pub type MappedPageTable<'a, P, T = PhysMemory> = MappedPageTableIn<'a, P, FourLevels, T>;
 
-/// A mapper for a hierarchy of five levels of page tables.
+/// A [`MappedPageTableIn`] with five levels of page tables.
 pub type MappedPageTable57<'a, P, T = PhysMemory> = MappedPageTableIn<'a, P, FiveLevels, T>;
 
 impl<'a, P: PageTableFrameMapping + Drop, L: LevelCount, T: TableMemory> Drop
@@ -92,7 +93,9 @@ impl<'a, P: PageTableFrameMapping, L: LevelCount, T: TableMemory> Direct<'a, P, 
     /// Creates a mapper for the hierarchy with this root, in a memory whose frames lie where the mapping says.
     ///
     /// Requires that the hierarchy is valid, which
-    /// [`is_valid_hierarchy`](x86_64_tables::phys_memory::is_valid_hierarchy) tests with the same mapping.
+    /// [`is_valid_hierarchy`](x86_64_tables::phys_memory::is_valid_hierarchy), or
+    /// [`is_valid_hierarchy_57`](x86_64_tables::phys_memory::is_valid_hierarchy_57) for five levels, tests with the
+    /// same mapping.
     pub(crate) fn over(memory: &'a mut T, root: PhysFrame<Size4KiB>, mapping: P) -> Self
         requires { Valid (direct_at L.LEVELS (P.places mapping) root laid_in T.tables memory.old) }
         ensures lent { (⟦<Self as Tables>⟧.hierarchy result).lent
@@ -127,7 +130,9 @@ impl<'a, P: PageTableFrameMapping, L: LevelCount, T: TableMemory> Direct<
     /// Creates a mapper for the hierarchy with this root, in a memory whose frames lie where the mapping says.
     ///
     /// Requires that the hierarchy is valid, which
-    /// [`is_valid_hierarchy`](x86_64_tables::phys_memory::is_valid_hierarchy) tests with the same mapping.
+    /// [`is_valid_hierarchy`](x86_64_tables::phys_memory::is_valid_hierarchy), or
+    /// [`is_valid_hierarchy_57`](x86_64_tables::phys_memory::is_valid_hierarchy_57) for five levels, tests with the
+    /// same mapping.
     pub fn new(memory: &'a mut T, root: PhysFrame<Size4KiB>, mapping: P) -> Self
         requires { Valid (direct_at L.LEVELS (P.places mapping) root laid_in T.tables memory.old) }
         ensures lent { (⟦<Self as Tables>⟧.hierarchy result).lent
@@ -159,7 +164,11 @@ impl<'a, P: PageTableFrameMapping, T: TableMemory> Direct<'a, P, FourLevels, T> 
         self.table(&[], self.root)
     }
 
-    /// Lends the table of level four, to be changed.
+    /// Lends the table of level four, to be changed. When the loan ends, the table has the words that were written to
+    /// it.
+    ///
+    /// Other calls of the mapper require a valid hierarchy, and [`is_valid`](Self::is_valid) tests whether it is one
+    /// after the changes.
     pub fn level_4_table_mut(&mut self) -> &mut PageTable
         ensures* lends { sem 𝓛 (LendsRootTable P.row T.row
             ⟦<P as PageTableFrameMapping>⟧ ⟦<T as TableMemory>⟧ self.entry result) }
@@ -194,7 +203,11 @@ impl<'a, P: PageTableFrameMapping, T: TableMemory> Direct<'a, P, FiveLevels, T> 
         self.table(&[], self.root)
     }
 
-    /// Lends the table of level five, to be changed.
+    /// Lends the table of level five, to be changed. When the loan ends, the table has the words that were written to
+    /// it.
+    ///
+    /// Other calls of the mapper require a valid hierarchy, and [`is_valid`](Self::is_valid) tests whether it is one
+    /// after the changes.
     pub fn level_5_table_mut(&mut self) -> &mut PageTable
         ensures* lends { sem 𝓛 (LendsRootTable57 P.row T.row
             ⟦<P as PageTableFrameMapping>⟧ ⟦<T as TableMemory>⟧ self.entry result) }

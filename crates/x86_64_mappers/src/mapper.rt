@@ -79,14 +79,14 @@ pub trait Mapper<S: PageSize>: TableAccess + PageTables {
 
     /// Maps a page to a frame with these flags, and `HUGE_PAGE` for 2MiB and 1GiB.
     ///
-    /// From level four down, each missing table gets the next frame of the allocator. The frame is cleared, and its
-    /// new entry gets the parent flags and those that the mapper adds (none, or `PRESENT` and `WRITABLE` with a
-    /// recursive index). A parent that is already used gets the parent flags added. The frames may hold any words.
+    /// From level four down, each missing table gets the next frame of the allocator. The frame is cleared, and its new
+    /// entry gets the parent flags and those that the mapper adds (none, or `PRESENT` and `WRITABLE` with a recursive
+    /// index). A parent that is already used gets the parent flags added. The frames may hold any words.
     ///
     /// Intel SDM vol. 3A, "Hierarchical Paging Structures: an Overview".
     ///
-    /// Requires that the hierarchy is valid, that the allocator's frames are as in a pool that fits it, and that
-    /// [`map_allowed`](Self::map_allowed) returns true.
+    /// Requires that the hierarchy is valid, that the frames that the allocator can hand out are distinct and in the
+    /// memory, and neither frame 0 nor the frame of a table, and that [`map_allowed`](Self::map_allowed) returns true.
     ///
     /// # Errors
     ///
@@ -96,8 +96,8 @@ pub trait Mapper<S: PageSize>: TableAccess + PageTables {
     ///
     /// The changes made before the refusal remain: new tables, and flags added to parents.
     ///
-    /// Even after a refused map, each page walk that succeeded before still arrives at its address. It loses no
-    /// right, and gains none that the parent flags lack.
+    /// Even after a refused map, each page walk that succeeded before still arrives at its address. It loses no right,
+    /// and gains none that the parent flags lack.
     final fn map_to_with_table_flags<A: FrameAllocator<Size4KiB>>(
         &mut self,
         page: Page<S>,
@@ -117,12 +117,34 @@ pub trait Mapper<S: PageSize>: TableAccess + PageTables {
         calls::map_to_with_table_flags(self, page, frame, flags, parent_flags, frame_allocator)
     }
 
-    /// Maps a page as [`map_to_with_table_flags`](Self::map_to_with_table_flags) does. The parent flags are
-    /// `PRESENT`, `WRITABLE` and `USER_ACCESSIBLE`, as far as the flags have them.
+    /// Maps a page to a frame with these flags, and `HUGE_PAGE` for 2MiB and 1GiB. The parent flags are those of
+    /// `PRESENT`, `WRITABLE` and `USER_ACCESSIBLE` that the flags have.
+    ///
+    /// From level four down, each missing table gets the next frame of the allocator. The frame is cleared, and its new
+    /// entry gets the parent flags and those that the mapper adds (none, or `PRESENT` and `WRITABLE` with a recursive
+    /// index). A parent that is already used gets the parent flags added. The frames may hold any words.
     ///
     /// If it succeeds with `PRESENT`, the page walk of each address of the page arrives at the frame's start plus the
     /// offset in the page. It has the right to write if and only if `WRITABLE` is among the flags, and that of a user
     /// if and only if `USER_ACCESSIBLE` is.
+    ///
+    /// Intel SDM vol. 3A, "Hierarchical Paging Structures: an Overview".
+    ///
+    /// Requires that the hierarchy is valid, that the frames that the allocator can hand out are distinct and in the
+    /// memory, and neither frame 0 nor the frame of a table, and that [`map_allowed`](Self::map_allowed) returns true
+    /// for the flags and these parent flags. This is so if the flags have `PRESENT` and no address bits, those of a
+    /// 4KiB page lack `HUGE_PAGE`, and the page's index of level four isn't the recursive index.
+    ///
+    /// # Errors
+    ///
+    /// - `ParentEntryHugePage` if a parent has `HUGE_PAGE`.
+    /// - Otherwise `FrameAllocationFailed` if the allocator has too few frames.
+    /// - Otherwise `PageAlreadyMapped` with the given frame if the page's entry is used.
+    ///
+    /// The changes made before the refusal remain: new tables, and flags added to parents.
+    ///
+    /// Even after a refused map, each page walk that succeeded before still arrives at its address. It loses no right,
+    /// and gains none that the parent flags lack.
     final fn map_to<A: FrameAllocator<Size4KiB>>(
         &mut self,
         page: Page<S>,
@@ -142,9 +164,24 @@ pub trait Mapper<S: PageSize>: TableAccess + PageTables {
         calls::map_to(self, page, frame, flags, frame_allocator)
     }
 
-    /// Maps the page that starts at a frame's own address to the frame, as [`map_to`](Self::map_to) does.
+    /// Maps the page that starts at a frame's own address to the frame with these flags, as [`map_to`](Self::map_to)
+    /// does for this page. The parent flags are those of `PRESENT`, `WRITABLE` and `USER_ACCESSIBLE` that the flags
+    /// have.
     ///
-    /// Requires the conditions of [`map_to`](Self::map_to) for this page, and that the frame starts below 2^47.
+    /// If it succeeds with `PRESENT`, the page walk of each address of the page arrives at the same physical address.
+    ///
+    /// Requires that the hierarchy is valid, that the frames that the allocator can hand out are distinct and in the
+    /// memory, and neither frame 0 nor the frame of a table, that [`map_allowed`](Self::map_allowed) returns true for
+    /// this page, the flags and these parent flags, and that the frame starts below 2^47, in the lower half of the
+    /// address space.
+    ///
+    /// # Errors
+    ///
+    /// - `ParentEntryHugePage` if a parent has `HUGE_PAGE`.
+    /// - Otherwise `FrameAllocationFailed` if the allocator has too few frames.
+    /// - Otherwise `PageAlreadyMapped` with the given frame if the page's entry is used.
+    ///
+    /// The changes made before the refusal remain: new tables, and flags added to parents.
     final fn identity_map<A: FrameAllocator<Size4KiB>>(
         &mut self,
         frame: PhysFrame<S>,
@@ -239,14 +276,16 @@ pub trait Mapper<S: PageSize>: TableAccess + PageTables {
     ///
     /// Returns one token for all pages.
     ///
-    /// Requires that the hierarchy is valid, that the allocator's frames are as in a pool that fits it, that all pages
-    /// and frames exist, and that each page may be mapped, as [`map_allowed`](Self::map_allowed) says. If the parent
-    /// flags have `PRESENT`, [`map_range_allowed`](Self::map_range_allowed) tests whether this is so.
+    /// Requires that the hierarchy is valid, that the frames that the allocator can hand out are distinct and in the
+    /// memory, and neither frame 0 nor the frame of a table, that all pages and frames of the range exist, and that
+    /// each page may be mapped, as [`map_allowed`](Self::map_allowed) says. If the parent flags have `PRESENT`,
+    /// [`map_range_allowed`](Self::map_range_allowed) tests the conditions of the pages and frames of the range.
     ///
     /// # Errors
     ///
-    /// The reason of the first refusal, with the token for the pages before the refused one, which stay mapped. The
-    /// changes that the refused map made on its way stay too, as for a single map.
+    /// The reason of the first refusal (`ParentEntryHugePage`, `FrameAllocationFailed` or `PageAlreadyMapped`), with
+    /// the token for the pages before the refused one, which stay mapped. The changes that the refused map made on its
+    /// way stay too, as for a single map.
     ///
     /// Even then, each page walk that succeeded before still arrives at its address. It loses no right, and gains none
     /// that the parent flags lack.
@@ -422,7 +461,7 @@ pub trait Mapper<S: PageSize>: TableAccess + PageTables {
         calls::set_table_flags(self, page, 2, flags)
     }
 
-    /// Returns true if the flags of the entry of level three on a page's path may be set to these. They may have no
+    /// Returns true if the flags of the entry of level three on a page's path may be set to these. They must have no
     /// address bits, and the page's index of level four must not be the recursive index. Unless
     /// [`set_flags_p3_entry`](Self::set_flags_p3_entry) would be refused, the flags must have `HUGE_PAGE` if and only
     /// if the entry has it.
@@ -435,7 +474,7 @@ pub trait Mapper<S: PageSize>: TableAccess + PageTables {
         calls::table_flags_allowed(self, page, 3, flags)
     }
 
-    /// Returns true if the flags of the entry of level two on a page's path may be set to these. They may have no
+    /// Returns true if the flags of the entry of level two on a page's path may be set to these. They must have no
     /// address bits, and the page's index of level four must not be the recursive index. Unless
     /// [`set_flags_p2_entry`](Self::set_flags_p2_entry) would be refused, the flags must have `HUGE_PAGE` if and only
     /// if the entry has it.
@@ -469,7 +508,7 @@ pub trait Mapper<S: PageSize>: TableAccess + PageTables {
 
 impl<M: TableAccess + PageTables, S: PageSize> Mapper<S> for M {}
 
-/// Maps pages of all three sizes.
+/// Maps pages of all three sizes, 4KiB, 2MiB and 1GiB. Its calls are those of [`Mapper`] for each size.
 pub trait MapperAllSizes: Mapper<Size4KiB> + Mapper<Size2MiB> + Mapper<Size1GiB> {}
 
 impl<M: Mapper<Size4KiB> + Mapper<Size2MiB> + Mapper<Size1GiB>> MapperAllSizes for M {}

@@ -70,13 +70,13 @@ pub struct Recursive<A, L> {
     levels: PhantomData<L>,
 }
 
-/// A mapper for an active memory with any number of levels of page tables.
+/// A [`Recursive`] mapper for an active memory with any number of levels of page tables.
 pub type RecursivePageTableIn<'a, L, T = PhysMemory> = Recursive<Active<'a, L, T>, L>;
 
-/// A mapper for an active memory with four levels of page tables.
+/// A [`Recursive`] mapper for an active memory with four levels of page tables.
 pub type RecursivePageTable<'a, T = PhysMemory> = RecursivePageTableIn<'a, FourLevels, T>;
 
-/// A mapper for an active memory with five levels of page tables.
+/// A [`Recursive`] mapper for an active memory with five levels of page tables.
 pub type RecursivePageTable57<'a, T = PhysMemory> = RecursivePageTableIn<'a, FiveLevels, T>;
 
 impl<'a, L: LevelCount> RecursivePageTableIn<'a, L> {
@@ -124,6 +124,10 @@ impl<A: WalkedTables<L>, L: LevelCount> Recursive<A, L> {
     ghost use Rattle.x86_64_mappers.specs.Recursive.{active_in};
 
     /// Returns the reason why no mapper is created for a table at an address, or `None` if one is.
+    ///
+    /// The reason is `NotRecursive` if the address isn't that of a root's window, and otherwise `NotActive` if the
+    /// table isn't the one at which page walks start, or its entry at the index lacks `PRESENT`, has `HUGE_PAGE` or
+    /// doesn't name the table.
     pub fn refusal(
         active: &A,
         table: PhysFrame<Size4KiB>,
@@ -141,10 +145,10 @@ impl<A: WalkedTables<L>, L: LevelCount> Recursive<A, L> {
         None
     }
 
-    /// Creates a mapper with a recursive index for the hierarchy whose root is in the frame at which page walks
-    /// start.
+    /// Creates a mapper with a recursive index for the hierarchy whose root is in the frame at which page walks start.
     ///
-    /// Requires that the hierarchy is valid for the index.
+    /// Requires that the hierarchy is valid for the index, and that the root's entry at the index is present, lacks
+    /// `HUGE_PAGE` and names the root.
     pub fn new_unchecked(active: A, index: PageTableIndex) -> Self
         requires { ValidThrough L.LEVELS (A.memory active) (A.root active) index }
         ensures active { active_in result ≡ active }
@@ -213,9 +217,10 @@ impl<A: WalkedTables<FourLevels>> Recursive<A, FourLevels> {
         self.root_window()
     }
 
-    /// Lends the table of level four through its window, to be changed.
+    /// Lends the table of level four through its window, to be changed. When the loan ends, the table has the words
+    /// that were written to it.
     ///
-    /// Requires that the hierarchy is valid.
+    /// Requires that the hierarchy is valid. Other calls of the mapper require this of the changed one.
     pub fn level_4_table_mut(&mut self) -> &mut PageTable
         requires { Valid (⟦<Self as Tables>⟧.hierarchy self.old) }
         ensures* lends { sem 𝓛 (
@@ -239,9 +244,10 @@ impl<A: WalkedTables<FiveLevels>> Recursive<A, FiveLevels> {
         self.root_window()
     }
 
-    /// Lends the table of level five through its window, to be changed.
+    /// Lends the table of level five through its window, to be changed. When the loan ends, the table has the words
+    /// that were written to it.
     ///
-    /// Requires that the hierarchy is valid.
+    /// Requires that the hierarchy is valid. Other calls of the mapper require this of the changed one.
     pub fn level_5_table_mut(&mut self) -> &mut PageTable
         requires { Valid (⟦<Self as Tables>⟧.hierarchy self.old) }
         ensures* lends { sem 𝓛 (

@@ -10,7 +10,8 @@ pub fn layouts_stay()
     ensures { LayoutsStay }
 {}
 
-/// The same of address spaces that share in pairs, as a test by groups says of them.
+/// The layouts of address spaces that share in pairs are the same after calls as before. So the laws of the model, which speak of
+/// layouts, lead from what a test by groups says before calls to what it says afterwards.
 #[tactic(auto, using(crate::proofs::SpacesStay::paired_layouts_stay))]
 pub fn paired_layouts_stay()
     ensures { PairedLayoutsStay }

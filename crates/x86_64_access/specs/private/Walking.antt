@@ -17,7 +17,8 @@ access_on c T p a level frame r = let steps = steps_from c T p level frame in
 unfoldable pub may_read_on : Controls → (word : ℕ) → Bool
 may_read_on c e = present e && (not (huge e) && (nat_lt (address e) (2 ^ c.physical_bits) && (c.no_execute || not (no_execute e))))
 
--- The rights that a number stands for by its bits: WRITABLE, USER_ACCESSIBLE, and, at the place of NO_EXECUTE, the right to execute.
+-- The rights that a number stands for by its bits: WRITABLE, USER_ACCESSIBLE, and, at the place of NO_EXECUTE, the right to
+-- execute.
 abbrev pub rights_by : (bits : ℕ) → Rights
 rights_by bits = record { write = has bits 0x2; user = has bits 0x4; execute = has bits 0x8000_0000_0000_0000 }
 

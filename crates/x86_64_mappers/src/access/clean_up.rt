@@ -39,7 +39,12 @@ pub fn all_pages<L: LevelCount>() -> BlockRangeInclusive<PageIn<Size4KiB, L>>
     PageIn::range_inclusive(PageIn::containing_address(VirtAddrIn::zero()), last)
 }
 
-/// Removes the empty tables on the paths of the pages of a range, and returns their frames to the deallocator.
+/// Removes the empty tables on the paths of the pages of a range, and returns their frames to the deallocator, with all
+/// words 0.
+///
+/// Requires that the hierarchy is valid, and that the deallocator serves the frame of each table but the root and
+/// doesn't hold it. [`CleanUp::clean_up_addr_range`](crate::mapper::CleanUp::clean_up_addr_range) says which tables are
+/// removed.
 pub fn clean_up_range<M: TableAccess + TablesIn<L>, L: LevelCount, D: FrameDeallocator<Size4KiB>>(
     mapper: &mut M,
     range: BlockRangeInclusive<PageIn<Size4KiB, L>>,

@@ -112,7 +112,8 @@ fn keeps_huge<M: TableAccess>(mapper: &M, path: &[PageTableIndex], flags: PageTa
             == flags.contains(PageTableFlags::HUGE_PAGE)
 }
 
-/// Returns true if a number of pages, from a page on, exist and are outside the recursive window.
+/// Returns true if a number of pages, from a page on, exist and are outside the recursive window: no page's index of
+/// the highest level is the recursive index.
 pub fn range_allowed<S: PageSize, L: LevelCount, M: TablesIn<L>>(
     mapper: &M,
     page: PageIn<S, L>,

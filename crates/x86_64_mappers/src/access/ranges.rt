@@ -33,10 +33,10 @@ pub struct MapRangeErrorIn<S: PageSize, L: LevelCount> {
     pub why: MapToError<S>,
 }
 
-/// The refusal of a page with four levels of page tables.
+/// The refusal of a page of a range, with four levels of page tables.
 pub type MapRangeError<S> = MapRangeErrorIn<S, FourLevels>;
 
-/// The refusal of a page with five levels of page tables.
+/// The refusal of a page of a range, with five levels of page tables.
 pub type MapRangeError57<S> = MapRangeErrorIn<S, FiveLevels>;
 
 /// Returns the number of unused entries of a table from an index on, up to the first used one and at most `count`.

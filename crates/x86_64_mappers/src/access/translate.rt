@@ -22,6 +22,8 @@ use x86_64_tables::page_table::{FrameError, PageTableEntry};
 
 /// Returns the frame of the page that a path leads to.
 ///
+/// Requires that the hierarchy is valid, and that the path is that of an entry of the level of `S`.
+///
 /// # Errors
 ///
 /// Those of [`find_table`], then those of [`named_frame`].
@@ -39,7 +41,9 @@ pub fn translate_path<S: PageSize, M: TableAccess>(
     named_frame(entry(mapper, parents, table, path[last]))
 }
 
-/// Returns the translation of an address.
+/// Returns what an address is mapped to, as [`Translate::translate`](crate::mapper::Translate::translate) says.
+///
+/// Requires that the hierarchy is valid.
 pub fn translate<M: TableAccess + TablesIn<L>, L: LevelCount>(
     mapper: &M,
     addr: VirtAddrIn<L>,
@@ -53,8 +57,10 @@ pub fn translate<M: TableAccess + TablesIn<L>, L: LevelCount>(
     translate_position(mapper, path.indices(), addr)
 }
 
-/// Returns the physical address that an address is mapped to, which is the frame's start plus the offset, or `None`
-/// if the address isn't mapped.
+/// Returns the physical address that an address is mapped to, which is the frame's start plus the offset, or `None` if
+/// the address isn't mapped.
+///
+/// Requires that the hierarchy is valid.
 pub fn translate_addr<M: TableAccess + TablesIn<L>, L: LevelCount>(
     mapper: &M,
     addr: VirtAddrIn<L>,

@@ -12,10 +12,15 @@ use x86_64_tables::mapper::PageTables;
 pub trait CleanUp: TableAccess + PageTables {
     ghost use Rattle.x86_64_mappers.specs.CleanUps.{store_of, MayCleanUpInto, CleansUpInto};
 
-    /// Removes the empty tables of the whole address space. This is
-    /// [`clean_up_addr_range`](Self::clean_up_addr_range) for all pages, in both halves.
+    /// Removes the empty tables of the whole address space, in both halves, and returns their frames to the
+    /// deallocator, with all words 0.
     ///
-    /// Requires the conditions of [`clean_up_addr_range`](Self::clean_up_addr_range).
+    /// A table other than the root is removed if and only if two things hold. Each entry on its path is present and
+    /// lacks `HUGE_PAGE`. And each used entry below it is present and names a table. The removed table's entry becomes
+    /// unused. The tables below a table are removed before it, and otherwise tables are removed in order of index.
+    ///
+    /// Requires that the hierarchy is valid, and that the deallocator serves the frame of each table but the root and
+    /// doesn't hold it.
     final fn clean_up<D: FrameDeallocator<Size4KiB>>(&mut self, frame_deallocator: &mut D)
         requires { MayCleanUpInto (Self.hierarchy self.old)
             (store_of D.FrameDeallocator frame_deallocator.old) }

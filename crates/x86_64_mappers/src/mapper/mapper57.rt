@@ -13,12 +13,10 @@ use x86_64_tables::mapper::{
 };
 use x86_64_tables::page_table::PageTableFlags;
 
-/// Maps and unmaps pages of one size in the 57-bit address space, and changes the flags of the entries on their
-/// paths.
+/// Maps and unmaps pages of one size in the 57-bit address space, and changes the flags of the entries on their paths.
 ///
-/// This is [`Mapper`](super::Mapper) with one more level. A map takes at most four frames.
-///
-/// The parents of a page are the entries on its path from the root down to the one above the page's own.
+/// These are the calls of [`Mapper`](super::Mapper) for five levels of page tables. The parents of a page are the
+/// entries on its path from the root down to the one above the page's own.
 pub trait Mapper57<S: PageSize>: TableAccess + PageTables57 {
     ghost use Rattle.x86_64_model.specs.Call.{Reply};
     ghost use Rattle.x86_64_model.specs.Entry.{no_address, present};
@@ -31,15 +29,28 @@ pub trait Mapper57<S: PageSize>: TableAccess + PageTables57 {
     ghost use Rattle.x86_64_tables.specs.FlushRecorder.{flush_range};
     ghost use Rattle.x86_64_tables.specs.MapperAnswers.{map_answer, unmap_answer, translate_answer};
 
-    /// Maps a page to a frame with these flags, as
-    /// [`Mapper::map_to_with_table_flags`](super::Mapper::map_to_with_table_flags) does.
+    /// Maps a page to a frame with these flags, and `HUGE_PAGE` for 2MiB and 1GiB.
     ///
-    /// Requires that the hierarchy is valid, that the allocator's frames are as in a pool that fits it, and that
-    /// [`map_allowed`](Self::map_allowed) returns true.
+    /// From level five down, each missing table gets the next frame of the allocator. The frame is cleared, and its new
+    /// entry gets the parent flags and those that the mapper adds (none, or `PRESENT` and `WRITABLE` with a recursive
+    /// index). A parent that is already used gets the parent flags added. The frames may hold any words. A map takes at
+    /// most four frames.
+    ///
+    /// Intel SDM vol. 3A, "Hierarchical Paging Structures: an Overview".
+    ///
+    /// Requires that the hierarchy is valid, that the frames that the allocator can hand out are distinct and in the
+    /// memory, and neither frame 0 nor the frame of a table, and that [`map_allowed`](Self::map_allowed) returns true.
     ///
     /// # Errors
     ///
-    /// Those of [`Mapper::map_to_with_table_flags`](super::Mapper::map_to_with_table_flags).
+    /// - `ParentEntryHugePage` if a parent has `HUGE_PAGE`.
+    /// - Otherwise `FrameAllocationFailed` if the allocator has too few frames.
+    /// - Otherwise `PageAlreadyMapped` with the given frame if the page's entry is used.
+    ///
+    /// The changes made before the refusal remain: new tables, and flags added to parents.
+    ///
+    /// Even after a refused map, each page walk that succeeded before still arrives at its address. It loses no right,
+    /// and gains none that the parent flags lack.
     final fn map_to_with_table_flags<A: FrameAllocator<Size4KiB>>(
         &mut self,
         page: Page57<S>,
@@ -59,8 +70,35 @@ pub trait Mapper57<S: PageSize>: TableAccess + PageTables57 {
         calls::map_to_with_table_flags(self, page, frame, flags, parent_flags, frame_allocator)
     }
 
-    /// Maps a page as [`map_to_with_table_flags`](Self::map_to_with_table_flags) does, with the parent flags of
-    /// [`Mapper::map_to`](super::Mapper::map_to).
+    /// Maps a page to a frame with these flags, and `HUGE_PAGE` for 2MiB and 1GiB. The parent flags are those of
+    /// `PRESENT`, `WRITABLE` and `USER_ACCESSIBLE` that the flags have.
+    ///
+    /// From level five down, each missing table gets the next frame of the allocator. The frame is cleared, and its new
+    /// entry gets the parent flags and those that the mapper adds (none, or `PRESENT` and `WRITABLE` with a recursive
+    /// index). A parent that is already used gets the parent flags added. The frames may hold any words. A map takes at
+    /// most four frames.
+    ///
+    /// If it succeeds with `PRESENT`, the page walk of each address of the page arrives at the frame's start plus the
+    /// offset in the page. It has the right to write if and only if `WRITABLE` is among the flags, and that of a user
+    /// if and only if `USER_ACCESSIBLE` is.
+    ///
+    /// Intel SDM vol. 3A, "Hierarchical Paging Structures: an Overview".
+    ///
+    /// Requires that the hierarchy is valid, that the frames that the allocator can hand out are distinct and in the
+    /// memory, and neither frame 0 nor the frame of a table, and that [`map_allowed`](Self::map_allowed) returns true
+    /// for the flags and these parent flags. This is so if the flags have `PRESENT` and no address bits, those of a
+    /// 4KiB page lack `HUGE_PAGE`, and the page's index of level five isn't the recursive index.
+    ///
+    /// # Errors
+    ///
+    /// - `ParentEntryHugePage` if a parent has `HUGE_PAGE`.
+    /// - Otherwise `FrameAllocationFailed` if the allocator has too few frames.
+    /// - Otherwise `PageAlreadyMapped` with the given frame if the page's entry is used.
+    ///
+    /// The changes made before the refusal remain: new tables, and flags added to parents.
+    ///
+    /// Even after a refused map, each page walk that succeeded before still arrives at its address. It loses no right,
+    /// and gains none that the parent flags lack.
     final fn map_to<A: FrameAllocator<Size4KiB>>(
         &mut self,
         page: Page57<S>,
@@ -80,10 +118,24 @@ pub trait Mapper57<S: PageSize>: TableAccess + PageTables57 {
         calls::map_to(self, page, frame, flags, frame_allocator)
     }
 
-    /// Maps the page that starts at a frame's own address to the frame, as [`map_to`](Self::map_to) does.
+    /// Maps the page that starts at a frame's own address to the frame with these flags, as [`map_to`](Self::map_to)
+    /// does for this page. The parent flags are those of `PRESENT`, `WRITABLE` and `USER_ACCESSIBLE` that the flags
+    /// have.
     ///
-    /// Requires the conditions of [`map_to`](Self::map_to) for this page. Every frame is below 2^52, and so in the
-    /// lower half of the address space.
+    /// If it succeeds with `PRESENT`, the page walk of each address of the page arrives at the same physical address.
+    ///
+    /// Requires that the hierarchy is valid, that the frames that the allocator can hand out are distinct and in the
+    /// memory, and neither frame 0 nor the frame of a table, and that [`map_allowed`](Self::map_allowed) returns true
+    /// for this page, the flags and these parent flags. Every frame is below 2^52, and therefore in the lower half of
+    /// the address space.
+    ///
+    /// # Errors
+    ///
+    /// - `ParentEntryHugePage` if a parent has `HUGE_PAGE`.
+    /// - Otherwise `FrameAllocationFailed` if the allocator has too few frames.
+    /// - Otherwise `PageAlreadyMapped` with the given frame if the page's entry is used.
+    ///
+    /// The changes made before the refusal remain: new tables, and flags added to parents.
     final fn identity_map<A: FrameAllocator<Size4KiB>>(
         &mut self,
         frame: PhysFrame<S>,
@@ -102,9 +154,11 @@ pub trait Mapper57<S: PageSize>: TableAccess + PageTables57 {
         calls::identity_map(self, frame, flags, frame_allocator)
     }
 
-    /// Returns true if a page may be mapped with these flags and parent flags, as
-    /// [`Mapper::map_allowed`](super::Mapper::map_allowed) does. Here it is the page's index of level five that must
-    /// not be the recursive index.
+    /// Returns true if a page may be mapped with these flags and parent flags.
+    ///
+    /// Neither may have address bits. `HUGE_PAGE` may not be in the parent flags, nor in the flags of a 4KiB page. The
+    /// parent flags must have `PRESENT`, unless every parent has it, down to and including the first that also has
+    /// `HUGE_PAGE`. The page's index of level five must not be the recursive index.
     ///
     /// Requires that the hierarchy is valid.
     final fn map_allowed(
@@ -120,13 +174,21 @@ pub trait Mapper57<S: PageSize>: TableAccess + PageTables57 {
         calls::map_allowed(self, page, flags, parent_flags)
     }
 
-    /// Unmaps a page, and returns the frame that it was mapped to, as [`Mapper::unmap`](super::Mapper::unmap) does.
+    /// Unmaps a page, and returns the frame that it was mapped to. Tables that become empty stay.
     ///
     /// Requires that the hierarchy is valid, and that the page's index of level five isn't the recursive index.
     ///
     /// # Errors
     ///
-    /// Those of [`Mapper::unmap`](super::Mapper::unmap).
+    /// The first parent that lacks `PRESENT` or has `HUGE_PAGE` refuses the call: with `PageNotMapped` if it lacks
+    /// `PRESENT`, otherwise with `ParentEntryHugePage`. After the parents, the page's own entry refuses it:
+    ///
+    /// - with `PageNotMapped` if it lacks `PRESENT`;
+    /// - otherwise with `ParentEntryHugePage` if it has `HUGE_PAGE` and the page is one of 4KiB, or lacks it and the
+    ///   page is one of 2MiB or 1GiB;
+    /// - otherwise with `InvalidFrameAddress` if its address isn't a multiple of the page's size.
+    ///
+    /// A refused call changes nothing.
     final fn unmap(
         &mut self,
         page: Page57<S>,
@@ -139,14 +201,18 @@ pub trait Mapper57<S: PageSize>: TableAccess + PageTables57 {
         calls::unmap(self, page)
     }
 
-    /// Sets the flags of a page's own entry, as [`Mapper::update_flags`](super::Mapper::update_flags) does.
+    /// Sets the flags of a page's own entry, and `HUGE_PAGE` for 2MiB and 1GiB. The entry keeps its frame.
     ///
     /// Requires that the hierarchy is valid, that the flags have no address bits, and that the page's index of level
     /// five isn't the recursive index.
     ///
     /// # Errors
     ///
-    /// Those of [`Mapper::update_flags`](super::Mapper::update_flags).
+    /// - `PageNotMapped` or `ParentEntryHugePage` if a parent lacks `PRESENT` or has `HUGE_PAGE`, as for
+    ///   [`unmap`](Self::unmap).
+    /// - Otherwise `PageNotMapped` if the page's own entry is unused, or lacks `HUGE_PAGE` for 2MiB and 1GiB.
+    ///
+    /// A refused call changes nothing.
     final fn update_flags(
         &mut self,
         page: Page57<S>,
@@ -160,16 +226,25 @@ pub trait Mapper57<S: PageSize>: TableAccess + PageTables57 {
         calls::update_flags(self, page, flags)
     }
 
-    /// Maps a number of pages, from a page on, to as many frames, from a frame on, as
-    /// [`Mapper::map_range`](super::Mapper::map_range) does.
+    /// Maps a number of pages, from a page on, to as many frames, from a frame on. Does what
+    /// [`map_to_with_table_flags`](Self::map_to_with_table_flags) of each page in turn would do, up to the first one
+    /// that is refused, but looks up each table only once. Does nothing for no pages.
     ///
-    /// Requires that the hierarchy is valid, that the allocator's frames are as in a pool that fits it, that all pages
-    /// and frames exist, and that each page may be mapped, as [`map_allowed`](Self::map_allowed) says. If the parent
-    /// flags have `PRESENT`, [`map_range_allowed`](Self::map_range_allowed) tests whether this is so.
+    /// Returns one token for all pages.
+    ///
+    /// Requires that the hierarchy is valid, that the frames that the allocator can hand out are distinct and in the
+    /// memory, and neither frame 0 nor the frame of a table, that all pages and frames of the range exist, and that
+    /// each page may be mapped, as [`map_allowed`](Self::map_allowed) says. If the parent flags have `PRESENT`,
+    /// [`map_range_allowed`](Self::map_range_allowed) tests the conditions of the pages and frames of the range.
     ///
     /// # Errors
     ///
-    /// Those of [`Mapper::map_range`](super::Mapper::map_range).
+    /// The reason of the first refusal (`ParentEntryHugePage`, `FrameAllocationFailed` or `PageAlreadyMapped`), with
+    /// the token for the pages before the refused one, which stay mapped. The changes that the refused map made on its
+    /// way stay too, as for a single map.
+    ///
+    /// Even then, each page walk that succeeded before still arrives at its address. It loses no right, and gains none
+    /// that the parent flags lack.
     final fn map_range<A: FrameAllocator<Size4KiB>>(
         &mut self,
         page: Page57<S>,
@@ -200,7 +275,8 @@ pub trait Mapper57<S: PageSize>: TableAccess + PageTables57 {
     }
 
     /// Returns true if the parent flags have `PRESENT`, and a number of pages, from a page on, may be mapped to the
-    /// frames from a frame on, as [`Mapper::map_range_allowed`](super::Mapper::map_range_allowed) does.
+    /// frames from a frame on: all pages and frames exist, and each page may be mapped with these flags and parent
+    /// flags, as [`map_allowed`](Self::map_allowed) says. Looks at the first and the last page alone, and at no table.
     final fn map_range_allowed(
         &self,
         page: Page57<S>,
@@ -216,8 +292,12 @@ pub trait Mapper57<S: PageSize>: TableAccess + PageTables57 {
         calls::map_range_allowed(self, page, count, frame, flags, parent_flags)
     }
 
-    /// Unmaps a number of pages, from a page on, and passes the frames that they were mapped to on to a sink, as
-    /// [`Mapper::unmap_range`](super::Mapper::unmap_range) does.
+    /// Unmaps a number of pages, from a page on, and passes the frames that they were mapped to on to a sink, in order.
+    /// Does what [`unmap`](Self::unmap) of each page in turn would do, but looks up each table only once, and passes
+    /// over all pages below a missing one at once. A page whose `unmap` would be refused, for whatever reason, is
+    /// passed over and stays as it is. Does nothing for no pages.
+    ///
+    /// Returns one token for all pages, those that were passed over too.
     ///
     /// Requires that the hierarchy is valid, and that [`range_allowed`](Self::range_allowed) returns true.
     final fn unmap_range<K: FrameSink>(
@@ -236,9 +316,12 @@ pub trait Mapper57<S: PageSize>: TableAccess + PageTables57 {
         calls::unmap_range(self, page, count, sink)
     }
 
-    /// Sets the flags of a number of pages, from a page on, as
-    /// [`Mapper::update_flags_range`](super::Mapper::update_flags_range) does. Returns the number of pages whose flags
-    /// were set.
+    /// Sets the flags of a number of pages, from a page on, and `HUGE_PAGE` for 2MiB and 1GiB. Does what
+    /// [`update_flags`](Self::update_flags) of each page in turn would do, but looks up each table only once, and
+    /// passes over all pages below a missing one at once. A page whose `update_flags` would be refused, for whatever
+    /// reason, is passed over and stays as it is. Does nothing for no pages.
+    ///
+    /// Returns the number of pages whose flags were set, and one token for all pages, those that were passed over too.
     ///
     /// Requires that the hierarchy is valid, that [`range_allowed`](Self::range_allowed) returns true, and that the
     /// flags have no address bits.
@@ -354,9 +437,10 @@ pub trait Mapper57<S: PageSize>: TableAccess + PageTables57 {
         calls::set_table_flags(self, page, 2, flags)
     }
 
-    /// Returns true if the flags of the entry of level three on a page's path may be set to these, as
-    /// [`Mapper::p3_flags_allowed`](super::Mapper::p3_flags_allowed) does. Here it is the page's index of level five
-    /// that must not be the recursive index.
+    /// Returns true if the flags of the entry of level three on a page's path may be set to these. They must have no
+    /// address bits, and the page's index of level five must not be the recursive index. Unless
+    /// [`set_flags_p3_entry`](Self::set_flags_p3_entry) would be refused, the flags must have `HUGE_PAGE` if and only
+    /// if the entry has it.
     ///
     /// Requires that the hierarchy is valid.
     final fn p3_flags_allowed(&self, page: Page57<S>, flags: PageTableFlags) -> bool
@@ -366,9 +450,10 @@ pub trait Mapper57<S: PageSize>: TableAccess + PageTables57 {
         calls::table_flags_allowed(self, page, 3, flags)
     }
 
-    /// Returns true if the flags of the entry of level two on a page's path may be set to these, as
-    /// [`Mapper::p2_flags_allowed`](super::Mapper::p2_flags_allowed) does. Here it is the page's index of level five
-    /// that must not be the recursive index.
+    /// Returns true if the flags of the entry of level two on a page's path may be set to these. They must have no
+    /// address bits, and the page's index of level five must not be the recursive index. Unless
+    /// [`set_flags_p2_entry`](Self::set_flags_p2_entry) would be refused, the flags must have `HUGE_PAGE` if and only
+    /// if the entry has it.
     ///
     /// Requires that the hierarchy is valid.
     final fn p2_flags_allowed(&self, page: Page57<S>, flags: PageTableFlags) -> bool
@@ -378,14 +463,17 @@ pub trait Mapper57<S: PageSize>: TableAccess + PageTables57 {
         calls::table_flags_allowed(self, page, 2, flags)
     }
 
-    /// Returns the frame that a page's entry names, as [`Mapper::translate_page`](super::Mapper::translate_page)
-    /// does.
+    /// Returns the frame that a page's entry names, `PRESENT` or not.
     ///
     /// Requires that the hierarchy is valid.
     ///
     /// # Errors
     ///
-    /// Those of [`Mapper::translate_page`](super::Mapper::translate_page).
+    /// - `PageNotMapped` or `ParentEntryHugePage` if a parent lacks `PRESENT` or has `HUGE_PAGE`, as for
+    ///   [`unmap`](Self::unmap).
+    /// - Otherwise `PageNotMapped` if the page's own entry is unused.
+    /// - Otherwise `InvalidFrameAddress` if the entry of a 2MiB or 1GiB page names a table, or an address that isn't a
+    ///   multiple of the size.
     final fn translate_page(&self, page: Page57<S>) -> Result<PhysFrame<S>, TranslateError>
         requires { Valid (Self.hierarchy self.now) }
         ensures { translate_answer result ≡ translated_page (Self.hierarchy self.now) S.LEVEL page }
@@ -396,7 +484,8 @@ pub trait Mapper57<S: PageSize>: TableAccess + PageTables57 {
 
 impl<M: TableAccess + PageTables57, S: PageSize> Mapper57<S> for M {}
 
-/// Maps pages of all three sizes.
+/// Maps pages of all three sizes, 4KiB, 2MiB and 1GiB, in the 57-bit address space. Its calls are those of [`Mapper57`]
+/// for each size.
 pub trait MapperAllSizes57: Mapper57<Size4KiB> + Mapper57<Size2MiB> + Mapper57<Size1GiB> {}
 
 impl<M: Mapper57<Size4KiB> + Mapper57<Size2MiB> + Mapper57<Size1GiB>> MapperAllSizes57 for M {}

@@ -13,8 +13,12 @@ pub trait Translate57: TableAccess + PageTables57 {
 
     /// Returns what an address is mapped to.
     ///
-    /// This is [`Translate::translate`](super::Translate::translate) with one more level: an entry of level five
-    /// needs `PRESENT` too.
+    /// The address is `NotMapped` if an entry of level five, four, three or two on its path lacks `PRESENT`. With
+    /// `HUGE_PAGE`, an entry of level three maps a page of 1GiB, and an entry of level two a page of 2MiB. An entry of
+    /// level one maps a page of 4KiB unless it is unused, even without `PRESENT`. The page walk succeeds if and only if
+    /// the flags in the result have `PRESENT`, and arrives at the address of the result.
+    ///
+    /// Intel SDM vol. 3A, "Linear-Address Translation with 4-Level Paging and 5-Level Paging".
     ///
     /// Requires that the hierarchy is valid.
     final fn translate(&self, addr: VirtAddr57) -> TranslateResult

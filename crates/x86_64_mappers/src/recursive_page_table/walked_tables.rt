@@ -42,14 +42,18 @@ pub trait WalkedTables<L: LevelCount> {
     fn self_entry(&self, index: PageTableIndex) -> bool
         ensures { result ≡ has_self_entry (by_number (Self.memory self.now)) (Self.root self.now) index };
 
-    /// Returns the table at which the page walk of a position arrives. A position is an address counted without the
-    /// gap between the halves.
+    /// Returns the table at which the page walk of a position arrives, if there is one. A position is an address
+    /// counted without the gap between the halves.
+    ///
+    /// Requires that the position is one of the address space.
     fn table(&self, position: u64) -> Option<&PageTable>
         requires { position < position_count L.LEVELS }
         ensures { option_copied result
             ≡ walked_table L.LEVELS (by_number (Self.memory self.now)) (Self.root self.now) position };
 
-    /// Lends the table at which the page walk of a position arrives.
+    /// Lends the table at which the page walk of a position arrives, if there is one.
+    ///
+    /// Requires that the position is one of the address space.
     fn table_mut(&mut self, position: u64) -> Option<&mut PageTable>
         requires { position < position_count L.LEVELS }
         ensures* lends { sem 𝓛 (LendsTableIfBy Self.row self.entry result (Self.with_table self.old

@@ -19,6 +19,9 @@ use x86_64_page::page::{NotGiantPageSize, Page57, PageIn, PageSize, Size4KiB};
 const FIVE_TIMES: u64 = 0x10_0804_0201;
 
 /// Returns the window of the table of level three on the path of a page, which is reached through a recursive index.
+///
+/// The page walk of the window arrives at the table if the root's entry at this index names the root, and each entry on
+/// the path down to the table names a table, all of them with `PRESENT` and without `HUGE_PAGE`.
 pub fn p3_window<S: PageSize, L: LevelCount>(
     page: PageIn<S, L>,
     index: PageTableIndex,
@@ -30,6 +33,9 @@ pub fn p3_window<S: PageSize, L: LevelCount>(
 }
 
 /// Returns the window of the table of level two on the path of a page, which is reached through a recursive index.
+///
+/// The page walk of the window arrives at the table if the root's entry at this index names the root, and each entry on
+/// the path down to the table names a table, all of them with `PRESENT` and without `HUGE_PAGE`.
 pub fn p2_window<S: NotGiantPageSize, L: LevelCount>(
     page: PageIn<S, L>,
     index: PageTableIndex,
@@ -41,6 +47,9 @@ pub fn p2_window<S: NotGiantPageSize, L: LevelCount>(
 }
 
 /// Returns the window of the table of level one on the path of a page, which is reached through a recursive index.
+///
+/// The page walk of the window arrives at the table if the root's entry at this index names the root, and each entry on
+/// the path down to the table names a table, all of them with `PRESENT` and without `HUGE_PAGE`.
 pub fn p1_window<L: LevelCount>(
     page: PageIn<Size4KiB, L>,
     index: PageTableIndex,
@@ -53,6 +62,9 @@ pub fn p1_window<L: LevelCount>(
 
 /// Returns the window of the table of level four on the path of a page with five levels of page tables, which is
 /// reached through a recursive index.
+///
+/// The page walk of the window arrives at the table if the root's entry at this index names the root, and each entry on
+/// the path down to the table names a table, all of them with `PRESENT` and without `HUGE_PAGE`.
 pub fn p4_window_57<S: PageSize>(page: Page57<S>, index: PageTableIndex) -> Page57<Size4KiB>
     ensures path { page_path 5 result ≡ replicate 4 index ++ path_at 5 5 page }
     ensures table { ShowsTable 5 index (path_at 5 5 page) result }
