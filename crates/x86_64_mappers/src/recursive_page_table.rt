@@ -220,7 +220,7 @@ impl<A: WalkedTables<FourLevels>> Recursive<A, FourLevels> {
     /// Lends the table of level four through its window, to be changed. When the loan ends, the table has the words
     /// that were written to it.
     ///
-    /// Requires that the hierarchy is valid. Other calls of the mapper require this of the changed one.
+    /// Requires that the hierarchy is valid. Other calls of the mapper require that it is valid after the changes.
     pub fn level_4_table_mut(&mut self) -> &mut PageTable
         requires { Valid (⟦<Self as Tables>⟧.hierarchy self.old) }
         ensures* lends { sem 𝓛 (
@@ -247,7 +247,7 @@ impl<A: WalkedTables<FiveLevels>> Recursive<A, FiveLevels> {
     /// Lends the table of level five through its window, to be changed. When the loan ends, the table has the words
     /// that were written to it.
     ///
-    /// Requires that the hierarchy is valid. Other calls of the mapper require this of the changed one.
+    /// Requires that the hierarchy is valid. Other calls of the mapper require that it is valid after the changes.
     pub fn level_5_table_mut(&mut self) -> &mut PageTable
         requires { Valid (⟦<Self as Tables>⟧.hierarchy self.old) }
         ensures* lends { sem 𝓛 (

@@ -35,7 +35,7 @@ parts_where test n T f = flat_map (λ i. cond (test i) (part n T f i) []) indice
 
 -- ---- who has the tables below an index
 
--- The n-th space of a list.
+-- The space number n of a list, counted from 0, with the group in which its root is at each index.
 abbrev pub grouped_at : List Grouped → (n : ℕ) → Grouped
 grouped_at spaces n = get_or spaces n (record { space = record { root = 0; recursive = None }; group = λ i. None })
 
