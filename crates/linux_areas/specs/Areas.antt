@@ -11,6 +11,7 @@ use Rattle.linux_areas.specs.declared.area.Area.TheVariants.{User, LdtRemap, Dir
 use Rattle.linux_areas.specs.declared.layout.Bounds.{Bounds}
 use Rattle.linux_areas.specs.declared.layout.Layout.{Layout}
 
+-- The name of an area, as text.
 abbrev pub area_name : Area → List ℕ
 area_name User = codes "user"
 area_name LdtRemap = codes "LDT remap"
@@ -26,92 +27,104 @@ area_name KernelTextOrModules = codes "kernel text or modules"
 area_name Fixmap = codes "fixmap"
 area_name Vsyscall = codes "vsyscall"
 
--- the areas, in order of their addresses
+-- All areas of Linux's address space, in the order of their addresses.
 abbrev pub areas : List Area
 areas = User ∷ LdtRemap ∷ DirectMap ∷ Vmalloc ∷ Vmemmap ∷ CpuEntryArea ∷ EspFixup ∷ Efi ∷ KernelText ∷ Modules ∷ KernelTextOrModules ∷ Fixmap ∷ Vsyscall ∷ []
 
--- the number that a text of VMCOREINFO tells behind a key, if there is a text
-abbrev pub told : (text : Option (List ℕ)) → (key : List ℕ) → Option ℕ
-told text key = option_and_then (λ bytes. word_in bytes key) text
+-- The 64-bit word behind a key in the first line of VMCOREINFO's text that begins with the key. It is None if there is no text, no
+-- such line, or no number behind the key.
+abbrev pub number_after : (text : Option (List ℕ)) → (key : List ℕ) → Option ℕ
+number_after text key = option_and_then (λ bytes. word_in bytes key) text
 
--- what is known of the places of areas by VMCOREINFO, with these levels of tables
+-- What VMCOREINFO's text, if there is one, says of where a kernel's areas lie, for a kernel whose page tables have this number of
+-- levels.
 abbrev pub layout_of : (vmcoreinfo : Option (List ℕ)) → Levels → Layout
 layout_of vmcoreinfo levels = record {
   levels = levels;
-  page_offset_base = told vmcoreinfo (codes "NUMBER(page_offset_base)=");
-  vmalloc_base = told vmcoreinfo (codes "NUMBER(vmalloc_base)=");
-  vmemmap_base = told vmcoreinfo (codes "NUMBER(vmemmap_base)=");
-  kernel_image_size = told vmcoreinfo (codes "NUMBER(KERNEL_IMAGE_SIZE)=");
+  page_offset_base = number_after vmcoreinfo (codes "NUMBER(page_offset_base)=");
+  vmalloc_base = number_after vmcoreinfo (codes "NUMBER(vmalloc_base)=");
+  vmemmap_base = number_after vmcoreinfo (codes "NUMBER(vmemmap_base)=");
+  kernel_image_size = number_after vmcoreinfo (codes "NUMBER(KERNEL_IMAGE_SIZE)=");
 }
 
 -- ---- places that are fixed
 
--- an area from a first to a last address
+-- The bounds of an area from a first to a last address, both included.
 abbrev pub between : (first last : ℕ) → Option Bounds
 between first last = Some (record { first = first; last = last })
 
--- the lower half of the address space
+-- The bounds of the memory of a process: the lower half of the address space of four or five levels of page tables.
 abbrev pub user_area : Levels → Option Bounds
 user_area Four = between 0 0x7fff_ffff_ffff
 user_area Five = between 0 0xff_ffff_ffff_ffff
 
+-- The bounds of the remap of the local descriptor table, for page table isolation: 512GiB with four levels of page tables, 256TiB
+-- with five.
 abbrev pub ldt_remap : Levels → Option Bounds
 ldt_remap Four = between 0xffff_8800_0000_0000 0xffff_887f_ffff_ffff
 ldt_remap Five = between 0xff10_0000_0000_0000 0xff10_ffff_ffff_ffff
 
 -- ---- places that the kernel chooses
 
--- 64TiB, or 32PiB
+-- The greatest size in bytes of the direct map of all physical memory: 64TiB with four levels of page tables, 32PiB with five.
 abbrev pub direct_map_size : Levels → ℕ
 direct_map_size Four = 64 * 2 ^ 40
 direct_map_size Five = 32 * 2 ^ 50
 
--- 32TiB, or 12.5PiB
+-- The greatest size in bytes of the area of `vmalloc`: 32TiB with four levels of page tables, 12.5PiB with five.
 abbrev pub vmalloc_size : Levels → ℕ
 vmalloc_size Four = 32 * 2 ^ 40
 vmalloc_size Five = 12800 * 2 ^ 40
 
--- 1TiB, or half a PiB
+-- The greatest size in bytes of the array of the pages' descriptors: 1TiB with four levels of page tables, 512TiB with five.
 abbrev pub vmemmap_size : Levels → ℕ
 vmemmap_size Four = 2 ^ 40
 vmemmap_size Five = 512 * 2 ^ 40
 
--- the last address of an area at a base, or the one before another base if that lies in it
+-- The last address of an area from a base to a last address, if the area has to end before another base. That changes nothing if
+-- the other base isn't known or isn't above the area's own.
 abbrev pub last_before : (other : Option ℕ) → (base last : ℕ) → ℕ
 last_before None base last = last
 last_before (Some other) base last = if nat_lt base other then min last (other - 1) else last
 
--- the last address of an area of this size at a base: it ends before the next base that is known
+-- The last address of an area with this base and this size in bytes, below 2^64. The area ends before the next base of the direct
+-- map, `vmalloc` or the pages' descriptors that the layout knows.
 abbrev pub last_of : Layout → (base size : ℕ) → ℕ
 last_of l base size = last_before l.vmemmap_base base (last_before l.vmalloc_base base (last_before l.page_offset_base base
     (min (base + (size - 1)) (2 ^ 64 - 1))))
 
--- an area of this size at its base, if that is known
+-- The bounds of an area of at most this size in bytes at its base, up to the next base that the layout knows. It is None if the
+-- area's own base isn't known.
 abbrev pub based : Layout → (base : Option ℕ) → (size : ℕ) → Option Bounds
 based l base size = option_map (λ first. record { first = first; last = last_of l first size }) base
 
 -- ---- the kernel's code and data, and its modules
 
--- where the modules begin, behind the bytes that are kept for the kernel's code and data
+-- The address at which modules begin, if `size` bytes are kept in front of them for the kernel's code and data. More than
+-- 0x7f000000 bytes count as that many.
 abbrev pub modules_start : (size : ℕ) → ℕ
 modules_start size = 0xffff_ffff_8000_0000 + min size 0x7f00_0000
 
+-- The bounds of the kernel's code and data, by the number of bytes that are kept for them, or None if that isn't known.
 abbrev pub text_area : (size : Option ℕ) → Option Bounds
 text_area None = None
 text_area (Some size) = between 0xffff_ffff_8000_0000 (modules_start size - 1)
 
+-- The bounds of the kernel's modules, by the number of bytes that are kept for its code and data, or None if that isn't known.
 abbrev pub module_area : (size : Option ℕ) → Option Bounds
 module_area None = None
 module_area (Some size) = between (modules_start size) 0xffff_ffff_feff_ffff
 
--- both together, if it isn't known where the modules begin
+-- The bounds of the kernel's code and data and its modules together, if the number of bytes that are kept for its code and data
+-- isn't known. It is None if that is known, since the two can then be told apart.
 abbrev pub text_or_modules : (size : Option ℕ) → Option Bounds
 text_or_modules None = between 0xffff_ffff_8000_0000 0xffff_ffff_feff_ffff
 text_or_modules (Some size) = None
 
 -- ---- the area of addresses
 
--- the first and the last address of an area, if its place is known
+-- The first and the last address of an area, or None if the layout doesn't say where it lies. The kernel's code and data and its
+-- modules have bounds as one area if it isn't known where the modules begin, and otherwise as two.
 abbrev pub bounds_of : Layout → Area → Option Bounds
 bounds_of l User = user_area l.levels
 bounds_of l LdtRemap = ldt_remap l.levels
@@ -127,11 +140,12 @@ bounds_of l KernelTextOrModules = text_or_modules l.kernel_image_size
 bounds_of l Fixmap = between 0xffff_ffff_ff00_0000 0xffff_ffff_ff5f_ffff
 bounds_of l Vsyscall = between 0xffff_ffff_ff60_0000 0xffff_ffff_ff60_0fff
 
--- whether all addresses from a first to a last one lie in an area whose place is known
+-- Whether the bounds of an area are known, and all addresses from a first to a last one lie within them.
 abbrev pub lie_in : (first last : ℕ) → Option Bounds → Bool
 lie_in first last None = false
 lie_in first last (Some area) = nat_le area.first first && nat_le last area.last
 
--- the area in which all addresses from a first to a last one lie
+-- The area in which all addresses from a first to a last one lie: the first such area in the order of addresses, or None if they
+-- lie in none whose place is known.
 unfoldable pub area_at : Layout → (first last : ℕ) → Option Area
 area_at l first last = find (λ area. lie_in first last (bounds_of l area)) areas

@@ -44,17 +44,17 @@ pub struct Layout {
 }
 
 impl Layout {
-    /// Returns what a text of VMCOREINFO tells of a kernel whose tables have so many levels, or nothing of the places that the kernel
+    /// Returns what a text of VMCOREINFO says of a kernel whose tables have so many levels, or nothing of the places that the kernel
     /// chooses if there is no text. A number counts that is hexadecimal behind `0x`, or decimal and perhaps negative.
     pub fn of(vmcoreinfo: Option<&[u8]>, levels: Levels) -> Layout
         ensures { result ≡ specs.layout_of (option_copied vmcoreinfo.entry) levels }
     {
         Layout {
             levels,
-            page_offset_base: told(vmcoreinfo, b"NUMBER(page_offset_base)="),
-            vmalloc_base: told(vmcoreinfo, b"NUMBER(vmalloc_base)="),
-            vmemmap_base: told(vmcoreinfo, b"NUMBER(vmemmap_base)="),
-            kernel_image_size: told(vmcoreinfo, b"NUMBER(KERNEL_IMAGE_SIZE)="),
+            page_offset_base: number_after(vmcoreinfo, b"NUMBER(page_offset_base)="),
+            vmalloc_base: number_after(vmcoreinfo, b"NUMBER(vmalloc_base)="),
+            vmemmap_base: number_after(vmcoreinfo, b"NUMBER(vmemmap_base)="),
+            kernel_image_size: number_after(vmcoreinfo, b"NUMBER(KERNEL_IMAGE_SIZE)="),
         }
     }
 
@@ -115,9 +115,9 @@ impl Layout {
     }
 }
 
-/// Returns the number that a text tells behind a key, if there is a text.
-fn told(text: Option<&[u8]>, key: &[u8]) -> Option<u64>
-    ensures { result ≡ specs.told (option_copied text.entry) key.now }
+/// Returns the 64-bit word behind a key in a text, or `None` if there is no text or no such word in it.
+fn number_after(text: Option<&[u8]>, key: &[u8]) -> Option<u64>
+    ensures { result ≡ specs.number_after (option_copied text.entry) key.now }
 {
     word_in(text?, key)
 }

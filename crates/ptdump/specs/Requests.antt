@@ -23,23 +23,23 @@ use Rattle.ptdump.specs.declared.stop.Stop.{Stop}
 use Rattle.ptdump.specs.declared.stop.Stop.TheVariants.{Failed}
 use Rattle.ptdump.specs.Numbers.{IsNumber, number_of}
 
--- each text is a number, and these are their numbers
+-- Each of the texts is a number, and these are their numbers, in order.
 abbrev pub AreNumbers : (texts : List (List ℕ)) → (numbers : List ℕ) → Type 0
 AreNumbers texts numbers = All IsNumber texts × (numbers ≡ map number_of texts)
 
--- the texts of the arguments with a name
+-- The texts of the arguments with a name, in order, or the empty list if there are none.
 abbrev pub values : Found → (name : List ℕ) → List (List ℕ)
 values found name = unwrap_or (option_map raw_values (matched_of found name)) []
 
--- the number of bits of physical addresses is that of --maxphyaddr, the direct map that of --direct-map, the regions are those of
--- --from and --to, and aliases are found by --aliases
+-- What to check is what the arguments say: the number of bits of physical addresses is that of --maxphyaddr, the direct map that of
+-- --direct-map, the selection that of --from and --to, and aliases are found if --aliases is given.
 pub record IsChecking (found : Found) (checking : Checking) : Type 0 where
   pub bits : IsBits (first_value found (codes "maxphyaddr")) checking.physical_bits
   pub direct_map : IsDirectMap (first_value found (codes "direct-map")) checking.direct_map
   pub selection : IsSelection found checking.selection
   pub aliases : IsFlag (one_text found (codes "aliases")) checking.aliases
 
--- the command has this name, and what it takes from these arguments
+-- The command is the one with this name, and what it takes is what these arguments say.
 abbrev pub IsCommand : (name : List ℕ) → Found → Command → Type 0
 IsCommand name found (Regions selection) = (name ≡ codes "regions") × IsSelection found selection
 IsCommand name found (Pages selection names) = (name ≡ codes "pages") × IsSelection found selection × IsFlag (one_text found (codes "names")) names
@@ -50,21 +50,23 @@ IsCommand name found Image = name ≡ codes "image"
 IsCommand name found Picture = name ≡ codes "picture"
 IsCommand name found Info = name ≡ codes "info"
 
--- the number of levels is None if its text is missing, and is the number of its text otherwise
+-- The number of levels of tables is None if its text is missing, and is the number of its text otherwise.
 abbrev pub IsLevels : (text : Option (List ℕ)) → Option Levels → Type 0
 IsLevels text levels = IsOption text (option_map level_count levels)
 
+-- Whether output is in the form of JSON, and not of text.
 abbrev pub is_json : Form → Bool
 is_json Text = false
 is_json Json = true
 
--- lines name areas in any case if the flag is given, and otherwise if VMCOREINFO says where the root is
+-- Lines name areas in any case if the flag --linux is given, and otherwise if VMCOREINFO says where the root is. A command line
+-- gives no layout of areas.
 abbrev pub AreNamed : (flag : Option (List ℕ)) → AreaNames → Type 0
 AreNamed flag Always = IsFlag flag true
 AreNamed flag OfKernel = IsFlag flag false
 AreNamed flag (By layout) = ⊥
 
--- the request is that of the command with this name and these arguments, with standard output a terminal or not
+-- The request is that of the command with this name and these arguments. `is_terminal` says whether standard output is a terminal.
 pub record IsRequest (is_terminal : Bool) (name : List ℕ) (found : Found) (request : Request) : Type 0 where
   pub command : IsCommand name found request.command
   pub form : IsFlag (one_text found (codes "json")) (is_json request.form)
@@ -78,6 +80,6 @@ pub record IsRequest (is_terminal : Bool) (name : List ℕ) (found : Found) (req
   pub cpu : IsOption (first_value found (codes "cpu")) request.cpu
   pub all_cpus : IsFlag (one_text found (codes "all-cpus")) request.all_cpus
 
--- memory allocation failed, or no value has this property
+-- Memory allocation failed, and that is the reason to stop, or no value has this property.
 abbrev pub IsUnread : {T : Type 0} → (Holds : T → Type 0) → Stop → Type 0
 IsUnread {T} Holds stop = (stop ≡ Failed OutOfMemory) ⊎ ((value : T) → ¬ (Holds value))

@@ -17,6 +17,7 @@ use Rattle.test_reference.specs.declared.plain_calls.PlainCall.TheVariants.{MapT
 use Rattle.test_reference.specs.declared.plain_calls.PlainReply.{PlainReply}
 use Rattle.test_reference.specs.declared.plain_calls.PlainReply.TheVariants.{NotAllowed, Answered, Position, Address, Cleaned}
 
+-- The plain program's reason for a refusal, as that of the model.
 abbrev pub refusal_of : Refusal → refusal.Refusal
 refusal_of PageNotMapped = refusal.PageNotMapped
 refusal_of ParentEntryHugePage = refusal.ParentEntryHugePage
@@ -24,26 +25,30 @@ refusal_of (InvalidFrameAddress address) = refusal.InvalidFrameAddress address
 refusal_of (PageAlreadyMapped frame) = refusal.PageAlreadyMapped frame
 refusal_of FrameAllocationFailed = refusal.FrameAllocationFailed
 
+-- The plain program's reason for a refusal, or None without a refusal, as that of the model.
 abbrev pub refusals_of : Option Refusal → Option refusal.Refusal
 refusals_of None = None
 refusals_of (Some why) = Some (refusal_of why)
 
+-- The plain program's answer to a call on a page, as that of the model.
 abbrev pub answer_of : Answer → refusal.Answer
 answer_of (Done frame) = refusal.Done frame
 answer_of (Refused why) = refusal.Refused (refusal_of why)
 
--- The path map and the answer after a call on one entry.
+-- The path map and the plain program's answer after a call on one entry, as the model has them.
 abbrev pub after_change : PathMap → Answer → AfterChange
 after_change paths answer = record { paths = paths; answer = answer_of answer }
 
--- The path map, the free frames and the answer after a map.
+-- The path map, the free frames and the plain program's answer after a map, as the model has them.
 abbrev pub after_map : PathMap → (supply : List ℕ) → Answer → AfterMap
 after_map paths supply answer = record { paths = paths; supply = supply; answer = answer_of answer }
 
+-- The plain program's result of a translation, as that of the model.
 abbrev pub translated_of : Translated → translation.Translated
 translated_of NotMapped = translation.NotMapped
 translated_of (Mapped size frame offset flags) = translation.Mapped size frame offset flags
 
+-- The plain program's call, as that of the model.
 abbrev pub call_of : PlainCall → call.Call
 call_of (MapTo page frame flags) = call.MapTo page.items frame flags
 call_of (MapToWithTableFlags page frame flags parent_flags) = call.MapToWithTableFlags page.items frame flags parent_flags
@@ -56,6 +61,7 @@ call_of (Translate position) = call.Translate position
 call_of (TranslateAddress position) = call.TranslateAddress position
 call_of (CleanUp low high) = call.CleanUp low high
 
+-- The plain program's reply to a call, as that of the model.
 abbrev pub reply_of : PlainReply → call.Reply
 reply_of NotAllowed = call.NotAllowed
 reply_of (Answered answer) = call.Answered (answer_of answer)

@@ -5,18 +5,18 @@ use Rattle.std.specs.FinMap.{from_entries}
 use Rattle.x86_64_model.specs.PathMap.{PathMap}
 use Rattle.test_reference.specs.declared.entries.PathEntry.{PathEntry}
 
--- Each path with its entry.
+-- The pairs of each item's path and its entry, in order.
 abbrev pub pairs : List PathEntry → List (List ℕ × ℕ)
 pairs items = map (λ item. (item.path.items, item.word)) items
 
--- If a path occurs twice, its first entry counts.
+-- The path map of a list of paths with entries. If a path occurs twice, its first entry counts.
 abbrev pub paths_of_items : List PathEntry → PathMap
 paths_of_items items = from_entries (pairs items)
 
--- The first word stored for a path.
+-- The first entry that a list of paths with entries has for a path, or None if it has none.
 abbrev pub found : List PathEntry → List ℕ → Option ℕ
 found items q = option_map (λ item. item.word) (find (λ item. bytes_eq item.path.items q) items)
 
--- The items at other paths.
+-- The items of a list of paths with entries whose path isn't this one.
 abbrev pub without : List PathEntry → List ℕ → List PathEntry
 without items q = filter (λ item. not (bytes_eq item.path.items q)) items

@@ -10,16 +10,16 @@ use Rattle.x86_64_model.specs.PathMap.{PathMap}
 use Rattle.x86_64_model.specs.Refusal.{Answer}
 use Rattle.x86_64_tables.specs.PageTableFlags.{bits_of}
 
--- The call that a map is.
+-- The call of `map_to_with_table_flags` by which a map of a page is made.
 abbrev pub call_of : {S L : Type 0} → PageMap S L → PageCall
 call_of map = MapToWithTableFlags map.page map.frame (bits_of map.flags) (bits_of map.parent_flags)
 
--- What the rule of a map call says of a map of a page of a level.
+-- The path map, the supply of free frames and the answer after a map of a page of a level, as the rule of map calls has them.
 abbrev pub by_rule : {Lent S L : Type 0} → Hierarchy Lent → (supply : List ℕ) → (level : ℕ) → PageMap S L → AfterMap
 by_rule h supply level map =
     map_call h.layout.levels (paths h) supply (bits_of map.parent_flags) h.layout.added_flags (path_of h level map.page) map.frame (bits_of map.flags)
 
--- What a rule says, except that these paths and this supply stay if it refuses.
+-- What a rule says of a map, except that these paths and this supply stay as they are if it refuses the map.
 abbrev pub or_nothing : PathMap → (supply : List ℕ) → AfterMap → AfterMap
 or_nothing paths supply after = cond (refuses after.answer) (record { paths = paths; supply = supply; answer = after.answer }) after
 

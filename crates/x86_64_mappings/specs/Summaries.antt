@@ -4,7 +4,8 @@ use Rattle.std.specs.List.{list_all, list_any}
 use Rattle.x86_64_model.specs.Mappings.{Mapping}
 use Rattle.x86_64_mappings.specs.declared.summaries.summary.Summary.{Summary}
 
--- the number of mappings, their size in bytes, the rights that some of them have, and the rights that all of them have
+-- The summary of mappings: their number, their size in bytes, the rights that at least one of them has, and the rights that all of
+-- them have.
 unfoldable pub summary_of : List Mapping → Summary
 summary_of ms = record {
   count = length ms;

@@ -7,7 +7,8 @@ use Rattle.x86_64_tables.specs.declared.mapper.MappedFrame.{MappedFrame}
 use Rattle.x86_64_tables.specs.declared.mapper.MappedFrame.TheVariants.{Size4KiB, Size2MiB, Size1GiB}
 use Rattle.x86_64_tables.specs.declared.page_table.flags.PageTableFlags.{PageTableFlags}
 
--- the mapping from a start on to a frame, with flags and rights
+-- The mapping that starts at position `start` (the number of an address counted without the non-canonical gap) and maps the whole
+-- of a frame, with these flags and rights.
 abbrev pub mapping_to : (start : ℕ) → MappedFrame → PageTableFlags → Rights → Mapping
 mapping_to start frame flags rights = record {
   start = start;
@@ -17,7 +18,7 @@ mapping_to start frame flags rights = record {
   rights = rights;
 }
 
--- the frame of one of the three sizes with a start
+-- The frame with this size in bytes and this start address. It has 4KiB or 2MiB if that is its size, and 1GiB otherwise.
 abbrev pub frame_at : (size start : ℕ) → MappedFrame
 frame_at size start =
     if size == 0x1000 then Size4KiB start else (if size == 0x20_0000 then Size2MiB start else Size1GiB start)
