@@ -101,7 +101,15 @@ pub fn mappings<'a, T: TableMemory, P: PageTableFrameMapping>(
     all_mappings(memory, mapping, root)
 }
 
-/// Returns an iterator over the mappings below a root with five levels of page tables, like [`mappings`] for four levels.
+/// Returns an iterator over the mappings below a root with five levels of page tables, in order of their starts. It
+/// allocates no memory.
+///
+/// The tables may contain any words, and the iterator ends for all of them: a table that names itself is read again only as
+/// a table of the level below, down to level one. Nothing is mapped below an entry whose frame isn't covered by the mapping,
+/// or lies at a place (the number of a table in the memory) that the memory lacks, nor by an entry above level three with
+/// `HUGE_PAGE`.
+///
+/// Intel SDM vol. 3A, "4-Level Paging and 5-Level Paging"; AMD APM vol. 2, "Long-Mode Page Translation".
 pub fn mappings_57<'a, T: TableMemory, P: PageTableFrameMapping>(
     memory: &'a T,
     mapping: &'a P,
@@ -124,8 +132,10 @@ pub(crate) fn all_mappings<'a, L: LevelCount, T: TableMemory, P: PageTableFrameM
     mappings_from(memory, mapping, root, VirtAddrIn::zero())
 }
 
-/// Returns an iterator over the mappings below a root like [`mappings`], but from the first on that contains an address or
-/// lies after it. There are as many levels of page tables as the address has.
+/// Returns an iterator over the mappings below a root, in order of their starts, from the first on that contains an address
+/// or lies after it. There are as many levels of page tables as the address has. It allocates no memory.
+///
+/// The tables may contain any words, as for [`mappings`], and the iterator ends for all of them.
 pub fn mappings_from<'a, L: LevelCount, T: TableMemory, P: PageTableFrameMapping>(
     memory: &'a T,
     mapping: &'a P,

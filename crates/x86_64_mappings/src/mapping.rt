@@ -23,6 +23,9 @@ use x86_64_tables::page_table::{PageTableEntry, PageTableFlags, Rights};
 /// A leaf is an entry at which page walks arrive: it and all entries above it have `PRESENT`, and it is of level one, or has
 /// `HUGE_PAGE` at level two or three. Intel SDM vol. 3A, "4-Level Paging and 5-Level Paging"; AMD APM vol. 2, "Long-Mode
 /// Page Translation".
+///
+/// Its text is `START SIZE FRAME RIGHTS FLAGS`: the addresses where it and its frame start and its flags in hexadecimal behind
+/// `0x`, its size in KiB, MiB or GiB, and its rights by four letters such as `rw-u`.
 #[derive(Clone, Copy)]
 #[derive_where(Debug, PartialEq)]
 pub struct MappingIn<L: LevelCount> {
@@ -93,8 +96,8 @@ impl<L: LevelCount> MappingIn<L> {
         self.frame.size()
     }
 
-    /// Returns the mapping as text in a buffer, which is overwritten: its start, its size, the start of its frame, its rights, and
-    /// its flags.
+    /// Returns the mapping's text in a buffer, which is overwritten: its start, its size, the start of its frame, its rights, and
+    /// its flags, with a space between them.
     #[inline(always)]
     pub fn text_in<'a>(&self, buffer: &'a mut [u8; CAPACITY]) -> &'a str
         ensures { result.now ≡ mapping_text L.LEVELS self.now }

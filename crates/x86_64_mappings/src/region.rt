@@ -14,6 +14,9 @@ use x86_64_tables::page_table::Rights;
 
 /// A region, with `L::LEVELS` levels of page tables: a run of mappings as long as possible, in which each starts where the
 /// one before ended, in one half of the address space, with equal rights.
+///
+/// Its text is `FIRST-LAST SIZE RIGHTS`: its first and its last address in hexadecimal behind `0x`, its size in the largest of
+/// KiB, MiB, GiB and TiB that divides it, and its rights by four letters such as `rw-u`.
 #[derive(Clone, Copy)]
 #[derive_where(Debug, PartialEq)]
 pub struct RegionIn<L: LevelCount> {
@@ -77,7 +80,7 @@ impl<L: LevelCount> RegionIn<L> {
         consecutive && self.rights == next.rights
     }
 
-    /// Returns this region, extended to the last address of another.
+    /// Returns this region, extended to the last address of another. It keeps its first address and its rights.
     pub fn grown_to(self, next: &RegionIn<L>) -> RegionIn<L>
         ensures { result ≡ model.grown_to self next.now }
     {
@@ -87,14 +90,14 @@ impl<L: LevelCount> RegionIn<L> {
         }
     }
 
-    /// Returns the number of bytes from the first address to the last.
+    /// Returns the number of bytes from the first address to the last, both included.
     pub fn size(&self) -> u64
         ensures { result ≡ self.now.last + 1 - self.now.first }
     {
         (self.last.position() + 1).saturating_sub(self.first.position())
     }
 
-    /// Returns the region as text in a buffer, which is overwritten: its first and its last address, its size, and its rights.
+    /// Returns the region's text in a buffer, which is overwritten: its first and its last address, its size, and its rights.
     #[inline(always)]
     pub fn text_in<'a>(&self, buffer: &'a mut [u8; CAPACITY]) -> &'a str
         ensures { result.now ≡ region_text L.LEVELS self.now }

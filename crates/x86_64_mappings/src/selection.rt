@@ -6,7 +6,10 @@ use x86_64_addr::addr::VirtAddrIn;
 use x86_64_addr::level_count::LevelCount;
 use x86_64_tables::page_table::Rights;
 
-/// Which mappings or regions are selected: those that reach into the addresses from one to another, and have at least some rights.
+/// Which mappings or regions are selected: those that reach into the addresses from one to another, both included, and have at
+/// least some rights.
+///
+/// Of an address only the bits count that the levels of page tables translate: the low 48 with four levels, and 57 with five.
 #[derive(Clone, Copy)]
 pub struct Selection {
     /// The first of the addresses. If `None`, it is the first of all.
@@ -71,7 +74,7 @@ fn is_to<L: LevelCount>(to: Option<u64>, position: u64) -> bool
     }
 }
 
-/// Returns true if rights include others.
+/// Returns true if rights include all others: each of write, user and execute that the others have.
 pub fn includes(rights: Rights, others: Rights) -> bool
     ensures { result ≡ selections.includes rights others }
 {

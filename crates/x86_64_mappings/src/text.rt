@@ -12,6 +12,10 @@ use std::fmt::{Formatter, Result as FmtResult, Write};
 
 /// Writes a number of bytes in the largest of KiB, MiB, GiB and TiB that divides it. Writes 0 bytes as 0KiB, and rounds down
 /// to KiB if none of them divides the number.
+///
+/// # Errors
+///
+/// The formatter's error if it doesn't take the text.
 pub fn write_size<W: Write>(f: &mut Formatter<W>, bytes: u64) -> FmtResult
     ensures { WritesOnOk W.write_str_gives f.old result (texts.size_text bytes) f.new }
 {

@@ -48,7 +48,7 @@ pub enum WalkEnd {
     NotPresent,
     /// The entry has `HUGE_PAGE` above level three, where it maps no page.
     HugePage,
-    /// The table that the entry names isn't in the memory, or the root isn't, and no entry is read.
+    /// The table that the entry names isn't in the memory, or the root's table isn't, so that no entry is read.
     NoTable,
 }
 
@@ -70,6 +70,8 @@ pub struct EntriesRead {
 /// [`page_walk`](x86_64_tables::phys_memory::page_walk). The array keeps what it holds behind the entries that are written.
 ///
 /// Requires that there is room for `L::LEVELS` entries. [`MOST_LEVELS`] are always enough.
+///
+/// Intel SDM vol. 3A, "4-Level Paging and 5-Level Paging"; AMD APM vol. 2, "Long-Mode Page Translation".
 pub fn read_entries<L: LevelCount, T: TableMemory, P: PageTableFrameMapping>(
     memory: &T,
     mapping: &P,

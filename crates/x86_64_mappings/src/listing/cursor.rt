@@ -222,7 +222,8 @@ fn table_below<'a, T: TableMemory, P: PageTableFrameMapping>(
     }
 }
 
-/// Returns the number of positions that an entry of a level spans.
+/// Returns the number of positions, and so of bytes, that an entry of a level spans: 4KiB at level one, 2MiB at level two,
+/// 1GiB at level three, 512GiB at level four, and 256TiB at level five.
 ///
 /// Requires that the level is from one to five.
 pub fn span(level: u64) -> u64

@@ -24,7 +24,8 @@ use x86_64_page::page::Size4KiB;
 use x86_64_tables::page_table::{EntryTarget, PageTableEntry, PageTableFlags, Rights, has_flag};
 use x86_64_tables::phys_memory::{PageTableFrameMapping, TableMemory};
 
-/// Visits all wanted mappings below a root, in order of their starts.
+/// Visits all wanted mappings below a root with `L::LEVELS` levels of page tables, in order of their starts. Wanted are the
+/// mappings that the summaries count: all, or those that lead to a physical address.
 ///
 /// A table that is known to map nothing wanted is skipped.
 ///
@@ -47,7 +48,8 @@ pub fn visit_mappings<
     visit_selected_mappings::<L, T, P, V>(summaries, root, Selection::ALL, visitor)
 }
 
-/// Visits the wanted mappings below a root that are selected, in order of their starts.
+/// Visits the wanted mappings below a root with `L::LEVELS` levels of page tables that are selected, in order of their starts.
+/// Wanted are the mappings that the summaries count: all, or those that lead to a physical address.
 ///
 /// A table that is known to map nothing wanted is skipped, and so is a table that can't map anything selected, by the addresses
 /// that it spans and by the rights that some of its mappings have.
@@ -74,8 +76,9 @@ pub fn visit_selected_mappings<
     visit_table::<L, T, P, EachTable<'_, V>>(summaries, &selection, &table, &mut each)
 }
 
-/// Visits the first of the wanted and selected mappings of each kind below a root, in order of their starts. Mappings are of
-/// the same kind if they lead to the same frame, and have the same size and rights.
+/// Visits the first of the wanted and selected mappings of each kind below a root with `L::LEVELS` levels of page tables, in
+/// order of their starts. Mappings are of the same kind if they lead to the same frame, and have the same size and rights. Wanted
+/// are the mappings that the summaries count: all, or those that lead to a physical address.
 ///
 /// A table that is named by many entries is read once for each set of rights that the entries above it allow, unless only a part
 /// of its span is selected.

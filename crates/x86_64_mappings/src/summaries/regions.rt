@@ -23,7 +23,8 @@ use x86_64_page::page::{PageSize, Size4KiB};
 use x86_64_tables::page_table::{EntryTarget, PageTableEntry, PageTableFlags, Rights, has_flag};
 use x86_64_tables::phys_memory::{PageTableFrameMapping, TableMemory};
 
-/// Visits the regions formed by all wanted mappings below a root, in order of their addresses.
+/// Visits the regions formed by all wanted mappings below a root with `L::LEVELS` levels of page tables, in order of their
+/// addresses. Wanted are the mappings that the summaries count: all, or those that lead to a physical address.
 ///
 /// A table that is known to map nothing wanted is skipped, and a table that is known to map its whole span with equal rights
 /// is taken at once, so the time depends only on the other tables.

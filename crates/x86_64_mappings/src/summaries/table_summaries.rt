@@ -47,7 +47,7 @@ impl<'a, T: TableMemory, P: PageTableFrameMapping> Model for Summaries<'a, T, P>
 
 impl<'a, T: TableMemory, P: PageTableFrameMapping> Summaries<'a, T, P> {
     /// Computes what tables map. `frames` has the frames of the tables of level one, then of those of level two, and so on.
-    /// Levels above five are ignored.
+    /// Levels above five are ignored. If `wanted` is a physical address, only mappings that lead to it count, and otherwise all.
     ///
     /// A frame may occur at several levels. A table gets no summary if it names a frame that has a table in the memory but no
     /// summary one level below, or if the numbers don't fit. A frame without a table in the memory maps nothing.
@@ -79,8 +79,8 @@ impl<'a, T: TableMemory, P: PageTableFrameMapping> Summaries<'a, T, P> {
         Ok(Summaries { query, levels })
     }
 
-    /// Returns the summary of the wanted mappings of a frame's table of a level, if it is known. For which tables it is known isn't
-    /// said.
+    /// Returns the summary of the wanted mappings of a frame's table of a level, if it is known. The contract says that a summary
+    /// that is returned is right, but not for which tables there is one.
     pub fn of(&self, level: u64, frame: PhysFrame<Size4KiB>) -> Option<Summary>
         ensures { IfSome result (λ summary.
             summary ≡ summary_of (asked_mappings (asked_of T.tables P.places self.now) level frame)) }

@@ -9,7 +9,7 @@ pub trait Visitor<T> {
     /// How a visitor changes when it takes items, in order: from the visitor before to the visitor after.
     ghost Visits: { Self → Self → List T → Type 0 };
 
-    /// Takes an item.
+    /// Takes an item, or returns the reason why it isn't taken.
     fn visit(&mut self, item: T) -> Result<(), Self::Error>
         ensures { OnOk result (Visits self.old self.new (item ∷ [])) };
 

@@ -38,6 +38,10 @@ fn parse_digits(digits: &str, radix: u32) -> Option<u64>
 }
 
 /// Writes a number in base 16, after `0x`, in lower case and without leading zeros.
+///
+/// # Errors
+///
+/// The formatter's error if it doesn't take the text.
 pub fn write_hexadecimal<W: Write>(f: &mut Formatter<W>, number: u64) -> FmtResult
     ensures { WritesOnOk W.write_str_gives f.old result (hexadecimal number) f.new }
 {

@@ -9,7 +9,7 @@ ghost use Rattle.x86_64_tables.specs.Rights.{letter_text, rights_text};
 use std::str::from_utf8_unchecked;
 use x86_64_tables::page_table::Rights;
 
-/// The size of a buffer for a line.
+/// The size in bytes of a buffer for the text of a mapping or a region.
 pub const CAPACITY: usize = 96;
 
 /// The characters of the digits below 16.
