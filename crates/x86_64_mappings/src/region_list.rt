@@ -62,7 +62,7 @@ impl<'a, L: LevelCount, T: TableMemory, P: PageTableFrameMapping> Iterator
 /// Returns an iterator over the regions below a root with four levels of page tables, in order of their addresses. It
 /// allocates no memory. The tables may contain any words.
 ///
-/// The regions are formed by the mappings that [`mappings`](crate::mappings) lists.
+/// The regions are formed by the mappings that `mappings` lists.
 pub fn regions<'a, T: TableMemory, P: PageTableFrameMapping>(
     memory: &'a T,
     mapping: &'a P,
@@ -76,7 +76,7 @@ pub fn regions<'a, T: TableMemory, P: PageTableFrameMapping>(
 /// Returns an iterator over the regions below a root with five levels of page tables, in order of their addresses. It
 /// allocates no memory. The tables may contain any words.
 ///
-/// The regions are formed by the mappings that [`mappings_57`](crate::mappings_57) lists.
+/// The regions are formed by the mappings that `mappings_57` lists.
 pub fn regions_57<'a, T: TableMemory, P: PageTableFrameMapping>(
     memory: &'a T,
     mapping: &'a P,
