@@ -13,19 +13,22 @@ use Rattle.x86_64_mappings.specs.Selections.{is_mapping_selected}
 use Rattle.ptdump_engine.specs.declared.findings.aliased.Aliased.{Aliased}
 use Rattle.x86_64_mappings.specs.declared.selection.Selection.{Selection}
 
--- whether a mapping's frame contains that of another
+-- Whether the frame of the mapping `outer` contains all bytes of the frame of the mapping `inner`.
 abbrev pub contains : (outer inner : Mapping) → Bool
 contains n m = nat_le n.frame m.frame && nat_le (m.frame + m.size) (n.frame + n.size)
 
--- whether n is an alias of m: its frame contains that of m, its rights differ, and it is larger, or starts at a lower address
+-- Whether the mapping n is an alias of m: its frame contains that of m, its rights differ, and it is larger, or starts at a lower
+-- address.
 abbrev pub is_alias : (m n : Mapping) → Bool
 is_alias m n = contains n m && not (same_rights m.rights n.rights) && (nat_lt m.size n.size || nat_lt n.start m.start)
 
--- the first alias of a mapping
+-- The first of some mappings that is an alias of m, or None if none is. An alias has a frame that contains that of m and other
+-- rights, and is larger, or starts at a lower address.
 abbrev pub alias_in : List Mapping → Mapping → Option Mapping
 alias_in ms m = find (is_alias m) ms
 
--- m's frame, where m starts, and the virtual address in its alias n that leads to the frame
+-- The frame of the mapping m with two virtual addresses that lead to it, and the rights at each: the one at which m starts, and the
+-- one in its alias n, canonical for L levels of tables.
 abbrev pub aliased : (L : ℕ) → (m n : Mapping) → Aliased
 aliased L m n = record {
   frame = m.frame;
@@ -33,14 +36,15 @@ aliased L m n = record {
   other = record { address = raw L (n.start + (m.frame - n.frame)); rights = n.rights };
 }
 
--- what is said of a mapping and its alias
+-- The text and the JSON object of a frame that is mapped with different rights at two virtual addresses.
 abbrev pub said_of_aliased : Aliased → Said
 said_of_aliased a = record { text = aliased_text a; object = json_of_aliased a }
 
--- what is said of one of these mappings, if it has an alias
+-- The text and the JSON object of the mapping m and its first alias among some mappings, or None if it has no alias there.
 abbrev pub said_of_mapping : (L : ℕ) → List Mapping → Mapping → Option Said
 said_of_mapping L ms m = option_map (λ n. said_of_aliased (aliased L m n)) (alias_in ms m)
 
--- a line for each frame, size and rights, at the first selected mapping of that kind, if that has an alias
+-- A line for each frame, size and rights, in order: at the first selected mapping of that kind, if that has an alias among all
+-- mappings.
 abbrev pub alias_lines : (L : ℕ) → Selection → List Mapping → List Said
 alias_lines L selection ms = filter_map (said_of_mapping L ms) (distinct (filter (is_mapping_selected L selection) ms))

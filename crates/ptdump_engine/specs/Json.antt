@@ -19,19 +19,22 @@ use Rattle.ptdump_engine.specs.Walks.{End, arrives_at, not_present, no_table, hu
 use Rattle.ptdump_engine.specs.declared.request.ControlsSource.{ControlsSource}
 use Rattle.ptdump_engine.specs.declared.word_read.WordRead.{WordRead}
 
--- the line of a value: its text without spaces
+-- The line of a JSON value: its compact text, which has no spaces between tokens, and a line feed.
 abbrev pub json_line : Data → List ℕ
 json_line value = line (compact_text value)
 
--- an address or a word
+-- The JSON string of an address or a word: `0x` and its digits in base 16, in lower case.
 abbrev pub hexadecimal_string : ℕ → Data
 hexadecimal_string n = string (hexadecimal n)
 
+-- The JSON number of a count, an index or a size, in decimal digits.
 abbrev pub count : ℕ → Data
 count n = number (unsigned n)
 
 -- ---- lists
 
+-- The members of a region's JSON object, with L levels of tables: its size in bytes, its first and its last address, and its
+-- rights.
 abbrev pub region_members : (L : ℕ) → Region → Members
 region_members L r =
     member (codes "bytes") (count (r.last + 1 - r.first))
@@ -41,9 +44,12 @@ region_members L r =
     (member (codes "user") (boolean r.rights.user)
     (member (codes "write") (boolean r.rights.write) no_members)))))
 
+-- The JSON object of a region, with L levels of tables, and with the name of its area if that is known.
 abbrev pub json_of_region : (L : ℕ) → Option Area → Region → Data
 json_of_region L area r = object (with_area area (region_members L r))
 
+-- The members of a mapping's JSON object, with L levels of tables: its size in bytes, its flags, the addresses where its frame and
+-- it start, and its rights.
 abbrev pub mapping_members : (L : ℕ) → Mapping → Members
 mapping_members L m =
     member (codes "bytes") (count m.size)
@@ -54,10 +60,11 @@ mapping_members L m =
     (member (codes "user") (boolean m.rights.user)
     (member (codes "write") (boolean m.rights.write) no_members))))))
 
+-- The JSON object of a mapping, with L levels of tables, and with the name of its area if that is known.
 abbrev pub json_of_mapping : (L : ℕ) → Option Area → Mapping → Data
 json_of_mapping L area m = object (with_area area (mapping_members L m))
 
--- the address that leads to a physical address, with the rights there
+-- The JSON object of a virtual address that leads to a physical address: both addresses, and the rights there.
 abbrev pub json_of_found : (physical address : ℕ) → Rights → Data
 json_of_found physical address rights = object (
     member (codes "address") (hexadecimal_string address)
@@ -68,6 +75,7 @@ json_of_found physical address rights = object (
 
 -- ---- walks
 
+-- The JSON object of a word that a walk reads: its level, the address of its table, its index there, and the word itself.
 abbrev pub json_of_word : WordRead → Data
 json_of_word w = object (
     member (codes "index") (count w.index)
@@ -75,7 +83,8 @@ json_of_word w = object (
     (member (codes "table") (hexadecimal_string w.table)
     (member (codes "word") (hexadecimal_string w.word) no_members))))
 
--- how a walk ends, and the words that it reads; for an arrival also where, and with which rights
+-- The members of a walk's JSON object that say how it ends and which words it reads. For an arrival they have the physical address
+-- and the rights there, for a missing table its address, and for HUGE_PAGE its level.
 abbrev pub end_members : (words : Data) → Rights → End → Members
 end_members words rights (arrives_at to size) =
     member (codes "end") (string (codes "arrives"))
@@ -96,7 +105,7 @@ end_members words rights (huge_page level) =
     (member (codes "level") (count level)
     (member (codes "words") words no_members))
 
--- the controls that are on, and what says them
+-- The JSON object of the controls that decide an access: whether each is on, and where they come from.
 abbrev pub json_of_controls : Controls → ControlsSource → Data
 json_of_controls c source = object (
     member (codes "ac") (boolean c.ac)
@@ -106,7 +115,7 @@ json_of_controls c source = object (
     (member (codes "source") (string (source_name source))
     (member (codes "wp") (boolean c.write_protect) no_members))))))
 
--- an access, what a processor does with it, and the controls that decide it
+-- The JSON object of an access: its name, what a processor does with it, and the controls that decide that.
 abbrev pub json_of_access : Access → Controls → ControlsSource → Outcome → Data
 json_of_access a c source (Arrives to) = object (
     member (codes "controls") (json_of_controls c source)
@@ -125,16 +134,18 @@ json_of_access a c source (NoMemory frame) = object (
     (member (codes "name") (string (access_name a))
     (member (codes "table") (hexadecimal_string frame) no_members))))
 
--- the access that is asked for, if one is
+-- The JSON object of the access at position p that is asked for, or None if none is.
 abbrev pub json_of_asked : Controls → ControlsSource → Option Access → (L : ℕ) → Words → (root p : ℕ) → Option Data
 json_of_asked c source None L T root p = None
 json_of_asked c source (Some a) L T root p = Some (json_of_access a c source (outcome_in L T root p c a))
 
+-- The members, with a member `access` in front of them if there is an access.
 abbrev pub with_access : Option Data → Members → Members
 with_access None members = members
 with_access (Some access) members = member (codes "access") access members
 
--- a walk to an address, with the access there
+-- The JSON object of a walk to a virtual address: the address, the words that are read, how the walk ends, and the access there, if
+-- there is one.
 abbrev pub json_of_walk : (address : ℕ) → Walk → (access : Option Data) → Data
 json_of_walk address walk access = object (with_access access
     (member (codes "address") (hexadecimal_string address)

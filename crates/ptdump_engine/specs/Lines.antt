@@ -17,27 +17,29 @@ use Rattle.ptdump_engine.specs.declared.request.Form.{Form}
 use Rattle.ptdump_engine.specs.declared.request.Form.TheVariants.{Text, Json}
 use Rattle.ptdump_engine.specs.declared.request.WalkOptions.{WalkOptions}
 
--- a line that has this text, or as JSON this value
+-- A line of a report in a form, with its line feed: this text, or as JSON this value.
 abbrev pub line_in : Form → (text : List ℕ) → (value : Data) → List ℕ
 line_in Text text value = line text
 line_in Json text value = json_line value
 
--- the line for a region, with the area in which it lies if that is known
+-- The line of a region in a form, with the area of Linux's address space in which it lies, if the layout is known and says that.
+-- The columns are those of text.
 abbrev pub region_line : Form → Columns → Option Layout → (L : ℕ) → Region → List ℕ
 region_line form columns layout L r =
     line_in form (region_in columns L r ++ area_text (area_of_region layout L r)) (json_of_region L (area_of_region layout L r) r)
 
--- likewise for a mapping. A line of text has the names of the flags too if they are asked for
+-- The line of a mapping in a form, with the area of Linux's address space in which it lies, if the layout is known and says that. A
+-- line of text has these columns, and the names of the flags if they are asked for.
 abbrev pub mapping_line : Form → Columns → (has_names : Bool) → Option Layout → (L : ℕ) → Mapping → List ℕ
 mapping_line form columns has_names layout L m =
     line_in form (mapping_in columns has_names L m ++ area_text (area_of_mapping layout L m)) (json_of_mapping L (area_of_mapping layout L m) m)
 
--- the line for an address that leads to a physical address, with the rights there
+-- The line of a virtual address that leads to a physical address, in a form, with the rights there.
 abbrev pub found_line : Form → (physical address : ℕ) → Rights → List ℕ
 found_line form a at rights = line_in form (rights_at_text at rights) (json_of_found a at rights)
 
--- the walk to position p, and the access if it is asked for. Text also says at which words a processor faults, and explains the
--- walk if that is asked for
+-- The lines of the walk to position p in a form, and of the access there, if one is asked for. Text also says at which words a
+-- processor faults, and explains the walk if that is asked for.
 abbrev pub walk_lines : Form → (L : ℕ) → Words → (root : ℕ) → WalkOptions → (p : ℕ) → List ℕ
 walk_lines Text L T root asked p = walk_text asked.controls (walk_of L T root p)
     ++ (if asked.explains then explanation_text (walk_of L T root p) else []) ++ asked_text asked.controls asked.source asked.access L T root p

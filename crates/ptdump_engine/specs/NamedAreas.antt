@@ -18,22 +18,23 @@ use Rattle.ptdump_engine.specs.declared.start.Start.{Start}
 
 -- ---- by what areas are known
 
--- where the areas lie by which lines are named, if that is known
+-- The layout by which lines name areas, or None if no layout is known.
 abbrev pub layout_in : AreaNames → Option Layout
 layout_in (By layout) = Some layout
 layout_in names = None
 
--- whether VMCOREINFO says where the root is
+-- Whether VMCOREINFO says where the root is, be it a note or a text at an offset of the file.
 abbrev pub is_by_kernel : Origin → Bool
 is_by_kernel ByKernel = true
 is_by_kernel (ByText offset) = true
 is_by_kernel origin = false
 
--- where the areas lie by VMCOREINFO, with the levels of a start
+-- Lines name areas by the layout that a dump's VMCOREINFO describes, with the levels of the start of page walks.
 abbrev pub noted_layout : Contents → Start → AreaNames
 noted_layout dump start = By (layout_of (vmcoreinfo_of dump) start.levels)
 
--- which lines name areas, by what VMCOREINFO tells if they are asked for or the root is the kernel's own
+-- Which lines name areas in a dump, for a start of page walks. If that is asked for in any case, or by default if VMCOREINFO says
+-- where the root is, they do so by the layout that VMCOREINFO describes. A layout that is given stays.
 abbrev pub names_for : AreaNames → Contents → Start → AreaNames
 names_for OfKernel dump start = if is_by_kernel start.origin then noted_layout dump start else OfKernel
 names_for Always dump start = noted_layout dump start
@@ -41,24 +42,24 @@ names_for (By layout) dump start = By layout
 
 -- ---- the areas of mappings and regions
 
--- the area in which a region lies, if it is known
+-- The area of Linux's address space in which a region lies, with L levels of tables, or None if that isn't known.
 abbrev pub area_of_region : Option Layout → (L : ℕ) → Region → Option Area
 area_of_region layout L r = option_and_then (λ l. area_at l (raw L r.first) (raw L r.last)) layout
 
--- the last position of a mapping, within the address space
+-- The last position of a mapping, counted within the address space of L levels of tables.
 abbrev pub last_of : (L : ℕ) → Mapping → ℕ
 last_of L m = (m.start + (m.size - 1)) % position_count L
 
--- the area in which a mapping lies, if it is known
+-- The area of Linux's address space in which a mapping lies, with L levels of tables, or None if that isn't known.
 abbrev pub area_of_mapping : Option Layout → (L : ℕ) → Mapping → Option Area
 area_of_mapping layout L m = option_and_then (λ l. area_at l (raw L m.start) (raw L (last_of L m))) layout
 
--- the last column of a line, if the area is known
+-- The last column of a line, behind two spaces: the name of an area if it is known, or else nothing.
 abbrev pub area_text : Option Area → List ℕ
 area_text None = []
 area_text (Some area) = codes "  " ++ area_name area
 
--- its member of an object
+-- The members of a JSON object, with the name of an area as the member `area` in front of them if the area is known.
 abbrev pub with_area : Option Area → Members → Members
 with_area None members = members
 with_area (Some area) members = member (codes "area") (string (area_name area)) members

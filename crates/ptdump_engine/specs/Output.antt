@@ -8,21 +8,22 @@ use Rattle.ptdump_engine.specs.declared.output.Output.{Output}
 use Rattle.ptdump_engine.specs.declared.output.OutputError.{OutputError}
 use Rattle.ptdump_engine.specs.declared.output.OutputError.TheVariants as errors
 
--- the contents of the writer, followed by the collected text
+-- All text that an output has got: the contents of its writer, followed by the text that it still holds back. It is None if the
+-- contents aren't known.
 abbrev pub put_in : {W : Type 0} → (contents : W → Option (List ℕ)) → Output W (String Global) → Option (List ℕ)
 put_in contents output = append_known (contents output.writer.now) (string_bytes output.text)
 
--- text was put in, and the output still has the writer that it had
+-- Text was put in an output, behind what it had got before, and the output still has the writer that it had.
 pub record Puts {W : Type 0} (contents : W → Option (List ℕ)) (old new : Output W (String Global)) (text : List ℕ) : Type 0 where
   pub writer : new.writer.ghost_name ≡ old.writer.ghost_name
   pub appends : Appends (put_in contents old) (put_in contents new) text
 
--- the error is not of memory allocation
+-- The error of an output is that its writer refused a write, and not that memory allocation failed.
 abbrev pub IsRefusal : {W : Type 0} → OutputError W → Type 0
 IsRefusal errors.OutOfMemory = ⊥
 IsRefusal (errors.Write refusal) = ⊤
 
--- the failure of a run that ends for the error
+-- The failure of a run that ends for the error of an output: memory allocation failed, or a write was refused.
 abbrev pub failure_of : {W : Type 0} → OutputError W → Failure
 failure_of errors.OutOfMemory = failures.OutOfMemory
 failure_of (errors.Write refusal) = failures.Output

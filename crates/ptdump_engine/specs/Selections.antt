@@ -5,6 +5,6 @@ use Rattle.x86_64_model.specs.Regions.{region_of}
 use Rattle.x86_64_mappings.specs.Selections.{is_from, is_to}
 use Rattle.ptdump_engine.specs.declared.request.AddressRange.{AddressRange}
 
--- whether a mapping lies in a range of addresses, both ends included: all of its positions do
+-- Whether all positions of a mapping lie in a range of addresses, both ends included, with L levels of tables.
 abbrev pub lies_in : (L : ℕ) → AddressRange → Mapping → Bool
 lies_in L range m = is_from L (Some range.first) (region_of m).first && is_to L (Some range.last) (region_of m).last
