@@ -48,10 +48,6 @@ text_of_dump : {A : Type 0} (found : Result A Fault) → FaultHasText found → 
 text_of_dump (Ok a) has = tt
 text_of_dump (Err fault) has = has
 
-text_unless : {A : Type 0} (failure : Option Failure) (a : A) → ((f : Failure) → failure ≡ Some f → IsSome (failure_text f)) → HasText (unless failure a)
-text_unless None a has = tt
-text_unless (Some failure) a has = has failure refl
-
 register_text : (file : List ℕ) (note : Note) (at : ℕ) → FaultHasText (register_of file note at)
 unfolding register_of
 register_text file note at = by (is_note_cut (length file) note at)

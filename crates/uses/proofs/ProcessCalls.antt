@@ -118,12 +118,6 @@ pub served_own : (root page : ℕ) (call : Call) (serves : ℕ → Bool) (m n : 
     → Served (direct identity_places root) (if_own page call) serves m pool n rest
 served_own root page call serves m n pool rest low = subst (λ b. Served (direct identity_places root) (if b then [] else call ∷ []) serves m pool n rest) (sym low)
 
--- a call on a page of the kernel's half isn't made
-pub served_kernels : (root page : ℕ) (call : Call) (serves : ℕ → Bool) (m : Memory) (pool : List ℕ) → is_kernels (index 4 page) ≡ true → PoolFits (direct identity_places root laid_in m) serves pool
-    → Served (direct identity_places root) (if_own page call) serves m pool m pool
-served_kernels root page call serves m pool high fits =
-    subst (λ b. Served (direct identity_places root) (if b then [] else call ∷ []) serves m pool m pool) (sym high) (served_nothing (direct identity_places root) serves m pool fits)
-
 pub page_avoids : (p : ℕ) → is_kernels (index 4 p) ≡ false → is_shared is_kernels (path_at 4 1 p) ≡ false
 page_avoids p low = first_is_shared is_kernels 4 1 p (lit< tt) (lit≤ tt) ∙ low
 

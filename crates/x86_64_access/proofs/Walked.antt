@@ -69,9 +69,6 @@ is_arrival outcome = false
 abbrev pub words_in : List Step → List ℕ
 words_in steps = map (λ s. s.word) steps
 
-record_of : (w u x : Bool) → Rights
-record_of w u x = record { write = w; user = u; execute = x }
-
 -- the rights of one more word
 pub both_more : (r : Rights) (e : ℕ) (words : List ℕ) → both r (rights_of (e ∷ words)) ≡ both (granted r e) (rights_of words)
 both_more r e words = rw (

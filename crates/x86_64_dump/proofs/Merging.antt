@@ -8,7 +8,7 @@ use Rattle.std.proofs.lemmas.List.Sums.{fold-append}
 use Rattle.x86_64_dump.specs.declared.search.Place.{Place}
 use Rattle.x86_64_dump.specs.declared.search.Stretch.{Stretch}
 use Rattle.x86_64_dump.specs.private.Merging.{rest_after, place_passed, next_from, lower}
-use Rattle.x86_64_dump.specs.private.Search.{place_after, place_at, BeginFrom, AreInOrder, AreMerged}
+use Rattle.x86_64_dump.specs.private.Search.{place_after, place_at, BeginFrom, AreInOrder}
 
 -- stretches that begin after an address don't say its place
 pub begin_later : (x r : ℕ) (p : Option Place) (l : List Stretch) → x < r → BeginFrom r l → fold (place_after x) p l ≡ p
@@ -75,16 +75,6 @@ pub record IsMergedTo (address : ℕ) (front back merged F B : List Stretch) (p 
   pub order : AreInOrder merged
   pub next : (s : Stretch) → address ≤ s.from → AreInOrder (merged ++ s ∷ [])
 
-pub nothing_merged : (front back : List Stretch) → AreInOrder front → AreInOrder back → IsMergedTo 0 front back [] front back None None
-nothing_merged front back front_order back_order = record {
-  front_at = λ x reached. refl;
-  back_at = λ x reached. refl;
-  front_left = front_order;
-  back_left = back_order;
-  before = λ x below. let never : ⊥ = omega (arith, below) in absurd never;
-  from = λ x reached. refl;
-  order = tt;
-  next = λ s later. (omega arith, tt);
 }
 
 -- one more stretch is merged
@@ -121,30 +111,5 @@ merged_more front back merged more F B F' B' p q p' q' place r a next F'is B'is 
     risen : r ≤ a
     risen = lower_risen r a F B next state.front_left state.back_left
 
--- all stretches are merged
-pub all_merged : (front back merged F B : List Stretch) (p q : Option Place) (r : ℕ) → lower (next_from F) (next_from B) ≡ None
-    → IsMergedTo r front back merged F B p q → AreMerged front back merged
-all_merged front back merged [] [] p q r none state x = ⊎_elim
-    (state.before x)
-    (λ reached. state.from x reached ∙ ap₂ option_or (state.front_at x reached) (state.back_at x reached))
-    (cases_lt x r)
-all_merged front back merged [] (t ∷ B) p q r none state x = absurd (none-some _ (sym none))
-all_merged front back merged (s ∷ F) [] p q r none state x = absurd (none-some _ (sym none))
-all_merged front back merged (s ∷ F) (t ∷ B) p q r none state x = absurd (none-some _ (sym none))
-
-rest_shorter : (a : ℕ) (l : List Stretch) → length (rest_after a l) ≤ length l
-rest_shorter a [] = omega arith
-rest_shorter a (s ∷ l) = elim (s.from == a) as (λ b. length (cond b l (s ∷ l)) ≤ length (s ∷ l)) [ true ↦ omega arith | false ↦ omega arith ]
-
 shorter : (a : ℕ) (s : Stretch) (l : List Stretch) → s.from ≡ a → length (rest_after a (s ∷ l)) < length (s ∷ l)
 shorter a s l is = let P : Bool → Type 0 = λ b. length (cond b l (s ∷ l)) < length (s ∷ l) in subst P (sym (eq-eqb s.from a is)) (omega arith)
-
--- a step leaves fewer stretches
-pub fewer_left : (F B : List Stretch) (a : ℕ) → lower (next_from F) (next_from B) ≡ Some a → length (rest_after a F) + length (rest_after a B) < length F + length B
-fewer_left [] [] a is = absurd (none-some _ is)
-fewer_left (s ∷ F) [] a is = omega (arith, shorter a s F (inner _ _ is))
-fewer_left [] (t ∷ B) a is = omega (arith, shorter a t B (inner _ _ is))
-fewer_left (s ∷ F) (t ∷ B) a is = ⊎_elim
-    (λ less. omega (arith, shorter a s F (omega (arith, less, inner _ _ is)), rest_shorter a (t ∷ B)))
-    (λ more. omega (arith, shorter a t B (omega (arith, more, inner _ _ is)), rest_shorter a (s ∷ F)))
-    (cases_lt s.from t.from)

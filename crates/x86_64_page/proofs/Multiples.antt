@@ -19,11 +19,6 @@ multiple_of_4KiB n z (suc (suc zero)) low high e h = let a : n % span 2 ≡ 0 = 
 multiple_of_4KiB n z (suc (suc (suc zero))) low high e h = let a : n % span 3 ≡ 0 = subst (λ z. n % z ≡ 0) e h in omega arith
 multiple_of_4KiB n z (suc (suc (suc (suc l)))) low high e h = absurd (omega arith)
 
--- an address and its position leave the same remainder by a size, and rounded down they stay address and position
-pub record RoundedDown (position size : ℕ) : Type 0 where
-  pub remainder : raw 4 position % size ≡ position % size
-  pub start : (raw 4 position - raw 4 position % size) % 2 ^ 48 ≡ position - position % size
-
 -- the remainder is the same in the lower half of the address space and in the upper one
 remainder_in : (L p size level : ℕ) → IsLevelCount L → 1 ≤ level → level ≤ 3 → size ≡ span level → (lower : Bool)
     → (if lower then p else p + (2 ^ 64 - position_count L)) % size ≡ p % size
@@ -53,8 +48,4 @@ rounded p z (suc (suc (suc zero))) low high e small true = let e' : z ≡ 0x4000
 rounded p z (suc (suc (suc zero))) low high e small false = let e' : z ≡ 0x4000_0000 = e in rw e' (omega arith)
 rounded p z (suc (suc (suc (suc l)))) low high e small lower = absurd (omega arith)
 
-pub rounded_position : (position size level : ℕ) → 1 ≤ level → level ≤ 3 → size ≡ span level → position < 2 ^ 48 → RoundedDown position size
-rounded_position p z level low high e small = record {
-  remainder = same_remainder 4 p z level (inl refl) low high e;
-  start = rounded p z level low high e small (nat_lt p (lower_half 4));
 }

@@ -1,11 +1,10 @@
 -- Sums and differences of a multiple of a size and of a number of sizes.
-use Rattle.std.specs.Prelude.{◌≡◌, ℕ, ◌+◌, ◌-◌, ◌*◌, ◌%◌, ◌≤◌, ◌<◌, nat_lt, Bool, true, false, if◌then◌else◌, Option, Some, None}
-use Rattle.std.proofs.Common.{◌∙◌, refl, sym, ap, arith}
+use Rattle.std.specs.Prelude.{◌≡◌, ℕ, ◌+◌, ◌-◌, ◌*◌, ◌%◌, ◌≤◌, ◌<◌}
+use Rattle.std.proofs.Common.{◌∙◌, sym, ap, arith}
 use Rattle.std.proofs.Math.Nat.{add-mul-mod_self_right}
 use Rattle.std.proofs.lemmas.Nat.{pow_pos}
 use Rattle.x86_64_addr.specs.Levels.{IsLevelCount}
 use Rattle.x86_64_addr.specs.Position.{span, raw}
-use Rattle.x86_64_addr.specs.Successor.{forward, backward}
 use Rattle.x86_64_page.proofs.Multiples.{same_remainder}
 
 -- a multiple of the size plus a number of sizes is a multiple of the size
@@ -31,29 +30,6 @@ pub difference_is_aligned : (L difference position count size level : ℕ) → I
 difference_is_aligned L r p count z level levels low high e enough at aligned =
     sym (same_remainder L r z level levels low high e)
     ∙ (ap (λ m. m % z) at ∙ difference_is_multiple (raw L p) count z enough (same_remainder L p z level levels low high e ∙ aligned))
-
--- steps forward by a number of sizes lead from a multiple of the size to a multiple of the size
-forward_in : (found size number : ℕ) → number % size ≡ 0 → (inside : Bool) → (if inside then Some number else None) ≡ Some found → found % size ≡ 0
-forward_in m z n aligned true e = let same : m ≡ n = cc in rw same aligned
-forward_in m z n aligned false e = absurd cc
-
-pub forward_is_multiple : (limit number count size found : ℕ) (answer : Option ℕ) → number % size ≡ 0
-    → answer ≡ forward limit number (count * size) → answer ≡ Some found → found % size ≡ 0
-forward_is_multiple limit n count z m answer aligned is found =
-    forward_in m z (n + count * z) (sum_is_multiple n count z aligned) (nat_lt (n + count * z) limit) (sym is ∙ found)
-
--- steps back by a number of sizes lead from a multiple of the size to a multiple of the size
-backward_in : (found count size number : ℕ) → number % size ≡ 0 → (outside : Bool) → nat_lt number (count * size) ≡ outside
-    → (if outside then None else Some (number - count * size)) ≡ Some found → found % size ≡ 0
-backward_in m count z n aligned true at e = absurd cc
-backward_in m count z n aligned false at e =
-    let same : m ≡ n - count * z = cc in
-    let enough : count * z ≤ n = grind (arith, at) in
-    rw same (difference_is_multiple n count z enough aligned)
-
-pub backward_is_multiple : (number count size found : ℕ) (answer : Option ℕ) → number % size ≡ 0
-    → answer ≡ backward number (count * size) → answer ≡ Some found → found % size ≡ 0
-backward_is_multiple n count z m answer aligned is found = backward_in m count z n aligned (nat_lt n (count * z)) refl (sym is ∙ found)
 
 -- the size of a level is not 0
 pub size_is_positive : (size level : ℕ) → size ≡ span level → 0 < size

@@ -1,14 +1,13 @@
 -- A pool in a lent array fits a hierarchy: by the list of its own frames, and by what it serves.
-use Rattle.std.proofs.Common.{◌≡◌, ◌∙◌, ℕ, ◌≤◌, ◌&&◌, nat_lt, Bool, true, false, cond, List, ◌∷◌, length, Option, Some, None, sym, subst, ap}
+use Rattle.std.proofs.Common.{◌≡◌, ◌∙◌, ℕ, ◌&&◌, nat_lt, Bool, true, false, cond, List, ◌∷◌, length, Option, Some, None, sym, subst, ap}
 use Rattle.std.specs.Borrow.{GName}
 use Rattle.x86_64_model.specs.Entry.{is_frame, address, names_table}
-use Rattle.x86_64_model.specs.Hierarchy.{paths_of}
 use Rattle.x86_64_model.specs.Memory.{Words}
 use Rattle.x86_64_model.specs.PathMap.{PathMap, entry, table_of, table_at}
 use Rattle.x86_64_model.specs.Pool.{Fits}
 use Rattle.x86_64_model.specs.Window.{Window}
 use Rattle.x86_64_model.proofs.Lemmas.Entries.Bits.{is_frame_address}
-use Rattle.x86_64_tables.specs.LentPool.{is_in, served_by, stacked, FitsRoom}
+use Rattle.x86_64_tables.specs.LentPool.{is_in, served_by}
 use Rattle.x86_64_tables.specs.private.PoolLaws.{frame_aligned, served_aligned, served_frame}
 
 -- a table below the root stands in a frame
@@ -47,12 +46,4 @@ pub fits_own : {L : ℕ} {window : Option Window} {T : Words} {root : ℕ} {path
 fits_own {L} {window} {T} {root} {paths} {pool} {serves} own array count same = fits_by L window T root paths pool serves (is_in own)
     (λ f is served. sym (ap (λ s. s f) same ∙ served_aligned own array count f (frame_aligned f is)) ∙ served)
 
--- so the array that the pool leaves fits, with room
-pub fits_room : {L : ℕ} {T : Words} {root : ℕ} {pool : List ℕ} {serves : ℕ → Bool} (own : List ℕ) (array count : GName) (entries : List ℕ) (n : ℕ)
-    → serves ≡ served_by own array count → Fits L None T root (paths_of L T root) serves pool → length own ≤ length entries → stacked entries n ≡ pool
-    → FitsRoom L T root (length entries) (stacked entries n)
-fits_room {L} {T} {root} own array count entries n same fits few left = record {
-  own = own;
-  few = few;
-  fits = subst (Fits L None T root (paths_of L T root) (is_in own)) (sym left) (fits_own own array count same fits);
 }

@@ -68,9 +68,3 @@ module _ (ts : List (List ℕ)) where
   set-numbered q t near =
       ap (λ n. tables_at (range_with_len 0 n) (slice_set ts q t)) (length-set ts q t)
       ∙ changed numbers ts (numbered ts) same refl q q t (sym (stands q near))
-
--- the memory keeps its places when a table of the slice is set
-pub stays-set : (ts : List (List ℕ)) (q : ℕ) (t : List ℕ) (r : ℕ) → IsSome (get (numbered ts) r) → IsSome (get (numbered (slice_set ts q t)) r)
-stays-set ts q t r has =
-    let n = length-set ts q t in let near = there_below ts r has in
-    below_there (slice_set ts q t) r (omega (arith, n, near))

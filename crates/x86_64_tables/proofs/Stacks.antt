@@ -3,7 +3,7 @@ use Rattle.std.proofs.Common.{◌≡◌, inl, inr, ⊎_elim, ℕ, zero, suc, ◌
 use Rattle.std.specs.Borrow.{GName}
 use Rattle.std.proofs.lemmas.Bool.{eq-eqb, ne_eqb}
 use Rattle.std.proofs.lemmas.Bool.Decides.{eqb_tells}
-use Rattle.std.proofs.lemmas.List.{take_more, take_more_set, take-set, reverse-append, length-reverse, length-take-le}
+use Rattle.std.proofs.lemmas.List.{take_more, take_more_set, reverse-append, length-reverse, length-take-le}
 use Rattle.x86_64_model.specs.Entry.{is_frame}
 use Rattle.x86_64_model.proofs.Lemmas.Entries.Words.{address_within}
 use Rattle.x86_64_model.specs.Lists.{In, EachOnce}
@@ -35,10 +35,6 @@ stacked-pop entries n below = ap reverse (take_more entries n 0 below) ∙ rever
 
 pub stacked-push : (entries : List ℕ) (n f : ℕ) → n < length entries → stacked (slice_set entries n f) (n + 1) ≡ f ∷ stacked entries n
 stacked-push entries n f below = ap reverse (take_more_set entries n f below) ∙ reverse-append (take n entries) (f ∷ [])
-
--- an entry above the stack
-pub stacked-above : (entries : List ℕ) (n f : ℕ) → stacked (slice_set entries n f) n ≡ stacked entries n
-stacked-above entries n f = ap reverse (take-set entries n f)
 
 pub length-stacked : (entries : List ℕ) (n : ℕ) → n ≤ length entries → length (stacked entries n) ≡ n
 length-stacked entries n inside = length-reverse (take n entries) ∙ length-take-le n entries inside

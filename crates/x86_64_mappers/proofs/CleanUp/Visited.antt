@@ -1,5 +1,5 @@
 -- The tables that a clean up comes to are reached, and remain so while those below them are cleaned up.
-use Rattle.std.proofs.Common.{zero, suc, ◌≡◌, inr, ◌<◌, ◌≤◌, ℕ, ◌==◌, Bool, true, false, List, [], ◌∷◌, ◌++◌, length, take, get_or, Option, Some, None, refl, ap, ◌∙◌, arith, eq-eqb}
+use Rattle.std.proofs.Common.{zero, suc, ◌≡◌, inr, ◌<◌, ◌≤◌, ℕ, ◌==◌, Bool, true, false, List, [], ◌∷◌, ◌++◌, length, take, get_or, Some, refl, ap, ◌∙◌, arith, eq-eqb}
 use Rattle.std.proofs.lemmas.Bool.{and_from, false_from_ne_true}
 use Rattle.std.proofs.lemmas.List.{take_all, length-append}
 use Rattle.std.specs.List.{list_all}
@@ -7,7 +7,7 @@ use Rattle.x86_64_model.proofs.Lemmas.CleanUps.Below.{is_before, cleaned, cleane
 use Rattle.x86_64_model.proofs.Lemmas.CleanUps.Befores.{from_before}
 use Rattle.x86_64_model.proofs.Lemmas.CleanUps.Parts.{outside_part, same_range}
 use Rattle.x86_64_model.proofs.Lemmas.CleanUps.Removed.{in_range_parts}
-use Rattle.x86_64_model.proofs.Lemmas.CleanUps.Visits.{visits_root, next_visits}
+use Rattle.x86_64_model.proofs.Lemmas.CleanUps.Visits.{next_visits}
 use Rattle.x86_64_model.proofs.Lemmas.Hierarchies.Held.{table_at_same}
 use Rattle.x86_64_model.proofs.Lemmas.Lists.All.{all_in, all_mapped, all_same}
 use Rattle.x86_64_model.proofs.Lemmas.Maps.Trees.{parents_short}
@@ -21,7 +21,7 @@ use Rattle.x86_64_model.specs.Mapper.{◌laid_in◌, Valid, paths}
 use Rattle.x86_64_model.specs.Memory.{Memory}
 use Rattle.x86_64_model.specs.Path.{AllBelow, is_below, parents}
 use Rattle.x86_64_model.specs.PathMap.{PathMap, entry, table_at}
-use Rattle.x86_64_model.specs.Window.{Window, begins_with}
+use Rattle.x86_64_model.specs.Window.{begins_with}
 use Rattle.x86_64_mappers.proofs.Map.OpenWays.{open_end}
 use Rattle.x86_64_mappers.specs.private.CleaningUp.{IsVisited}
 use Rattle.x86_64_mappers.specs.Reached.{IsReached}
@@ -49,13 +49,6 @@ none_short q p short = false_from_ne_true _ (λ b.
     let more = goes_on_from_below q p b in let long = ap length more.2 in absurd (omega (arith, short, long, length-append q (more.0 ∷ more.1))))
 
 -- ---- the root, and the next table
-
-pub visited_root : (l : Layout) (m : Memory) (low high : ℕ) → IsVisited l m low high [] l.root
-visited_root l m low high = record { leads = refl; visits = visits_root l.levels (paths (l laid_in m)) low high; below = tt; outside = by l.window }
-  where
-    by : (window : Option Window) → begins_with window [] ≡ false
-    by None = refl
-    by (Some v) = refl
 
 module _ (l : Layout) (m : Memory) (low high : ℕ) (q : List ℕ) (f : ℕ) (v : IsVisited l m low high q f) where
   abbrev M : PathMap

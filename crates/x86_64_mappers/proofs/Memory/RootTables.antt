@@ -1,9 +1,8 @@
 -- The root's table of a mapper, and a mapper whose root table was lent.
-use Rattle.std.proofs.Common.{◌≡◌, ℕ, [], refl, ap, subst}
+use Rattle.std.proofs.Common.{◌≡◌, ℕ, ap, subst}
 use Rattle.std.proofs.Props.{props}
-use Rattle.x86_64_model.specs.Mapper.{◌laid_in◌, Valid}
 use Rattle.x86_64_model.specs.Memory.{Memory, Places}
-use Rattle.x86_64_mappers.specs.Layouts.{direct, HasRoot}
+use Rattle.x86_64_mappers.specs.Layouts.{HasRoot}
 
 -- a value built from a place and from the proof that the root is there depends on the place alone
 pub alike : {X : Type 0} (places : Places) (root : ℕ) (after : (place : ℕ) → Memory)
@@ -13,7 +12,3 @@ alike places root after make a b e =
     let There : ℕ → Type 0 = λ place. HasRoot places root (after place) in
     let prop : (h k : There a) → h ≡ k = hlevel props in
     subst (λ b. (h : There a) (k : There b) → make a h ≡ make b k) e (λ h k. ap (make a) (prop h k))
-
--- a valid hierarchy has its root's table
-pub valid_root : (places : Places) (root : ℕ) (memory : Memory) → Valid (direct places root laid_in memory) → HasRoot places root memory
-valid_root places root memory valid = valid.valid.holds.in_memory [] root refl

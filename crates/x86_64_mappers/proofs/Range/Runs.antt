@@ -9,7 +9,7 @@ use Rattle.x86_64_model.specs.Entry.{IsParentFlags}
 use Rattle.x86_64_model.specs.Layout.{Layout}
 use Rattle.x86_64_model.specs.Machine.{AfterCall, State, do_call, after_map, step, only_reply, replies_of, state_after}
 use Rattle.x86_64_model.specs.MapRule.{leaf_entry}
-use Rattle.x86_64_model.specs.Mapper.{◌laid_in◌, Hierarchy, machine_of, state_in, SupplyFits, paths, walk}
+use Rattle.x86_64_model.specs.Mapper.{◌laid_in◌, Hierarchy, machine_of, state_in, paths, walk}
 use Rattle.x86_64_model.specs.Memory.{Memory}
 use Rattle.x86_64_model.specs.PageWalk.{Walked}
 use Rattle.x86_64_model.specs.Path.{path_at}
@@ -22,7 +22,7 @@ use Rattle.x86_64_model.proofs.Lemmas.Runs.Runs.{replies_append, state_append}
 use Rattle.x86_64_mappers.specs.Ranges.{MapRange, DoesMaps, IsNextMap, MapsEach, page_at, frame_at, map_at, maps, accepted}
 use Rattle.x86_64_mappers.specs.private.RangeSteps.{IsRun}
 use Rattle.x86_64_mappers.proofs.Entry.EntryEnds.{with_memory}
-use Rattle.x86_64_mappers.proofs.Map.OwnedWays.{owned_nothing, owned_then}
+use Rattle.x86_64_mappers.proofs.Map.OwnedWays.{owned_then}
 use Rattle.x86_64_mappers.proofs.Map.StepOutcomes.{IsPathMapped}
 use Rattle.x86_64_mappers.proofs.Range.GrownParents.{parents_mapped}
 
@@ -37,15 +37,6 @@ allowed_still L window M N q given more still allowed =
 
 -- ---- walks
 
-arrives_itself : (more : ℕ) (x : Option Walked) → Arrives more x x
-arrives_itself more x w is = (
-  w,
-  is,
-  record {
-    no_worse = record { same_place = refl; write_kept = λ h. h; user_kept = λ h. h };
-    write_gained = λ h. inl h;
-    user_gained = λ h. inl h;
-  },
 )
 
 better_then : (more : ℕ) (w v x : Walked) → Better more w v → Better more v x → Better more w x
@@ -73,15 +64,6 @@ accepted_more r k = map-range_with_len_more (λ k. Answered (Done (frame_at r k)
 maps_more : (L : ℕ) (r : MapRange) (k : ℕ) → maps L r (k + 1) ≡ maps L r k ++ map_at L r k ∷ []
 maps_more L r k = map-range_with_len_more (λ k. map_at L r k) 0 k k (let e : 0 + k ≡ k = omega arith in e)
 
--- before the first map
-pub no_maps : (l : Layout) (m : Memory) (s : List ℕ) → SupplyFits (l laid_in m) s → (r : MapRange) → IsRun l m s r 0 (accepted r 0) m s
-no_maps l m s ready r = record {
-  replies = λ take_back. refl;
-  state = λ take_back. refl;
-  owned = owned_nothing l m s ready;
-  walks = λ p. arrives_itself r.parent_flags (walk (l laid_in m) p);
-  each = (refl, refl, refl);
-  parents = λ q h. h;
 }
 
 module _ (l : Layout) (m : Memory) (s : List ℕ) (r : MapRange) (k : ℕ) (marks : IsParentFlags r.parent_flags) (n : Memory) (rest : List ℕ) (replies : List Reply) (run : IsRun l m s r k replies n rest) where

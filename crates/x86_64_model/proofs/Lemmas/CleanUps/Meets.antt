@@ -1,5 +1,5 @@
 -- Which indices of a table meet the range of a clean up, by the paths of its first and last positions.
-use Rattle.std.proofs.Common.{zero, suc, ◌≡◌, ◌≢◌, ◌⊎◌, inl, inr, ⊎_elim, ℕ, ◌+◌, ◌-◌, ◌*◌, ◌/◌, ◌^◌, ◌<◌, ◌≤◌, ◌&&◌, true, false, cond, List, [], ◌∷◌, ◌++◌, length, get_or, nat_le, nat_lt, refl, sym, ap, ap₂, ◌∙◌, subst, subst₂, arith, ltb-true, lt-ltb, le-ltb, eq-eqb}
+use Rattle.std.proofs.Common.{zero, suc, ◌≡◌, ◌≢◌, ◌⊎◌, inl, inr, ⊎_elim, ℕ, ◌+◌, ◌-◌, ◌*◌, ◌/◌, ◌^◌, ◌<◌, ◌≤◌, ◌&&◌, true, false, cond, List, [], ◌∷◌, ◌++◌, length, get_or, nat_le, nat_lt, refl, sym, ap, ap₂, ◌∙◌, subst, arith, ltb-true, lt-ltb, le-ltb, eq-eqb}
 use Rattle.std.proofs.lemmas.Bool.{and_parts, and_from, and_left, and_right, leb-true, le-leb, lt-leb, cases_Bool, cases_lt, cond_both}
 use Rattle.std.proofs.Math.Bool.{and_comm}
 use Rattle.std.proofs.Math.Nat.{mul-le-mul_right, mod-lt, add-mul}
@@ -20,18 +20,6 @@ first_index q first = cond (begins q first) (get_or first (length q) 0) 0
 
 abbrev pub last_index : (q last : List ℕ) → ℕ
 last_index q last = cond (begins q last) (get_or last (length q) 0) 511
-
--- they are indices
-get_below : (p : List ℕ) (n : ℕ) → AllBelow p → get_or p n 0 < 512
-get_below [] n a = omega arith
-get_below (i ∷ p) zero a = a.0
-get_below (i ∷ p) (suc n) a = get_below p n a.1
-
-pub first_small : (q first : List ℕ) → AllBelow first → first_index q first < 512
-first_small q first a = cond_both (begins q first) (get_or first (length q) 0) 0 (λ n. n < 512) (λ h. get_below first (length q) a) (λ h. omega arith)
-
-pub last_small : (q last : List ℕ) → AllBelow last → last_index q last < 512
-last_small q last a = cond_both (begins q last) (get_or last (length q) 0) 511 (λ n. n < 512) (λ h. get_below last (length q) a) (λ h. omega arith)
 
 -- the indices of a position are its path
 pub path_index : (L p n : ℕ) → n < L → get_or (page_path L p) n 0 ≡ index (L - n) p
@@ -159,12 +147,6 @@ pub meets_at_pages : (L : ℕ) (first last : List ℕ) → length first ≡ L �
 meets_at_pages L first last first_long first_below last_long last_below some q i shorter below met small =
     meets_at L (span_start L first) (span_start L last + 0xfff) (start_inside L first first_long first_below) (end_inside L last last_long last_below) some q i shorter below met small
     ∙ ap₂ (λ a b. nat_le (first_index q a) i && nat_le i (last_index q b)) (path_of_start L first first_long first_below) (path_of_end L last last_long last_below)
-
-pub indices_in_order_at_pages : (L : ℕ) (first last : List ℕ) → length first ≡ L → AllBelow first → length last ≡ L → AllBelow last → span_start L first ≤ span_start L last + 0xfff
-    → (q : List ℕ) → length q < L → AllBelow q → first_index q first ≤ last_index q last
-indices_in_order_at_pages L first last first_long first_below last_long last_below some q shorter below =
-    subst₂ (λ a b. first_index q a ≤ last_index q b) (path_of_start L first first_long first_below) (path_of_end L last last_long last_below)
-    (indices_in_order L (span_start L first) (span_start L last + 0xfff) (start_inside L first first_long first_below) (end_inside L last last_long last_below) some q shorter below)
 
 -- ---- a range whose last position is before its first one has none, and its clean up changes nothing
 

@@ -1,12 +1,12 @@
 -- What a clean up removes.
-use Rattle.std.proofs.Common.{◌≡◌, ℕ, ◌||◌, Bool, true, false, not, cond, List, [], ◌∷◌, ◌++◌, map, refl, sym, ap, ◌∙◌, subst, append_assoc, ◌<◌, length, ltb-true, lt-ltb}
+use Rattle.std.proofs.Common.{◌≡◌, ℕ, ◌||◌, Bool, true, false, not, cond, List, [], ◌∷◌, ◌++◌, map, refl, sym, ap, ◌∙◌, subst, append_assoc, ◌<◌, length, ltb-true}
 use Rattle.std.proofs.lemmas.List.{map-append}
 use Rattle.std.specs.List.{list_all}
-use Rattle.std.proofs.lemmas.Bool.{and_parts, and_from, not-true, not_from_false}
+use Rattle.std.proofs.lemmas.Bool.{and_parts, and_from, not-true}
 use Rattle.x86_64_model.specs.Entry.{used, present, huge}
 use Rattle.x86_64_model.specs.PathMap.{PathMap, entry, HasUsedAlone, table_of}
 use Rattle.x86_64_model.specs.Path.{parents, is_below}
-use Rattle.x86_64_model.specs.CleanUp.{is_removed, in_range, meets, clean_up}
+use Rattle.x86_64_model.specs.CleanUp.{is_removed, in_range, clean_up}
 use Rattle.x86_64_model.proofs.Lemmas.Entries.Bits.{unused_zero}
 use Rattle.x86_64_model.proofs.Lemmas.Paths.Begins.{below_goes_on, goes_on_from_below}
 use Rattle.x86_64_model.proofs.Lemmas.Hierarchies.Held.{table_at_last}
@@ -33,9 +33,6 @@ in_range_parts L M low high q h =
     let table = and_parts _ _ (and_parts _ _ h).0 in
     let first = and_parts _ _ table.0 in
     (ltb-true (length q) L first.0, first.1, not-true (huge (entry M q)) table.1)
-
-pub in_range_from : (L : ℕ) (M : PathMap) (low high : ℕ) (q : List ℕ) → length q < L → present (entry M q) ≡ true → huge (entry M q) ≡ false → meets L low high q ≡ true → in_range L M low high q ≡ true
-in_range_from L M low high q l p h m = and_from _ _ (and_from _ _ (and_from _ _ (lt-ltb (length q) L l) p) (not_from_false _ h)) m
 
 pub implied : (a b : Bool) → (not a || b) ≡ true → a ≡ true → b ≡ true
 implied true b h e = h

@@ -47,10 +47,6 @@ once_paths (suc n) q = once_flat_map (λ i. paths_below n (q ++ i ∷ []) ++ (q 
 
 -- ---- frames that were given back
 
-pub given_append : (take_back : List ℕ → ℕ → List ℕ) (held fs gs : List ℕ) → given_back take_back held (fs ++ gs) ≡ given_back take_back (given_back take_back held fs) gs
-given_append take_back held [] gs = refl
-given_append take_back held (f ∷ fs) gs = given_append take_back (take_back held f) fs gs
-
 module _ (take_back : List ℕ → ℕ → List ℕ) (gives : TakesBack take_back) where
   pub given_frames : (held fs : List ℕ) (g : ℕ) → In (given_back take_back held fs) g ↔ In (fs ++ held) g
   given_frames held [] g = (λ h. h, λ h. h)

@@ -1,7 +1,7 @@
 -- Words made of an address and flags.
-use Rattle.std.specs.Prelude.{◌≡◌, ℕ, ◌+◌, ◌%◌, ◌^◌, ◌<◌}
-use Rattle.std.proofs.Common.{◌∙◌, arith, lit<}
-use Rattle.std.proofs.lemmas.Nat.{and_assoc, and_comm, and-not}
+use Rattle.std.specs.Prelude.{◌≡◌, ℕ, ◌%◌, ◌^◌, ◌<◌}
+use Rattle.std.proofs.Common.{◌∙◌, arith}
+use Rattle.std.proofs.lemmas.Nat.{and_assoc}
 use Rattle.std.specs.Int.Bits.{and_zero_r}
 use Rattle.x86_64_model.specs.Entry.{address, flags}
 use Rattle.x86_64_model.proofs.Lemmas.Entries.Bits.{address_is}
@@ -19,14 +19,3 @@ address-multiple a aligned below = omega (arith, address_is a)
 pub address-flags : (w : ℕ) → address (flags w) ≡ 0
 unfolding address flags
 address-flags w = and_assoc 0x000f_ffff_ffff_f000 w 0xfff0_0000_0000_0fff ∙ and_zero_r w
-
--- a word is its flags and its address
-pub flags_plus_address : (w : ℕ) → w < 2 ^ 64 → flags w + address w ≡ w
-unfolding address flags
-flags_plus_address w below =
-    let whole = and-not 64 0x000f_ffff_ffff_f000 w (lit< tt) below in
-    rw (and_comm w 0xfff0_0000_0000_0fff, and_comm w 0x000f_ffff_ffff_f000) whole
-
--- a word without address bits is flags alone
-pub flags-no_address : (w : ℕ) → w < 2 ^ 64 → address w ≡ 0 → flags w ≡ w
-flags-no_address w below none = omega (arith, flags_plus_address w below)

@@ -1,5 +1,5 @@
 -- Pages that are all mapped, one after the other, stand at the end.
-use Rattle.std.proofs.Common.{◌≡◌, inr, ℕ, Bool, List, [], ◌∷◌, ◌++◌, map, refl, sym, ap₂, ◌∙◌, arith}
+use Rattle.std.proofs.Common.{◌≡◌, inr, ℕ, Bool, List, [], ◌∷◌, map, sym, ◌∙◌, arith}
 use Rattle.std.specs.List.{AllByRecursion}
 use Rattle.x86_64_model.specs.Call.{Reply, Answered, IsCall}
 use Rattle.x86_64_model.specs.Laws.PageMappings.{AsksFor, MappingsStand}
@@ -23,19 +23,6 @@ first_same r t rs ts e = cc
 
 rest_same : (r t : Reply) (rs ts : List Reply) → ◌≡◌ {A = List Reply} (r ∷ rs) (t ∷ ts) → rs ≡ ts
 rest_same r t rs ts e = cc
-
--- where pages and then others are all mapped, each part is
-pub accepted_parts : (m : Machine) (xs ys : List PageMapping) (s : State) → replies_of m s (map_calls m.levels (xs ++ ys)) ≡ map accepted (xs ++ ys)
-    → (replies_of m s (map_calls m.levels xs) ≡ map accepted xs) × (replies_of m (state_after m s (map_calls m.levels xs)) (map_calls m.levels ys) ≡ map accepted ys)
-accepted_parts m [] ys s e = (refl, e)
-accepted_parts m (x ∷ xs) ys s e =
-    let parts = accepted_parts m xs ys (step m s (map_call_of m.levels x)).state (rest_same _ _ _ _ e) in
-    (ap₂ (λ reply replies. reply ∷ replies) (first_same _ _ _ _ e) parts.0, parts.1)
-
--- and each page between
-pub accepted_at : (m : Machine) (xs : List PageMapping) (x : PageMapping) (ys : List PageMapping) (s : State) → replies_of m s (map_calls m.levels (xs ++ x ∷ ys)) ≡ map accepted (xs ++ x ∷ ys)
-    → (step m (state_after m s (map_calls m.levels xs)) (map_call_of m.levels x)).reply ≡ accepted x
-accepted_at m xs x ys s e = first_same _ _ _ _ (accepted_parts m xs (x ∷ ys) s e).1
 
 answer_same : (a b : Answer) → ◌≡◌ {A = Reply} (Answered a) (Answered b) → a ≡ b
 answer_same a b e = cc

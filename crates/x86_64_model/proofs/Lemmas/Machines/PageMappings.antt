@@ -1,18 +1,17 @@
 -- Pages that are mapped one after the other: each map is accepted where the pool has a frame for each table that is missing.
-use Rattle.std.proofs.Common.{◌≡◌, ◌≢◌, ◌≤◌, ◌%◌, ℕ, ◌&&◌, ◌||◌, Bool, true, false, not, if◌then◌else◌, List, [], ◌∷◌, length, map, find, Option, refl, sym, ap, ap₂, ◌∙◌, subst, arith}
+use Rattle.std.proofs.Common.{◌≡◌, ◌≢◌, ◌≤◌, ℕ, ◌&&◌, ◌||◌, Bool, true, false, not, if◌then◌else◌, List, [], ◌∷◌, length, map, find, Option, refl, sym, ap, ap₂, ◌∙◌, subst, arith}
 use Rattle.std.specs.List.{AllByRecursion}
 use Rattle.x86_64_model.specs.Allowed.{map_allowed, parents_present, none_absent}
 use Rattle.x86_64_model.specs.Call.{Answered, NotAllowed}
 use Rattle.x86_64_model.specs.Conserved.{IsFrame}
-use Rattle.x86_64_model.specs.Entry.{used, present, huge, address, no_address}
-use Rattle.x86_64_model.specs.Laws.PageMappings.{IsMappable, HasMissing, MappingsSucceed, AsksFor}
+use Rattle.x86_64_model.specs.Entry.{used, present, huge, no_address}
+use Rattle.x86_64_model.specs.Laws.PageMappings.{IsMappable, HasMissing, MappingsSucceed}
 use Rattle.x86_64_model.specs.Lists.{In}
 use Rattle.x86_64_model.specs.Machine.{Machine, IsMachine, State, AfterCall, after_map, only_reply, do_call, step, replies_of}
 use Rattle.x86_64_model.specs.MapRule.{AfterMap, map_call, leaf_entry, parent_part}
 use Rattle.x86_64_model.specs.PageMappings.{PageMapping, AreApart, EachApart, entry_path, map_call_of, map_calls, accepted}
 use Rattle.x86_64_model.specs.Path.{parents, is_small}
 use Rattle.x86_64_model.specs.PathMap.{PathMap, entry}
-use Rattle.x86_64_model.specs.Position.{span}
 use Rattle.x86_64_model.specs.Refusal.{Done}
 use Rattle.x86_64_model.specs.Window.{Window, begins_with}
 use Rattle.x86_64_model.proofs.Lemmas.Lists.All.{all_mapped, all_both, every_in, at_member}
@@ -22,7 +21,6 @@ use Rattle.x86_64_model.proofs.Lemmas.Machines.States.{IsSound, all_in, sound_ma
 use Rattle.x86_64_model.proofs.Lemmas.Maps.Accepted.{map_leaves}
 use Rattle.x86_64_model.proofs.Lemmas.Maps.Arrives.{part_has}
 use Rattle.x86_64_model.proofs.Lemmas.Maps.Down.{Descends}
-use Rattle.x86_64_model.proofs.Lemmas.Maps.Mapped.{asks_for}
 use Rattle.x86_64_model.proofs.Lemmas.Maps.Missing.{missing, missing_few, map_stays, map_stays_plain, map_succeeds}
 use Rattle.x86_64_model.proofs.Lemmas.Maps.Trees.{page_descends}
 use Rattle.x86_64_model.proofs.Lemmas.Paths.Apart.{IsPlaced, other_path, no_parent}
@@ -144,8 +142,3 @@ mappings_succeed m is T root serves s fits xs may apart ts among enough =
 pub covers_missing : (L : ℕ) (M : PathMap) (ts : List (List ℕ)) (xs : List PageMapping) → AllByRecursion (λ x. AllByRecursion (In ts) (parents (entry_path L x))) xs → AllByRecursion (HasMissing L M ts) xs
 covers_missing L M ts = all_mapped _ _ (λ x (h : AllByRecursion (In ts) (parents (entry_path L x))).
     all_mapped (In ts) (λ p. used (entry M p) ≡ false → In ts p) (λ p i u. i) (parents (entry_path L x)) h)
-
--- a page that may be mapped to a frame of its size asks for it
-pub asks_for_mappable : (m : Machine) (M : PathMap) (x : PageMapping) → IsMappable m M x → address x.frame ≡ x.frame → x.frame % span x.level ≡ 0 → AsksFor m.levels x
-asks_for_mappable m M x may is_frame aligned =
-    asks_for m.levels x.level x.page x.frame x.flags may.low may.high may.levels may.is_present (map_may m.levels m.window M (entry_path m.levels x) x.flags (parent_part x.flags) may.allowed).no_address_given is_frame aligned

@@ -83,17 +83,3 @@ pub regions_are_begun : (L : ℕ) (m : Mapping) (ms : List Mapping) → regions_
 unfolding regions_in begun
 regions_are_begun L m [] = refl
 regions_are_begun L m (n ∷ ms) = ap (put_before L (region_of m)) (regions_are_begun L n ms) ∙ put_before_begun L (region_of m) (region_of n) ms
-
--- ---- a step of a region that grows
-
-pub begun_ends : (L : ℕ) (r : Region) → begun L r [] ≡ r ∷ []
-unfolding begun
-begun_ends L r = refl
-
-pub begun_grows : (L : ℕ) (r : Region) (m : Mapping) (ms : List Mapping) → follows L r (region_of m) ≡ true → begun L r (m ∷ ms) ≡ begun L (grown_to r (region_of m)) ms
-unfolding begun
-begun_grows L r m ms h = ap (λ b. cond b (begun L (grown_to r (region_of m)) ms) (r ∷ begun L (region_of m) ms)) h
-
-pub begun_stops : (L : ℕ) (r : Region) (m : Mapping) (ms : List Mapping) → follows L r (region_of m) ≡ false → begun L r (m ∷ ms) ≡ r ∷ regions_in L (m ∷ ms)
-unfolding begun
-begun_stops L r m ms h = ap (λ b. cond b (begun L (grown_to r (region_of m)) ms) (r ∷ begun L (region_of m) ms)) h ∙ ap (λ rest. r ∷ rest) (sym (regions_are_begun L m ms))

@@ -1,13 +1,9 @@
 -- Where the spans of paths start: one after the other, inside the positions, and in the order of the paths.
-use Rattle.std.proofs.Common.{◌≡◌, ◌<◌, ◌≤◌, ◌+◌, ◌-◌, ◌*◌, ◌^◌, ℕ, true, List, [], ◌∷◌, ◌++◌, length, refl, sym, ap, ◌∙◌, nat_le, ⊎_elim, arith, append-nil, pow_pos, Ordering, Less, Equal, Greater}
-use Rattle.std.proofs.lemmas.Bool.{le-leb, lt-leb, cases_lt}
+use Rattle.std.proofs.Common.{◌≡◌, ◌<◌, ◌≤◌, ◌+◌, ◌-◌, ◌*◌, ◌^◌, ℕ, true, List, [], ◌∷◌, ◌++◌, length, sym, ap, ◌∙◌, arith, append-nil, pow_pos}
 use Rattle.std.proofs.lemmas.List.{length-append}
 use Rattle.std.proofs.lemmas.List.Sums.{fold-append}
 use Rattle.std.proofs.lemmas.Nat.{pow-add}
-use Rattle.std.proofs.Math.Nat.{mul-le-mul_right, mul-lt-mul_of_pos_right, mul_assoc, add-mul}
-use Rattle.std.specs.Ordering.{MatchOrdering, nat_cmp, ordering_then}
-use Rattle.std.specs.Cmp.{nat_cmp_is, ranked}
-use Rattle.std.specs.Cmp.Lexicographic.{slice_cmp}
+use Rattle.std.proofs.Math.Nat.{mul-le-mul_right, mul_assoc, add-mul}
 use Rattle.x86_64_model.specs.Position.{position_count, page_path}
 use Rattle.x86_64_model.specs.Path.{AllBelow, begins, span_start, span_size}
 use Rattle.x86_64_model.proofs.Lemmas.Paths.Begins.{from_begins}
@@ -57,9 +53,6 @@ span_inside L q l h =
 page_size : (L : ℕ) (q : List ℕ) → length q ≡ L → span_size L q ≡ 4096
 page_size L q whole = ap (λ n. 2 ^ (12 + 9 * n)) (let e : L + 1 - length q - 1 ≡ 0 = omega (arith, whole) in e)
 
-pages_start : (L : ℕ) (q : List ℕ) → length q ≡ L → span_start L q ≡ digits 0 q * 4096
-pages_start L q whole = ap (λ n. digits 0 q * n) (page_size L q whole)
-
 module _ (L : ℕ) (q : List ℕ) (whole : length q ≡ L) (below : AllBelow q) where
   pub start_inside : span_start L q < position_count L
   start_inside = let inside = span_inside L q (omega (arith, whole)) below in let pos = size_pos L q in omega (arith, inside, pos)
@@ -89,59 +82,3 @@ module _ (L : ℕ) where
 
   pub path_of_end : (q : List ℕ) → length q ≡ L → AllBelow q → page_path L (span_start L q + 0xfff) ≡ q
   path_of_end q whole below = let size = page_size L q whole in path_in_span q whole below (span_start L q + 0xfff) (omega arith) (omega (arith, size))
-
--- ---- the order of paths
-
--- multiples are in the order of their numbers
-cmp_times : (x y s : ℕ) → 0 < s → nat_cmp (x * s) (y * s) ≡ nat_cmp x y
-cmp_times x y s pos = sym (nat_cmp_is (x * s) (y * s) (nat_cmp x y) (by (nat_cmp x y) (ranked x y (nat_cmp x y) refl)))
-  where
-    by : (r : Ordering) → MatchOrdering r (x < y) (x ≡ y) (y < x) → MatchOrdering r (x * s < y * s) (x * s ≡ y * s) (y * s < x * s)
-    by Less h = mul-lt-mul_of_pos_right h pos
-    by Equal h = ap (λ n. n * s) h
-    by Greater h = mul-lt-mul_of_pos_right h pos
-
--- a number with an index more is compared by the number first
-cmp_more : (a b i j : ℕ) → i < 512 → j < 512 → nat_cmp (a * 512 + i) (b * 512 + j) ≡ ordering_then (nat_cmp a b) (nat_cmp i j)
-cmp_more a b i j k l = sym (nat_cmp_is (a * 512 + i) (b * 512 + j) (ordering_then (nat_cmp a b) (nat_cmp i j)) (by (nat_cmp a b) (ranked a b (nat_cmp a b) refl)))
-  where
-    same : a ≡ b → (r : Ordering) → MatchOrdering r (i < j) (i ≡ j) (j < i) → MatchOrdering r (a * 512 + i < b * 512 + j) (a * 512 + i ≡ b * 512 + j) (b * 512 + j < a * 512 + i)
-    same e Less h = omega (arith, e, h)
-    same e Equal h = omega (arith, e, h)
-    same e Greater h = omega (arith, e, h)
-
-    by : (r : Ordering) → MatchOrdering r (a < b) (a ≡ b) (b < a)
-        → MatchOrdering (ordering_then r (nat_cmp i j)) (a * 512 + i < b * 512 + j) (a * 512 + i ≡ b * 512 + j) (b * 512 + j < a * 512 + i)
-    by Less h = omega (arith, h, k, l)
-    by Equal h = same h (nat_cmp i j) (ranked i j (nat_cmp i j) refl)
-    by Greater h = omega (arith, h, k, l)
-
-then_then : (r s t : Ordering) → ordering_then (ordering_then r s) t ≡ ordering_then r (ordering_then s t)
-then_then Less s t = refl
-then_then Equal s t = refl
-then_then Greater s t = refl
-
-then_equal : (r : Ordering) → r ≡ ordering_then r Equal
-then_equal Less = refl
-then_equal Equal = refl
-then_equal Greater = refl
-
-cmp_digits : (a b : ℕ) (p q : List ℕ) → length p ≡ length q → AllBelow p → AllBelow q → nat_cmp (digits a p) (digits b q) ≡ ordering_then (nat_cmp a b) (slice_cmp nat_cmp p q)
-cmp_digits a b [] [] e h g = then_equal (nat_cmp a b)
-cmp_digits a b [] (j ∷ q) e h g = absurd (omega (arith, e))
-cmp_digits a b (i ∷ p) [] e h g = absurd (omega (arith, e))
-cmp_digits a b (i ∷ p) (j ∷ q) e h g = cmp_digits (a * 512 + i) (b * 512 + j) p q (omega (arith, e)) h.1 g.1
-    ∙ ap (λ r. ordering_then r (slice_cmp nat_cmp p q)) (cmp_more a b i j h.0 g.0) ∙ then_then (nat_cmp a b) (nat_cmp i j) (slice_cmp nat_cmp p q)
-
--- the spans of paths of one length start in the order of the paths
-pub starts_in_order : (L : ℕ) (p q : List ℕ) → length p ≡ length q → AllBelow p → AllBelow q → nat_cmp (span_start L p) (span_start L q) ≡ slice_cmp nat_cmp p q
-starts_in_order L p q e h g =
-    ap (λ n. nat_cmp (digits 0 p * 2 ^ (12 + 9 * (L + 1 - n - 1))) (span_start L q)) e
-    ∙ cmp_times (digits 0 p) (digits 0 q) (span_size L q) (size_pos L q) ∙ cmp_digits 0 0 p q e h g
-
--- a page's last position is not before another one's start exactly if the page's start isn't
-pub pages_in_order : (L : ℕ) (first last : List ℕ) → length first ≡ L → length last ≡ L → nat_le (span_start L first) (span_start L last + 0xfff) ≡ nat_le (span_start L first) (span_start L last)
-pages_in_order L first last e f = ⊎_elim
-    (λ l. lt-leb (span_start L first) (span_start L last + 0xfff) (omega (arith, l, pages_start L first e, pages_start L last f)) ∙ sym (lt-leb (span_start L first) (span_start L last) l))
-    (λ l. le-leb (span_start L first) (span_start L last + 0xfff) (omega (arith, l)) ∙ sym (le-leb (span_start L first) (span_start L last) l))
-    (cases_lt (span_start L last) (span_start L first))

@@ -2,7 +2,7 @@
 use Rattle.std.proofs.Common.{◌≡◌, ◌⊎◌, inl, inr, ⊎_elim, ◌<◌, ◌≤◌, ◌*◌, ◌/◌, ◌==◌, ◌&&◌, ◌||◌, ℕ, Bool, true, false, not, nat_lt, cond, List, [], ◌∷◌, ◌++◌, length, Some, None, Option, refl, sym, ap, ◌∙◌, subst, subst₂}
 use Rattle.std.proofs.lemmas.Bool.{cases_Bool}
 use Rattle.x86_64_model.specs.Lists.{In}
-use Rattle.x86_64_model.specs.Entry.{LeadAlike, used, present}
+use Rattle.x86_64_model.specs.Entry.{LeadAlike, present}
 use Rattle.x86_64_model.specs.Memory.{Words}
 use Rattle.x86_64_model.specs.Path.{level_of, begins}
 use Rattle.x86_64_model.specs.PathMap.{PathMap, entry, table_of, table_at}
@@ -19,7 +19,7 @@ use Rattle.x86_64_model.proofs.Lemmas.Paths.Begins.{begins_itself, begins_on, fr
 use Rattle.x86_64_model.proofs.Lemmas.Paths.Puts.{no_end}
 use Rattle.x86_64_model.proofs.Lemmas.Caches.Agrees.{AgreesPage, leads}
 use Rattle.x86_64_model.proofs.Lemmas.Caches.Items.{StalePage, page_written}
-use Rattle.x86_64_model.proofs.Lemmas.Caches.Kept.{Kept, SameTarget, Stands, agrees_kept}
+use Rattle.x86_64_model.proofs.Lemmas.Caches.Kept.{Kept, Stands, agrees_kept}
 use Rattle.x86_64_model.proofs.Lemmas.Caches.Moved.{Moves, Stays}
 use Rattle.x86_64_model.proofs.Lemmas.Caches.Windowed.{Becomes, AsBefore, Made, Marked, Remapped, Reflagged, Removed, HasWindow, outside}
 
@@ -50,9 +50,6 @@ alike_kept e f a h = record {
   same_address = a.same_address;
   grants = λ r g. record { write = λ x. a.same_write ∙ g.write x; user = λ x. a.same_user ∙ g.user x; execute = λ x. a.same_execute ∙ g.execute x };
 }
-
-pub alike_target : (e f : ℕ) → LeadAlike e f → used e ≡ true → SameTarget e f
-alike_target e f a u = record { was_used = u; is_used = a.same_used ∙ u; same_huge = a.same_huge; same_address = a.same_address }
 
 pub alike_table : (L : ℕ) (q : List ℕ) (e f : ℕ) → LeadAlike e f → table_of L q f ≡ table_of L q e
 unfolding table_of
