@@ -46,7 +46,7 @@ names_for (By layout) dump start = By layout
 abbrev pub area_of_region : Option Layout → (L : ℕ) → Region → Option Area
 area_of_region layout L r = option_and_then (λ l. area_at l (raw L r.first) (raw L r.last)) layout
 
--- The last position of a mapping, counted within the address space of L levels of tables.
+-- The last position of a mapping, taken modulo the size of the address space of L levels of tables.
 abbrev pub last_of : (L : ℕ) → Mapping → ℕ
 last_of L m = (m.start + (m.size - 1)) % position_count L
 

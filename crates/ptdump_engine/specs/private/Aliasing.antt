@@ -16,47 +16,51 @@ use Rattle.ptdump_engine.specs.declared.findings.aliased.Aliased.{Aliased}
 
 -- ---- frames
 
--- it starts at a multiple of its size
+-- The frame starts at a multiple of its size.
 abbrev pub IsAligned : MappedFrame → Type 0
 IsAligned frame = frame_start frame % frame_size frame ≡ 0
 
--- a number that is different for each frame
+-- A number that is different for each frame of 4KiB, 2MiB or 1GiB that starts at a multiple of its size.
 abbrev pub key_of : MappedFrame → ℕ
 key_of (Size4KiB start) = start + 1
 key_of (Size2MiB start) = start + 2
 key_of (Size1GiB start) = start + 3
 
--- the frames of the larger sizes that contain an address
+-- The 2MiB frame that contains a physical address.
 abbrev pub in_2mib : (address : ℕ) → MappedFrame
 in_2mib a = Size2MiB (a - a % 0x20_0000)
 
+-- The 1GiB frame that contains a physical address.
 abbrev pub in_1gib : (address : ℕ) → MappedFrame
 in_1gib a = Size1GiB (a - a % 0x4000_0000)
 
--- a mapping leads to a frame
+-- A mapping leads to a frame, which starts at a multiple of its size.
 pub record LeadsTo (m : Mapping) (frame : MappedFrame) : Type 0 where
   pub size : m.size ≡ frame_size frame
   pub start : m.frame ≡ frame_start frame
   pub aligned : IsAligned frame
 
+-- A mapping leads to some frame of 4KiB, 2MiB or 1GiB, which starts at a multiple of its size.
 abbrev pub IsPage : Mapping → Type 0
 IsPage m = (frame : MappedFrame) × LeadsTo m frame
 
 -- ---- mappings of a frame
 
--- whether a start and a size are those of a frame
+-- Whether a start and a size in bytes are those of a frame.
 abbrev pub is_frame : MappedFrame → (start size : ℕ) → Bool
 is_frame frame start size = (size == frame_size frame) && (start == frame_start frame)
 
--- whether a mapping leads to a frame, with other rights
+-- Whether a mapping leads to a frame with rights that differ from these.
 abbrev pub is_other : MappedFrame → Rights → Mapping → Bool
 is_other frame rights n = is_frame frame n.frame n.size && not (same_rights rights n.rights)
 
--- the first mapping of a frame with other rights, by the first mapping and the first one whose rights differ from those
+-- The first mapping of a frame with rights that differ from these, or None if there is none. It is found by the frame's first
+-- mapping and its first one whose rights differ from those of the first.
 abbrev pub other_in : {X : Type 0} → Rights → Firsts X → Option Mapping
 other_in rights firsts = cond (same_rights rights firsts.first.rights) firsts.other (Some firsts.first)
 
--- the first mappings of a frame after one more
+-- The first mappings of a frame after one more mapping of it: the frame's first mapping, and its first one whose rights differ from
+-- those of the first.
 abbrev pub noted : {X : Type 0} → Option (Firsts X) → Mapping → Firsts X
 noted None m = record { first = m; other = None }
 noted (Some firsts) m = record {
@@ -64,40 +68,45 @@ noted (Some firsts) m = record {
   other = option_or firsts.other (cond (same_rights firsts.first.rights m.rights) None (Some m));
 }
 
+-- The first mapping of a frame with rights that differ from these, by the first mappings of all frames, or None if there is none.
 abbrev pub other_at : {X : Type 0} → FirstMappings X → MappedFrame → Rights → Option Mapping
 other_at firsts frame rights = option_and_then (other_in rights) (get nat_eq firsts.firsts (key_of frame))
 
 -- ---- after some of the mappings
 
+-- The first mappings of all frames are those among these mappings, each of which leads to a frame.
 pub record IsAfter {X : Type 0} (firsts : FirstMappings X) (ms : List Mapping) : Type 0 where
   pub pages : AllByRecursion IsPage ms
   pub others : (frame : MappedFrame) → IsAligned frame → (rights : Rights) → other_at firsts frame rights ≡ find (is_other frame rights) ms
 
--- more mappings were visited
+-- The first mappings of all frames change as more mappings are visited: if those before are the first among some mappings, those
+-- after are the first among these and more.
 abbrev pub Takes : {X : Type 0} → (old new : FirstMappings X) → (more : List Mapping) → Type 0
 Takes old new more = (ms : List Mapping) → IsAfter old ms → IsAfter new (ms ++ more)
 
 -- ---- the first alias
 
--- a mapping, if it starts before a position
+-- A mapping, if there is one and it starts before a position, or else None.
 abbrev pub before : (position : ℕ) → Option Mapping → Option Mapping
 before p None = None
 before p (Some n) = cond (nat_lt n.start p) (Some n) None
 
--- that of two mappings which starts first
+-- That of two mappings which starts first, and the mapping m if both start at one position. If one is None, it is the other.
 abbrev pub earlier : (m n : Option Mapping) → Option Mapping
 earlier None n = n
 earlier (Some m) None = Some m
 earlier (Some m) (Some n) = cond (nat_lt n.start m.start) (Some n) (Some m)
 
--- the first alias of a mapping of a frame, by its rights and where it starts
+-- The first alias of a mapping that leads to a frame with rights r and starts at the position p, by the first mappings of all
+-- frames: the first mapping with other rights whose frame contains this one, and is larger or starts before p.
 abbrev pub alias_by : {X : Type 0} → FirstMappings X → MappedFrame → Rights → (start : ℕ) → Option Mapping
 alias_by firsts (Size4KiB f) r p =
     earlier (earlier (before p (other_at firsts (Size4KiB f) r)) (other_at firsts (in_2mib f) r)) (other_at firsts (in_1gib f) r)
 alias_by firsts (Size2MiB f) r p = earlier (before p (other_at firsts (Size2MiB f) r)) (other_at firsts (in_1gib f) r)
 alias_by firsts (Size1GiB f) r p = before p (other_at firsts (Size1GiB f) r)
 
--- what is said of two mappings, whatever they are
+-- The frame of the mapping m with two virtual addresses, and the rights at each: the one at which m starts, and the one in its
+-- alias n that leads to the frame, taken modulo the size of the address space, so that any two mappings have one.
 abbrev pub aliased_by : (L : ℕ) → (m n : Mapping) → Aliased
 aliased_by L m n = record {
   frame = m.frame;
@@ -105,7 +114,8 @@ aliased_by L m n = record {
   other = record { address = raw L ((n.start + (m.frame - n.frame)) % position_count L); rights = n.rights };
 }
 
--- they are the first ones of all these mappings, which are in order
+-- The first mappings of all frames are those among these mappings, which lie one behind the other within the address space of L
+-- levels of tables.
 pub record AreOfAll {X : Type 0} (L : ℕ) (firsts : FirstMappings X) (ms : List Mapping) : Type 0 where
   pub after : IsAfter firsts ms
   pub order : InOrder (λ m n. (m.start < n.start) × (m.start + m.size ≤ n.start)) ms

@@ -14,17 +14,19 @@ use Rattle.ptdump_engine.specs.declared.findings.finding.EntryFlaw.TheVariants a
 use Rattle.ptdump_engine.specs.declared.findings.flaw.Flaw.TheVariants.{WritableAndExecutable, UserInUpperHalf}
 use Rattle.ptdump_engine.specs.declared.loaded.Loaded.{Loaded}
 
--- the lines for mappings with an alias, if these are looked for
+-- The lines for mappings in loaded tables that have an alias, or none if a check doesn't look for these.
 abbrev pub aliases_by : {X : Type 0} → (L : ℕ) → Loaded X → Subject → List Said
 aliases_by L loaded subject = if subject.aliases then alias_lines L subject.selection (mappings_of L (words_loaded loaded) loaded.root) else []
 
+-- The lines of a check of loaded tables, in order: for regions with flaws, for findings in the tables, and for mappings with an
+-- alias if these are looked for.
 abbrev pub finding_lines_by : {X : Type 0} → (L : ℕ) → Loaded X → Subject → List Said
 finding_lines_by L loaded subject = let regions = filter (is_selected L subject.selection) (regions_of L (words_loaded loaded) loaded.root) in
     flawed_lines L WritableAndExecutable regions ++ flawed_lines L UserInUpperHalf regions
     ++ map said_of (findings_by subject.processor (words_of subject.memory.now identity_places) subject.root subject.tables.now subject.names.now ++ subject.reached.now)
     ++ aliases_by L loaded subject
 
--- a processor has at most 52 bits of physical addresses
+-- The processor for which a flaw of entries is looked for, if it depends on one, has at most 52 bits of physical addresses.
 abbrev pub HasBits : EntryFlaw → Type 0
 HasBits flaws.HugePage = ⊤
 HasBits (flaws.ReservedBits c) = c.physical_bits ≤ 52

@@ -3,14 +3,15 @@ use Rattle.std.specs.Prelude.{ℕ, ◌==◌, bit_and, not, List, [], ◌∷◌, 
 use Rattle.ptdump_engine.specs.Names.{Flag}
 use Rattle.ptdump_engine.specs.declared.names.Flag.{Flag as Listed}
 
+-- A flag of entries as specifications have it, from the one in code: its bit and its name.
 abbrev pub named : Listed → Flag
 named f = record { bit = f.bit; name = f.name.now }
 
--- the flags that are set in a word
+-- The flags of a list that are set in a word, in order.
 abbrev pub set_in : (word : ℕ) → List Flag → List Flag
 set_in word flags = filter (λ f. not (bit_and word f.bit == 0)) flags
 
--- what comes before the next name, after those of these flags
+-- The text that stands before the next name, after those of these flags: a comma, or nothing if there are no flags.
 abbrev pub separator_after : List Flag → List ℕ
 separator_after [] = []
 separator_after (f ∷ fs) = codes ","

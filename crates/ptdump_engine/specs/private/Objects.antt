@@ -3,6 +3,6 @@ use Rattle.serde_json.specs.Data.{Members}
 use Rattle.serde_json.specs.View.{members_view}
 use Rattle.ptdump_engine.specs.declared.json_lines.object.Object.{Object}
 
--- the members so far
+-- The members that a JSON object has so far while it is built.
 abbrev pub members_in : Object → Members
 members_in object = members_view object.members.entries

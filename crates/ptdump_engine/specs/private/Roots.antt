@@ -10,11 +10,12 @@ use Rattle.ptdump_engine.specs.declared.output.Output.{Output}
 use Rattle.ptdump_engine.specs.declared.processors.Processor.{Processor}
 use Rattle.ptdump_engine.specs.declared.request.Command.{Command}
 
--- the number at an index of a list, after a comma if it isn't the first
+-- The text of a number in a list, by its index: its decimal digits, behind a comma if it isn't the first.
 abbrev pub number_at : (index n : ℕ) → List ℕ
 number_at i n = if i == 0 then decimal n else codes "," ++ decimal n
 
--- it was written which processors have no tables, and then what a command says of the tables of the others, with their totals
+-- The notes on the tables of all processors were written to an output: which processors have no tables, and then for each root how
+-- many words have reserved bits, if the command wants that, and the totals of its tables.
 abbrev pub AreNoted : {W : Type 0} → (contents : W → Option (List ℕ)) → Command → Words → List Processor → (old new : Output W (String Global)) → Type 0
 AreNoted contents command T ps old new = (new.writer.ghost_name ≡ old.writer.ghost_name)
     × (between : Option (List ℕ)) × Appends (contents old.writer.now) between (left_out_text ps)
