@@ -4,7 +4,7 @@ use Rattle.std.specs.List.{flat_map}
 use Rattle.ptdump_engine.specs.Said.{Said, line_of}
 use Rattle.ptdump_engine.specs.declared.counted_lines.CountedLines.{CountedLines}
 
--- lines were passed on in the form and counted, up to 2^64 - 1
+-- Lines were passed on to an output in a form, in order, and added to a count, which goes up to 2^64 - 1 and stays there.
 pub record AreCounted {O : Type 0} (puts : O → O → List ℕ → Type 0) (old new : CountedLines O) (lines : List Said) : Type 0 where
   pub output : new.output.ghost_name ≡ old.output.ghost_name
   pub form : new.form ≡ old.form

@@ -5,7 +5,7 @@ use Rattle.std.specs.List.{filter_map}
 use Rattle.ptdump_engine.specs.Said.{Said}
 use Rattle.ptdump_engine.specs.declared.telling.Teller.{Teller}
 
--- what is said of the items that were visited was put in
+-- A line for each of the visited items of which something is said was put in an output, in order.
 pub record AreTold {T O X : Type 0} (Lines : O → O → List Said → Type 0) (said : T → X → Option Said) (old new : Teller T O) (xs : List X) : Type 0 where
   pub output : new.output.ghost_name ≡ old.output.ghost_name
   pub telling : new.telling ≡ old.telling

@@ -2,7 +2,7 @@
 use Rattle.std.proofs.Common.{◌≡◌, ◌∙◌, ◌++◌, List, [], refl}
 use Rattle.x86_64_mappings.specs.declared.summaries.table_visitor.EachTable.{EachTable}
 
--- all mappings that were visited were passed on
+-- All items that were visited were passed on, in order, to the visitor behind this one, which is still the same visitor.
 pub record IsPassedOn {V X : Type 0} (visits : V → V → List X → Type 0) (old new : EachTable V) (xs : List X) : Type 0 where
   pub visitor : new.visitor.ghost_name ≡ old.visitor.ghost_name
   pub passed : visits old.visitor.now new.visitor.now xs
