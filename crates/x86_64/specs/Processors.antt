@@ -28,8 +28,8 @@ use Rattle.x86_64.specs.declared.flushing.Flush.{Flush}
 abbrev pub system_in : Layout → Memory → (pool : List ℕ) → List Cached → List Due → System
 system_in l m pool cached due = record { state = state_in l m pool; paths = paths (l laid_in m); words = words (l laid_in m); cache = cached; due = due }
 
--- The memory, the pool, the items and what is due arise from empty caches by events that may happen: calls, flushes, changes of
--- the caches.
+-- The memory, the pool, the items and what is due arise from empty caches by events that may happen: calls, exchanges, flushes,
+-- changes of the caches.
 pub record Arises (l : Layout) (take_back : List ℕ → ℕ → List ℕ) (serves : ℕ → Bool) (m : Memory) (pool : List ℕ) (cached : List Cached) (due : List Due) : Type 0 where
   pub start : State
   pub tables : Words

@@ -18,7 +18,7 @@ use Rattle.x86_64_access.specs.Marks.{GetsMarks, OnlyMarks, window_in}
 -- ---- a kernel and a processor
 
 -- An event of a system whose processor marks: marks, at any moment and also during a call, by which present words get ACCESSED,
--- DIRTY or both; or a call, a write, a flush or a change of the caches.
+-- DIRTY or both; or a call, a write, an exchange, a flush or a change of the caches.
 pub data MarkingEvent : Type 0 where
   Marks : (called : PathMap) → (words : Words) → MarkingEvent
   Other : Event → MarkingEvent

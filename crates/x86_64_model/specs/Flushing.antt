@@ -1,14 +1,16 @@
--- What has to be flushed after each call, and a processor that caches while a kernel makes calls and flushes.
+-- What has to be flushed after each call and exchange, and a processor that caches while a kernel makes calls, exchanges words and
+-- flushes.
 -- Intel SDM vol. 3A, "Invalidation of TLBs and Paging-Structure Caches".
-use Rattle.std.specs.Prelude.{◌≡◌, ◌⊎◌, ℕ, Bool, true, false, not, cond, List, [], ◌∷◌, ◌++◌, filter, take, bit_and, Option, Some, None}
+use Rattle.std.specs.Prelude.{◌≡◌, ◌⊎◌, ◌<◌, ℕ, ◌==◌, ◌&&◌, Bool, true, false, not, cond, List, [], ◌∷◌, ◌++◌, filter, length, nat_lt, take, bit_and, Option, Some, None}
 use Rattle.x86_64_model.specs.Lists.{In}
 use Rattle.x86_64_model.specs.Position.{page_path}
 use Rattle.x86_64_model.specs.Path.{begins, is_below, is_small, front_at, path_at}
-use Rattle.x86_64_model.specs.Entry.{has, used, present, writable, user, huge, no_execute, address}
+use Rattle.x86_64_model.specs.Entry.{has, used, present, writable, user, huge, no_execute, address, names_table}
 use Rattle.x86_64_model.specs.Memory.{Words, word}
 use Rattle.x86_64_model.specs.Window.{Window, begins_with, IsValidFor}
 use Rattle.x86_64_model.specs.Refusal.{Done, Refused}
-use Rattle.x86_64_model.specs.PathMap.{PathMap, entry, table_at}
+use Rattle.x86_64_model.specs.PathMap.{PathMap, entry, put, table_at}
+use Rattle.x86_64_model.specs.Laws.EntriesInPlace.{NamesNoTable, MayReplace}
 use Rattle.x86_64_model.specs.Call.{Call, IsCall, MapTo, MapToWithTableFlags, IdentityMap, Unmap, UpdateFlags, SetFlags, TranslatePage, Translate, TranslateAddress, CleanUp, Reply, NotAllowed, Answered, Position, Address, Cleaned, parent_flags_of}
 use Rattle.x86_64_model.specs.Machine.{Machine, State, step}
 use Rattle.x86_64_model.specs.Caches.{Cached, Table, Page, Caches}
@@ -65,6 +67,26 @@ flush_after L window (TranslatePage q) reply = []
 flush_after L window (Translate p) reply = []
 flush_after L window (TranslateAddress p) reply = []
 flush_after L window (CleanUp low high) reply = TablesDue ∷ if_window window
+
+-- Whether the second of two answers is yes, if the first one is.
+abbrev pub implies : (first second : Bool) → Bool
+implies a b = cond a b true
+
+-- Whether a present entry e may lose something when it becomes f, as `x64_flush_between` in include/x86_64_paging_live.h tells.
+-- It loses nothing if it stays present, its address, HUGE_PAGE, WRITE_THROUGH, NO_CACHE, GLOBAL and its protection key stay, none of
+-- WRITABLE, USER_ACCESSIBLE, ACCESSED and DIRTY goes, and neither NO_EXECUTE nor USER_ACCESSIBLE comes: a page that becomes a
+-- user's takes rights from ring 0 under SMEP and SMAP.
+abbrev pub loses_between : (e f : ℕ) → Bool
+loses_between e f = not (present f && (address f == address e) && (bit_and f 0x80 == bit_and e 0x80)
+    && (bit_and f 0x7800_0000_0000_0118 == bit_and e 0x7800_0000_0000_0118)
+    && implies (has e 0x20) (has f 0x20) && implies (has e 0x40) (has f 0x40) && implies (writable e) (writable f)
+    && implies (user e) (user f) && implies (no_execute f) (no_execute e) && implies (user f) (user e))
+
+-- After an exchange of an entry at a path nothing is due if the old word isn't present, since no cache holds such a word, or if it
+-- loses nothing. Else the page is due that it named, or all items below it if it names a table.
+abbrev pub due_between : (L : ℕ) → Option Window → (path : List ℕ) → (old new : ℕ) → List Due
+due_between L window q e f = let table = names_table e && nat_lt (length q) L in
+    cond (present e && loses_between e f) (cond table (below_due window q) (page_due L window q (address e))) []
 
 -- Whether an access at a position may be wrong as long as this is due. Items of freed tables lead nowhere, since these tables have
 -- only words 0.
@@ -135,6 +157,9 @@ pub data Event : Type 0 where
   Flushes : Flush → (after : List Cached) → Event
   -- The processor drops and makes items.
   Changes : (after : List Cached) → Event
+  -- The kernel puts this word in the place of the one of the entry at a path by one atomic instruction, after which memory holds
+  -- these words.
+  Exchanges : (path : List ℕ) → (word : ℕ) → (words : Words) → Event
 
 abbrev pub after_event : Machine → System → Event → System
 after_event m s (Makes call loses) = let after = step m s.state call in
@@ -142,6 +167,8 @@ after_event m s (Makes call loses) = let after = step m s.state call in
 after_event m s (Writes N U) = record { state = s.state; paths = N; words = U; cache = s.cache; due = s.due }
 after_event m s (Flushes f items) = record { state = s.state; paths = s.paths; words = s.words; cache = items; due = filter (λ due. not (settles m.levels f due)) s.due }
 after_event m s (Changes items) = record { state = s.state; paths = s.paths; words = s.words; cache = items; due = s.due }
+after_event m s (Exchanges q w U) = let due = due_between m.levels m.window q (entry s.paths q) w in
+    record { state = record { paths = put s.state.paths q w; pool = s.state.pool }; paths = put s.paths q w; words = U; cache = s.cache; due = due ++ s.due }
 
 -- All calls so far are done: the words hold the machine's state.
 abbrev pub IsDone : System → Type 0
@@ -192,11 +219,41 @@ pub record MayFlush (m : Machine) (s : System) (f : Flush) (after : List Cached)
   pub done : IsDone s
   pub left : (c : Cached) → In after c → In s.cache c × (survives m.levels f c ≡ true)
 
+-- The entry at a path outside the recursive window is a word of a table of the hierarchy.
+pub record IsInTable (m : Machine) (root : ℕ) (paths : PathMap) (path : List ℕ) : Type 0 where
+  pub above : List ℕ
+  pub index : ℕ
+  pub is : path ≡ above ++ index ∷ []
+  pub small : index < 512
+  pub frame : ℕ
+  pub leads : table_at m.levels root paths above ≡ Some frame
+  pub outside : begins_with m.window path ≡ false
+
+-- A kernel may put a word in the place of an entry's when all calls are done, if neither names a table, or both name the same one.
+-- No present word comes where a larger page is due, as no map does. A page whose entry is used and not present may be cached still,
+-- from the time when it was present, where all items on its path are due: there such an entry isn't exchanged before the flush. An
+-- exchange takes no free frame, so that it needn't wait for the flush of a clean up's tables.
+pub record MayPut (m : Machine) (root : ℕ) (s : System) (q : List ℕ) (w : ℕ) : Type 0 where
+  pub done : IsDone s
+  pub in_table : IsInTable m root s.paths q
+  pub replaces : MayReplace m.levels q (entry s.paths q) w
+  pub apart : present w ≡ true → (r : List ℕ) (frame : ℕ) → In s.due (PageDue r frame) → is_below r q ≡ false
+  pub settled : NamesNoTable m.levels q (entry s.paths q) → used (entry s.paths q) ≡ true → present (entry s.paths q) ≡ false
+      → (r : List ℕ) → In s.due (BelowDue r) → (begins r q ≡ false) × (begins_with m.window r ≡ false)
+
+-- After the exchange memory holds the path map with the new word. Free frames keep their words 0 until tables are flushed. All
+-- other memory may change, too.
+pub record MayExchange (m : Machine) (root : ℕ) (s : System) (q : List ℕ) (w : ℕ) (U : Words) : Type 0 where
+  pub may_put : MayPut m root s q w
+  pub holds : IsValidFor m.levels m.window U root (put s.paths q w)
+  pub keeps : In s.due TablesDue → (f : ℕ) → In s.state.pool f → HasZeros s.words f → HasZeros U f
+
 abbrev pub MayHappen : Machine → (root : ℕ) → System → Event → Type 0
 MayHappen m root s (Makes call loses) = MayMake m s call loses
 MayHappen m root s (Writes N U) = MayWrite m root s N U
 MayHappen m root s (Flushes f items) = MayFlush m s f items
 MayHappen m root s (Changes items) = Caches m.levels root s.words s.cache items
+MayHappen m root s (Exchanges q w U) = MayExchange m root s q w U
 
 -- A list of events, in order.
 abbrev pub AllMayHappen : Machine → (root : ℕ) → System → List Event → Type 0

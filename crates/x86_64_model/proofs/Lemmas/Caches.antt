@@ -1,9 +1,11 @@
 pub mod Accesses
 pub mod Agrees
 pub mod Calls
+pub mod Exchanged
 pub mod Filled
 pub mod Items
 pub mod Kept
+pub mod MayExchange
 pub mod Moved
 pub mod Runs
 pub mod Safe

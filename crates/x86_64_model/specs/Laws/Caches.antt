@@ -1,20 +1,20 @@
 -- Laws of caches: what has to be flushed after each call suffices.
-use Rattle.std.specs.Prelude.{◌≡◌, ◌⊎◌, ◌≢◌, ◌<◌, ◌+◌, ◌&&◌, nat_le, nat_lt, ℕ, Bool, true, false, List, [], ◌∷◌, replicate, Option, Some, None, IsSome, option_map}
+use Rattle.std.specs.Prelude.{◌≡◌, ◌⊎◌, ◌≢◌, ◌<◌, ◌+◌, ◌&&◌, nat_le, nat_lt, ℕ, Bool, true, false, List, [], ◌∷◌, length, replicate, Option, Some, None, IsSome, option_map}
 use Rattle.std.specs.FinMap.{empty, insert}
 use Rattle.std.specs.Ordering.{nat_cmp}
 use Rattle.x86_64_model.specs.Lists.{In}
 use Rattle.x86_64_model.specs.Position.{page_path}
-use Rattle.x86_64_model.specs.PathMap.{put}
+use Rattle.x86_64_model.specs.PathMap.{entry, put}
 use Rattle.x86_64_model.specs.Path.{level_of, span_size, begins}
 use Rattle.x86_64_model.specs.Entry.{used, present}
 use Rattle.x86_64_model.specs.Mappings.{maps_page}
-use Rattle.x86_64_model.specs.Memory.{Words, Memory, words_of, identity_places}
+use Rattle.x86_64_model.specs.Memory.{Words, Memory, word, set_word, words_of, identity_places}
 use Rattle.x86_64_model.specs.Pool.{IsTable}
 use Rattle.x86_64_model.specs.Window.{Window, begins_with, entry_at, IsValidFor}
 use Rattle.x86_64_model.specs.PageWalk.{page_start, page_walk}
 use Rattle.x86_64_model.specs.Machine.{Machine, IsMachine, State, step}
 use Rattle.x86_64_model.specs.Caches.{Way, start, AtMost, Cached, Table, Page, found, Caches, MayRead, MayAccess, walk_from, walk, walked_in}
-use Rattle.x86_64_model.specs.Flushing.{Due, PageDue, TablesDue, WindowDue, BelowDue, flush_after, concerns, HasZeros, Invlpg, survives, System, Event, Makes, MayMake, MayWrite, after_event, AllMayHappen, after_events, fresh}
+use Rattle.x86_64_model.specs.Flushing.{Due, PageDue, TablesDue, WindowDue, BelowDue, flush_after, concerns, HasZeros, Invlpg, survives, System, Event, Makes, Exchanges, MayMake, MayWrite, MayPut, MayExchange, LosesNothing, due_between, after_event, AllMayHappen, after_events, fresh}
 use Rattle.x86_64_model.specs.MapRule.{map_call}
 use Rattle.x86_64_model.specs.CleanUp.{clean_up}
 use Rattle.x86_64_model.specs.Refusal.{Done}
@@ -45,7 +45,7 @@ abbrev pub WalksThere : Option Way → (page : Way) → Type 0
 WalksThere walk w = (v : Way) × (walk ≡ Some v) × (v.path ≡ w.path) × (v.frame ≡ w.frame) × AtMost w.rights v.rights
 
 -- From a state and words, with empty caches and nothing due, these events may happen in order, and lead to this system: calls,
--- writes of words in memory, flushes, and changes of the caches.
+-- exchanges, writes of words in memory, flushes, and changes of the caches.
 pub record Happens (m : Machine) (root : ℕ) (T : Words) (s : State) (events : List Event) (end : System) : Type 0 where
   pub machine : IsMachine m
   pub levels : 0 < m.levels
@@ -85,7 +85,7 @@ pub record IsMapped (L : ℕ) (E : List ℕ → ℕ) (page : Way) : Type 0 where
   pub maps : maps_page (level_of L page.path) (E page.path) ≡ true
   pub frame : page.frame ≡ page_start (level_of L page.path) (E page.path)
 
--- The page may be cached still though entries changed: it is due, and its frame is the one that it had when a call let it go, or
+-- The page may be cached still though entries changed: it is due, and its frame is the one that it had when it was let go, or
 -- all items on its path are due, and its entry still maps it, so that at most its rights are wrong, or it lies in the recursive
 -- window, which is due.
 pub data IsStale (L : ℕ) (window : Option Window) (due : List Due) (E : List ℕ → ℕ) (page : Way) : Type 0 where
@@ -143,6 +143,33 @@ abbrev pub CallsMayHappen : Type 0
 CallsMayHappen = (m : Machine) → IsMachine m → (root : ℕ) (serves : ℕ → Bool) (s : System) → FitsState m s.words root serves s.state
     → (call : Call) (loses : Bool) → MayMake m s call loses → (U : Words) → IsAfterCall m root s.words U s.state call
     → MayWrite m root (after_event m s (Makes call loses)) (step m s.state call).state.paths U
+
+-- ---- exchanges
+
+-- If memory changes by the one word alone, the exchange may happen. The word that was there is the entry, and the state fits memory
+-- again.
+abbrev pub ExchangesMayHappen : Type 0
+ExchangesMayHappen = (m : Machine) (root : ℕ) (serves : ℕ → Bool) (s : System)
+    → FitsState m s.words root serves s.state → (q : List ℕ) (w : ℕ) (may : MayPut m root s q w)
+    → (table : List ℕ) → s.words may.in_table.frame ≡ Some table → may.in_table.index < length table
+    → let U = set_word s.words may.in_table.frame may.in_table.index w in
+    (word s.words may.in_table.frame may.in_table.index ≡ entry s.paths q) × MayExchange m root s q w U
+    × FitsState m U root serves (after_event m s (Exchanges q w U)).state
+
+-- If nothing is due after the exchange of a present word, the entry loses nothing.
+abbrev pub ExchangesTell : Type 0
+ExchangesTell = (L : ℕ) (window : Option Window) (q : List ℕ) (e f : ℕ)
+    → present e ≡ true → due_between L window q e f ≡ [] → LosesNothing e f
+
+-- The page [0, 0, 0, 1] is due after it is taken away, or copied to another frame at a write, or may be written no longer. It isn't
+-- due after it comes, or may be written. All items below the table [0] are due if it may be written no longer.
+pub record ExchangedWords : Type 0 where
+  pub taken : due_between 4 None (0 ∷ 0 ∷ 0 ∷ 1 ∷ []) 0x5063 0x7ff_f000 ≡ PageDue (0 ∷ 0 ∷ 0 ∷ 1 ∷ []) 0x5000 ∷ []
+  pub copied : due_between 4 None (0 ∷ 0 ∷ 0 ∷ 1 ∷ []) 0x5025 0x6067 ≡ PageDue (0 ∷ 0 ∷ 0 ∷ 1 ∷ []) 0x5000 ∷ []
+  pub protected : due_between 4 None (0 ∷ 0 ∷ 0 ∷ 1 ∷ []) 0x5007 0x5005 ≡ PageDue (0 ∷ 0 ∷ 0 ∷ 1 ∷ []) 0x5000 ∷ []
+  pub brought : due_between 4 None (0 ∷ 0 ∷ 0 ∷ 1 ∷ []) 0x7ff_f000 0x5063 ≡ []
+  pub writable_now : due_between 4 None (0 ∷ 0 ∷ 0 ∷ 1 ∷ []) 0x5025 0x5067 ≡ []
+  pub table : due_between 4 None (0 ∷ []) 0x2003 0x2001 ≡ BelowDue (0 ∷ []) ∷ []
 
 -- ---- a clean up that isn't flushed: worked example, root in frame 0x1000, four levels
 

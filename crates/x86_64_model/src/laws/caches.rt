@@ -1,5 +1,5 @@
 // Laws of the processor's caches.
-ghost use Rattle.x86_64_model.specs.Laws.Caches.{WalksWithRights, WalksAreCached, FlushesAreEnough, AccessesAreWalks, OnlyTablesAreRead, StaleAccessesAreOld, LetGoIsUnreached, CallsMayHappen, UnflushedCleanUp, UnflushedNoExecute, UnclearedTable};
+ghost use Rattle.x86_64_model.specs.Laws.Caches.{WalksWithRights, WalksAreCached, FlushesAreEnough, AccessesAreWalks, OnlyTablesAreRead, StaleAccessesAreOld, LetGoIsUnreached, CallsMayHappen, ExchangesMayHappen, ExchangesTell, ExchangedWords, UnflushedCleanUp, UnflushedNoExecute, UnclearedTable};
 
 /// The page walk arrives if and only if the walk that also says the page's path and its right to execute leads to a page, and then
 /// in this page, with the same rights to write and of user mode.
@@ -13,8 +13,8 @@ pub fn pages_of_walks_can_be_cached()
     ensures { WalksAreCached }
 {}
 
-/// What has to be flushed after each call is enough: at every moment, also during calls, each access goes to the page to which the
-/// page walk leads, with at most its rights, if nothing that is due concerns the address.
+/// What has to be flushed after each call and each exchange of an entry's word is enough: at every moment, also during calls, each
+/// access goes to the page to which the page walk leads, with at most its rights, if nothing that is due concerns the address.
 pub fn flushes_after_calls_are_enough()
     ensures { FlushesAreEnough }
 {}
@@ -30,7 +30,7 @@ pub fn processors_read_only_tables()
     ensures { OnlyTablesAreRead }
 {}
 
-/// Each access goes to the page to which the page walk leads, or to a page that is due: in the frame that it had when a call let it
+/// Each access goes to the page to which the page walk leads, or to a page that is due: in the frame that it had when it was let
 /// go, or in the frame in which its entry still maps it, with whatever rights, or in the recursive window.
 pub fn stale_accesses_go_where_pages_were()
     ensures { StaleAccessesAreOld }
@@ -46,6 +46,22 @@ pub fn frames_let_go_are_not_reached()
 /// leaves them.
 pub fn calls_may_happen()
     ensures { CallsMayHappen }
+{}
+
+/// An exchange of an entry's word may happen, if memory changes by this word alone, and the state fits memory again.
+pub fn exchanges_may_happen()
+    ensures { ExchangesMayHappen }
+{}
+
+/// An entry that is exchanged loses nothing, if it is present and nothing is due.
+pub fn exchanges_tell_what_is_due()
+    ensures { ExchangesTell }
+{}
+
+/// What is due after some exchanges.
+#[tactic(auto, using(crate::proofs::Lemmas::Caches::Unflushed::exchanged_words))]
+pub fn exchanged_pages_are_due()
+    ensures { ExchangedWords }
 {}
 
 /// A clean up that isn't flushed lets the processor go on from a cached table that is freed and used again, to a page that was

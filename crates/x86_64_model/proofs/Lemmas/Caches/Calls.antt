@@ -76,12 +76,12 @@ window_in : (window : Option Window) (due : List Due) → HasWindow window (if_w
 window_in None due w is = cc
 window_in (Some v) due w is = inl refl
 
-below_window : (window : Option Window) (q : List ℕ) (due : List Due) → HasWindow window (below_due window q ++ due)
+pub below_window : (window : Option Window) (q : List ℕ) (due : List Due) → HasWindow window (below_due window q ++ due)
 below_window None q due w is = cc
 below_window (Some v) q due w is = inr (inl refl)
 
 -- a page above level one shows in the window
-page_window : (window : Option Window) (L : ℕ) (q : List ℕ) (due : List Due) → length q < L → HasWindow window (cond (is_small L q) [] (if_window window) ++ due)
+pub page_window : (window : Option Window) (L : ℕ) (q : List ℕ) (due : List Due) → length q < L → HasWindow window (cond (is_small L q) [] (if_window window) ++ due)
 page_window window L q due l = subst (λ b. HasWindow window (cond b [] (if_window window) ++ due)) (sym (ne_eqb (length q) L (λ e. omega (arith, l, e)))) (window_in window due)
 
 module _ (m : Machine) (is : IsMachine m) (root : ℕ) (serves : ℕ → Bool) (s : State) (sound : IsSound m.levels m.window root serves s) (due : List Due) where

@@ -79,11 +79,11 @@ module _ (L root : ℕ) (window : Option Window) (E F : List ℕ → ℕ) (due :
 
   pub page_written : (w : Way) → AgreesPage L E w ⊎ StalePage L window due E w → AgreesPage L F w ⊎ StalePage L window due F w
   page_written w (inl a) = ⊎_elim
-      (λ loose. inr (⊎_elim (λ s. inr (loose, s)) (λ d. drops w a.frame d) (stands_moves L root window E F due pool U below moves empty w (agrees_stands L E w a))))
+      (λ loose. inr (⊎_elim (λ s. inr (loose, s)) (λ d. drops w a.frame d) (stands_moves L root window E F due pool U below moves empty w loose (agrees_stands L E w a))))
       (λ none. ⊎_elim (λ b. inl b) (λ d. inr (drops w a.frame d)) (page_moves L root window E F due pool U below moves empty w none a))
       (loose_or_not window due w.path)
   page_written w (inr (inl x)) = inr (inl x)
-  page_written w (inr (inr x)) = inr (⊎_elim (λ s. inr (x.0, s)) (λ d. drops w x.1.frame d) (stands_moves L root window E F due pool U below moves empty w x.1))
+  page_written w (inr (inr x)) = inr (⊎_elim (λ s. inr (x.0, s)) (λ d. drops w x.1.frame d) (stands_moves L root window E F due pool U below moves empty w x.0 x.1))
 
   pub item_written : KeepsZeros → (c : Cached) → Safe L root window due pool T E c → Safe L root window due pool U F c
   item_written keeps (Table t) x = table_written keeps t x

@@ -20,7 +20,7 @@ use Rattle.x86_64_model.proofs.Lemmas.Caches.Agrees.{front_cases, front_more, Is
 use Rattle.x86_64_model.proofs.Lemmas.Caches.Kept.{Kept, kept_same, SameTarget, target_table, PageDrops, LooseAt, loose_more, Stands, leads_any, page_no_table, agrees_kept}
 
 -- how the entry at a path may change, by what is due: it stays, was absent, grows, is a leaf whose page is due, leads where it led
--- while all items on its path are due, or named a table that is freed
+-- while all items on its path are due, named a table that is freed, or was a leaf that isn't present
 pub data Moves (L : ℕ) (window : Option Window) (due : List Due) (pool : List ℕ) (q : List ℕ) (e f : ℕ) : Type 0 where
   Stays : f ≡ e → Moves L window due pool q e f
   Begins : used e ≡ false → Moves L window due pool q e f
@@ -28,6 +28,7 @@ pub data Moves (L : ℕ) (window : Option Window) (due : List Due) (pool : List 
   Leaf : table_of L q e ≡ None → PageDrops window due q (address e) → Moves L window due pool q e f
   Flags : SameTarget e f → LooseAt window due q → Moves L window due pool q e f
   Freed : f ≡ 0 → In due TablesDue → (g : ℕ) → table_of L q e ≡ Some g → In pool g → Moves L window due pool q e f
+  Unseen : present e ≡ false → table_of L q e ≡ None → (LooseAt window due q → PageDrops window due q (address e)) → Moves L window due pool q e f
 
 -- the entries E become F, and the words become U. Nothing is used below what isn't a table
 module _ (L root : ℕ) (window : Option Window) (E F : List ℕ → ℕ) (due : List Due) (pool : List ℕ) (U : Words)
@@ -45,6 +46,7 @@ module _ (L root : ℕ) (window : Option Window) (E F : List ℕ → ℕ) (due :
       by (Grew k same) = inl (target_table L (i ∷ q) _ _ same ∙ t)
       by (Leaf none d) = absurd (some_not_none f (sym t ∙ none))
       by (Flags same d) = inl (target_table L (i ∷ q) _ _ same ∙ t)
+      by (Unseen h none d) = absurd (some_not_none f (sym t ∙ none))
       by (Freed z d g is i') = inr (d, subst (In pool) (same_Some _ _ (sym is ∙ t)) i', empty (i ∷ q) f t (ap (table_of L (i ∷ q)) z ∙ unused_no_table L (i ∷ q)))
 
   -- nothing is used below a table that is freed
@@ -73,6 +75,7 @@ module _ (L root : ℕ) (window : Option Window) (E F : List ℕ → ℕ) (due :
       by (Grew k same) = k h
       by (Leaf n d) = absurd (some_not_none g (sym t ∙ n))
       by (Flags same d) = absurd (none d)
+      by (Unseen n none d) = absurd (let x : true ≡ false = sym h ∙ n in cc)
       by (Freed z d g' is i') = absurd (stays (ap (table_of L (i ∷ c)) z ∙ unused_no_table L (i ∷ c)))
 
   way_table : (x : List ℕ) → IsWay L E x → (i : ℕ) (c : List ℕ) → begins (i ∷ c) x ≡ true → (g : ℕ) × (leads L root E (i ∷ c) ≡ Some g)
@@ -121,10 +124,11 @@ module _ (L root : ℕ) (window : Option Window) (E F : List ℕ → ℕ) (due :
       by (Leaf n d) = inr d
       by (Flags same d) = absurd (none d)
       by (Freed z d g is i) = absurd (page_no_table L w.path (E w.path) g a.maps is)
+      by (Unseen n none d) = absurd (let x : true ≡ false = sym a.is_present ∙ n in cc)
 
-  -- a page whose entry leads there has such an entry still, or what is due drops it
-  pub stands_moves : (w : Way) → Stands L E w → Stands L F w ⊎ PageDrops window due w.path (address (E w.path))
-  stands_moves w s = let short = s.short in by (moves w.path (omega (arith, short, ap length s.path, one_more s.front s.last)))
+  -- a page whose entry leads there has such an entry still, or what is due drops it, if all items on its path are due
+  pub stands_moves : (w : Way) → LooseAt window due w.path → Stands L E w → Stands L F w ⊎ PageDrops window due w.path (address (E w.path))
+  stands_moves w loose s = let short = s.short in by (moves w.path (omega (arith, short, ap length s.path, one_more s.front s.last)))
     where
       still : used (F w.path) ≡ true → leads L 0 F s.front ≡ None → ⊥
       still u n = let z = below s.front s.last s.short (leads_any L 0 root F s.front n) in
@@ -149,3 +153,4 @@ module _ (L root : ℕ) (window : Option Window) (E F : List ℕ → ℕ) (due :
       by (Leaf n d) = inr d
       by (Flags t d) = inl (same t)
       by (Freed z d g is i) = absurd (page_no_table L w.path (E w.path) g s.maps is)
+      by (Unseen n none d) = inr (d loose)

@@ -10,7 +10,7 @@ use Rattle.x86_64_model.specs.Position.{span, page_path}
 use Rattle.x86_64_model.specs.Window.{entry_at}
 use Rattle.x86_64_model.specs.Machine.{Machine, IsMachine, State}
 use Rattle.x86_64_model.specs.Caches.{Way, Table, Page, MayRead, MayAccess, walk, walked_in}
-use Rattle.x86_64_model.specs.Flushing.{Due, TablesDue, HasZeros, concerns, System, Event, Makes, Writes, Flushes, Changes, after_event, MayHappen, AllMayHappen, after_events, fresh}
+use Rattle.x86_64_model.specs.Flushing.{Due, TablesDue, HasZeros, concerns, System, Event, Makes, Writes, Flushes, Changes, Exchanges, after_event, MayHappen, AllMayHappen, after_events, fresh}
 use Rattle.x86_64_model.specs.Laws.Caches.{FlushesAreEnough, AccessesAreWalks, OnlyTablesAreRead, WalksThere, IsStale, StaleAccessesAreOld, IsLetGo, LetGoIsUnreached}
 use Rattle.x86_64_model.specs.Laws.Steps.{FitsState}
 use Rattle.x86_64_model.specs.PageWalk.{Walked, page_walk}
@@ -24,6 +24,7 @@ use Rattle.x86_64_model.proofs.Lemmas.Caches.Agrees.{leads, agrees_leads, table_
 use Rattle.x86_64_model.proofs.Lemmas.Caches.Items.{Access, hit_goes, walk_goes}
 use Rattle.x86_64_model.proofs.Lemmas.Caches.Stale.{stale, settled_stale, walked_path, let_go}
 use Rattle.x86_64_model.proofs.Lemmas.Caches.Safe.{IsSafe, Safe, make_keeps, make_moves, write_keeps, write_moves, flush_keeps, change_keeps, table_safe}
+use Rattle.x86_64_model.proofs.Lemmas.Caches.Exchanged.{exchange_safe}
 use Rattle.x86_64_model.proofs.Lemmas.Caches.Windowed.{AsBefore, seen_table}
 
 module _ (m : Machine) (is : IsMachine m) (levels : 0 < m.levels) (root : ℕ) (serves : ℕ → Bool) where
@@ -52,6 +53,7 @@ module _ (m : Machine) (is : IsMachine m) (levels : 0 < m.levels) (root : ℕ) (
     moves = safe.moves;
     items = change_keeps m root serves s safe levels after may;
   }
+  event_safe s safe (Exchanges q w U) may = exchange_safe m root serves s safe q w U may
 
   pub events_safe : (events : List Event) (s : System) → IsSafe m root serves s → AllMayHappen m root s events → IsSafe m root serves (after_events m s events)
   events_safe [] s safe all = safe

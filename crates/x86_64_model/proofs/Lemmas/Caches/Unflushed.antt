@@ -9,7 +9,7 @@ use Rattle.x86_64_model.specs.PageWalk.{walk_on, page_walk}
 use Rattle.x86_64_model.specs.Caches.{start, Table, Page, found, walk_from, walk}
 use Rattle.x86_64_model.specs.Flushing.{Invlpg, survives}
 use Rattle.x86_64_model.specs.Laws.Worked.{nothing_mapped, small_mapped, small_memory}
-use Rattle.x86_64_model.specs.Laws.Caches.{emptied_memory, reused_memory, writable_way, executable_page, uncleared_memory, UnflushedCleanUp, UnflushedNoExecute, UnclearedTable}
+use Rattle.x86_64_model.specs.Laws.Caches.{emptied_memory, reused_memory, writable_way, executable_page, uncleared_memory, UnflushedCleanUp, UnflushedNoExecute, UnclearedTable, ExchangedWords}
 use Rattle.x86_64_model.proofs.Lemmas.Paths.Puts.{entry-put, entry-empty}
 use Rattle.x86_64_model.proofs.Lemmas.Worked.FourLevels.{get_it}
 
@@ -63,3 +63,7 @@ afterwards = simp get_it
 
 pub uncleared_table : UnclearedTable
 uncleared_table = record { in_between = in_between; afterwards = afterwards; none_due = refl }
+
+pub exchanged_words : ExchangedWords
+unfolding has used address
+exchanged_words = record { taken = refl; copied = refl; protected = refl; brought = refl; writable_now = refl; table = refl }

@@ -1,6 +1,6 @@
 -- Changes of the entries of a path map, as they are seen through the recursive window.
-use Rattle.std.proofs.Common.{◌≡◌, ◌⊎◌, inl, inr, ⊎_elim, ◌<◌, ◌≤◌, ℕ, ◌==◌, ◌&&◌, true, false, cond, List, [], ◌∷◌, ◌++◌, ◌-◌, filter, length, nat_lt, Some, None, Option, refl, sym, ap, ◌∙◌, subst, subst₂, arith, lt-ltb, ltb-true}
-use Rattle.std.proofs.lemmas.Bool.{and_right, cond-false, cases_Bool, cases_lt}
+use Rattle.std.proofs.Common.{◌≡◌, ◌⊎◌, inl, inr, ⊎_elim, ◌<◌, ◌≤◌, ℕ, ◌==◌, ◌&&◌, true, false, cond, List, [], ◌∷◌, ◌++◌, ◌-◌, filter, length, nat_lt, Some, None, Option, refl, sym, ap, ◌∙◌, subst, subst₂, arith, lt-ltb, ltb-true, eqb-true}
+use Rattle.std.proofs.lemmas.Bool.{and_parts, and_right, cond-false, cases_Bool, cases_lt}
 use Rattle.x86_64_model.specs.Entry.{used, present, address, names_table}
 use Rattle.x86_64_model.specs.Lists.{In}
 use Rattle.x86_64_model.specs.Memory.{Words}
@@ -9,15 +9,15 @@ use Rattle.x86_64_model.specs.Path.{paths_below, begins}
 use Rattle.x86_64_model.specs.CleanUp.{is_removed, clean_up}
 use Rattle.x86_64_model.specs.Pool.{IsTable}
 use Rattle.x86_64_model.specs.Window.{Window, windowed, entry_at, begins_with, SelfEntry}
-use Rattle.x86_64_model.specs.Flushing.{Due, PageDue, TablesDue, WindowDue, BelowDue, HasZeros}
+use Rattle.x86_64_model.specs.Flushing.{Due, PageDue, TablesDue, WindowDue, BelowDue, HasZeros, loosens}
 use Rattle.x86_64_model.proofs.Lemmas.Walks.Agrees.{named}
 use Rattle.x86_64_model.proofs.Lemmas.Walks.Walked.{names}
 use Rattle.x86_64_model.proofs.Lemmas.Hierarchies.Trees.{IsTree, table_of_gives, some_not_none}
 use Rattle.x86_64_model.proofs.Lemmas.Lists.Members.{in_filter, in_map}
 use Rattle.x86_64_model.proofs.Lemmas.CleanUps.Frames.{listed}
 use Rattle.x86_64_model.proofs.Lemmas.Caches.Agrees.{leads}
-use Rattle.x86_64_model.proofs.Lemmas.Caches.Kept.{Kept, SameTarget}
-use Rattle.x86_64_model.proofs.Lemmas.Caches.Moved.{Moves, Stays, Begins, Grew, Leaf, Flags, Freed}
+use Rattle.x86_64_model.proofs.Lemmas.Caches.Kept.{Kept, SameTarget, PageDrops}
+use Rattle.x86_64_model.proofs.Lemmas.Caches.Moved.{Moves, Stays, Begins, Grew, Leaf, Flags, Freed, Unseen}
 
 -- ---- tables of entries at longer paths
 
@@ -44,6 +44,23 @@ pub data Becomes (L : ℕ) (window : Option Window) (due : List Due) (pool : Lis
   Reflagged : SameTarget e f → (r : List ℕ) → In due (BelowDue r) → begins r q ≡ true → HasWindow window due → Becomes L window due pool q e f
   Removed : f ≡ 0 → In due TablesDue → HasWindow window due → (g : ℕ) → table_of L q e ≡ Some g → In pool g → Becomes L window due pool q e f
 
+-- an entry outside the window that names no table and isn't present, while no other entry on its path is due with all items
+pub record IsUnseen (L : ℕ) (window : Option Window) (due : List Due) (q : List ℕ) (e : ℕ) : Type 0 where
+  pub is_absent : present e ≡ false
+  pub is_leaf : table_of L q e ≡ None
+  pub is_outside : begins_with window q ≡ false
+  pub settled : (r : List ℕ) → In due (BelowDue r) → (begins r q ≡ false) × (begins_with window r ≡ false)
+
+-- an entry may also change if it isn't present
+abbrev pub Alters : (L : ℕ) (window : Option Window) (due : List Due) (pool : List ℕ) (q : List ℕ) (e f : ℕ) → Type 0
+Alters L window due pool q e f = Becomes L window due pool q e f ⊎ IsUnseen L window due q e
+
+-- where a path that isn't empty begins, it begins in the window if the path does
+front_window : (window : Option Window) (j : ℕ) (r q : List ℕ) → begins (j ∷ r) q ≡ true → begins_with window q ≡ true → begins_with window (j ∷ r) ≡ true
+front_window None j r q b h = h
+front_window (Some w) j r [] b h = cc
+front_window (Some w) j r (i ∷ q) b h = ap (λ j. j == w.index) (eqb-true j i (and_parts _ _ b).0) ∙ h
+
 module _ (L : ℕ) (window : Option Window) (due : List Due) (pool : List ℕ) where
   -- outside the window
   pub outside : (q : List ℕ) (e f : ℕ) → Becomes L window due pool q e f → Moves L window due pool q e f
@@ -66,6 +83,29 @@ module _ (L : ℕ) (window : Option Window) (due : List Due) (pool : List ℕ) w
   inside w is y q e f within l top (Removed z d has g names i) = ⊎_elim
       (λ k. Freed z d g (short_table L y q e k (omega arith) ∙ names) i)
       (λ k. Leaf (long_table L q e k) (inr (has w is, within))) (cases_lt (length q) L)
+
+  -- an entry that isn't present
+  unseen : (q : List ℕ) (e f : ℕ) → IsUnseen L window due q e → Moves L window due pool q e f
+  unseen q e f u = Unseen u.is_absent u.is_leaf (λ l. drops l.0 l.1 l.2)
+    where
+      drops : (d : Due) → In due d → loosens window d q ≡ true → PageDrops window due q (address e)
+      drops (PageDue r g) i l = cc
+      drops TablesDue i l = cc
+      drops WindowDue i l = absurd (let t : true ≡ false = sym l ∙ u.is_outside in cc)
+      drops (BelowDue r) i l = absurd (let t : true ≡ false = sym l ∙ (u.settled r i).0 in cc)
+
+  -- through the window it is seen at a longer path
+  unseen_inside : (y q : List ℕ) (e f : ℕ) → begins_with window q ≡ true → length y < length q → length q ≤ L → IsUnseen L window due y e → Moves L window due pool q e f
+  unseen_inside y q e f within l top u = Unseen u.is_absent
+      (⊎_elim (λ k. short_table L y q e k (omega arith) ∙ u.is_leaf) (λ k. long_table L q e k) (cases_lt (length q) L))
+      (λ l. drops l.0 l.1 l.2)
+    where
+      drops : (d : Due) → In due d → loosens window d q ≡ true → PageDrops window due q (address e)
+      drops (PageDue r g) i l = cc
+      drops TablesDue i l = cc
+      drops WindowDue i l = inr (i, within)
+      drops (BelowDue []) i l = absurd (let t : true ≡ false = (u.settled [] i).0 in cc)
+      drops (BelowDue (j ∷ r)) i l = absurd (let t : true ≡ false = sym (front_window window j r q l within) ∙ (u.settled (j ∷ r) i).1 in cc)
 
 -- ---- paths through the window
 
@@ -103,18 +143,23 @@ module _ (w : Window) where
 -- ---- the path map M becomes N
 
 module _ (L root : ℕ) (M N : PathMap) (due : List Due) (pool : List ℕ) (U : Words) where
-  pub seen_moves : (window : Option Window) → ((q : List ℕ) → Becomes L window due pool q (entry M q) (entry N q)) → (q : List ℕ) → length q ≤ L → Moves L window due pool q (entry_at window M q) (entry_at window N q)
+  pub seen_alters : (window : Option Window) → ((q : List ℕ) → Alters L window due pool q (entry M q) (entry N q)) → (q : List ℕ) → length q ≤ L → Moves L window due pool q (entry_at window M q) (entry_at window N q)
   unfolding entry_at
-  seen_moves None moves q l = outside L None due pool q _ _ (moves q)
-  seen_moves (Some w) moves [] l = Stays refl
-  seen_moves (Some w) moves (i ∷ q) l = subst₂ (Moves L (Some w) due pool (i ∷ q)) (sym (windowed_is w M i q)) (sym (windowed_is w N i q)) (by (strip w (i ∷ q)) refl)
+  seen_alters None moves q l = ⊎_elim (λ b. outside L None due pool q _ _ b) (λ u. unseen L None due pool q _ _ u) (moves q)
+  seen_alters (Some w) moves [] l = Stays refl
+  seen_alters (Some w) moves (i ∷ q) l = subst₂ (Moves L (Some w) due pool (i ∷ q)) (sym (windowed_is w M i q)) (sym (windowed_is w N i q)) (by (strip w (i ∷ q)) refl)
     where
       by : (y : List ℕ) → strip w (i ∷ q) ≡ y → Moves L (Some w) due pool (i ∷ q) (entry_of w M y) (entry_of w N y)
       by [] e = Stays refl
       by (j ∷ y) e = ⊎_elim
-          (λ same. subst (λ x. Moves L (Some w) due pool (i ∷ q) (entry M x) (entry N x)) (sym same ∙ e) (outside L (Some w) due pool (i ∷ q) _ _ (moves (i ∷ q))))
-          (λ x. inside L (Some w) due pool w refl (j ∷ y) (i ∷ q) _ _ x.0 (omega (arith, x.1, ap length e)) l (moves (j ∷ y)))
+          (λ same. subst (λ x. Moves L (Some w) due pool (i ∷ q) (entry M x) (entry N x)) (sym same ∙ e)
+          (⊎_elim (λ b. outside L (Some w) due pool (i ∷ q) _ _ b) (λ u. unseen L (Some w) due pool (i ∷ q) _ _ u) (moves (i ∷ q))))
+          (λ x. ⊎_elim (λ b. inside L (Some w) due pool w refl (j ∷ y) (i ∷ q) _ _ x.0 (omega (arith, x.1, ap length e)) l b)
+          (λ u. unseen_inside L (Some w) due pool (j ∷ y) (i ∷ q) _ _ x.0 (omega (arith, x.1, ap length e)) l u) (moves (j ∷ y)))
           (strip_cases w i q)
+
+  pub seen_moves : (window : Option Window) → ((q : List ℕ) → Becomes L window due pool q (entry M q) (entry N q)) → (q : List ℕ) → length q ≤ L → Moves L window due pool q (entry_at window M q) (entry_at window N q)
+  seen_moves window moves q l = seen_alters window (λ q. inl (moves q)) q l
 
   pub seen_below : (window : Option Window) → SelfEntry U root window → IsTree L root N → (q : List ℕ) (i : ℕ) → length q < L → leads L root (entry_at window N) q ≡ None → entry_at window N (q ++ i ∷ []) ≡ 0
   unfolding entry_at

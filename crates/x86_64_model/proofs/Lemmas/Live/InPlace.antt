@@ -43,7 +43,7 @@ pub record Replaces (L : ℕ) (q : List ℕ) (e w : ℕ) : Type 0 where
   pub same_table : table_of L q w ≡ table_of L q e
   pub low : 3 < level_of L q → huge w ≡ false
 
-none_named : (L : ℕ) (q : List ℕ) (e : ℕ) → NamesNoTable L q e → table_of L q e ≡ None
+pub none_named : (L : ℕ) (q : List ℕ) (e : ℕ) → NamesNoTable L q e → table_of L q e ≡ None
 none_named L q e (inl last) = leaf_none L q e
     (λ h. absurd (let t : (length q == L) ≡ true = eq-eqb _ _ last in let u : true ≡ false = sym t
     ∙ h in cc))
@@ -59,7 +59,7 @@ no_address : address 0 ≡ 0
 unfolding address
 no_address = refl
 
-still_named : (e w : ℕ) → address e ≢ 0 → address w ≡ address e → huge w ≡ false → names_table w ≡ true
+pub still_named : (e w : ℕ) → address e ≢ 0 → address w ≡ address e → huge w ≡ false → names_table w ≡ true
 still_named e w nonzero same plain = ap₂ (λ u h. u && not h)
     (used_from w (λ z. nonzero (sym same ∙ ap address z ∙ no_address))) plain
 
