@@ -148,6 +148,8 @@ pub record System : Type 0 where
   pub cache : List Cached
   pub due : List Due
 
+-- What happens in a system, one thing after another: the kernel begins a call, words of memory change, the kernel flushes or exchanges
+-- an entry's word, or the processor changes what it has cached.
 pub data Event : Type 0 where
   -- The kernel begins a call, of which it learns whether a used entry may lose anything.
   Makes : Call → (loses : Bool) → Event
@@ -161,6 +163,8 @@ pub data Event : Type 0 where
   -- these words.
   Exchanges : (path : List ℕ) → (word : ℕ) → (words : Words) → Event
 
+-- The system after an event. A call and an exchange change the machine's state, and add what has to be flushed; a flush takes away what
+-- it settles.
 abbrev pub after_event : Machine → System → Event → System
 after_event m s (Makes call loses) = let after = step m s.state call in
     record { state = after.state; paths = s.paths; words = s.words; cache = s.cache; due = cond loses (flush_after m.levels m.window call after.reply) [] ++ s.due }
@@ -170,7 +174,7 @@ after_event m s (Changes items) = record { state = s.state; paths = s.paths; wor
 after_event m s (Exchanges q w U) = let due = due_between m.levels m.window q (entry s.paths q) w in
     record { state = record { paths = put s.state.paths q w; pool = s.state.pool }; paths = put s.paths q w; words = U; cache = s.cache; due = due ++ s.due }
 
--- All calls so far are done: the words hold the machine's state.
+-- No call is under way: the words hold the path map of the machine's state.
 abbrev pub IsDone : System → Type 0
 IsDone s = s.paths ≡ s.state.paths
 
@@ -248,6 +252,7 @@ pub record MayExchange (m : Machine) (root : ℕ) (s : System) (q : List ℕ) (w
   pub holds : IsValidFor m.levels m.window U root (put s.paths q w)
   pub keeps : In s.due TablesDue → (f : ℕ) → In s.state.pool f → HasZeros s.words f → HasZeros U f
 
+-- Whether the event may happen in this system, as the rules of its kind say. The processor's caches change by the rules of caches.
 abbrev pub MayHappen : Machine → (root : ℕ) → System → Event → Type 0
 MayHappen m root s (Makes call loses) = MayMake m s call loses
 MayHappen m root s (Writes N U) = MayWrite m root s N U
@@ -255,11 +260,12 @@ MayHappen m root s (Flushes f items) = MayFlush m s f items
 MayHappen m root s (Changes items) = Caches m.levels root s.words s.cache items
 MayHappen m root s (Exchanges q w U) = MayExchange m root s q w U
 
--- A list of events, in order.
+-- Each event of the list may happen in the system after those before it.
 abbrev pub AllMayHappen : Machine → (root : ℕ) → System → List Event → Type 0
 AllMayHappen m root s [] = Unit {0}
 AllMayHappen m root s (e ∷ es) = MayHappen m root s e × AllMayHappen m root (after_event m s e) es
 
+-- The system after these events, one after another.
 abbrev pub after_events : Machine → System → List Event → System
 after_events m s [] = s
 after_events m s (e ∷ es) = after_events m (after_event m s e) es
