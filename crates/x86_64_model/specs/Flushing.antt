@@ -42,6 +42,7 @@ if_allowed (Position t) due = due
 if_allowed (Address a) due = due
 if_allowed Cleaned due = due
 
+-- What has to be flushed of the recursive window: its pages, if there is a recursive index, and otherwise nothing.
 abbrev pub if_window : Option Window → List Due
 if_window None = []
 if_window (Some w) = WindowDue ∷ []
@@ -50,6 +51,8 @@ if_window (Some w) = WindowDue ∷ []
 abbrev pub page_due : (L : ℕ) → Option Window → (page : List ℕ) → (frame : ℕ) → List Due
 page_due L window q frame = PageDue q frame ∷ cond (is_small L q) [] (if_window window)
 
+-- What has to be flushed if entries on the paths that begin with this one lost rights: all items of these paths, and the pages of the
+-- recursive window, if there is one, since they are reached through the same entries.
 abbrev pub below_due : Option Window → (path : List ℕ) → List Due
 below_due window q = BelowDue q ∷ if_window window
 
