@@ -130,15 +130,16 @@ fn read_from<T: TableMemory, P: PageTableFrameMapping>(
             };
         };
         let index = index_of(position, level);
-        let entry = &table[index];
-        rights = rights.below(entry);
+        // A copy, since a processor, or a caller who exchanges entries, may change the word meanwhile.
+        let entry = PageTableEntry::from_word(table[index].word());
+        rights = rights.below(&entry);
         entries[count] = WalkEntry {
             level,
             table: frame.start_address().as_u64(),
             index: index as u64,
             word: entry.word(),
         };
-        if let Some(end) = end_at(level, entry) {
+        if let Some(end) = end_at(level, &entry) {
             return EntriesRead {
                 count: count + 1,
                 rights,

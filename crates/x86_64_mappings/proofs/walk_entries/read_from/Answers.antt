@@ -24,20 +24,20 @@ returns-in_default g c =
     record { writes = read_all _ _ _ _ _ _ all; rights = rights_read _ _ _ _ _ _ all; end = end_read _ _ _ _ _ _ all }
 
 pub from_start_address_unchecked-frame-requires : goal.from_start_address_unchecked-frame-requires
-from_start_address_unchecked-frame-requires g c = rw c.addr.ensures (address_aligned c.index-entry.result.now)
+from_start_address_unchecked-frame-requires g c = rw c.addr.ensures (address_aligned c.from_word-entry.result)
 
 pub returns-in-Some-end_at : goal.returns-in-Some-end_at
 returns-in-Some-end_at g c =
     let words = words_of (g.T.TableMemory.tables c.args.memory.now) (g.P.PageTableFrameMapping.places c.args.mapping.now) in
     let level = c.args.levels - c.loop-above.above in
-    let e = c.index-entry.result.now in
+    let e = c.from_word-entry.result in
     let is : Some e ≡ read words c.loop-above.frame (index level c.args.position) = search rules in
     let here = steps_some no_limits words c.args.position level c.loop-above.frame e (omega (arith, c.loop-above-test.true)) is
     ∙ ap (λ b. step c.args.position level c.loop-above.frame e ∷ cond b (steps_from no_limits words c.args.position (level - 1) (address e)) []) c.in-Some-end_at.ensures.ends in
     let room : c.loop-above.above < length c.args.entries.now = omega (arith, c.loop-above-test.true, c.requires.room) in
     let all = read_more _ _ _ _ _ _ _ _ (read_rest _ _ _ _ _ _ _ _ here c.loop-above.invariant) room in
     record {
-      writes = rw (c.as_u64.ensures.value, c.start_address.ensures.value, c.index_of-index.ensures.value, c.word.ensures) (read_all _ _ _ _ _ _ all);
+      writes = rw (c.as_u64.ensures.value, c.start_address.ensures.value, c.index_of-index.ensures.value, c.word-in-loop-above.ensures) (read_all _ _ _ _ _ _ all);
       rights = c.below-rights.ensures ∙ rights_read _ _ _ _ _ _ all;
       end = c.in-Some-end_at.ensures.some ∙ end_read _ _ _ _ _ _ all;
     }
@@ -46,7 +46,7 @@ pub loop-above-preserved : goal.loop-above-preserved
 loop-above-preserved g c =
     let words = words_of (g.T.TableMemory.tables c.args.memory.now) (g.P.PageTableFrameMapping.places c.args.mapping.now) in
     let level = c.args.levels - c.loop-above.above in
-    let e = c.index-entry.result.now in
+    let e = c.from_word-entry.result in
     let is : Some e ≡ read words c.loop-above.frame (index level c.args.position) = search rules in
     let here = steps_some no_limits words c.args.position level c.loop-above.frame e (omega (arith, c.loop-above-test.true)) is
     ∙ ap (λ b. step c.args.position level c.loop-above.frame e ∷ cond b (steps_from no_limits words c.args.position (level - 1) (address e)) []) c.in_default-end_at.ensures.none in
@@ -57,7 +57,7 @@ loop-above-preserved g c =
       c.as_u64.ensures.value,
       c.start_address.ensures.value,
       c.index_of-index.ensures.value,
-      c.word.ensures,
+      c.word-in-loop-above.ensures,
       c.below-rights.ensures,
       next,
       c.from_start_address_unchecked-frame.ensures,
