@@ -75,8 +75,6 @@ pub record IsMergedTo (address : ℕ) (front back merged F B : List Stretch) (p 
   pub order : AreInOrder merged
   pub next : (s : Stretch) → address ≤ s.from → AreInOrder (merged ++ s ∷ [])
 
-}
-
 -- one more stretch is merged
 pub merged_more : (front back merged more F B F' B' : List Stretch) (p q p' q' place : Option Place) (r a : ℕ) → lower (next_from F) (next_from B) ≡ Some a
     → F' ≡ rest_after a F → B' ≡ rest_after a B → p' ≡ place_passed a p F → q' ≡ place_passed a q B → place ≡ option_or p' q' → more ≡ merged ++ (record { from = a; place = place }) ∷ []

@@ -47,5 +47,3 @@ rounded p z (suc (suc zero)) low high e small false = let e' : z ≡ 0x20_0000 =
 rounded p z (suc (suc (suc zero))) low high e small true = let e' : z ≡ 0x4000_0000 = e in rw e' (omega arith)
 rounded p z (suc (suc (suc zero))) low high e small false = let e' : z ≡ 0x4000_0000 = e in rw e' (omega arith)
 rounded p z (suc (suc (suc (suc l)))) low high e small lower = absurd (omega arith)
-
-}

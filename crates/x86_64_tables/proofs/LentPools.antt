@@ -45,5 +45,3 @@ pub fits_own : {L : ℕ} {window : Option Window} {T : Words} {root : ℕ} {path
     → serves ≡ served_by own array count → Fits L window T root paths serves pool → Fits L window T root paths (is_in own) pool
 fits_own {L} {window} {T} {root} {paths} {pool} {serves} own array count same = fits_by L window T root paths pool serves (is_in own)
     (λ f is served. sym (ap (λ s. s f) same ∙ served_aligned own array count f (frame_aligned f is)) ∙ served)
-
-}

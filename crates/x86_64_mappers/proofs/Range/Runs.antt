@@ -37,8 +37,6 @@ allowed_still L window M N q given more still allowed =
 
 -- ---- walks
 
-)
-
 better_then : (more : ℕ) (w v x : Walked) → Better more w v → Better more v x → Better more w x
 better_then more w v x one two = record {
   no_worse = record {
@@ -63,8 +61,6 @@ accepted_more r k = map-range_with_len_more (λ k. Answered (Done (frame_at r k)
 
 maps_more : (L : ℕ) (r : MapRange) (k : ℕ) → maps L r (k + 1) ≡ maps L r k ++ map_at L r k ∷ []
 maps_more L r k = map-range_with_len_more (λ k. map_at L r k) 0 k k (let e : 0 + k ≡ k = omega arith in e)
-
-}
 
 module _ (l : Layout) (m : Memory) (s : List ℕ) (r : MapRange) (k : ℕ) (marks : IsParentFlags r.parent_flags) (n : Memory) (rest : List ℕ) (replies : List Reply) (run : IsRun l m s r k replies n rest) where
   abbrev q : List ℕ

@@ -9,9 +9,6 @@ use Rattle.x86_64_model.specs.CleanUp.{in_range, meets}
 use Rattle.x86_64_model.proofs.Lemmas.CleanUps.Removed.{parents_last}
 use Rattle.x86_64_model.proofs.Lemmas.CleanUps.Below.{Visits}
 
-pub visits_root : (L : ℕ) (M : PathMap) (low high : ℕ) → Visits L M low high []
-visits_root L M low high i = refl
-
 parents_more : (q : List ℕ) (i j : ℕ) → parents ((q ++ i ∷ []) ++ j ∷ []) ≡ parents (q ++ i ∷ []) ++ (q ++ i ∷ []) ∷ []
 parents_more [] i j = parents_last i [] j
 parents_more (k ∷ q) i j = parents_last k (q ++ i ∷ []) j

@@ -104,20 +104,3 @@ pub record IsPageOf (p highest : ℕ) (m : Mapping) (level : ℕ) (r : Rights) (
   pub high : level ≤ 3
   pub levels : level ≤ highest
   pub is : m ≡ page_at p level r e
-
-pub found_page : (T : Words) (p n : ℕ) (r : Rights) (f : ℕ) (m : Mapping) → found_on T p n r f ≡ Some m → (level : ℕ) × (s : Rights) × (e : ℕ) × IsPageOf p n m level s e
-unfolding found_on
-found_page T p zero r f m is = absurd (let t : None ≡ Some m = is in cc)
-found_page T p (suc n) r f m is = by (read T f (index (suc n) p)) (λ e. found_page T p n (granted r e) (address e) m) is
-  where
-    each : (e : ℕ) (below : Option Mapping) → (below ≡ Some m → (level : ℕ) × (s : Rights) × (e : ℕ) × IsPageOf p n m level s e) → (b t h : Bool) → maps_page (suc n) e ≡ t
-        → cond b (cond t (Some (page_at p (suc n) r e)) (cond h None below)) None ≡ Some m → (level : ℕ) × (s : Rights) × (e : ℕ) × IsPageOf p (suc n) m level s e
-    each e below on true true h page is = (suc n, r, e, record { low = omega arith; high = page_level n e page; levels = omega arith; is = let s : Some (page_at p (suc n) r e) ≡ Some m = is in cc })
-    each e below on true false true page is = absurd (let t : None ≡ Some m = is in cc)
-    each e below on true false false page is = let more = on is in let levels = more.3.levels in (more.0, more.1, more.2, record { low = more.3.low; high = more.3.high; levels = omega (arith, levels); is = more.3.is })
-    each e below on false t h page is = absurd (let t : None ≡ Some m = is in cc)
-
-    by : (o : Option ℕ) → ((e : ℕ) → found_on T p n (granted r e) (address e) ≡ Some m → (level : ℕ) × (s : Rights) × (e : ℕ) × IsPageOf p n m level s e)
-        → option_and_then (λ e. found_by p (suc n) r e (found_on T p n (granted r e) (address e))) o ≡ Some m → (level : ℕ) × (s : Rights) × (e : ℕ) × IsPageOf p (suc n) m level s e
-    by None on is = absurd (let t : None ≡ Some m = is in cc)
-    by (Some e) on is = each e _ (on e) (present e) (maps_page (suc n) e) (huge e) refl is
