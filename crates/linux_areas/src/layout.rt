@@ -47,7 +47,7 @@ impl Layout {
     /// Returns what a text of VMCOREINFO says of a kernel whose tables have so many levels, or nothing of the places that the kernel
     /// chooses if there is no text. A number counts that is hexadecimal behind `0x`, or decimal and perhaps negative.
     pub fn of(vmcoreinfo: Option<&[u8]>, levels: Levels) -> Layout
-        ensures { result ≡ specs.layout_of (option_copied vmcoreinfo.entry) levels }
+        ensures { result ≡ specs.area_layout (option_copied vmcoreinfo.entry) levels }
     {
         Layout {
             levels,
@@ -124,7 +124,7 @@ fn number_after(text: Option<&[u8]>, key: &[u8]) -> Option<u64>
 
 /// Returns the first and the last address.
 fn between(first: u64, last: u64) -> Option<Bounds>
-    ensures { result ≡ specs.between first last }
+    ensures { result ≡ specs.bounds_between first last }
 {
     Some(Bounds { first, last })
 }

@@ -4,14 +4,14 @@ use Rattle.x86_64_model.specs.Layout.{Layout}
 use Rattle.x86_64_model.specs.Machine.{State}
 use Rattle.x86_64_model.specs.Mapper.{◌laid_in◌, Hierarchy}
 use Rattle.x86_64_model.specs.Memory.{Memory}
-use Rattle.x86_64_model.specs.Store.{Store, Kept}
+use Rattle.x86_64_model.specs.Store.{Store, Keeps}
 use Rattle.x86_64.specs.Asked.{MapperCall, machine_call}
 use Rattle.x86_64.specs.FreeFrames.{KeepsFree, back_by}
 use Rattle.x86_64.specs.Replies.{Reply}
 use Rattle.x86_64.specs.Runs.{Ran, Stepped, LeavesFree, machine_with, state_with, state_in, step_by}
 use Rattle.pagetab_engine.specs.Calls.{IsAnswered}
 
-pub answered_in : {Lent : Type 0} (h after : Hierarchy Lent) (store rest : Store) (call : MapperCall) (reply : Reply) → Kept h store after rest → Stepped h store call reply after rest.frames → LeavesFree h store call after rest.frames
+pub answered_in : {Lent : Type 0} (h after : Hierarchy Lent) (store rest : Store) (call : MapperCall) (reply : Reply) → Keeps h store after rest → Stepped h store call reply after rest.frames → LeavesFree h store call after rest.frames
     → (l k : Layout) (m n : Memory) → h.layout ≡ l → after.layout ≡ k → h.memory ≡ m → n ≡ after.memory → IsAnswered (l laid_in m) store call (k laid_in n) rest reply
 answered_in h after store rest call reply keeps step free l k m n lies lies_after first last =
     let own : IsAnswered (h.layout laid_in h.memory) store call (after.layout laid_in after.memory) rest reply =
@@ -39,7 +39,7 @@ module _ {C Lent : Type 0} (asks : C → MapperCall) (h after : Hierarchy Lent) 
       subst (λ (back : List ℕ). KeepsFree h.layout h.memory store.frames back after.memory rest) (append-nil back) ran.free
 
 pub answered_one : {C Lent : Type 0} (asks : C → MapperCall) (h after : Hierarchy Lent) (store rest : Store) (call : C) (calls : List C) (replies : List Reply) (reply : Reply)
-    → calls ≡ call ∷ [] → Ran asks h store calls [] replies after rest.frames → Kept h store after rest → reply ≡ get_or replies 0 reply
+    → calls ≡ call ∷ [] → Ran asks h store calls [] replies after rest.frames → Keeps h store after rest → reply ≡ get_or replies 0 reply
     → (l k : Layout) (m n : Memory) → h.layout ≡ l → after.layout ≡ k → h.memory ≡ m → n ≡ after.memory → IsAnswered (l laid_in m) store (asks call) (k laid_in n) rest reply
 answered_one asks h after store rest call calls replies reply one ran keeps told =
     let ran_one : Ran asks h store (call ∷ []) [] replies after rest.frames = subst (λ calls. Ran asks h store calls [] replies after rest.frames) one ran in

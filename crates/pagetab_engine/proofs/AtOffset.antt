@@ -4,7 +4,7 @@ use Rattle.x86_64_model.specs.Mapper.{◌laid_in◌, Hierarchy}
 use Rattle.x86_64_model.specs.Layout.{Layout}
 use Rattle.x86_64_model.specs.Machine.{Machine, State}
 use Rattle.x86_64_model.specs.Memory.{Memory}
-use Rattle.x86_64_model.specs.Store.{Store, Fits, Kept}
+use Rattle.x86_64_model.specs.Store.{Store, StoreFits, Keeps}
 use Rattle.x86_64_mappers.specs.Layouts.{direct_at}
 use Rattle.x86_64_mappers.proofs.Memory.OffsetTables.{offset_fits}
 use Rattle.x86_64_mappers.specs.Offsets.{OffsetFits, offset_places}
@@ -24,7 +24,7 @@ abbrev pub layout_at : (levels offset : ℕ) → Layout
 layout_at levels offset = direct_at levels (offset_places levels offset) 0x1000
 
 -- what fits the hierarchy fits it at the offset
-pub at_offset : (levels offset : ℕ) (m : Memory) (store : Store) → OffsetFits levels m offset → Fits (direct_layout levels laid_in m) store → Fits (layout_at levels offset laid_in m) store
+pub at_offset : (levels offset : ℕ) (m : Memory) (store : Store) → OffsetFits levels m offset → StoreFits (direct_layout levels laid_in m) store → StoreFits (layout_at levels offset laid_in m) store
 at_offset levels offset m store reached fits = (offset_fits levels m offset reached 0x1000 store.serves store.frames).0 fits
 
 -- a call that is executed at the offset is executed in the direct layout
@@ -47,8 +47,8 @@ answered_alike levels offset m n store rest call reply first last answered =
 
 -- The mapper of a memory at the offset executes a call: then it is executed in the direct layout, and the places are still
 -- reached.
-pub answered_after : {Lent : Type 0} (h after : Hierarchy Lent) (store rest : Store) (call : MapperCall) (reply : Reply) → Kept h store after rest → Stepped h store call reply after rest.frames → LeavesFree h store call after rest.frames
-    → (levels offset : ℕ) (m n : Memory) → n ≡ after.memory → h.layout ≡ layout_at levels offset → h.memory ≡ m → OffsetFits levels m offset → Fits (direct_layout levels laid_in m) store
+pub answered_after : {Lent : Type 0} (h after : Hierarchy Lent) (store rest : Store) (call : MapperCall) (reply : Reply) → Keeps h store after rest → Stepped h store call reply after rest.frames → LeavesFree h store call after rest.frames
+    → (levels offset : ℕ) (m n : Memory) → n ≡ after.memory → h.layout ≡ layout_at levels offset → h.memory ≡ m → OffsetFits levels m offset → StoreFits (direct_layout levels laid_in m) store
     → OffsetFits levels n offset × IsAnswered (direct_layout levels laid_in m) store call (direct_layout levels laid_in n) rest reply
 answered_after h after store rest call reply keeps step free levels offset m n last is first reached fits =
     let there : IsAnswered (layout_at levels offset laid_in m) store call (layout_at levels offset laid_in n) rest reply =

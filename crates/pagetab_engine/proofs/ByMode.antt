@@ -6,12 +6,12 @@ use Rattle.x86_64_model.specs.Layout.{Layout}
 use Rattle.x86_64_model.specs.Mapper as mapper
 use Rattle.x86_64_model.specs.Mapper.{◌laid_in◌, paths, PoolFits}
 use Rattle.x86_64_model.specs.Memory.{Memory, identity_places}
-use Rattle.x86_64_model.specs.Store.{Store, Fits, Kept}
+use Rattle.x86_64_model.specs.Store.{Store, StoreFits, Keeps}
 use Rattle.x86_64_tables.specs.FramePool.{FreeFrames}
 use Rattle.x86_64_mappers.specs.Layouts.{direct_at}
 use Rattle.x86_64_mappers.specs.Recursive.{recursive_at, recursive_now_at}
 use Rattle.x86_64.specs.Asked.{MapperCall, names_by}
-use Rattle.x86_64.specs.Pairs.{AreAlike, MayRun, NoneNames, pool_store}
+use Rattle.x86_64.specs.Pairs.{AreAlike, MayRun, NoCallNames, pool_store}
 use Rattle.x86_64.specs.Replies.{Reply}
 use Rattle.x86_64.specs.Runs.{Ran}
 use Rattle.x86_64.proofs.Keeping.{kept_none}
@@ -46,15 +46,15 @@ module _ (before : Hierarchy) (levels : ℕ) (known : count (levels_of before.mo
   pub lies : layout_of before ≡ layout_in mode levels before.frames.memory
   lies = ap (λ mode. layout mode before.frames.memory) is ∙ same_layout mode levels before.frames.memory here
 
-  pub fits_in : Fits (hierarchy_of before) (pool_store before.frames.pool) → Fits (layout_in mode levels before.frames.memory laid_in before.frames.memory) (pool_store before.frames.pool)
-  fits_in = subst (λ (l : Layout). Fits (l laid_in before.frames.memory) (pool_store before.frames.pool)) lies
+  pub fits_in : StoreFits (hierarchy_of before) (pool_store before.frames.pool) → StoreFits (layout_in mode levels before.frames.memory laid_in before.frames.memory) (pool_store before.frames.pool)
+  fits_in = subst (λ (l : Layout). StoreFits (l laid_in before.frames.memory) (pool_store before.frames.pool)) lies
 
   pub kept_in : (after : Hierarchy) → after.mode ≡ before.mode → IsReached mode after.frames.memory → HasTwin mode after.frames after.twin
-      → Kept (layout_in mode levels before.frames.memory laid_in before.frames.memory) (pool_store before.frames.pool) (layout_in mode levels after.frames.memory laid_in after.frames.memory) (pool_store after.frames.pool) → KeepsHierarchy before after
+      → Keeps (layout_in mode levels before.frames.memory laid_in before.frames.memory) (pool_store before.frames.pool) (layout_in mode levels after.frames.memory laid_in after.frames.memory) (pool_store after.frames.pool) → KeepsHierarchy before after
   kept_in after same reached twin kept =
       let m = before.frames.memory in let n = after.frames.memory in
       kept_by before after same mode is reached twin
-      (subst₂ (λ (l k : Layout). Kept (l laid_in m) (pool_store before.frames.pool) (k laid_in n) (pool_store after.frames.pool)) (sym (same_layout mode levels m here)) (sym (same_layout mode levels n here)) kept)
+      (subst₂ (λ (l k : Layout). Keeps (l laid_in m) (pool_store before.frames.pool) (k laid_in n) (pool_store after.frames.pool)) (sym (same_layout mode levels m here)) (sym (same_layout mode levels n here)) kept)
 
 -- ---- two hierarchies
 
@@ -74,12 +74,12 @@ pub twin_in : (known levels index : ℕ) (frames twin : Frames) → known ≡ le
 twin_in known levels index frames twin same = subst (λ n. IsTwin n index frames twin) (sym same)
 
 -- what a call keeps in a pair, whether it was executed or nothing changed
-pub kept_in_pair : {E : Type 0} (Others : Type 0) (levels : ℕ) (before after : Frames) (call : MapperCall) (result : Result Reply E) → Fits (direct_layout levels laid_in before.memory) (pool_store before.pool)
+pub kept_in_pair : {E : Type 0} (Others : Type 0) (levels : ℕ) (before after : Frames) (call : MapperCall) (result : Result Reply E) → StoreFits (direct_layout levels laid_in before.memory) (pool_store before.pool)
     → IfOk result (IsAnswered (direct_layout levels laid_in before.memory) (pool_store before.pool) call (direct_layout levels laid_in after.memory) (pool_store after.pool)) → OnErr result ((after ≡ before) × Others)
-    → Kept (direct_layout levels laid_in before.memory) (pool_store before.pool) (direct_layout levels laid_in after.memory) (pool_store after.pool)
+    → Keeps (direct_layout levels laid_in before.memory) (pool_store before.pool) (direct_layout levels laid_in after.memory) (pool_store after.pool)
 kept_in_pair Others levels before after call (Ok reply) fits answered unchanged = answered.keeps
 kept_in_pair Others levels before after call (Err why) fits answered unchanged =
-    subst (λ (after : Frames). Kept (direct_layout levels laid_in before.memory) (pool_store before.pool) (direct_layout levels laid_in after.memory) (pool_store after.pool)) (sym unchanged.0) (kept_none _ _ fits)
+    subst (λ (after : Frames). Keeps (direct_layout levels laid_in before.memory) (pool_store before.pool) (direct_layout levels laid_in after.memory) (pool_store after.pool)) (sym unchanged.0) (kept_none _ _ fits)
 
 -- the layouts of mappers that were created with the root in the frame 0x1000
 pub lies_directly : (levels root : ℕ) (l : Layout) → root ≡ 0x1000 → l ≡ direct_at levels identity_places root → l ≡ direct_layout levels
@@ -90,41 +90,41 @@ lies_recursively levels index root here m memory l is cr3 first lies =
     lies ∙ ap (λ m. recursive_now_at levels m here index) first ∙ ap (λ root. recursive_now_at levels memory root index) (cr3 ∙ is)
 
 -- the root's word at the recursive index stays
-window_stays : (levels index : ℕ) (m n : Memory) (store : Store) → Fits (recursive_layout levels m index laid_in n) store → recursive_layout levels m index ≡ recursive_layout levels n index
+window_stays : (levels index : ℕ) (m n : Memory) (store : Store) → StoreFits (recursive_layout levels m index laid_in n) store → recursive_layout levels m index ≡ recursive_layout levels n index
 window_stays levels index m n store fits = ap (λ entry. recursive_at levels 0x1000 (record { index = index; self_entry = entry })) fits.valid.self.is_word
 
 -- one of the mappers may run the call
 pub runs_directly : {C Lent : Type 0} (asks : C → MapperCall) (calls : List C) (levels : ℕ) (h : mapper.Hierarchy Lent) (m : Memory) (pool : FreeFrames) → h.layout ≡ direct_layout levels → h.memory ≡ m
-    → Fits (direct_layout levels laid_in m) (pool_store pool) → MayRun asks levels calls h pool
+    → StoreFits (direct_layout levels laid_in m) (pool_store pool) → MayRun asks levels calls h pool
 runs_directly asks calls levels h m pool lies first fits = record {
-  fits = subst₂ (λ (l : Layout) (m : Memory). Fits (l laid_in m) (pool_store pool)) (sym lies) (sym first) fits;
-  unnamed = subst (λ (l : Layout). NoneNames asks levels l.window calls) (sym lies) tt;
+  fits = subst₂ (λ (l : Layout) (m : Memory). StoreFits (l laid_in m) (pool_store pool)) (sym lies) (sym first) fits;
+  unnamed = subst (λ (l : Layout). NoCallNames asks levels l.window calls) (sym lies) tt;
 }
 
 pub runs_recursively : {C Lent : Type 0} (asks : C → MapperCall) (calls : List C) (levels index : ℕ) (h : mapper.Hierarchy Lent) (m : Memory) (pool : FreeFrames) → h.layout ≡ recursive_layout levels m index → h.memory ≡ m
-    → (call : C) → calls ≡ call ∷ [] → names_by levels (asks call) index ≡ false → Fits (recursive_layout levels m index laid_in m) (pool_store pool) → MayRun asks levels calls h pool
+    → (call : C) → calls ≡ call ∷ [] → names_by levels (asks call) index ≡ false → StoreFits (recursive_layout levels m index laid_in m) (pool_store pool) → MayRun asks levels calls h pool
 runs_recursively asks calls levels index h m pool lies first call one unnamed fits = record {
-  fits = subst₂ (λ (l : Layout) (m : Memory). Fits (l laid_in m) (pool_store pool)) (sym lies) (sym first) fits;
-  unnamed = subst₂ (λ (l : Layout) calls. NoneNames asks levels l.window calls) (sym lies) (sym one) (unnamed, tt);
+  fits = subst₂ (λ (l : Layout) (m : Memory). StoreFits (l laid_in m) (pool_store pool)) (sym lies) (sym first) fits;
+  unnamed = subst₂ (λ (l : Layout) calls. NoCallNames asks levels l.window calls) (sym lies) (sym one) (unnamed, tt);
 }
 
 -- what a recursive mapper leaves fits the layout of the memory after it
 module _ {Lent : Type 0} (levels index : ℕ) (h after : mapper.Hierarchy Lent) (pool rest : FreeFrames) (m n : Memory)
-    (lies : h.layout ≡ recursive_layout levels m index) (last : n ≡ after.memory) (keeps : Kept h (pool_store pool) after (pool_store rest)) where
-  fits_still : Fits (recursive_layout levels m index laid_in n) (pool_store rest)
+    (lies : h.layout ≡ recursive_layout levels m index) (last : n ≡ after.memory) (keeps : Keeps h (pool_store pool) after (pool_store rest)) where
+  fits_still : StoreFits (recursive_layout levels m index laid_in n) (pool_store rest)
   fits_still =
-      subst₂ (λ (l : Layout) (n : Memory). Fits (l laid_in n) (pool_store rest)) lies (sym last)
+      subst₂ (λ (l : Layout) (n : Memory). StoreFits (l laid_in n) (pool_store rest)) lies (sym last)
       (subst (λ serves. PoolFits (h.layout laid_in after.memory) serves rest.frames) (sym keeps.serves) keeps.keeps.fits)
 
   lies_after : after.layout ≡ recursive_layout levels n index
   lies_after = keeps.layout ∙ lies ∙ window_stays levels index m n (pool_store rest) fits_still
 
-  fits_after : Fits (recursive_layout levels n index laid_in n) (pool_store rest)
-  fits_after = subst (λ (l : Layout). Fits (l laid_in n) (pool_store rest)) (window_stays levels index m n (pool_store rest) fits_still) fits_still
+  fits_after : StoreFits (recursive_layout levels n index laid_in n) (pool_store rest)
+  fits_after = subst (λ (l : Layout). StoreFits (l laid_in n) (pool_store rest)) (window_stays levels index m n (pool_store rest) fits_still) fits_still
 
 -- a recursive mapper executes a list of one call
 pub answers_recursively : {C Lent : Type 0} (asks : C → MapperCall) (call : C) (calls : List C) (replies : List Reply) (reply : Reply) (levels index : ℕ) (h after : mapper.Hierarchy Lent) (pool rest : FreeFrames) (m n : Memory)
-    → calls ≡ call ∷ [] → Ran asks h (pool_store pool) calls [] replies after rest.frames → Kept h (pool_store pool) after (pool_store rest) → reply ≡ get_or replies 0 reply
+    → calls ≡ call ∷ [] → Ran asks h (pool_store pool) calls [] replies after rest.frames → Keeps h (pool_store pool) after (pool_store rest) → reply ≡ get_or replies 0 reply
     → h.layout ≡ recursive_layout levels m index → h.memory ≡ m → n ≡ after.memory → AnswersRecursively levels index (record { memory = m; pool = pool }) (asks call) (record { memory = n; pool = rest }) reply
 answers_recursively asks call calls replies reply levels index h after pool rest m n one ran keeps told lies first last =
     answered_one asks h after (pool_store pool) (pool_store rest) call calls replies reply one ran keeps told
@@ -140,7 +140,7 @@ alike_before levels index h other m n pool twin lies also first second alike = r
 }
 
 pub twin_after : {Lent Other : Type 0} (levels index : ℕ) (h after : mapper.Hierarchy Lent) (other other_after : mapper.Hierarchy Other) (pool rest twin left : FreeFrames) (n one two : Memory)
-    → h.layout ≡ direct_layout levels → other.layout ≡ recursive_layout levels n index → Kept h (pool_store pool) after (pool_store rest) → Kept other (pool_store twin) other_after (pool_store left)
+    → h.layout ≡ direct_layout levels → other.layout ≡ recursive_layout levels n index → Keeps h (pool_store pool) after (pool_store rest) → Keeps other (pool_store twin) other_after (pool_store left)
     → AreAlike levels after rest other_after left → one ≡ after.memory → two ≡ other_after.memory → IsTwin levels index (record { memory = one; pool = rest }) (record { memory = two; pool = left })
 twin_after levels index h after other other_after pool rest twin left n one two lies also keeps other_keeps alike last ends = record {
   fits = fits_after levels index other other_after twin left n two also ends other_keeps;

@@ -7,7 +7,7 @@ use Rattle.x86_64_model.specs.Layout.{Layout}
 use Rattle.x86_64_model.specs.Mapper.{◌laid_in◌, PoolFits, paths}
 use Rattle.x86_64_model.specs.Pool.{serves_below}
 use Rattle.x86_64_model.specs.Memory.{Memory}
-use Rattle.x86_64_model.specs.Store.{Fits}
+use Rattle.x86_64_model.specs.Store.{StoreFits}
 use Rattle.x86_64_tables.specs.PageTable.{zero_words}
 use Rattle.x86_64.specs.Pairs.{pool_store}
 use Rattle.pagetab_engine.specs.Arguments.{count}
@@ -41,7 +41,7 @@ pub turned : (f g : Frames) → SameFrames f g → SameFrames g f
 turned f g same = record { memory = sym same.memory; free = sym same.free; limit = sym same.limit }
 
 -- the frames of one of them fit if those of the other do
-pub fits_same_frames : (by : Memory → Layout) (f g : Frames) → SameFrames f g → Fits (by f.memory laid_in f.memory) (pool_store f.pool) → Fits (by g.memory laid_in g.memory) (pool_store g.pool)
+pub fits_same_frames : (by : Memory → Layout) (f g : Frames) → SameFrames f g → StoreFits (by f.memory laid_in f.memory) (pool_store f.pool) → StoreFits (by g.memory laid_in g.memory) (pool_store g.pool)
 fits_same_frames by f g same = subst (λ (at : Memory × ℕ × List ℕ). PoolFits (by at.0 laid_in at.0) (serves_below at.1) at.2) (λ i. (same.memory i, same.limit i, same.free i))
 
 -- the hierarchy of the first commands
@@ -51,7 +51,7 @@ first_hierarchy mode frames twin = record { mode = mode; frames = record { memor
 -- The image fits and each place is reached if and only if the hierarchy of the first commands is valid and fits, in a pair with
 -- an alike one.
 pub fits_at_end : (mode : Mode) (frames twin : Frames) → IsCopy mode frames twin
-    → (Fits (image_layout mode frames.memory laid_in frames.memory) (pool_store frames.pool) × IsReached mode frames.memory) ↔ IsHierarchy (first_hierarchy mode frames twin)
+    → (StoreFits (image_layout mode frames.memory laid_in frames.memory) (pool_store frames.pool) × IsReached mode frames.memory) ↔ IsHierarchy (first_hierarchy mode frames twin)
 fits_at_end (Direct levels) frames twin copied = (λ fits. record { fits = fits.0; reached = tt; twin = tt }, λ is. (is.fits, tt))
 fits_at_end (Offset offset) frames twin copied = (λ fits. record { fits = fits.0; reached = fits.1; twin = tt }, λ is. (is.fits, is.reached))
 fits_at_end (Recursive levels index) frames twin copied = (λ fits. record { fits = fits.0; reached = tt; twin = tt }, λ is. (is.fits, tt))

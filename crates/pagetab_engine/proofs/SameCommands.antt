@@ -8,7 +8,7 @@ use Rattle.x86_64_model.specs.Memory.{IsMapping, Memory, Places, Words, identity
 use Rattle.x86_64_model.specs.PageWalk.{Walked, page_walk}
 use Rattle.x86_64_model.proofs.Lemmas.Hierarchies.Memories.{identity_is_mapping}
 use Rattle.x86_64.specs.Asked.{MapperCall, machine_call}
-use Rattle.x86_64.specs.EveryWord.{IsLeft, SameWords}
+use Rattle.x86_64.specs.EveryWord.{IsKnownAfter, SameWords}
 use Rattle.x86_64.specs.FreeFrames as free
 use Rattle.x86_64.specs.Pairs.{put_first}
 use Rattle.x86_64.specs.Replies.{Reply as CallReply}
@@ -83,13 +83,13 @@ module _ (h k : Hierarchy) (same : IsSame h k) where
     after_state : hierarchy_state a ≡ hierarchy_state b
     after_state = answers.state ∙ same_state asked ∙ sym also.state
 
-    left_by : (before after : Hierarchy) (told : Reply) → Answers asked before told after → IsLeft (layout_of before) before.frames.memory before.frames.pool.frames (command_back before asked) after.frames.memory after.frames.pool.frames
+    left_by : (before after : Hierarchy) (told : Reply) → Answers asked before told after → IsKnownAfter (layout_of before) before.frames.memory before.frames.pool.frames (command_back before asked) after.frames.memory after.frames.pool.frames
     left_by before after told answers = record { serves = serves_below before.frames.pool.limit; keeps = answers.keeps.keeps.keeps; free = answers.free }
 
     -- the second memory after the command, in the layout of the first
-    other_left : IsLeft (layout_of h) k.frames.memory h.frames.pool.frames (command_back h asked) b.frames.memory a.frames.pool.frames
+    other_left : IsKnownAfter (layout_of h) k.frames.memory h.frames.pool.frames (command_back h asked) b.frames.memory a.frames.pool.frames
     other_left =
-        subst (λ (at : Layout × List ℕ × List ℕ × List ℕ). IsLeft at.0 k.frames.memory at.1 at.2 b.frames.memory at.3) (sym (λ i. (same.layout i, (same.state i).pool, same_back asked i, (after_state i).pool))) (left_by k b other also)
+        subst (λ (at : Layout × List ℕ × List ℕ × List ℕ). IsKnownAfter at.0 k.frames.memory at.1 at.2 b.frames.memory at.3) (sym (λ i. (same.layout i, (same.state i).pool, same_back asked i, (after_state i).pool))) (left_by k b other also)
 
     same_paths : paths (layout_of h laid_in a.frames.memory) ≡ paths (layout_of h laid_in b.frames.memory)
     same_paths =

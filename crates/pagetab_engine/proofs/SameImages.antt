@@ -5,7 +5,7 @@ use Rattle.std.specs.FinMap.{same_map, nat_cmp-IsAntisymmetric}
 use Rattle.x86_64_model.specs.Mapper.{◌laid_in◌}
 use Rattle.x86_64_model.specs.Lists.{In}
 use Rattle.x86_64_model.specs.Memory.{Memory, identity_places, words_of, word}
-use Rattle.x86_64_model.specs.Store.{Fits}
+use Rattle.x86_64_model.specs.Store.{StoreFits}
 use Rattle.x86_64.specs.Pairs.{pool_store}
 use Rattle.x86_64.specs.Runs as runs
 use Rattle.pagetab_engine.specs.Frames.{IsLoadable, free_after, memory_after}
@@ -60,7 +60,7 @@ loadable_same f g same (Free frame) is = (is.0, subst (λ limit. frame / 4096 < 
 
 pub fits_same : (h k : Hierarchy) → SameImage h k → FitsImage h → FitsImage k
 fits_same h k same fits =
-    subst (λ mode. Fits (image_layout mode k.frames.memory laid_in k.frames.memory) (pool_store k.frames.pool)) same.mode (fits_same_frames (image_layout h.mode) h.frames k.frames same.frames fits)
+    subst (λ mode. StoreFits (image_layout mode k.frames.memory laid_in k.frames.memory) (pool_store k.frames.pool)) same.mode (fits_same_frames (image_layout h.mode) h.frames k.frames same.frames fits)
 
 pub image_turned : (h k : Hierarchy) → SameImage h k → SameImage k h
 image_turned h k same = record { mode = sym same.mode; frames = turned h.frames k.frames same.frames }

@@ -1,6 +1,6 @@
 -- What a call of a mapper does to a hierarchy and a store of frames.
 use Rattle.x86_64_model.specs.Mapper.{Hierarchy}
-use Rattle.x86_64_model.specs.Store.{Store, Kept}
+use Rattle.x86_64_model.specs.Store.{Store, Keeps}
 use Rattle.x86_64.specs.Asked.{MapperCall}
 use Rattle.x86_64.specs.Replies.{Reply}
 use Rattle.x86_64.specs.Runs.{Stepped, LeavesFree}
@@ -10,4 +10,4 @@ use Rattle.x86_64.specs.Runs.{Stepped, LeavesFree}
 pub record IsAnswered {Lent : Type 0} (h : Hierarchy Lent) (store : Store) (asked : MapperCall) (after : Hierarchy Lent) (rest : Store) (reply : Reply) : Type 0 where
   pub step : Stepped h store asked reply after rest.frames
   pub free : LeavesFree h store asked after rest.frames
-  pub keeps : Kept h store after rest
+  pub keeps : Keeps h store after rest

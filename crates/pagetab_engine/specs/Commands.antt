@@ -1,7 +1,7 @@
 -- Commands and statements as numbers, for any number of levels.
 use Rattle.std.specs.Prelude.{ℕ}
 use Rattle.x86_64.specs.Asked.{MapperCall}
-use Rattle.x86_64.specs.Calls.{asks}
+use Rattle.x86_64.specs.Calls.{to_call}
 use Rattle.pagetab_engine.specs.declared.slot.Slot.{Slot}
 use Rattle.pagetab_engine.specs.declared.statement.Command as rust
 use Rattle.pagetab_engine.specs.declared.statement.Command.TheVariants as command
@@ -28,7 +28,7 @@ pub data Statement : Type 0 where
 
 -- A command of the program in numbers. `bits` returns the bits of flags of level five.
 abbrev pub command_of : {L P5 : Type 0} → (bits : P5 → ℕ) → rust.Command L P5 → Command
-command_of bits (command.Call call) = Call (asks bits call)
+command_of bits (command.Call call) = Call (to_call bits call)
 command_of bits (command.Walk addr) = Walk addr
 command_of bits (command.Show slot) = Show slot
 command_of bits command.Pool = Pool

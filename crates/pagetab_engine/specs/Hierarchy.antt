@@ -5,7 +5,7 @@ use Rattle.x86_64_model.specs.Mapper as mapper
 use Rattle.x86_64_model.specs.Mapper.{◌laid_in◌}
 use Rattle.x86_64_model.specs.Machine.{Machine, State}
 use Rattle.x86_64_model.specs.Memory.{Memory}
-use Rattle.x86_64_model.specs.Store.{Fits, Kept}
+use Rattle.x86_64_model.specs.Store.{StoreFits, Keeps}
 use Rattle.x86_64_mappers.specs.Offsets.{OffsetFits}
 use Rattle.x86_64.specs.Asked.{MapperCall, machine_call, names_by}
 use Rattle.x86_64.specs.FreeFrames.{KeepsFree as KeepsFreeFrames, back_by}
@@ -42,7 +42,7 @@ image_layout (Pair levels index) memory = recursive_layout (count levels) memory
 
 -- The hierarchy of the image is valid, and the free frames fit it.
 abbrev pub FitsImage : Hierarchy → Type 0
-FitsImage hierarchy = Fits (image_layout hierarchy.mode hierarchy.frames.memory laid_in hierarchy.frames.memory) (pool_store hierarchy.frames.pool)
+FitsImage hierarchy = StoreFits (image_layout hierarchy.mode hierarchy.frames.memory laid_in hierarchy.frames.memory) (pool_store hierarchy.frames.pool)
 
 -- The memory before the first command, which lacks the self-entry in a pair, since it is the direct mapper's.
 abbrev pub first_memory : Mode → Memory → Memory
@@ -121,7 +121,7 @@ ReachesAll hierarchy = IsReached hierarchy.mode hierarchy.frames.memory
 -- The recursive mapper's hierarchy is valid for the index, and its free frames fit it. Its path map and the direct mapper's are
 -- alike, and so are the free frames.
 pub record IsTwin (levels index : ℕ) (frames twin : Frames) : Type 0 where
-  pub fits : Fits (recursive_layout levels twin.memory index laid_in twin.memory) (pool_store twin.pool)
+  pub fits : StoreFits (recursive_layout levels twin.memory index laid_in twin.memory) (pool_store twin.pool)
   pub alike : AreAlike levels (direct_layout levels laid_in frames.memory) frames.pool (recursive_layout levels twin.memory index laid_in twin.memory) twin.pool
 
 -- In a pair the hierarchies of both mappers are alike, and the recursive mapper's is valid.
@@ -132,12 +132,12 @@ HasTwin mode frames twin = ⊤
 -- The hierarchy is valid, the free frames fit it, and the mapper reaches each place. In a pair both hierarchies are so, and
 -- alike.
 pub record IsHierarchy (hierarchy : Hierarchy) : Type 0 where
-  pub fits : Fits (hierarchy_of hierarchy) (pool_store hierarchy.frames.pool)
+  pub fits : StoreFits (hierarchy_of hierarchy) (pool_store hierarchy.frames.pool)
   pub reached : ReachesAll hierarchy
   pub twin : HasTwin hierarchy.mode hierarchy.frames hierarchy.twin
 
 -- The mode is as before, the mapper's hierarchy and free frames keep what calls keep, and `IsHierarchy` holds again.
 pub record KeepsHierarchy (before after : Hierarchy) : Type 0 where
   pub mode : after.mode ≡ before.mode
-  pub keeps : Kept (hierarchy_of before) (pool_store before.frames.pool) (hierarchy_of after) (pool_store after.frames.pool)
+  pub keeps : Keeps (hierarchy_of before) (pool_store before.frames.pool) (hierarchy_of after) (pool_store after.frames.pool)
   pub fits : IsHierarchy after

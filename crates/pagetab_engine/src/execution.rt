@@ -1,9 +1,9 @@
 //! Execution of single calls by the mappers.
 ghost use Rattle.std.specs.Prelude.{◌≡◌, false, IfOk, OnErr};
 ghost use Rattle.x86_64_model.specs.Mapper.{◌laid_in◌};
-ghost use Rattle.x86_64_model.specs.Store.{Fits};
+ghost use Rattle.x86_64_model.specs.Store.{StoreFits};
 ghost use Rattle.x86_64_mappers.specs.Offsets.{OffsetFits};
-ghost use Rattle.x86_64.specs.Calls.{asks, names};
+ghost use Rattle.x86_64.specs.Calls.{to_call, names};
 ghost use Rattle.x86_64.specs.Pairs.{pool_store};
 ghost use Rattle.pagetab_engine.specs.Calls.{IsAnswered};
 ghost use Rattle.pagetab_engine.specs.Frames.{direct_layout, recursive_layout};
@@ -28,9 +28,9 @@ pub fn answer_direct<L: LevelCount, P5: LevelFiveFlags<L>>(
     frames: &mut Frames,
     call: CallIn<L, P5>,
 ) -> ReplyIn<L>
-    requires { Fits (direct_layout L.LEVELS laid_in frames.old.memory) (pool_store frames.old.pool) }
+    requires { StoreFits (direct_layout L.LEVELS laid_in frames.old.memory) (pool_store frames.old.pool) }
     ensures { IsAnswered
-        (direct_layout L.LEVELS laid_in frames.old.memory) (pool_store frames.old.pool) (asks P5.bits call)
+        (direct_layout L.LEVELS laid_in frames.old.memory) (pool_store frames.old.pool) (to_call P5.bits call)
         (direct_layout L.LEVELS laid_in frames.new.memory) (pool_store frames.new.pool) result }
 {
     let memory = &mut frames.memory;
@@ -46,10 +46,10 @@ pub fn answer_at_offset<L: LevelCount, P5: LevelFiveFlags<L>>(
     phys_offset: VirtAddrIn<L>,
     call: CallIn<L, P5>,
 ) -> ReplyIn<L>
-    requires fits { Fits (direct_layout L.LEVELS laid_in frames.old.memory) (pool_store frames.old.pool) }
+    requires fits { StoreFits (direct_layout L.LEVELS laid_in frames.old.memory) (pool_store frames.old.pool) }
     requires offset { OffsetFits L.LEVELS frames.old.memory phys_offset }
     ensures answered { IsAnswered
-        (direct_layout L.LEVELS laid_in frames.old.memory) (pool_store frames.old.pool) (asks P5.bits call)
+        (direct_layout L.LEVELS laid_in frames.old.memory) (pool_store frames.old.pool) (to_call P5.bits call)
         (direct_layout L.LEVELS laid_in frames.new.memory) (pool_store frames.new.pool) result }
     ensures offset { OffsetFits L.LEVELS frames.new.memory phys_offset }
 {
@@ -67,9 +67,9 @@ pub fn answer_recursively<L: LevelCount, P5: LevelFiveFlags<L>>(
     index: PageTableIndex,
     call: CallIn<L, P5>,
 ) -> ReplyIn<L>
-    requires { Fits (recursive_layout L.LEVELS frames.old.memory index laid_in frames.old.memory)
+    requires { StoreFits (recursive_layout L.LEVELS frames.old.memory index laid_in frames.old.memory)
         (pool_store frames.old.pool) }
-    ensures { AnswersRecursively L.LEVELS index frames.old (asks P5.bits call) frames.new result }
+    ensures { AnswersRecursively L.LEVELS index frames.old (to_call P5.bits call) frames.new result }
 {
     let active = Active::<L>::new(&mut frames.memory, root());
     let mut mapper = RecursivePageTableIn::<L>::new_unchecked(active, index);
@@ -92,13 +92,13 @@ pub fn answer_by_both<L: LevelCount, P5: LevelFiveFlags<L>>(
     index: PageTableIndex,
     call: CallIn<L, P5>,
 ) -> Result<ReplyIn<L>, AllocError>
-    requires fits { Fits (direct_layout L.LEVELS laid_in frames.old.memory) (pool_store frames.old.pool) }
+    requires fits { StoreFits (direct_layout L.LEVELS laid_in frames.old.memory) (pool_store frames.old.pool) }
     requires twin { IsTwin L.LEVELS index frames.old twin.old }
     requires unnamed { names L.LEVELS P5.bits call index ≡ false }
     ensures answered { IfOk result (IsAnswered
-        (direct_layout L.LEVELS laid_in frames.old.memory) (pool_store frames.old.pool) (asks P5.bits call)
+        (direct_layout L.LEVELS laid_in frames.old.memory) (pool_store frames.old.pool) (to_call P5.bits call)
         (direct_layout L.LEVELS laid_in frames.new.memory) (pool_store frames.new.pool)) }
-    ensures both { IfOk result (AnswersRecursively L.LEVELS index twin.old (asks P5.bits call) twin.new) }
+    ensures both { IfOk result (AnswersRecursively L.LEVELS index twin.old (to_call P5.bits call) twin.new) }
     ensures unchanged { OnErr result ((frames.new ≡ frames.old) × (twin.new ≡ twin.old)) }
     ensures twin { IsTwin L.LEVELS index frames.new twin.new }
 {

@@ -5,7 +5,7 @@ ghost use Rattle.std.specs.FinMap as map;
 ghost use Rattle.x86_64_model.specs.Mapper.{◌laid_in◌};
 ghost use Rattle.x86_64_model.specs.Memory.{words_of, identity_places};
 ghost use Rattle.x86_64_model.specs.PageWalk as model;
-ghost use Rattle.x86_64_model.specs.Store.{Fits};
+ghost use Rattle.x86_64_model.specs.Store.{StoreFits};
 ghost use Rattle.x86_64_tables.specs.PageTable.{zero_words};
 ghost use Rattle.x86_64_tables.specs.Walks.{walked_of};
 ghost use Rattle.x86_64.specs.Pairs.{pool_store};
@@ -87,7 +87,7 @@ impl Frames {
     /// `AllocError` if memory allocation fails.
     pub fn fits(&self, alloc: Global, levels: Levels) -> Result<bool, AllocError>
         ensures { IfOk result (λ fits. IsTrue fits
-            ↔ Fits (direct_layout (count levels) laid_in self.now.memory) (pool_store self.now.pool)) }
+            ↔ StoreFits (direct_layout (count levels) laid_in self.now.memory) (pool_store self.now.pool)) }
     {
         let (memory, pool) = (&self.memory, &self.pool);
         match levels {
@@ -108,7 +108,7 @@ impl Frames {
         index: PageTableIndex,
     ) -> Result<bool, AllocError>
         ensures { IfOk result (λ fits. IsTrue fits
-            ↔ Fits (recursive_layout (count levels) self.now.memory index laid_in self.now.memory)
+            ↔ StoreFits (recursive_layout (count levels) self.now.memory index laid_in self.now.memory)
             (pool_store self.now.pool)) }
     {
         let (memory, pool) = (&self.memory, &self.pool);

@@ -1,6 +1,6 @@
 //! The program's hierarchy, or two hierarchies with one image in a pair, and the execution of calls.
 ghost use Rattle.std.specs.Prelude.{◌≡◌, ◌↔◌, IsOk, IfOk, IfErr, OnOk, OnErr, IsTrue, false};
-ghost use Rattle.x86_64.specs.Calls.{asks, names};
+ghost use Rattle.x86_64.specs.Calls.{to_call, names};
 ghost use Rattle.x86_64.specs.Pairs.{pool_store};
 ghost use Rattle.pagetab_engine.specs.Arguments.{count, levels_of};
 ghost use Rattle.pagetab_engine.specs.Calls.{IsAnswered};
@@ -156,7 +156,7 @@ impl Hierarchy {
         requires fits { IsHierarchy self.old }
         requires levels { count (levels_of self.old.mode) ≡ L.LEVELS }
         ensures answers { IfOk result (λ reply.
-            Answers (Call (asks P5.bits call)) self.old (Answered reply) self.new) }
+            Answers (Call (to_call P5.bits call)) self.old (Answered reply) self.new) }
         ensures unchanged { OnErr result (self.new ≡ self.old) }
     {
         if self.mode.is_named(&call) {
@@ -179,10 +179,10 @@ impl Hierarchy {
         requires levels { count (levels_of self.old.mode) ≡ L.LEVELS }
         requires unnamed { is_index_named self.old.mode (names L.LEVELS P5.bits call) ≡ false }
         ensures answered { IfOk result (IsAnswered
-            (hierarchy_of self.old) (pool_store self.old.frames.pool) (asks P5.bits call)
+            (hierarchy_of self.old) (pool_store self.old.frames.pool) (to_call P5.bits call)
             (hierarchy_of self.new) (pool_store self.new.frames.pool)) }
         ensures both { IfOk result (
-            TwinTells self.old.mode (asks P5.bits call) self.old.twin self.new.twin) }
+            TwinTells self.old.mode (to_call P5.bits call) self.old.twin self.new.twin) }
         ensures unchanged { OnErr result (self.new ≡ self.old) }
         ensures keeps { KeepsHierarchy self.old self.new }
     {

@@ -1,6 +1,6 @@
 //! Calls on pages, as lines write them.
 ghost use Rattle.std.specs.Prelude.{◌≡◌, ◌↔◌, [], ◌∷◌, Some, IsSome, IfSome};
-ghost use Rattle.x86_64.specs.Calls.{asks, size_asks};
+ghost use Rattle.x86_64.specs.Calls.{to_call, size_asks};
 ghost use Rattle.pagetab_engine.specs.Starts.{IsPageStart, IsFrameStart, position_at};
 ghost use Rattle.pagetab_engine.specs.PageCalls.{IsPageCall, bytes_of, call_by, page_call_by};
 
@@ -19,7 +19,7 @@ pub fn parse_call<L: LevelCount, P5: LevelFiveFlags<L>>(
 ) -> Option<CallIn<L, P5>>
     ensures accepted { IsSome result ↔ IsPageCall L.LEVELS (bytes_of size) name numbers.now }
     ensures writes { IfSome result (λ call.
-        call_by L.LEVELS size name numbers.now ≡ Some (asks P5.bits call)) }
+        call_by L.LEVELS size name numbers.now ≡ Some (to_call P5.bits call)) }
 {
     Some(match size {
         Size::Size4KiB => CallIn::Of4KiB(parse_size_call(name, numbers)?),

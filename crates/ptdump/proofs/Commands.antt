@@ -8,7 +8,7 @@ use Rattle.ptdump_engine.specs.declared.request.WalkOptions.{WalkOptions}
 use Rattle.x86_64_mappings.specs.declared.selection.Selection.{Selection}
 use Rattle.ptdump.specs.Asked.{AreAsked}
 use Rattle.ptdump.specs.Selections.{IsSelection}
-use Rattle.ptdump.specs.Requests.{AreNumbers, IsChecking, IsCommand, IsUnread, values}
+use Rattle.ptdump.specs.Requests.{TextsAreNumbers, IsChecking, IsCommand, IsUnreadArgument, values}
 use Rattle.ptdump.specs.declared.stop.Stop.{Stop}
 use Rattle.ptdump.proofs.Names.{other_name, same_name}
 use Rattle.std.specs.Str.{bytes_eq}
@@ -51,13 +51,13 @@ no_pages name found pages none command is = differ name (codes "pages") (name_of
 
 -- no walk can be described
 pub no_walk : (name : List ℕ) (found : Found) → name ≡ codes "walk"
-    → ((numbers : List ℕ) → (options : WalkOptions) → AreNumbers (values found (codes "addresses")) numbers → AreAsked found options → ⊥)
+    → ((numbers : List ℕ) → (options : WalkOptions) → TextsAreNumbers (values found (codes "addresses")) numbers → AreAsked found options → ⊥)
     → (command : Command) → IsCommand name found command → ⊥
 no_walk name found walk none (Walk numbers options) is = none numbers.items options is.1 is.2
 no_walk name found walk none command is = differ name (codes "walk") (name_of command) refl walk (named name found command is)
 
 -- no search can be described
-pub no_find : (name : List ℕ) (found : Found) → name ≡ codes "find" → ((numbers : List ℕ) → AreNumbers (values found (codes "addresses")) numbers → ⊥)
+pub no_find : (name : List ℕ) (found : Found) → name ≡ codes "find" → ((numbers : List ℕ) → TextsAreNumbers (values found (codes "addresses")) numbers → ⊥)
     → (command : Command) → IsCommand name found command → ⊥
 no_find name found find none (Find numbers) is = none numbers.items is.1
 no_find name found find none command is = differ name (codes "find") (name_of command) refl find (named name found command is)
@@ -86,6 +86,6 @@ pub same_command : (name word : List ℕ) (found : Found) (result : Result Comma
     → IfOk result (IsCommand name found)
 same_command name word found result is = subst (λ n. IfOk result (IsCommand n found)) (sym (same_name name word is))
 
-pub same_refusal : (name word : List ℕ) (found : Found) (result : Result Command Stop) → bytes_eq name word ≡ true → IfErr result (IsUnread (IsCommand word found))
-    → IfErr result (IsUnread (IsCommand name found))
-same_refusal name word found result is = subst (λ n. IfErr result (IsUnread (IsCommand n found))) (sym (same_name name word is))
+pub same_refusal : (name word : List ℕ) (found : Found) (result : Result Command Stop) → bytes_eq name word ≡ true → IfErr result (IsUnreadArgument (IsCommand word found))
+    → IfErr result (IsUnreadArgument (IsCommand name found))
+same_refusal name word found result is = subst (λ n. IfErr result (IsUnreadArgument (IsCommand n found))) (sym (same_name name word is))

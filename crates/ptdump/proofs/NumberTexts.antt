@@ -11,20 +11,20 @@ use Rattle.std.specs.Borrow.{Bor}
 use Rattle.std.specs.Option.{SomeIff}
 use Rattle.std.specs.Str.{bytes_eq}
 use Rattle.ptdump.specs.Asked.{is_listed}
-use Rattle.ptdump.specs.Numbers.{IsNumber, has_zero_in_front, number_of}
+use Rattle.ptdump.specs.Numbers.{IsNumeral, has_zero_in_front, number_of}
 use Rattle.x86_64_mappings.specs.Numbers as lenient
-use Rattle.ptdump.specs.Requests.{AreNumbers}
+use Rattle.ptdump.specs.Requests.{TextsAreNumbers}
 
 -- one more number
-pub numbers_more : (texts : List (List ℕ)) (numbers : List ℕ) (text : List ℕ) → AreNumbers texts numbers → IsNumber text → AreNumbers (texts ++ text ∷ []) (numbers ++ number_of text ∷ [])
+pub numbers_more : (texts : List (List ℕ)) (numbers : List ℕ) (text : List ℕ) → TextsAreNumbers texts numbers → IsNumeral text → TextsAreNumbers (texts ++ text ∷ []) (numbers ++ number_of text ∷ [])
 numbers_more texts numbers text before is =
-    (All-push IsNumber texts text before.0 is, ap (λ (ns : List ℕ). ns ++ number_of text ∷ []) before.1 ∙ sym (map_push number_of texts text))
+    (All-push IsNumeral texts text before.0 is, ap (λ (ns : List ℕ). ns ++ number_of text ∷ []) before.1 ∙ sym (map_push number_of texts text))
 
 -- each of the texts is a number
-pub number_at : (texts : List (Bor (List ℕ))) (numbers : List ℕ) (i : ℕ) (d : Bor (List ℕ)) → i < length texts → AreNumbers (map (λ text. text.now) texts) numbers → IsNumber (get_or texts i d).now
+pub number_at : (texts : List (Bor (List ℕ))) (numbers : List ℕ) (i : ℕ) (d : Bor (List ℕ)) → i < length texts → TextsAreNumbers (map (λ text. text.now) texts) numbers → IsNumeral (get_or texts i d).now
 number_at texts numbers i d below are =
     let now : Bor (List ℕ) → List ℕ = λ text. text.now in
-    subst IsNumber (get_or-map now texts i d) (are.0 i (now d) (subst (λ n. i < n) (sym (length-map texts now)) below))
+    subst IsNumeral (get_or-map now texts i d) (are.0 i (now d) (subst (λ n. i < n) (sym (length-map texts now)) below))
 
 -- each of the texts is listed
 pub listed_at : (texts : List (Bor (List ℕ))) (i : ℕ) (d : Bor (List ℕ)) → i < length texts → is_listed (map (λ text. text.now) texts) (get_or texts i d).now ≡ true
@@ -41,11 +41,11 @@ texts_given None none all empty same = ap (map (λ (v : Bor (List ℕ)). v.now))
 texts_given (Some texts) none all empty same = ap (λ (o : Option (List (List ℕ))). unwrap_or o []) same
 
 -- digits behind a zero are no number
-pub no_number_behind_zero : (text : List ℕ) → has_zero_in_front text ≡ true → IsNumber text → ⊥
+pub no_number_behind_zero : (text : List ℕ) → has_zero_in_front text ≡ true → IsNumeral text → ⊥
 no_number_behind_zero text zero is = true≢false (sym zero ∙ is.1)
 
 -- a text without such a zero is a number if it is any
 pub number_without_zero : (text : List ℕ) (result : Option ℕ) → SomeIff result (lenient.IsNumber text) (number_of text) → has_zero_in_front text ≡ false
-    → SomeIff result (IsNumber text) (number_of text)
+    → SomeIff result (IsNumeral text) (number_of text)
 number_without_zero text None isnt zero = λ is. isnt is.0
 number_without_zero text (Some number) is zero = ((is.0, zero), is.1)

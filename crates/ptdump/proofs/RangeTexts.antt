@@ -9,17 +9,17 @@ use Rattle.x86_64_dump.specs.declared.placement.Placement.TheVariants.{Unstated,
 use Rattle.x86_64_dump.specs.declared.placement.RawRange.{RawRange}
 use Rattle.ptdump_engine.specs.declared.request.AddressRange.{AddressRange}
 use Rattle.ptdump.specs.DirectMaps.{AreEnds}
-use Rattle.ptdump.specs.Placements.{AreParts, AreRanges, Denotes, IsPlacement, IsRange}
+use Rattle.ptdump.specs.Placements.{AreRangeParts, AreRanges, Denotes, IsPlacement, IsRawRange}
 
 -- each of the texts denotes a range
-pub range_at : (texts : List (Bor (List ℕ))) (ranges : List RawRange) (i : ℕ) (d : Bor (List ℕ)) → i < length texts → AreRanges (map (λ text. text.now) texts) ranges → (range : RawRange) × IsRange (get_or texts i d).now range
+pub range_at : (texts : List (Bor (List ℕ))) (ranges : List RawRange) (i : ℕ) (d : Bor (List ℕ)) → i < length texts → AreRanges (map (λ text. text.now) texts) ranges → (range : RawRange) × IsRawRange (get_or texts i d).now range
 range_at [] ranges i d below are = absurd (omega (arith, below))
 range_at (text ∷ texts) [] i d below are = absurd are
 range_at (text ∷ texts) (range ∷ ranges) zero d below are = (range, are.0)
 range_at (text ∷ texts) (range ∷ ranges) (suc i) d below are = range_at texts ranges i d (omega (arith, below)) are.1
 
 -- a range has three parts
-pub three_parts : (parts : List (Bor (List ℕ))) (range : RawRange) → AreParts (map (λ part. part.now) parts) range → length parts ≡ 3
+pub three_parts : (parts : List (Bor (List ℕ))) (range : RawRange) → AreRangeParts (map (λ part. part.now) parts) range → length parts ≡ 3
 three_parts parts range are =
     let now : Bor (List ℕ) → List ℕ = λ part. part.now in
     sym (length-map parts now) ∙ sym (AllZip-long Denotes (map now parts) (range.offset ∷ range.address ∷ range.size ∷ []) are)

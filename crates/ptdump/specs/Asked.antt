@@ -12,7 +12,7 @@ use Rattle.ptdump_engine.specs.declared.request.WalkOptions.{WalkOptions}
 use Rattle.ptdump.specs.Options.{IsFlag}
 use Rattle.x86_64_access.specs.declared.controls.Controls.{Controls}
 use Rattle.x86_64_access.specs.declared.request.Access.{Access}
-use Rattle.ptdump.specs.Numbers.{IsNumber, number_of}
+use Rattle.ptdump.specs.Numbers.{IsNumeral, number_of}
 
 -- The texts of words that are borrowed.
 abbrev pub texts_of : Bor (List (Bor (List ℕ))) → List (List ℕ)
@@ -42,7 +42,7 @@ pub record AreControls (words : List (List ℕ)) (c : Controls) : Type 0 where
 -- The number of bits of physical addresses is that of the text, which is from 32 to 52, or 52 if the text is missing.
 abbrev pub IsBits : (text : Option (List ℕ)) → (bits : ℕ) → Type 0
 IsBits None bits = bits ≡ 52
-IsBits (Some text) bits = IsNumber text × (32 ≤ number_of text) × (number_of text ≤ 52) × (bits ≡ number_of text)
+IsBits (Some text) bits = IsNumeral text × (32 ≤ number_of text) × (number_of text ≤ 52) × (bits ≡ number_of text)
 
 -- The names of the settings that are on if there is no --controls.
 abbrev pub usual_names : List (List ℕ)

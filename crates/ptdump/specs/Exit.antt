@@ -4,7 +4,7 @@ use Rattle.std.specs.Prelude.{â„•, Bool, true, false, List, Result, Ok, Err, ifâ
 use Rattle.clap.specs.declared.error.Error.{Error}
 use Rattle.clap.specs.declared.error.kind.ErrorKind.{ErrorKind}
 use Rattle.clap.specs.declared.error.kind.ErrorKind.TheVariants as kind
-use Rattle.ptdump_engine.specs.Failure.{status_of}
+use Rattle.ptdump_engine.specs.Failure.{failure_status}
 use Rattle.ptdump_engine.specs.declared.failure.Failure.{Failure}
 use Rattle.ptdump_engine.specs.declared.failure.Failure.TheVariants as failures
 use Rattle.ptdump_engine.specs.declared.request.Outcome.{Outcome}
@@ -32,7 +32,7 @@ stop_status (Unopened path error) = 3
 stop_status (NoLength path error) = 3
 stop_status (Unread path error) = 3
 stop_status ReaderLeft = 5
-stop_status (Failed failure) = status_of failure
+stop_status (Failed failure) = failure_status failure
 
 -- The exit status of a run: 0 if its report is complete, 1 if there are findings, or an address doesn't arrive or isn't found,
 -- and otherwise that of the reason to stop.

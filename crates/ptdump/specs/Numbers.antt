@@ -10,5 +10,5 @@ unfoldable pub has_zero_in_front : (text : List ℕ) → Bool
 has_zero_in_front text = nat_lt 1 (length text) && starts_with nat_eq text (codes "0") && not (lenient.is_hexadecimal text)
 
 -- The text is a number below 2^64, in decimal digits without zeros in front, or in hexadecimal digits behind `0x`.
-abbrev pub IsNumber : (text : List ℕ) → Type 0
-IsNumber text = lenient.IsNumber text × (has_zero_in_front text ≡ false)
+abbrev pub IsNumeral : (text : List ℕ) → Type 0
+IsNumeral text = lenient.IsNumber text × (has_zero_in_front text ≡ false)

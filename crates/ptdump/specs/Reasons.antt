@@ -8,7 +8,7 @@ use Rattle.ptdump_engine.specs.declared.request.AddressRange.{AddressRange}
 use Rattle.ptdump.specs.Asked.{is_listed, setting_names}
 use Rattle.ptdump.specs.DirectMaps.{IsAddressRange}
 use Rattle.ptdump.specs.Options.{option_name}
-use Rattle.ptdump.specs.Placements.{IsRange}
+use Rattle.ptdump.specs.Placements.{IsRawRange}
 use Rattle.ptdump.specs.Requests.{values}
 use Rattle.ptdump.specs.Selections.{are_letters}
 use Rattle.ptdump.specs.declared.numbers.NumberOption.TheVariants.{Base}
@@ -16,7 +16,7 @@ use Rattle.ptdump.specs.declared.stop.Stop.{Stop}
 use Rattle.ptdump.specs.declared.stop.Stop.TheVariants.{NoCommand, NoAddress, NoNumber, NoLevels, NoRange, BaseAndRanges, NoAccess, NoSetting, NoPhysicalBits, NoDirectMap, NoRights, Failed}
 use Rattle.x86_64_access.specs.declared.request.Access.{Access}
 use Rattle.x86_64_dump.specs.declared.placement.RawRange.{RawRange}
-use Rattle.ptdump.specs.Numbers.{IsNumber, number_of}
+use Rattle.ptdump.specs.Numbers.{IsNumeral, number_of}
 
 -- The names of all commands.
 abbrev pub command_names : List (List ℕ)
@@ -25,15 +25,15 @@ command_names =
 
 -- The option is present, and its text is this number.
 abbrev pub HasNumber : Found → (option : List ℕ) → (number : ℕ) → Type 0
-HasNumber found option number = (text : List ℕ) × (first_value found option ≡ Some text) × IsNumber text × (number_of text ≡ number)
+HasNumber found option number = (text : List ℕ) × (first_value found option ≡ Some text) × IsNumeral text × (number_of text ≡ number)
 
 -- The text is one of these texts, and is no number.
 abbrev pub IsBadNumber : (texts : List (List ℕ)) → (text : List ℕ) → Type 0
-IsBadNumber texts text = (is_listed texts text ≡ true) × ¬ (IsNumber text)
+IsBadNumber texts text = (is_listed texts text ≡ true) × ¬ (IsNumeral text)
 
 -- The text is one of these texts, and is no range.
 abbrev pub IsBadRange : (texts : List (List ℕ)) → (text : List ℕ) → Type 0
-IsBadRange texts text = (is_listed texts text ≡ true) × ((range : RawRange) → ¬ (IsRange text range))
+IsBadRange texts text = (is_listed texts text ≡ true) × ((range : RawRange) → ¬ (IsRawRange text range))
 
 -- The word is one of these words, and is neither the name of a setting nor `none`.
 abbrev pub IsBadSetting : (words : List (List ℕ)) → (word : List ℕ) → Type 0
@@ -42,7 +42,7 @@ IsBadSetting words word = (is_listed words word ≡ true) × (is_listed setting_
 -- The reason to stop is a mistake in the arguments of a command, which have this mistake. Reasons from elsewhere are no mistakes.
 abbrev pub IsMistake : Found → Stop → Type 0
 IsMistake found (NoAddress text) = IsBadNumber (values found (codes "addresses")) text.now
-IsMistake found (NoNumber option text) = (first_value found (option_name option) ≡ Some text.now) × ¬ (IsNumber text.now)
+IsMistake found (NoNumber option text) = (first_value found (option_name option) ≡ Some text.now) × ¬ (IsNumeral text.now)
 IsMistake found (NoLevels number) = HasNumber found (codes "levels") number × ¬ (number ≡ 4) × ¬ (number ≡ 5)
 IsMistake found (NoRange text) = IsBadRange (values found (codes "range")) text.now
 IsMistake found BaseAndRanges = ¬ (first_value found (codes "base") ≡ None) × ¬ (values found (codes "range") ≡ [])
@@ -54,14 +54,14 @@ IsMistake found (NoRights text) = (first_value found (codes "rights") ≡ Some t
 IsMistake found stop = ⊥
 
 -- The reason to stop is a mistake in the arguments of a command, or memory allocation failed.
-abbrev pub IsReason : Found → Stop → Type 0
-IsReason found (Failed failure) = failure ≡ OutOfMemory
-IsReason found stop = IsMistake found stop
+abbrev pub IsStopReason : Found → Stop → Type 0
+IsStopReason found (Failed failure) = failure ≡ OutOfMemory
+IsStopReason found stop = IsMistake found stop
 
 -- The reason to stop is a mistake in the name or in the arguments of a command, or memory allocation failed.
 abbrev pub IsReasonFor : (name : List ℕ) → Found → Stop → Type 0
 IsReasonFor name found (NoCommand word) = (word.now ≡ name) × (is_listed command_names name ≡ false)
-IsReasonFor name found stop = IsReason found stop
+IsReasonFor name found stop = IsStopReason found stop
 
 -- The reason to stop is that one of the texts is no number, or that memory allocation failed.
 abbrev pub IsNoAddress : (texts : List (List ℕ)) → Stop → Type 0
@@ -82,7 +82,7 @@ IsNoRange texts stop = ⊥
 
 -- The reason to stop is that the base is no number, one of the ranges is none, both are there, or memory allocation failed.
 abbrev pub IsNoPlacement : (base : Option (List ℕ)) → (ranges : List (List ℕ)) → Stop → Type 0
-IsNoPlacement base ranges (NoNumber option text) = (option ≡ Base) × (base ≡ Some text.now) × ¬ (IsNumber text.now)
+IsNoPlacement base ranges (NoNumber option text) = (option ≡ Base) × (base ≡ Some text.now) × ¬ (IsNumeral text.now)
 IsNoPlacement base ranges (NoRange text) = IsBadRange ranges text.now
 IsNoPlacement base ranges BaseAndRanges = ¬ (base ≡ None) × ¬ (ranges ≡ [])
 IsNoPlacement base ranges (Failed failure) = failure ≡ OutOfMemory

@@ -21,11 +21,11 @@ use Rattle.ptdump.specs.Placements.{IsPlacement}
 use Rattle.ptdump.specs.Selections.{IsSelection}
 use Rattle.ptdump.specs.declared.stop.Stop.{Stop}
 use Rattle.ptdump.specs.declared.stop.Stop.TheVariants.{Failed}
-use Rattle.ptdump.specs.Numbers.{IsNumber, number_of}
+use Rattle.ptdump.specs.Numbers.{IsNumeral, number_of}
 
 -- Each of the texts is a number, and these are their numbers, in order.
-abbrev pub AreNumbers : (texts : List (List ℕ)) → (numbers : List ℕ) → Type 0
-AreNumbers texts numbers = All IsNumber texts × (numbers ≡ map number_of texts)
+abbrev pub TextsAreNumbers : (texts : List (List ℕ)) → (numbers : List ℕ) → Type 0
+TextsAreNumbers texts numbers = All IsNumeral texts × (numbers ≡ map number_of texts)
 
 -- The texts of the arguments with a name, in order, or the empty list if there are none.
 abbrev pub values : Found → (name : List ℕ) → List (List ℕ)
@@ -43,8 +43,8 @@ pub record IsChecking (found : Found) (checking : Checking) : Type 0 where
 abbrev pub IsCommand : (name : List ℕ) → Found → Command → Type 0
 IsCommand name found (Regions selection) = (name ≡ codes "regions") × IsSelection found selection
 IsCommand name found (Pages selection names) = (name ≡ codes "pages") × IsSelection found selection × IsFlag (one_text found (codes "names")) names
-IsCommand name found (Walk numbers options) = (name ≡ codes "walk") × AreNumbers (values found (codes "addresses")) numbers.items × AreAsked found options
-IsCommand name found (Find numbers) = (name ≡ codes "find") × AreNumbers (values found (codes "addresses")) numbers.items
+IsCommand name found (Walk numbers options) = (name ≡ codes "walk") × TextsAreNumbers (values found (codes "addresses")) numbers.items × AreAsked found options
+IsCommand name found (Find numbers) = (name ≡ codes "find") × TextsAreNumbers (values found (codes "addresses")) numbers.items
 IsCommand name found (Check checking) = (name ≡ codes "check") × IsChecking found checking
 IsCommand name found Image = name ≡ codes "image"
 IsCommand name found Picture = name ≡ codes "picture"
@@ -81,5 +81,5 @@ pub record IsRequest (is_terminal : Bool) (name : List ℕ) (found : Found) (req
   pub all_cpus : IsFlag (one_text found (codes "all-cpus")) request.all_cpus
 
 -- Memory allocation failed, and that is the reason to stop, or no value has this property.
-abbrev pub IsUnread : {T : Type 0} → (Holds : T → Type 0) → Stop → Type 0
-IsUnread {T} Holds stop = (stop ≡ Failed OutOfMemory) ⊎ ((value : T) → ¬ (Holds value))
+abbrev pub IsUnreadArgument : {T : Type 0} → (Holds : T → Type 0) → Stop → Type 0
+IsUnreadArgument {T} Holds stop = (stop ≡ Failed OutOfMemory) ⊎ ((value : T) → ¬ (Holds value))

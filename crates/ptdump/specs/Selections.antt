@@ -8,12 +8,12 @@ use Rattle.x86_64_mappings.specs.declared.selection.Selection.{Selection}
 use Rattle.ptdump.specs.Options.{IsOption}
 
 -- Whether a letter is in a text.
-abbrev pub has : (text : List ℕ) → (letter : ℕ) → Bool
-has text letter = list_any (λ c. nat_eq c letter) text
+abbrev pub has_letter : (text : List ℕ) → (letter : ℕ) → Bool
+has_letter text letter = list_any (λ c. nat_eq c letter) text
 
 -- Whether a letter is one of r, w, x and u, and is in a text exactly once.
 unfoldable pub is_once : (text : List ℕ) → (letter : ℕ) → Bool
-is_once text letter = has (codes "rwxu") letter && (count_by (λ c. nat_eq c letter) text == 1)
+is_once text letter = has_letter (codes "rwxu") letter && (count_by (λ c. nat_eq c letter) text == 1)
 
 -- Whether a text has one or more of the letters r, w, x and u, each at most once, and nothing else.
 unfoldable pub are_letters : (text : List ℕ) → Bool
@@ -21,7 +21,7 @@ are_letters text = not (length text == 0) && list_all (is_once text) text
 
 -- The rights to write, to execute, and of user code, each if its letter w, x or u is in a text.
 abbrev pub rights_named : (text : List ℕ) → Rights
-rights_named text = record { write = has text 0x77; user = has text 0x75; execute = has text 0x78 }
+rights_named text = record { write = has_letter text 0x77; user = has_letter text 0x75; execute = has_letter text 0x78 }
 
 -- The rights are those whose letters are in the text of --rights, or none if the text is missing.
 abbrev pub AreRights : (text : Option (List ℕ)) → Rights → Type 0

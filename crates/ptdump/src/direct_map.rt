@@ -2,8 +2,8 @@
 ghost use Rattle.std.specs.Prelude.{◌≡◌, ◌⊎◌, IfOk, IfErr, IfSome, IfNone, codes, map};
 ghost use Rattle.clap.specs.Matches.{first_value, found_of};
 ghost use Rattle.ptdump.specs.DirectMaps.{AreEnds, IsAddressRange, IsDirectMap};
-ghost use Rattle.ptdump.specs.Reasons.{IsReason};
-ghost use Rattle.ptdump.specs.Requests.{IsUnread};
+ghost use Rattle.ptdump.specs.Reasons.{IsStopReason};
+ghost use Rattle.ptdump.specs.Requests.{IsUnreadArgument};
 ghost use Rattle.ptdump.specs.declared.stop.Stop.TheVariants.{Failed, NoDirectMap};
 ghost use Rattle.ptdump_engine.specs.declared.failure.Failure.TheVariants.{OutOfMemory};
 ghost use Rattle.ptdump_engine.specs.declared.request.AddressRange.{AddressRange};
@@ -27,8 +27,8 @@ pub fn direct_map_of<'a>(
     ensures ok { IfOk result
         (IsDirectMap (first_value (found_of arguments.now) (codes "direct-map"))) }
     ensures err { IfErr result
-        (IsUnread (IsDirectMap (first_value (found_of arguments.now) (codes "direct-map")))) }
-    ensures reason { IfErr result (IsReason (found_of arguments.now)) }
+        (IsUnreadArgument (IsDirectMap (first_value (found_of arguments.now) (codes "direct-map")))) }
+    ensures reason { IfErr result (IsStopReason (found_of arguments.now)) }
 {
     let Some(text) = arguments.get_str("direct-map") else {
         return Ok(None);
@@ -40,7 +40,7 @@ pub fn direct_map_of<'a>(
 /// Reads a range of addresses: its first and its last one.
 fn range_of<'a>(alloc: Global, text: &'a str) -> Result<AddressRange, Stop<'a>>
     ensures ok { IfOk result (IsAddressRange text.now) }
-    ensures err { IfErr result (IsUnread (IsAddressRange text.now)) }
+    ensures err { IfErr result (IsUnreadArgument (IsAddressRange text.now)) }
     ensures reason { IfErr result (λ stop. (stop ≡ Failed OutOfMemory) ⊎ (stop ≡ NoDirectMap text.entry)) }
 {
     let parts = parts_of(alloc, text)?;

@@ -7,7 +7,7 @@ ghost use Rattle.std.specs.IoError.{error_kind};
 ghost use Rattle.clap.specs.Matches.{first_value, found_of};
 ghost use Rattle.ptdump.specs.Exit.{exit_status_of, stop_status};
 ghost use Rattle.ptdump.specs.declared.stop.Stop.TheVariants.{Failed, NoText};
-ghost use Rattle.ptdump_engine.specs.Failure.{status_of};
+ghost use Rattle.ptdump_engine.specs.Failure.{failure_status};
 ghost use Rattle.ptdump_engine.specs.declared.failure.Failure.TheVariants.{OutOfMemory, Output};
 
 mod asked;
@@ -118,7 +118,7 @@ fn open<'a>(rt: &HostRuntime, path: &'a str) -> Result<FileSource, Stop<'a>>
 fn report(rt: &(impl Print + Eprint), ended: Result<Outcome, Stop<'_>>) -> ExitCode
     ensures done { IfOk ended.entry (λ outcome. exit_status result ≡ exit_status_of (Ok outcome)) }
     ensures stopped { (exit_status result ≡ exit_status_of ended.entry)
-        ⊎ (exit_status result ≡ status_of Output) }
+        ⊎ (exit_status result ≡ failure_status Output) }
 {
     let told = match &ended {
         Ok(_) => Ok(()),
@@ -129,7 +129,7 @@ fn report(rt: &(impl Print + Eprint), ended: Result<Outcome, Stop<'_>>) -> ExitC
 
 /// Returns the exit code for the end of a run, or that of a failed write if the reason wasn't printed.
 fn code_after(ended: &Result<Outcome, Stop<'_>>, told: &io::Result<()>) -> ExitCode
-    ensures { exit_status result ≡ (if is_ok told.now then exit_status_of ended.now else status_of Output) }
+    ensures { exit_status result ≡ (if is_ok told.now then exit_status_of ended.now else failure_status Output) }
 {
     match told {
         Ok(()) => exit_code(ended),

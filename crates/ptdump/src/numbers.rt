@@ -3,10 +3,10 @@ ghost use Rattle.std.specs.Prelude.{◌≡◌, ℕ, List, Option, IfOk, IfErr, m
 ghost use Rattle.std.specs.Option.{SomeIff};
 ghost use Rattle.std.specs.Result.{OkIff};
 ghost use Rattle.clap.specs.Matches.{first_value, found_of};
-ghost use Rattle.ptdump.specs.Numbers.{IsNumber, has_zero_in_front, number_of};
+ghost use Rattle.ptdump.specs.Numbers.{IsNumeral, has_zero_in_front, number_of};
 ghost use Rattle.ptdump.specs.Options.{IsOption, option_name};
 ghost use Rattle.ptdump.specs.Reasons.{IsMistake, IsNoAddress};
-ghost use Rattle.ptdump.specs.Requests.{AreNumbers, IsUnread};
+ghost use Rattle.ptdump.specs.Requests.{TextsAreNumbers, IsUnreadArgument};
 ghost use Rattle.ptdump.specs.declared.stop.Stop.TheVariants.{NoNumber};
 
 use crate::stop::Stop;
@@ -58,7 +58,7 @@ impl NumberOption {
 /// Returns `None` if and only if the text isn't such a number. Digits behind a zero aren't, since QEMU prints registers as hexadecimal
 /// digits without `0x`, with zeros in front.
 pub fn read_number(text: &str) -> Option<u64>
-    ensures { SomeIff result (IsNumber text.now) (number_of text.now) }
+    ensures { SomeIff result (IsNumeral text.now) (number_of text.now) }
 {
     if has_zero_in_front(text) {
         None
@@ -82,8 +82,8 @@ pub fn has_zero_in_front(text: &str) -> bool
 ///
 /// `Failure::OutOfMemory` if memory allocation fails, `NoAddress` if an address isn't a number.
 pub fn numbers_of<'a>(alloc: Global, texts: &[&'a str]) -> Result<Vec<u64>, Stop<'a>>
-    ensures ok { IfOk result (λ numbers. AreNumbers (map (λ text. text.now) texts.now) numbers.items) }
-    ensures err { IfErr result (IsUnread (AreNumbers (map (λ text. text.now) texts.now))) }
+    ensures ok { IfOk result (λ numbers. TextsAreNumbers (map (λ text. text.now) texts.now) numbers.items) }
+    ensures err { IfErr result (IsUnreadArgument (TextsAreNumbers (map (λ text. text.now) texts.now))) }
     ensures reason { IfErr result (IsNoAddress (map (λ text. text.now) texts.now)) }
 {
     let mut numbers = Vec::new(alloc);
@@ -122,7 +122,7 @@ pub fn option_of<'a>(
 ///
 /// `NoNumber` if the text isn't a number.
 pub fn number_of<'a>(option: NumberOption, text: &'a str) -> Result<u64, Stop<'a>>
-    ensures value { OkIff result (IsNumber text.now) (number_of text.now) }
+    ensures value { OkIff result (IsNumeral text.now) (number_of text.now) }
     ensures reason { IfErr result (λ stop. stop ≡ NoNumber option text.entry) }
 {
     read_number(text).ok_or(Stop::NoNumber { option, text })

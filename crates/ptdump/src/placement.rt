@@ -3,9 +3,9 @@ ghost use Rattle.std.specs.Prelude.{◌≡◌, ◌⊎◌, ◌==◌, List, IfOk, 
 ghost use Rattle.std.specs.List.{slice_split};
 ghost use Rattle.std.specs.Option.{option_copied};
 ghost use Rattle.clap.specs.Matches.{first_value, found_of};
-ghost use Rattle.ptdump.specs.Placements.{AreParts, AreRanges, IsPlacement, IsRange};
-ghost use Rattle.ptdump.specs.Reasons.{IsNoPlacement, IsNoRange, IsReason};
-ghost use Rattle.ptdump.specs.Requests.{IsUnread, values};
+ghost use Rattle.ptdump.specs.Placements.{AreRangeParts, AreRanges, IsPlacement, IsRawRange};
+ghost use Rattle.ptdump.specs.Reasons.{IsNoPlacement, IsNoRange, IsStopReason};
+ghost use Rattle.ptdump.specs.Requests.{IsUnreadArgument, values};
 ghost use Rattle.ptdump.specs.declared.stop.Stop.TheVariants.{Failed, NoRange};
 ghost use Rattle.ptdump_engine.specs.declared.failure.Failure.TheVariants.{OutOfMemory};
 ghost use Rattle.x86_64_dump.specs.declared.placement.RawRange.{RawRange};
@@ -25,10 +25,10 @@ pub fn placement_of<'a>(alloc: Global, arguments: &ArgMatches<'a>) -> Result<Pla
     ensures ok { IfOk result (IsPlacement
         (first_value (found_of arguments.now) (codes "base"))
         (values (found_of arguments.now) (codes "range"))) }
-    ensures err { IfErr result (IsUnread (IsPlacement
+    ensures err { IfErr result (IsUnreadArgument (IsPlacement
         (first_value (found_of arguments.now) (codes "base"))
         (values (found_of arguments.now) (codes "range")))) }
-    ensures reason { IfErr result (IsReason (found_of arguments.now)) }
+    ensures reason { IfErr result (IsStopReason (found_of arguments.now)) }
 {
     placed(
         alloc,
@@ -46,7 +46,7 @@ fn placed<'a>(
     ensures ok { IfOk result
         (IsPlacement (option_copied base.entry) (map (λ text. text.now) ranges.now)) }
     ensures err { IfErr result
-        (IsUnread (IsPlacement (option_copied base.entry) (map (λ text. text.now) ranges.now))) }
+        (IsUnreadArgument (IsPlacement (option_copied base.entry) (map (λ text. text.now) ranges.now))) }
     ensures reason { IfErr result
         (IsNoPlacement (option_copied base.entry) (map (λ text. text.now) ranges.now)) }
 {
@@ -61,7 +61,7 @@ fn placed<'a>(
 /// Reads ranges.
 fn ranges_of<'a>(alloc: Global, texts: &[&'a str]) -> Result<Vec<RawRange>, Stop<'a>>
     ensures ok { IfOk result (λ ranges. AreRanges (map (λ text. text.now) texts.now) ranges.items) }
-    ensures err { IfErr result (IsUnread (AreRanges (map (λ text. text.now) texts.now))) }
+    ensures err { IfErr result (IsUnreadArgument (AreRanges (map (λ text. text.now) texts.now))) }
     ensures reason { IfErr result (IsNoRange (map (λ text. text.now) texts.now)) }
 {
     let mut ranges = Vec::new(alloc);
@@ -73,8 +73,8 @@ fn ranges_of<'a>(alloc: Global, texts: &[&'a str]) -> Result<Vec<RawRange>, Stop
 
 /// Reads a range: the offset of its first byte in the file, its address, and the number of its bytes.
 fn range_of<'a>(alloc: Global, text: &'a str) -> Result<RawRange, Stop<'a>>
-    ensures ok { IfOk result (IsRange text.now) }
-    ensures err { IfErr result (IsUnread (IsRange text.now)) }
+    ensures ok { IfOk result (IsRawRange text.now) }
+    ensures err { IfErr result (IsUnreadArgument (IsRawRange text.now)) }
     ensures reason { IfErr result (λ stop. (stop ≡ Failed OutOfMemory) ⊎ (stop ≡ NoRange text.entry)) }
 {
     let parts = parts_of(alloc, text)?;
@@ -98,9 +98,9 @@ pub fn parts_of<'a>(alloc: Global, text: &'a str) -> Result<Vec<&'a str>, AllocE
 
 /// Returns the range with an offset, an address and a size.
 fn range_in(parts: &[&str]) -> Option<RawRange>
-    ensures some { IfSome result (AreParts (map (λ part. part.now) parts.now)) }
+    ensures some { IfSome result (AreRangeParts (map (λ part. part.now) parts.now)) }
     ensures none { IfNone result ((range : RawRange) →
-        ¬ (AreParts (map (λ part. part.now) parts.now) range)) }
+        ¬ (AreRangeParts (map (λ part. part.now) parts.now) range)) }
 {
     let [offset, address, size] = parts else {
         return None;

@@ -2,8 +2,8 @@
 ghost use Rattle.std.specs.Prelude.{Option, IfOk, IfErr, codes};
 ghost use Rattle.clap.specs.Matches.{first_value, found_of, one_text};
 ghost use Rattle.ptdump.specs.Options.{IsFlag};
-ghost use Rattle.ptdump.specs.Reasons.{IsMistake, IsReason, IsReasonFor};
-ghost use Rattle.ptdump.specs.Requests.{AreNamed, AreNumbers, IsCommand, IsLevels, IsRequest, IsUnread, is_json, values};
+ghost use Rattle.ptdump.specs.Reasons.{IsMistake, IsStopReason, IsReasonFor};
+ghost use Rattle.ptdump.specs.Requests.{AreNamed, TextsAreNumbers, IsCommand, IsLevels, IsRequest, IsUnreadArgument, is_json, values};
 ghost use Rattle.x86_64_addr.specs.declared.level_count.Levels.{Levels};
 
 use crate::asked::{bits_of, options_of};
@@ -31,7 +31,7 @@ pub fn request_of<'a>(
     is_terminal: bool,
 ) -> Result<Request, Stop<'a>>
     ensures ok { IfOk result (IsRequest is_terminal name.now (found_of arguments.now)) }
-    ensures err { IfErr result (IsUnread (IsRequest is_terminal name.now (found_of arguments.now))) }
+    ensures err { IfErr result (IsUnreadArgument (IsRequest is_terminal name.now (found_of arguments.now))) }
     ensures reason { IfErr result (IsReasonFor name.now (found_of arguments.now)) }
 {
     Ok(Request {
@@ -79,7 +79,7 @@ fn command_of<'a>(
     arguments: &ArgMatches<'a>,
 ) -> Result<Command, Stop<'a>>
     ensures ok { IfOk result (IsCommand name.now (found_of arguments.now)) }
-    ensures err { IfErr result (IsUnread (IsCommand name.now (found_of arguments.now))) }
+    ensures err { IfErr result (IsUnreadArgument (IsCommand name.now (found_of arguments.now))) }
     ensures reason { IfErr result (IsReasonFor name.now (found_of arguments.now)) }
 {
     if name == "regions" {
@@ -106,7 +106,7 @@ fn command_of<'a>(
 /// Returns the list of regions that the arguments describe.
 fn regions_of<'a>(arguments: &ArgMatches<'a>) -> Result<Command, Stop<'a>>
     ensures ok { IfOk result (IsCommand (codes "regions") (found_of arguments.now)) }
-    ensures err { IfErr result (IsUnread (IsCommand (codes "regions") (found_of arguments.now))) }
+    ensures err { IfErr result (IsUnreadArgument (IsCommand (codes "regions") (found_of arguments.now))) }
     ensures reason { IfErr result (IsMistake (found_of arguments.now)) }
 {
     Ok(Command::Regions(selection_of(arguments)?))
@@ -115,7 +115,7 @@ fn regions_of<'a>(arguments: &ArgMatches<'a>) -> Result<Command, Stop<'a>>
 /// Returns the list of mappings that the arguments describe.
 fn pages_of<'a>(arguments: &ArgMatches<'a>) -> Result<Command, Stop<'a>>
     ensures ok { IfOk result (IsCommand (codes "pages") (found_of arguments.now)) }
-    ensures err { IfErr result (IsUnread (IsCommand (codes "pages") (found_of arguments.now))) }
+    ensures err { IfErr result (IsUnreadArgument (IsCommand (codes "pages") (found_of arguments.now))) }
     ensures reason { IfErr result (IsMistake (found_of arguments.now)) }
 {
     Ok(Command::Pages {
@@ -128,8 +128,8 @@ fn pages_of<'a>(arguments: &ArgMatches<'a>) -> Result<Command, Stop<'a>>
 #[tactic(auto, using(crate::proofs::Reasons::of_mistake))]
 fn walk_of<'a>(alloc: Global, arguments: &ArgMatches<'a>) -> Result<Command, Stop<'a>>
     ensures ok { IfOk result (IsCommand (codes "walk") (found_of arguments.now)) }
-    ensures err { IfErr result (IsUnread (IsCommand (codes "walk") (found_of arguments.now))) }
-    ensures reason { IfErr result (IsReason (found_of arguments.now)) }
+    ensures err { IfErr result (IsUnreadArgument (IsCommand (codes "walk") (found_of arguments.now))) }
+    ensures reason { IfErr result (IsStopReason (found_of arguments.now)) }
 {
     let addresses = addresses_of(alloc, arguments)?;
     let options = options_of(arguments)?;
@@ -139,8 +139,8 @@ fn walk_of<'a>(alloc: Global, arguments: &ArgMatches<'a>) -> Result<Command, Sto
 /// Returns the search that the arguments describe.
 fn search_of<'a>(alloc: Global, arguments: &ArgMatches<'a>) -> Result<Command, Stop<'a>>
     ensures ok { IfOk result (IsCommand (codes "find") (found_of arguments.now)) }
-    ensures err { IfErr result (IsUnread (IsCommand (codes "find") (found_of arguments.now))) }
-    ensures reason { IfErr result (IsReason (found_of arguments.now)) }
+    ensures err { IfErr result (IsUnreadArgument (IsCommand (codes "find") (found_of arguments.now))) }
+    ensures reason { IfErr result (IsStopReason (found_of arguments.now)) }
 {
     Ok(Command::Find(addresses_of(alloc, arguments)?))
 }
@@ -149,8 +149,8 @@ fn search_of<'a>(alloc: Global, arguments: &ArgMatches<'a>) -> Result<Command, S
 #[tactic(auto, using(crate::proofs::Reasons::of_mistake))]
 fn check_of<'a>(alloc: Global, arguments: &ArgMatches<'a>) -> Result<Command, Stop<'a>>
     ensures ok { IfOk result (IsCommand (codes "check") (found_of arguments.now)) }
-    ensures err { IfErr result (IsUnread (IsCommand (codes "check") (found_of arguments.now))) }
-    ensures reason { IfErr result (IsReason (found_of arguments.now)) }
+    ensures err { IfErr result (IsUnreadArgument (IsCommand (codes "check") (found_of arguments.now))) }
+    ensures reason { IfErr result (IsStopReason (found_of arguments.now)) }
 {
     let physical_bits = bits_of(arguments)?;
     let direct_map = direct_map_of(alloc, arguments)?;
@@ -166,10 +166,10 @@ fn check_of<'a>(alloc: Global, arguments: &ArgMatches<'a>) -> Result<Command, St
 /// Reads the addresses of a command.
 fn addresses_of<'a>(alloc: Global, arguments: &ArgMatches<'a>) -> Result<Vec<u64>, Stop<'a>>
     ensures ok { IfOk result (λ numbers.
-        AreNumbers (values (found_of arguments.now) (codes "addresses")) numbers.items) }
+        TextsAreNumbers (values (found_of arguments.now) (codes "addresses")) numbers.items) }
     ensures err { IfErr result
-        (IsUnread (AreNumbers (values (found_of arguments.now) (codes "addresses")))) }
-    ensures reason { IfErr result (IsReason (found_of arguments.now)) }
+        (IsUnreadArgument (TextsAreNumbers (values (found_of arguments.now) (codes "addresses")))) }
+    ensures reason { IfErr result (IsStopReason (found_of arguments.now)) }
 {
     numbers_of(alloc, arguments.get_strs("addresses").unwrap_or(&[]))
 }

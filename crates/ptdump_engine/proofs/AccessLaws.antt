@@ -9,14 +9,14 @@ use Rattle.x86_64_access.specs.Accesses.{access_of, controls_of}
 use Rattle.x86_64_access.specs.declared.controls.Controls.{Controls as Settings}
 use Rattle.x86_64_access.specs.declared.request.Access.{Access as Asked}
 use Rattle.x86_64_dump.specs.Reached.{SameBelow}
-use Rattle.x86_64_model.specs.Access.{Access, Arrives, Controls, Faults, NoMemory, Step, access, allowed, code, ends_by, low_bits, outcome, reads_on, reserved, steps_from}
+use Rattle.x86_64_model.specs.Access.{Access, Arrives, Controls, Faults, NoMemory, Step, access, access_allowed, code, ends_by, low_bits, outcome, reads_on, reserved, steps_from}
 use Rattle.x86_64_model.specs.Entry.{present, huge, no_execute, address}
 use Rattle.x86_64_model.specs.Mappings.{Rights, maps_page, rights_of}
 use Rattle.x86_64_model.specs.Memory.{Words}
 use Rattle.x86_64_model.specs.PageWalk.{page_walk, page_start, read}
 use Rattle.x86_64_model.specs.Position.{index, span}
 use Rattle.x86_64_model.proofs.Lemmas.Entries.Words.{address_within}
-use Rattle.ptdump_engine.specs.Accesses.{access_text, asked_text, is_arrived, is_there, limited, outcome_in}
+use Rattle.ptdump_engine.specs.Accesses.{access_text, asked_text, is_arrived, is_access_there, limited, outcome_in}
 use Rattle.ptdump_engine.specs.Walks.{line}
 use Rattle.ptdump_engine.specs.declared.request.ControlsSource.{ControlsSource}
 
@@ -100,7 +100,7 @@ same_asked c source None L T W root p same = refl
 same_asked c source (Some a) L T W root p same = ap (λ o. line (access_text a c source o)) (same_outcome c a L T W root p same)
 
 pub same_there : (c : Settings) (asked : Option Asked) (L : ℕ) (T W : Words) (root p : ℕ) → page_walk L T root p ≡ page_walk L W root p → SameBelow L T W root
-    → is_there c asked L T root p ≡ is_there c asked L W root p
+    → is_access_there c asked L T root p ≡ is_access_there c asked L W root p
 same_there c None L T W root p walks same = ap is_some walks
 same_there c (Some a) L T W root p walks same = ap is_arrived (same_outcome c a L T W root p same)
 
@@ -140,6 +140,6 @@ limited_access c L T root p a =
     by r (Some s) = ap (λ bad. cond (not (present s.word)) (Faults (code (controls_of c) a false false) s.level)
         (cond bad (Faults (code (controls_of c) a true true) s.level)
         (cond (not (maps_page s.level s.word)) (NoMemory (address s.word))
-        (cond (not (allowed (controls_of c) a r)) (Faults (code (controls_of c) a true false) s.level)
+        (cond (not (access_allowed (controls_of c) a r)) (Faults (code (controls_of c) a true false) s.level)
         (Arrives (page_start s.level s.word + p % span s.level))))))
         (limited_reserved c s.level s.word)

@@ -8,7 +8,7 @@ use Rattle.x86_64_model.specs.Memory.{Words, identity_places}
 use Rattle.x86_64_model.specs.Position.{position_count, raw}
 use Rattle.x86_64_model.proofs.Lemmas.Mappings.Placed.{mappings_fit}
 use Rattle.x86_64_mappings.specs.Wanted.{asked_mappings, asked_of, is_wanted, leads_to}
-use Rattle.ptdump_engine.specs.Loaded.{IsLoaded, words_loaded}
+use Rattle.ptdump_engine.specs.Loaded.{IsLoadedDump, words_loaded}
 use Rattle.ptdump_engine.specs.Reports.{address_line as line_of, addresses_text}
 use Rattle.ptdump_engine.specs.Lines.{found_line}
 use Rattle.ptdump_engine.specs.declared.loaded.Loaded.{Loaded}
@@ -21,7 +21,7 @@ all_wanted [] = refl
 all_wanted (m ∷ ms) = ap (λ rest. m ∷ rest) (all_wanted ms)
 
 -- the mappings of a report's summaries are those of its tables
-pub all_asked : {X : Type 0} (loaded : Loaded X) → IsLoaded loaded → (L root : ℕ)
+pub all_asked : {X : Type 0} (loaded : Loaded X) → IsLoadedDump loaded → (L root : ℕ)
     → asked_mappings (asked_of (λ memory. memory) (λ mapping. identity_places) loaded.summaries.now) L root ≡ mappings_of L (words_loaded loaded) root
 all_asked loaded is L root =
     ap (λ wanted. asked_mappings (asked_of (λ memory. memory) (λ mapping. identity_places) (record loaded.summaries.now { wanted = wanted })) L root) is.all

@@ -5,7 +5,7 @@ use Rattle.x86_64_dump.specs.declared.error.DumpError.{DumpError}
 use Rattle.x86_64_dump.specs.declared.error.DumpError.TheVariants as errors
 use Rattle.x86_64_dump.specs.declared.error.Fault.{Fault}
 use Rattle.ptdump_engine.specs.Failure.{failure_of}
-use Rattle.ptdump_engine.specs.Steps.{FailsBy, IsForced, and_then, of_dump}
+use Rattle.ptdump_engine.specs.Steps.{FailsBy, MayBeForced, and_then, of_dump}
 use Rattle.ptdump_engine.specs.declared.failure.Failure.{Failure}
 use Rattle.ptdump_engine.specs.declared.failure.Failure.TheVariants as failures
 
@@ -28,7 +28,7 @@ fails_then fails may (failures.Dump fault) found next is = ap (λ r. and_then r 
 fails_then fails may (failures.Read error) found next is = is
 
 -- failures of memory allocation are always allowed, those of reads and writes if these may fail
-pub forced_fails : {A : Type 0} (fails may : Bool) (failure : Failure) (found : Result A Failure) → IsForced fails may failure → FailsBy fails may failure found
+pub forced_fails : {A : Type 0} (fails may : Bool) (failure : Failure) (found : Result A Failure) → MayBeForced fails may failure → FailsBy fails may failure found
 forced_fails fails may failures.OutOfMemory found is = tt
 forced_fails fails may failures.Output found is = is
 forced_fails fails may failures.NoCr3 found is = absurd is
@@ -45,7 +45,7 @@ forced_fails fails may (failures.Dump fault) found is = absurd is
 forced_fails fails may (failures.Read error) found is = is
 
 -- what may fail may fail in a run where more may
-forced_more : (some fails a b : Bool) (failure : Failure) → (some ≡ true → fails ≡ true) → (a ≡ true → b ≡ true) → IsForced some a failure → IsForced fails b failure
+forced_more : (some fails a b : Bool) (failure : Failure) → (some ≡ true → fails ≡ true) → (a ≡ true → b ≡ true) → MayBeForced some a failure → MayBeForced fails b failure
 forced_more some fails a b failures.OutOfMemory reads writes is = tt
 forced_more some fails a b (failures.Read error) reads writes is = reads is
 forced_more some fails a b failures.Output reads writes is = writes is
@@ -66,11 +66,11 @@ or_true true b is = refl
 or_true false b is = is
 
 -- what a call that reads nothing may meet, one that reads may
-pub forced_write : (fails a : Bool) (failure : Failure) → IsForced false a failure → IsForced fails a failure
+pub forced_write : (fails a : Bool) (failure : Failure) → MayBeForced false a failure → MayBeForced fails a failure
 forced_write fails a failure = forced_more false fails a a failure (λ is. absurd (true≢false (sym is))) (λ is. is)
 
 -- a call that is expected to succeed fails because of memory or a read
-pub forced_found : {A : Type 0} (fails may : Bool) (failure : Failure) (a : A) → FailsBy fails false failure (Ok a) → IsForced fails may failure
+pub forced_found : {A : Type 0} (fails may : Bool) (failure : Failure) (a : A) → FailsBy fails false failure (Ok a) → MayBeForced fails may failure
 forced_found fails may failures.OutOfMemory a is = tt
 forced_found fails may (failures.Read error) a is = is
 forced_found fails may failures.Output a is = absurd (true≢false (sym is))
@@ -87,16 +87,16 @@ forced_found fails may (failures.NoRoot root) a is = absurd (let other : Ok a �
 forced_found fails may (failures.Dump fault) a is = absurd (let other : Ok a ≡ Err (failures.Dump fault) = is in cc)
 
 -- what one writer may refuse, two may
-pub forced_first : (fails a b : Bool) (failure : Failure) → IsForced fails a failure → IsForced fails (a || b) failure
+pub forced_first : (fails a b : Bool) (failure : Failure) → MayBeForced fails a failure → MayBeForced fails (a || b) failure
 forced_first fails a b failure = forced_more fails fails a (a || b) failure (λ is. is) (λ is. ap (λ c. c || b) is)
 
-pub forced_second : (fails a b : Bool) (failure : Failure) → IsForced fails b failure → IsForced fails (a || b) failure
+pub forced_second : (fails a b : Bool) (failure : Failure) → MayBeForced fails b failure → MayBeForced fails (a || b) failure
 forced_second fails a b failure = forced_more fails fails b (a || b) failure (λ is. is) (or_true a b)
 
-pub first_write : (fails a b : Bool) (failure : Failure) → IsForced false a failure → IsForced fails (a || b) failure
+pub first_write : (fails a b : Bool) (failure : Failure) → MayBeForced false a failure → MayBeForced fails (a || b) failure
 first_write fails a b failure is = forced_first fails a b failure (forced_write fails a failure is)
 
-pub second_write : (fails a b : Bool) (failure : Failure) → IsForced false b failure → IsForced fails (a || b) failure
+pub second_write : (fails a b : Bool) (failure : Failure) → MayBeForced false b failure → MayBeForced fails (a || b) failure
 second_write fails a b failure is = forced_second fails a b failure (forced_write fails b failure is)
 
 -- a run fails for the reason why the dump can't be opened

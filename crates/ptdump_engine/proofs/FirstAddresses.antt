@@ -12,7 +12,7 @@ use Rattle.ptdump_engine.specs.ReachedTables.{first_address}
 use Rattle.x86_64_mappings.specs.Selections.{includes}
 use Rattle.ptdump_engine.specs.declared.reached.positions.Positions.{Positions}
 use Rattle.ptdump_engine.specs.declared.reached.search.Search.{Search}
-use Rattle.ptdump_engine.specs.private.Reaching.{address_in, are_left_out, first_sought, firsts_of, kept, positions_of, searched, sought, sought_by, sought_in}
+use Rattle.ptdump_engine.specs.private.Reaching.{address_in, are_left_out, first_sought, first_address_of_each, kept, positions_of, searched, sought, sought_by, sought_in}
 use Rattle.ptdump_engine.proofs.Asked.{all_wanted, inside}
 
 -- what no number has, only None has
@@ -20,7 +20,7 @@ pub only_none : (P : Option ℕ → Type 0) → ((a : ℕ) → P (Some a) → �
 only_none P never None h = refl
 only_none P never (Some a) h = absurd (never a h)
 
-pub nothing_found : (L : ℕ) (frames : List ℕ) → replicate (length frames) None ≡ firsts_of L frames []
+pub nothing_found : (L : ℕ) (frames : List ℕ) → replicate (length frames) None ≡ first_address_of_each L frames []
 nothing_found L [] = refl
 nothing_found L (f ∷ fs) = ap (λ (os : List (Option ℕ)). None ∷ os) (nothing_found L fs)
 
@@ -49,7 +49,7 @@ fit_filtered L p (m ∷ ms) fit = by (p m) (fit_filtered L p ms fit.1)
     by true rest = (fit.0, rest)
     by false rest = rest
 
-first_found : (L : ℕ) (T : Words) (root : ℕ) (needed : Rights) (out : Option Positions) (frames : List ℕ) → firsts_of L frames (sought_by needed out (mappings_of L T root)) ≡ map (first_sought L T root needed out) frames
+first_found : (L : ℕ) (T : Words) (root : ℕ) (needed : Rights) (out : Option Positions) (frames : List ℕ) → first_address_of_each L frames (sought_by needed out (mappings_of L T root)) ≡ map (first_sought L T root needed out) frames
 first_found L T root needed out [] = refl
 first_found L T root needed out (f ∷ fs) = ap₂ (λ o os. o ∷ os)
     (same_address L f (sought_by needed out (mappings_of L T root))
@@ -62,9 +62,9 @@ sought_all : (L : ℕ) (search : Search) (root : ℕ) → sought_in search (reco
 sought_all L search root = ap (sought search) (asked_here (searched search) L root ∙ all_wanted (mappings_of L (words_of search.memory.now identity_places) root))
 
 -- all is found after a visit of the root
-pub all_found : (L : ℕ) (search : Search) (root : ℕ) → firsts_of L search.frames.now ([] ++ sought_in search (record { frame = root; level = L; start = 0; above = every_right }))
+pub all_found : (L : ℕ) (search : Search) (root : ℕ) → first_address_of_each L search.frames.now ([] ++ sought_in search (record { frame = root; level = L; start = 0; above = every_right }))
     ≡ map (first_sought L (words_of search.memory.now identity_places) root search.needed search.left_out) search.frames.now
-all_found L search root = ap (firsts_of L search.frames.now) (sought_all L search root) ∙ first_found L (words_of search.memory.now identity_places) root search.needed search.left_out search.frames.now
+all_found L search root = ap (first_address_of_each L search.frames.now) (sought_all L search root) ∙ first_found L (words_of search.memory.now identity_places) root search.needed search.left_out search.frames.now
 
 -- where nothing is left out
 all_kept : (ms : List Mapping) → filter (λ m. true) ms ≡ ms

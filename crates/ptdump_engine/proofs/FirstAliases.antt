@@ -21,11 +21,11 @@ use Rattle.x86_64_tables.specs.declared.mapper.MappedFrame.TheVariants.{Size4KiB
 use Rattle.ptdump_engine.specs.Aliases.{alias_in, aliased, contains, is_alias, said_of_aliased, said_of_mapping}
 use Rattle.ptdump_engine.specs.declared.check.first_mappings.FirstMappings.{FirstMappings}
 use Rattle.ptdump_engine.specs.declared.check.first_mappings.Firsts.{Firsts}
-use Rattle.ptdump_engine.specs.private.Aliasing.{alias_by, aliased_by, before, earlier, in_1gib, in_2mib, is_frame, is_other, key_of, noted, other_in, AreOfAll, IsAfter, IsAligned, IsPage, LeadsTo, Takes}
+use Rattle.ptdump_engine.specs.private.Aliasing.{alias_by, aliased_by, before, earlier, in_1gib, in_2mib, is_same_frame, is_other, frame_key, noted, other_in, AreOfAll, AreFirstsAfter, IsAligned, MapsAPage, MapsFrame, TakesFirsts}
 
 -- ---- keys
 
-same_key : (f g : MappedFrame) → IsAligned f → IsAligned g → key_of f ≡ key_of g → f ≡ g
+same_key : (f g : MappedFrame) → IsAligned f → IsAligned g → frame_key f ≡ frame_key g → f ≡ g
 same_key (Size4KiB s) (Size4KiB t) a b same = ap Size4KiB (let e : s ≡ t = omega (arith, same) in e)
 same_key (Size4KiB s) (Size2MiB t) a b same = absurd (omega (arith, a, b, same))
 same_key (Size4KiB s) (Size1GiB t) a b same = absurd (omega (arith, a, b, same))
@@ -37,14 +37,14 @@ same_key (Size1GiB s) (Size2MiB t) a b same = absurd (omega (arith, a, b, same))
 same_key (Size1GiB s) (Size1GiB t) a b same = ap Size1GiB (let e : s ≡ t = omega (arith, same) in e)
 
 -- a start and a size are those of one frame
-is_frame_then : (f g : MappedFrame) → is_frame f (frame_start g) (frame_size g) ≡ true → f ≡ g
+is_frame_then : (f g : MappedFrame) → is_same_frame f (frame_start g) (frame_size g) ≡ true → f ≡ g
 is_frame_then f g is =
     let parts = and_parts (frame_size g == frame_size f) (frame_start g == frame_start f) is in
     sym (frame_at_frame f)
     ∙ (λ i. frame_at (sym (eqb-true (frame_size g) (frame_size f) parts.0) i) (sym (eqb-true (frame_start g) (frame_start f) parts.1) i))
     ∙ frame_at_frame g
 
-is_frame_itself : (f : MappedFrame) → is_frame f (frame_start f) (frame_size f) ≡ true
+is_frame_itself : (f : MappedFrame) → is_same_frame f (frame_start f) (frame_size f) ≡ true
 is_frame_itself f = and_from (frame_size f == frame_size f) (frame_start f == frame_start f) (eq-eqb (frame_size f) (frame_size f) refl) (eq-eqb (frame_start f) (frame_start f) refl)
 
 -- ---- one more mapping
@@ -71,55 +71,55 @@ module _ {X : Type 0} where
           (ap (λ s. cond (same_rights s m.rights) None (Some m)) (sym (same_rights_is r f.first.rights is)) ∙ unless (same_rights r m.rights) m)
 
   -- a mapping of a frame was noted
-  pub takes_one : (old new : FirstMappings X) (m : Mapping) (frame : MappedFrame) → LeadsTo m frame
-      → ((k : ℕ) → get nat_eq new.firsts k ≡ cond (nat_eq (key_of frame) k) (Some (noted (get nat_eq old.firsts (key_of frame)) m)) (get nat_eq old.firsts k))
-      → Takes old new (m ∷ [])
+  pub takes_one : (old new : FirstMappings X) (m : Mapping) (frame : MappedFrame) → MapsFrame m frame
+      → ((k : ℕ) → get nat_eq new.firsts k ≡ cond (nat_eq (frame_key frame) k) (Some (noted (get nat_eq old.firsts (frame_key frame)) m)) (get nat_eq old.firsts k))
+      → TakesFirsts old new (m ∷ [])
   takes_one old new m frame leads puts ms after = record {
     pages = all_more ms after.pages;
-    others = λ f aligned r. ap (option_and_then (other_in r)) (puts (key_of f)) ∙ by f aligned r (nat_eq (key_of frame) (key_of f)) refl ∙ sym (find-append (is_other f r) ms (m ∷ []));
+    others = λ f aligned r. ap (option_and_then (other_in r)) (puts (frame_key f)) ∙ by f aligned r (nat_eq (frame_key frame) (frame_key f)) refl ∙ sym (find-append (is_other f r) ms (m ∷ []));
   }
     where
-      all_more : (ms : List Mapping) → AllByRecursion IsPage ms → AllByRecursion IsPage (ms ++ m ∷ [])
+      all_more : (ms : List Mapping) → AllByRecursion MapsAPage ms → AllByRecursion MapsAPage (ms ++ m ∷ [])
       all_more [] h = ((frame, leads), tt)
       all_more (n ∷ ms) h = (h.0, all_more ms h.1)
 
       -- whether it leads to a frame
-      is_at : (f : MappedFrame) → is_frame f m.frame m.size ≡ is_frame f (frame_start frame) (frame_size frame)
-      is_at f = λ i. is_frame f (leads.start i) (leads.size i)
+      is_at : (f : MappedFrame) → is_same_frame f m.frame m.size ≡ is_same_frame f (frame_start frame) (frame_size frame)
+      is_at f = λ i. is_same_frame f (leads.start i) (leads.size i)
 
       here : (f : MappedFrame) → frame ≡ f → (r : Rights) → is_other f r m ≡ not (same_rights r m.rights)
-      here f same r = ap (λ b. b && not (same_rights r m.rights)) (is_at f ∙ subst (λ g. is_frame g (frame_start frame) (frame_size frame) ≡ true) same (is_frame_itself frame))
+      here f same r = ap (λ b. b && not (same_rights r m.rights)) (is_at f ∙ subst (λ g. is_same_frame g (frame_start frame) (frame_size frame) ≡ true) same (is_frame_itself frame))
 
-      elsewhere : (f : MappedFrame) → nat_eq (key_of frame) (key_of f) ≡ false → (r : Rights) → is_other f r m ≡ false
-      elsewhere f other r = ap (λ b. b && not (same_rights r m.rights)) (is_at f ∙ false_from_ne_true (is_frame f (frame_start frame) (frame_size frame))
-          (λ is. absurd (let e : true ≡ false = sym (eq-eqb (key_of frame) (key_of f) (ap key_of (sym (is_frame_then f frame is)))) ∙ other in cc)))
+      elsewhere : (f : MappedFrame) → nat_eq (frame_key frame) (frame_key f) ≡ false → (r : Rights) → is_other f r m ≡ false
+      elsewhere f other r = ap (λ b. b && not (same_rights r m.rights)) (is_at f ∙ false_from_ne_true (is_same_frame f (frame_start frame) (frame_size frame))
+          (λ is. absurd (let e : true ≡ false = sym (eq-eqb (frame_key frame) (frame_key f) (ap frame_key (sym (is_frame_then f frame is)))) ∙ other in cc)))
 
-      by : (f : MappedFrame) → IsAligned f → (r : Rights) → (b : Bool) → nat_eq (key_of frame) (key_of f) ≡ b
-          → option_and_then (other_in r) (cond b (Some (noted (get nat_eq old.firsts (key_of frame)) m)) (get nat_eq old.firsts (key_of f)))
+      by : (f : MappedFrame) → IsAligned f → (r : Rights) → (b : Bool) → nat_eq (frame_key frame) (frame_key f) ≡ b
+          → option_and_then (other_in r) (cond b (Some (noted (get nat_eq old.firsts (frame_key frame)) m)) (get nat_eq old.firsts (frame_key f)))
           ≡ option_or (find (is_other f r) ms) (find (is_other f r) (m ∷ []))
       by f aligned r true is =
-          let same : frame ≡ f = same_key frame f leads.aligned aligned (eqb-true (key_of frame) (key_of f) is) in
-          other_noted r (get nat_eq old.firsts (key_of frame)) m
-          ∙ (λ i. option_or (option_and_then (other_in r) (get nat_eq old.firsts (key_of (same i)))) (cond (sym (here f same r) i) (Some m) None))
+          let same : frame ≡ f = same_key frame f leads.aligned aligned (eqb-true (frame_key frame) (frame_key f) is) in
+          other_noted r (get nat_eq old.firsts (frame_key frame)) m
+          ∙ (λ i. option_or (option_and_then (other_in r) (get nat_eq old.firsts (frame_key (same i)))) (cond (sym (here f same r) i) (Some m) None))
           ∙ ap (λ o. option_or o (cond (is_other f r m) (Some m) None)) (after.others f aligned r)
       by f aligned r false is =
           after.others f aligned r ∙ sym (or_none (find (is_other f r) ms))
           ∙ ap (λ b. option_or (find (is_other f r) ms) (cond b (Some m) None)) (sym (elsewhere f is r))
 
   -- all mappings were noted if the first one of each kind was
-  pub after_distinct : (firsts : FirstMappings X) (ms : List Mapping) → IsAfter firsts (distinct ms) → IsAfter firsts ms
+  pub after_distinct : (firsts : FirstMappings X) (ms : List Mapping) → AreFirstsAfter firsts (distinct ms) → AreFirstsAfter firsts ms
   after_distinct firsts ms after = record {
-    pages = all_of_distinct IsPage same_page ms after.pages;
+    pages = all_of_distinct MapsAPage same_page ms after.pages;
     others = λ f aligned r. after.others f aligned r ∙ find_distinct (is_other f r) (same_other f r) ms;
   }
     where
-      same_page : (m n : Mapping) → is_like m n ≡ true → IsPage m → IsPage n
+      same_page : (m n : Mapping) → is_like m n ≡ true → MapsAPage m → MapsAPage n
       same_page m n like page =
           let same = like_then m n like in
           let leads = page.1 in (page.0, record { size = sym same.size ∙ leads.size; start = sym same.frame ∙ leads.start; aligned = leads.aligned })
 
       same_other : (f : MappedFrame) (r : Rights) (m n : Mapping) → is_like m n ≡ true → is_other f r m ≡ is_other f r n
-      same_other f r m n like = let same = like_then m n like in λ i. is_frame f (same.frame i) (same.size i) && not (same_rights r (same.rights i))
+      same_other f r m n like = let same = like_then m n like in λ i. is_same_frame f (same.frame i) (same.size i) && not (same_rights r (same.rights i))
 
 -- ---- the first of mappings in order
 
@@ -192,9 +192,9 @@ find_before p position (m ∷ ms) order = by (p m) (find_before p position ms or
 
 -- whether a mapping, of which the frame is given, is an alias: another one of the same frame that starts before, or one of a larger frame
 abbrev alias_test : MappedFrame → (start size : ℕ) → (differs before : Bool) → Bool
-alias_test (Size4KiB f) s z d b = ((is_frame (Size4KiB f) s z && d && b) || (is_frame (in_2mib f) s z && d)) || (is_frame (in_1gib f) s z && d)
-alias_test (Size2MiB f) s z d b = (is_frame (Size2MiB f) s z && d && b) || (is_frame (in_1gib f) s z && d)
-alias_test (Size1GiB f) s z d b = is_frame (Size1GiB f) s z && d && b
+alias_test (Size4KiB f) s z d b = ((is_same_frame (Size4KiB f) s z && d && b) || (is_same_frame (in_2mib f) s z && d)) || (is_same_frame (in_1gib f) s z && d)
+alias_test (Size2MiB f) s z d b = (is_same_frame (Size2MiB f) s z && d && b) || (is_same_frame (in_1gib f) s z && d)
+alias_test (Size1GiB f) s z d b = is_same_frame (Size1GiB f) s z && d && b
 
 -- the same by the definition
 abbrev contained_test : (frame size start length : ℕ) → (differs before : Bool) → Bool
@@ -245,7 +245,7 @@ module _ {X : Type 0} (L : ℕ) (firsts : FirstMappings X) (ms : List Mapping) (
   abbrev test_at : MappedFrame → (m n : Mapping) → Bool
   test_at f m n = alias_test f n.frame n.size (not (same_rights m.rights n.rights)) (nat_lt n.start m.start)
 
-  all_tested : (f : MappedFrame) (m : Mapping) → LeadsTo m f → (ns : List Mapping) → AllByRecursion IsPage ns → AllByRecursion (λ n. is_alias m n ≡ test_at f m n) ns
+  all_tested : (f : MappedFrame) (m : Mapping) → MapsFrame m f → (ns : List Mapping) → AllByRecursion MapsAPage ns → AllByRecursion (λ n. is_alias m n ≡ test_at f m n) ns
   all_tested f m leads [] pages = tt
   all_tested f m leads (n ∷ ns) pages =
       let d = not (same_rights m.rights n.rights) in
@@ -271,11 +271,11 @@ module _ {X : Type 0} (L : ℕ) (firsts : FirstMappings X) (ms : List Mapping) (
   find_tested (Size1GiB a) h m =
       find_before (is_other (Size1GiB a) m.rights) m.start ms all.order ∙ ap (before m.start) (sym (all.after.others (Size1GiB a) h m.rights))
 
-  first_alias : (f : MappedFrame) (m : Mapping) → LeadsTo m f → alias_by firsts f m.rights m.start ≡ alias_in ms m
+  first_alias : (f : MappedFrame) (m : Mapping) → MapsFrame m f → alias_by firsts f m.rights m.start ≡ alias_in ms m
   first_alias f m leads = sym (find_same (is_alias m) (test_at f m) ms (all_tested f m leads ms all.after.pages) ∙ find_tested f leads.aligned m)
 
   -- what is said of a mapping by its first alias
-  pub said_by : (f : MappedFrame) (m : Mapping) → LeadsTo m f
+  pub said_by : (f : MappedFrame) (m : Mapping) → MapsFrame m f
       → option_map (λ n. said_of_aliased (aliased_by L m n)) (alias_by firsts f m.rights m.start) ≡ said_of_mapping L ms m
   said_by f m leads = ap (option_map (λ n. said_of_aliased (aliased_by L m n))) (first_alias f m leads)
       ∙ by (alias_in ms m) (found_is (is_alias m) ms) (found_all (λ n. n.start + n.size ≤ position_count L) (is_alias m) ms all.fit)

@@ -12,7 +12,7 @@ use Rattle.x86_64_model.specs.Memory.{Words}
 use Rattle.x86_64_model.specs.PageWalk.{read}
 use Rattle.x86_64_model.specs.Path.{indices}
 use Rattle.x86_64_model.proofs.Lemmas.Entries.Words.{address_within}
-use Rattle.ptdump_engine.specs.Findings.{entries_in, entry_at, flaw_in}
+use Rattle.ptdump_engine.specs.Findings.{entries_in, entry_in_table, flaw_in}
 use Rattle.ptdump_engine.specs.declared.findings.entry.Entry.{Entry}
 use Rattle.ptdump_engine.specs.declared.findings.entry.Table.{Table}
 use Rattle.ptdump_engine.specs.declared.findings.finding.EntryFlaw.{EntryFlaw}
@@ -89,11 +89,11 @@ pub none_in : (flaw : EntryFlaw) (T : Words) (t : Table) → NoneAt flaw t.level
 unfolding entries_in
 none_in flaw T t none = at indices
   where
-    at : (is : List ℕ) → filter_map (flaw_in flaw) (filter_map (entry_at T t) is) ≡ []
+    at : (is : List ℕ) → filter_map (flaw_in flaw) (filter_map (entry_in_table T t) is) ≡ []
     at [] = refl
     at (i ∷ is) = by (read T t.frame i) (at is)
       where
-        by : (o : Option ℕ) → filter_map (flaw_in flaw) (filter_map (entry_at T t) is) ≡ []
-            → filter_map (flaw_in flaw) (cons_option (option_map (λ e. record { slot = record { table = t.frame; index = i }; level = t.level; word = e }) o) (filter_map (entry_at T t) is)) ≡ []
+        by : (o : Option ℕ) → filter_map (flaw_in flaw) (filter_map (entry_in_table T t) is) ≡ []
+            → filter_map (flaw_in flaw) (cons_option (option_map (λ e. record { slot = record { table = t.frame; index = i }; level = t.level; word = e }) o) (filter_map (entry_in_table T t) is)) ≡ []
         by None rest = rest
-        by (Some e) rest = ap (λ f. cons_option f (filter_map (flaw_in flaw) (filter_map (entry_at T t) is))) (none (record { slot = record { table = t.frame; index = i }; level = t.level; word = e }) refl) ∙ rest
+        by (Some e) rest = ap (λ f. cons_option f (filter_map (flaw_in flaw) (filter_map (entry_in_table T t) is))) (none (record { slot = record { table = t.frame; index = i }; level = t.level; word = e }) refl) ∙ rest

@@ -6,7 +6,7 @@ use Rattle.std.specs.List.Sorted.{IsNonDecreasingBy, IsSortedByKey, IsStableByKe
 use Rattle.std.specs.Ordering.{is_lt, nat_cmp}
 use Rattle.std.specs.declared.cmp.Ordering.TheVariants.{Less, Equal, Greater}
 use Rattle.std.proofs.lemmas.List.Sorted.{IsNonDecreasingBy-from_sort}
-use Rattle.ptdump_engine.specs.InOrder.{placed, in_order}
+use Rattle.ptdump_engine.specs.InOrder.{inserted, in_order}
 use Rattle.ptdump_engine.specs.private.Ascending.{Ascend}
 
 order : (a b : ℕ) → (a < b) ⊎ ((a ≡ b) ⊎ (b < a))
@@ -25,16 +25,16 @@ module _ {X : Type 0} (n : X → ℕ) where
   all_above low high [] le h = tt
   all_above low high (y ∷ ys) le h = (omega (arith, h.0), all_above low high ys le h.1)
 
-  all_placed : (low : ℕ) (x : X) (ys : List X) → low ≤ n x → AllByRecursion (λ y. low ≤ n y) ys → AllByRecursion (λ y. low ≤ n y) (placed n x ys)
+  all_placed : (low : ℕ) (x : X) (ys : List X) → low ≤ n x → AllByRecursion (λ y. low ≤ n y) ys → AllByRecursion (λ y. low ≤ n y) (inserted n x ys)
   all_placed low x [] here h = (here, tt)
-  all_placed low x (y ∷ ys) here h = elim (nat_le (n x) (n y)) as (λ b. AllByRecursion (λ y. low ≤ n y) (cond b (x ∷ y ∷ ys) (y ∷ placed n x ys))) [
+  all_placed low x (y ∷ ys) here h = elim (nat_le (n x) (n y)) as (λ b. AllByRecursion (λ y. low ≤ n y) (cond b (x ∷ y ∷ ys) (y ∷ inserted n x ys))) [
     | true ↦ (here, h)
     | false ↦ (h.0, all_placed low x ys here h.1)
   ]
 
-  ascend_placed : (x : X) (ys : List X) → Ascend n ys → Ascend n (placed n x ys)
+  ascend_placed : (x : X) (ys : List X) → Ascend n ys → Ascend n (inserted n x ys)
   ascend_placed x [] h = (tt, tt)
-  ascend_placed x (y ∷ ys) h = elim (nat_le (n x) (n y)) as (λ b. nat_le (n x) (n y) ≡ b → Ascend n (cond b (x ∷ y ∷ ys) (y ∷ placed n x ys))) [
+  ascend_placed x (y ∷ ys) h = elim (nat_le (n x) (n y)) as (λ b. nat_le (n x) (n y) ≡ b → Ascend n (cond b (x ∷ y ∷ ys) (y ∷ inserted n x ys))) [
     | true ↦ λ is. let low : n x ≤ n y = leb-true (n x) (n y) is in ((low, all_above (n x) (n y) ys low h.0), h)
     | false ↦ λ is. let low = leb-false (n x) (n y) is in (all_placed (n y) x ys (omega (arith, low)) h.0, ascend_placed x ys h.1)
   ] refl
@@ -56,9 +56,9 @@ module _ {X : Type 0} (n : X → ℕ) where
   abbrev pub with : (number : ℕ) → List X → List X
   with k = filter (λ y. n y == k)
 
-  with_placed : (k : ℕ) (x : X) (ys : List X) → with k (placed n x ys) ≡ with k (x ∷ ys)
+  with_placed : (k : ℕ) (x : X) (ys : List X) → with k (inserted n x ys) ≡ with k (x ∷ ys)
   with_placed k x [] = refl
-  with_placed k x (y ∷ ys) = elim (nat_le (n x) (n y)) as (λ b. nat_le (n x) (n y) ≡ b → with k (cond b (x ∷ y ∷ ys) (y ∷ placed n x ys)) ≡ with k (x ∷ y ∷ ys)) [
+  with_placed k x (y ∷ ys) = elim (nat_le (n x) (n y)) as (λ b. nat_le (n x) (n y) ≡ b → with k (cond b (x ∷ y ∷ ys) (y ∷ inserted n x ys)) ≡ with k (x ∷ y ∷ ys)) [
     | true ↦ λ is. refl
     | false ↦ λ is. ap (λ zs. cond (n y == k) (y ∷ zs) zs) (with_placed k x ys) ∙ swap (n x == k) (n y == k) refl refl (leb-false (n x) (n y) is)
   ] refl

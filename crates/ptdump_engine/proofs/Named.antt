@@ -7,7 +7,7 @@ use Rattle.std.proofs.lemmas.List.Elements.{filter-append}
 use Rattle.std.specs.List.{flat_map, join_by}
 use Rattle.ptdump_engine.specs.Names.{Flag, set_text}
 use Rattle.ptdump_engine.specs.declared.names.Flag.{Flag as Listed}
-use Rattle.ptdump_engine.specs.private.Flags.{named, separator_after, set_in}
+use Rattle.ptdump_engine.specs.private.Flags.{named_flag, separator_after, set_in}
 
 -- one more name
 join-push : (fs : List Flag) (f : Flag) → join_by (λ g. g.name) (codes ",") (fs ++ f ∷ []) ≡ join_by (λ g. g.name) (codes ",") fs ++ (separator_after fs ++ f.name)
@@ -27,19 +27,19 @@ set-push w fs f b is = filter-append (λ g. not (bit_and w g.bit == 0)) fs (f �
 -- the flags before an index, and one more
 module _ (w : ℕ) (fs : List Listed) (i : ℕ) (d : Listed) (below : i < length fs) where
   abbrev before : List Flag
-  before = map named (take i fs)
+  before = map named_flag (take i fs)
 
   abbrev next : Flag
-  next = named (get_or fs i d)
+  next = named_flag (get_or fs i d)
 
-  pub text_set : not (bit_and w next.bit == 0) ≡ true → set_text w (map named (take (i + 1) fs)) ≡ set_text w before ++ (separator_after (set_in w before) ++ next.name)
-  text_set is = ap (set_text w) (map_more named fs i d below) ∙ ap (join_by (λ g. g.name) (codes ",")) (set-push w before next true is) ∙ join-push (set_in w before) next
+  pub text_set : not (bit_and w next.bit == 0) ≡ true → set_text w (map named_flag (take (i + 1) fs)) ≡ set_text w before ++ (separator_after (set_in w before) ++ next.name)
+  text_set is = ap (set_text w) (map_more named_flag fs i d below) ∙ ap (join_by (λ g. g.name) (codes ",")) (set-push w before next true is) ∙ join-push (set_in w before) next
 
-  pub separator_set : not (bit_and w next.bit == 0) ≡ true → separator_after (set_in w (map named (take (i + 1) fs))) ≡ codes ","
-  separator_set is = ap (λ gs. separator_after (set_in w gs)) (map_more named fs i d below) ∙ ap separator_after (set-push w before next true is) ∙ separator-push (set_in w before) next
+  pub separator_set : not (bit_and w next.bit == 0) ≡ true → separator_after (set_in w (map named_flag (take (i + 1) fs))) ≡ codes ","
+  separator_set is = ap (λ gs. separator_after (set_in w gs)) (map_more named_flag fs i d below) ∙ ap separator_after (set-push w before next true is) ∙ separator-push (set_in w before) next
 
-  pub set_past : not (bit_and w next.bit == 0) ≡ false → set_in w (map named (take (i + 1) fs)) ≡ set_in w before
-  set_past is = ap (set_in w) (map_more named fs i d below) ∙ set-push w before next false is ∙ append-nil (set_in w before)
+  pub set_past : not (bit_and w next.bit == 0) ≡ false → set_in w (map named_flag (take (i + 1) fs)) ≡ set_in w before
+  set_past is = ap (set_in w) (map_more named_flag fs i d below) ∙ set-push w before next false is ∙ append-nil (set_in w before)
 
 -- a number that isn't 0
 pub is_set : (n : ℕ) → (n ≡ 0 → ⊥) → not (n == 0) ≡ true

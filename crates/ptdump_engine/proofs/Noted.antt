@@ -8,7 +8,7 @@ use Rattle.std.specs.List.Sorted.{IsNonDecreasingBy}
 use Rattle.std.specs.Option.{option_or}
 use Rattle.x86_64_mappings.specs.Wanted.{leads_to}
 use Rattle.x86_64_model.specs.Mappings.{Mapping}
-use Rattle.ptdump_engine.specs.private.Reaching.{address_in, firsts_of}
+use Rattle.ptdump_engine.specs.private.Reaching.{address_in, first_address_of_each}
 
 -- ---- to which frames a mapping leads
 
@@ -55,18 +55,18 @@ first_more L a ms m = ap (option_map (address_in L a)) (find-append (leads_to a)
     by None false = refl
 
 first_at : (L : ℕ) (frames : List ℕ) (ms : List Mapping) (j : ℕ) → j < length frames
-    → get_or (firsts_of L frames ms) j None ≡ option_map (address_in L (get_or frames j 0)) (find (leads_to (get_or frames j 0)) ms)
+    → get_or (first_address_of_each L frames ms) j None ≡ option_map (address_in L (get_or frames j 0)) (find (leads_to (get_or frames j 0)) ms)
 first_at L frames ms j less = get_or-map (λ f. option_map (address_in L f) (find (leads_to f) ms)) frames j 0 None less
 
-pub so_many : (L : ℕ) (frames : List ℕ) (ms : List Mapping) → length (firsts_of L frames ms) ≡ length frames
+pub so_many : (L : ℕ) (frames : List ℕ) (ms : List Mapping) → length (first_address_of_each L frames ms) ≡ length frames
 so_many L frames ms = length-map frames (λ f. option_map (address_in L f) (find (leads_to f) ms))
 
 -- the notes are right if each is
-all_noted : (L : ℕ) (frames : List ℕ) (ms : List Mapping) (m : Mapping) (old new : List (Option ℕ)) → old ≡ firsts_of L frames ms → length new ≡ length old
-    → ((j : ℕ) → j < length frames → get_or new j None ≡ noted L (get_or frames j 0) m (get_or old j None)) → new ≡ firsts_of L frames (ms ++ m ∷ [])
+all_noted : (L : ℕ) (frames : List ℕ) (ms : List Mapping) (m : Mapping) (old new : List (Option ℕ)) → old ≡ first_address_of_each L frames ms → length new ≡ length old
+    → ((j : ℕ) → j < length frames → get_or new j None ≡ noted L (get_or frames j 0) m (get_or old j None)) → new ≡ first_address_of_each L frames (ms ++ m ∷ [])
 all_noted L frames ms m old new before many each =
     let count : length new ≡ length frames = many ∙ ap length before ∙ so_many L frames ms in
-    ext_get_or None new (firsts_of L frames (ms ++ m ∷ [])) (count ∙ sym (so_many L frames (ms ++ m ∷ [])))
+    ext_get_or None new (first_address_of_each L frames (ms ++ m ∷ [])) (count ∙ sym (so_many L frames (ms ++ m ∷ [])))
     (λ j less.
     let within : j < length frames = omega (arith, less, count) in
     each j within
@@ -112,9 +112,9 @@ pub record BeginsAt (frames : List ℕ) (start begin : ℕ) : Type 0 where
   pub high : (j : ℕ) → begin ≤ j → j < length frames → start ≤ get_or frames j 0
 
 module _ (L : ℕ) (frames : List ℕ) (m : Mapping) (begin i : ℕ) (ms : List Mapping) (old now : List (Option ℕ)) (starts : BeginsAt frames m.frame begin)
-    (is : old ≡ firsts_of L frames ms) (so_far : AreNoted L frames m begin i old now) where
+    (is : old ≡ first_address_of_each L frames ms) (so_far : AreNoted L frames m begin i old now) where
   -- the frames from i on are not led to
-  ended : ((j : ℕ) → i ≤ j → j < length frames → leads_to (get_or frames j 0) m ≡ false) → now ≡ firsts_of L frames (ms ++ m ∷ [])
+  ended : ((j : ℕ) → i ≤ j → j < length frames → leads_to (get_or frames j 0) m ≡ false) → now ≡ first_address_of_each L frames (ms ++ m ∷ [])
   ended rest = all_noted L frames ms m old now is so_far.count (λ j less. by j less (cases_lt j begin) (cases_lt j i))
     where
       kept : (j : ℕ) → get_or now j None ≡ get_or old j None → leads_to (get_or frames j 0) m ≡ false → get_or now j None ≡ noted L (get_or frames j 0) m (get_or old j None)
@@ -126,12 +126,12 @@ module _ (L : ℕ) (frames : List ℕ) (m : Mapping) (begin i : ℕ) (ms : List 
       by j less (inr high) (inr left) = kept j (so_far.after j left) (rest j left less)
 
   -- the frame at i is not led to, so none after it is
-  pub ended_early : IsNonDecreasingBy (λ f. f) frames → begin ≤ i → i < length frames → leads_to (get_or frames i 0) m ≡ false → now ≡ firsts_of L frames (ms ++ m ∷ [])
+  pub ended_early : IsNonDecreasingBy (λ f. f) frames → begin ≤ i → i < length frames → leads_to (get_or frames i 0) m ≡ false → now ≡ first_address_of_each L frames (ms ++ m ∷ [])
   ended_early ascend from within none = ended (λ j left less.
       let next = past (get_or frames i 0) m (starts.high i from within) none in
       let more : get_or frames i 0 ≤ get_or frames j 0 = ascend i j 0 left less in
       leads_after (get_or frames j 0) m (omega (arith, next, more)))
 
   -- all frames were noted
-  pub ended_last : length frames ≤ i → now ≡ firsts_of L frames (ms ++ m ∷ [])
+  pub ended_last : length frames ≤ i → now ≡ first_address_of_each L frames (ms ++ m ∷ [])
   ended_last all = ended (λ j left less. absurd (omega (arith, all, left, less)))

@@ -10,24 +10,24 @@ use Rattle.std.specs.Option.{UnwrapsOrElse, option_map_or}
 use Rattle.std.specs.declared.alloc.Global.{Global}
 use Rattle.x86_64_addr.specs.declared.level_count.Levels.TheVariants.{Four, Five}
 use Rattle.x86_64_addr.specs.declared.level_count.Levels.{Levels}
-use Rattle.ptdump_engine.specs.Processors.{cpus_with, has_tables, is_first, same_levels, shares}
+use Rattle.ptdump_engine.specs.Processors.{cpus_with, has_tables, is_first, are_same_levels, shares}
 use Rattle.ptdump_engine.specs.declared.processor_groups.ProcessorGroups.{ProcessorGroups}
 use Rattle.ptdump_engine.specs.declared.processors.Processor.{Processor}
-use Rattle.ptdump_engine.specs.private.ProcessorGroups.{AreGrouped, are_five, cpu_if, cpus_at, has_key, is_first_in, key_of, same_key}
+use Rattle.ptdump_engine.specs.private.ProcessorGroups.{AreGrouped, are_five, cpu_if, cpus_at, has_key, is_first_in, group_key, same_key}
 
-levels_same : (a b : Levels) → beq (are_five b) (are_five a) ≡ same_levels a b
+levels_same : (a b : Levels) → beq (are_five b) (are_five a) ≡ are_same_levels a b
 levels_same Four Four = refl
 levels_same Four Five = refl
 levels_same Five Four = refl
 levels_same Five Five = refl
 
 -- processors that have tables of one key share them
-key_shared : (p q : Processor) → has_key (key_of p) q ≡ shares p q
+key_shared : (p q : Processor) → has_key (group_key p) q ≡ shares p q
 key_shared p q = (λ i. has_tables q && (nat_eq_equiv.symm q.start.root p.start.root i && levels_same p.start.levels q.start.levels i))
-    ∙ sym (and_assoc (has_tables q) (nat_eq p.start.root q.start.root) (same_levels p.start.levels q.start.levels))
+    ∙ sym (and_assoc (has_tables q) (nat_eq p.start.root q.start.root) (are_same_levels p.start.levels q.start.levels))
 
 -- the numbers by a processor's key are those with its tables
-pub grouped_by_key : (ps : List Processor) (p : Processor) → flat_map (cpu_if (key_of p)) ps ≡ cpus_with ps p
+pub grouped_by_key : (ps : List Processor) (p : Processor) → flat_map (cpu_if (group_key p)) ps ≡ cpus_with ps p
 grouped_by_key [] p = refl
 grouped_by_key (q ∷ ps) p = (λ i. (if key_shared p q i then q.cpu ∷ [] else []) ++ grouped_by_key ps p i) ∙ by (shares p q)
   where
@@ -66,15 +66,15 @@ lent (Some numbers) cpus same = ap (λ n. n.items) same
 
 -- a map that has one more number at a processor's key, if it has tables
 pub one_more : {S T : Type 0} (old : HashMap (ℕ × Bool) (Vec ℕ Global) S) (new : HashMap (ℕ × Bool) (Vec ℕ Global) T) (p : Processor) (cpus : Vec ℕ Global) → has_tables p ≡ true
-    → cpus.items ≡ cpus_at old (key_of p) ++ p.cpu ∷ []
-    → ((k : ℕ × Bool) → get same_key new k ≡ cond (same_key (key_of p) k) (Some cpus) (get same_key old k))
+    → cpus.items ≡ cpus_at old (group_key p) ++ p.cpu ∷ []
+    → ((k : ℕ × Bool) → get same_key new k ≡ cond (same_key (group_key p) k) (Some cpus) (get same_key old k))
     → (k : ℕ × Bool) → cpus_at new k ≡ cpus_at old k ++ cpu_if k p
 one_more old new p cpus has more updates k =
     ap (λ found. option_map_or (λ numbers. numbers.items) found []) (updates k)
-    ∙ by (same_key (key_of p) k) refl
-    ∙ ap (λ b. cpus_at old k ++ (if b && same_key (key_of p) k then p.cpu ∷ [] else [])) (sym has)
+    ∙ by (same_key (group_key p) k) refl
+    ∙ ap (λ b. cpus_at old k ++ (if b && same_key (group_key p) k then p.cpu ∷ [] else [])) (sym has)
   where
-    by : (b : Bool) → same_key (key_of p) k ≡ b → option_map_or (λ numbers. numbers.items) (cond b (Some cpus) (get same_key old k)) []
+    by : (b : Bool) → same_key (group_key p) k ≡ b → option_map_or (λ numbers. numbers.items) (cond b (Some cpus) (get same_key old k)) []
         ≡ cpus_at old k ++ (if true && b then p.cpu ∷ [] else [])
-    by true same = more ∙ ap (λ k. cpus_at old k ++ p.cpu ∷ []) (same_key_is (key_of p) k same)
+    by true same = more ∙ ap (λ k. cpus_at old k ++ p.cpu ∷ []) (same_key_is (group_key p) k same)
     by false same = sym (append-nil (cpus_at old k))

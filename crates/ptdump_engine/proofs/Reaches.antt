@@ -24,7 +24,7 @@ use Rattle.ptdump_engine.specs.declared.reached.positions.Positions.{Positions}
 use Rattle.ptdump_engine.specs.declared.reached.search.Found.{Found}
 use Rattle.ptdump_engine.specs.declared.reached.search.Search.{Search}
 use Rattle.ptdump_engine.specs.declared.reached.search.Visit.{Visit}
-use Rattle.ptdump_engine.specs.private.Reaching.{address_in, are_apart, are_left_out, searched, is_sought, sought, sought_in, span_of_table, positions_of, firsts_of, kept, kept_below, is_within, Cover, IsAfter, Takes}
+use Rattle.ptdump_engine.specs.private.Reaching.{address_in, are_apart, are_left_out, searched, is_sought, sought, sought_in, span_of_table, positions_of, first_address_of_each, kept, kept_below, address_is_within, Cover, IsFoundAfter, TakesFound}
 use Rattle.ptdump_engine.proofs.Asked.{all_wanted}
 use Rattle.ptdump_engine.proofs.Noted.{so_many}
 
@@ -225,13 +225,13 @@ cover_fewer : (p : Mapping → Bool) (ms others : List Mapping) → Cover ms oth
 cover_fewer p ms others cover a none = none_kept p a others (cover a none)
 
 -- what some mappings lead to of a page, more lead to
-within_more : (ms more : List Mapping) (o : Option ℕ) (start : ℕ) → IfSome o (λ size. (a : ℕ) → find (leads_to a) ms ≡ None → is_within start size a ≡ false)
-    → IfSome o (λ size. (a : ℕ) → find (leads_to a) (ms ++ more) ≡ None → is_within start size a ≡ false)
+within_more : (ms more : List Mapping) (o : Option ℕ) (start : ℕ) → IfSome o (λ size. (a : ℕ) → find (leads_to a) ms ≡ None → address_is_within start size a ≡ false)
+    → IfSome o (λ size. (a : ℕ) → find (leads_to a) (ms ++ more) ≡ None → address_is_within start size a ≡ false)
 within_more ms more None start h = tt
 within_more ms more (Some size) start h = λ a none. h a (none_in a ms more none).0
 
 -- a page with the same start that isn't larger is covered
-smaller_within : (start size noted a : ℕ) → size ≤ noted → is_within start noted a ≡ false → is_within start size a ≡ false
+smaller_within : (start size noted a : ℕ) → size ≤ noted → address_is_within start noted a ≡ false → address_is_within start size a ≡ false
 smaller_within start size noted a le out = by (nat_le start a) (nat_lt a (start + size)) refl refl
   where
     by : (b c : Bool) → nat_le start a ≡ b → nat_lt a (start + size) ≡ c → (b && c) ≡ false
@@ -241,7 +241,7 @@ smaller_within start size noted a le out = by (nat_le start a) (nat_lt a (start 
         let more : nat_lt a (start + noted) ≡ true = lt-ltb a (start + noted) (omega (arith, ltb-true a (start + size) q, le)) in
         let e : true ≡ false = (λ i. sym p i && sym more i) ∙ out in absurd cc
 
-firsts_same : (L : ℕ) (ms ns : List Mapping) → ((a : ℕ) → find (leads_to a) ms ≡ find (leads_to a) ns) → (frames : List ℕ) → firsts_of L frames ms ≡ firsts_of L frames ns
+firsts_same : (L : ℕ) (ms ns : List Mapping) → ((a : ℕ) → find (leads_to a) ms ≡ find (leads_to a) ns) → (frames : List ℕ) → first_address_of_each L frames ms ≡ first_address_of_each L frames ns
 firsts_same L ms ns same [] = refl
 firsts_same L ms ns same (f ∷ fs) = ap₂ (λ o os. o ∷ os) (ap (option_map (address_in L f)) (same f)) (firsts_same L ms ns same fs)
 
@@ -258,11 +258,11 @@ sought_one search m = by (includes m.rights search.needed) (not (are_left_out se
 -- ---- searches
 
 module _ (L : ℕ) (search : Search) where
-  pub takes_nothing : (found : Found) → Takes L search found found []
-  takes_nothing found ms after = subst (IsAfter L search found) (sym (append-nil ms)) after
+  pub takes_nothing : (found : Found) → TakesFound L search found found []
+  takes_nothing found ms after = subst (IsFoundAfter L search found) (sym (append-nil ms)) after
 
-  pub takes_both : (old between new : Found) (front back : List Mapping) → Takes L search old between front → Takes L search between new back → Takes L search old new (front ++ back)
-  takes_both old between new front back first second ms after = subst (IsAfter L search new) (append_assoc ms front back) (second (ms ++ front) (first ms after))
+  pub takes_both : (old between new : Found) (front back : List Mapping) → TakesFound L search old between front → TakesFound L search between new back → TakesFound L search old new (front ++ back)
+  takes_both old between new front back first second ms after = subst (IsFoundAfter L search new) (append_assoc ms front back) (second (ms ++ front) (first ms after))
 
   sought-append : (front back : List Mapping) → sought search (front ++ back) ≡ sought search front ++ sought search back
   sought-append front back =
@@ -270,27 +270,27 @@ module _ (L : ℕ) (search : Search) where
       ∙ filter-append (λ m. not (are_left_out search.left_out (positions_of m))) (kept search.needed front) (kept search.needed back)
 
   -- mappings of which those that are sought were taken in two parts
-  pub takes_more : (old between new : Found) (front back : List Mapping) → Takes L search old between (sought search front) → Takes L search between new (sought search back)
-      → Takes L search old new (sought search (front ++ back))
+  pub takes_more : (old between new : Found) (front back : List Mapping) → TakesFound L search old between (sought search front) → TakesFound L search between new (sought search back)
+      → TakesFound L search old new (sought search (front ++ back))
   takes_more old between new front back first second =
-      subst (Takes L search old new) (sym (sought-append front back))
+      subst (TakesFound L search old new) (sym (sought-append front back))
       (takes_both old between new (sought search front) (sought search back) first second)
 
   -- a page of 4KiB was noted
-  pub takes_page : (old new : Found) (m : Mapping) → ((ms : List Mapping) → IsNonDecreasingBy (λ f. f) search.frames.now → old.firsts.items ≡ firsts_of L search.frames.now ms → new.firsts.items ≡ firsts_of L search.frames.now (ms ++ m ∷ []))
-      → new.visited ≡ old.visited → new.pages ≡ old.pages → Takes L search old new (m ∷ [])
+  pub takes_page : (old new : Found) (m : Mapping) → ((ms : List Mapping) → IsNonDecreasingBy (λ f. f) search.frames.now → old.firsts.items ≡ first_address_of_each L search.frames.now ms → new.firsts.items ≡ first_address_of_each L search.frames.now (ms ++ m ∷ []))
+      → new.visited ≡ old.visited → new.pages ≡ old.pages → TakesFound L search old new (m ∷ [])
   takes_page old new m noted visited pages ms after = record {
     ascend = after.ascend;
     firsts = noted ms after.ascend after.firsts;
     visited = λ level frame low aligned is.
         cover_more ms (m ∷ []) (kept_below search level frame) (after.visited level frame low aligned (subst (λ v. contains nat_eq v (frame + level) ≡ true) visited is));
     pages = λ start. within_more ms (m ∷ []) (get nat_eq new.pages start) start
-        (subst (λ ps. IfSome (get nat_eq ps start) (λ size. (a : ℕ) → find (leads_to a) ms ≡ None → is_within start size a ≡ false)) (sym pages) (after.pages start));
+        (subst (λ ps. IfSome (get nat_eq ps start) (λ size. (a : ℕ) → find (leads_to a) ms ≡ None → address_is_within start size a ≡ false)) (sym pages) (after.pages start));
   }
 
   -- the addresses in a page were noted
-  pub takes_note : (found : Found) (m : Mapping) (firsts : List (Option ℕ)) → ((ms : List Mapping) → IsNonDecreasingBy (λ f. f) search.frames.now → found.firsts.items ≡ firsts_of L search.frames.now ms → firsts ≡ firsts_of L search.frames.now (ms ++ m ∷ []))
-      → Takes L search found (record { firsts = with_items found.firsts firsts; visited = found.visited; pages = found.pages }) (m ∷ [])
+  pub takes_note : (found : Found) (m : Mapping) (firsts : List (Option ℕ)) → ((ms : List Mapping) → IsNonDecreasingBy (λ f. f) search.frames.now → found.firsts.items ≡ first_address_of_each L search.frames.now ms → firsts ≡ first_address_of_each L search.frames.now (ms ++ m ∷ []))
+      → TakesFound L search found (record { firsts = with_items found.firsts firsts; visited = found.visited; pages = found.pages }) (m ∷ [])
   takes_note found m firsts noted = takes_page found (record { firsts = with_items found.firsts firsts; visited = found.visited; pages = found.pages }) m
       (λ ms ascend is.
       let all = noted ms ascend is in
@@ -300,8 +300,8 @@ module _ (L : ℕ) (search : Search) where
       refl refl
 
   -- a large page was noted, and recorded
-  pub takes_large_page : (old between new : Found) (m : Mapping) → Takes L search old between (m ∷ []) → new.firsts ≡ between.firsts → new.visited ≡ between.visited
-      → ((start : ℕ) → get nat_eq new.pages start ≡ cond (nat_eq m.frame start) (Some m.size) (get nat_eq between.pages start)) → Takes L search old new (m ∷ [])
+  pub takes_large_page : (old between new : Found) (m : Mapping) → TakesFound L search old between (m ∷ []) → new.firsts ≡ between.firsts → new.visited ≡ between.visited
+      → ((start : ℕ) → get nat_eq new.pages start ≡ cond (nat_eq m.frame start) (Some m.size) (get nat_eq between.pages start)) → TakesFound L search old new (m ∷ [])
   takes_large_page old between new m taken firsts visited pages ms before = record {
     ascend = after.ascend;
     firsts = ap (λ v. v.items) firsts ∙ after.firsts;
@@ -312,21 +312,21 @@ module _ (L : ℕ) (search : Search) where
       all : List Mapping
       all = ms ++ m ∷ []
 
-      after : IsAfter L search between (ms ++ m ∷ [])
+      after : IsFoundAfter L search between (ms ++ m ∷ [])
       after = taken ms before
 
       Fits : (start : ℕ) → Option ℕ → Type 0
-      Fits start o = IfSome o (λ size. (a : ℕ) → find (leads_to a) (ms ++ m ∷ []) ≡ None → is_within start size a ≡ false)
+      Fits start o = IfSome o (λ size. (a : ℕ) → find (leads_to a) (ms ++ m ∷ []) ≡ None → address_is_within start size a ≡ false)
 
       out : (a : ℕ) (b : Bool) → cond b (Some m) None ≡ None → b ≡ false
       out a true h = absurd (let e : Some m ≡ None = h in cc)
       out a false h = refl
 
       by : (start : ℕ) (b : Bool) → nat_eq m.frame start ≡ b → Fits start (cond b (Some m.size) (get nat_eq between.pages start))
-      by start true same = λ a none. subst (λ s. is_within s m.size a ≡ false) (eqb-true m.frame start same) (out a (leads_to a m) (none_in a ms (m ∷ []) none).1)
+      by start true same = λ a none. subst (λ s. address_is_within s m.size a ≡ false) (eqb-true m.frame start same) (out a (leads_to a m) (none_in a ms (m ∷ []) none).1)
       by start false other = after.pages start
 
-  takes_covered : (found : Found) (ms others : List Mapping) → Cover ms others → IsAfter L search found ms → IsAfter L search found (ms ++ others)
+  takes_covered : (found : Found) (ms others : List Mapping) → Cover ms others → IsFoundAfter L search found ms → IsFoundAfter L search found (ms ++ others)
   takes_covered found ms others cover after = record {
     ascend = after.ascend;
     firsts = after.firsts ∙ firsts_same L ms (ms ++ others) (not_first ms others cover) search.frames.now;
@@ -335,27 +335,27 @@ module _ (L : ℕ) (search : Search) where
   }
 
   -- a large page that was noted
-  pub takes_noted : (found : Found) (m : Mapping) → IsSomeAnd (get nat_eq found.pages m.frame) (λ noted. m.size ≤ noted) → Takes L search found found (m ∷ [])
+  pub takes_noted : (found : Found) (m : Mapping) → IsSomeAnd (get nat_eq found.pages m.frame) (λ noted. m.size ≤ noted) → TakesFound L search found found (m ∷ [])
   takes_noted found m noted ms after = takes_covered found ms (m ∷ []) (by (get nat_eq found.pages m.frame) noted (after.pages m.frame)) after
     where
-      by : (o : Option ℕ) → IsSomeAnd o (λ noted. m.size ≤ noted) → IfSome o (λ size. (a : ℕ) → find (leads_to a) ms ≡ None → is_within m.frame size a ≡ false) → Cover ms (m ∷ [])
+      by : (o : Option ℕ) → IsSomeAnd o (λ noted. m.size ≤ noted) → IfSome o (λ size. (a : ℕ) → find (leads_to a) ms ≡ None → address_is_within m.frame size a ≡ false) → Cover ms (m ∷ [])
       by None some out = absurd some
       by (Some size) some out = λ a none. ap (λ b. cond b (Some m) None) (smaller_within m.frame m.size size a some (out a none))
 
   -- a table below words that lack a right
-  pub takes_no_right : (found : Found) (visit : Visit) → includes visit.above search.needed ≡ false → Takes L search found found (sought_in search visit)
+  pub takes_no_right : (found : Found) (visit : Visit) → includes visit.above search.needed ≡ false → TakesFound L search found found (sought_in search visit)
   takes_no_right found visit lacks =
-      subst (Takes L search found found)
+      subst (TakesFound L search found found)
       (sym (ap (filter (λ m. not (are_left_out search.left_out (positions_of m)))) (kept_none search.needed visit.start visit.above (asked_mappings (searched search) visit.level visit.frame) lacks)))
       (takes_nothing found)
 
   -- a table whose positions are left out
-  pub takes_left_out : (found : Found) (visit : Visit) → 1 ≤ visit.level → are_left_out search.left_out (span_of_table visit) ≡ true → Takes L search found found (sought_in search visit)
-  takes_left_out found visit low all = subst (Takes L search found found) (sym (left_out_in search visit low all)) (takes_nothing found)
+  pub takes_left_out : (found : Found) (visit : Visit) → 1 ≤ visit.level → are_left_out search.left_out (span_of_table visit) ≡ true → TakesFound L search found found (sought_in search visit)
+  takes_left_out found visit low all = subst (TakesFound L search found found) (sym (left_out_in search visit low all)) (takes_nothing found)
 
   -- a table that was visited
   pub takes_visited : (found : Found) (visit : Visit) → includes visit.above search.needed ≡ true → visit.level < 4096 → visit.frame % 4096 ≡ 0
-      → contains nat_eq found.visited (visit.frame + visit.level) ≡ true → Takes L search found found (sought_in search visit)
+      → contains nat_eq found.visited (visit.frame + visit.level) ≡ true → TakesFound L search found found (sought_in search visit)
   takes_visited found visit has low aligned is ms after =
       let below = kept_below search visit.level visit.frame in
       let seen : Cover ms (map (placed visit.start visit.above) below) = cover_seen ms below visit.start visit.above (after.visited visit.level visit.frame low aligned is) in
@@ -371,12 +371,12 @@ module _ (L : ℕ) (search : Search) where
   pub marked : (old new : Found) (ms : List Mapping) (visit : Visit) → includes visit.above search.needed ≡ true → 1 ≤ visit.level → are_apart search.left_out (span_of_table visit) ≡ true → visit.level < 4096 → visit.frame % 4096 ≡ 0
       → new.firsts.items ≡ old.firsts.items → new.pages ≡ old.pages
       → ((key : ℕ) → contains nat_eq new.visited key ≡ cond (nat_eq (visit.frame + visit.level) key) true (contains nat_eq old.visited key))
-      → IsAfter L search old (ms ++ sought_in search visit) → IsAfter L search new (ms ++ sought_in search visit)
+      → IsFoundAfter L search old (ms ++ sought_in search visit) → IsFoundAfter L search new (ms ++ sought_in search visit)
   marked old new ms visit has some apart low aligned firsts pages marks after = record {
     ascend = after.ascend;
     firsts = firsts ∙ after.firsts;
     visited = λ level frame l a is. by level frame l a (nat_eq (visit.frame + visit.level) (frame + level)) refl (sym (marks (frame + level)) ∙ is);
-    pages = λ start. subst (λ ps. IfSome (get nat_eq ps start) (λ size. (a : ℕ) → find (leads_to a) (ms ++ sought_in search visit) ≡ None → is_within start size a ≡ false)) (sym pages) (after.pages start);
+    pages = λ start. subst (λ ps. IfSome (get nat_eq ps start) (λ size. (a : ℕ) → find (leads_to a) (ms ++ sought_in search visit) ≡ None → address_is_within start size a ≡ false)) (sym pages) (after.pages start);
   }
     where
       all : List Mapping

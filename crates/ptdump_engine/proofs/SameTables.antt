@@ -5,7 +5,7 @@ use Rattle.std.proofs.lemmas.List.{length-reverse}
 use Rattle.std.specs.List.{AllByRecursion, cons_option, dedup, dedup_from, filter_map, flat_map, fold}
 use Rattle.std.specs.Option.{unwrap_or}
 use Rattle.x86_64_dump.specs.Reached.{SameBelow}
-use Rattle.x86_64_dump.specs.Tables.{table_named, tables_named, is_among, met, each_once, tables_from, if_there, tables_by_level}
+use Rattle.x86_64_dump.specs.Tables.{table_named, tables_named, is_among, met, each_once, tables_of_levels, if_there, tables_by_level}
 use Rattle.x86_64_mappings.specs.Wanted.{leads_to}
 use Rattle.x86_64_model.specs.Entry.{present, huge, address}
 use Rattle.x86_64_model.specs.Mappings.{Mapping, Rights, mappings_of}
@@ -19,8 +19,8 @@ use Rattle.ptdump_engine.specs.ReachedTables.{all_reached, first_to, for_user, f
 use Rattle.x86_64_mappings.specs.Selections.{is_selected}
 use Rattle.ptdump_engine.specs.Reserved.{lists_mappings, reserved_count, reserved_entries, reserved_line, reserved_note}
 use Rattle.ptdump_engine.specs.WritableTables.{all_writable, writable_at, writable_outside}
-use Rattle.ptdump_engine.specs.Findings.{aliases_asked, all_named_often, check_text, entries_in, finding_lines, finds_nothing, flawed_lines, frames_above, flaw_in, flawed_entries, missing, name_by, names_in, names_in_order, processor, processor_of, said_of, table_findings, tables_in_order}
-use Rattle.ptdump_engine.specs.InOrder.{placed, in_order}
+use Rattle.ptdump_engine.specs.Findings.{aliases_asked, all_named_often, check_text, entries_in, finding_lines, finds_nothing, flawed_lines, frames_above, flaw_in, flawed_entries, missing, name_by, names_in, names_in_order, processor, processor_of, said_of, table_findings, tables_by_address}
+use Rattle.ptdump_engine.specs.InOrder.{inserted, in_order}
 use Rattle.ptdump_engine.specs.declared.findings.entry.Table.{Table}
 use Rattle.ptdump_engine.specs.declared.findings.finding.EntryFlaw.{EntryFlaw}
 use Rattle.ptdump_engine.specs.declared.findings.finding.EntryFlaw.TheVariants as flaws
@@ -53,9 +53,9 @@ all_flat_map : {X Y : Type 0} (P : X → Type 0) (Q : Y → Type 0) (f : X → L
 all_flat_map P Q f each [] h = tt
 all_flat_map P Q f each (x ∷ xs) h = all_append Q (f x) (flat_map f xs) (each x h.0) (all_flat_map P Q f each xs h.1)
 
-all_placed : {X : Type 0} (P : X → Type 0) (n : X → ℕ) (x : X) (ys : List X) → P x → AllByRecursion P ys → AllByRecursion P (placed n x ys)
+all_placed : {X : Type 0} (P : X → Type 0) (n : X → ℕ) (x : X) (ys : List X) → P x → AllByRecursion P ys → AllByRecursion P (inserted n x ys)
 all_placed P n x [] here h = (here, tt)
-all_placed P n x (y ∷ ys) here h = elim (nat_le (n x) (n y)) as (λ b. AllByRecursion P (cond b (x ∷ y ∷ ys) (y ∷ placed n x ys))) [
+all_placed P n x (y ∷ ys) here h = elim (nat_le (n x) (n y)) as (λ b. AllByRecursion P (cond b (x ∷ y ∷ ys) (y ∷ inserted n x ys))) [
   | true ↦ (here, h)
   | false ↦ (h.0, all_placed P n x ys here h.1)
 ]
@@ -140,11 +140,11 @@ module _ (T W : Words) where
   next_below n frames h = all_met (SameBelow n T W) [] (flat_map (tables_named W) frames) tt
       (all_flat_map (SameBelow (suc n) T W) (SameBelow n T W) (tables_named W) (λ f same. named_below n (unwrap_or (W f) []) (below n f same)) frames h)
 
-  from_same : (n : ℕ) (frames : List ℕ) → AllByRecursion (SameBelow n T W) frames → tables_from n T frames ≡ tables_from n W frames
+  from_same : (n : ℕ) (frames : List ℕ) → AllByRecursion (SameBelow n T W) frames → tables_of_levels n T frames ≡ tables_of_levels n W frames
   from_same zero frames h = refl
   from_same (suc zero) frames h = refl
   from_same (suc (suc n)) frames h =
-      ap (λ fs. frames ∷ tables_from (suc n) T (each_once fs)) (flat_map_same (tables_named T) (tables_named W) frames (all_and (SameBelow (suc (suc n)) T W) (λ f. tables_named T f ≡ tables_named W f) (tables_same n) frames h))
+      ap (λ fs. frames ∷ tables_of_levels (suc n) T (each_once fs)) (flat_map_same (tables_named T) (tables_named W) frames (all_and (SameBelow (suc (suc n)) T W) (λ f. tables_named T f ≡ tables_named W f) (tables_same n) frames h))
       ∙ ap (λ fs. frames ∷ fs) (from_same (suc n) (each_once (flat_map (tables_named W) frames)) (next_below (suc n) frames h))
 
   root_below : (n root : ℕ) → SameBelow n T W root → AllByRecursion (SameBelow n T W) (if_there W root)
@@ -153,7 +153,7 @@ module _ (T W : Words) where
   pub same_tables : (L root : ℕ) → SameBelow L T W root → tables_by_level L T root ≡ tables_by_level L W root
   unfolding tables_by_level
   same_tables zero root same = refl
-  same_tables (suc n) root same = ap reverse (ap (λ o. tables_from (suc n) T (cond (is_some o) (root ∷ []) [])) same.0 ∙ from_same (suc n) (if_there W root) (root_below (suc n) root same))
+  same_tables (suc n) root same = ap reverse (ap (λ o. tables_of_levels (suc n) T (cond (is_some o) (root ∷ []) [])) same.0 ∙ from_same (suc n) (if_there W root) (root_below (suc n) root same))
 
   -- ---- tables in order
 
@@ -166,14 +166,14 @@ module _ (T W : Words) where
   one_above level (first ∷ levels) frames h last =
       let above : level + suc (length levels) ≡ level + 1 + length levels = omega arith in (h.0, one_above (level + 1) levels frames h.1 (subst (λ k. AllByRecursion (SameBelow k T W) frames) above last))
 
-  count_from : (n : ℕ) (frames : List ℕ) → length (tables_from n W frames) ≡ n
+  count_from : (n : ℕ) (frames : List ℕ) → length (tables_of_levels n W frames) ≡ n
   count_from zero frames = refl
   count_from (suc n) frames = ap suc (count_from n (each_once (flat_map (tables_named W) frames)))
 
-  levels_from : (n : ℕ) (frames : List ℕ) → AllByRecursion (SameBelow n T W) frames → LevelsFrom 1 (reverse (tables_from n W frames))
+  levels_from : (n : ℕ) (frames : List ℕ) → AllByRecursion (SameBelow n T W) frames → LevelsFrom 1 (reverse (tables_of_levels n W frames))
   levels_from zero frames h = tt
   levels_from (suc n) frames h =
-      let below = tables_from n W (each_once (flat_map (tables_named W) frames)) in
+      let below = tables_of_levels n W (each_once (flat_map (tables_named W) frames)) in
       let count : length (reverse below) ≡ n = length-reverse below ∙ count_from n _ in
       let top : suc n ≡ 1 + length (reverse below) = omega (arith, count) in
       subst (LevelsFrom 1) (sym (reverse_onto below frames []))
@@ -190,17 +190,17 @@ module _ (T W : Words) where
   of_level level [] some h = tt
   of_level level (f ∷ frames) some h = ((frame_same level f some h.0, h.0), of_level level frames some h.1)
 
-  of_levels : (level : ℕ) (levels : List (List ℕ)) → 0 < level → LevelsFrom level levels → AllByRecursion TableSame (findings.tables_from level levels)
+  of_levels : (level : ℕ) (levels : List (List ℕ)) → 0 < level → LevelsFrom level levels → AllByRecursion TableSame (findings.tables_below level levels)
   of_levels level [] some h = tt
   of_levels level (frames ∷ above) some h = all_append TableSame _ _ (of_level level frames some h.0) (of_levels (level + 1) above (omega arith) h.1)
 
-  each_below : (L root : ℕ) → SameBelow L T W root → AllByRecursion TableSame (findings.tables_from 1 (tables_by_level L W root))
+  each_below : (L root : ℕ) → SameBelow L T W root → AllByRecursion TableSame (findings.tables_below 1 (tables_by_level L W root))
   unfolding tables_by_level
   each_below L root same = of_levels 1 _ (omega arith) (levels_from L (if_there W root) (root_below L root same))
 
-  tables_below : (L root : ℕ) → SameBelow L T W root → AllByRecursion TableSame (tables_in_order (tables_by_level L W root))
-  unfolding tables_in_order
-  tables_below L root same = all_in_order TableSame (λ t. t.frame) (findings.tables_from 1 (tables_by_level L W root)) (each_below L root same)
+  tables_below : (L root : ℕ) → SameBelow L T W root → AllByRecursion TableSame (tables_by_address (tables_by_level L W root))
+  unfolding tables_by_address
+  tables_below L root same = all_in_order TableSame (λ t. t.frame) (findings.tables_below 1 (tables_by_level L W root)) (each_below L root same)
 
   -- ---- names
 
@@ -285,11 +285,11 @@ module _ (T W : Words) where
   same_findings checking L root maps same =
       let processor = processor_of checking in
       let mapped : Words → List Table → List Finding = λ V ts. all_reached L V root ts ++ all_writable L V root checking.direct_map ts in
-      let ts = tables_in_order (tables_by_level L W root) in
+      let ts = tables_by_address (tables_by_level L W root) in
       let all = tables_below L root same in
       let lacks = filter_map_same (missing T) (missing W) (names_in_order W ts)
       (all_and NameSame (λ n. missing T n ≡ missing W n) (λ n is. ap (λ o. cond (is_some o) None (Some (NotInDump n.frame n.by))) is) _ (names_same ts all)) in
-      ap (λ levels. findings.findings_by processor T root (tables_in_order levels) (names_in_order T (tables_in_order levels)) ++ mapped T (tables_in_order levels)) (same_tables L root same)
+      ap (λ levels. findings.findings_by processor T root (tables_by_address levels) (names_in_order T (tables_by_address levels)) ++ mapped T (tables_by_address levels)) (same_tables L root same)
       ∙ ap (λ ns. findings.findings_by processor T root ts ns ++ mapped T ts) (same_names ts all)
       ∙ ap (λ fs. findings.findings_by processor T root ts (names_in_order W ts) ++ fs) (ap₂ (λ fs gs. fs ++ gs) (same_reached L root ts maps) (same_writable L root checking.direct_map ts maps))
       ∙ (λ i. (all_named_often (names_in_order W ts) root ++ lacks i ++ same_entries flaws.HugePage ts all i ++ same_entries (flaws.ReservedBits processor) ts all i) ++ mapped W ts)
@@ -303,9 +303,9 @@ module _ (T W : Words) where
   pub same_reserved : (L root : ℕ) → SameBelow L T W root → reserved_count L T root ≡ reserved_count L W root
   unfolding reserved_count
   same_reserved L root same =
-      let ts = findings.tables_from 1 (tables_by_level L W root) in
+      let ts = findings.tables_below 1 (tables_by_level L W root) in
       let all = each_below L root same in
-      ap (λ levels. min (length (reserved_entries T (findings.tables_from 1 levels))) (2 ^ 64 - 1)) (same_tables L root same)
+      ap (λ levels. min (length (reserved_entries T (findings.tables_below 1 levels))) (2 ^ 64 - 1)) (same_tables L root same)
       ∙ (λ i. min (length (same_entries flaws.HugePage ts all i ++ same_entries (flaws.ReservedBits processor) ts all i)) (2 ^ 64 - 1))
 
   pub same_note : (command : Command) (L root : ℕ) → SameBelow L T W root → reserved_note command L T root ≡ reserved_note command L W root

@@ -8,9 +8,9 @@ use Rattle.x86_64_dump.specs.Dump.{Contents, words_of_dump}
 use Rattle.x86_64_dump.specs.Notes.{processors_of}
 use Rattle.x86_64_model.specs.Memory.{Words}
 use Rattle.ptdump_engine.specs.Processors.{firsts_of, modes_failure, processors_from}
-use Rattle.ptdump_engine.specs.Program.{address_failure, argument_failure, direct_map_failure, first_failure, is_canonical, is_walk, level_count, order_failure, processors_for, root_failure, reversed_failure, selection_failure, start_for, tables_failure}
+use Rattle.ptdump_engine.specs.Program.{address_failure, argument_failure, direct_map_failure, first_failure, is_canonical_address, is_walk, level_count, order_failure, processors_for, root_failure, reversed_failure, selection_failure, start_for, tables_failure}
 use Rattle.ptdump_engine.specs.Start.{start_of}
-use Rattle.ptdump_engine.specs.Steps.{FailsBy, and_then, unless}
+use Rattle.ptdump_engine.specs.Steps.{FailsBy, and_then, unless_failure}
 use Rattle.ptdump_engine.specs.declared.failure.Failure.{Failure}
 use Rattle.ptdump_engine.specs.declared.failure.Failure.TheVariants as failures
 use Rattle.ptdump_engine.specs.declared.processors.Processor.{Processor}
@@ -53,7 +53,7 @@ found_so failure_at none (Some a) = none a
 
 address_so : (levels : Levels) (address : Option ℕ) → IfSome (address_failure levels address) IsOfTest
 address_so levels None = tt
-address_so levels (Some a) = by (is_canonical (level_count levels) a)
+address_so levels (Some a) = by (is_canonical_address (level_count levels) a)
   where
     by : (b : Bool) → IfSome (cond b None (Some (failures.NotCanonical a levels))) IsOfTest
     by true = tt
@@ -84,7 +84,7 @@ direct_map_so levels (Some range) = either (address_failure levels (Some range.f
     (either (address_failure levels (Some range.last)) _ (address_so levels (Some range.last)) (reversed_so range))
 
 argument_so : (levels : Levels) (command : Command) → IfSome (argument_failure levels command) IsOfTest
-argument_so levels (commands.Walk addresses asked) = found_so (λ a. failures.NotCanonical a levels) (λ a. tt) (find (λ a. not (is_canonical (level_count levels) a)) addresses.items)
+argument_so levels (commands.Walk addresses asked) = found_so (λ a. failures.NotCanonical a levels) (λ a. tt) (find (λ a. not (is_canonical_address (level_count levels) a)) addresses.items)
 argument_so levels (commands.Find addresses) = found_so (λ a. failures.NotPhysical a) (λ a. tt) (find (λ a. nat_le (2 ^ 52) a) addresses.items)
 argument_so levels (commands.Regions selection) = selection_so levels selection
 argument_so levels (commands.Pages selection has_names) = selection_so levels selection
@@ -105,11 +105,11 @@ pub refused : (fails : Bool) (request : Request) (dump : Contents) (start : Star
     → argument_failure start.levels request.command ≡ Some failure → FailsBy fails false failure (start_for request dump)
 unfolding start_for
 refused fails request dump start failure starts is =
-    let tested : Start → Result Start Failure = λ start. unless (root_failure request.command (words_of_dump dump) start.root) start in
+    let tested : Start → Result Start Failure = λ start. unless_failure (root_failure request.command (words_of_dump dump) start.root) start in
     let OfTest : Option Failure → Type 0 = λ found. IfSome found IsOfTest in
     fails_so fails failure (start_for request dump) (subst OfTest is (argument_so start.levels request.command))
-    (ap (λ found. and_then found (λ start. and_then (unless (argument_failure start.levels request.command) start) (λ _. tested start))) starts
-    ∙ ap (λ found. and_then (unless found start) (λ _. tested start)) is)
+    (ap (λ found. and_then found (λ start. and_then (unless_failure (argument_failure start.levels request.command) start) (λ _. tested start))) starts
+    ∙ ap (λ found. and_then (unless_failure found start) (λ _. tested start)) is)
 
 first_so : (request : Request) (T : Words) (ps : List Processor) → IfSome (first_failure request T ps) IsOfTest
 first_so request T [] = tt
@@ -121,9 +121,9 @@ fails_with : (request : Request) (dump : Contents) (ps : List Processor) (failur
     → first_failure request (words_of_dump dump) (firsts_of ps) ≡ Some failure → processors_for request dump ≡ Err failure
 unfolding processors_for
 fails_with request dump ps failure are modes first =
-    ap (λ found. and_then found (λ ps. and_then (unless (modes_failure ps) ps) (λ tested. unless (first_failure request (words_of_dump dump) (firsts_of ps)) ps))) are
-    ∙ ap (λ o. and_then (unless o ps) (λ tested. unless (first_failure request (words_of_dump dump) (firsts_of ps)) ps)) modes
-    ∙ ap (λ o. unless o ps) first
+    ap (λ found. and_then found (λ ps. and_then (unless_failure (modes_failure ps) ps) (λ tested. unless_failure (first_failure request (words_of_dump dump) (firsts_of ps)) ps))) are
+    ∙ ap (λ o. and_then (unless_failure o ps) (λ tested. unless_failure (first_failure request (words_of_dump dump) (firsts_of ps)) ps)) modes
+    ∙ ap (λ o. unless_failure o ps) first
 
 -- the tables of a processor can't be reported on
 pub no_tables : (fails : Bool) (request : Request) (dump : Contents) (ps : List Processor) (failure : Failure) → processors_from dump.file request.levels 0 (processors_of dump) ≡ Ok ps → modes_failure ps ≡ None

@@ -3,7 +3,7 @@ use Rattle.std.proofs.Common.{◌≡◌, ◌&&◌, ◌||◌, ℕ, ◌+◌, Bool,
 use Rattle.std.specs.Option.{option_map_or}
 use Rattle.std.specs.Result.{result_map_both}
 use Rattle.x86_64_dump.specs.Dump.{Contents, words_of_dump}
-use Rattle.x86_64_dump.specs.FaultTexts.{fault_text}
+use Rattle.x86_64_dump.specs.FaultTexts.{dump_fault_text}
 use Rattle.x86_64_dump.specs.Notes.{is_note_cut, is_of_virtualbox, notes_of, processors_of, register_of}
 use Rattle.x86_64_dump.specs.Numbers.{u64_at}
 use Rattle.x86_64_dump.specs.VmCoreInfo.{agreed_text, kernel_by, kernel_by_text, kernel_in, kernel_of, text_of}
@@ -19,8 +19,8 @@ use Rattle.x86_64_addr.specs.declared.level_count.Levels.{Levels}
 use Rattle.x86_64_model.specs.Memory.{Words}
 use Rattle.ptdump_engine.specs.FailureTexts.{failure_text}
 use Rattle.ptdump_engine.specs.Program.{argument_failure, is_info, is_walk, root_failure, start_for}
-use Rattle.ptdump_engine.specs.Start.{in_64_bit, kernel_start, levels_of, mode_of, note_needed, note_of, paging_registers, registers_of, start_by, start_of, start_with}
-use Rattle.ptdump_engine.specs.Steps.{FailsBy, IsForced, and_then, of_dump, unless}
+use Rattle.ptdump_engine.specs.Start.{in_64_bit, kernel_start, levels_in_file, mode_of, note_needed, note_of, paging_registers, registers_of, start_by, start_of, start_with}
+use Rattle.ptdump_engine.specs.Steps.{FailsBy, MayBeForced, and_then, of_dump, unless_failure}
 use Rattle.ptdump_engine.specs.declared.failure.Failure.{Failure}
 use Rattle.ptdump_engine.specs.declared.failure.Failure.TheVariants as failures
 use Rattle.ptdump_engine.specs.declared.mode.Mode.{Mode}
@@ -38,7 +38,7 @@ HasText (Err failure) = IsSome (failure_text failure)
 
 abbrev pub FaultHasText : {A : Type 0} → Result A Fault → Type 0
 FaultHasText (Ok a) = Unit {0}
-FaultHasText (Err fault) = IsSome (fault_text fault)
+FaultHasText (Err fault) = IsSome (dump_fault_text fault)
 
 text_then : {A B : Type 0} (found : Result A Failure) (next : A → Result B Failure) → HasText found → ((a : A) → HasText (next a)) → HasText (and_then found next)
 text_then (Ok a) next has more = more a
@@ -124,13 +124,13 @@ unfolding paging_registers
 paging_text file cpu note =
     text_then (of_dump (registers_of file note)) _ (text_of_dump (registers_of file note) (registers_text file note)) (λ r. mode_text cpu r (mode_of r.cr0 r.cr4))
 
-levels_text : (file : List ℕ) (given : Option Levels) (note : Option Note) → HasText (levels_of file given note)
+levels_text : (file : List ℕ) (given : Option Levels) (note : Option Note) → HasText (levels_in_file file given note)
 levels_text file (Some levels) _ = tt
 levels_text file None None = tt
 levels_text file None (Some note) = text_then (of_dump (register_of file note 424)) _ (text_of_dump (register_of file note 424) (register_text file note 424)) (λ cr4. tt)
 
 with_text : (request : Request) (dump : Contents) (given : Option ℕ) (note : Option Note) → HasText (start_with request dump given note)
-with_text request dump (Some cr3) note = text_then (levels_of dump.file request.levels note) _ (levels_text dump.file request.levels note) (λ levels. tt)
+with_text request dump (Some cr3) note = text_then (levels_in_file dump.file request.levels note) _ (levels_text dump.file request.levels note) (λ levels. tt)
 with_text request dump None (Some note) = text_then (paging_registers dump.file (unwrap_or request.cpu 0) note) _ (paging_text dump.file (unwrap_or request.cpu 0) note) (λ r. tt)
 with_text request dump None None = kernel_start_text dump request.levels
 
@@ -150,18 +150,18 @@ no_argument levels (commands.Check checking) is = absurd (true≢false (sym is))
 no_argument levels commands.Image is = absurd (true≢false (sym is))
 no_argument levels commands.Picture is = absurd (true≢false (sym is))
 
-root_text : (command : Command) (T : Words) (root : ℕ) (start : Start) → HasText (unless (root_failure command T root) start)
+root_text : (command : Command) (T : Words) (root : ℕ) (start : Start) → HasText (unless_failure (root_failure command T root) start)
 root_text command T root start = by (is_walk command || is_some (T root))
   where
-    by : (b : Bool) → HasText (unless (cond b None (Some (failures.NoRoot root))) start)
+    by : (b : Bool) → HasText (unless_failure (cond b None (Some (failures.NoRoot root))) start)
     by true = tt
     by false = refl
 
 pub start_has_text : (request : Request) (dump : Contents) → is_info request.command ≡ true → HasText (start_for request dump)
 unfolding start_for
 start_has_text request dump is = text_then (start_of request dump) _ (start_text request dump) (λ start.
-    text_then (unless (argument_failure start.levels request.command) start) _
-    (subst (λ failure. HasText (unless failure start)) (sym (no_argument start.levels request.command is)) tt)
+    text_then (unless_failure (argument_failure start.levels request.command) start) _
+    (subst (λ failure. HasText (unless_failure failure start)) (sym (no_argument start.levels request.command is)) tt)
     (λ tested. root_text request.command (words_of_dump dump) start.root start))
 
 -- ---- what is told
@@ -189,7 +189,7 @@ untold failure found has none is =
     true≢false (sym has_none)
 
 -- if it has none, memory allocation failed, or a read
-pub unshown : (fails may : Bool) (failure : Failure) (found : Result Start Failure) → FailsBy fails false failure found → HasText found → failure_text failure ≡ None → IsForced fails may failure
+pub unshown : (fails may : Bool) (failure : Failure) (found : Result Start Failure) → FailsBy fails false failure found → HasText found → failure_text failure ≡ None → MayBeForced fails may failure
 unshown fails may failures.OutOfMemory found is has none = tt
 unshown fails may failures.Output found is has none = absurd (true≢false (sym is))
 unshown fails may failures.NoCr3 found is has none = absurd (untold failures.NoCr3 found has none is)

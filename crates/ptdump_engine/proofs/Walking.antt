@@ -7,7 +7,7 @@ use Rattle.x86_64_model.specs.Memory.{Words}
 use Rattle.x86_64_model.specs.PageWalk.{read, page_start}
 use Rattle.x86_64_model.specs.Position.{index, span}
 use Rattle.x86_64_tables.specs.Rights.{both}
-use Rattle.ptdump_engine.specs.Walks.{Walk, End, arrives_at, not_present, no_table, huge_page, after, behind, ends, walk_from, walk_rights}
+use Rattle.ptdump_engine.specs.Walks.{Walk, End, arrives_at, not_present, no_table, huge_page, after_word, behind, walk_ends, walk_words_from, walk_rights}
 use Rattle.ptdump_engine.specs.declared.word_read.WordRead.{WordRead}
 
 -- the word at the index for a position in a table of a level
@@ -17,7 +17,7 @@ word_read p level f e = record { level = level; table = f; index = index level p
 -- ---- rights
 
 -- the rights of words below another word
-pub narrowed_first : (r : Rights) (w : WordRead) (walk : Walk) → both r (walk_rights (after w walk)) ≡ both (granted r w.word) (walk_rights walk)
+pub narrowed_first : (r : Rights) (w : WordRead) (walk : Walk) → both r (walk_rights (after_word w walk)) ≡ both (granted r w.word) (walk_rights walk)
 narrowed_first r w walk = let below = walk_rights walk in λ i. record {
   write = sym (and_assoc r.write (writable w.word) below.write) i;
   user = sym (and_assoc r.user (user w.word) below.user) i;
@@ -25,21 +25,21 @@ narrowed_first r w walk = let below = walk_rights walk in λ i. record {
 }
 
 -- a walk without words keeps the rights
-pub rights_kept : (r : Rights) (end : End) → both r (walk_rights (ends end)) ≡ r
+pub rights_kept : (r : Rights) (end : End) → both r (walk_rights (walk_ends end)) ≡ r
 rights_kept r end = λ i. record { write = and-true r.write i; user = and-true r.user i; execute = and-true r.execute i }
 
 -- ---- steps
 
 -- the first word that a walk reads, if the table exists
 pub walk_from-there : (T : Words) (p level f e : ℕ) → 1 ≤ level → read T f (index level p) ≡ Some e
-    → walk_from T p level f ≡ after (word_read p level f e) (behind p level e (walk_from T p (level - 1) (address e)))
-unfolding walk_from
+    → walk_words_from T p level f ≡ after_word (word_read p level f e) (behind p level e (walk_words_from T p (level - 1) (address e)))
+unfolding walk_words_from
 walk_from-there T p zero f e low there = absurd (omega arith)
-walk_from-there T p (suc n) f e low there = rw there (ap (λ m. after (word_read p (suc n) f e) (behind p (suc n) e (walk_from T p m (address e)))) (omega arith))
+walk_from-there T p (suc n) f e low there = rw there (ap (λ m. after_word (word_read p (suc n) f e) (behind p (suc n) e (walk_words_from T p m (address e)))) (omega arith))
 
 -- the walk if the table is missing
-pub walk_from-missing : (T : Words) (p level f : ℕ) → 1 ≤ level → T f ≡ None → walk_from T p level f ≡ ends (no_table f)
-unfolding walk_from
+pub walk_from-missing : (T : Words) (p level f : ℕ) → 1 ≤ level → T f ≡ None → walk_words_from T p level f ≡ walk_ends (no_table f)
+unfolding walk_words_from
 walk_from-missing T p zero f low missing = absurd (omega arith)
 walk_from-missing T p (suc n) f low missing = rw missing refl
 
@@ -56,22 +56,22 @@ is_read T p level f e words i low table at entry = record {
 
 -- ---- after the word
 
-pub behind_absent : (p level e : ℕ) (below : Walk) → present e ≡ false → behind p level e below ≡ ends not_present
+pub behind_absent : (p level e : ℕ) (below : Walk) → present e ≡ false → behind p level e below ≡ walk_ends not_present
 behind_absent p level e below absent =
-    ap (λ b. cond b (cond (maps_page level e) (ends (arrives_at (page_start level e + p % span level) (span level))) (cond (huge e) (ends (huge_page level)) below)) (ends not_present)) absent
+    ap (λ b. cond b (cond (maps_page level e) (walk_ends (arrives_at (page_start level e + p % span level) (span level))) (cond (huge e) (walk_ends (huge_page level)) below)) (walk_ends not_present)) absent
 
-pub behind_page : (p level e : ℕ) (below : Walk) → present e ≡ true → maps_page level e ≡ true → behind p level e below ≡ ends (arrives_at (page_start level e + p % span level) (span level))
+pub behind_page : (p level e : ℕ) (below : Walk) → present e ≡ true → maps_page level e ≡ true → behind p level e below ≡ walk_ends (arrives_at (page_start level e + p % span level) (span level))
 behind_page p level e below there page =
-    ap (λ b. cond b (cond (maps_page level e) (ends (arrives_at (page_start level e + p % span level) (span level))) (cond (huge e) (ends (huge_page level)) below)) (ends not_present)) there
-    ∙ ap (λ b. cond b (ends (arrives_at (page_start level e + p % span level) (span level))) (cond (huge e) (ends (huge_page level)) below)) page
+    ap (λ b. cond b (cond (maps_page level e) (walk_ends (arrives_at (page_start level e + p % span level) (span level))) (cond (huge e) (walk_ends (huge_page level)) below)) (walk_ends not_present)) there
+    ∙ ap (λ b. cond b (walk_ends (arrives_at (page_start level e + p % span level) (span level))) (cond (huge e) (walk_ends (huge_page level)) below)) page
 
-behind_none : (p level e : ℕ) (below : Walk) → present e ≡ true → maps_page level e ≡ false → behind p level e below ≡ cond (huge e) (ends (huge_page level)) below
+behind_none : (p level e : ℕ) (below : Walk) → present e ≡ true → maps_page level e ≡ false → behind p level e below ≡ cond (huge e) (walk_ends (huge_page level)) below
 behind_none p level e below there page =
-    ap (λ b. cond b (cond (maps_page level e) (ends (arrives_at (page_start level e + p % span level) (span level))) (cond (huge e) (ends (huge_page level)) below)) (ends not_present)) there
-    ∙ ap (λ b. cond b (ends (arrives_at (page_start level e + p % span level) (span level))) (cond (huge e) (ends (huge_page level)) below)) page
+    ap (λ b. cond b (cond (maps_page level e) (walk_ends (arrives_at (page_start level e + p % span level) (span level))) (cond (huge e) (walk_ends (huge_page level)) below)) (walk_ends not_present)) there
+    ∙ ap (λ b. cond b (walk_ends (arrives_at (page_start level e + p % span level) (span level))) (cond (huge e) (walk_ends (huge_page level)) below)) page
 
-pub behind_huge : (p level e : ℕ) (below : Walk) → present e ≡ true → maps_page level e ≡ false → huge e ≡ true → behind p level e below ≡ ends (huge_page level)
-behind_huge p level e below there page big = behind_none p level e below there page ∙ ap (λ b. cond b (ends (huge_page level)) below) big
+pub behind_huge : (p level e : ℕ) (below : Walk) → present e ≡ true → maps_page level e ≡ false → huge e ≡ true → behind p level e below ≡ walk_ends (huge_page level)
+behind_huge p level e below there page big = behind_none p level e below there page ∙ ap (λ b. cond b (walk_ends (huge_page level)) below) big
 
 pub behind_table : (p level e : ℕ) (below : Walk) → present e ≡ true → maps_page level e ≡ false → huge e ≡ false → behind p level e below ≡ below
-behind_table p level e below there page big = behind_none p level e below there page ∙ ap (λ b. cond b (ends (huge_page level)) below) big
+behind_table p level e below there page big = behind_none p level e below there page ∙ ap (λ b. cond b (walk_ends (huge_page level)) below) big

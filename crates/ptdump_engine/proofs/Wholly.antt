@@ -21,11 +21,11 @@ use Rattle.ptdump_engine.specs.Failure.{failure_of}
 use Rattle.ptdump_engine.specs.Findings.{check_text, line_count, said_of_count}
 use Rattle.ptdump_engine.specs.Json.{json_line, json_of_access, json_of_asked, json_of_walk}
 use Rattle.ptdump_engine.specs.Lines.{mapping_line, region_line, walk_lines}
-use Rattle.ptdump_engine.specs.Program.{Machine, Opened, ReportsAll, ReportsOf, RunsAs, RunsOnDump, RunsOnProcessors, RunsOnTables, completeness_of, contents_for, dump_for, info_of, machine_for, opened_for, processors_for, report_in, report_of, start_for}
+use Rattle.ptdump_engine.specs.Program.{DumpedMachine, Opened, ReportsAll, ReportsOf, RunsAs, RunsOnDump, RunsOnProcessors, RunsOnTables, completeness_of, contents_for, dump_for, info_of, machine_for, opened_for, processors_for, report_in, report_of, start_for}
 use Rattle.ptdump_engine.specs.Reports.{address_line, addresses_text, are_several, find_text, heading_line, none_line, pages_text, regions_text, walks_text}
 use Rattle.ptdump_engine.specs.Said.{line_of}
 use Rattle.x86_64_mappings.specs.Selections.{is_mapping_selected, is_selected}
-use Rattle.ptdump_engine.specs.Steps.{FailsBy, IsForced, and_then, of_dump}
+use Rattle.ptdump_engine.specs.Steps.{FailsBy, MayBeForced, and_then, of_dump}
 use Rattle.ptdump_engine.specs.Walks.{walk_text}
 use Rattle.ptdump_engine.specs.declared.failure.Failure.{Failure}
 use Rattle.ptdump_engine.specs.declared.output.Output.{Output}
@@ -184,32 +184,32 @@ pub no_processors : (fails may : Bool) (request : Request) (file : List ℕ) (du
     → FailsBy fails false failure (processors_for request dump) → FailsBy fails may failure (machine_for request file)
 unfolding machine_for
 no_processors fails may request file dump failure contents is =
-    subst (λ found. FailsBy {A = Machine} fails may failure (and_then (of_dump found) (λ dump. and_then (processors_for request dump) (λ ps. Ok (record { dump = dump; processors = ps }))))) (sym contents)
+    subst (λ found. FailsBy {A = DumpedMachine} fails may failure (and_then (of_dump found) (λ dump. and_then (processors_for request dump) (λ ps. Ok (record { dump = dump; processors = ps }))))) (sym contents)
     (fails_then fails may failure (processors_for request dump) (λ ps. Ok (record { dump = dump; processors = ps })) is)
 
 -- a run that opened what was asked for reports on it, or fails because of memory, a read or a write
 pub runs_by : (fails may : Bool) (request : Request) (file : List ℕ) (before after : Option (List ℕ)) (o : Opened) (result : Result Outcome Failure) → opened_for request file ≡ Ok o
-    → IfOk result (λ outcome. ReportsOf request before after outcome o) → IfErr result (IsForced fails may) → RunsOnTables fails may request file before after result
+    → IfOk result (λ outcome. ReportsOf request before after outcome o) → IfErr result (MayBeForced fails may) → RunsOnTables fails may request file before after result
 runs_by fails may request file before after o (Ok outcome) opened reports forced = (o, opened, reports)
 runs_by fails may request file before after o (Err failure) opened reports forced = (forced_fails fails may failure (opened_for request file) forced, inl forced)
 
 -- likewise for the processors of a dump
-pub runs_on_all : (fails may : Bool) (request : Request) (file : List ℕ) (before after : Option (List ℕ)) (m : Machine) (result : Result Outcome Failure) → machine_for request file ≡ Ok m
-    → IfOk result (ReportsAll request (words_of_dump m.dump) m.processors before after) → IfErr result (IsForced fails may) → RunsOnProcessors fails may request file before after result
+pub runs_on_all : (fails may : Bool) (request : Request) (file : List ℕ) (before after : Option (List ℕ)) (m : DumpedMachine) (result : Result Outcome Failure) → machine_for request file ≡ Ok m
+    → IfOk result (ReportsAll request (words_of_dump m.dump) m.processors before after) → IfErr result (MayBeForced fails may) → RunsOnProcessors fails may request file before after result
 runs_on_all fails may request file before after m (Ok outcome) shown reports forced = (m, shown, reports)
 runs_on_all fails may request file before after m (Err failure) shown reports forced = (forced_fails fails may failure (machine_for request file) forced, inl forced)
 
 -- likewise if what was asked for is about the dump alone
 pub tells_of : (fails a b : Bool) (request : Request) (file : List ℕ) (before after : Option (List ℕ)) (dump : Contents) (result : Result Outcome Failure)
     → dump_for request file ≡ Ok dump → OnOk result (Appends before after (info_of request dump)) → IfOk result (λ outcome. outcome.is_complete ≡ true)
-    → IfErr result (IsForced fails a) → RunsOnDump fails (a || b) request file before after result
+    → IfErr result (MayBeForced fails a) → RunsOnDump fails (a || b) request file before after result
 tells_of fails a b request file before after dump (Ok outcome) opened written complete forced = (dump, opened, written, complete)
 tells_of fails a b request file before after dump (Err failure) opened written complete forced =
     let either = forced_first fails a b failure forced in
     (forced_fails fails (a || b) failure (dump_for request file) either, inl either)
 
 -- a run fails because of memory, a read or a write, whatever was asked for
-pub forced_run : (info all fails may : Bool) (request : Request) (file : List ℕ) (before after : Option (List ℕ)) (failure : Failure) → IsForced fails may failure
+pub forced_run : (info all fails may : Bool) (request : Request) (file : List ℕ) (before after : Option (List ℕ)) (failure : Failure) → MayBeForced fails may failure
     → RunsAs info all fails may request file before after (Err failure)
 forced_run true all fails may request file before after failure forced = (forced_fails fails may failure (dump_for request file) forced, inl forced)
 forced_run false true fails may request file before after failure forced = (forced_fails fails may failure (machine_for request file) forced, inl forced)

@@ -79,12 +79,12 @@ unfoldable pub other_text : Controls → List ℕ
 other_text c = control_text c.no_execute (codes "nxe") ++ control_text c.ac (codes "ac")
 
 -- The front of the text of controls: where they come from.
-unfoldable pub source_text : ControlsSource → List ℕ
-source_text source = codes " (" ++ source_name source ++ codes ":"
+unfoldable pub controls_source_text : ControlsSource → List ℕ
+controls_source_text source = codes " (" ++ source_name source ++ codes ":"
 
 -- The text of controls: where they come from, those that a processor's note may have, and the others.
 unfoldable pub controls_text : Controls → ControlsSource → List ℕ
-controls_text c source = source_text source ++ notable_text c ++ between_text source ++ other_text c ++ codes ")"
+controls_text c source = controls_source_text source ++ notable_text c ++ between_text source ++ other_text c ++ codes ")"
 
 -- The text of an access: its name, what the processor does with it, and the controls that decide it.
 abbrev pub access_text : Access → Controls → ControlsSource → Outcome → List ℕ
@@ -98,6 +98,6 @@ asked_text c source None L T root p = []
 asked_text c source (Some a) L T root p = line (access_text a c source (outcome_in L T root p c a))
 
 -- Whether the access at position p that is requested arrives, or the page walk if none is.
-abbrev pub is_there : Controls → Option Access → (L : ℕ) → Words → (root p : ℕ) → Bool
-is_there c None L T root p = is_some (page_walk L T root p)
-is_there c (Some a) L T root p = is_arrived (outcome_in L T root p c a)
+abbrev pub is_access_there : Controls → Option Access → (L : ℕ) → Words → (root p : ℕ) → Bool
+is_access_there c None L T root p = is_some (page_walk L T root p)
+is_access_there c (Some a) L T root p = is_arrived (outcome_in L T root p c a)

@@ -9,5 +9,5 @@ is_left_out entry = used entry.word && nat_lt 1 entry.level && not (present entr
 
 -- Whether an entry names a table: it is above level one, has PRESENT and maps no page. Above level three no entry maps a page,
 -- even with HUGE_PAGE.
-abbrev pub names_table : Entry → Bool
-names_table entry = present entry.word && nat_lt 1 entry.level && (nat_lt 3 entry.level || not (huge entry.word))
+abbrev pub entry_names_table : Entry → Bool
+entry_names_table entry = present entry.word && nat_lt 1 entry.level && (nat_lt 3 entry.level || not (huge entry.word))

@@ -3,12 +3,12 @@ use Rattle.std.specs.Prelude.{ℕ, ◌++◌, Bool, not, if◌then◌else◌, Lis
 use Rattle.std.specs.List.{flat_map}
 use Rattle.x86_64_mappings.specs.Texts.{size_text}
 use Rattle.x86_64_model.specs.Entry.{writable, user, no_execute}
-use Rattle.ptdump_engine.specs.Walks.{End, Walk, arrives_at, line, place_text}
+use Rattle.ptdump_engine.specs.Walks.{End, Walk, arrives_at, line, word_place_text}
 use Rattle.ptdump_engine.specs.declared.word_read.WordRead.{WordRead}
 
 -- The line that a word lacks the right with this name, or nothing if it has the right.
 abbrev pub loss_text : WordRead → (has_right : Bool) → (right : List ℕ) → List ℕ
-loss_text w has_right right = if has_right then [] else line (place_text w ++ codes " has no " ++ right)
+loss_text w has_right right = if has_right then [] else line (word_place_text w ++ codes " has no " ++ right)
 
 -- A line for each right that a word takes away.
 unfoldable pub losses_text : WordRead → List ℕ

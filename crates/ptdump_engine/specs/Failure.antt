@@ -7,25 +7,25 @@ use Rattle.ptdump_engine.specs.declared.failure.Failure.{Failure}
 use Rattle.ptdump_engine.specs.declared.failure.Failure.TheVariants as failures
 
 -- The exit status of a run that fails: 2 for the request, 3 for the file, 4 for memory allocation, and 5 for a failed write.
-abbrev pub status_of : Failure → ℕ
-status_of failures.NoCr3 = 2
-status_of failures.VirtualBox = 2
-status_of (failures.NoProcessor cpu count) = 2
-status_of failures.NoProcessors = 2
-status_of (failures.WrongMode cpu mode) = 2
-status_of (failures.NotCanonical address levels) = 2
-status_of (failures.NotPhysical address) = 2
-status_of (failures.Dump PlacementGiven) = 2
-status_of (failures.Dump (RangeEmpty offset address)) = 2
-status_of (failures.Dump (RangeOutside offset size length)) = 2
-status_of (failures.Dump (RangeTooHigh address size)) = 2
-status_of (failures.FromAboveTo from to) = 2
-status_of (failures.DirectMapReversed first last) = 2
-status_of (failures.Dump fault) = 3
-status_of (failures.NoRoot root) = 3
-status_of (failures.Read error) = 3
-status_of failures.OutOfMemory = 4
-status_of failures.Output = 5
+abbrev pub failure_status : Failure → ℕ
+failure_status failures.NoCr3 = 2
+failure_status failures.VirtualBox = 2
+failure_status (failures.NoProcessor cpu count) = 2
+failure_status failures.NoProcessors = 2
+failure_status (failures.WrongMode cpu mode) = 2
+failure_status (failures.NotCanonical address levels) = 2
+failure_status (failures.NotPhysical address) = 2
+failure_status (failures.Dump PlacementGiven) = 2
+failure_status (failures.Dump (RangeEmpty offset address)) = 2
+failure_status (failures.Dump (RangeOutside offset size length)) = 2
+failure_status (failures.Dump (RangeTooHigh address size)) = 2
+failure_status (failures.FromAboveTo from to) = 2
+failure_status (failures.DirectMapReversed first last) = 2
+failure_status (failures.Dump fault) = 3
+failure_status (failures.NoRoot root) = 3
+failure_status (failures.Read error) = 3
+failure_status failures.OutOfMemory = 4
+failure_status failures.Output = 5
 
 -- The failure of a run for an error that occurred while the dump was read.
 abbrev pub failure_of : DumpError → Failure

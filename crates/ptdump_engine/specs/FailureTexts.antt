@@ -1,6 +1,6 @@
 -- Texts: why no root is found.
 use Rattle.std.specs.Prelude.{ℕ, ◌++◌, List, Option, None, Some, codes, decimal}
-use Rattle.x86_64_dump.specs.FaultTexts.{fault_text}
+use Rattle.x86_64_dump.specs.FaultTexts.{dump_fault_text}
 use Rattle.x86_64_mappings.specs.Numbers.{hexadecimal}
 use Rattle.ptdump_engine.specs.declared.failure.Failure.{Failure}
 use Rattle.ptdump_engine.specs.declared.failure.Failure.TheVariants.{NoCr3, VirtualBox, NoProcessor, NoProcessors, WrongMode, NoRoot, Dump}
@@ -32,5 +32,5 @@ failure_text NoProcessors = Some (codes "no notes of processors in the file, whi
 failure_text (WrongMode cpu mode) = Some (wrong_mode_text cpu mode)
 failure_text (NoRoot root) = Some (codes "the root's table " ++ hexadecimal root
     ++ codes " is not in the dump: give another --cr3, or --base or --range for a raw file")
-failure_text (Dump fault) = fault_text fault
+failure_text (Dump fault) = dump_fault_text fault
 failure_text failure = None

@@ -3,7 +3,7 @@ use Rattle.std.specs.Prelude.{ℕ, List, codes}
 use Rattle.serde_json.specs.Data.{Data, boolean, string, object, put, member, no_members}
 use Rattle.x86_64_model.specs.Regions.{Region}
 use Rattle.ptdump_engine.specs.FindingTexts.{flaw_text}
-use Rattle.ptdump_engine.specs.Json.{count, hexadecimal_string, region_members}
+use Rattle.ptdump_engine.specs.Json.{json_count, hexadecimal_string, region_members}
 use Rattle.ptdump_engine.specs.declared.findings.entry.Slot.{Slot}
 use Rattle.ptdump_engine.specs.declared.findings.finding.Finding.{Finding}
 use Rattle.ptdump_engine.specs.declared.findings.finding.Finding.TheVariants.{NamedOften, NotInDump, HugePage, ReservedBits, WritableForUser, MappedForUser, WritableOutside}
@@ -17,7 +17,7 @@ json_of_flawed L flaw r = object (put (codes "finding") (string (flaw_text flaw)
 -- The object of a slot: the frame of its table, and its index there.
 abbrev pub json_of_slot : Slot → Data
 json_of_slot slot = object (
-    member (codes "index") (count slot.index)
+    member (codes "index") (json_count slot.index)
     (member (codes "table") (hexadecimal_string slot.table) no_members))
 
 -- The object of a finding with this name: the table in a frame is mapped at a virtual address.
@@ -32,20 +32,20 @@ abbrev pub json_of_finding : Finding → Data
 json_of_finding (NamedOften frame times) = object (
     member (codes "finding") (string (codes "table named often"))
     (member (codes "table") (hexadecimal_string frame)
-    (member (codes "times") (count times) no_members)))
+    (member (codes "times") (json_count times) no_members)))
 json_of_finding (NotInDump frame by) = object (
     member (codes "finding") (string (codes "table not in the dump"))
     (member (codes "named_by") (json_of_slot by)
     (member (codes "table") (hexadecimal_string frame) no_members)))
 json_of_finding (HugePage slot level) = object (
     member (codes "finding") (string (codes "HUGE_PAGE above level three"))
-    (member (codes "index") (count slot.index)
-    (member (codes "level") (count level)
+    (member (codes "index") (json_count slot.index)
+    (member (codes "level") (json_count level)
     (member (codes "table") (hexadecimal_string slot.table) no_members))))
 json_of_finding (ReservedBits entry) = object (
     member (codes "finding") (string (codes "reserved bits"))
-    (member (codes "index") (count entry.slot.index)
-    (member (codes "level") (count entry.level)
+    (member (codes "index") (json_count entry.slot.index)
+    (member (codes "level") (json_count entry.level)
     (member (codes "table") (hexadecimal_string entry.slot.table)
     (member (codes "word") (hexadecimal_string entry.word) no_members)))))
 json_of_finding (WritableForUser frame at) = json_of_mapped (codes "table mapped writable for user") frame at
@@ -54,7 +54,7 @@ json_of_finding (WritableOutside frame at) = json_of_mapped (codes "table mapped
 
 -- The object of the number of findings.
 abbrev pub json_of_count : (findings : ℕ) → Data
-json_of_count findings = object (member (codes "findings") (count findings) no_members)
+json_of_count findings = object (member (codes "findings") (json_count findings) no_members)
 
 -- The object of a frame that is mapped with different rights: both virtual addresses, and the rights at each.
 abbrev pub json_of_aliased : Aliased → Data

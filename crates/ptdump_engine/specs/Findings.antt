@@ -52,22 +52,22 @@ flawed_lines L flaw rs = map (said_of_flawed L flaw) (filter (has_flaw L flaw) r
 
 -- The tables in these frames, which are lists of frames by level. The first list is of this level, and each next one of the level
 -- above.
-abbrev pub tables_from : (level : ℕ) → List (List ℕ) → List Table
-tables_from level [] = []
-tables_from level (frames ∷ above) = map (λ f. record { frame = f; level = level }) frames ++ tables_from (level + 1) above
+abbrev pub tables_below : (level : ℕ) → List (List ℕ) → List Table
+tables_below level [] = []
+tables_below level (frames ∷ above) = map (λ f. record { frame = f; level = level }) frames ++ tables_below (level + 1) above
 
 -- The tables in these frames, by address, where the first list of frames is of level one. A frame that has tables of several
 -- levels comes once for each of them, the lowest first.
-unfoldable pub tables_in_order : List (List ℕ) → List Table
-tables_in_order levels = in_order (λ t. t.frame) (tables_from 1 levels)
+unfoldable pub tables_by_address : List (List ℕ) → List Table
+tables_by_address levels = in_order (λ t. t.frame) (tables_below 1 levels)
 
 -- The entry at an index of a table, or None if T doesn't have the table.
-abbrev pub entry_at : Words → Table → (index : ℕ) → Option Entry
-entry_at T t i = option_map (λ e. record { slot = record { table = t.frame; index = i }; level = t.level; word = e }) (read T t.frame i)
+abbrev pub entry_in_table : Words → Table → (index : ℕ) → Option Entry
+entry_in_table T t i = option_map (λ e. record { slot = record { table = t.frame; index = i }; level = t.level; word = e }) (read T t.frame i)
 
 -- The entries of a table, in the order of their indices.
 unfoldable pub entries_in : Words → Table → List Entry
-entries_in T t = filter_map (entry_at T t) indices
+entries_in T t = filter_map (entry_in_table T t) indices
 
 -- ---- tables that are named
 
@@ -151,7 +151,7 @@ findings_by processor T root tables names = all_named_often names root ++ filter
 -- The findings of a check in the tables that a root leads to, with L levels of tables. Those of tables to which mappings lead
 -- come last.
 unfoldable pub table_findings : Checking → (L : ℕ) → Words → (root : ℕ) → List Finding
-table_findings checking L T root = let tables = tables_in_order (tables_by_level L T root) in
+table_findings checking L T root = let tables = tables_by_address (tables_by_level L T root) in
     findings_by (processor_of checking) T root tables (names_in_order T tables)
     ++ (all_reached L T root tables ++ all_writable L T root checking.direct_map tables)
 

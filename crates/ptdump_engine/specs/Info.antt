@@ -3,7 +3,7 @@
 use Rattle.std.specs.Prelude.{ℕ, ◌++◌, ◌==◌, ◌&&◌, not, if◌then◌else◌, List, [], Option, None, Some, Result, Ok, Err, unwrap_or}
 use Rattle.std.specs.List.{enumerate_from, flat_map}
 use Rattle.x86_64_dump.specs.Dump.{Contents}
-use Rattle.x86_64_dump.specs.FaultTexts.{fault_text}
+use Rattle.x86_64_dump.specs.FaultTexts.{dump_fault_text}
 use Rattle.x86_64_dump.specs.Notes.{processors_of}
 use Rattle.x86_64_dump.specs.Segments.{has_address}
 use Rattle.x86_64_dump.specs.VmCoreInfo.{kernel_in}
@@ -66,7 +66,7 @@ no_kernel_line form error = line_in form (no_kernel_text error) (json_of_no_kern
 abbrev pub kernel_line : Form → Result (Option Kernel) Fault → List ℕ
 kernel_line form (Ok None) = []
 kernel_line form (Ok (Some kernel)) = line_in form (kernel_text kernel) (json_of_kernel kernel)
-kernel_line form (Err fault) = no_kernel_line form (unwrap_or (fault_text fault) [])
+kernel_line form (Err fault) = no_kernel_line form (unwrap_or (dump_fault_text fault) [])
 
 -- The line that other commands find no root, and why.
 abbrev pub no_root_line : Form → (error : List ℕ) → List ℕ

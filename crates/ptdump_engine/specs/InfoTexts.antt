@@ -8,7 +8,7 @@ use Rattle.x86_64_dump.specs.declared.kernel_text.KernelText.{KernelText}
 use Rattle.x86_64_dump.specs.declared.vmcoreinfo.Kernel.{Kernel}
 use Rattle.x86_64_mappings.specs.Numbers.{hexadecimal}
 use Rattle.x86_64_mappings.specs.Texts.{size_text}
-use Rattle.ptdump_engine.specs.Start.{levels_by, mode_of}
+use Rattle.ptdump_engine.specs.Start.{levels_by_cr4, mode_of}
 use Rattle.ptdump_engine.specs.declared.mode.Mode.{Mode}
 use Rattle.ptdump_engine.specs.declared.mode.Mode.TheVariants.{NoPaging, Paging32, Paging64}
 use Rattle.ptdump_engine.specs.declared.registers.Registers.{Registers}
@@ -60,7 +60,7 @@ mode_name Paging64 = codes "64-bit paging"
 abbrev pub paging_text : (cr4 : ℕ) → Mode → List ℕ
 paging_text cr4 NoPaging = mode_name NoPaging
 paging_text cr4 Paging32 = mode_name Paging32
-paging_text cr4 Paging64 = mode_name Paging64 ++ codes ", " ++ levels_text (levels_by cr4)
+paging_text cr4 Paging64 = mode_name Paging64 ++ codes ", " ++ levels_text (levels_by_cr4 cr4)
 
 -- The text of a processor's control registers, and of its mode of paging.
 unfoldable pub registers_text : Registers → List ℕ
@@ -78,8 +78,8 @@ processor_text cpu None = codes "processor " ++ decimal cpu ++ codes ": " ++ cut
 -- ---- roots
 
 -- The text "ROOT, LEVELS" of a root and its number of levels.
-unfoldable pub place_text : (root : ℕ) → Levels → List ℕ
-place_text root levels = hexadecimal root ++ codes ", " ++ levels_text levels
+unfoldable pub root_place_text : (root : ℕ) → Levels → List ℕ
+root_place_text root levels = hexadecimal root ++ codes ", " ++ levels_text levels
 
 -- The text of the bits by which the kernel marks encrypted memory, or nothing if there are no such bits.
 abbrev pub mask_text : (mask : ℕ) → List ℕ
@@ -87,7 +87,7 @@ mask_text mask = if mask == 0 then [] else codes ", encryption mask " ++ hexadec
 
 -- The text of the kernel that VMCOREINFO describes: its root, its levels, and its encryption mask.
 abbrev pub kernel_text : Kernel → List ℕ
-kernel_text kernel = codes "kernel (VMCOREINFO): root " ++ place_text kernel.root kernel.levels ++ mask_text kernel.encryption_mask
+kernel_text kernel = codes "kernel (VMCOREINFO): root " ++ root_place_text kernel.root kernel.levels ++ mask_text kernel.encryption_mask
 
 -- The text of the offset in the file at which a text of VMCOREINFO begins.
 unfoldable pub text_place : (offset : ℕ) → List ℕ
@@ -95,7 +95,7 @@ text_place offset = codes "VMCOREINFO at byte " ++ (decimal offset ++ codes " of
 
 -- The text of where a text of VMCOREINFO begins, and of the kernel that it describes.
 unfoldable pub text_told : KernelText → List ℕ
-text_told text = text_place text.offset ++ place_text text.kernel.root text.kernel.levels ++ mask_text text.kernel.encryption_mask
+text_told text = text_place text.offset ++ root_place_text text.kernel.root text.kernel.levels ++ mask_text text.kernel.encryption_mask
 
 -- The text of the reason why VMCOREINFO describes no kernel.
 abbrev pub no_kernel_text : (error : List ℕ) → List ℕ
@@ -110,7 +110,7 @@ origin_text cpu (ByText offset) = codes "of the kernel, as the text at byte " ++
 
 -- The text of the root that other commands take if processor `cpu` is requested.
 abbrev pub root_text : (cpu : ℕ) → Start → List ℕ
-root_text cpu start = codes "root: " ++ place_text start.root start.levels ++ codes ", " ++ origin_text cpu start.origin
+root_text cpu start = codes "root: " ++ root_place_text start.root start.levels ++ codes ", " ++ origin_text cpu start.origin
 
 -- The text of the reason why other commands find no root.
 abbrev pub no_root_text : (error : List ℕ) → List ℕ

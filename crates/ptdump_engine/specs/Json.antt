@@ -28,8 +28,8 @@ abbrev pub hexadecimal_string : ℕ → Data
 hexadecimal_string n = string (hexadecimal n)
 
 -- The JSON number of a count, an index or a size, in decimal digits.
-abbrev pub count : ℕ → Data
-count n = number (unsigned n)
+abbrev pub json_count : ℕ → Data
+json_count n = number (unsigned n)
 
 -- ---- lists
 
@@ -37,7 +37,7 @@ count n = number (unsigned n)
 -- rights.
 abbrev pub region_members : (L : ℕ) → Region → Members
 region_members L r =
-    member (codes "bytes") (count (r.last + 1 - r.first))
+    member (codes "bytes") (json_count (r.last + 1 - r.first))
     (member (codes "execute") (boolean r.rights.execute)
     (member (codes "first") (hexadecimal_string (raw L r.first))
     (member (codes "last") (hexadecimal_string (raw L r.last))
@@ -52,7 +52,7 @@ json_of_region L area r = object (with_area area (region_members L r))
 -- it start, and its rights.
 abbrev pub mapping_members : (L : ℕ) → Mapping → Members
 mapping_members L m =
-    member (codes "bytes") (count m.size)
+    member (codes "bytes") (json_count m.size)
     (member (codes "execute") (boolean m.rights.execute)
     (member (codes "flags") (hexadecimal_string m.flags)
     (member (codes "frame") (hexadecimal_string m.frame)
@@ -78,8 +78,8 @@ json_of_found physical address rights = object (
 -- The JSON object of a word that a walk reads: its level, the address of its table, its index there, and the word itself.
 abbrev pub json_of_word : WordRead → Data
 json_of_word w = object (
-    member (codes "index") (count w.index)
-    (member (codes "level") (count w.level)
+    member (codes "index") (json_count w.index)
+    (member (codes "level") (json_count w.level)
     (member (codes "table") (hexadecimal_string w.table)
     (member (codes "word") (hexadecimal_string w.word) no_members))))
 
@@ -102,7 +102,7 @@ end_members words rights (no_table frame) =
     (member (codes "words") words no_members))
 end_members words rights (huge_page level) =
     member (codes "end") (string (codes "huge page"))
-    (member (codes "level") (count level)
+    (member (codes "level") (json_count level)
     (member (codes "words") words no_members))
 
 -- The JSON object of the controls that decide an access: whether each is on, and where they come from.
@@ -126,7 +126,7 @@ json_of_access a c source (Faults code level) = object (
     member (codes "code") (hexadecimal_string code)
     (member (codes "controls") (json_of_controls c source)
     (member (codes "end") (string (codes "fault"))
-    (member (codes "level") (count level)
+    (member (codes "level") (json_count level)
     (member (codes "name") (string (access_name a)) no_members)))))
 json_of_access a c source (NoMemory frame) = object (
     member (codes "controls") (json_of_controls c source)

@@ -2,7 +2,7 @@
 use Rattle.std.specs.Prelude.{ℕ, ◌+◌, ◌-◌, ◌%◌, ◌++◌, codes, Bool, true, false, if◌then◌else◌, List, [], Option, None, Some}
 use Rattle.std.specs.Option.{option_and_then}
 use Rattle.serde_json.specs.Data.{Members, member, string}
-use Rattle.linux_areas.specs.Areas.{area_at, area_name, layout_of}
+use Rattle.linux_areas.specs.Areas.{area_at, area_name, area_layout}
 use Rattle.linux_areas.specs.declared.area.Area.{Area}
 use Rattle.linux_areas.specs.declared.layout.Layout.{Layout}
 use Rattle.x86_64_dump.specs.Dump.{Contents}
@@ -31,7 +31,7 @@ is_by_kernel origin = false
 
 -- Lines name areas by the layout that a dump's VMCOREINFO describes, with the levels of the start of page walks.
 abbrev pub noted_layout : Contents → Start → AreaNames
-noted_layout dump start = By (layout_of (vmcoreinfo_of dump) start.levels)
+noted_layout dump start = By (area_layout (vmcoreinfo_of dump) start.levels)
 
 -- Which lines name areas in a dump, for a start of page walks. If that is asked for in any case, or by default if VMCOREINFO says
 -- where the root is, they do so by the layout that VMCOREINFO describes. A layout that is given stays.
@@ -47,12 +47,12 @@ abbrev pub area_of_region : Option Layout → (L : ℕ) → Region → Option Ar
 area_of_region layout L r = option_and_then (λ l. area_at l (raw L r.first) (raw L r.last)) layout
 
 -- The last position of a mapping, taken modulo the size of the address space of L levels of tables.
-abbrev pub last_of : (L : ℕ) → Mapping → ℕ
-last_of L m = (m.start + (m.size - 1)) % position_count L
+abbrev pub last_address : (L : ℕ) → Mapping → ℕ
+last_address L m = (m.start + (m.size - 1)) % position_count L
 
 -- The area of Linux's address space in which a mapping lies, with L levels of tables, or None if that isn't known.
 abbrev pub area_of_mapping : Option Layout → (L : ℕ) → Mapping → Option Area
-area_of_mapping layout L m = option_and_then (λ l. area_at l (raw L m.start) (raw L (last_of L m))) layout
+area_of_mapping layout L m = option_and_then (λ l. area_at l (raw L m.start) (raw L (last_address L m))) layout
 
 -- The last column of a line, behind two spaces: the name of an area if it is known, or else nothing.
 abbrev pub area_text : Option Area → List ℕ

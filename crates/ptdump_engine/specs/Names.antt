@@ -28,8 +28,8 @@ abbrev pub set_text : (word : ℕ) → List Flag → List ℕ
 set_text word flags = join_by (λ f. f.name) (codes ",") (filter (λ f. not (bit_and word f.bit == 0)) flags)
 
 -- The text of a word's protection key, bits 59 to 62, or nothing if the key is 0.
-abbrev pub key_text : (word : ℕ) → List ℕ
-key_text word = let key = word / 2 ^ 59 % 16 in if key == 0 then [] else codes ",KEY=" ++ decimal key
+abbrev pub protection_key_text : (word : ℕ) → List ℕ
+protection_key_text word = let key = word / 2 ^ 59 % 16 in if key == 0 then [] else codes ",KEY=" ++ decimal key
 
 -- The text of the bits 9 to 11 and 52 to 58 of a word, which are software's, or nothing if none is set.
 abbrev pub software_text : (word : ℕ) → List ℕ
@@ -37,7 +37,7 @@ software_text word = let bits = bit_and word 0x07f0_0000_0000_0e00 in if bits ==
 
 -- The names of what is set in the word of a page of `size` bytes. The first is P, since a page is present.
 unfoldable pub names_text : (size word : ℕ) → List ℕ
-names_text size word = set_text word (flags_of (not (size == 0x1000))) ++ key_text word ++ software_text word
+names_text size word = set_text word (flags_of (not (size == 0x1000))) ++ protection_key_text word ++ software_text word
 
 -- The line of a mapping with the names of its flags, without its line feed.
 abbrev pub named_text : (L : ℕ) → Mapping → List ℕ

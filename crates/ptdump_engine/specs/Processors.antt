@@ -8,7 +8,7 @@ use Rattle.x86_64_addr.specs.declared.level_count.Levels.TheVariants.{Four, Five
 use Rattle.x86_64_dump.specs.declared.note.Note.{Note}
 use Rattle.x86_64_mappings.specs.Numbers.{hexadecimal}
 use Rattle.ptdump_engine.specs.FailureTexts.{mode_told}
-use Rattle.ptdump_engine.specs.Json.{count, hexadecimal_string, json_line}
+use Rattle.ptdump_engine.specs.Json.{json_count, hexadecimal_string, json_line}
 use Rattle.ptdump_engine.specs.Start.{mode_of, registers_of, start_by_processor}
 use Rattle.ptdump_engine.specs.Steps.{and_then, of_dump}
 use Rattle.ptdump_engine.specs.Walks.{line}
@@ -58,14 +58,14 @@ modes_failure ps = if list_any has_tables ps then None else Some (mode_failure (
 -- ---- those with the same tables
 
 -- Whether two numbers of levels are equal.
-abbrev pub same_levels : Levels → Levels → Bool
-same_levels Four Four = true
-same_levels Five Five = true
-same_levels a b = false
+abbrev pub are_same_levels : Levels → Levels → Bool
+are_same_levels Four Four = true
+are_same_levels Five Five = true
+are_same_levels a b = false
 
 -- Whether the processor `other` has tables, with the root and the number of levels of `one`.
 abbrev pub shares : (one other : Processor) → Bool
-shares p q = has_tables q && p.start.root == q.start.root && same_levels p.start.levels q.start.levels
+shares p q = has_tables q && p.start.root == q.start.root && are_same_levels p.start.levels q.start.levels
 
 -- Whether one of the processors has a lower number and the same tables as this one.
 abbrev pub is_later : List Processor → Processor → Bool
@@ -100,7 +100,7 @@ left_out_text ps = flat_map left_out_line ps
 -- The JSON object of a root: the numbers of the processors that have it, and its address.
 abbrev pub json_of_group : (cpus : List ℕ) → (root : ℕ) → Data
 json_of_group cpus root = object (
-    member (codes "cpus") (array (items_of (map count cpus)))
+    member (codes "cpus") (array (items_of (map json_count cpus)))
     (member (codes "root") (hexadecimal_string root) no_members))
 
 -- The line above the report on a root, in a form: the numbers of the processors that have it, and its address.

@@ -25,14 +25,14 @@ use Rattle.ptdump_engine.specs.Info.{info_in}
 use Rattle.ptdump_engine.specs.InfoTexts.{text_told}
 pub use Rattle.ptdump_engine.specs.MemoryRanges.{last_address}
 use Rattle.ptdump_engine.specs.NamedAreas.{layout_in}
-use Rattle.ptdump_engine.specs.NotedLevels.{levels_text}
+use Rattle.ptdump_engine.specs.NotedLevels.{noted_levels_text}
 use Rattle.ptdump_engine.specs.Processors.{cpus_with, firsts_of, heading_text, left_out_text, modes_failure, processors_from}
 use Rattle.ptdump_engine.specs.Reports.{regions_text, pages_text, walks_text, find_text, all_arrive, all_found, are_several}
 use Rattle.ptdump_engine.specs.Reserved.{reserved_note}
 use Rattle.ptdump_engine.specs.Resolved.{resolved}
 pub use Rattle.ptdump_engine.specs.Start.{level_count}
 use Rattle.ptdump_engine.specs.Start.{start_of}
-use Rattle.ptdump_engine.specs.Steps.{FailsBy, InTurn, IsForced, and_then, of_dump, unless}
+use Rattle.ptdump_engine.specs.Steps.{FailsBy, InTurn, MayBeForced, and_then, of_dump, unless_failure}
 use Rattle.ptdump_engine.specs.Totals.{AreTotals, totals_text}
 use Rattle.ptdump_engine.specs.Walks.{line}
 use Rattle.ptdump_engine.specs.declared.failure.Failure.{Failure}
@@ -56,13 +56,13 @@ use Rattle.ptdump_engine.specs.declared.totals.Totals.{Totals}
 
 -- Whether an address is canonical with L levels of tables: it is below 2^64, and all bits above the highest translated bit equal
 -- that bit.
-abbrev pub is_canonical : (L address : ℕ) → Bool
-is_canonical L a = nat_lt a (lower_half L) || (nat_le (2 ^ 64 - lower_half L) a && nat_lt a (2 ^ 64))
+abbrev pub is_canonical_address : (L address : ℕ) → Bool
+is_canonical_address L a = nat_lt a (lower_half L) || (nat_le (2 ^ 64 - lower_half L) a && nat_lt a (2 ^ 64))
 
 -- The failure that an address isn't canonical with these levels of tables, or None if it is, or if there is no address.
 abbrev pub address_failure : Levels → Option ℕ → Option Failure
 address_failure levels None = None
-address_failure levels (Some a) = if is_canonical (level_count levels) a then None else Some (failures.NotCanonical a levels)
+address_failure levels (Some a) = if is_canonical_address (level_count levels) a then None else Some (failures.NotCanonical a levels)
 
 -- The failure that the first address of a range is above the last one, or None if it isn't, or if one of them is missing.
 abbrev pub order_failure : (from to : Option ℕ) → Option Failure
@@ -90,7 +90,7 @@ direct_map_failure levels (Some range) = option_or (address_failure levels (Some
 -- or more, or the first one of a range is above the last. It is None if they can be used.
 abbrev pub argument_failure : Levels → Command → Option Failure
 argument_failure levels (commands.Walk addresses asked) =
-    option_map (λ a. failures.NotCanonical a levels) (find (λ a. not (is_canonical (level_count levels) a)) addresses.items)
+    option_map (λ a. failures.NotCanonical a levels) (find (λ a. not (is_canonical_address (level_count levels) a)) addresses.items)
 argument_failure levels (commands.Find addresses) = option_map (λ a. failures.NotPhysical a) (find (λ a. nat_le (2 ^ 52) a) addresses.items)
 argument_failure levels (commands.Regions selection) = selection_failure levels selection
 argument_failure levels (commands.Pages selection has_names) = selection_failure levels selection
@@ -117,8 +117,8 @@ root_failure command T root = if is_walk command || is_some (T root) then None e
 -- can't be used, or the table of the root isn't in the dump.
 unfoldable pub start_for : Request → Contents → Result Start Failure
 start_for request dump = and_then (start_of request dump) (λ start.
-    and_then (unless (argument_failure start.levels request.command) start) (λ tested.
-    unless (root_failure request.command (words_of_dump dump) start.root) start))
+    and_then (unless_failure (argument_failure start.levels request.command) start) (λ tested.
+    unless_failure (root_failure request.command (words_of_dump dump) start.root) start))
 
 -- The format as which a file is read: raw if the request says so, and otherwise the one that the file itself shows.
 abbrev pub format_for : Request → (file : List ℕ) → Format
@@ -195,16 +195,16 @@ first_failure request T (p ∷ ps) = option_or (tables_failure request T p) (fir
 -- has tables, or the tables of one can't be reported on.
 unfoldable pub processors_for : Request → Contents → Result (List Processor) Failure
 processors_for request dump = and_then (processors_from dump.file request.levels 0 (processors_of dump)) (λ ps.
-    and_then (unless (modes_failure ps) ps) (λ tested.
-    unless (first_failure request (words_of_dump dump) (firsts_of ps)) ps))
+    and_then (unless_failure (modes_failure ps) ps) (λ tested.
+    unless_failure (first_failure request (words_of_dump dump) (firsts_of ps)) ps))
 
 -- What is opened for a report on all processors: a dump, and its processors by their notes.
-pub record Machine : Type 0 where
+pub record DumpedMachine : Type 0 where
   pub dump : Contents
   pub processors : List Processor
 
 -- The dump that a file is for a request, and its processors, or why the request or the file can't be used.
-unfoldable pub machine_for : Request → (file : List ℕ) → Result Machine Failure
+unfoldable pub machine_for : Request → (file : List ℕ) → Result DumpedMachine Failure
 machine_for request file = and_then (dump_for request file) (λ dump.
     and_then (processors_for request dump) (λ ps. Ok (record { dump = dump; processors = ps })))
 
@@ -250,7 +250,7 @@ ReportsOf request before after outcome o =
 abbrev pub RunsOnTables : (may_fail may_refuse : Bool) → Request → (file : List ℕ) → (before after : Option (List ℕ)) → Result Outcome Failure → Type 0
 RunsOnTables may_fail may_refuse request file before after (Ok outcome) = (o : Opened) × (opened_for request file ≡ Ok o) × ReportsOf request before after outcome o
 RunsOnTables may_fail may_refuse request file before after (Err failure) =
-    FailsBy may_fail may_refuse failure (opened_for request file) × (IsForced may_fail may_refuse failure ⊎ (after ≡ before))
+    FailsBy may_fail may_refuse failure (opened_for request file) × (MayBeForced may_fail may_refuse failure ⊎ (after ≡ before))
 
 -- The report of a request on the tables of a processor, below a heading with their root and the numbers of the processors that have
 -- it.
@@ -281,9 +281,9 @@ pub record ReportsAll (request : Request) (T : Words) (ps : List Processor) (bef
 -- writing anything, for a read only if reads may fail, and for a write only if its writers may refuse one.
 abbrev pub RunsOnProcessors : (may_fail may_refuse : Bool) → Request → (file : List ℕ) → (before after : Option (List ℕ)) → Result Outcome Failure → Type 0
 RunsOnProcessors may_fail may_refuse request file before after (Ok outcome) =
-    (m : Machine) × (machine_for request file ≡ Ok m) × ReportsAll request (words_of_dump m.dump) m.processors before after outcome
+    (m : DumpedMachine) × (machine_for request file ≡ Ok m) × ReportsAll request (words_of_dump m.dump) m.processors before after outcome
 RunsOnProcessors may_fail may_refuse request file before after (Err failure) =
-    FailsBy may_fail may_refuse failure (machine_for request file) × (IsForced may_fail may_refuse failure ⊎ (after ≡ before))
+    FailsBy may_fail may_refuse failure (machine_for request file) × (MayBeForced may_fail may_refuse failure ⊎ (after ≡ before))
 
 -- The report of `info` on a dump: what the dump says of its machine, and which root other commands take for the request.
 abbrev pub info_of : Request → Contents → List ℕ
@@ -295,7 +295,7 @@ abbrev pub RunsOnDump : (may_fail may_refuse : Bool) → Request → (file : Lis
 RunsOnDump may_fail may_refuse request file before after (Ok outcome) =
     (dump : Contents) × (dump_for request file ≡ Ok dump) × Appends before after (info_of request dump) × (outcome.is_complete ≡ true)
 RunsOnDump may_fail may_refuse request file before after (Err failure) =
-    FailsBy may_fail may_refuse failure (dump_for request file) × (IsForced may_fail may_refuse failure ⊎ (after ≡ before))
+    FailsBy may_fail may_refuse failure (dump_for request file) × (MayBeForced may_fail may_refuse failure ⊎ (after ≡ before))
 
 -- The result and the output of a run that reports on a dump alone if `info` is true, and otherwise on the tables of all processors
 -- if `all` is true, or on those below one root.
@@ -362,7 +362,7 @@ EndsByTotals command L T root before after =
 -- note says another number of levels than the request, how many words have reserved bits, and the totals of the tables.
 abbrev pub NotesOnTables : Request → (file : List ℕ) → (before after : Option (List ℕ)) → Type 0
 NotesOnTables request file before after = (o : Opened) × (between : Option (List ℕ)) × (opened_for request file ≡ Ok o)
-    × Appends before between (opening_text o.dump ++ source_text o.start.origin ++ levels_text request.levels o.start.noted_levels)
+    × Appends before between (opening_text o.dump ++ source_text o.start.origin ++ noted_levels_text request.levels o.start.noted_levels)
     × EndsByTotals request.command (level_count o.start.levels) (words_of_dump o.dump) o.start.root between after
 
 -- The last lines on standard error were written for the tables of a processor: how many words have reserved bits, if there are any
@@ -373,7 +373,7 @@ EndsByTotalsOf command T p = EndsByTotals command (level_count p.start.levels) T
 -- What a run on the tables of all processors wrote to standard error: that the file is raw or short, which processors have no
 -- tables, and for each root how many words have reserved bits, and the totals of its tables.
 abbrev pub NotesOnProcessors : Request → (file : List ℕ) → (before after : Option (List ℕ)) → Type 0
-NotesOnProcessors request file before after = (m : Machine) × (between : Option (List ℕ)) × (machine_for request file ≡ Ok m)
+NotesOnProcessors request file before after = (m : DumpedMachine) × (between : Option (List ℕ)) × (machine_for request file ≡ Ok m)
     × Appends before between (opening_text m.dump ++ left_out_text m.processors) × InTurn (EndsByTotalsOf request.command (words_of_dump m.dump)) (firsts_of m.processors) between after
 
 -- What a run wrote to standard error. If `info` is true, it is about the dump alone, and says that the file is raw or short, and
@@ -385,8 +385,8 @@ NotesAs false true request file before after = NotesOnProcessors request file be
 NotesAs false false request file before after = NotesOnTables request file before after
 
 -- What a run on a file for a request wrote to standard error, which had `before` before the run, and has `after` after it.
-abbrev pub Notes : Request → (file : List ℕ) → (before after : Option (List ℕ)) → Type 0
-Notes request = NotesAs (is_info request.command) (is_of_processors request) request
+abbrev pub StderrIs : Request → (file : List ℕ) → (before after : Option (List ℕ)) → Type 0
+StderrIs request = NotesAs (is_info request.command) (is_of_processors request) request
 
 -- The observer of a run's progress was told of each table that a root leads to, by the numbers from 1 up to their count, and then
 -- that there are no more.
@@ -402,7 +402,7 @@ ToldOfTablesOf Told Ended T p = ToldOfTables Told Ended (level_count p.start.lev
 -- root of the processors in turn if `all` is true, or of those below one root.
 abbrev pub ToldAs : {G : Type 0} (info all : Bool) (Told : G → G → List ℕ → Type 0) (Ended : G → G → Type 0) → Request → (file : List ℕ) → (before after : G) → Type 0
 ToldAs true all Told Ended request file before after = after ≡ before
-ToldAs false true Told Ended request file before after = (m : Machine) × (machine_for request file ≡ Ok m)
+ToldAs false true Told Ended request file before after = (m : DumpedMachine) × (machine_for request file ≡ Ok m)
     × InTurn (ToldOfTablesOf Told Ended (words_of_dump m.dump)) (firsts_of m.processors) before after
 ToldAs false false Told Ended request file before after = (o : Opened) × (opened_for request file ≡ Ok o)
     × ToldOfTables Told Ended (level_count o.start.levels) (words_of_dump o.dump) o.start.root before after

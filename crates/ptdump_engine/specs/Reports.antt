@@ -8,7 +8,7 @@ use Rattle.x86_64_model.specs.Position.{position_count, raw}
 use Rattle.x86_64_model.specs.Regions.{regions_of}
 use Rattle.x86_64_mappings.specs.Numbers.{hexadecimal}
 use Rattle.x86_64_mappings.specs.Wanted.{leads_to}
-use Rattle.ptdump_engine.specs.Accesses.{is_there}
+use Rattle.ptdump_engine.specs.Accesses.{is_access_there}
 use Rattle.ptdump_engine.specs.Lines.{found_line, mapping_line, region_line, walk_lines}
 use Rattle.x86_64_mappings.specs.Selections.{is_mapping_selected, is_selected}
 use Rattle.ptdump_engine.specs.Walks.{line}
@@ -74,7 +74,7 @@ find_text form several L T root physical = flat_map (headed_addresses form sever
 
 -- Whether the accesses at these virtual addresses all arrive, or the page walks to them if no access is asked for.
 abbrev pub all_arrive : (L : ℕ) → Words → (root : ℕ) → WalkOptions → (addresses : List ℕ) → Bool
-all_arrive L T root asked addresses = list_all (λ a. is_there asked.controls asked.access L T root (a % position_count L)) addresses
+all_arrive L T root asked addresses = list_all (λ a. is_access_there asked.controls asked.access L T root (a % position_count L)) addresses
 
 -- Whether each of these physical addresses has a virtual address below the root that leads to it.
 abbrev pub all_found : (L : ℕ) → Words → (root : ℕ) → (physical : List ℕ) → Bool

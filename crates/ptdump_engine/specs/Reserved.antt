@@ -2,7 +2,7 @@
 use Rattle.std.specs.Prelude.{ℕ, Bool, ◌-◌, ◌^◌, ◌==◌, ◌++◌, if◌then◌else◌, true, false, min, List, [], codes, decimal, length}
 use Rattle.x86_64_dump.specs.Tables.{tables_by_level}
 use Rattle.x86_64_model.specs.Memory.{Words}
-use Rattle.ptdump_engine.specs.Findings.{flawed_entries, processor, tables_from}
+use Rattle.ptdump_engine.specs.Findings.{flawed_entries, processor, tables_below}
 use Rattle.ptdump_engine.specs.Walks.{line}
 use Rattle.ptdump_engine.specs.declared.findings.entry.Table.{Table}
 use Rattle.ptdump_engine.specs.declared.findings.finding.Finding.{Finding}
@@ -18,7 +18,7 @@ reserved_entries T tables = flawed_entries flaws.HugePage T tables ++ flawed_ent
 -- The number of words with reserved bits in the tables that a root leads to, with L levels of tables, or 2^64 - 1 if there are
 -- more. A word counts once for each level at which its table is.
 unfoldable pub reserved_count : (L : ℕ) → Words → (root : ℕ) → ℕ
-reserved_count L T root = min (length (reserved_entries T (tables_from 1 (tables_by_level L T root)))) (2 ^ 64 - 1)
+reserved_count L T root = min (length (reserved_entries T (tables_below 1 (tables_by_level L T root)))) (2 ^ 64 - 1)
 
 -- The line with the number of words that have reserved bits, or nothing if it is 0.
 abbrev pub reserved_line : (count : ℕ) → List ℕ

@@ -61,14 +61,14 @@ level_count Four = 4
 level_count Five = 5
 
 -- The number of levels by CR4: five if LA57 is on, and four otherwise.
-abbrev pub levels_by : (cr4 : ℕ) → Levels
-levels_by cr4 = if has cr4 0x1000 then Five else Four
+abbrev pub levels_by_cr4 : (cr4 : ℕ) → Levels
+levels_by_cr4 cr4 = if has cr4 0x1000 then Five else Four
 
 -- The number of levels in the request, or else that by the CR4 in a processor's note, or four without a note.
-abbrev pub levels_of : (file : List ℕ) → (given : Option Levels) → Option Note → Result Levels Failure
-levels_of file (Some levels) _ = Ok levels
-levels_of file None None = Ok Four
-levels_of file None (Some note) = and_then (of_dump (register_of file note 424)) (λ cr4. Ok (levels_by cr4))
+abbrev pub levels_in_file : (file : List ℕ) → (given : Option Levels) → Option Note → Result Levels Failure
+levels_in_file file (Some levels) _ = Ok levels
+levels_in_file file None None = Ok Four
+levels_in_file file None (Some note) = and_then (of_dump (register_of file note 424)) (λ cr4. Ok (levels_by_cr4 cr4))
 
 -- The start of page walks at the root in the request's CR3, with these levels.
 abbrev pub start_by_request : (cr3 : ℕ) → Levels → Start
@@ -79,9 +79,9 @@ start_by_request cr3 levels = record { root = address cr3; levels = levels; orig
 abbrev pub start_by_processor : (given : Option Levels) → Registers → Start
 start_by_processor given r = record {
   root = address r.cr3;
-  levels = unwrap_or given (levels_by r.cr4);
+  levels = unwrap_or given (levels_by_cr4 r.cr4);
   origin = ByProcessor;
-  noted_levels = Some (levels_by r.cr4);
+  noted_levels = Some (levels_by_cr4 r.cr4);
   registers = Some r;
 }
 
@@ -112,7 +112,7 @@ kernel_start dump levels = and_then (of_dump (kernel_in dump)) (start_by dump le
 
 -- The start of page walks at the root in the request's CR3, or else at that in a processor's note, or else at the kernel's.
 abbrev pub start_with : Request → Contents → (given : Option ℕ) → Option Note → Result Start Failure
-start_with request dump (Some cr3) note = and_then (levels_of dump.file request.levels note) (λ levels. Ok (start_by_request cr3 levels))
+start_with request dump (Some cr3) note = and_then (levels_in_file dump.file request.levels note) (λ levels. Ok (start_by_request cr3 levels))
 start_with request dump None (Some note) = and_then (paging_registers dump.file (unwrap_or request.cpu 0) note) (λ r.
     Ok (start_by_processor request.levels r))
 start_with request dump None None = kernel_start dump request.levels

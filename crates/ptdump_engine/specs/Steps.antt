@@ -15,16 +15,16 @@ of_dump (Ok a) = Ok a
 of_dump (Err fault) = Err (failures.Dump fault)
 
 -- The failure if there is one, or else the value.
-abbrev pub unless : {A : Type 0} → Option Failure → A → Result A Failure
-unless None a = Ok a
-unless (Some failure) a = Err failure
+abbrev pub unless_failure : {A : Type 0} → Option Failure → A → Result A Failure
+unless_failure None a = Ok a
+unless_failure (Some failure) a = Err failure
 
 -- The failure is a forced one: of memory allocation, of a read, if reads may fail, or of a write, if writes may be refused.
-abbrev pub IsForced : (may_fail may_refuse : Bool) → Failure → Type 0
-IsForced may_fail may_refuse failures.OutOfMemory = ⊤
-IsForced may_fail may_refuse (failures.Read error) = may_fail ≡ true
-IsForced may_fail may_refuse failures.Output = may_refuse ≡ true
-IsForced may_fail may_refuse failure = ⊥
+abbrev pub MayBeForced : (may_fail may_refuse : Bool) → Failure → Type 0
+MayBeForced may_fail may_refuse failures.OutOfMemory = ⊤
+MayBeForced may_fail may_refuse (failures.Read error) = may_fail ≡ true
+MayBeForced may_fail may_refuse failures.Output = may_refuse ≡ true
+MayBeForced may_fail may_refuse failure = ⊥
 
 -- The failure is that of the expected result, or a forced one: of memory allocation, of a read, if reads may fail, or of a write,
 -- if writes may be refused.

@@ -11,10 +11,10 @@ abbrev pub totals_text : Totals → List ℕ
 totals_text t = codes "tables " ++ decimal t.tables ++ codes ", mappings " ++ decimal t.mappings ++ codes ", mapped " ++ short_size t.bytes
 
 -- The totals have the number of these mappings, and the sum of their sizes in bytes.
-abbrev pub IsMapped : List Mapping → Totals → Type 0
-IsMapped ms t = (t.mappings ≡ length ms) × (t.bytes ≡ sum_by (λ m. m.size) ms)
+abbrev pub IsMappedMemory : List Mapping → Totals → Type 0
+IsMappedMemory ms t = (t.mappings ≡ length ms) × (t.bytes ≡ sum_by (λ m. m.size) ms)
 
 -- The totals are those of the tables that a root leads to in W, with L levels of tables.
 pub record AreTotals (L : ℕ) (W : Words) (root : ℕ) (totals : Totals) : Type 0 where
   pub tables : IsTableCount L W root totals.tables
-  pub mapped : IsMapped (mappings_of L W root) totals
+  pub mapped : IsMappedMemory (mappings_of L W root) totals

@@ -30,31 +30,31 @@ pub record Walk : Type 0 where
   pub end : End
 
 -- The walk that reads no word and has this end.
-abbrev pub ends : End → Walk
-ends end = record { words = []; end = end }
+abbrev pub walk_ends : End → Walk
+walk_ends end = record { words = []; end = end }
 
 -- The walk that reads a word first, and goes on as another walk does.
-abbrev pub after : WordRead → Walk → Walk
-after word walk = record { words = word ∷ walk.words; end = walk.end }
+abbrev pub after_word : WordRead → Walk → Walk
+after_word word walk = record { words = word ∷ walk.words; end = walk.end }
 
 -- The rest of a walk to position p after a word of a level, if `below` is the walk in the table that the word names.
 abbrev pub behind : (p level word : ℕ) → (below : Walk) → Walk
 behind p level e below = cond (present e)
-    (cond (maps_page level e) (ends (arrives_at (page_start level e + p % span level) (span level)))
-    (cond (huge e) (ends (huge_page level)) below))
-    (ends not_present)
+    (cond (maps_page level e) (walk_ends (arrives_at (page_start level e + p % span level) (span level)))
+    (cond (huge e) (walk_ends (huge_page level)) below))
+    (walk_ends not_present)
 
 -- The rest of the walk to position p from the table of a level in a frame.
-unfoldable pub walk_from : Words → (p level frame : ℕ) → Walk
-walk_from T p zero frame = ends not_present
-walk_from T p (suc n) frame = let level = suc n in option_map_or
-    (λ e. after (record { level = level; table = frame; index = index level p; word = e }) (behind p level e (walk_from T p n (address e))))
+unfoldable pub walk_words_from : Words → (p level frame : ℕ) → Walk
+walk_words_from T p zero frame = walk_ends not_present
+walk_words_from T p (suc n) frame = let level = suc n in option_map_or
+    (λ e. after_word (record { level = level; table = frame; index = index level p; word = e }) (behind p level e (walk_words_from T p n (address e))))
     (read T frame (index level p))
-    (ends (no_table frame))
+    (walk_ends (no_table frame))
 
 -- The walk to position p from a root, with L levels of tables.
 abbrev pub walk_of : (L : ℕ) → Words → (root p : ℕ) → Walk
-walk_of L T root p = walk_from T p L root
+walk_of L T root p = walk_words_from T p L root
 
 -- The rights that all words of a walk allow.
 abbrev pub walk_rights : Walk → Rights
@@ -76,12 +76,12 @@ abbrev pub line : (text : List ℕ) → List ℕ
 line text = text ++ 10 ∷ []
 
 -- The text "level L 0xTABLE[INDEX]" of the place of a word.
-unfoldable pub place_text : WordRead → List ℕ
-place_text w = codes "level " ++ decimal w.level ++ codes " " ++ hexadecimal w.table ++ codes "[" ++ decimal w.index ++ codes "]"
+unfoldable pub word_place_text : WordRead → List ℕ
+word_place_text w = codes "level " ++ decimal w.level ++ codes " " ++ hexadecimal w.table ++ codes "[" ++ decimal w.index ++ codes "]"
 
 -- The text "level L 0xTABLE[INDEX] 0xWORD" of a word.
 abbrev pub word_text : WordRead → List ℕ
-word_text w = place_text w ++ codes " " ++ hexadecimal w.word
+word_text w = word_place_text w ++ codes " " ++ hexadecimal w.word
 
 -- Whether a processor with these controls faults at a word, since it is present and has a reserved bit.
 abbrev pub faults_at : Controls → WordRead → Bool

@@ -14,12 +14,12 @@ use Rattle.ptdump_engine.specs.declared.findings.finding.Finding.TheVariants.{Wr
 use Rattle.ptdump_engine.specs.declared.request.AddressRange.{AddressRange}
 
 -- The rights that a page has at least if code can write to it.
-abbrev pub writable : Rights
-writable = record { write = true; user = false; execute = false }
+abbrev pub writable_rights : Rights
+writable_rights = record { write = true; user = false; execute = false }
 
 -- Those of some mappings that are writable and don't lie wholly in a range of addresses.
 abbrev pub writable_outside : (L : ℕ) → AddressRange → List Mapping → List Mapping
-writable_outside L range ms = filter (λ m. not (lies_in L range m)) (filter (λ m. includes m.rights writable) ms)
+writable_outside L range ms = filter (λ m. not (lies_in L range m)) (filter (λ m. includes m.rights writable_rights) ms)
 
 -- The virtual address that leads to a physical address, in the first writable mapping outside the direct map that does, or None
 -- if none does.

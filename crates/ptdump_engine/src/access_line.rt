@@ -212,7 +212,7 @@ fn write_controls<W: Write>(
 /// Writes what says the controls.
 #[tactic(auto, unfolding(crate::specs::Accesses::source_text))]
 fn write_source<W: Write>(f: &mut Formatter<W>, source: ControlsSource) -> FmtResult
-    ensures { WritesOnOk W.write_str_gives f.old result (accesses.source_text source) f.new }
+    ensures { WritesOnOk W.write_str_gives f.old result (accesses.controls_source_text source) f.new }
 {
     f.write_str(" (")?;
     f.write_str(source.name())?;

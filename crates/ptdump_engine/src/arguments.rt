@@ -96,7 +96,7 @@ fn order_failure(from: Option<u64>, to: Option<u64>) -> Option<Failure>
 /// Returns the first address that isn't canonical.
 fn first_not_canonical(addresses: &[u64], levels: Levels) -> Option<u64>
     ensures { result
-        ≡ find (λ a. not (program.is_canonical (program.level_count levels) a)) addresses.now }
+        ≡ find (λ a. not (program.is_canonical_address (program.level_count levels) a)) addresses.now }
 {
     addresses
         .iter()
@@ -116,7 +116,7 @@ fn first_not_physical(addresses: &[u64]) -> Option<u64>
 
 /// Returns true if the address is canonical.
 fn is_canonical(address: u64, levels: Levels) -> bool
-    ensures { result ≡ program.is_canonical (program.level_count levels) address }
+    ensures { result ≡ program.is_canonical_address (program.level_count levels) address }
 {
     match levels {
         Levels::Four => VirtAddr::checked_new(address).is_some(),

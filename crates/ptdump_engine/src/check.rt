@@ -2,7 +2,7 @@
 ghost use Rattle.std.specs.Prelude.{◌≡◌, ◌≤◌, OnOk, IfOk};
 ghost use Rattle.std.specs.List.{flat_map};
 ghost use Rattle.ptdump_engine.specs.Findings as findings;
-ghost use Rattle.ptdump_engine.specs.Loaded.{HasAllTables, IsLoaded, words_loaded};
+ghost use Rattle.ptdump_engine.specs.Loaded.{HasAllTables, IsLoadedDump, words_loaded};
 ghost use Rattle.ptdump_engine.specs.Output.{Puts};
 ghost use Rattle.ptdump_engine.specs.Said.{line_of};
 ghost use Rattle.ptdump_engine.specs.private.Ascending.{Ascend};
@@ -46,7 +46,7 @@ pub fn write_findings<L: LevelCount, W: Destination>(
     form: Form,
     output: &mut Output<'_, W>,
 ) -> Result<bool, OutputError<W>>
-    requires { IsLoaded loaded.now }
+    requires { IsLoadedDump loaded.now }
     ensures text { HasAllTables L.LEVELS loaded.now → OnOk result (Puts W.contents output.old output.new
         (findings.check_text form checking L.LEVELS (words_loaded loaded.now) loaded.now.root)) }
     ensures nothing { HasAllTables L.LEVELS loaded.now → IfOk result (λ nothing.
@@ -89,7 +89,7 @@ fn write_counted<L: LevelCount, O: Lines>(
     form: Form,
     output: &mut O,
 ) -> Result<u64, O::Error>
-    requires loaded { IsLoaded loaded.now }
+    requires loaded { IsLoadedDump loaded.now }
     requires bits { subject.now.processor.physical_bits ≤ 52 }
     requires names { Ascend (λ name. name.frame) subject.now.names.now }
     ensures lines { OnOk result (O.puts output.old output.new
@@ -109,7 +109,7 @@ fn write_lines<L: LevelCount, O: LineOutput>(
     subject: &Subject<'_>,
     output: &mut O,
 ) -> Result<(), O::Error>
-    requires loaded { IsLoaded loaded.now }
+    requires loaded { IsLoadedDump loaded.now }
     requires bits { subject.now.processor.physical_bits ≤ 52 }
     requires names { Ascend (λ name. name.frame) subject.now.names.now }
     ensures { OnOk result (O.Lines output.old output.new

@@ -4,11 +4,11 @@ ghost use Rattle.std.specs.FinMap as finite;
 ghost use Rattle.std.specs.Io.KnownBytes.{Appends};
 ghost use Rattle.x86_64_dump.specs.Opened.{opened, words_opened};
 ghost use Rattle.x86_64_model.specs.Mappings.{mappings_of};
-ghost use Rattle.ptdump_engine.specs.Loaded.{HasAllTables, IsLoaded, words_loaded};
+ghost use Rattle.ptdump_engine.specs.Loaded.{HasAllTables, IsLoadedDump, words_loaded};
 ghost use Rattle.ptdump_engine.specs.Output.{Puts, put_in};
 ghost use Rattle.ptdump_engine.specs.Program as program;
-ghost use Rattle.ptdump_engine.specs.Steps.{Finds, IsForced};
-ghost use Rattle.ptdump_engine.specs.Totals.{IsMapped, totals_text};
+ghost use Rattle.ptdump_engine.specs.Steps.{Finds, MayBeForced};
+ghost use Rattle.ptdump_engine.specs.Totals.{IsMappedMemory, totals_text};
 ghost use Rattle.ptdump_engine.specs.Walks.{line};
 ghost use Rattle.ptdump_engine.specs.declared.start.Origin.TheVariants.{ByText};
 ghost use Rattle.ptdump_engine.specs.declared.totals.Totals.{Totals};
@@ -68,11 +68,11 @@ pub fn run<S: ByteSource, W: Destination, E: Destination, G: Progress>(
     ensures run { S.IsKnown → program.Runs S.may_fail (W.may_refuse || E.may_refuse) request
         (S.bytes source) (W.contents writer.old) (W.contents writer.new) result }
     ensures notes { S.IsKnown → OnOk result (program.is_image request.command ≡ false →
-        program.Notes request (S.bytes source) (E.contents errors.old) (E.contents errors.new)) }
+        program.StderrIs request (S.bytes source) (E.contents errors.old) (E.contents errors.new)) }
     ensures told { S.IsKnown → OnOk result
         (program.ToldOfRun G.Told G.Ended request (S.bytes source) progress.old progress.new) }
     ensures counted { program.ToldInTurn G.Told G.Ended progress.old progress.new }
-    ensures untold { IfErr result (λ failure. IsForced S.may_fail (W.may_refuse || E.may_refuse) failure
+    ensures untold { IfErr result (λ failure. MayBeForced S.may_fail (W.may_refuse || E.may_refuse) failure
         ⊎ (progress.new ≡ progress.old)) }
 {
     let mut notes = Output::new(alloc, errors);
@@ -194,7 +194,7 @@ pub fn report_from<S: ByteSource, W: Destination, E: Destination, G: Progress>(
         (program.level_count start.now.levels) (words_opened S.bytes dump.now) start.now.root
         progress.old progress.new) }
     ensures counted { program.ToldInTurn G.Told G.Ended progress.old progress.new }
-    ensures errors { IfErr result (IsForced S.may_fail (W.may_refuse || E.may_refuse)) }
+    ensures errors { IfErr result (MayBeForced S.may_fail (W.may_refuse || E.may_refuse)) }
 {
     match start.levels {
         Levels::Four => report::<FourLevels, S, W, E, G>(
@@ -229,7 +229,7 @@ fn report<L: LevelCount, S: ByteSource, W: Destination, E: Destination, G: Progr
     ensures told { S.IsKnown → OnOk result (program.ToldOfTables G.Told G.Ended L.LEVELS
         (words_opened S.bytes dump.now) root progress.old progress.new) }
     ensures counted { program.ToldInTurn G.Told G.Ended progress.old progress.new }
-    ensures errors { IfErr result (IsForced S.may_fail (W.may_refuse || E.may_refuse)) }
+    ensures errors { IfErr result (MayBeForced S.may_fail (W.may_refuse || E.may_refuse)) }
 {
     let tables = read_tables::<L, S, G>(alloc, dump, root, progress);
     progress.end();
@@ -258,7 +258,7 @@ fn write_whole<L: LevelCount, S: ByteSource, W: Destination, E: Destination>(
     writer: &mut W,
     notes: &mut Output<'_, E>,
 ) -> Result<bool, Failure>
-    requires loaded { IsLoaded loaded.now }
+    requires loaded { IsLoadedDump loaded.now }
     requires tables { S.IsKnown → HasAllTables L.LEVELS loaded.now }
     requires tested { program.IsTested request.now.command }
     ensures text { S.IsKnown → OnOk result (
@@ -267,7 +267,7 @@ fn write_whole<L: LevelCount, S: ByteSource, W: Destination, E: Destination>(
     ensures complete { S.IsKnown → IfOk result (λ is. is
         ≡ program.completeness_of request.now.command L.LEVELS (words_loaded loaded.now) loaded.now.root) }
     ensures notes { OnOk result (program.is_image request.now.command ≡ false → notes.new ≡ notes.old) }
-    ensures errors { IfErr result (IsForced S.may_fail (W.may_refuse || E.may_refuse)) }
+    ensures errors { IfErr result (MayBeForced S.may_fail (W.may_refuse || E.may_refuse)) }
 {
     let mut output = Output::new(alloc, writer);
     let is_complete = write_report(alloc, dump, loaded, request, &mut output, notes)?;
@@ -285,7 +285,7 @@ fn write_report<L: LevelCount, S: ByteSource, W: Destination, E: Destination>(
     output: &mut Output<'_, W>,
     notes: &mut Output<'_, E>,
 ) -> Result<bool, Failure>
-    requires loaded { IsLoaded loaded.now }
+    requires loaded { IsLoadedDump loaded.now }
     requires tables { S.IsKnown → HasAllTables L.LEVELS loaded.now }
     requires tested { program.IsTested request.now.command }
     ensures text { S.IsKnown → OnOk result (
@@ -294,7 +294,7 @@ fn write_report<L: LevelCount, S: ByteSource, W: Destination, E: Destination>(
     ensures complete { S.IsKnown → IfOk result (λ is. is
         ≡ program.completeness_of request.now.command L.LEVELS (words_loaded loaded.now) loaded.now.root) }
     ensures notes { OnOk result (program.is_image request.now.command ≡ false → notes.new ≡ notes.old) }
-    ensures errors { IfErr result (IsForced S.may_fail (W.may_refuse || E.may_refuse)) }
+    ensures errors { IfErr result (MayBeForced S.may_fail (W.may_refuse || E.may_refuse)) }
 {
     let form = request.form;
     let columns = request.columns;
@@ -343,10 +343,10 @@ fn write_totals<L: LevelCount, E: Destination>(
     loaded: &Loaded<'_, L>,
     notes: &mut Output<'_, E>,
 ) -> Result<(), OutputError<E>>
-    requires { IsLoaded loaded.now }
+    requires { IsLoadedDump loaded.now }
     ensures text { OnOk result ((totals : Totals)
         × (totals.tables ≡ finite.len loaded.now.tables.now.memory)
-        × IsMapped (mappings_of L.LEVELS (words_loaded loaded.now) loaded.now.root) totals
+        × IsMappedMemory (mappings_of L.LEVELS (words_loaded loaded.now) loaded.now.root) totals
         × Puts E.contents notes.old notes.new (line (totals_text totals))) }
     ensures all { OnOk result (string_bytes notes.new.text ≡ []) }
 {

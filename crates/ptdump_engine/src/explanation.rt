@@ -4,7 +4,7 @@ ghost use Rattle.std.specs.List.{flat_map};
 ghost use Rattle.x86_64_mappings.specs.Texts.{size_text};
 ghost use Rattle.ptdump_engine.specs.Explanations as explanations;
 ghost use Rattle.ptdump_engine.specs.Output.{Puts};
-ghost use Rattle.ptdump_engine.specs.private.Walked.{end_of};
+ghost use Rattle.ptdump_engine.specs.private.Walked.{end_said};
 
 use crate::destination::Destination;
 use crate::output::{Output, OutputError};
@@ -25,7 +25,7 @@ pub fn write_explanation<W: Destination>(
     output: &mut Output<'_, W>,
 ) -> Result<(), OutputError<W>>
     ensures { OnOk result (Puts W.contents output.old output.new (if is_asked
-        then explanations.explained (end_of walk.now.end) walk.now.words.items else [])) }
+        then explanations.explained (end_said walk.now.end) walk.now.words.items else [])) }
 {
     if !is_asked {
         return Ok(());

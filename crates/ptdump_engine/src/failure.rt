@@ -79,12 +79,12 @@ pub enum Failure {
 
 impl Failure {
     ghost use Rattle.std.specs.Prelude.{is_some};
-    ghost use Rattle.ptdump_engine.specs.Failure.{status_of};
+    ghost use Rattle.ptdump_engine.specs.Failure.{failure_status};
     ghost use Rattle.ptdump_engine.specs.FailureTexts.{failure_text};
 
     /// Returns the exit status: 2 for the request, 3 for the file, 4 for a failed memory allocation, 5 for a failed write.
     pub fn status(&self) -> u8
-        ensures { result ≡ status_of self.now }
+        ensures { result ≡ failure_status self.now }
     {
         match self {
             Failure::NoCr3
@@ -226,10 +226,10 @@ impl<T: Drop> From<AllocFailed<T>> for Failure {
 impl<W: Destination> From<OutputError<W>> for Failure {
     ghost use Rattle.std.specs.Prelude.{◌≡◌, false};
     ghost use Rattle.ptdump_engine.specs.Output.{failure_of};
-    ghost use Rattle.ptdump_engine.specs.Steps.{IsForced};
+    ghost use Rattle.ptdump_engine.specs.Steps.{MayBeForced};
 
     ghost from_gives = { λ error failure.
-        IsForced false W.may_refuse failure × (failure ≡ failure_of error) };
+        MayBeForced false W.may_refuse failure × (failure ≡ failure_of error) };
 
     fn from(error: OutputError<W>) -> Failure {
         match error {

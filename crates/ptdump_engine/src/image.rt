@@ -1,6 +1,6 @@
 //! The report that is an image for `pagetab`.
 ghost use Rattle.std.specs.Prelude.{◌||◌, IfErr};
-ghost use Rattle.ptdump_engine.specs.Steps.{IsForced};
+ghost use Rattle.ptdump_engine.specs.Steps.{MayBeForced};
 
 use crate::destination::Destination;
 use crate::failure::Failure;
@@ -27,7 +27,7 @@ pub fn write_image<L: LevelCount, S: ByteSource, W: Destination, E: Destination>
     output: &mut Output<'_, W>,
     errors: &mut Output<'_, E>,
 ) -> Result<(), Failure>
-    ensures { IfErr result (IsForced S.may_fail (W.may_refuse || E.may_refuse)) }
+    ensures { IfErr result (MayBeForced S.may_fail (W.may_refuse || E.may_refuse)) }
 {
     let image = Image::read(alloc, dump, loaded.root, L::LEVELS)?;
     write_words(dump, &image, output)?;
@@ -41,7 +41,7 @@ fn write_words<S: ByteSource, W: Destination>(
     image: &Image,
     output: &mut Output<'_, W>,
 ) -> Result<(), Failure>
-    ensures { IfErr result (IsForced S.may_fail W.may_refuse) }
+    ensures { IfErr result (MayBeForced S.may_fail W.may_refuse) }
 {
     for table in image.tables() {
         if let Some(words) = dump.read_frame(table.frame).map_err(Failure::Read)? {
@@ -60,7 +60,7 @@ fn write_report<S: ByteSource, E: Destination>(
     image: &Image,
     errors: &mut Output<'_, E>,
 ) -> Result<(), Failure>
-    ensures { IfErr result (IsForced S.may_fail E.may_refuse) }
+    ensures { IfErr result (MayBeForced S.may_fail E.may_refuse) }
 {
     writeln!(errors, "new         old               level")?;
     write_rows(image, image.tables(), errors)?;
@@ -99,7 +99,7 @@ fn write_refusals<S: ByteSource, E: Destination>(
     image: &Image,
     errors: &mut Output<'_, E>,
 ) -> Result<(), Failure>
-    ensures { IfErr result (IsForced S.may_fail E.may_refuse) }
+    ensures { IfErr result (MayBeForced S.may_fail E.may_refuse) }
 {
     for table in image.tables() {
         if let Some(words) = dump.read_frame(table.frame).map_err(Failure::Read)? {

@@ -3,7 +3,7 @@ ghost use Rattle.std.specs.Prelude.{◌≡◌, ◌⊎◌, None, false, true, IfO
 ghost use Rattle.std.specs.Io.KnownBytes.{Appends};
 ghost use Rattle.std.specs.List.{flat_map};
 ghost use Rattle.std.specs.Option.{unwrap_or};
-ghost use Rattle.x86_64_dump.specs.FaultTexts.{fault_text};
+ghost use Rattle.x86_64_dump.specs.FaultTexts.{dump_fault_text};
 ghost use Rattle.x86_64_dump.specs.Opened.{opened};
 ghost use Rattle.x86_64_dump.specs.VmCoreInfo.{kernel_in};
 ghost use Rattle.ptdump_engine.specs.FailureTexts.{failure_text};
@@ -11,7 +11,7 @@ ghost use Rattle.ptdump_engine.specs.Info as info;
 ghost use Rattle.ptdump_engine.specs.Output.{Puts};
 ghost use Rattle.ptdump_engine.specs.Program.{info_of, is_info, start_for};
 ghost use Rattle.ptdump_engine.specs.Start.{registers_of};
-ghost use Rattle.ptdump_engine.specs.Steps.{IsForced};
+ghost use Rattle.ptdump_engine.specs.Steps.{MayBeForced};
 
 mod items;
 
@@ -48,7 +48,7 @@ pub fn write_info<S: ByteSource, W: Destination>(
     ensures written { S.IsKnown → OnOk result (Appends (W.contents writer.old) (W.contents writer.new)
         (info_of request.now (opened S.bytes dump.now))) }
     ensures complete { IfOk result (λ outcome. outcome.is_complete ≡ true) }
-    ensures errors { S.IsKnown → IfErr result (IsForced S.may_fail W.may_refuse) }
+    ensures errors { S.IsKnown → IfErr result (MayBeForced S.may_fail W.may_refuse) }
 {
     let mut output = Output::new(alloc, writer);
     write_lines(alloc, dump, request, &mut output)?;
@@ -67,7 +67,7 @@ fn write_lines<S: ByteSource, W: Destination>(
     requires { is_info request.now.command ≡ true }
     ensures text { S.IsKnown → OnOk result (Puts W.contents output.old output.new
         (info_of request.now (opened S.bytes dump.now))) }
-    ensures errors { S.IsKnown → IfErr result (IsForced S.may_fail W.may_refuse) }
+    ensures errors { S.IsKnown → IfErr result (MayBeForced S.may_fail W.may_refuse) }
 {
     let form = request.form;
     write_format(alloc, form, dump.format(), output)?;
@@ -144,7 +144,7 @@ fn write_processors<S: ByteSource, W: Destination>(
 ) -> Result<(), Failure>
     ensures text { S.IsKnown → OnOk result (Puts W.contents output.old output.new
         (info.processor_lines form (opened S.bytes dump.now).file notes.now)) }
-    ensures errors { S.IsKnown → IfErr result (IsForced S.may_fail W.may_refuse) }
+    ensures errors { S.IsKnown → IfErr result (MayBeForced S.may_fail W.may_refuse) }
 {
     for (cpu, note) in notes.iter().enumerate() {
         write_noted(alloc, form, dump, cpu, note, output)?;
@@ -165,7 +165,7 @@ fn write_noted<S: ByteSource, W: Destination>(
     ensures text { S.IsKnown → OnOk result (Puts W.contents output.old output.new
         (info.processor_line form cpu (info.known_registers
         (registers_of (opened S.bytes dump.now).file note.now)))) }
-    ensures errors { S.IsKnown → IfErr result (IsForced S.may_fail W.may_refuse) }
+    ensures errors { S.IsKnown → IfErr result (MayBeForced S.may_fail W.may_refuse) }
 {
     match Registers::read(dump, note) {
         Ok(registers) => Ok(write_processor(alloc, form, cpu, Some(registers), output)?),
@@ -201,7 +201,7 @@ fn write_kernel<S: ByteSource, W: Destination>(
 ) -> Result<(), Failure>
     ensures text { S.IsKnown → OnOk result (Puts W.contents output.old output.new
         (info.kernel_line form (kernel_in (opened S.bytes dump.now)))) }
-    ensures errors { S.IsKnown → IfErr result (IsForced S.may_fail W.may_refuse) }
+    ensures errors { S.IsKnown → IfErr result (MayBeForced S.may_fail W.may_refuse) }
 {
     match dump.kernel(alloc) {
         Ok(None) => Ok(()),
@@ -224,7 +224,7 @@ fn write_fault<W: Destination>(
     fault: &Fault,
     output: &mut Output<'_, W>,
 ) -> Result<(), OutputError<W>>
-    ensures { OnOk result (IfSome (fault_text fault.now)
+    ensures { OnOk result (IfSome (dump_fault_text fault.now)
         (λ text. Puts W.contents output.old output.new (info.no_kernel_line form text))) }
 {
     let error = text_of(alloc, fault)?;
@@ -250,7 +250,7 @@ fn write_root<S: ByteSource, W: Destination>(
     ensures text { S.IsKnown → OnOk result (Puts W.contents output.old output.new
         (info.root_line request.now.form (unwrap_or request.now.cpu 0)
         (start_for request.now (opened S.bytes dump.now)))) }
-    ensures errors { S.IsKnown → IfErr result (IsForced S.may_fail W.may_refuse) }
+    ensures errors { S.IsKnown → IfErr result (MayBeForced S.may_fail W.may_refuse) }
 {
     match start_for(alloc, dump, request) {
         Ok(start) => {
@@ -285,7 +285,7 @@ fn write_failure<W: Destination>(
     ensures told { OnOk result (IsSome (failure_text failure)) }
     ensures text { OnOk result (IfSome (failure_text failure)
         (λ text. Puts W.contents output.old output.new (info.no_root_line form text))) }
-    ensures errors { IfErr result (λ error. IsForced false W.may_refuse error
+    ensures errors { IfErr result (λ error. MayBeForced false W.may_refuse error
         ⊎ ((failure_text failure ≡ None) × (error ≡ failure))) }
 {
     if failure.is_of_start() {

@@ -2,7 +2,7 @@
 ghost use Rattle.std.specs.Prelude.{◌≡◌, map};
 ghost use Rattle.std.specs.Fmt.{WritesOnOk};
 ghost use Rattle.ptdump_engine.specs.Names as names;
-ghost use Rattle.ptdump_engine.specs.private.Flags.{named};
+ghost use Rattle.ptdump_engine.specs.private.Flags.{named_flag};
 
 use bitflags::Flags;
 use std::fmt::{Formatter, Result as FmtResult, Write};
@@ -48,7 +48,7 @@ struct Flag {
 /// Returns the flags that a page's entry may have, in the order in which their names are written.
 #[tactic(auto, unfolding(crate::specs::Names::flags_of))]
 fn flags_of(is_large: bool) -> [Flag; 11]
-    ensures { map named result ≡ names.flags_of is_large }
+    ensures { map named_flag result ≡ names.flags_of is_large }
 {
     let (large, small) = if is_large { (0x80, 0) } else { (0, 0x80) };
     [
@@ -101,7 +101,7 @@ fn flags_of(is_large: bool) -> [Flag; 11]
 
 /// Writes the names of the flags that are set in a word, with commas between them.
 fn write_set<W: Write>(f: &mut Formatter<W>, word: u64, flags: &[Flag]) -> FmtResult
-    ensures { WritesOnOk W.write_str_gives f.old result (names.set_text word (map named flags.now)) f.new }
+    ensures { WritesOnOk W.write_str_gives f.old result (names.set_text word (map named_flag flags.now)) f.new }
 {
     let mut separator = "";
     for flag in flags {
@@ -117,7 +117,7 @@ fn write_set<W: Write>(f: &mut Formatter<W>, word: u64, flags: &[Flag]) -> FmtRe
 
 /// Writes the protection key of a word, if it isn't 0.
 fn write_key<W: Write>(f: &mut Formatter<W>, word: u64) -> FmtResult
-    ensures { WritesOnOk W.write_str_gives f.old result (names.key_text word) f.new }
+    ensures { WritesOnOk W.write_str_gives f.old result (names.protection_key_text word) f.new }
 {
     let key = word >> 59 & 0xf;
     if key == 0 {

@@ -1,6 +1,6 @@
 //! The number of levels of tables that the dump says where it says the root.
 ghost use Rattle.std.specs.Prelude.{OnOk};
-ghost use Rattle.ptdump_engine.specs.NotedLevels.{levels_text};
+ghost use Rattle.ptdump_engine.specs.NotedLevels.{noted_levels_text};
 ghost use Rattle.ptdump_engine.specs.Output.{Puts};
 ghost use Rattle.ptdump_engine.specs.Walks.{line};
 
@@ -18,7 +18,7 @@ pub fn write_levels<E: Destination>(
     noted: Option<Levels>,
     notes: &mut Output<'_, E>,
 ) -> Result<(), OutputError<E>>
-    ensures { OnOk result (Puts E.contents notes.old notes.new (levels_text given noted)) }
+    ensures { OnOk result (Puts E.contents notes.old notes.new (noted_levels_text given noted)) }
 {
     match (given, noted) {
         (Some(Levels::Four), Some(Levels::Five)) => write_at_once(

@@ -2,7 +2,7 @@
 ghost use Rattle.std.specs.Prelude.{◌≡◌, [], OnOk, Ok, string_bytes};
 ghost use Rattle.std.specs.List.{flat_map};
 ghost use Rattle.x86_64_dump.specs.Opened.{opened};
-ghost use Rattle.x86_64_dump.specs.Opening.{Gives};
+ghost use Rattle.x86_64_dump.specs.Opening.{OpensAs};
 ghost use Rattle.ptdump_engine.specs.InfoTexts.{text_told};
 ghost use Rattle.ptdump_engine.specs.Output.{Puts};
 ghost use Rattle.ptdump_engine.specs.Program as program;
@@ -29,7 +29,7 @@ pub fn open<S: ByteSource, G: Progress>(
     request: &Request,
     progress: &G,
 ) -> Result<Dump<S>, DumpError>
-    ensures { S.IsKnown → Gives S.may_fail (opened S.bytes) result
+    ensures { S.IsKnown → OpensAs S.may_fail (opened S.bytes) result
         (program.contents_for request.now (S.bytes source)) }
 {
     let format = if request.is_raw {
@@ -48,7 +48,7 @@ fn with_texts<S: ByteSource, G: Progress>(
     request: &Request,
     progress: &G,
 ) -> Result<Dump<S>, DumpError>
-    ensures { S.IsKnown → Gives S.may_fail (opened S.bytes) result
+    ensures { S.IsKnown → OpensAs S.may_fail (opened S.bytes) result
         (program.with_texts request.now (opened S.bytes dump)) }
 {
     let texts = texts_for(alloc, &dump, request, progress)?;
@@ -63,7 +63,7 @@ fn texts_for<S: ByteSource, G: Progress>(
     request: &Request,
     progress: &G,
 ) -> Result<Vec<KernelText>, DumpError>
-    ensures { S.IsKnown → Gives S.may_fail (λ texts. texts.items) result
+    ensures { S.IsKnown → OpensAs S.may_fail (λ texts. texts.items) result
         (program.texts_for request.now (opened S.bytes dump.now)) }
 {
     if let Some(offset) = request.vmcoreinfo {
@@ -83,7 +83,7 @@ fn is_searched<S: ByteSource>(
     dump: &Dump<S>,
     request: &Request,
 ) -> Result<bool, DumpError>
-    ensures { S.IsKnown → Gives S.may_fail (λ is. is) result
+    ensures { S.IsKnown → OpensAs S.may_fail (λ is. is) result
         (Ok (program.is_searched request.now (opened S.bytes dump.now))) }
 {
     if request.cr3.is_some() || request.is_of_processors() {

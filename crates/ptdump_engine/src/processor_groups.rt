@@ -105,7 +105,7 @@ fn add(cpus: &mut HashMap<(u64, bool), Vec<usize>>, processor: &Processor) -> Re
 
 /// Returns the address of a processor's root, and whether it has five levels.
 fn key(processor: &Processor) -> (u64, bool)
-    ensures { result ≡ grouping.key_of processor.now }
+    ensures { result ≡ grouping.group_key processor.now }
 {
     let has_five = matches!(processor.start.levels, Levels::Five);
     (processor.start.root.start_address().as_u64(), has_five)

@@ -4,9 +4,9 @@ ghost use Rattle.std.specs.List.{find, list_any};
 ghost use Rattle.x86_64_model.specs.Mappings.{mappings_of};
 ghost use Rattle.x86_64_model.specs.Position.{position_count};
 ghost use Rattle.x86_64_mappings.specs.Wanted.{leads_to};
-ghost use Rattle.ptdump_engine.specs.Accesses.{is_there};
+ghost use Rattle.ptdump_engine.specs.Accesses.{is_access_there};
 ghost use Rattle.ptdump_engine.specs.Lines.{walk_lines};
-ghost use Rattle.ptdump_engine.specs.Loaded.{IsLoaded, words_loaded};
+ghost use Rattle.ptdump_engine.specs.Loaded.{IsLoadedDump, words_loaded};
 ghost use Rattle.ptdump_engine.specs.Output.{Puts};
 ghost use Rattle.ptdump_engine.specs.Reports as reports;
 ghost use Rattle.ptdump_engine.specs.declared.request.Form.TheVariants.{Text};
@@ -46,7 +46,7 @@ pub fn write_regions<L: LevelCount, O: Lines>(
     listing: Listing,
     output: &mut O,
 ) -> Result<(), O::Error>
-    requires { IsLoaded loaded.now }
+    requires { IsLoadedDump loaded.now }
     ensures { OnOk result (O.puts output.old output.new (reports.regions_text
         selection form listing.columns listing.layout L.LEVELS (words_loaded loaded.now) loaded.now.root)) }
 {
@@ -68,7 +68,7 @@ pub fn write_pages<L: LevelCount, O: Lines>(
     listing: Listing,
     output: &mut O,
 ) -> Result<(), O::Error>
-    requires { IsLoaded loaded.now }
+    requires { IsLoadedDump loaded.now }
     ensures { OnOk result (O.puts output.old output.new (reports.pages_text selection
         listing.has_names form listing.columns listing.layout L.LEVELS (words_loaded loaded.now) loaded.now.root)) }
 {
@@ -128,7 +128,7 @@ fn write_headed_walk<L: LevelCount, W: Destination>(
     ensures text { OnOk result (Puts W.contents output.old output.new (reports.headed_walk
         form are_several L.LEVELS (words_loaded loaded.now) loaded.now.root options address)) }
     ensures arrives { IfOk result (λ arrives.
-        arrives ≡ is_there options.controls options.access
+        arrives ≡ is_access_there options.controls options.access
         L.LEVELS (words_loaded loaded.now) loaded.now.root (address % position_count L.LEVELS)) }
 {
     write_heading(form, are_several, "address", address, output)?;
@@ -166,7 +166,7 @@ fn write_walk_as<L: LevelCount, W: Destination>(
     ensures text { OnOk result (Puts W.contents output.old output.new
         (walk_lines form L.LEVELS (words_loaded loaded.now) loaded.now.root options address)) }
     ensures arrives { IfOk result (λ arrives.
-        arrives ≡ is_there options.controls options.access
+        arrives ≡ is_access_there options.controls options.access
         L.LEVELS (words_loaded loaded.now) loaded.now.root address) }
 {
     match form {
@@ -187,7 +187,7 @@ fn write_walk_by<L: LevelCount, W: Destination>(
     ensures text { OnOk result (Puts W.contents output.old output.new
         (walk_lines Text L.LEVELS (words_loaded loaded.now) loaded.now.root options address)) }
     ensures arrives { IfOk result (λ arrives.
-        arrives ≡ is_there options.controls options.access
+        arrives ≡ is_access_there options.controls options.access
         L.LEVELS (words_loaded loaded.now) loaded.now.root address) }
 {
     let controls = options.controls;

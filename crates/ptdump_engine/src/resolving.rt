@@ -2,7 +2,7 @@
 ghost use Rattle.std.specs.Prelude.{◌≡◌, IfOk, Ok};
 ghost use Rattle.x86_64_dump.specs.Opened.{opened};
 ghost use Rattle.x86_64_dump.specs.VmCoreInfo.{vmcoreinfo_of};
-ghost use Rattle.linux_areas.specs.Areas.{layout_of};
+ghost use Rattle.linux_areas.specs.Areas.{area_layout};
 ghost use Rattle.ptdump_engine.specs.NamedAreas as named;
 ghost use Rattle.ptdump_engine.specs.Program.{IsTested};
 ghost use Rattle.ptdump_engine.specs.Resolved.{resolved};
@@ -72,7 +72,7 @@ fn noted_layout<S: ByteSource>(
     levels: Levels,
 ) -> Result<AreaNames, Failure>
     ensures { S.IsKnown → Finds S.may_fail result
-        (Ok (By (layout_of (vmcoreinfo_of (opened S.bytes dump.now)) levels))) }
+        (Ok (By (area_layout (vmcoreinfo_of (opened S.bytes dump.now)) levels))) }
 {
     let text = dump.vmcoreinfo(alloc)?;
     let layout = match &text {

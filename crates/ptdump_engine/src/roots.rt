@@ -6,7 +6,7 @@ ghost use Rattle.x86_64_dump.specs.Opened.{opened, words_opened};
 ghost use Rattle.ptdump_engine.specs.Output.{Puts, put_in};
 ghost use Rattle.ptdump_engine.specs.Processors as specs;
 ghost use Rattle.ptdump_engine.specs.Program as program;
-ghost use Rattle.ptdump_engine.specs.Steps.{FindsAs, InTurn, IsForced};
+ghost use Rattle.ptdump_engine.specs.Steps.{FindsAs, InTurn, MayBeForced};
 ghost use Rattle.ptdump_engine.specs.Walks.{line};
 ghost use Rattle.ptdump_engine.specs.declared.request.Form.TheVariants.{Text};
 ghost use Rattle.ptdump_engine.specs.private.ProcessorGroups as grouping;
@@ -106,7 +106,7 @@ pub fn report_on_processors<S: ByteSource, W: Destination, E: Destination, G: Pr
     ensures told { S.IsKnown → OnOk result (InTurn (program.ToldOfTablesOf G.Told G.Ended
         (words_opened S.bytes dump.now)) (specs.firsts_of processors.now) progress.old progress.new) }
     ensures counted { program.ToldInTurn G.Told G.Ended progress.old progress.new }
-    ensures errors { IfErr result (IsForced S.may_fail (W.may_refuse || E.may_refuse)) }
+    ensures errors { IfErr result (MayBeForced S.may_fail (W.may_refuse || E.may_refuse)) }
 {
     let groups = ProcessorGroups::of(alloc, processors)?;
     let firsts = groups.firsts(alloc)?;
@@ -144,7 +144,7 @@ fn write_reports<S: ByteSource, W: Destination, E: Destination, G: Progress>(
         (program.ToldOfTablesOf G.Told G.Ended (words_opened S.bytes dump.now)) firsts.now
         progress.old progress.new) }
     ensures counted { program.ToldInTurn G.Told G.Ended progress.old progress.new }
-    ensures errors { IfErr result (IsForced S.may_fail (W.may_refuse || E.may_refuse)) }
+    ensures errors { IfErr result (MayBeForced S.may_fail (W.may_refuse || E.may_refuse)) }
 {
     let mut is_complete = true;
     for first in firsts {
@@ -185,7 +185,7 @@ fn write_report_below<S: ByteSource, W: Destination, E: Destination, G: Progress
     ensures told { S.IsKnown → OnOk result (program.ToldOfTablesOf G.Told G.Ended
         (words_opened S.bytes dump.now) first.now progress.old progress.new) }
     ensures counted { program.ToldInTurn G.Told G.Ended progress.old progress.new }
-    ensures errors { IfErr result (IsForced S.may_fail (W.may_refuse || E.may_refuse)) }
+    ensures errors { IfErr result (MayBeForced S.may_fail (W.may_refuse || E.may_refuse)) }
 {
     write_heading(alloc, request.form, groups, first, writer)?;
     let outcome = report_from(alloc, dump, &first.start, request, writer, notes, progress)?;

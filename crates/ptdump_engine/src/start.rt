@@ -208,7 +208,7 @@ fn levels_of<S: ByteSource>(
     note: Option<Note>,
 ) -> Result<Levels, Failure>
     ensures { S.IsKnown → Finds S.may_fail result
-        (starts.levels_of (opened S.bytes dump.now).file given note) }
+        (starts.levels_in_file (opened S.bytes dump.now).file given note) }
 {
     match (given, note) {
         (Some(levels), _) => Ok(levels),
@@ -220,7 +220,7 @@ fn levels_of<S: ByteSource>(
 /// Returns the number of levels for a CR4.
 #[tactic(auto, unfolding(x86_64_model::specs::Entry::has))]
 pub fn levels_by(cr4: u64) -> Levels
-    ensures { result ≡ starts.levels_by cr4 }
+    ensures { result ≡ starts.levels_by_cr4 cr4 }
 {
     if cr4 & LA57 == LA57 {
         Levels::Five

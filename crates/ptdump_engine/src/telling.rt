@@ -4,7 +4,7 @@ ghost use Rattle.std.specs.List.{cons_option, filter_map};
 ghost use Rattle.x86_64_model.specs.Mappings.{mappings_of};
 ghost use Rattle.x86_64_model.specs.Regions.{regions_of};
 ghost use Rattle.x86_64_mappings.specs.Selections.{is_mapping_selected, is_selected};
-ghost use Rattle.ptdump_engine.specs.Loaded.{IsLoaded, words_loaded};
+ghost use Rattle.ptdump_engine.specs.Loaded.{IsLoadedDump, words_loaded};
 ghost use Rattle.ptdump_engine.specs.Said.{Said};
 
 use crate::line_output::LineOutput;
@@ -85,7 +85,7 @@ pub fn tell_mappings<L: LevelCount, T: Telling<MappingIn<L>> + Drop, O: LineOutp
     telling: T,
     output: &mut O,
 ) -> Result<(), O::Error>
-    requires { IsLoaded loaded.now }
+    requires { IsLoadedDump loaded.now }
     ensures { OnOk result (O.Lines output.old output.new (filter_map (T.said telling) (filter
         (is_mapping_selected L.LEVELS selection)
         (mappings_of L.LEVELS (words_loaded loaded.now) loaded.now.root)))) }
@@ -111,7 +111,7 @@ pub fn tell_regions<L: LevelCount, T: Telling<RegionIn<L>> + Drop, O: LineOutput
     telling: T,
     output: &mut O,
 ) -> Result<(), O::Error>
-    requires { IsLoaded loaded.now }
+    requires { IsLoadedDump loaded.now }
     ensures { OnOk result (O.Lines output.old output.new (filter_map (T.said telling) (filter
         (is_selected L.LEVELS selection)
         (regions_of L.LEVELS (words_loaded loaded.now) loaded.now.root)))) }

@@ -2,8 +2,8 @@
 ghost use Rattle.std.specs.Prelude.{◌≡◌, Some, length, sum_by};
 ghost use Rattle.std.specs.FinMap as finite;
 ghost use Rattle.x86_64_model.specs.Mappings.{mappings_of};
-ghost use Rattle.ptdump_engine.specs.Loaded.{IsLoaded, words_loaded};
-ghost use Rattle.ptdump_engine.specs.Totals.{IsMapped};
+ghost use Rattle.ptdump_engine.specs.Loaded.{IsLoadedDump, words_loaded};
+ghost use Rattle.ptdump_engine.specs.Totals.{IsMappedMemory};
 
 use crate::loaded::Loaded;
 use ptdump_picture::ShortSize;
@@ -28,8 +28,8 @@ impl Totals {
     /// Returns the totals of the tables below a root. A missing root maps nothing.
     pub fn of<L: LevelCount>(loaded: &Loaded<'_, L>) -> Totals
         ensures tables { result.tables ≡ finite.len loaded.now.tables.now.memory }
-        ensures mapped { IsLoaded loaded.now →
-            IsMapped (mappings_of L.LEVELS (words_loaded loaded.now) loaded.now.root) result }
+        ensures mapped { IsLoadedDump loaded.now →
+            IsMappedMemory (mappings_of L.LEVELS (words_loaded loaded.now) loaded.now.root) result }
     {
         let (mappings, bytes) = match loaded.summaries.of(L::LEVELS, loaded.root) {
             Some(summary) => (summary.count, summary.bytes),

@@ -6,7 +6,7 @@ ghost use Rattle.x86_64_model.specs.PageWalk.{page_start};
 ghost use Rattle.x86_64_model.specs.Position.{span as span_of};
 ghost use Rattle.ptdump_engine.specs.Loaded.{words_loaded};
 ghost use Rattle.ptdump_engine.specs.Walks as walks;
-ghost use Rattle.ptdump_engine.specs.private.Walked.{IsWalk, end_of, end_with, is_arrival, text_of_end};
+ghost use Rattle.ptdump_engine.specs.private.Walked.{IsWalk, end_said, end_with, is_arrival, text_of_end};
 
 use crate::loaded::Loaded;
 use crate::rights_at::RightsAt;
@@ -67,7 +67,7 @@ pub struct Walk {
 impl Walk {
     /// Returns true if it arrives.
     pub fn arrives(&self) -> bool
-        ensures { result ≡ is_arrival (end_of self.now.end) }
+        ensures { result ≡ is_arrival (end_said self.now.end) }
     {
         matches!(self.end, WalkEnd::Arrives { .. })
     }
@@ -113,9 +113,9 @@ fn walk_on(
     requires low { 1 ≤ level }
     requires high { level ≤ 5 }
     ensures words { OnOk result (words.new.items ≡ words.old.items ++
-        (walks.walk_from (words_of memory.now identity_places) position level frame).words) }
+        (walks.walk_words_from (words_of memory.now identity_places) position level frame).words) }
     ensures end { IfOk result (λ end. end ≡ end_with above
-        (walks.walk_from (words_of memory.now identity_places) position level frame)) }
+        (walks.walk_words_from (words_of memory.now identity_places) position level frame)) }
 {
     let Some(table) = table_in(memory, &IdentityMapping, frame) else {
         return Ok(WalkEnd::MissingTable(frame));

@@ -36,9 +36,9 @@ impl Display for WordRead {
 pub struct Place(pub WordRead);
 
 impl Display for Place {
-    ghost use Rattle.ptdump_engine.specs.Walks.{place_text};
+    ghost use Rattle.ptdump_engine.specs.Walks.{word_place_text};
 
-    ghost output = { λ place. Some (place_text place.0) };
+    ghost output = { λ place. Some (word_place_text place.0) };
 
     #[tactic(auto, unfolding(crate::specs::Walks::place_text))]
     fn fmt<W: Write>(&self, f: &mut Formatter<W>) -> FmtResult {

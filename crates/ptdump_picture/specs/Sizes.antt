@@ -15,11 +15,11 @@ unit_of bytes =
     else record { bytes = 2 ^ 10; name = codes "KiB" }))
 
 -- A number of bytes in a unit, rounded down to tenths, or to whole units if that is exact or there are 1000 units or more.
-abbrev pub text_in : SizeUnit → (bytes : ℕ) → List ℕ
-text_in unit bytes =
+abbrev pub size_in_unit : SizeUnit → (bytes : ℕ) → List ℕ
+size_in_unit unit bytes =
     if bytes % unit.bytes == 0 || nat_le 1000 (bytes / unit.bytes) then decimal (bytes / unit.bytes) ++ unit.name
     else decimal (bytes / unit.bytes) ++ codes "." ++ decimal (bytes % unit.bytes * 10 / unit.bytes) ++ unit.name
 
 -- A number of bytes as a short text, in the largest unit that isn't larger.
 abbrev pub short_size : (bytes : ℕ) → List ℕ
-short_size bytes = text_in (unit_of bytes) bytes
+short_size bytes = size_in_unit (unit_of bytes) bytes

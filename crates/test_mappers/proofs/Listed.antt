@@ -14,11 +14,11 @@ use Rattle.x86_64_model.specs.PageMappings.{PageMapping}
 use Rattle.x86_64_model.specs.Path.{AllBelow, path_at, paths_below}
 use Rattle.x86_64_model.specs.PathMap.{PathMap, entry}
 use Rattle.x86_64_model.specs.Position.{index, page_path, position_count, span}
-use Rattle.x86_64_model.specs.Standing.{IsParent, StandsAt}
+use Rattle.x86_64_model.specs.Standing.{IsParent, IsMappedIn}
 use Rattle.x86_64_model.specs.Window.{IsValidFor}
 use Rattle.x86_64_tables.specs.PageTableFlags.{bits_of}
 use Rattle.x86_64_mappers.specs.Layouts.{direct, owned}
-use Rattle.x86_64_loader.specs.Segments.{IsLoaded, mapping_of as page_mapping, small_pages}
+use Rattle.x86_64_loader.specs.Segments.{IsLoaded, page_mapping as page_mapping, small_pages}
 use Rattle.x86_64_loader.specs.declared.segment.Segment.{Segment}
 use Rattle.test_mappers.specs.Listed.{AreListed, IsListed}
 use Rattle.x86_64_model.proofs.Lemmas.Entries.Bits.{address_or, and_or_distrib, no_flag, only_flags}
@@ -52,7 +52,7 @@ all_but_last right a b c e false last above =
 -- ---- the mapping of a path
 
 module _ (T : Words) (root : ℕ) (M : PathMap) (valid : IsValidFor 4 None T root M) (i j k l frame given : ℕ) (below : AllBelow (i ∷ j ∷ k ∷ l ∷ []))
-    (stands : StandsAt 4 1 M (i ∷ j ∷ k ∷ l ∷ []) frame given) where
+    (stands : IsMappedIn 4 1 M (i ∷ j ∷ k ∷ l ∷ []) frame given) where
   abbrev path : List ℕ
   path = i ∷ j ∷ k ∷ l ∷ []
 
@@ -120,7 +120,7 @@ module _ (T : Words) (root : ℕ) (M : PathMap) (valid : IsValidFor 4 None T roo
 -- ---- the mapping of a page
 
 module _ (T : Words) (root : ℕ) (M : PathMap) (valid : IsValidFor 4 None T root M) (page frame given : ℕ) (aligned : page % 0x1000 ≡ 0) (inside : page < 2 ^ 48) where
-  pub page_listed : StandsAt 4 1 M (path_at 4 1 page) frame given → IsListed (mappings_of 4 T root) page frame given
+  pub page_listed : IsMappedIn 4 1 M (path_at 4 1 page) frame given → IsListed (mappings_of 4 T root) page frame given
   unfolding page_path
   page_listed stands =
       let i = index 4 page in let j = index 3 page in let k = index 2 page in let l = index 1 page in
@@ -149,9 +149,9 @@ segments_listed root memory segments valid loaded n d within k below =
     let its = loaded n d within in
     let T = words_of memory identity_places in
     let M = paths_of 4 T root in
-    let P : ℕ → ℕ → Type 0 = λ page frame. StandsAt 4 1 M (path_at 4 1 page) frame (bits_of s.flags) in
+    let P : ℕ → ℕ → Type 0 = λ page frame. IsMappedIn 4 1 M (path_at 4 1 page) frame (bits_of s.flags) in
     let at : ℕ → PageMapping = λ k. page_mapping 1 (s.page + 0 * 0x1000 + k * span 1) (s.frame + 0 * 0x1000 + k * span 1) (bits_of s.flags) in
-    let stands = at_member (λ x. StandsAt 4 x.level M (path_at 4 x.level x.page) x.frame x.flags) (small_pages s) its.stand (at (0 + k)) (in_map at (range_with_len 0 s.pages) (0 + k) (in_range s.pages 0 k below)) in
+    let stands = at_member (λ x. IsMappedIn 4 x.level M (path_at 4 x.level x.page) x.frame x.flags) (small_pages s) its.stand (at (0 + k)) (in_map at (range_with_len 0 s.pages) (0 + k) (in_range s.pages 0 k below)) in
     let number : (start : ℕ) → start + 0 * 0x1000 + (0 + k) * 0x1000 ≡ start + k * 0x1000 = λ start. omega arith in
     page_listed T root M valid (s.page + k * 0x1000) (s.frame + k * 0x1000) (bits_of s.flags) (let start = its.aligned in omega (arith, start)) (its.there (k * 0x1000) (omega (arith, below)))
     (subst₂ P (number s.page) (number s.frame) stands)

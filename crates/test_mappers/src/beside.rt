@@ -2,7 +2,7 @@
 //! memory may be of any kind, such as a slice of tables that its owner lends.
 ghost use Rattle.std.specs.Prelude.{◌≡◌, ℕ, if◌then◌else◌, nat_lt, replicate, Some, None};
 ghost use Rattle.std.specs.FinMap.{get};
-ghost use Rattle.test_mappers.specs.Beside.{AreTwo};
+ghost use Rattle.test_mappers.specs.Beside.{AreTwoRoots};
 ghost use Rattle.x86_64_model.specs.Pool.{serves_below};
 ghost use Rattle.x86_64_tables.specs.PageTable.{zero_words};
 
@@ -19,8 +19,8 @@ fn run_in_turn<T: TableMemory>(
     calls: (&[Call], &[Call]),
     replies: &mut Vec<Reply>,
 ) -> Result<(), AllocError>
-    requires { AreTwo roots.0 roots.1 (T.tables memory.old) (serves_below pool.old.limit) pool.old.frames }
-    ensures again { AreTwo roots.0 roots.1 (T.tables memory.new)
+    requires { AreTwoRoots roots.0 roots.1 (T.tables memory.old) (serves_below pool.old.limit) pool.old.frames }
+    ensures again { AreTwoRoots roots.0 roots.1 (T.tables memory.new)
         (serves_below pool.new.limit) pool.new.frames }
     ensures lent { T.lent memory.new ≡ T.lent memory.old }
 {
@@ -32,7 +32,7 @@ fn run_in_turn<T: TableMemory>(
 fn pool_of_two<T: TableMemory>(rt: impl Test, memory: &T, roots: (Frame, Frame)) -> FramePool
     requires { (place : ℕ) → get (T.tables memory.now) place
         ≡ (if nat_lt place 0x10 then Some zero_words else None) }
-    ensures { AreTwo roots.0 roots.1 (T.tables memory.now) (serves_below result.limit) result.frames }
+    ensures { AreTwoRoots roots.0 roots.1 (T.tables memory.now) (serves_below result.limit) result.frames }
 {
     one_hierarchy_is_a_space();
     empty_roots_are_spaces();
@@ -63,8 +63,8 @@ fn map_in_both<T: TableMemory>(
     pool: &mut FramePool,
     given: (u64, u64),
 )
-    requires { AreTwo roots.0 roots.1 (T.tables memory.old) (serves_below pool.old.limit) pool.old.frames }
-    ensures { AreTwo roots.0 roots.1 (T.tables memory.new) (serves_below pool.new.limit) pool.new.frames }
+    requires { AreTwoRoots roots.0 roots.1 (T.tables memory.old) (serves_below pool.old.limit) pool.old.frames }
+    ensures { AreTwoRoots roots.0 roots.1 (T.tables memory.new) (serves_below pool.new.limit) pool.new.frames }
 {
     let (mut replies, (page, to)) = (Vec::new(rt.alloc()), given);
     let (calls, others) = ([map(page, to)], [map(page, to | 0x1000)]);

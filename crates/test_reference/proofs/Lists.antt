@@ -8,7 +8,7 @@ use Rattle.std.specs.FinMap as map_of
 use Rattle.x86_64_model.specs.Entry.{used}
 use Rattle.x86_64_model.specs.PathMap.{PathMap, entry, put}
 use Rattle.x86_64_model.proofs.Lemmas.Paths.Puts.{path_cmp, path_exact, same_path, same_path_itself, same_path_false}
-use Rattle.test_reference.specs.PathEntries.{pairs, paths_of_items, found, without}
+use Rattle.test_reference.specs.PathEntries.{pairs, paths_of_items, found_entry, without_entry}
 use Rattle.test_reference.specs.declared.entries.PathEntry.{PathEntry}
 
 -- ---- the test of the code is that of the map
@@ -19,24 +19,24 @@ same_path_is q p = elim (bytes_eq p q) as (λ b. bytes_eq p q ≡ b → same_pat
   | false ↦ λ e. same_path_false q p (λ s. let t : bytes_eq p q ≡ true = (bytes_eq-Decides p q).1 (sym s) in cc)
 ] refl
 
-pub find-pairs : (items : List PathEntry) (q : List ℕ) → map_of.find path_cmp q (pairs items) ≡ found items q
+pub find-pairs : (items : List PathEntry) (q : List ℕ) → map_of.find path_cmp q (pairs items) ≡ found_entry items q
 find-pairs [] q = refl
 find-pairs (x ∷ items) q = ap (λ b. cond b (Some x.word) (map_of.find path_cmp q (pairs items))) (same_path_is q x.path.items) ∙ by (bytes_eq x.path.items q) (find-pairs items q)
   where
-    by : (b : Bool) → map_of.find path_cmp q (pairs items) ≡ found items q → cond b (Some x.word) (map_of.find path_cmp q (pairs items)) ≡ option_map (λ item. item.word) (cond b (Some x) (find (λ item. bytes_eq item.path.items q) items))
+    by : (b : Bool) → map_of.find path_cmp q (pairs items) ≡ found_entry items q → cond b (Some x.word) (map_of.find path_cmp q (pairs items)) ≡ option_map (λ item. item.word) (cond b (Some x) (find (λ item. bytes_eq item.path.items q) items))
     by true h = refl
     by false h = h
 
-pub get-items : (items : List PathEntry) (q : List ℕ) → get (paths_of_items items) q ≡ found items q
+pub get-items : (items : List PathEntry) (q : List ℕ) → get (paths_of_items items) q ≡ found_entry items q
 get-items items q = get-from_entries nat_list_cmp_total (pairs items) q ∙ find-pairs items q
 
-pub entry_items : (items : List PathEntry) (q : List ℕ) → entry (paths_of_items items) q ≡ unwrap_or (found items q) 0
+pub entry_items : (items : List PathEntry) (q : List ℕ) → entry (paths_of_items items) q ≡ unwrap_or (found_entry items q) 0
 unfolding entry
 entry_items items q = ap (λ o. unwrap_or o 0) (get-items items q)
 
 -- ---- writes
 
-found-without : (items : List PathEntry) (q p : List ℕ) → found (without items q) p ≡ cond (same_path p q) None (found items p)
+found-without : (items : List PathEntry) (q p : List ℕ) → found_entry (without_entry items q) p ≡ cond (same_path p q) None (found_entry items p)
 found-without [] q p = by (same_path p q) None
   where
     by : (b : Bool) (o : Option ℕ) → o ≡ cond b o o
@@ -44,22 +44,22 @@ found-without [] q p = by (same_path p q) None
     by false o = refl
 found-without (x ∷ items) q p = by (found-without items q p) (bytes_eq x.path.items q) refl
   where
-    kept : found (without items q) p ≡ cond (same_path p q) None (found items p) → (b : Bool) → bytes_eq x.path.items p ≡ b → bytes_eq x.path.items q ≡ false → option_map (λ item. item.word) (cond b (Some x) (find (λ item. bytes_eq item.path.items p) (without items q))) ≡ cond (same_path p q) None (option_map (λ item. item.word) (cond b (Some x) (find (λ item. bytes_eq item.path.items p) items)))
+    kept : found_entry (without_entry items q) p ≡ cond (same_path p q) None (found_entry items p) → (b : Bool) → bytes_eq x.path.items p ≡ b → bytes_eq x.path.items q ≡ false → option_map (λ item. item.word) (cond b (Some x) (find (λ item. bytes_eq item.path.items p) (without_entry items q))) ≡ cond (same_path p q) None (option_map (λ item. item.word) (cond b (Some x) (find (λ item. bytes_eq item.path.items p) items)))
     kept h true e n = ap (λ b. cond b None (Some x.word)) (sym (same_path_false p q (λ s. let t : true ≡ false = sym e ∙ ap (bytes_eq x.path.items) s ∙ n in cc)))
     kept h false e n = h
 
-    gone : (b : Bool) → bytes_eq x.path.items p ≡ b → bytes_eq x.path.items q ≡ true → cond (same_path p q) None (found items p) ≡ cond (same_path p q) None (option_map (λ item. item.word) (cond b (Some x) (find (λ item. bytes_eq item.path.items p) items)))
+    gone : (b : Bool) → bytes_eq x.path.items p ≡ b → bytes_eq x.path.items q ≡ true → cond (same_path p q) None (found_entry items p) ≡ cond (same_path p q) None (option_map (λ item. item.word) (cond b (Some x) (find (λ item. bytes_eq item.path.items p) items)))
     gone true e t = let s : same_path p q ≡ true = ap (λ r. same_path r q) (sym ((bytes_eq-Decides x.path.items p).0 e) ∙ (bytes_eq-Decides x.path.items q).0 t) ∙ same_path_itself q in
-        ap (λ b. cond b None (found items p)) s ∙ ap (λ b. cond b None (Some x.word)) (sym s)
+        ap (λ b. cond b None (found_entry items p)) s ∙ ap (λ b. cond b None (Some x.word)) (sym s)
     gone false e t = refl
 
-    by : found (without items q) p ≡ cond (same_path p q) None (found items p) → (b : Bool) → bytes_eq x.path.items q ≡ b → found (cond (not b) (x ∷ without items q) (without items q)) p ≡ cond (same_path p q) None (found (x ∷ items) p)
+    by : found_entry (without_entry items q) p ≡ cond (same_path p q) None (found_entry items p) → (b : Bool) → bytes_eq x.path.items q ≡ b → found_entry (cond (not b) (x ∷ without_entry items q) (without_entry items q)) p ≡ cond (same_path p q) None (found_entry (x ∷ items) p)
     by h true t = h ∙ gone (bytes_eq x.path.items p) refl t
     by h false n = kept h (bytes_eq x.path.items p) refl n
 
-pub items-without : (items : List PathEntry) (q : List ℕ) → paths_of_items (without items q) ≡ remove (paths_of_items items) q
+pub items-without : (items : List PathEntry) (q : List ℕ) → paths_of_items (without_entry items q) ≡ remove (paths_of_items items) q
 items-without items q = same_map nat_list_cmp_total path_exact _ _ (λ p.
-    get-items (without items q) p ∙ found-without items q p ∙ ap (cond (same_path p q) None) (sym (get-items items p)) ∙ sym (get-remove nat_list_cmp_total (paths_of_items items) q p))
+    get-items (without_entry items q) p ∙ found-without items q p ∙ ap (cond (same_path p q) None) (sym (get-items items p)) ∙ sym (get-remove nat_list_cmp_total (paths_of_items items) q p))
 
 pairs-append : (xs ys : List PathEntry) → pairs (xs ++ ys) ≡ pairs xs ++ pairs ys
 pairs-append [] ys = refl
@@ -74,13 +74,13 @@ insert-remove M q e = same_map nat_list_cmp_total path_exact _ _ (λ p.
     by true o = refl
     by false o = refl
 
-pub put-unused : (items : List PathEntry) (q : List ℕ) (e : ℕ) → e ≡ 0 → paths_of_items (without items q) ≡ put (paths_of_items items) q e
+pub put-unused : (items : List PathEntry) (q : List ℕ) (e : ℕ) → e ≡ 0 → paths_of_items (without_entry items q) ≡ put (paths_of_items items) q e
 unfolding put used
 put-unused items q e z = items-without items q ∙ sym (ap (λ b. cond (not b) (insert (paths_of_items items) q e) (remove (paths_of_items items) q)) (ap (λ x. x == 0) z))
 
-pub put-used : (items : List PathEntry) (q : List ℕ) (x : PathEntry) → x.path.items ≡ q → x.word ≢ 0 → paths_of_items (without items q ++ x ∷ []) ≡ put (paths_of_items items) q x.word
+pub put-used : (items : List PathEntry) (q : List ℕ) (x : PathEntry) → x.path.items ≡ q → x.word ≢ 0 → paths_of_items (without_entry items q ++ x ∷ []) ≡ put (paths_of_items items) q x.word
 unfolding put used
-put-used items q x at n = ap from_entries (pairs-append (without items q) (x ∷ []) ∙ ap (λ r. pairs (without items q) ++ (r, x.word) ∷ []) at)
-    ∙ from_entries_push nat_list_cmp_total path_exact (pairs (without items q)) q x.word (find-pairs (without items q) q ∙ found-without items q q ∙ ap (λ b. cond b None (found items q)) (same_path_itself q))
+put-used items q x at n = ap from_entries (pairs-append (without_entry items q) (x ∷ []) ∙ ap (λ r. pairs (without_entry items q) ++ (r, x.word) ∷ []) at)
+    ∙ from_entries_push nat_list_cmp_total path_exact (pairs (without_entry items q)) q x.word (find-pairs (without_entry items q) q ∙ found-without items q q ∙ ap (λ b. cond b None (found_entry items q)) (same_path_itself q))
     ∙ ap (λ M. insert M q x.word) (items-without items q) ∙ insert-remove (paths_of_items items) q x.word
     ∙ sym (ap (λ b. cond (not b) (insert (paths_of_items items) q x.word) (remove (paths_of_items items) q)) (ne_eqb x.word 0 n))

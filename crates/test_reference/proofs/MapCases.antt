@@ -8,7 +8,7 @@ use Rattle.x86_64_model.specs.Entry.{used, huge}
 use Rattle.x86_64_model.specs.PathMap.{PathMap, entry, put}
 use Rattle.x86_64_model.specs.MapRule.{AfterMap, with_flags, with_tables, map_rule}
 use Rattle.x86_64_model.specs.Refusal.{Done, Refused, ParentEntryHugePage, PageAlreadyMapped, FrameAllocationFailed}
-use Rattle.test_reference.specs.Fronts.{fronts, is_wanted}
+use Rattle.test_reference.specs.Fronts.{fronts, is_wanted_front}
 use Rattle.test_reference.proofs.Parents.{rest, rest_more}
 
 -- ---- the parents that pass a test
@@ -20,7 +20,7 @@ kept P q ns n h e = ap (λ ps. ps ++ filter P (rest q (n + 1))) (map-append (λ 
 pub passed : (P : List ℕ → Bool) (q ns : List ℕ) (n : ℕ) → n < length q → P (take n q) ≡ false → fronts q ns ++ filter P (rest q (n + 1)) ≡ fronts q ns ++ filter P (rest q n)
 passed P q ns n h e = ap (λ ps. fronts q ns ++ ps) (sym (ap (filter P) (rest_more q n h) ∙ ap (λ b. cond b (take n q ∷ filter P (rest q (n + 1))) (filter P (rest q (n + 1)))) e))
 
-pub is_wanted_true : (paths : PathMap) (wanted b : Bool) (p : List ℕ) → b ≡ used (entry paths p) → beq b wanted ≡ true → is_wanted paths wanted p ≡ true
+pub is_wanted_true : (paths : PathMap) (wanted b : Bool) (p : List ℕ) → b ≡ used (entry paths p) → beq b wanted ≡ true → is_wanted_front paths wanted p ≡ true
 is_wanted_true paths wanted b p is e = ap (λ u. cond wanted u (not u)) (sym is) ∙ by b wanted e
   where
     by : (b wanted : Bool) → beq b wanted ≡ true → cond wanted b (not b) ≡ true
@@ -29,7 +29,7 @@ is_wanted_true paths wanted b p is e = ap (λ u. cond wanted u (not u)) (sym is)
     by false true e = cc
     by false false e = refl
 
-pub is_wanted_false : (paths : PathMap) (wanted b : Bool) (p : List ℕ) → b ≡ used (entry paths p) → beq b wanted ≡ false → is_wanted paths wanted p ≡ false
+pub is_wanted_false : (paths : PathMap) (wanted b : Bool) (p : List ℕ) → b ≡ used (entry paths p) → beq b wanted ≡ false → is_wanted_front paths wanted p ≡ false
 is_wanted_false paths wanted b p is n = ap (λ u. cond wanted u (not u)) (sym is) ∙ by b wanted n
   where
     by : (b wanted : Bool) → beq b wanted ≡ false → cond wanted b (not b) ≡ false

@@ -18,30 +18,30 @@ use Rattle.test_reference.specs.declared.plain_calls.PlainReply.{PlainReply}
 use Rattle.test_reference.specs.declared.plain_calls.PlainReply.TheVariants.{NotAllowed, Answered, Position, Address, Cleaned}
 
 -- The plain program's reason for a refusal, as that of the model.
-abbrev pub refusal_of : Refusal → refusal.Refusal
-refusal_of PageNotMapped = refusal.PageNotMapped
-refusal_of ParentEntryHugePage = refusal.ParentEntryHugePage
-refusal_of (InvalidFrameAddress address) = refusal.InvalidFrameAddress address
-refusal_of (PageAlreadyMapped frame) = refusal.PageAlreadyMapped frame
-refusal_of FrameAllocationFailed = refusal.FrameAllocationFailed
+abbrev pub plain_refusal : Refusal → refusal.Refusal
+plain_refusal PageNotMapped = refusal.PageNotMapped
+plain_refusal ParentEntryHugePage = refusal.ParentEntryHugePage
+plain_refusal (InvalidFrameAddress address) = refusal.InvalidFrameAddress address
+plain_refusal (PageAlreadyMapped frame) = refusal.PageAlreadyMapped frame
+plain_refusal FrameAllocationFailed = refusal.FrameAllocationFailed
 
 -- The plain program's reason for a refusal, or None without a refusal, as that of the model.
 abbrev pub refusals_of : Option Refusal → Option refusal.Refusal
 refusals_of None = None
-refusals_of (Some why) = Some (refusal_of why)
+refusals_of (Some why) = Some (plain_refusal why)
 
 -- The plain program's answer to a call on a page, as that of the model.
 abbrev pub answer_of : Answer → refusal.Answer
 answer_of (Done frame) = refusal.Done frame
-answer_of (Refused why) = refusal.Refused (refusal_of why)
+answer_of (Refused why) = refusal.Refused (plain_refusal why)
 
 -- The path map and the plain program's answer after a call on one entry, as the model has them.
-abbrev pub after_change : PathMap → Answer → AfterChange
-after_change paths answer = record { paths = paths; answer = answer_of answer }
+abbrev pub plain_change : PathMap → Answer → AfterChange
+plain_change paths answer = record { paths = paths; answer = answer_of answer }
 
 -- The path map, the free frames and the plain program's answer after a map, as the model has them.
-abbrev pub after_map : PathMap → (supply : List ℕ) → Answer → AfterMap
-after_map paths supply answer = record { paths = paths; supply = supply; answer = answer_of answer }
+abbrev pub plain_map : PathMap → (supply : List ℕ) → Answer → AfterMap
+plain_map paths supply answer = record { paths = paths; supply = supply; answer = answer_of answer }
 
 -- The plain program's result of a translation, as that of the model.
 abbrev pub translated_of : Translated → translation.Translated
@@ -49,22 +49,22 @@ translated_of NotMapped = translation.NotMapped
 translated_of (Mapped size frame offset flags) = translation.Mapped size frame offset flags
 
 -- The plain program's call, as that of the model.
-abbrev pub call_of : PlainCall → call.Call
-call_of (MapTo page frame flags) = call.MapTo page.items frame flags
-call_of (MapToWithTableFlags page frame flags parent_flags) = call.MapToWithTableFlags page.items frame flags parent_flags
-call_of (IdentityMap level frame flags) = call.IdentityMap level frame flags
-call_of (Unmap page) = call.Unmap page.items
-call_of (UpdateFlags page flags) = call.UpdateFlags page.items flags
-call_of (SetFlags level page flags) = call.SetFlags level page.items flags
-call_of (TranslatePage page) = call.TranslatePage page.items
-call_of (Translate position) = call.Translate position
-call_of (TranslateAddress position) = call.TranslateAddress position
-call_of (CleanUp low high) = call.CleanUp low high
+abbrev pub plain_call : PlainCall → call.Call
+plain_call (MapTo page frame flags) = call.MapTo page.items frame flags
+plain_call (MapToWithTableFlags page frame flags parent_flags) = call.MapToWithTableFlags page.items frame flags parent_flags
+plain_call (IdentityMap level frame flags) = call.IdentityMap level frame flags
+plain_call (Unmap page) = call.Unmap page.items
+plain_call (UpdateFlags page flags) = call.UpdateFlags page.items flags
+plain_call (SetFlags level page flags) = call.SetFlags level page.items flags
+plain_call (TranslatePage page) = call.TranslatePage page.items
+plain_call (Translate position) = call.Translate position
+plain_call (TranslateAddress position) = call.TranslateAddress position
+plain_call (CleanUp low high) = call.CleanUp low high
 
 -- The plain program's reply to a call, as that of the model.
-abbrev pub reply_of : PlainReply → call.Reply
-reply_of NotAllowed = call.NotAllowed
-reply_of (Answered answer) = call.Answered (answer_of answer)
-reply_of (Position translated) = call.Position (translated_of translated)
-reply_of (Address address) = call.Address address
-reply_of Cleaned = call.Cleaned
+abbrev pub plain_reply : PlainReply → call.Reply
+plain_reply NotAllowed = call.NotAllowed
+plain_reply (Answered answer) = call.Answered (answer_of answer)
+plain_reply (Position translated) = call.Position (translated_of translated)
+plain_reply (Address address) = call.Address address
+plain_reply Cleaned = call.Cleaned

@@ -25,5 +25,5 @@ abbrev pub stays : (L : ℕ) → PathMap → (low high : ℕ) → PathEntry → 
 stays L paths low high item = not (is_removed L paths low high item.path.items)
 
 -- The path map after a clean up, and the frames that it frees, as the model has them.
-abbrev pub after_clean_up : PathMap → (back : List ℕ) → AfterCleanUp
-after_clean_up paths back = record { paths = paths; back = back }
+abbrev pub plain_clean_up : PathMap → (back : List ℕ) → AfterCleanUp
+plain_clean_up paths back = record { paths = paths; back = back }

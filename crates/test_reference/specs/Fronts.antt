@@ -9,8 +9,8 @@ abbrev pub fronts : List ℕ → (lengths : List ℕ) → List (List ℕ)
 fronts q lengths = map (λ n. take n q) lengths
 
 -- Whether the entry at a path is used if `wanted` is true, or unused if it is false.
-abbrev pub is_wanted : PathMap → (wanted : Bool) → List ℕ → Bool
-is_wanted paths wanted p = cond wanted (used (entry paths p)) (not (used (entry paths p)))
+abbrev pub is_wanted_front : PathMap → (wanted : Bool) → List ℕ → Bool
+is_wanted_front paths wanted p = cond wanted (used (entry paths p)) (not (used (entry paths p)))
 
 -- Whether the entry at a path is used and has HUGE_PAGE.
 abbrev pub has_huge_page : PathMap → List ℕ → Bool

@@ -14,9 +14,9 @@ abbrev pub paths_of_items : List PathEntry → PathMap
 paths_of_items items = from_entries (pairs items)
 
 -- The first entry that a list of paths with entries has for a path, or None if it has none.
-abbrev pub found : List PathEntry → List ℕ → Option ℕ
-found items q = option_map (λ item. item.word) (find (λ item. bytes_eq item.path.items q) items)
+abbrev pub found_entry : List PathEntry → List ℕ → Option ℕ
+found_entry items q = option_map (λ item. item.word) (find (λ item. bytes_eq item.path.items q) items)
 
 -- The items of a list of paths with entries whose path isn't this one.
-abbrev pub without : List PathEntry → List ℕ → List PathEntry
-without items q = filter (λ item. not (bytes_eq item.path.items q)) items
+abbrev pub without_entry : List PathEntry → List ℕ → List PathEntry
+without_entry items q = filter (λ item. not (bytes_eq item.path.items q)) items

@@ -7,7 +7,7 @@ ghost use Rattle.x86_64_model.specs.MapRule.{leaf_entry as leaf_entry_of};
 ghost use Rattle.x86_64_model.specs.Refusal.{Done, PageNotMapped, answer_unless, refused_if};
 ghost use Rattle.x86_64_model.specs.PageRules.{AfterChange, refused_or, unmap_refusal as unmap_refusal_of, update_refusal as update_refusal_of, translate_refusal as translate_refusal_of, unmap as unmap_of, update_flags as update_flags_of, translate_page as translate_page_of, set_flags as set_flags_of};
 ghost use Rattle.test_reference.specs.Windows.{entry_read};
-ghost use Rattle.test_reference.specs.Calls.{refusals_of, answer_of, after_change};
+ghost use Rattle.test_reference.specs.Calls.{refusals_of, answer_of, plain_change};
 
 use crate::entries::PathEntries;
 use crate::machine::PlainMachine;
@@ -38,7 +38,7 @@ fn change(
 ) -> Result<Answer, AllocError>
     ensures { let next : AfterChange = record { paths = put paths.old path.now word; answer = Done frame } in
         let after = refused_or paths.old (refusals_of refusal) next in
-        IfOk result (λ answer. after_change paths.new answer ≡ after) }
+        IfOk result (λ answer. plain_change paths.new answer ≡ after) }
 {
     match refusal {
         Some(why) => Ok(Answer::Refused(why)),
@@ -131,7 +131,7 @@ impl PlainMachine {
         requires { self.now.levels ≤ 5 }
         ensures { let read = entry_read self.now.window paths.old in
             let after = unmap_of self.now.levels read paths.old page.now in
-            IfOk result (λ answer. after_change paths.new answer ≡ after) }
+            IfOk result (λ answer. plain_change paths.new answer ≡ after) }
     {
         let word = entry_at(self.window, paths, page);
         let refusal = first_stop(self.window, paths, page).or(unmap_refusal(
@@ -155,7 +155,7 @@ impl PlainMachine {
     ) -> Result<Answer, AllocError>
         ensures { let read = entry_read self.now.window paths.old in
             let after = update_flags_of self.now.levels read paths.old page.now flags in
-            IfOk result (λ answer. after_change paths.new answer ≡ after) }
+            IfOk result (λ answer. plain_change paths.new answer ≡ after) }
     {
         let word = entry_at(self.window, paths, page);
         let frame = address(word);
@@ -204,7 +204,7 @@ impl PlainMachine {
         requires { self.now.levels ≤ 5 }
         ensures { let read = entry_read self.now.window paths.old in
             let after = set_flags_of self.now.levels read paths.old level page.now flags in
-            IfOk result (λ answer. after_change paths.new answer ≡ after) }
+            IfOk result (λ answer. plain_change paths.new answer ≡ after) }
     {
         if level <= level_of(self.levels, page) {
             return Ok(Answer::Refused(Refusal::ParentEntryHugePage));

@@ -6,7 +6,7 @@ ghost use Rattle.std.specs.List.{list_all};
 ghost use Rattle.std.specs.FinMap.{keys, retain_keys};
 ghost use Rattle.x86_64_model.specs.Path.{parents, paths_below, is_below as is_below_of, span_start as span_start_of};
 ghost use Rattle.test_reference.specs.PathEntries.{pairs};
-ghost use Rattle.test_reference.specs.Cleaning.{FitsOrNone, in_range_if_below, frames, stays, after_clean_up};
+ghost use Rattle.test_reference.specs.Cleaning.{FitsOrNone, in_range_if_below, frames, stays, plain_clean_up};
 ghost use Rattle.x86_64_model.specs.CleanUp.{meets as meets_of, in_range as in_range_of, is_removed as is_removed_of, clean_up as clean_up_of};
 
 use crate::entries::{PathEntries, PathEntry};
@@ -205,7 +205,7 @@ impl CleanUpRange {
     #[tactic(auto, unfolding(x86_64_model::specs::CleanUp::clean_up))]
     pub fn clean_up(self, paths: &mut PathEntries) -> Result<Vec<u64>, AllocError>
         ensures { let after = clean_up_of self.levels paths.old self.low self.high in
-            IfOk result (λ back. after_clean_up paths.new back.items ≡ after) }
+            IfOk result (λ back. plain_clean_up paths.new back.items ≡ after) }
     {
         let mut back = Vec::new(*paths.items.allocator());
         self.add_frames(paths, self.levels.saturating_sub(1), &[], &mut back)?;

@@ -7,7 +7,7 @@ ghost use Rattle.x86_64_model.specs.MapRule.{parent_part as parent_part_of};
 ghost use Rattle.x86_64_model.specs.Allowed.{allowed as allowed_of, refuses, both_or_none as both_or_none_of, parents_present as parents_present_of, map_allowed as map_allowed_of, set_flags_allowed as set_flags_allowed_of};
 ghost use Rattle.test_reference.specs.Fronts.{first_present};
 ghost use Rattle.test_reference.specs.Windows.{window_of, entry_read};
-ghost use Rattle.test_reference.specs.Calls.{call_of};
+ghost use Rattle.test_reference.specs.Calls.{plain_call};
 
 use crate::entries::PathEntries;
 use crate::machine::PlainMachine;
@@ -133,7 +133,7 @@ impl PlainMachine {
     pub fn is_allowed(&self, paths: &PathEntries, call: &PlainCall) -> Result<bool, AllocError>
         requires { self.now.levels ≤ 5 }
         ensures { let allows = allowed_of self.now.levels (window_of self.now.window) in
-            IfOk result (λ b. b ≡ allows paths.now (call_of call.now)) }
+            IfOk result (λ b. b ≡ allows paths.now (plain_call call.now)) }
     {
         match call {
             PlainCall::MapTo { page, flags, .. } => { Ok(self.map_to_allowed(paths, page, *flags)) }

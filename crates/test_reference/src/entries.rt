@@ -1,7 +1,7 @@
 //! Path maps as lists of paths and entries.
 ghost use Rattle.std.specs.Prelude.{◌≡◌, OnOk};
 ghost use Rattle.std.specs.FinMap.{empty};
-ghost use Rattle.test_reference.specs.PathEntries.{found, without};
+ghost use Rattle.test_reference.specs.PathEntries.{found_entry, without_entry};
 ghost use Rattle.x86_64_model.specs.PathMap.{entry as entry_of, put as put_of};
 
 use std::alloc::{AllocError, Global};
@@ -76,7 +76,7 @@ impl PathEntries {
 
 /// Returns the first word stored for a path.
 fn word_at(items: &[PathEntry], path: &[u64]) -> Option<u64>
-    ensures { result ≡ found items.now path.now }
+    ensures { result ≡ found_entry items.now path.now }
 {
     items
         .iter()
@@ -86,7 +86,7 @@ fn word_at(items: &[PathEntry], path: &[u64]) -> Option<u64>
 
 /// Removes all items at a path.
 fn leave_out(items: &mut Vec<PathEntry>, path: &[u64])
-    ensures { items.new.items ≡ without items.old.items path.now }
+    ensures { items.new.items ≡ without_entry items.old.items path.now }
 {
     items.retain(|item| item.path.as_slice() != path);
 }

@@ -1,13 +1,13 @@
 //! The machine's step.
 ghost use Rattle.std.specs.Prelude.{◌≡◌, ◌≤◌, OnOk, IfOk};
 ghost use Rattle.x86_64_model.specs.Call.{MapToWithTableFlags, IdentityMap, CleanUp};
-ghost use Rattle.x86_64_model.specs.Pool.{given_back};
+ghost use Rattle.x86_64_model.specs.Pool.{with_returned};
 ghost use Rattle.x86_64_model.specs.Store.{put_first};
 ghost use Rattle.x86_64_model.specs.Translation.{translate as translate_of, address_of as address_of_translated};
 ghost use Rattle.x86_64_model.specs.Machine.{step as step_of};
 ghost use Rattle.test_reference.specs.Windows.{entry_read};
-ghost use Rattle.test_reference.specs.Calls.{call_of, translated_of};
-ghost use Rattle.test_reference.specs.Machine.{CanAdd, machine_of, plain_state, outcome, allowed_outcome};
+ghost use Rattle.test_reference.specs.Calls.{plain_call, translated_of};
+ghost use Rattle.test_reference.specs.Machine.{CanAdd, plain_machine, plain_state, plain_outcome, allowed_outcome};
 
 use crate::cleaning::CleanUpRange;
 use crate::entries::PathEntries;
@@ -50,7 +50,7 @@ fn address_of(translated: Translated) -> Option<u64>
 
 /// Puts frames in front of a pool, one after another.
 fn give_back(pool: &mut Vec<u64>, frames: &[u64]) -> Result<(), AllocError>
-    ensures { OnOk result (pool.new.items ≡ given_back put_first pool.old.items frames.now) }
+    ensures { OnOk result (pool.new.items ≡ with_returned put_first pool.old.items frames.now) }
 {
     match frames {
         [] => Ok(()),
@@ -83,7 +83,7 @@ impl PlainMachine {
         parent_flags: u64,
     ) -> Result<PlainReply, AllocError>
         ensures { let call = MapToWithTableFlags page.now frame flags parent_flags in
-            IfOk result (λ reply. outcome state.new reply ≡ allowed_outcome self.now state.old call) }
+            IfOk result (λ reply. plain_outcome state.new reply ≡ allowed_outcome self.now state.old call) }
     {
         let (paths, pool) = (&mut state.paths, &mut state.pool);
         let answer = self.map_call(paths, pool, page, frame, flags, parent_flags)?;
@@ -101,7 +101,7 @@ impl PlainMachine {
     ) -> Result<PlainReply, AllocError>
         requires { self.now.levels ≤ 5 }
         ensures { let call = IdentityMap level frame flags in
-            IfOk result (λ reply. outcome state.new reply ≡ allowed_outcome self.now state.old call) }
+            IfOk result (λ reply. plain_outcome state.new reply ≡ allowed_outcome self.now state.old call) }
     {
         let alloc = *state.pool.allocator();
         let page = path_at(alloc, self.levels, level, frame)?;
@@ -118,7 +118,7 @@ impl PlainMachine {
     ) -> Result<PlainReply, AllocError>
         requires { self.now.levels ≤ 5 }
         ensures { let call = CleanUp low high in
-            IfOk result (λ reply. outcome state.new reply ≡ allowed_outcome self.now state.old call) }
+            IfOk result (λ reply. plain_outcome state.new reply ≡ allowed_outcome self.now state.old call) }
     {
         let levels = self.levels;
         let back = CleanUpRange { levels, low, high }.clean_up(&mut state.paths)?;
@@ -131,7 +131,7 @@ impl PlainMachine {
     fn do_call(&self, state: &mut PlainState, call: &PlainCall) -> Result<PlainReply, AllocError>
         requires { self.now.levels ≤ 5 }
         ensures { let outcome_of = allowed_outcome self.now state.old in
-            IfOk result (λ reply. outcome state.new reply ≡ outcome_of (call_of call.now)) }
+            IfOk result (λ reply. plain_outcome state.new reply ≡ outcome_of (plain_call call.now)) }
     {
         match call {
             PlainCall::MapTo { page, frame, flags } => {
@@ -183,8 +183,8 @@ impl PlainMachine {
     /// `AllocError` if memory allocation fails. The state is then unspecified.
     pub fn step(&self, state: &mut PlainState, call: &PlainCall) -> Result<PlainReply, AllocError>
         requires { self.now.levels ≤ 5 }
-        ensures { let expected = step_of (machine_of self.now) (plain_state state.old) (call_of call.now) in
-            IfOk result (λ reply. outcome state.new reply ≡ expected) }
+        ensures { let expected = step_of (plain_machine self.now) (plain_state state.old) (plain_call call.now) in
+            IfOk result (λ reply. plain_outcome state.new reply ≡ expected) }
     {
         if self.is_allowed(&state.paths, call)? {
             self.do_call(state, call)

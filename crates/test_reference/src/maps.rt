@@ -3,8 +3,8 @@ ghost use Rattle.std.specs.Prelude.{◌≡◌, OnOk, IfOk, filter, drop};
 ghost use Rattle.std.specs.List.{list_any};
 ghost use Rattle.x86_64_model.specs.Path.{parents};
 ghost use Rattle.x86_64_model.specs.MapRule.{with_flags, with_tables, map_call as map_call_of};
-ghost use Rattle.test_reference.specs.Calls.{after_map};
-ghost use Rattle.test_reference.specs.Fronts.{fronts, is_wanted, has_huge_page};
+ghost use Rattle.test_reference.specs.Calls.{plain_map};
+ghost use Rattle.test_reference.specs.Fronts.{fronts, is_wanted_front, has_huge_page};
 
 use crate::changes::leaf_entry;
 use crate::entries::PathEntries;
@@ -21,7 +21,7 @@ fn parents_where(
     path: &[u64],
     used: bool,
 ) -> Result<Vec<usize>, AllocError>
-    ensures { let found = filter (is_wanted paths.now used) (parents path.now) in
+    ensures { let found = filter (is_wanted_front paths.now used) (parents path.now) in
         IfOk result (λ lengths. fronts path.now lengths.items ≡ found) }
 {
     let mut lengths = Vec::new(alloc);
@@ -111,7 +111,7 @@ impl PlainMachine {
     ) -> Result<Answer, AllocError>
         ensures { let map = map_call_of self.now.levels paths.old pool.old.items in
             let before = map parent_flags self.now.added_flags in
-            IfOk result (λ answer. after_map paths.new pool.new.items answer ≡ before page.now frame flags) }
+            IfOk result (λ answer. plain_map paths.new pool.new.items answer ≡ before page.now frame flags) }
     {
         let alloc = *pool.allocator();
         let used = parents_where(alloc, paths, page, true)?;

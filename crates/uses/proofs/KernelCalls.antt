@@ -7,7 +7,7 @@ use Rattle.x86_64_model.specs.Call.{IsCall}
 use Rattle.x86_64_model.specs.Entry.{address, has, present}
 use Rattle.x86_64_model.specs.Flushing.{Due, PageDue, TablesDue, flush_after, if_window}
 use Rattle.x86_64_model.specs.Laws.Globals.{GlobalsBelow}
-use Rattle.x86_64_model.specs.Laws.SwitchedSpaces.{space_in, started_in, MaySwitchIn}
+use Rattle.x86_64_model.specs.Laws.SwitchedSpaces.{space_for, started_in, MaySwitchIn}
 use Rattle.x86_64_model.specs.Layout.{Layout}
 use Rattle.x86_64_model.specs.Lists.{In}
 use Rattle.x86_64_model.specs.Machine.{State, step}
@@ -34,11 +34,11 @@ use Rattle.x86_64.specs.Asked.{MapperCall, Of4KiB, MapTo, Unmap, machine_call}
 use Rattle.x86_64.specs.FreeFrames.{KeepsFree, back_by}
 use Rattle.x86_64.specs.Replies.{Reply}
 use Rattle.x86_64.specs.Runs.{AfterStep, step_by}
-use Rattle.x86_64.specs.SwitchingProcessors.{IsReached, RunsOn, made_by, with_due}
+use Rattle.x86_64.specs.SwitchingProcessors.{IsReachedBySwitches, RunsOn, made_by, with_due}
 use Rattle.x86_64.proofs.SwitchingProcessors.{reached_by_calls, reached_first}
 use Rattle.uses.specs.Processes.{is_kernels}
-use Rattle.uses.specs.SpacesBeside.{OthersStay, LeavesSpaces}
-use Rattle.uses.specs.SwitchingKernel.{ProcessorState, BeginsWith, KernelState, AreProcesses, IsLate, IsOwnCall, Ran, Runs, kernel_with, space_of, spaces_of, with_processor}
+use Rattle.uses.specs.SpacesBeside.{OtherSpacesStay, LeavesSpaces}
+use Rattle.uses.specs.SwitchingKernel.{ProcessorState, BeginsWith, KernelState, AreProcesses, IsLate, IsOwnCall, ProcessRan, KernelRuns, kernel_with, space_of, process_spaces, with_processor}
 use Rattle.uses.specs.declared.switching_kernel.Process.{Process}
 use Rattle.uses.proofs.ProcessCalls.{page_avoids}
 use Rattle.uses.proofs.SpaceRuns.{no_flags}
@@ -99,13 +99,13 @@ not_below [] (j ∷ r) e = absurd (omega arith)
 not_below (i ∷ q) [] e = refl
 not_below (i ∷ q) (j ∷ r) e = ap (λ b. (i == j) && b) (not_below q r (omega arith)) ∙ both_false (i == j)
 
-may_switch : (processes : List Process) (m : Memory) (store : Store) → AreProcesses processes m store → MaySwitchIn (kernel_with store) identity_places (words_of m identity_places) (spaces_of processes)
+may_switch : (processes : List Process) (m : Memory) (store : Store) → AreProcesses processes m store → MaySwitchIn (kernel_with store) identity_places (words_of m identity_places) (process_spaces processes)
 unfolding entry_at
 may_switch processes m store are = record {
   mapping = λ l il. let o = from_map space_of processes l il in subst (λ (l : Layout). l.places ≡ identity_places) o.2 refl;
   same_levels = λ l il. let o = from_map space_of processes l il in subst (λ (l : Layout). l.levels ≡ 4) o.2 refl;
   globals = λ l il. let o = from_map space_of processes l il in
-      subst (λ (l : Layout). (q : List ℕ) → let e = entry_at l.window (space_in (kernel_with store) (words_of m identity_places) l).paths q in
+      subst (λ (l : Layout). (q : List ℕ) → let e = entry_at l.window (space_for (kernel_with store) (words_of m identity_places) l).paths q in
       present e ≡ true → maps_page (level_of 4 q) e ≡ true → global e ≡ true → is_shared is_kernels q ≡ true) o.2
       (λ q here maps g. are.globals o.0 o.1 q maps g);
   windows = λ l il q e. let o = from_map space_of processes l il in
@@ -117,15 +117,15 @@ may_switch processes m store are = record {
 
 -- a processor that begins with a process
 pub ran_first : (processes : List Process) (m : Memory) (store : Store) → TakesBack store.take_back → AreProcesses processes m store → (a : Process) → In processes a
-    → (late : Option ℕ) (now : ProcessorState) → BeginsWith a.root a.pcid now → Ran processes m store late now
+    → (late : Option ℕ) (now : ProcessorState) → BeginsWith a.root a.pcid now → ProcessRan processes m store late now
 ran_first processes m store gives are a ia late now begins =
-    let spaces = spaces_of processes in
+    let spaces = process_spaces processes in
     let first = started_in (kernel_with store) (words_of m identity_places) store.frames spaces (space_of a) a.pcid in
     let reached = reached_first (kernel_with store) identity_places identity_is_mapping (lit< tt) gives (λ x y. is_kernels) (λ x y i on. on) m store.frames spaces
     (spaces_are_paired is_kernels m store.serves store.frames spaces are.spaces) (may_switch processes m store are) (space_of a) (in_map space_of processes a ia) a.pcid in
     record {
       system = first;
-      reached = subst (λ (now : ProcessorState). IsReached (kernel_with store) identity_places m store.frames spaces (with_processor now first))
+      reached = subst (λ (now : ProcessorState). IsReachedBySwitches (kernel_with store) identity_places m store.frames spaces (with_processor now first))
           (λ i. record { root = sym begins.has_root i; pcid = sym begins.has_pcid i; loaded = now.loaded; cached = sym begins.cached i }) reached.0;
       loaded = begins.loaded;
       own = λ b ib c e. ⊎_elim
@@ -147,12 +147,12 @@ module _ (processes : List Process) (store : Store) (m n : Memory) (rest : List 
   after = record store { frames = rest }
 
   abbrev spaces : List Layout
-  spaces = spaces_of processes
+  spaces = process_spaces processes
 
   there : In spaces (space_of a)
   there = in_map space_of processes a ia
 
-  others_stay : OthersStay spaces (space_of a) m n
+  others_stay : OtherSpacesStay spaces (space_of a) m n
   others_stay = (beside.users is_kernels spaces there are.spaces (own.avoids, tt)).1
 
   own_globals : GlobalsBelow 4 is_kernels (paths (space_of a laid_in n))
@@ -191,7 +191,7 @@ module _ (processes : List Process) (store : Store) (m n : Memory) (rest : List 
     avoids = λ off. own.avoids;
   }
 
-  module _ (now : ProcessorState) (ran : Ran processes m store late now) where
+  module _ (now : ProcessorState) (ran : ProcessRan processes m store late now) where
     abbrev s : Switching
     s = with_processor now ran.system
 
@@ -211,7 +211,7 @@ module _ (processes : List Process) (store : Store) (m n : Memory) (rest : List 
             (λ apart. absurd (subst (λ b. In (cond b new []) d) (ne_eqb r a.root apart) i))
             (cases_eq r a.root)
 
-    pub ran_called : Ran processes n after late now
+    pub ran_called : ProcessRan processes n after late now
     ran_called = record {
       system = with_due new (λ r. r == a.root) false s;
       reached = reached_by_calls (kernel_with store) identity_places identity_is_mapping (lit< tt) gives (λ x y. is_kernels) m n store.frames rest spaces (space_of a) call reply true (λ r. r == a.root) false s
@@ -226,7 +226,7 @@ module _ (processes : List Process) (store : Store) (m n : Memory) (rest : List 
 
 -- ---- the kernel's call
 
-module _ (s : KernelState) (runs : Runs s) (a : Process) (ia : In s.processes a) (call : MapperCall) (reply : Reply) (is_call : IsCall 4 (machine_call 4 call)) (own : IsOwnCall s.late a (machine_call 4 call))
+module _ (s : KernelState) (runs : KernelRuns s) (a : Process) (ia : In s.processes a) (call : MapperCall) (reply : Reply) (is_call : IsCall 4 (machine_call 4 call)) (own : IsOwnCall s.late a (machine_call 4 call))
     (n : Memory) (rest : List ℕ)
     (steps : step_by (machine_of (space_of a) s.store.take_back) (state_in (space_of a) s.memory s.store.frames) call ≡ record { state = state_in (space_of a) n rest; reply = Some reply })
     (free : KeepsFree (space_of a) s.memory s.store.frames (back_by (machine_of (space_of a) s.store.take_back) (state_in (space_of a) s.memory s.store.frames) (machine_call 4 call)) n rest)
@@ -234,12 +234,12 @@ module _ (s : KernelState) (runs : Runs s) (a : Process) (ia : In s.processes a)
   gives_back : TakesBack s.store.take_back
   gives_back = runs.first.reached.switches.gives
 
-  pub runs_others : OthersStay (spaces_of s.processes) (space_of a) s.memory n
+  pub runs_others : OtherSpacesStay (process_spaces s.processes) (space_of a) s.memory n
   runs_others = others_stay s.processes s.store s.memory n rest a ia call reply is_call s.late own gives_back runs.are steps free beside
 
   pub runs_called : (serves : ℕ → Bool) → serves ≡ s.store.serves
-      → Runs (record s { memory = n; store = record { frames = rest; serves = serves; take_back = s.store.take_back } })
-  runs_called serves same = subst (λ serves. Runs (record s { memory = n; store = record { frames = rest; serves = serves; take_back = s.store.take_back } })) (sym same) (record {
+      → KernelRuns (record s { memory = n; store = record { frames = rest; serves = serves; take_back = s.store.take_back } })
+  runs_called serves same = subst (λ serves. KernelRuns (record s { memory = n; store = record { frames = rest; serves = serves; take_back = s.store.take_back } })) (sym same) (record {
     are = are_then s.processes s.store s.memory n rest a ia call reply is_call s.late own gives_back runs.are steps free beside;
     first = ran_called s.processes s.store s.memory n rest a ia call reply is_call s.late own gives_back runs.are steps free beside s.first runs.first;
     second = ran_called s.processes s.store s.memory n rest a ia call reply is_call s.late own gives_back runs.are steps free beside s.second runs.second;

@@ -3,7 +3,7 @@ use Rattle.std.proofs.Common.{◌≡◌, ⊎_elim, ◌<◌, ◌+◌, ◌==◌, �
 use Rattle.std.proofs.lemmas.Bool.{cases_Bool, cases_eq}
 use Rattle.x86_64_model.specs.Flushing.{Due, PageDue, WindowDue, BelowDue}
 use Rattle.x86_64_model.specs.Laws.Caches.{IsLetGo}
-use Rattle.x86_64_model.specs.Laws.SwitchedSpaces.{between, space_in}
+use Rattle.x86_64_model.specs.Laws.SwitchedSpaces.{between, space_for}
 use Rattle.x86_64_model.specs.Laws.Switches.{due_here}
 use Rattle.x86_64_model.specs.Layout.{Layout}
 use Rattle.x86_64_model.specs.Lists.{In}
@@ -17,9 +17,9 @@ use Rattle.x86_64_model.specs.Window.{entry_at}
 use Rattle.x86_64_model.proofs.Lemmas.Lists.Members.{in_append, in_map, from_map, from_filter, passes}
 use Rattle.x86_64_model.proofs.Lemmas.Switches.Dues.{in_cond}
 use Rattle.x86_64_model.proofs.Lemmas.Switches.Runs.{current_is_a_space, let_go_is_unreached_here}
-use Rattle.x86_64.specs.SwitchingProcessors.{IsReached}
+use Rattle.x86_64.specs.SwitchingProcessors.{IsReachedBySwitches}
 use Rattle.x86_64.proofs.SwitchingProcessors.{reached_by_events}
-use Rattle.uses.specs.SwitchingKernel.{ProcessorState, KernelState, Runs, IsUnreached, FlushesPcid, CachesInTurn, CachesIn, NeverReaches, space_of, spaces_of, kernel_with, with_processor, IsLate, Ran, IsUnmapped, Switches}
+use Rattle.uses.specs.SwitchingKernel.{ProcessorState, KernelState, KernelRuns, IsUnreached, FlushesPcid, TaggedCachesInTurn, CachesChange, NeverReaches, space_of, process_spaces, kernel_with, with_processor, IsLate, ProcessRan, FrameIsUnmapped, SwitchesTo}
 use Rattle.uses.specs.declared.switching_kernel.Process.{Process}
 
 -- a PCID holds what was loaded, if it is known
@@ -37,22 +37,22 @@ module _ (processes : List Process) (m : Memory) (store : Store) where
   T = words_of m identity_places
 
   abbrev at : Switching → Switching
-  at s = between k T store.frames (spaces_of processes) s
+  at s = between k T store.frames (process_spaces processes) s
 
   abbrev Reached : Switching → Type 0
-  Reached s = IsReached k identity_places m store.frames (spaces_of processes) s
+  Reached s = IsReachedBySwitches k identity_places m store.frames (process_spaces processes) s
 
   event_reached : (s t : Switching) → Reached s → (e : SwitchEvent) → MaySwitch k (at s) e → after_switch k (at s) e ≡ at t → Reached t
-  event_reached s t reached e may ends = reached_by_events k identity_places m m store.frames store.frames (spaces_of processes) (spaces_of processes) s t reached (e ∷ []) (may, tt) ends
+  event_reached s t reached e may ends = reached_by_events k identity_places m m store.frames store.frames (process_spaces processes) (process_spaces processes) s t reached (e ∷ []) (may, tt) ends
 
   -- ---- it caches
 
-  turns_reached : (s : Switching) → Reached s → (between : List (List Tagged)) (now : List Tagged) → CachesInTurn s.root s.pcid T s.cache between now → Reached (record s { cache = now })
+  turns_reached : (s : Switching) → Reached s → (between : List (List Tagged)) (now : List Tagged) → TaggedCachesInTurn s.root s.pcid T s.cache between now → Reached (record s { cache = now })
   turns_reached s reached [] now same = subst (λ items. Reached (record s { cache = items })) same reached
   turns_reached s reached (next ∷ more) now turns = turns_reached (record s { cache = next }) (event_reached s (record s { cache = next }) reached (Changes next) turns.0 refl) more now turns.1
 
-  pub ran_cached : (late : Option ℕ) (before now : ProcessorState) → CachesIn m before now → Ran processes m store late before → Ran processes m store late now
-  ran_cached late before now caches ran = subst (Ran processes m store late) (sym caches.same) (record {
+  pub ran_cached : (late : Option ℕ) (before now : ProcessorState) → CachesChange m before now → ProcessRan processes m store late before → ProcessRan processes m store late now
+  ran_cached late before now caches ran = subst (ProcessRan processes m store late) (sym caches.same) (record {
     system = ran.system;
     reached = turns_reached (with_processor before ran.system) ran.reached caches.between now.cached caches.turns;
     loaded = ran.loaded;
@@ -80,14 +80,14 @@ module _ (processes : List Process) (m : Memory) (store : Store) where
         (λ apart. own b ib c (sym (ap (λ x. cond x (Some a.root) (holder c)) (ne_eqb c a.pcid apart)) ∙ e))
         (cases_eq c a.pcid)
 
-    pub ran_switched : (late : Option ℕ) (before now : ProcessorState) → Switches a before now → Ran processes m store late before → Ran processes m store late now
+    pub ran_switched : (late : Option ℕ) (before now : ProcessorState) → SwitchesTo a before now → ProcessRan processes m store late before → ProcessRan processes m store late now
     ran_switched late before now switches ran = let s = with_processor before ran.system in let loads = switches.loads in
         let e = Loads a.root a.pcid switches.keeps now.cached in
-        subst (Ran processes m store late) (λ i. record now { root = sym loads.has_root i; pcid = sym loads.has_pcid i }) (record {
+        subst (ProcessRan processes m store late) (λ i. record now { root = sym loads.has_root i; pcid = sym loads.has_pcid i }) (record {
           system = after_switch k s e;
           reached = event_reached s (after_switch k s e) ran.reached e (record {
-            space = space_in k T (space_of a);
-            there = in_map (space_in k T) (spaces_of processes) (space_of a) (in_map space_of processes a ia);
+            space = space_for k T (space_of a);
+            there = in_map (space_for k T) (process_spaces processes) (space_of a) (in_map space_of processes a ia);
             is_root = refl;
             holds = λ kept. ran.loaded a.pcid a.root (switches.is_own kept);
             left = loads.left;
@@ -100,7 +100,7 @@ module _ (processes : List Process) (m : Memory) (store : Store) where
   -- ---- it flushes
 
   -- if nothing was late, anything may be
-  pub ran_none_late : (late : Option ℕ) (now : ProcessorState) → Ran processes m store None now → Ran processes m store late now
+  pub ran_none_late : (late : Option ℕ) (now : ProcessorState) → ProcessRan processes m store None now → ProcessRan processes m store late now
   ran_none_late late now ran = record {
     system = ran.system;
     reached = ran.reached;
@@ -109,9 +109,9 @@ module _ (processes : List Process) (m : Memory) (store : Store) where
     due = λ tag d i. let x = ran.due tag d i in let no : None ≡ Some x.pcid = x.is_late in absurd (cc);
   }
 
-  pub ran_flushed : (pcid : ℕ) (before now : ProcessorState) → FlushesPcid pcid before now → Ran processes m store (Some pcid) before → Ran processes m store None now
+  pub ran_flushed : (pcid : ℕ) (before now : ProcessorState) → FlushesPcid pcid before now → ProcessRan processes m store (Some pcid) before → ProcessRan processes m store None now
   ran_flushed pcid before now flushes ran = let s = with_processor before ran.system in let e = Flushes (InvpcidContext pcid) now.cached in
-      subst (Ran processes m store None) (sym flushes.same) (record {
+      subst (ProcessRan processes m store None) (sym flushes.same) (record {
         system = after_switch k s e;
         reached = event_reached s (after_switch k s e) ran.reached e flushes.left refl;
         loaded = ran.loaded;
@@ -131,13 +131,13 @@ module _ (processes : List Process) (m : Memory) (store : Store) where
 
   -- ---- if nothing is late, it reaches no frame that no process maps
 
-  none_due : (now : ProcessorState) (ran : Ran processes m store None now) (d : Due) → In (due_here (at (with_processor now ran.system))) d → ⊥
+  none_due : (now : ProcessorState) (ran : ProcessRan processes m store None now) (d : Due) → In (due_here (at (with_processor now ran.system))) d → ⊥
   none_due now ran d i = ⊎_elim (no (Of now.pcid)) (no Global) (in_append (ran.system.due (Of now.pcid)) (ran.system.due Global) d i)
     where
       no : (tag : Tag) → In (ran.system.due tag) d → ⊥
       no tag i = let x = ran.due tag d i in let never : None ≡ Some x.pcid = x.is_late in cc
 
-  is_let_go : (now : ProcessorState) (ran : Ran processes m store None now) (b : Process) → In processes b → (frame : ℕ) → IsUnmapped processes m frame → (offset : ℕ) → offset < 4096
+  is_let_go : (now : ProcessorState) (ran : ProcessRan processes m store None now) (b : Process) → In processes b → (frame : ℕ) → FrameIsUnmapped processes m frame → (offset : ℕ) → offset < 4096
       → IsLetGo 4 None (due_here (at (with_processor now ran.system))) (entry_at None (paths (space_of b laid_in m))) (frame + offset)
   unfolding entry_at
   is_let_go now ran b ib frame unmapped offset low = record {
@@ -147,36 +147,36 @@ module _ (processes : List Process) (m : Memory) (store : Store) where
     window_flushed = λ i. none_due now ran WindowDue i;
   }
 
-  pub never_reaches : (now : ProcessorState) → Ran processes m store None now → (frame : ℕ) → IsUnmapped processes m frame → NeverReaches m now frame
+  pub never_reaches : (now : ProcessorState) → ProcessRan processes m store None now → (frame : ℕ) → FrameIsUnmapped processes m frame → NeverReaches m now frame
   never_reaches now ran frame unmapped p w may offset low =
       let ends = at (with_processor now ran.system) in
       let current = current_is_a_space k ran.reached.start ran.reached.events ends ran.reached.switches in
-      let l = from_map (space_in k T) (spaces_of processes) current.1 current.2 in
+      let l = from_map (space_for k T) (process_spaces processes) current.1 current.2 in
       let b = from_map space_of processes l.0 l.1 in
       let root : b.0.root ≡ now.root = ap (λ (l : Layout). l.root) b.2 ∙ ap (λ (a : Space). a.root) l.2 ∙ current.3 in
-      let_go_is_unreached_here k ran.reached.start ran.reached.events ends ran.reached.switches (space_in k T (space_of b.0))
-      (in_map (space_in k T) (spaces_of processes) (space_of b.0) (in_map space_of processes b.0 b.1)) root
+      let_go_is_unreached_here k ran.reached.start ran.reached.events ends ran.reached.switches (space_for k T (space_of b.0))
+      (in_map (space_for k T) (process_spaces processes) (space_of b.0) (in_map space_of processes b.0 b.1)) root
       (frame + offset) (is_let_go now ran b.0 b.1 frame unmapped offset low) p w may
 
-pub runs_unreached : (s : KernelState) → Runs s → s.late ≡ None → (frame : ℕ) → IsUnmapped s.processes s.memory frame → IsUnreached s frame
+pub runs_unreached : (s : KernelState) → KernelRuns s → s.late ≡ None → (frame : ℕ) → FrameIsUnmapped s.processes s.memory frame → IsUnreached s frame
 runs_unreached s runs none frame unmapped = record {
-  first = never_reaches s.processes s.memory s.store s.first (subst (λ late. Ran s.processes s.memory s.store late s.first) none runs.first) frame unmapped;
-  second = never_reaches s.processes s.memory s.store s.second (subst (λ late. Ran s.processes s.memory s.store late s.second) none runs.second) frame unmapped;
+  first = never_reaches s.processes s.memory s.store s.first (subst (λ late. ProcessRan s.processes s.memory s.store late s.first) none runs.first) frame unmapped;
+  second = never_reaches s.processes s.memory s.store s.second (subst (λ late. ProcessRan s.processes s.memory s.store late s.second) none runs.second) frame unmapped;
 }
 
 -- what is flushed on both
-pub runs_flushed : (s : KernelState) (first second : ProcessorState) (pcid : ℕ) → Runs s → s.late ≡ Some pcid → FlushesPcid pcid s.first first → FlushesPcid pcid s.second second
-    → Runs (record s { late = None; first = first; second = second })
+pub runs_flushed : (s : KernelState) (first second : ProcessorState) (pcid : ℕ) → KernelRuns s → s.late ≡ Some pcid → FlushesPcid pcid s.first first → FlushesPcid pcid s.second second
+    → KernelRuns (record s { late = None; first = first; second = second })
 runs_flushed s first second pcid runs late here there = record {
   are = runs.are;
-  first = ran_flushed s.processes s.memory s.store pcid s.first first here (subst (λ late. Ran s.processes s.memory s.store late s.first) late runs.first);
-  second = ran_flushed s.processes s.memory s.store pcid s.second second there (subst (λ late. Ran s.processes s.memory s.store late s.second) late runs.second);
+  first = ran_flushed s.processes s.memory s.store pcid s.first first here (subst (λ late. ProcessRan s.processes s.memory s.store late s.first) late runs.first);
+  second = ran_flushed s.processes s.memory s.store pcid s.second second there (subst (λ late. ProcessRan s.processes s.memory s.store late s.second) late runs.second);
 }
 
 -- if nothing was late, any process may be
-pub runs_late : (s : KernelState) (late : Option ℕ) → Runs s → s.late ≡ None → Runs (record s { late = late })
+pub runs_late : (s : KernelState) (late : Option ℕ) → KernelRuns s → s.late ≡ None → KernelRuns (record s { late = late })
 runs_late s late runs none = record {
   are = runs.are;
-  first = ran_none_late s.processes s.memory s.store late s.first (subst (λ late. Ran s.processes s.memory s.store late s.first) none runs.first);
-  second = ran_none_late s.processes s.memory s.store late s.second (subst (λ late. Ran s.processes s.memory s.store late s.second) none runs.second);
+  first = ran_none_late s.processes s.memory s.store late s.first (subst (λ late. ProcessRan s.processes s.memory s.store late s.first) none runs.first);
+  second = ran_none_late s.processes s.memory s.store late s.second (subst (λ late. ProcessRan s.processes s.memory s.store late s.second) none runs.second);
 }

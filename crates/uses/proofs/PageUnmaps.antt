@@ -27,8 +27,8 @@ use Rattle.x86_64.specs.declared.call_values.PageReply.TheVariants as page_reply
 use Rattle.x86_64.specs.declared.call_values.MapperReply.TheVariants as replies
 use Rattle.x86_64_tables.specs.declared.mapper.UnmapError.{UnmapError}
 use Rattle.x86_64.specs.Runs.{AfterStep, step_by}
-use Rattle.uses.specs.SpacesBeside.{OthersStay}
-use Rattle.uses.specs.SwitchingKernel.{MapsInto, IsMappedOnce, IsUnmapped, LessIsMapped, space_of, spaces_of, unmapped_frame}
+use Rattle.uses.specs.SpacesBeside.{OtherSpacesStay}
+use Rattle.uses.specs.SwitchingKernel.{MapsInto, IsMappedOnce, FrameIsUnmapped, LessIsMapped, space_of, process_spaces, unmapped_frame}
 use Rattle.uses.specs.declared.switching_kernel.Process.{Process}
 
 -- ---- one path map
@@ -69,7 +69,7 @@ maps_own_frame p e here = record { here = here; page = refl; offset = 0; low = l
 
 module _ (processes : List Process) (m n : Memory) (a : Process) (ia : In processes a) (p : ℕ) (take_back : List ℕ → ℕ → List ℕ) (pool rest : List ℕ) (reply : Reply)
     (steps : step_by (machine_of (space_of a) take_back) (state_in (space_of a) m pool) (Of4KiB (Unmap p)) ≡ record { state = state_in (space_of a) n rest; reply = Some reply })
-    (stay : OthersStay (spaces_of processes) (space_of a) m n) where
+    (stay : OtherSpacesStay (process_spaces processes) (space_of a) m n) where
   abbrev q : List ℕ
   q = path_at 4 1 p
 
@@ -123,7 +123,7 @@ module _ (processes : List Process) (m n : Memory) (a : Process) (ia : In proces
   frame_done : (f : ℕ) → unmapped_frame reply ≡ Some f → after.reply ≡ Answered (Done f)
   frame_done f told = told_frame after.reply f (ap (λ (x : AfterStep Reply). option_and_then unmapped_frame x.reply) steps ∙ told)
 
-  pub then_unmapped : (f : ℕ) → unmapped_frame reply ≡ Some f → IsMappedOnce processes m f → IsUnmapped processes n f
+  pub then_unmapped : (f : ℕ) → unmapped_frame reply ≡ Some f → IsMappedOnce processes m f → FrameIsUnmapped processes n f
   then_unmapped f is_frame once b ib r maps = by is
     where
       by : IsUnmapOf M q after → ⊥
@@ -142,19 +142,19 @@ less_then processes m n o one next a ia r f maps = one a ia r f (next a ia r f m
 
 -- of these frames no process maps one in the memory n that it mapped only once in the memory m
 abbrev pub AreUnmapped : List Process → (m n : Memory) → (freed : List ℕ) → Type 0
-AreUnmapped processes m n freed = (frame : ℕ) → In freed frame → IsMappedOnce processes m frame → IsUnmapped processes n frame
+AreUnmapped processes m n freed = (frame : ℕ) → In freed frame → IsMappedOnce processes m frame → FrameIsUnmapped processes n frame
 
 pub still_unmapped : (processes : List Process) (m n o : Memory) (freed : List ℕ) → LessIsMapped processes n o → AreUnmapped processes m n freed → AreUnmapped processes m o freed
 still_unmapped processes m n o freed less are f i once a ia r maps = are f i once a ia r (less a ia r f maps)
 
 pub one_more_unmapped : (processes : List Process) (m n o : Memory) (freed : List ℕ) (frame : ℕ) → LessIsMapped processes m n → LessIsMapped processes n o
-    → (IsMappedOnce processes n frame → IsUnmapped processes o frame) → AreUnmapped processes m n freed → AreUnmapped processes m o (freed ++ frame ∷ [])
+    → (IsMappedOnce processes n frame → FrameIsUnmapped processes o frame) → AreUnmapped processes m n freed → AreUnmapped processes m o (freed ++ frame ∷ [])
 one_more_unmapped processes m n o freed frame before less gone are f i once = ⊎_elim
     (λ i. still_unmapped processes m n o freed less are f i once)
     (λ i. by i once)
     (in_append freed (frame ∷ []) f i)
   where
-    by : In (frame ∷ []) f → IsMappedOnce processes m f → IsUnmapped processes o f
-    by (inl same) once = subst (IsUnmapped processes o) same (gone (subst (IsMappedOnce processes n) (sym same)
+    by : In (frame ∷ []) f → IsMappedOnce processes m f → FrameIsUnmapped processes o f
+    by (inl same) once = subst (FrameIsUnmapped processes o) same (gone (subst (IsMappedOnce processes n) (sym same)
         (λ a b ia ib q r x y. once a b ia ib q r (before a ia q f x) (before b ib r f y))))
     by (inr i) once = absurd i

@@ -32,7 +32,7 @@ use Rattle.x86_64.specs.Runs.{AfterStep, step_by}
 use Rattle.x86_64.proofs.EmptyRoots.{alike}
 use Rattle.x86_64.proofs.Keeping.{keeps_nothing, keeps_then}
 use Rattle.uses.specs.SpacesBeside.{LeavesSpaces}
-use Rattle.uses.specs.Processes.{is_kernels, if_own, unmaps, lower_clean_up, IsStarted, IsServed, IsUsed, IsEnded}
+use Rattle.uses.specs.Processes.{is_kernels, if_own, unmap_calls, lower_clean_up, ProcessIsStarted, IsServed, IsUsed, IsEnded}
 
 -- ---- the records of a layout, memories and lists of frames
 
@@ -43,7 +43,7 @@ abbrev pub Served : Layout → List Call → (serves : ℕ → Bool) → Memory 
 Served process calls serves m pool n rest = IsServed (process laid_in m) (with_frames serves pool) calls (process laid_in n) rest
 
 abbrev pub Started : (kernel process : Layout) → (serves : ℕ → Bool) → Memory → (pool : List ℕ) → Memory → (rest : List ℕ) → Type 0
-Started kernel process serves m pool n rest = IsStarted (kernel laid_in m) (with_frames serves pool) (process laid_in n) rest
+Started kernel process serves m pool n rest = ProcessIsStarted (kernel laid_in m) (with_frames serves pool) (process laid_in n) rest
 
 abbrev pub Ended : Layout → (serves : ℕ → Bool) → Memory → (pool : List ℕ) → Memory → (rest : List ℕ) → Type 0
 Ended process serves m pool n rest = IsEnded (process laid_in m) (with_frames serves pool) n rest
@@ -73,7 +73,7 @@ served_still process serves m n o pool rest last calls same kept served = subst 
 -- some pages were unmapped, and these are left
 pub record SoFar (process : Layout) (pages left : List ℕ) (serves : ℕ → Bool) (m : Memory) (pool : List ℕ) (n : Memory) (rest : List ℕ) : Type 0 where
   pub done : List Call
-  pub all : done ++ unmaps left ≡ unmaps pages
+  pub all : done ++ unmap_calls left ≡ unmap_calls pages
   pub served : Served process done serves m pool n rest
 
 pub none_so_far : (process : Layout) (pages : List ℕ) (serves : ℕ → Bool) (m : Memory) (pool : List ℕ) → PoolFits (process laid_in m) serves pool → SoFar process pages pages serves m pool m pool
@@ -83,14 +83,14 @@ pub one_more : (process : Layout) (pages left rest_of : List ℕ) (page : ℕ) (
     → Served process (if_own page (Unmap (path_at 4 1 page))) serves n rest o last → SoFar process pages rest_of serves m pool o last
 one_more process pages left rest_of page serves m n o pool rest last is one next = record {
   done = one.done ++ if_own page (Unmap (path_at 4 1 page));
-  all = append_assoc one.done (if_own page (Unmap (path_at 4 1 page))) (unmaps rest_of) ∙ ap (λ left. one.done ++ unmaps left) (sym is) ∙ one.all;
+  all = append_assoc one.done (if_own page (Unmap (path_at 4 1 page))) (unmap_calls rest_of) ∙ ap (λ left. one.done ++ unmap_calls left) (sym is) ∙ one.all;
   served = served_then process serves m n o pool rest last one.done (if_own page (Unmap (path_at 4 1 page))) one.served next;
 }
 
 pub then_cleaned : (process : Layout) (pages left : List ℕ) (serves : ℕ → Bool) (m n o : Memory) (pool rest last : List ℕ) → left ≡ [] → SoFar process pages left serves m pool n rest
-    → Served process (lower_clean_up ∷ []) serves n rest o last → Served process (unmaps pages ++ lower_clean_up ∷ []) serves m pool o last
+    → Served process (lower_clean_up ∷ []) serves n rest o last → Served process (unmap_calls pages ++ lower_clean_up ∷ []) serves m pool o last
 then_cleaned process pages left serves m n o pool rest last none one next =
-    let all : one.done ≡ unmaps pages = sym (append-nil one.done) ∙ ap (λ left. one.done ++ unmaps left) (sym none) ∙ one.all in
+    let all : one.done ≡ unmap_calls pages = sym (append-nil one.done) ∙ ap (λ left. one.done ++ unmap_calls left) (sym none) ∙ one.all in
     subst (λ calls. Served process (calls ++ lower_clean_up ∷ []) serves m pool o last) all
     (served_then process serves m n o pool rest last one.done (lower_clean_up ∷ []) one.served next)
 

@@ -16,7 +16,7 @@ use Rattle.x86_64_mappers.specs.Layouts.{direct_at}
 use Rattle.x86_64.specs.Asked.{MapperCall, machine_call, calls_by}
 use Rattle.x86_64.specs.Replies.{Reply}
 use Rattle.x86_64.specs.Runs.{AfterStep, machine_of, state_in, step_by, Ran}
-use Rattle.uses.specs.SpacesBeside.{OthersStay, LeavesSpaces}
+use Rattle.uses.specs.SpacesBeside.{OtherSpacesStay, LeavesSpaces}
 
 -- ---- the owner knows the hierarchy by the memory that was lent
 
@@ -48,7 +48,7 @@ module _ (stay : SpacesStay) (halves : SharedHalvesStay) (below : CallsKeepBelow
   store = record { frames = pool; serves = serves; take_back = take_back }
 
   module _ (calls : List Call) (are_calls : AllCalls levels calls) (keeps : KeepsPool one serves m pool n rest) (done : Led one take_back m pool calls n rest ⊎ (n ≡ m)) where
-    kept_below : (shared : ℕ → Bool) (spaces : List Layout) → In spaces one → AreSpaces shared m serves pool spaces → KeepsBelow shared one m n → AreSpaces shared n serves rest spaces × OthersStay spaces one m n
+    kept_below : (shared : ℕ → Bool) (spaces : List Layout) → In spaces one → AreSpaces shared m serves pool spaces → KeepsBelow shared one m n → AreSpaces shared n serves rest spaces × OtherSpacesStay spaces one m n
     kept_below shared spaces member are kept = (
       stay shared spaces one member mapping (omega (arith, high)) serves m n pool rest are keeps (λ i s. kept (i ∷ []) s),
       λ other i apart. (halves shared one other mapping (omega (arith, high)) serves m n pool rest fits keeps kept (are.share one other member i apart)).1,

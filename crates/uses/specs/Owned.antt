@@ -18,8 +18,8 @@ abbrev pub hierarchy_at : (levels : ℕ) → Places → (root : ℕ) → Memory 
 hierarchy_at levels places root memory = owned_at levels places root memory tt
 
 -- The first entry of the table in a frame is unused now. No other word changed.
-abbrev pub IsCleared : (root : ℕ) → (m n : Memory) → Type 0
-IsCleared root m n = words_of n identity_places ≡ set_word (words_of m identity_places) root 0 0
+abbrev pub RootIsCleared : (root : ℕ) → (m n : Memory) → Type 0
+RootIsCleared root m n = words_of n identity_places ≡ set_word (words_of m identity_places) root 0 0
 
 -- The calls lead from a hierarchy and a store to those after them.
 abbrev pub LedBy : {C Lent : Type 0} → (asks : C → MapperCall) → (h : Hierarchy Lent) → Store → List C → (after : Hierarchy Lent) → (rest : List ℕ) → Type 0

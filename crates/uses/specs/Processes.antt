@@ -12,7 +12,7 @@ use Rattle.x86_64_model.specs.Spaces.{AreSpaces}
 use Rattle.x86_64_model.specs.Store.{Store, KeepsPool}
 use Rattle.x86_64_spaces.specs.SpaceLayouts.{HasSharedAlone}
 use Rattle.x86_64.specs.Pairs.{put_first}
-use Rattle.uses.specs.SpacesBeside.{OthersStay}
+use Rattle.uses.specs.SpacesBeside.{OtherSpacesStay}
 
 -- Whether an index of level four is one of the kernel's half.
 abbrev pub is_kernels : (index : ℕ) → Bool
@@ -23,7 +23,7 @@ abbrev pub AllStay : (spaces : List Layout) → (m n : Memory) → Type 0
 AllStay spaces m n = (space : Layout) → In spaces space → paths (space laid_in n) ≡ paths (space laid_in m)
 
 -- A process was started: the memory of the kernel's hierarchy became that of the process's, too, and the rest of the store is left.
-pub record IsStarted {Lent : Type 0} (kernel : Hierarchy Lent) (store : Store) (process : Hierarchy Lent) (rest : List ℕ) : Type 0 where
+pub record ProcessIsStarted {Lent : Type 0} (kernel : Hierarchy Lent) (store : Store) (process : Hierarchy Lent) (rest : List ℕ) : Type 0 where
   -- The first frame of the store became the root.
   pub taken : store.frames ≡ process.layout.root ∷ rest
   -- Nothing is mapped in the process's own half.
@@ -40,7 +40,7 @@ pub record IsServed {Lent : Type 0} (process : Hierarchy Lent) (store : Store) (
   pub keeps : KeepsPool process.layout store.serves process.memory store.frames after.memory rest
   -- Whatever other processes there are, all are address spaces again, and the others keep their path maps.
   pub others : (spaces : List Layout) → In spaces process.layout → AreSpaces is_kernels process.memory store.serves store.frames spaces
-      → AreSpaces is_kernels after.memory store.serves rest spaces × OthersStay spaces process.layout process.memory after.memory
+      → AreSpaces is_kernels after.memory store.serves rest spaces × OtherSpacesStay spaces process.layout process.memory after.memory
 
 -- The call on a page alone, or no call if the page is in the kernel's half.
 abbrev pub if_own : (page : ℕ) → Call → List Call
@@ -55,9 +55,9 @@ abbrev pub own_unmap : (page : ℕ) → List Call
 own_unmap page = if_own page (Unmap (path_at 4 1 page))
 
 -- The calls that unmap all pages but those in the kernel's half.
-abbrev pub unmaps : (pages : List ℕ) → List Call
-unmaps [] = []
-unmaps (page ∷ pages) = own_unmap page ++ unmaps pages
+abbrev pub unmap_calls : (pages : List ℕ) → List Call
+unmap_calls [] = []
+unmap_calls (page ∷ pages) = own_unmap page ++ unmap_calls pages
 
 -- A clean up of the lower half.
 abbrev pub lower_clean_up : Call
@@ -65,7 +65,7 @@ lower_clean_up = CleanUp 0 0x7fff_ffff_ffff
 
 -- The calls that end a process: all these pages but those in the kernel's half are unmapped, and then the lower half is cleaned up.
 abbrev pub ending : (pages : List ℕ) → List Call
-ending pages = unmaps pages ++ lower_clean_up ∷ []
+ending pages = unmap_calls pages ++ lower_clean_up ∷ []
 
 -- The root has a used entry in the process's own half.
 abbrev pub IsUsed : Layout → Memory → Type 0

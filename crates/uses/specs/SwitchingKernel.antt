@@ -1,7 +1,7 @@
 -- A kernel with several processes, between whose address spaces two processors switch. It unmaps pages and flushes later.
 use Rattle.std.specs.Prelude.{◌≡◌, ◌≢◌, ◌<◌, ◌+◌, ℕ, Bool, true, List, [], ◌∷◌, length, map, Option, Some, None, Ok}
 use Rattle.x86_64_mappers.specs.Layouts.{direct}
-use Rattle.x86_64_model.specs.Caches.{Way, MayAccess, walked_in}
+use Rattle.x86_64_model.specs.Caches.{PartialWalk, MayAccess, walked_in}
 use Rattle.x86_64_model.specs.Call as machine
 use Rattle.x86_64_model.specs.Call.{Call}
 use Rattle.x86_64_model.specs.Flushing.{Due, PageDue, flush_after, mapped_by}
@@ -22,7 +22,7 @@ use Rattle.x86_64_model.specs.Switches.{Kernel, Switching, holder_with}
 use Rattle.x86_64_model.specs.Tags.{Tag, Of, Tagged, CachesTagged, InvpcidContext, is_left, is_left_by_load, usable}
 use Rattle.x86_64.specs.Pairs.{pool_store}
 use Rattle.x86_64.specs.Replies.{Reply}
-use Rattle.x86_64.specs.SwitchingProcessors.{IsReached}
+use Rattle.x86_64.specs.SwitchingProcessors.{IsReachedBySwitches}
 use Rattle.x86_64.specs.declared.call_values.MapperReply.TheVariants as replies
 use Rattle.x86_64.specs.declared.call_values.PageReply.TheVariants as page_reply
 use Rattle.uses.specs.Processes.{is_kernels}
@@ -64,19 +64,19 @@ pub record FlushesPcid (pcid : ℕ) (before now : ProcessorState) : Type 0 where
   pub left : (c : Tagged) → In now.cached c → In before.cached c × (is_left 4 before.pcid (InvpcidContext pcid) c.tag c.item ≡ true)
 
 -- Items are dropped and made, one time after another, while the words are these.
-abbrev pub CachesInTurn : (root pcid : ℕ) → Words → (before : List Tagged) → (between : List (List Tagged)) → (now : List Tagged) → Type 0
-CachesInTurn root pcid T before [] now = before ≡ now
-CachesInTurn root pcid T before (next ∷ more) now = CachesTagged 4 root pcid T before next × CachesInTurn root pcid T next more now
+abbrev pub TaggedCachesInTurn : (root pcid : ℕ) → Words → (before : List Tagged) → (between : List (List Tagged)) → (now : List Tagged) → Type 0
+TaggedCachesInTurn root pcid T before [] now = before ≡ now
+TaggedCachesInTurn root pcid T before (next ∷ more) now = CachesTagged 4 root pcid T before next × TaggedCachesInTurn root pcid T next more now
 
 -- The processor cached what it found in the memory, and nothing else changed.
-pub record CachesIn (m : Memory) (before now : ProcessorState) : Type 0 where
+pub record CachesChange (m : Memory) (before now : ProcessorState) : Type 0 where
   pub same : now ≡ with_cached now.cached before
   pub between : List (List Tagged)
-  pub turns : CachesInTurn before.root before.pcid (words_of m identity_places) before.cached between now.cached
+  pub turns : TaggedCachesInTurn before.root before.pcid (words_of m identity_places) before.cached between now.cached
 
 -- No access in the current address space goes to an address in the frame, whatever the processor has cached.
 abbrev pub NeverReaches : Memory → ProcessorState → (frame : ℕ) → Type 0
-NeverReaches m s frame = (p : ℕ) (w : Way) → MayAccess 4 s.root (words_of m identity_places) (usable s.pcid s.cached) p w
+NeverReaches m s frame = (p : ℕ) (w : PartialWalk) → MayAccess 4 s.root (words_of m identity_places) (usable s.pcid s.cached) p w
     → (offset : ℕ) → offset < 4096 → (walked_in 4 p w).address ≢ frame + offset
 
 -- ---- the kernel
@@ -92,8 +92,8 @@ pub record KernelState : Type 0 where
   pub second : ProcessorState
 
 -- What contracts see of a kernel in Rust, by what they see of its memory and of its processors.
-abbrev pub state_of : {T C : Type 0} → (tables : T → Memory) → (state : C → ProcessorState) → KernelOf T C → KernelState
-state_of tables state kernel = record {
+abbrev pub kernel_state : {T C : Type 0} → (tables : T → Memory) → (state : C → ProcessorState) → KernelOf T C → KernelState
+kernel_state tables state kernel = record {
   processes = kernel.processes.items;
   memory = tables kernel.memory;
   store = pool_store kernel.pool;
@@ -107,13 +107,13 @@ abbrev pub space_of : Process → Layout
 space_of process = direct identity_places process.root
 
 -- The address spaces of the processes, in order.
-abbrev pub spaces_of : List Process → List Layout
-spaces_of processes = map space_of processes
+abbrev pub process_spaces : List Process → List Layout
+process_spaces processes = map space_of processes
 
 -- The processes have address spaces that share the kernel's half, and one pool fits all. Each root has one PCID. Only pages of the
 -- kernel's half have GLOBAL.
 pub record AreProcesses (processes : List Process) (m : Memory) (store : Store) : Type 0 where
-  pub spaces : AreSpaces is_kernels m store.serves store.frames (spaces_of processes)
+  pub spaces : AreSpaces is_kernels m store.serves store.frames (process_spaces processes)
   pub own_pcids : (a b : Process) → In processes a → In processes b → a.root ≡ b.root → a.pcid ≡ b.pcid
   pub globals : (a : Process) → In processes a → GlobalsBelow 4 is_kernels (paths (space_of a laid_in m))
 
@@ -137,18 +137,18 @@ pub record IsLate (late : Option ℕ) (tag : Tag) (due : Due) : Type 0 where
 
 -- The processor and the memory came about by events that may happen: calls, loads of CR3, flushes, and what the processor cached.
 -- A PCID has items of no other process than its own. Nothing has to be flushed but pages for the PCID that is late.
-pub record Ran (processes : List Process) (m : Memory) (store : Store) (late : Option ℕ) (now : ProcessorState) : Type 0 where
+pub record ProcessRan (processes : List Process) (m : Memory) (store : Store) (late : Option ℕ) (now : ProcessorState) : Type 0 where
   pub system : Switching
-  pub reached : IsReached (kernel_with store) identity_places m store.frames (spaces_of processes) (with_processor now system)
+  pub reached : IsReachedBySwitches (kernel_with store) identity_places m store.frames (process_spaces processes) (with_processor now system)
   pub loaded : (c r : ℕ) → now.loaded c ≡ Some r → system.holder c ≡ Some r
   pub own : (a : Process) → In processes a → (c : ℕ) → system.holder c ≡ Some a.root → c ≡ a.pcid
   pub due : (tag : Tag) (d : Due) → In (system.due tag) d → IsLate late tag d
 
 -- The kernel runs its processes on both processors.
-pub record Runs (s : KernelState) : Type 0 where
+pub record KernelRuns (s : KernelState) : Type 0 where
   pub are : AreProcesses s.processes s.memory s.store
-  pub first : Ran s.processes s.memory s.store s.late s.first
-  pub second : Ran s.processes s.memory s.store s.late s.second
+  pub first : ProcessRan s.processes s.memory s.store s.late s.first
+  pub second : ProcessRan s.processes s.memory s.store s.late s.second
 
 -- ---- mappings
 
@@ -161,21 +161,21 @@ pub record MapsInto (path : List ℕ) (e frame : ℕ) : Type 0 where
   pub inside : in_page 4 path (page_start (level_of 4 path) e) (frame + offset) ≡ true
 
 -- The entry of a process at a path is present, and maps a page that has an address in the frame.
-abbrev pub Maps : Memory → Process → (path : List ℕ) → (frame : ℕ) → Type 0
-Maps m process path frame = MapsInto path (entry (paths (space_of process laid_in m)) path) frame
+abbrev pub ProcessMaps : Memory → Process → (path : List ℕ) → (frame : ℕ) → Type 0
+ProcessMaps m process path frame = MapsInto path (entry (paths (space_of process laid_in m)) path) frame
 
 -- No process maps the frame.
-abbrev pub IsUnmapped : List Process → Memory → (frame : ℕ) → Type 0
-IsUnmapped processes m frame = (a : Process) → In processes a → (path : List ℕ) → Maps m a path frame → ⊥
+abbrev pub FrameIsUnmapped : List Process → Memory → (frame : ℕ) → Type 0
+FrameIsUnmapped processes m frame = (a : Process) → In processes a → (path : List ℕ) → ProcessMaps m a path frame → ⊥
 
 -- At most one process maps the frame, in one page.
 abbrev pub IsMappedOnce : List Process → Memory → (frame : ℕ) → Type 0
 IsMappedOnce processes m frame = (a b : Process) → In processes a → In processes b → (path other : List ℕ)
-    → Maps m a path frame → Maps m b other frame → (a.root ≡ b.root) × (path ≡ other)
+    → ProcessMaps m a path frame → ProcessMaps m b other frame → (a.root ≡ b.root) × (path ≡ other)
 
 -- All that processes map in the memory n they mapped in the memory m.
 abbrev pub LessIsMapped : List Process → (m n : Memory) → Type 0
-LessIsMapped processes m n = (a : Process) → In processes a → (path : List ℕ) (frame : ℕ) → Maps n a path frame → Maps m a path frame
+LessIsMapped processes m n = (a : Process) → In processes a → (path : List ℕ) (frame : ℕ) → ProcessMaps n a path frame → ProcessMaps m a path frame
 
 -- No access on either processor goes to an address in the frame.
 pub record IsUnreached (s : KernelState) (frame : ℕ) : Type 0 where
@@ -184,7 +184,7 @@ pub record IsUnreached (s : KernelState) (frame : ℕ) : Type 0 where
 
 -- While nothing is late, no access goes to a frame that no process maps.
 abbrev pub UnmappedIsUnreached : Type 0
-UnmappedIsUnreached = (s : KernelState) → Runs s → s.late ≡ None → (frame : ℕ) → IsUnmapped s.processes s.memory frame → IsUnreached s frame
+UnmappedIsUnreached = (s : KernelState) → KernelRuns s → s.late ≡ None → (frame : ℕ) → FrameIsUnmapped s.processes s.memory frame → IsUnreached s frame
 
 -- ---- what the kernel does
 
@@ -202,7 +202,7 @@ pub record IsOwnCall (late : Option ℕ) (process : Process) (call : Call) : Typ
   pub due : (reply : machine.Reply) (d : Due) → In (flush_after 4 None call reply) d → IsLate late (Of process.pcid) d
 
 -- The processor loaded CR3 for a process, and kept what it had cached with the PCID only if that was of this process.
-pub record Switches (process : Process) (before now : ProcessorState) : Type 0 where
+pub record SwitchesTo (process : Process) (before now : ProcessorState) : Type 0 where
   pub keeps : Bool
   pub loads : LoadsCr3 process.root process.pcid keeps before now
   pub is_own : keeps ≡ true → before.loaded process.pcid ≡ Some process.root

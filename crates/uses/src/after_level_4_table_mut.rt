@@ -1,6 +1,6 @@
 //! Changes the root's table by hand.
 ghost use Rattle.std.specs.Prelude.{◌≡◌, None, IfOk};
-ghost use Rattle.uses.specs.Owned.{IsCleared, hierarchy};
+ghost use Rattle.uses.specs.Owned.{RootIsCleared, hierarchy};
 ghost use Rattle.x86_64_model.specs.Mapper.{Valid, translation};
 ghost use Rattle.x86_64_model.specs.Translation.{address_of};
 
@@ -16,7 +16,7 @@ pub fn unmap_first_entry(
     addr: VirtAddr,
 ) -> Result<Option<PhysAddr>, AllocError>
     requires { Valid (hierarchy root memory.old) }
-    ensures cleared { IsCleared root memory.old memory.new }
+    ensures cleared { RootIsCleared root memory.old memory.new }
     ensures valid { IfOk result (λ found. Valid (hierarchy root memory.new)
         → found ≡ address_of (translation (hierarchy root memory.new) addr)) }
     ensures invalid { IfOk result (λ found. (Valid (hierarchy root memory.new) → ⊥) → found ≡ None) }

@@ -4,8 +4,8 @@ ghost use Rattle.uses.specs.InUse.{AccessesGoIn, CachesIn, InUse};
 ghost use Rattle.uses.specs.Owned.{LedBy};
 ghost use Rattle.x86_64_model.specs.Caches.{Cached};
 ghost use Rattle.x86_64_model.specs.Flushing.{Invlpg, LoadCr3, FlushAll};
-ghost use Rattle.x86_64_model.specs.Store.{Kept, store_of};
-ghost use Rattle.x86_64.specs.Calls.{asks};
+ghost use Rattle.x86_64_model.specs.Store.{Keeps, store_of};
+ghost use Rattle.x86_64.specs.Calls.{to_call};
 ghost use Rattle.x86_64.specs.FlushesDue.{executed};
 ghost use Rattle.x86_64.specs.Processors.{LeftBy};
 ghost use Rattle.x86_64.specs.Runs.{Stepped};
@@ -84,9 +84,9 @@ pub fn call_and_flush<
     C: Processor,
 >(mapper: &mut M, frames: &mut F, processor: &mut C, call: CallIn<L, P5>) -> ReplyIn<L>
     requires { InUse (M.hierarchy mapper.old) (store_of F.FrameStore frames.old) (C.cached processor.old) }
-    ensures step { Stepped (M.hierarchy mapper.old) (store_of F.FrameStore frames.old) (asks P5.bits call)
+    ensures step { Stepped (M.hierarchy mapper.old) (store_of F.FrameStore frames.old) (to_call P5.bits call)
         result (M.hierarchy mapper.new) (F.supply frames.new) }
-    ensures keeps { Kept (M.hierarchy mapper.old) (store_of F.FrameStore frames.old)
+    ensures keeps { Keeps (M.hierarchy mapper.old) (store_of F.FrameStore frames.old)
         (M.hierarchy mapper.new) (store_of F.FrameStore frames.new) }
     ensures again { InUse (M.hierarchy mapper.new) (store_of F.FrameStore frames.new)
         (C.cached processor.new) }
@@ -109,7 +109,7 @@ pub fn calls_and_flushes<
     C: Processor,
 >(mapper: &mut M, frames: &mut F, processor: &mut C, calls: &[CallIn<L, P5>])
     requires { InUse (M.hierarchy mapper.old) (store_of F.FrameStore frames.old) (C.cached processor.old) }
-    ensures state { LedBy (asks P5.bits) (M.hierarchy mapper.old) (store_of F.FrameStore frames.old) calls.now
+    ensures state { LedBy (to_call P5.bits) (M.hierarchy mapper.old) (store_of F.FrameStore frames.old) calls.now
         (M.hierarchy mapper.new) (F.supply frames.new) }
     ensures again { InUse (M.hierarchy mapper.new) (store_of F.FrameStore frames.new)
         (C.cached processor.new) }

@@ -1,7 +1,7 @@
 //! Maps the segments of a program.
 ghost use Rattle.std.specs.Prelude.{◌≡◌, ◌↔◌, false, IfErr, IfOk, IsTrue};
 ghost use Rattle.std.specs.List.{All};
-ghost use Rattle.x86_64_loader.specs.Segments.{IsAllowed, IsLoaded, IsRefused, small_pages};
+ghost use Rattle.x86_64_loader.specs.Segments.{IsAllowed, IsLoaded, LoadIsRefused, small_pages};
 ghost use Rattle.x86_64_model.specs.Mapper.{SupplyFits};
 
 use x86_64::FramePool;
@@ -19,7 +19,7 @@ pub fn load_program<M: MapperAllSizes>(
     ensures allowed { IfOk result (λ loaded. IsTrue loaded
         ↔ All (IsAllowed (M.hierarchy mapper.old)) segments.now) }
     ensures kept { result ≡ Ok false → (mapper.new ≡ mapper.old) × (pool.new ≡ pool.old) }
-    ensures refused { IfErr result (λ error. IsRefused small_pages (M.hierarchy mapper.old) pool.old.frames
+    ensures refused { IfErr result (λ error. LoadIsRefused small_pages (M.hierarchy mapper.old) pool.old.frames
         segments.now error (M.hierarchy mapper.new) pool.new.frames) }
     ensures loaded { IfOk result (λ loaded. IsTrue loaded
         → All (IsLoaded small_pages (M.hierarchy mapper.new)) segments.now) }

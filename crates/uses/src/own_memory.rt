@@ -5,7 +5,7 @@ ghost use Rattle.uses.specs.PageMaps.{MappedArrives, StepsIfAllowed};
 ghost use Rattle.x86_64_mappers.specs.PageAnswers.{allows_call};
 ghost use Rattle.x86_64_model.specs.Mapper.{SupplyFits};
 ghost use Rattle.x86_64_model.specs.PageCalls.{MapTo};
-ghost use Rattle.x86_64_model.specs.Store.{Fits};
+ghost use Rattle.x86_64_model.specs.Store.{StoreFits};
 ghost use Rattle.x86_64_tables.specs.LentMemory.{numbered};
 ghost use Rattle.x86_64_tables.specs.MapperAnswers.{map_answer};
 ghost use Rattle.x86_64_tables.specs.PageTableFlags.{bits_of};
@@ -54,7 +54,7 @@ pub fn is_ready(
     pool: &FramePool,
 ) -> Result<bool, AllocError>
     ensures exact { IfOk result (λ ready. IsTrue ready
-        ↔ Fits (hierarchy root (numbered tables.old)) (pool_store pool.now)) }
+        ↔ StoreFits (hierarchy root (numbered tables.old)) (pool_store pool.now)) }
     ensures ready { IfOk result (λ ready. IsTrue ready
         → SupplyFits (hierarchy root (numbered tables.new)) pool.now.frames) }
     ensures kept { tables.new ≡ tables.old }

@@ -7,7 +7,7 @@ ghost use Rattle.x86_64_model.specs.PageCalls.{Answers, MapTo, Unmap};
 ghost use Rattle.x86_64_model.specs.Refusal.{Done, Refused};
 ghost use Rattle.x86_64_model.specs.Translation.{address_of};
 ghost use Rattle.x86_64_tables.specs.FlushRecorder.{page_item};
-ghost use Rattle.x86_64_tables.specs.MapperAnswers.{map_answer, unmap_refusal};
+ghost use Rattle.x86_64_tables.specs.MapperAnswers.{map_answer, refusal_of_unmap};
 ghost use Rattle.x86_64_tables.specs.PageTableFlags.{bits_of};
 
 use x86_64::structures::paging::mapper::{CleanUp, MapToError, UnmapError};
@@ -57,7 +57,7 @@ pub fn unmap<M: Mapper<Size4KiB>>(
     ensures unmapped { IfOk result (λ some. IfSome some (λ frame. Answers (M.hierarchy mapper.old) 1
         (Unmap page) (Done frame) (M.hierarchy mapper.new))) }
     ensures refused { IfErr result (λ why. Answers (M.hierarchy mapper.old) 1 (Unmap page)
-        (Refused (unmap_refusal why)) (M.hierarchy mapper.new)) }
+        (Refused (refusal_of_unmap why)) (M.hierarchy mapper.new)) }
     ensures kept { result ≡ Ok None → mapper.new ≡ mapper.old }
 {
     if !is_outside_window(mapper, page) {

@@ -2,11 +2,11 @@
 //! has the frames for all tables.
 ghost use Rattle.std.specs.Prelude.{◌≡◌, [], ◌∷◌, true, false, IfNone, IfSome, OnErr, OnOk};
 ghost use Rattle.uses.specs.Owned.{hierarchy};
-ghost use Rattle.uses.specs.Processes.{is_kernels, ending, lower_clean_up, own_map, own_unmap, GoesOn, IsEnded, IsServed, IsStarted};
+ghost use Rattle.uses.specs.Processes.{is_kernels, ending, lower_clean_up, own_map, own_unmap, GoesOn, IsEnded, IsServed, ProcessIsStarted};
 ghost use Rattle.x86_64_model.specs.PageCalls.{MapTo};
 ghost use Rattle.x86_64_model.specs.Pool.{serves_below};
 ghost use Rattle.x86_64_model.specs.Position.{index};
-ghost use Rattle.x86_64_model.specs.Store.{Fits};
+ghost use Rattle.x86_64_model.specs.Store.{StoreFits};
 ghost use Rattle.x86_64_tables.specs.PageTableFlags.{bits_of};
 ghost use Rattle.x86_64.specs.Asked.{Of4KiB};
 ghost use Rattle.x86_64.specs.declared.call_values.MapperReply.TheVariants.{NotAllowed};
@@ -29,8 +29,8 @@ pub fn start<T: TableMemory>(
     kernel: PhysFrame<Size4KiB>,
     pool: &mut FramePool,
 ) -> Option<PhysFrame<Size4KiB>>
-    requires { Fits (hierarchy kernel (T.tables memory.old)) (pool_store pool.old) }
-    ensures started { IfSome result (λ root. IsStarted (hierarchy kernel (T.tables memory.old))
+    requires { StoreFits (hierarchy kernel (T.tables memory.old)) (pool_store pool.old) }
+    ensures started { IfSome result (λ root. ProcessIsStarted (hierarchy kernel (T.tables memory.old))
         (pool_store pool.old) (hierarchy root (T.tables memory.new)) pool.new.frames) }
     ensures full { IfNone result ((pool.old.frames ≡ []) × (memory.new ≡ memory.old)) }
     ensures lent { T.lent memory.new ≡ T.lent memory.old }
@@ -56,7 +56,7 @@ pub fn map_in<T: TableMemory>(
     flags: PageTableFlags,
     pool: &mut FramePool,
 ) -> Reply
-    requires { Fits (hierarchy process (T.tables memory.old)) (pool_store pool.old) }
+    requires { StoreFits (hierarchy process (T.tables memory.old)) (pool_store pool.old) }
     ensures served { IsServed (hierarchy process (T.tables memory.old)) (pool_store pool.old)
         (own_map page frame (bits_of flags)) (hierarchy process (T.tables memory.new)) pool.new.frames }
     ensures reply { is_kernels (index 4 page) ≡ false → Stepped (hierarchy process (T.tables memory.old))
@@ -88,7 +88,7 @@ pub fn end<T: TableMemory>(
     pages: &[Page<Size4KiB>],
     pool: &mut FramePool,
 ) -> Result<(), GiveUpError>
-    requires fits { Fits (hierarchy process (T.tables memory.old)) (pool_store pool.old) }
+    requires fits { StoreFits (hierarchy process (T.tables memory.old)) (pool_store pool.old) }
     requires served { serves_below pool.old.limit process ≡ true }
     ensures ended { OnOk result (IsEnded (hierarchy process (T.tables memory.old)) (pool_store pool.old)
         (T.tables memory.new) pool.new.frames) }
@@ -116,7 +116,7 @@ fn unmap_in<T: TableMemory>(
     page: Page<Size4KiB>,
     pool: &mut FramePool,
 )
-    requires { Fits (hierarchy process (T.tables memory.old)) (pool_store pool.old) }
+    requires { StoreFits (hierarchy process (T.tables memory.old)) (pool_store pool.old) }
     ensures served { IsServed (hierarchy process (T.tables memory.old)) (pool_store pool.old)
         (own_unmap page) (hierarchy process (T.tables memory.new)) pool.new.frames }
     ensures lent { T.lent memory.new ≡ T.lent memory.old }
@@ -130,7 +130,7 @@ fn unmap_in<T: TableMemory>(
 
 /// Returns the frames of the empty tables of a process to the pool. Those below the kernel's half stay.
 fn free_tables<T: TableMemory>(memory: &mut T, process: PhysFrame<Size4KiB>, pool: &mut FramePool)
-    requires { Fits (hierarchy process (T.tables memory.old)) (pool_store pool.old) }
+    requires { StoreFits (hierarchy process (T.tables memory.old)) (pool_store pool.old) }
     ensures served { IsServed (hierarchy process (T.tables memory.old)) (pool_store pool.old)
         (lower_clean_up ∷ []) (hierarchy process (T.tables memory.new)) pool.new.frames }
     ensures lent { T.lent memory.new ≡ T.lent memory.old }

@@ -3,9 +3,9 @@
 ghost use Rattle.std.specs.Prelude.{◌≡◌, [], ◌∷◌, OnErr, OnOk};
 ghost use Rattle.uses.specs.Owned.{hierarchy_at};
 ghost use Rattle.uses.specs.SpacesBeside.{LeavesSpaces};
-ghost use Rattle.x86_64_model.specs.Store.{Fits, store_of};
+ghost use Rattle.x86_64_model.specs.Store.{StoreFits, store_of};
 ghost use Rattle.x86_64.specs.Asked.{calls_by, machine_call};
-ghost use Rattle.x86_64.specs.Calls.{asks};
+ghost use Rattle.x86_64.specs.Calls.{to_call};
 ghost use Rattle.x86_64.specs.Runs.{LeavesFree, Ran, Stepped};
 
 use std::alloc::AllocError;
@@ -41,14 +41,14 @@ pub fn run_on<
     calls: &[CallIn<L, P5>],
     replies: &mut Vec<ReplyIn<L>>,
 ) -> Result<(), AllocError>
-    requires { Fits (hierarchy_at L.LEVELS (P.places mapping) root (T.tables memory.old))
+    requires { StoreFits (hierarchy_at L.LEVELS (P.places mapping) root (T.tables memory.old))
         (store_of F.FrameStore frames.old) }
     ensures ran { let h = hierarchy_at L.LEVELS (P.places mapping) root in OnOk result (
-        Ran (asks P5.bits) (h (T.tables memory.old)) (store_of F.FrameStore frames.old) calls.now
+        Ran (to_call P5.bits) (h (T.tables memory.old)) (store_of F.FrameStore frames.old) calls.now
         replies.old.items replies.new.items (h (T.tables memory.new)) (F.supply frames.new)) }
     ensures refused { OnErr result ((T.tables memory.new ≡ T.tables memory.old) × (frames.new ≡ frames.old)) }
     ensures beside { LeavesSpaces (hierarchy_at L.LEVELS (P.places mapping) root (T.tables memory.old))
-        (store_of F.FrameStore frames.old) (calls_by (asks P5.bits) L.LEVELS calls.now)
+        (store_of F.FrameStore frames.old) (calls_by (to_call P5.bits) L.LEVELS calls.now)
         (T.tables memory.new) (F.supply frames.new) }
     ensures same { (T.lent memory.new ≡ T.lent memory.old) × (F.serves frames.new ≡ F.serves frames.old) }
 {
@@ -76,16 +76,16 @@ pub fn call_on<
     frames: &mut F,
     call: CallIn<L, P5>,
 ) -> ReplyIn<L>
-    requires { Fits (hierarchy_at L.LEVELS (P.places mapping) root (T.tables memory.old))
+    requires { StoreFits (hierarchy_at L.LEVELS (P.places mapping) root (T.tables memory.old))
         (store_of F.FrameStore frames.old) }
     ensures step { let h = hierarchy_at L.LEVELS (P.places mapping) root in
-        Stepped (h (T.tables memory.old)) (store_of F.FrameStore frames.old) (asks P5.bits call) result
+        Stepped (h (T.tables memory.old)) (store_of F.FrameStore frames.old) (to_call P5.bits call) result
         (h (T.tables memory.new)) (F.supply frames.new) }
     ensures free { let h = hierarchy_at L.LEVELS (P.places mapping) root in
-        LeavesFree (h (T.tables memory.old)) (store_of F.FrameStore frames.old) (asks P5.bits call)
+        LeavesFree (h (T.tables memory.old)) (store_of F.FrameStore frames.old) (to_call P5.bits call)
         (h (T.tables memory.new)) (F.supply frames.new) }
     ensures beside { LeavesSpaces (hierarchy_at L.LEVELS (P.places mapping) root (T.tables memory.old))
-        (store_of F.FrameStore frames.old) (machine_call L.LEVELS (asks P5.bits call) ∷ [])
+        (store_of F.FrameStore frames.old) (machine_call L.LEVELS (to_call P5.bits call) ∷ [])
         (T.tables memory.new) (F.supply frames.new) }
     ensures same { (T.lent memory.new ≡ T.lent memory.old) × (F.serves frames.new ≡ F.serves frames.old) }
 {

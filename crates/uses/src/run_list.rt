@@ -2,7 +2,7 @@
 ghost use Rattle.std.specs.Prelude.{◌≡◌, OnErr, OnOk};
 ghost use Rattle.uses.specs.Owned.{Replied};
 ghost use Rattle.uses.specs.PageMaps.{three_calls};
-ghost use Rattle.x86_64_model.specs.Store.{Fits, Kept};
+ghost use Rattle.x86_64_model.specs.Store.{StoreFits, Keeps};
 ghost use Rattle.x86_64_tables.specs.PageTableFlags.{bits_of};
 ghost use Rattle.x86_64.specs.Pairs.{pool_store};
 
@@ -20,12 +20,12 @@ pub fn map_and_unmap<M: MapperAllSizes + Translate + CleanUp>(
     flags: PageTableFlags,
     replies: &mut Vec<Reply>,
 ) -> Result<(), AllocError>
-    requires { Fits (M.hierarchy mapper.old) (pool_store pool.old) }
+    requires { StoreFits (M.hierarchy mapper.old) (pool_store pool.old) }
     ensures replies { OnOk result (Replied (M.hierarchy mapper.old) (pool_store pool.old)
         (three_calls page frame (bits_of flags)) replies.old.items replies.new.items) }
     ensures unchanged { OnErr result (
         (replies.new.items ≡ replies.old.items) × (mapper.new ≡ mapper.old) × (pool.new ≡ pool.old)) }
-    ensures keeps { Kept (M.hierarchy mapper.old) (pool_store pool.old)
+    ensures keeps { Keeps (M.hierarchy mapper.old) (pool_store pool.old)
         (M.hierarchy mapper.new) (pool_store pool.new) }
 {
     let calls = [

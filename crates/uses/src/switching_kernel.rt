@@ -2,11 +2,11 @@
 //! at once later, and uses their frames for other things only then.
 ghost use Rattle.std.specs.Prelude.{◌≡◌, ℕ, Some, None, IfOk, OnOk};
 ghost use Rattle.uses.specs.Owned.{hierarchy};
-ghost use Rattle.uses.specs.SpacesBeside.{OthersStay};
-ghost use Rattle.uses.specs.SwitchingKernel.{ProcessorState, AreProcesses, BeginsWith, LoadsCr3, FlushesPcid, CachesIn, state_of, spaces_of, space_of, unmapped_frame, IsMappedOnce, IsOwnCall, IsUnmapped, IsUnreached, LessIsMapped, Runs, Switches, UnmappedIsUnreached};
+ghost use Rattle.uses.specs.SpacesBeside.{OtherSpacesStay};
+ghost use Rattle.uses.specs.SwitchingKernel.{ProcessorState, AreProcesses, BeginsWith, LoadsCr3, FlushesPcid, CachesChange, kernel_state, process_spaces, space_of, unmapped_frame, IsMappedOnce, IsOwnCall, FrameIsUnmapped, IsUnreached, LessIsMapped, KernelRuns, SwitchesTo, UnmappedIsUnreached};
 ghost use Rattle.x86_64_model.specs.Lists.{In};
 ghost use Rattle.x86_64.specs.Asked.{machine_call};
-ghost use Rattle.x86_64.specs.Calls.{asks, no_bits};
+ghost use Rattle.x86_64.specs.Calls.{to_call, no_bits};
 ghost use Rattle.x86_64.specs.Pairs.{pool_store};
 ghost use Rattle.x86_64.specs.Runs.{Stepped};
 
@@ -37,7 +37,7 @@ pub trait SwitchingProcessor {
     /// Lets the processor drop and make items, which it may do at any moment. A processor does so by itself, so there is
     /// nothing to execute.
     fn cache<T: TableMemory>(&mut self, memory: &T)
-        ensures { CachesIn (T.tables memory.now) (Self.state self.old) (Self.state self.new) };
+        ensures { CachesChange (T.tables memory.now) (Self.state self.old) (Self.state self.new) };
 
     /// Returns the root that was loaded last with a PCID, or `None` if the kernel's table for this processor lacks it.
     fn loaded(&self, pcid: u16) -> Option<PhysFrame<Size4KiB>>
@@ -94,7 +94,7 @@ impl SwitchingProcessor for NoCache {
 
 /// Switches a processor to a process. What it has cached of it is kept.
 fn switch<C: SwitchingProcessor>(processor: &mut C, process: &Process)
-    ensures { Switches process.now (C.state processor.old) (C.state processor.new) }
+    ensures { SwitchesTo process.now (C.state processor.old) (C.state processor.new) }
 {
     let keeps = processor.loaded(process.pcid) == Some(process.root);
     processor.load_cr3(process.root, process.pcid, keeps);
@@ -143,7 +143,7 @@ impl<T: TableMemory, C: SwitchingProcessor> Kernel<T, C> {
     ) -> Kernel<T, C>
         requires are { AreProcesses processes.items (T.tables memory) (pool_store pool) }
         requires process { In processes.items process }
-        ensures runs { Runs (state_of T.tables C.state result) }
+        ensures runs { KernelRuns (kernel_state T.tables C.state result) }
         ensures same { (result.processes ≡ processes) × (result.memory ≡ memory) × (result.pool ≡ pool) }
     {
         first.enable_paging(process.root, process.pcid);
@@ -160,8 +160,8 @@ impl<T: TableMemory, C: SwitchingProcessor> Kernel<T, C> {
 
     /// Lets both processors cache.
     fn cache(&mut self)
-        requires { Runs (state_of T.tables C.state self.old) }
-        ensures runs { Runs (state_of T.tables C.state self.new) }
+        requires { KernelRuns (kernel_state T.tables C.state self.old) }
+        ensures runs { KernelRuns (kernel_state T.tables C.state self.new) }
         ensures same { self.new ≡ record self.old { first = self.new.first; second = self.new.second } }
     {
         self.first.cache(&self.memory);
@@ -170,9 +170,9 @@ impl<T: TableMemory, C: SwitchingProcessor> Kernel<T, C> {
 
     /// Switches a processor to a process.
     pub fn switch_to(&mut self, which: Which, process: &Process)
-        requires runs { Runs (state_of T.tables C.state self.old) }
+        requires runs { KernelRuns (kernel_state T.tables C.state self.old) }
         requires process { In self.old.processes.items process.now }
-        ensures runs { Runs (state_of T.tables C.state self.new) }
+        ensures runs { KernelRuns (kernel_state T.tables C.state self.new) }
         ensures same { self.new ≡ record self.old { first = self.new.first; second = self.new.second } }
     {
         self.cache();
@@ -184,15 +184,15 @@ impl<T: TableMemory, C: SwitchingProcessor> Kernel<T, C> {
 
     /// Flushes what was unmapped, on both processors. Afterwards no access on either goes to a frame that no process maps.
     pub fn flush_late(&mut self)
-        requires { Runs (state_of T.tables C.state self.old) }
-        ensures runs { Runs (state_of T.tables C.state self.new) }
+        requires { KernelRuns (kernel_state T.tables C.state self.old) }
+        ensures runs { KernelRuns (kernel_state T.tables C.state self.new) }
         ensures flushed { self.new ≡ record self.old {
           late = None;
           first = self.new.first;
           second = self.new.second;
         } }
-        ensures unreached { (frame : ℕ) → IsUnmapped self.new.processes.items (T.tables self.new.memory) frame
-            → IsUnreached (state_of T.tables C.state self.new) frame }
+        ensures unreached { (frame : ℕ) → FrameIsUnmapped self.new.processes.items (T.tables self.new.memory) frame
+            → IsUnreached (kernel_state T.tables C.state self.new) frame }
     {
         self.cache();
         self.flush();
@@ -201,8 +201,8 @@ impl<T: TableMemory, C: SwitchingProcessor> Kernel<T, C> {
 
     /// Executes the flush, if one is due.
     fn flush(&mut self)
-        requires { Runs (state_of T.tables C.state self.old) }
-        ensures runs { Runs (state_of T.tables C.state self.new) }
+        requires { KernelRuns (kernel_state T.tables C.state self.old) }
+        ensures runs { KernelRuns (kernel_state T.tables C.state self.new) }
         ensures flushed { self.new ≡ record self.old {
           late = None;
           first = self.new.first;
@@ -219,14 +219,14 @@ impl<T: TableMemory, C: SwitchingProcessor> Kernel<T, C> {
 
     /// Executes a call in a process's own half, whatever the processors have cached.
     fn call(&mut self, process: &Process, call: Call) -> Reply
-        requires runs { Runs (state_of T.tables C.state self.old) }
+        requires runs { KernelRuns (kernel_state T.tables C.state self.old) }
         requires process { In self.old.processes.items process.now }
-        requires own { IsOwnCall self.old.late process.now (machine_call 4 (asks no_bits call)) }
-        ensures runs { Runs (state_of T.tables C.state self.new) }
+        requires own { IsOwnCall self.old.late process.now (machine_call 4 (to_call no_bits call)) }
+        ensures runs { KernelRuns (kernel_state T.tables C.state self.new) }
         ensures step { let h = hierarchy process.now.root in
-            Stepped (h (T.tables self.old.memory)) (pool_store self.old.pool) (asks no_bits call) result
+            Stepped (h (T.tables self.old.memory)) (pool_store self.old.pool) (to_call no_bits call) result
             (h (T.tables self.new.memory)) self.new.pool.frames }
-        ensures others { OthersStay (spaces_of self.old.processes.items) (space_of process.now)
+        ensures others { OtherSpacesStay (process_spaces self.old.processes.items) (space_of process.now)
             (T.tables self.old.memory) (T.tables self.new.memory) }
         ensures same { (self.new.processes ≡ self.old.processes) × (self.new.late ≡ self.old.late) }
     {
@@ -249,9 +249,9 @@ impl<T: TableMemory, C: SwitchingProcessor> Kernel<T, C> {
         frame: PhysFrame<Size4KiB>,
         flags: PageTableFlags,
     ) -> Reply
-        requires runs { Runs (state_of T.tables C.state self.old) }
+        requires runs { KernelRuns (kernel_state T.tables C.state self.old) }
         requires process { In self.old.processes.items process.now }
-        ensures runs { Runs (state_of T.tables C.state self.new) }
+        ensures runs { KernelRuns (kernel_state T.tables C.state self.new) }
         ensures same { (self.new.processes ≡ self.old.processes) × (self.new.late ≡ self.old.late) }
     {
         let _start = frame.start_address();
@@ -271,15 +271,15 @@ impl<T: TableMemory, C: SwitchingProcessor> Kernel<T, C> {
         process: &Process,
         page: Page<Size4KiB>,
     ) -> Option<PhysFrame<Size4KiB>>
-        requires runs { Runs (state_of T.tables C.state self.old) }
+        requires runs { KernelRuns (kernel_state T.tables C.state self.old) }
         requires process { In self.old.processes.items process.now }
-        ensures runs { Runs (state_of T.tables C.state self.new) }
+        ensures runs { KernelRuns (kernel_state T.tables C.state self.new) }
         ensures same { self.new.processes ≡ self.old.processes }
         ensures less { LessIsMapped self.old.processes.items
             (T.tables self.old.memory) (T.tables self.new.memory) }
         ensures unmapped { (frame : ℕ) → result ≡ Some frame
             → IsMappedOnce self.old.processes.items (T.tables self.old.memory) frame
-            → IsUnmapped self.old.processes.items (T.tables self.new.memory) frame }
+            → FrameIsUnmapped self.old.processes.items (T.tables self.new.memory) frame }
     {
         if is_kernels(page) {
             return None;
@@ -291,8 +291,8 @@ impl<T: TableMemory, C: SwitchingProcessor> Kernel<T, C> {
 
     /// Makes this process the one of which pages are flushed late. If there is another one, its pages are flushed.
     fn make_late(&mut self, process: &Process)
-        requires { Runs (state_of T.tables C.state self.old) }
-        ensures runs { Runs (state_of T.tables C.state self.new) }
+        requires { KernelRuns (kernel_state T.tables C.state self.old) }
+        ensures runs { KernelRuns (kernel_state T.tables C.state self.new) }
         ensures late { self.new ≡ record self.old {
           late = Some process.now.pcid;
           first = self.new.first;
@@ -318,16 +318,16 @@ impl<T: TableMemory, C: SwitchingProcessor> Kernel<T, C> {
         process: &Process,
         pages: &[Page<Size4KiB>],
     ) -> Result<Vec<PhysFrame<Size4KiB>>, AllocError>
-        requires runs { Runs (state_of T.tables C.state self.old) }
+        requires runs { KernelRuns (kernel_state T.tables C.state self.old) }
         requires process { In self.old.processes.items process.now }
-        ensures runs { Runs (state_of T.tables C.state self.new) }
+        ensures runs { KernelRuns (kernel_state T.tables C.state self.new) }
         ensures unmapped { IfOk result (λ freed. (frame : ℕ) → In freed.items frame
             → IsMappedOnce self.old.processes.items (T.tables self.old.memory) frame
-            → IsUnmapped self.old.processes.items (T.tables self.new.memory) frame) }
+            → FrameIsUnmapped self.old.processes.items (T.tables self.new.memory) frame) }
         ensures flushed { OnOk result (self.new.late ≡ None) }
         ensures unreached { IfOk result (λ freed. (frame : ℕ) → In freed.items frame
             → IsMappedOnce self.old.processes.items (T.tables self.old.memory) frame
-            → IsUnreached (state_of T.tables C.state self.new) frame) }
+            → IsUnreached (kernel_state T.tables C.state self.new) frame) }
         ensures same { self.new.processes ≡ self.old.processes }
     {
         let mut freed = Vec::new(alloc);
@@ -356,14 +356,14 @@ impl<T: TableMemory, C: SwitchingProcessor> Kernel<T, C> {
         server: &Process,
         pages: &[Page<Size4KiB>],
     ) -> Result<Vec<PhysFrame<Size4KiB>>, AllocError>
-        requires runs { Runs (state_of T.tables C.state self.old) }
+        requires runs { KernelRuns (kernel_state T.tables C.state self.old) }
         requires sleeper { In self.old.processes.items sleeper.now }
         requires worker { In self.old.processes.items worker.now }
         requires server { In self.old.processes.items server.now }
-        ensures runs { Runs (state_of T.tables C.state self.new) }
+        ensures runs { KernelRuns (kernel_state T.tables C.state self.new) }
         ensures unreached { IfOk result (λ freed. (frame : ℕ) → In freed.items frame
             → IsMappedOnce self.old.processes.items (T.tables self.old.memory) frame
-            → IsUnreached (state_of T.tables C.state self.new) frame) }
+            → IsUnreached (kernel_state T.tables C.state self.new) frame) }
     {
         self.switch_to(Which::First, sleeper);
         self.switch_to(Which::Second, worker);

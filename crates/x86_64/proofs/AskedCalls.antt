@@ -5,7 +5,7 @@ use Rattle.x86_64_model.specs.Laws.Steps.{AllCalls}
 use Rattle.x86_64_model.specs.Call as machine
 use Rattle.x86_64_model.proofs.Lemmas.Machines.Effects.{page_at_level}
 use Rattle.x86_64.specs.Asked.{PageCall, MapTo, MapToWithTableFlags, IdentityMap, Unmap, UpdateFlags, SetFlags, TranslatePage, MapperCall, page_call, machine_call, calls_by}
-use Rattle.x86_64.specs.Calls.{size_asks, asks}
+use Rattle.x86_64.specs.Calls.{size_asks, to_call}
 use Rattle.x86_64.specs.declared.call_values.SizeCallIn.{SizeCallIn}
 use Rattle.x86_64.specs.declared.call_values.SizeCallIn.TheVariants as size
 use Rattle.x86_64.specs.declared.call_values.CallIn.{CallIn}
@@ -42,12 +42,12 @@ module _ {S L P5 : Type 0} (levels : ℕ) (some : 3 < levels) (bits : P5 → ℕ
   size_has call = tt
 
 module _ {L P5 : Type 0} (levels : ℕ) (some : 3 < levels) (bits : P5 → ℕ) (five : (flags : P5) → levels ≡ 5) where
-  pub is_call : (call : CallIn L P5) → machine.IsCall levels (machine_call levels (asks bits call))
+  pub is_call : (call : CallIn L P5) → machine.IsCall levels (machine_call levels (to_call bits call))
   is_call (call.Of4KiB c) = page_is_call levels 1 (lit≤ tt) (lit≤ tt) (omega (arith, some)) (size_asks bits c) (size_has levels some bits five c)
   is_call (call.Of2MiB c) = page_is_call levels 2 (lit≤ tt) (lit≤ tt) (omega (arith, some)) (size_asks bits c) (size_has levels some bits five c)
   is_call (call.Of1GiB c) = page_is_call levels 3 (lit≤ tt) (lit≤ tt) (omega (arith, some)) (size_asks bits c) (size_has levels some bits five c)
   is_call c = tt
 
-pub are_calls : {C : Type 0} (L : ℕ) (asks : C → MapperCall) → ((call : C) → machine.IsCall L (machine_call L (asks call))) → (calls : List C) → AllCalls L (calls_by asks L calls)
-are_calls L asks is_call [] = tt
-are_calls L asks is_call (call ∷ calls) = (is_call call, are_calls L asks is_call calls)
+pub are_calls : {C : Type 0} (L : ℕ) (to_call : C → MapperCall) → ((call : C) → machine.IsCall L (machine_call L (to_call call))) → (calls : List C) → AllCalls L (calls_by to_call L calls)
+are_calls L to_call is_call [] = tt
+are_calls L to_call is_call (call ∷ calls) = (is_call call, are_calls L to_call is_call calls)

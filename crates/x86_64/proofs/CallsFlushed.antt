@@ -12,9 +12,9 @@ use Rattle.x86_64_model.specs.Position.{page_path}
 use Rattle.x86_64_model.specs.Refusal.{Done, Refused}
 use Rattle.x86_64_model.specs.Window.{Window}
 use Rattle.x86_64.specs.Asked.{PageCall, MapTo, MapToWithTableFlags, IdentityMap, Unmap, UpdateFlags, SetFlags, TranslatePage, MapperCall, Of4KiB, Of2MiB, Of1GiB, Translate, TranslateAddr, CleanUp, CleanUpRange, page_call, machine_call}
-use Rattle.x86_64.specs.Calls.{page_of, page_start}
-use Rattle.x86_64.specs.FlushesDue.{told, executed, settles, InPages}
-use Rattle.x86_64.specs.Processors.{Arises, ArisesByFlushedCalls}
+use Rattle.x86_64.specs.Calls.{page_of, page_of_call}
+use Rattle.x86_64.specs.FlushesDue.{flush_for, executed, settles_any, InPages}
+use Rattle.x86_64.specs.Processors.{IsReachable, ArisesByFlushedCalls}
 use Rattle.x86_64.specs.Replies.{Reply}
 use Rattle.x86_64.specs.Runs.{AfterStep}
 use Rattle.x86_64.proofs.FlushesTold.{flushes_settle}
@@ -87,7 +87,7 @@ module _ (L : ℕ) (window : Option Window) (r : machine.Reply) where
   cleaned q frame (inl e) = cc
   cleaned q frame (inr i) = none_in_window false window q frame i
 
-  in_pages : (call : MapperCall) → InPages L (flush_after L window (machine_call L call) r) (unwrap_or (page_start L call) 0)
+  in_pages : (call : MapperCall) → InPages L (flush_after L window (machine_call L call) r) (unwrap_or (page_of_call L call) 0)
   in_pages (Of4KiB call) q frame i = in_page 1 call q frame i
   in_pages (Of2MiB call) q frame i = in_page 2 call q frame i
   in_pages (Of1GiB call) q frame i = in_page 3 call q frame i
@@ -96,7 +96,7 @@ module _ (L : ℕ) (window : Option Window) (r : machine.Reply) where
   in_pages CleanUp q frame i = absurd (cleaned q frame i)
   in_pages (CleanUpRange low high) q frame i = absurd (cleaned q frame i)
 
-  pub some_in_pages : (loses : Bool) (call : MapperCall) → InPages L (cond loses (flush_after L window (machine_call L call) r) []) (unwrap_or (page_start L call) 0)
+  pub some_in_pages : (loses : Bool) (call : MapperCall) → InPages L (cond loses (flush_after L window (machine_call L call) r) []) (unwrap_or (page_of_call L call) 0)
   some_in_pages true call q frame i = in_pages call q frame i
   some_in_pages false call q frame i = absurd i
 
@@ -111,11 +111,11 @@ arises_by_flushed_calls l take_back serves m n pool rest call reply loses is fit
     let asked = machine_call l.levels call in
     let r = (step (machine_of l take_back) (state_in l m pool) asked).reply in
     let due = cond loses (flush_after l.levels l.window asked r) [] in
-    let p = unwrap_or (page_start l.levels call) 0 in
+    let p = unwrap_or (page_of_call l.levels call) 0 in
     let ready = arises_by_caching l take_back serves m pool [] before first arises early in
-    let called : Arises l take_back serves n rest first (due ++ []) =
+    let called : IsReachable l take_back serves n rest first (due ++ []) =
     arises_by_calls l take_back serves m n pool rest first [] asked loses ready is (λ i. absurd i) (λ q r frame i. absurd i) kept_all fits (ap (λ (a : AfterStep Reply). a.state) stepped) free kept in
-    let waiting = arises_by_caching l take_back serves n rest due first second (subst (λ due. Arises l take_back serves n rest first due) (append-nil due) called) late in
-    let is_told : flush ≡ told due = tells l.window r refl (ap (λ (a : AfterStep Reply). a.reply) stepped) in
-    subst (λ due. Arises l take_back serves n rest after due) (none_left (settles l.levels (executed (told due) p)) due ((flushes_settle l.levels due p).settled (some_in_pages l.levels l.window r loses call)))
-    (arises_by_flushes l take_back serves n rest due (executed (told due) p) second after waiting (rw is_told at left))
+    let waiting = arises_by_caching l take_back serves n rest due first second (subst (λ due. IsReachable l take_back serves n rest first due) (append-nil due) called) late in
+    let is_told : flush ≡ flush_for due = tells l.window r refl (ap (λ (a : AfterStep Reply). a.reply) stepped) in
+    subst (λ due. IsReachable l take_back serves n rest after due) (none_left (settles_any l.levels (executed (flush_for due) p)) due ((flushes_settle l.levels due p).settled (some_in_pages l.levels l.window r loses call)))
+    (arises_by_flushes l take_back serves n rest due (executed (flush_for due) p) second after waiting (rw is_told at left))

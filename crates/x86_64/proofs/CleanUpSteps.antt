@@ -4,8 +4,8 @@ use Rattle.x86_64_model.specs.Call as machine
 use Rattle.x86_64_model.specs.Entry.{IsParentFlags}
 use Rattle.x86_64_model.specs.Machine.{AfterCall, do_call, step}
 use Rattle.x86_64_model.specs.Memory.{IsMapping, word}
-use Rattle.x86_64_model.specs.Mapper.{◌laid_in◌, Hierarchy, PoolFits, MayCleanUp, CleansUp, back, SupplyFits, words}
-use Rattle.x86_64_model.specs.Pool.{TakesBack, given_back}
+use Rattle.x86_64_model.specs.Mapper.{◌laid_in◌, Hierarchy, PoolFits, MayCleanUp, CleansUp, freed_frames, SupplyFits, words}
+use Rattle.x86_64_model.specs.Pool.{TakesBack, with_returned}
 use Rattle.x86_64_model.proofs.Lemmas.Machines.Fitting.{ready_of_fits, may_clean_up}
 use Rattle.x86_64_model.specs.Position.{position_count}
 use Rattle.x86_64.specs.Asked as asked
@@ -37,7 +37,7 @@ module _ {Lent : Type 0} (h : Hierarchy Lent) (serves : ℕ → Bool) (pool held
         (ap (step (machine_of h.layout take_back) (state_in h.layout h.memory pool)) (sym all) ∙ one)
 
     -- the frames held afterwards are those held before and the returned ones
-    all_back : left ≡ given_back take_back held (back h low high)
+    all_back : left ≡ with_returned take_back held (freed_frames h low high)
     unfolding do_call
     all_back = sym (ap (λ (x : AfterCall). x.state.pool) cleans.outcome)
 
@@ -47,15 +47,15 @@ module _ {Lent : Type 0} (h : Hierarchy Lent) (serves : ℕ → Bool) (pool held
         let ready : SupplyFits (h.layout laid_in after.memory) held_now = subst (λ l. SupplyFits (l laid_in after.memory) held_now) cleans.layout (cleans.fits take_back gives pool (ready_of_fits h.layout h.memory serves pool fits)) in
         record {
           keeps = keeps_step h.layout adds take_back gives serves h.memory pool fits (machine.CleanUp low high) tt after.memory rest (sym (ap (λ (x : AfterCall). x.state) one))
-              (subst (SupplyFits (h.layout laid_in after.memory)) (ap (λ fs. given_back take_back fs (back h low high)) same ∙ sym all_back ∙ sym last) ready) (λ k none. cleans.others k (λ f table. none f (inr table)));
+              (subst (SupplyFits (h.layout laid_in after.memory)) (ap (λ fs. with_returned take_back fs (freed_frames h low high)) same ∙ sym all_back ∙ sym last) ready) (λ k none. cleans.others k (λ f table. none f (inr table)));
           serves = same_served;
           layout = cleans.layout;
           lent = cleans.lent;
         }
       where
         held_now : List ℕ
-        held_now = given_back take_back pool (back h low high)
+        held_now = with_returned take_back pool (freed_frames h low high)
 
-    pub free_cleaned : IsMapping h.layout.places → TakesBack take_back → KeepsFree h.layout h.memory pool (back h low high) after.memory rest
-    free_cleaned mapping gives = clean_up_keeps_free h.layout mapping serves h.memory pool fits take_back gives after.memory (back h low high) rest (last ∙ all_back ∙ ap (λ fs. given_back take_back fs (back h low high)) (sym same))
+    pub free_cleaned : IsMapping h.layout.places → TakesBack take_back → KeepsFree h.layout h.memory pool (freed_frames h low high) after.memory rest
+    free_cleaned mapping gives = clean_up_keeps_free h.layout mapping serves h.memory pool fits take_back gives after.memory (freed_frames h low high) rest (last ∙ all_back ∙ ap (λ fs. with_returned take_back fs (freed_frames h low high)) (sym same))
         (λ f came i. subst (λ l. word (words (l laid_in after.memory)) f i ≡ 0) cleans.layout (cleans.empty f came i)) cleans.others

@@ -14,7 +14,7 @@ use Rattle.x86_64_model.proofs.Lemmas.Hierarchies.Elsewhere.{same_word}
 use Rattle.x86_64_model.proofs.Lemmas.Hierarchies.Held.{word-set_frame, word-set_index}
 use Rattle.x86_64_model.proofs.Lemmas.Hierarchies.Memories.{covered}
 use Rattle.x86_64_model.proofs.Lemmas.Machines.Fitting.{own_there}
-use Rattle.x86_64.specs.EveryWord.{EveryWordIsDecided, IsLeft}
+use Rattle.x86_64.specs.EveryWord.{EveryWordIsDecided, IsKnownAfter}
 use Rattle.x86_64.specs.Runs.{state_in}
 use Rattle.x86_64.proofs.FreeFrames.{in_or_not}
 
@@ -47,7 +47,7 @@ table_words L (Some w) T U root M valid other f i table = by (f == root) (i == w
         let read : (V : Words) → word V f i ≡ word V root w.index = λ V. ap (λ g. word V g i) (eqb-true f root here) ∙ ap (λ j. word V root j) (eqb-true i w.index at) in
         read T ∙ sym valid.self.is_word ∙ other.self.is_word ∙ sym (read U)
 
-module _ (l : Layout) (mapping : IsMapping l.places) (m n : Memory) (pool back rest : List ℕ) (left : IsLeft l m pool back n rest) where
+module _ (l : Layout) (mapping : IsMapping l.places) (m n : Memory) (pool back rest : List ℕ) (left : IsKnownAfter l m pool back n rest) where
   own_is_covered : (f : ℕ) → Owns (l laid_in n) rest f → l.places.covers f ≡ true
   own_is_covered f own = covered n l.places f (own_there l.levels l.window (words (l laid_in n)) l.root left.serves (state_in l n rest) left.keeps.fits f own)
 

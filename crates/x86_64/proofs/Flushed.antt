@@ -12,7 +12,7 @@ use Rattle.x86_64_model.specs.Path.{path_at}
 use Rattle.x86_64_model.specs.Pool.{TakesBack}
 use Rattle.x86_64_model.specs.Refusal.{Refusal, Done, Refused}
 use Rattle.x86_64_model.specs.Window.{IsValidFor}
-use Rattle.x86_64_model.specs.Laws.Steps.{NoneCovers as NoItemCovers}
+use Rattle.x86_64_model.specs.Laws.Steps.{NoFlushItemCovers as NoItemCovers}
 use Rattle.x86_64_model.proofs.Lemmas.Machines.Flushes.{flushes_suffice}
 use Rattle.x86_64_addr.specs.Levels.{IsLevelCount}
 use Rattle.x86_64_tables.specs.FlushRecorder.{page_item}
@@ -21,7 +21,7 @@ use Rattle.x86_64.specs.declared.call_values.PageReply.TheVariants as size_reply
 use Rattle.x86_64.specs.declared.call_values.MapperReply.TheVariants as reply
 use Rattle.x86_64.specs.Asked.{PageCall, MapTo, MapToWithTableFlags, IdentityMap, Unmap, UpdateFlags, SetFlags, TranslatePage, MapperCall, Of4KiB, Of2MiB, Of1GiB, Translate, TranslateAddr, CleanUp, CleanUpRange, page_call, machine_call, calls_by}
 use Rattle.x86_64_tables.specs.declared.mapper.TranslateResult.{TranslateResult}
-use Rattle.x86_64.specs.Flushes.{size_items, items_of, items_told, level_of_size, item_of, NoneCovers, FlushesSuffice}
+use Rattle.x86_64.specs.Flushes.{size_items, flush_items_of, items_told, level_of_size, item_of, NoFlushItemCovers, ItemsSuffice}
 use Rattle.x86_64.specs.private.Served.{items_where}
 use Rattle.x86_64.specs.Replies.{SizeReply, Reply, map_error, unmap_error, update_error, translate_error, sized, size_answer, translate_result, reply_of}
 use Rattle.x86_64.specs.Runs.{machine_of, state_in, step_by, replies_to}
@@ -84,9 +84,9 @@ item_is L size page (inr five) = rw five refl
 -- the items of a reply, or none if there is no reply
 abbrev reply_items : (levels : ℕ) → Option Reply → List FlushItem
 reply_items levels None = []
-reply_items levels (Some answer) = items_of levels answer
+reply_items levels (Some answer) = flush_items_of levels answer
 
-sized_items : {S : Type 0} (L size : ℕ) (wrap : SizeReply S → Reply) → ((r : SizeReply S) → items_of L (wrap r) ≡ items_where L size (Some r)) → (o : Option (Option (SizeReply S))) → reply_items L (option_map (sized wrap) o) ≡ told_items L size o
+sized_items : {S : Type 0} (L size : ℕ) (wrap : SizeReply S → Reply) → ((r : SizeReply S) → flush_items_of L (wrap r) ≡ items_where L size (Some r)) → (o : Option (Option (SizeReply S))) → reply_items L (option_map (sized wrap) o) ≡ told_items L size o
 sized_items L size wrap is None = refl
 sized_items L size wrap is (Some None) = refl
 sized_items L size wrap is (Some (Some r)) = is r
@@ -122,7 +122,7 @@ items_are L known (CleanUpRange low high) machine.Cleaned = refl
 
 -- ---- of a list
 
-covers_none : (L : ℕ) (items : List FlushItem) (p : ℕ) → NoneCovers L items p → NoItemCovers L (map item_of items) p
+covers_none : (L : ℕ) (items : List FlushItem) (p : ℕ) → NoFlushItemCovers L items p → NoItemCovers L (map item_of items) p
 covers_none L [] p none = tt
 covers_none L (item ∷ items) p none = (none.0, covers_none L items p none.1)
 
@@ -136,7 +136,7 @@ module _ {C : Type 0} (asks : C → MapperCall) where
       let after = step m s (machine_call m.levels (asks call)) in
       let first : Some x ≡ reply_of (asks call) after.reply = cc in
       let next : map Some told ≡ replies_to asks m after.state calls = cc in
-      map-append item_of (items_of m.levels x) (items_told m.levels told)
+      map-append item_of (flush_items_of m.levels x) (items_told m.levels told)
       ∙ ap₂ (λ xs ys. xs ++ ys) (ap (λ o. map item_of (reply_items m.levels o)) first ∙ items_are m.levels known (asks call) after.reply) (all_items_are m known after.state calls told next)
 
   -- the replies to the calls after the first k
@@ -156,7 +156,7 @@ module _ {C : Type 0} (asks : C → MapperCall) where
     pub flushed : IsParentFlags l.added_flags → (take_back : List ℕ → ℕ → List ℕ) → TakesBack take_back → (serves : ℕ → Bool) (m : Memory) (pool : List ℕ) → PoolFits (l laid_in m) serves pool
         → (calls : List C) (n : Memory) (rest : List ℕ) → IsValidFor l.levels l.window (words (l laid_in n)) l.root (state_in l n rest).paths
         → state_in l n rest ≡ state_after (machine_of l take_back) (state_in l m pool) (calls_by asks l.levels calls)
-        → (told : List Reply) → map Some told ≡ replies_to asks (machine_of l take_back) (state_in l m pool) calls → FlushesSuffice asks l take_back (state_in l m pool) calls told (words (l laid_in n))
+        → (told : List Reply) → map Some told ≡ replies_to asks (machine_of l take_back) (state_in l m pool) calls → ItemsSuffice asks l take_back (state_in l m pool) calls told (words (l laid_in n))
     flushed adds take_back gives serves m pool fits calls n rest valid is told tells k V p first out none =
         let runs = machine_of l take_back in
         let start = state_in l m pool in

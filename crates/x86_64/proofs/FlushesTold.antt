@@ -16,7 +16,7 @@ use Rattle.x86_64_page.specs.declared.page.Size1GiB.{Size1GiB as Giant}
 use Rattle.x86_64_tables.specs.declared.mapper.TranslateResult.{TranslateResult}
 use Rattle.x86_64_mappers.proofs.Way.EntryPaths.{path_length}
 use Rattle.x86_64.specs.Asked.{PageCall, MapTo, MapToWithTableFlags, IdentityMap, Unmap, UpdateFlags, SetFlags, TranslatePage, MapperCall, Of4KiB, Of2MiB, Of1GiB, Translate, TranslateAddr, CleanUp, CleanUpRange, page_call, machine_call}
-use Rattle.x86_64.specs.FlushesDue.{told_of, rank, larger, told, executed, settles, FlushesSettle, FlushesAreLeast}
+use Rattle.x86_64.specs.FlushesDue.{told_of, rank, larger, flush_for, executed, settles_any, FlushesSettle, FlushesAreLeast}
 use Rattle.x86_64.specs.Replies.{SizeReply, Reply, map_error, unmap_error, update_error, translate_error, size_answer, translate_result, sized, reply_of}
 use Rattle.x86_64.specs.declared.call_values.PageReply.TheVariants as size_reply
 use Rattle.x86_64.specs.declared.call_values.MapperReply.TheVariants as reply
@@ -41,25 +41,25 @@ flush_where takes shown None = Nothing
 flush_where takes shown (Some answer) = page_flush takes shown answer
 
 -- all items below a path are due
-below : (q : List ℕ) (window : Option Window) → told (below_due window q) ≡ Everything
+below : (q : List ℕ) (window : Option Window) → flush_for (below_due window q) ≡ Everything
 below q None = refl
 below q (Some w) = refl
 
-marked : (b : Bool) (q : List ℕ) (window : Option Window) → told (cond b (below_due window q) []) ≡ cond b Everything Nothing
+marked : (b : Bool) (q : List ℕ) (window : Option Window) → flush_for (cond b (below_due window q) []) ≡ cond b Everything Nothing
 marked true q window = below q window
 marked false q window = refl
 
-cleaned : (window : Option Window) → told (TablesDue ∷ if_window window) ≡ cond (is_some window) Everything Tables
+cleaned : (window : Option Window) → flush_for (TablesDue ∷ if_window window) ≡ cond (is_some window) Everything Tables
 cleaned None = refl
 cleaned (Some w) = refl
 
 -- a page's entry was changed
-changed : (q : List ℕ) (frame : ℕ) (small : Bool) (window : Option Window) → told (PageDue q frame ∷ cond small [] (if_window window)) ≡ cond (cond small false (is_some window)) Everything Page
+changed : (q : List ℕ) (frame : ℕ) (small : Bool) (window : Option Window) → flush_for (PageDue q frame ∷ cond small [] (if_window window)) ≡ cond (cond small false (is_some window)) Everything Page
 changed q frame true window = refl
 changed q frame false None = refl
 changed q frame false (Some w) = refl
 
-not_allowed : (L level : ℕ) (window : Option Window) (call : PageCall) → told (flush_after L window (page_call L level call) machine.NotAllowed) ≡ Nothing
+not_allowed : (L level : ℕ) (window : Option Window) (call : PageCall) → flush_for (flush_after L window (page_call L level call) machine.NotAllowed) ≡ Nothing
 not_allowed L level window (MapTo page frame flags) = refl
 not_allowed L level window (MapToWithTableFlags page frame flags more) = refl
 not_allowed L level window (IdentityMap frame flags) = refl
@@ -81,11 +81,11 @@ module _ (S : Type 0) (L level : ℕ) (small : Bool) (is : (page : ℕ) → is_s
   abbrev shown : Bool
   shown = cond small false (is_some window)
 
-  changed_at : (page frame : ℕ) → told (page_due L window (path_at L level page) frame) ≡ cond shown Everything Page
-  changed_at page frame = ap (λ b. told (PageDue (path_at L level page) frame ∷ cond b [] (if_window window))) (is page) ∙ changed (path_at L level page) frame small window
+  changed_at : (page frame : ℕ) → flush_for (page_due L window (path_at L level page) frame) ≡ cond shown Everything Page
+  changed_at page frame = ap (λ b. flush_for (PageDue (path_at L level page) frame ∷ cond b [] (if_window window))) (is page) ∙ changed (path_at L level page) frame small window
 
   answer_tells : (call : PageCall) (a : Answer) (o : Option (SizeReply S)) → size_answer call (machine.Answered a) ≡ Some o
-      → told (flush_after L window (page_call L level call) (machine.Answered a)) ≡ flush_where (page_takes call) shown o
+      → flush_for (flush_after L window (page_call L level call) (machine.Answered a)) ≡ flush_where (page_takes call) shown o
   answer_tells (MapTo page frame flags) (Done f) = by_answer shown false Nothing _ refl
   answer_tells (MapTo page frame flags) (Refused why) = by_refusal shown false Nothing size_reply.Map (map_error why) (λ w. refl)
   answer_tells (MapToWithTableFlags page frame flags more) (Done f) = by_answer shown (no_execute more) _ _ (marked (no_execute more) (take 1 (path_at L level page)) window)
@@ -101,7 +101,7 @@ module _ (S : Type 0) (L level : ℕ) (small : Bool) (is : (page : ℕ) → is_s
   answer_tells (TranslatePage page) (Done f) = by_answer shown false Nothing _ refl
   answer_tells (TranslatePage page) (Refused why) = by_refusal shown false Nothing size_reply.Frame (translate_error why) (λ w. refl)
 
-  size_tells : (call : PageCall) (r : machine.Reply) (o : Option (SizeReply S)) → size_answer call r ≡ Some o → told (flush_after L window (page_call L level call) r) ≡ flush_where (page_takes call) shown o
+  size_tells : (call : PageCall) (r : machine.Reply) (o : Option (SizeReply S)) → size_answer call r ≡ Some o → flush_for (flush_after L window (page_call L level call) r) ≡ flush_where (page_takes call) shown o
   size_tells call (machine.Answered a) o e = answer_tells call a o e
   size_tells call machine.NotAllowed o e = not_allowed L level window call ∙ ap (flush_where (page_takes call) shown) (same_Some _ _ e)
   size_tells call (machine.Position t) o e = cc
@@ -115,7 +115,7 @@ sized_tells takes shown all wrap is f (Some None) tells x e = tells None refl �
 sized_tells takes shown all wrap is f (Some (Some a)) tells x e = tells (Some a) refl ∙ sym (is a) ∙ ap (flush_by takes all) (same_Some _ _ e)
 
 pub told_by : (L : ℕ) → 3 < L → (window : Option Window) (call : MapperCall) (r : machine.Reply) (x : Reply) → reply_of call r ≡ Some x
-    → told (flush_after L window (machine_call L call) r) ≡ flush_by (takes call) (is_some window) x
+    → flush_for (flush_after L window (machine_call L call) r) ≡ flush_by (takes call) (is_some window) x
 told_by L some window (Of4KiB call) r x e =
     let small : (page : ℕ) → is_small L (path_at L 1 page) ≡ true = λ page. eq-eqb _ _ (let l = path_length L 1 page (omega arith) (omega (arith, some)) in omega (arith, l)) in
     sized_tells (page_takes call) false (is_some window) reply.Of4KiB (λ a. refl) _ (size_answer call r) (size_tells Small L 1 true small window call r) x e
@@ -175,16 +175,16 @@ larger_least f g n left right = elim (nat_lt (rank f) (rank g)) as (λ b. rank (
   | false ↦ left
 ]
 
-told_least : (due : List Due) (n : ℕ) → ((d : Due) → In due d → rank (told_of d) ≤ n) → rank (told due) ≤ n
+told_least : (due : List Due) (n : ℕ) → ((d : Due) → In due d → rank (told_of d) ≤ n) → rank (flush_for due) ≤ n
 told_least [] n each = omega arith
-told_least (e ∷ due) n each = larger_least (told_of e) (told due) n (each e (inl refl)) (told_least due n (λ d i. each d (inr i)))
+told_least (e ∷ due) n each = larger_least (told_of e) (flush_for due) n (each e (inl refl)) (told_least due n (λ d i. each d (inr i)))
 
-told_at_least : (due : List Due) (d : Due) → In due d → rank (told_of d) ≤ rank (told due)
+told_at_least : (due : List Due) (d : Due) → In due d → rank (told_of d) ≤ rank (flush_for due)
 told_at_least [] d i = absurd i
-told_at_least (e ∷ due) d (inl is) = subst (λ d. rank (told_of d) ≤ rank (told (e ∷ due))) is (larger_left (told_of e) (told due))
-told_at_least (e ∷ due) d (inr i) = let rest = told_at_least due d i in let right = larger_right (told_of e) (told due) in omega (arith, rest, right)
+told_at_least (e ∷ due) d (inl is) = subst (λ d. rank (told_of d) ≤ rank (flush_for (e ∷ due))) is (larger_left (told_of e) (flush_for due))
+told_at_least (e ∷ due) d (inr i) = let rest = told_at_least due d i in let right = larger_right (told_of e) (flush_for due) in omega (arith, rest, right)
 
-settles_from : (L : ℕ) (f : Flush) (p : ℕ) (d : Due) → rank (told_of d) ≤ rank f → ((q : List ℕ) (frame : ℕ) → d ≡ PageDue q frame → begins q (page_path L p) ≡ true) → settles L (executed f p) d ≡ true
+settles_from : (L : ℕ) (f : Flush) (p : ℕ) (d : Due) → rank (told_of d) ≤ rank f → ((q : List ℕ) (frame : ℕ) → d ≡ PageDue q frame → begins q (page_path L p) ≡ true) → settles_any L (executed f p) d ≡ true
 settles_from L Nothing p (PageDue q frame) r page = absurd (omega (arith, r))
 settles_from L Nothing p TablesDue r page = absurd (omega (arith, r))
 settles_from L Nothing p WindowDue r page = absurd (omega (arith, r))
@@ -199,7 +199,7 @@ settles_from L Page p WindowDue r page = absurd (omega (arith, r))
 settles_from L Page p (BelowDue q) r page = absurd (omega (arith, r))
 settles_from L Everything p d r page = refl
 
-rank_from : (L : ℕ) (f : Flush) (p : ℕ) (d : Due) → settles L (executed f p) d ≡ true → rank (told_of d) ≤ rank f
+rank_from : (L : ℕ) (f : Flush) (p : ℕ) (d : Due) → settles_any L (executed f p) d ≡ true → rank (told_of d) ≤ rank f
 rank_from L Nothing p d s = cc
 rank_from L Tables p (PageDue q frame) s = cc
 rank_from L Tables p TablesDue s = omega arith
@@ -214,7 +214,7 @@ rank_from L Everything p TablesDue s = omega arith
 rank_from L Everything p WindowDue s = omega arith
 rank_from L Everything p (BelowDue q) s = omega arith
 
-any_page : (L any : ℕ) (d : Due) → rank (told_of d) ≤ 1 → settles L (Some (Invlpg any)) d ≡ true
+any_page : (L any : ℕ) (d : Due) → rank (told_of d) ≤ 1 → settles_any L (Some (Invlpg any)) d ≡ true
 any_page L any (PageDue q frame) r = absurd (omega (arith, r))
 any_page L any TablesDue r = refl
 any_page L any WindowDue r = absurd (omega (arith, r))
@@ -222,7 +222,7 @@ any_page L any (BelowDue q) r = absurd (omega (arith, r))
 
 pub flushes_settle : FlushesSettle
 flushes_settle L due p = record {
-  settled = λ within d i. settles_from L (told due) p d (told_at_least due d i) (λ q frame is. within q frame (subst (In due) is i));
+  settled = λ within d i. settles_from L (flush_for due) p d (told_at_least due d i) (λ q frame is. within q frame (subst (In due) is i));
   tables = λ is any d i. any_page L any d (subst (λ f. rank (told_of d) ≤ rank f) is (told_at_least due d i));
 }
 

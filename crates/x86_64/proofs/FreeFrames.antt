@@ -5,7 +5,7 @@ use Rattle.x86_64_model.specs.Layout.{Layout}
 use Rattle.x86_64_model.specs.Mapper.{◌laid_in◌, KeepsOthers, Owns, PoolFits, paths, words}
 use Rattle.x86_64_model.specs.Lists.{In}
 use Rattle.x86_64_model.specs.Memory.{Memory, IsMapping, word}
-use Rattle.x86_64_model.specs.Pool.{IsTable, TakesBack, given_back}
+use Rattle.x86_64_model.specs.Pool.{IsTable, TakesBack, with_returned}
 use Rattle.x86_64_model.proofs.Lemmas.CleanUps.Trees.{given_frames}
 use Rattle.x86_64_model.proofs.Lemmas.Hierarchies.Elsewhere.{same_word}
 use Rattle.x86_64_model.proofs.Lemmas.Hierarchies.Memories.{covered}
@@ -46,7 +46,7 @@ module _ (l : Layout) (mapping : IsMapping l.places) (serves : ℕ → Bool) (m 
   change_keeps_free n others = map_keeps_free n [] pool refl (λ k no. others k (λ g t. no g (inr t, λ i. fits.no_table g i t)))
 
   -- a clean up
-  pub clean_up_keeps_free : (take_back : List ℕ → ℕ → List ℕ) → TakesBack take_back → (n : Memory) (back rest : List ℕ) → rest ≡ given_back take_back pool back → ((f : ℕ) → In back f → (i : ℕ) → word (words (l laid_in n)) f i ≡ 0)
+  pub clean_up_keeps_free : (take_back : List ℕ → ℕ → List ℕ) → TakesBack take_back → (n : Memory) (back rest : List ℕ) → rest ≡ with_returned take_back pool back → ((f : ℕ) → In back f → (i : ℕ) → word (words (l laid_in n)) f i ≡ 0)
       → KeepsOthers Table (l laid_in m) (l laid_in n) → KeepsFree l m pool back n rest
   clean_up_keeps_free take_back gives n back rest is empty others = record {
     came_back = λ f left came. empty f came;

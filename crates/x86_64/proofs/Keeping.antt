@@ -7,7 +7,7 @@ use Rattle.x86_64_model.specs.Pool.{TakesBack}
 use Rattle.x86_64_model.specs.Call.{Call, IsCall}
 use Rattle.x86_64_model.specs.Machine.{State, step}
 use Rattle.x86_64_model.specs.Mapper.{◌laid_in◌, Hierarchy, KeepsOthers, Owns, PoolFits, SupplyFits, paths, words}
-use Rattle.x86_64_model.specs.Store.{Store, Fits, Kept, KeepsPool}
+use Rattle.x86_64_model.specs.Store.{Store, StoreFits, Keeps, KeepsPool}
 use Rattle.x86_64_model.proofs.Lemmas.Maps.Frames.{Conserves}
 use Rattle.x86_64_model.proofs.Lemmas.Machines.States.{IsSound, step_sound, step_conserves}
 use Rattle.x86_64_model.proofs.Lemmas.Machines.Fitting.{sound_of_fits, fits_of_sound}
@@ -16,7 +16,7 @@ use Rattle.x86_64.specs.Runs.{machine_of, state_in}
 pub keeps_nothing : (l : Layout) (serves : ℕ → Bool) (m : Memory) (pool : List ℕ) → PoolFits (l laid_in m) serves pool → KeepsPool l serves m pool m pool
 keeps_nothing l serves m pool fits = record { fits = fits; conserved = λ f. (λ own. own, λ own. own); others = λ k o. refl }
 
-pub kept_none : {Lent : Type 0} (h : Hierarchy Lent) (store : Store) → Fits h store → Kept h store h store
+pub kept_none : {Lent : Type 0} (h : Hierarchy Lent) (store : Store) → StoreFits h store → Keeps h store h store
 kept_none h store fits = record { keeps = keeps_nothing h.layout store.serves h.memory store.frames fits; serves = refl; layout = refl; lent = refl }
 
 pub keeps_then : (l : Layout) (serves : ℕ → Bool) (m n o : Memory) (pool rest last : List ℕ) → KeepsPool l serves m pool n rest → KeepsPool l serves n rest o last → KeepsPool l serves m pool o last

@@ -5,7 +5,7 @@ use Rattle.x86_64_model.specs.Laws.Pairs as machine
 use Rattle.x86_64_model.specs.Position.{lower_half}
 use Rattle.x86_64_model.specs.Window.{Window}
 use Rattle.x86_64.specs.Asked.{PageCall, MapTo, MapToWithTableFlags, IdentityMap, Unmap, UpdateFlags, SetFlags, TranslatePage, MapperCall, Of4KiB, Of2MiB, Of1GiB, Translate, TranslateAddr, CleanUp, CleanUpRange, page_call, machine_call, calls_by, page_names, names_by}
-use Rattle.x86_64.specs.Pairs.{NoneNames}
+use Rattle.x86_64.specs.Pairs.{NoCallNames}
 use Rattle.x86_64_mappers.proofs.Way.FirstIndex.{first_index, first_of_all}
 
 module _ (L : ℕ) (some : 3 < L) where
@@ -49,7 +49,7 @@ module _ (L : ℕ) (some : 3 < L) where
 -- ---- of a list
 
 module _ {C : Type 0} (asks : C → MapperCall) (L : ℕ) (some : 3 < L) where
-  pub none_named : (window : Option Window) (calls : List C) → NoneNames asks L window calls → machine.NoneNames L window (calls_by asks L calls)
+  pub none_named : (window : Option Window) (calls : List C) → NoCallNames asks L window calls → machine.NoneNames L window (calls_by asks L calls)
   none_named None [] none = tt
   none_named None (call ∷ calls) none = (unnamed L some (asks call), none_named None calls tt)
   none_named (Some w) [] none = tt

@@ -16,7 +16,7 @@ use Rattle.x86_64_model.specs.Call.{IsCall}
 use Rattle.x86_64_model.specs.Machine.{Machine, State, AfterCall, only_reply, do_call, step}
 use Rattle.x86_64_model.specs.Mapper.{◌laid_in◌, Hierarchy, Steps, Does, DoesMap, page_translation, KeepsOthers, Owns, PoolFits, SupplyFits, paths, words}
 use Rattle.x86_64_model.proofs.Lemmas.Machines.Effects.{page_at_level}
-use Rattle.x86_64_tables.specs.MapperAnswers.{map_answer, map_refusal, unmap_answer, unmap_refusal, flags_refusal, flags_answer, update_refusal, translate_answer, translate_refusal}
+use Rattle.x86_64_tables.specs.MapperAnswers.{map_answer, map_refusal, unmap_answer, refusal_of_unmap, flags_refusal, flags_answer, refusal_of_update, translate_answer, refusal_of_translate}
 use Rattle.x86_64_tables.specs.declared.mapper.MapToError.{MapToError}
 use Rattle.x86_64_tables.specs.declared.mapper.MapToError.TheVariants as map_to
 use Rattle.x86_64_tables.specs.declared.mapper.UnmapError.{UnmapError}
@@ -27,7 +27,7 @@ use Rattle.x86_64_tables.specs.declared.mapper.TranslateError.{TranslateError}
 use Rattle.x86_64_tables.specs.declared.mapper.TranslateError.TheVariants as translate_to
 use Rattle.x86_64.specs.Asked.{PageCall, MapTo, MapToWithTableFlags, IdentityMap, Unmap, UpdateFlags, SetFlags, TranslatePage, page_call}
 use Rattle.x86_64.specs.declared.call_values.PageReply.TheVariants as reply
-use Rattle.x86_64.specs.Replies.{SizeReply, map_error, unmap_error, update_error, translate_error, result_of, size_reply, size_answer, is_refused, size_changes_nothing}
+use Rattle.x86_64.specs.Replies.{SizeReply, map_error, unmap_error, update_error, translate_error, result_of, size_reply, size_answer, is_error, size_changes_nothing}
 use Rattle.x86_64.specs.FreeFrames.{KeepsFree}
 use Rattle.x86_64.specs.Runs.{AfterStep, machine_of, state_in}
 use Rattle.x86_64.specs.private.Served.{SetsFlags, size_step}
@@ -43,16 +43,16 @@ map_error_back map_to.FrameAllocationFailed = refl
 map_error_back map_to.ParentEntryHugePage = refl
 map_error_back (map_to.PageAlreadyMapped frame) = refl
 
-unmap_error_back : (why : UnmapError) → unmap_error (unmap_refusal why) ≡ Some why
+unmap_error_back : (why : UnmapError) → unmap_error (refusal_of_unmap why) ≡ Some why
 unmap_error_back unmap_to.ParentEntryHugePage = refl
 unmap_error_back unmap_to.PageNotMapped = refl
 unmap_error_back (unmap_to.InvalidFrameAddress address) = refl
 
-update_error_back : (why : FlagUpdateError) → update_error (update_refusal why) ≡ Some why
+update_error_back : (why : FlagUpdateError) → update_error (refusal_of_update why) ≡ Some why
 update_error_back update_to.PageNotMapped = refl
 update_error_back update_to.ParentEntryHugePage = refl
 
-translate_error_back : (why : TranslateError) → translate_error (translate_refusal why) ≡ Some why
+translate_error_back : (why : TranslateError) → translate_error (refusal_of_translate why) ≡ Some why
 translate_error_back translate_to.PageNotMapped = refl
 translate_error_back translate_to.ParentEntryHugePage = refl
 translate_error_back (translate_to.InvalidFrameAddress address) = refl
@@ -67,7 +67,7 @@ unmap_result page (Err why) same = ap (option_map Err) (unmap_error_back why)
 
 same_error : (v w : FlagUpdateError) → flags_refusal {X = Unit} (Err v) ≡ flags_refusal {X = Unit} (Err w) → v ≡ w
 same_error v w is =
-    let same : update_refusal v ≡ update_refusal w = cc in
+    let same : refusal_of_update v ≡ refusal_of_update w = cc in
     same_Some v w (sym (update_error_back v) ∙ ap update_error same ∙ update_error_back w)
 
 flags_result : {X Y : Type 0} (done : X) (frame : ℕ) (told : Result X FlagUpdateError) → IfOk told (λ x. x ≡ done) → (r : Result Y FlagUpdateError) → flags_refusal told ≡ flags_refusal r
@@ -75,7 +75,7 @@ flags_result : {X Y : Type 0} (done : X) (frame : ℕ) (told : Result X FlagUpda
 flags_result done frame (Ok x) same (Ok y) tells = ap (λ p. Some (Ok p)) (sym same)
 flags_result done frame (Ok x) same (Err w) tells = cc
 flags_result done frame (Err why) same (Ok y) tells = cc
-flags_result done frame (Err why) same (Err w) tells = let is : why ≡ w = same_error why w tells in ap (λ w. option_map Err (update_error (update_refusal w))) (sym is) ∙ ap (option_map Err) (update_error_back why)
+flags_result done frame (Err why) same (Err w) tells = let is : why ≡ w = same_error why w tells in ap (λ w. option_map Err (update_error (refusal_of_update w))) (sym is) ∙ ap (option_map Err) (update_error_back why)
 
 any_unit : (r : Result Unit FlagUpdateError) → IfOk r (λ x. x ≡ tt)
 any_unit (Ok x) = refl
@@ -86,11 +86,11 @@ translate_result (Ok frame) = refl
 translate_result (Err why) = ap (option_map Err) (translate_error_back why)
 
 -- a reply with a refusal comes from an answer that refuses
-unmap_refuses : (told r : Result (ℕ × ℕ) UnmapError) → told ≡ r → is_refused told ≡ true → refuses (unmap_answer r) ≡ true
+unmap_refuses : (told r : Result (ℕ × ℕ) UnmapError) → told ≡ r → is_error told ≡ true → refuses (unmap_answer r) ≡ true
 unmap_refuses told (Ok x) tells refused = cc
 unmap_refuses told (Err why) tells refused = refl
 
-flags_refuse : {X Y : Type 0} (frame : ℕ) (told : Result X FlagUpdateError) (r : Result Y FlagUpdateError) → flags_refusal told ≡ flags_refusal r → is_refused told ≡ true → refuses (flags_answer frame r) ≡ true
+flags_refuse : {X Y : Type 0} (frame : ℕ) (told : Result X FlagUpdateError) (r : Result Y FlagUpdateError) → flags_refusal told ≡ flags_refusal r → is_error told ≡ true → refuses (flags_answer frame r) ≡ true
 flags_refuse frame (Ok done) r tells refused = cc
 flags_refuse frame (Err why) (Ok x) tells refused = cc
 flags_refuse frame (Err why) (Err same) tells refused = refl

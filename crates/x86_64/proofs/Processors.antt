@@ -14,9 +14,9 @@ use Rattle.x86_64_model.specs.Memory.{Memory, Words}
 use Rattle.x86_64_model.specs.Path.{is_below}
 use Rattle.x86_64_model.proofs.Lemmas.Caches.Runs.{flushes_are_enough}
 use Rattle.x86_64_model.proofs.Lemmas.Caches.Whole.{calls_may_happen}
-use Rattle.x86_64.specs.FlushesDue.{settles}
+use Rattle.x86_64.specs.FlushesDue.{settles_any}
 use Rattle.x86_64.specs.FreeFrames.{KeepsFree, back_by}
-use Rattle.x86_64.specs.Processors.{system_in, Arises, LeftBy, NoneLoses, ArisesFirst, ArisesByCaching, ArisesByCalls, ArisesByFlushes, FlushedAccessesGo}
+use Rattle.x86_64.specs.Processors.{system_in, IsReachable, LeftBy, NoneLoses, ArisesFirst, ArisesByCaching, ArisesByCalls, ArisesByFlushes, FlushedAccessesGo}
 use Rattle.x86_64.proofs.CallEvents.{run_calls_are_events}
 
 -- ---- one more event
@@ -60,10 +60,10 @@ module _ (l : Layout) (take_back : List ℕ → ℕ → List ℕ) (serves : ℕ 
   abbrev As : System → Type 0
   As now = ArisesAs machine l.root serves now
 
-  to_now : (m : Memory) (pool : List ℕ) (cached : List Cached) (due : List Due) → Arises l take_back serves m pool cached due → As (system_in l m pool cached due)
+  to_now : (m : Memory) (pool : List ℕ) (cached : List Cached) (due : List Due) → IsReachable l take_back serves m pool cached due → As (system_in l m pool cached due)
   to_now m pool cached due a = record { start = a.start; tables = a.tables; fits = a.fits; events = a.events; happens = a.happens }
 
-  from_now : (m : Memory) (pool : List ℕ) (cached : List Cached) (due : List Due) → As (system_in l m pool cached due) → Arises l take_back serves m pool cached due
+  from_now : (m : Memory) (pool : List ℕ) (cached : List Cached) (due : List Due) → As (system_in l m pool cached due) → IsReachable l take_back serves m pool cached due
   from_now m pool cached due a = record { start = a.start; tables = a.tables; fits = a.fits; events = a.events; happens = a.happens }
 
   -- ---- changes of the caches
@@ -93,12 +93,12 @@ module _ (l : Layout) (take_back : List ℕ → ℕ → List ℕ) (serves : ℕ 
 
   -- ---- a flush
 
-  none_settled : (due : List Due) → filter (λ d. not (settles l.levels None d)) due ≡ due
+  none_settled : (due : List Due) → filter (λ d. not (settles_any l.levels None d)) due ≡ due
   none_settled [] = refl
   none_settled (d ∷ due) = ap (λ rest. d ∷ rest) (none_settled due)
 
   flushed : (m : Memory) (pool : List ℕ) (due : List Due) (f : Option kernel.Flush) (before after : List Cached) → As (system_in l m pool before due) → LeftBy l.levels f before after
-      → As (system_in l m pool after (filter (λ d. not (settles l.levels f d)) due))
+      → As (system_in l m pool after (filter (λ d. not (settles_any l.levels f d)) due))
   flushed m pool due None before after a same = subst (λ due. As (system_in l m pool after due)) (sym (none_settled due)) (subst (λ cached. As (system_in l m pool cached due)) same a)
   flushed m pool due (Some f) before after a left = one_more machine l.root serves (system_in l m pool before due) a (Flushes f after) (record { done = refl; left = left })
 

@@ -3,7 +3,7 @@ use Rattle.std.proofs.Common.{zero, suc, ◌≡◌, ◌⊎◌, inl, inr, ◌<◌
 use Rattle.std.specs.List.{AllByRecursion, range_with_len}
 use Rattle.x86_64_model.specs.Call.{Call, Unmap, UpdateFlags, Reply, NotAllowed, Answered, Position, Address, Cleaned, IsCall}
 use Rattle.x86_64_model.specs.Flush.{Item, OnePage, all_items, covers, if_done, items_of}
-use Rattle.x86_64_model.specs.Laws.Steps.{AllCalls, NoneCovers as NoneOf}
+use Rattle.x86_64_model.specs.Laws.Steps.{AllCalls, NoFlushItemCovers as NoneOf}
 use Rattle.x86_64_model.specs.Machine.{Machine, State, step}
 use Rattle.x86_64_model.specs.Path.{path_at}
 use Rattle.x86_64_model.specs.Position.{span}
@@ -12,7 +12,7 @@ use Rattle.x86_64_model.proofs.Lemmas.Machines.Effects.{page_at_level}
 use Rattle.x86_64_model.proofs.Lemmas.Machines.Laws.{flushes_are_enough}
 use Rattle.x86_64_tables.specs.FlushRecorder.{flush_range, page_item, page_items, range_items}
 use Rattle.x86_64_tables.specs.declared.mapper.recorder.FlushItem.TheVariants.{All}
-use Rattle.x86_64.specs.Flushes.{NoneCovers, item_of, level_of_size}
+use Rattle.x86_64.specs.Flushes.{NoFlushItemCovers, item_of, level_of_size}
 use Rattle.x86_64.specs.RangeFlushes.{AreChanges, RangeFlushesSuffice}
 
 -- ---- the items of a range
@@ -35,10 +35,10 @@ item_is L level start (inr five) low high = subst (λ L. item_of (page_item L st
 
 -- if none covers a position, it lies in no page of the range
 module _ (L : ℕ) (known : (L ≡ 4) ⊎ (L ≡ 5)) (level page count most p : ℕ) (low : 1 ≤ level) (high : level ≤ 3) where
-  in_no_page : NoneCovers L (range_items L (span level) most (flush_range page count)) p → (k : ℕ) → k < count → covers L (OnePage (path_at L level (page + k * span level))) p ≡ false
+  in_no_page : NoFlushItemCovers L (range_items L (span level) most (flush_range page count)) p → (k : ℕ) → k < count → covers L (OnePage (path_at L level (page + k * span level))) p ≡ false
   in_no_page none k less = by (nat_lt most count) none
     where
-      by : (b : Bool) → NoneCovers L (cond b (All ∷ []) (page_items L (span level) page count)) p → covers L (OnePage (path_at L level (page + k * span level))) p ≡ false
+      by : (b : Bool) → NoFlushItemCovers L (cond b (All ∷ []) (page_items L (span level) page count)) p → covers L (OnePage (path_at L level (page + k * span level))) p ≡ false
       by true none = absurd (let t : true ≡ false = none.0 in cc)
       by false none = ap (λ item. covers L item p) (sym (item_is L level (page + k * span level) known low high))
           ∙ subst (λ j. covers L (item_of (page_item L (page + j * span level) (span level))) p ≡ false) (let e : 0 + k ≡ k = omega arith in e)

@@ -10,7 +10,7 @@ use Rattle.x86_64_model.specs.Machine.{Machine, State, state_after}
 use Rattle.x86_64_model.specs.Mapper.{Hierarchy}
 use Rattle.x86_64_model.specs.Store.{Store, KeepsPool}
 use Rattle.x86_64_tables.specs.declared.mapper.recorder.FlushItem.{FlushItem}
-use Rattle.x86_64.specs.Flushes.{items_of, items_told}
+use Rattle.x86_64.specs.Flushes.{flush_items_of, items_told}
 use Rattle.x86_64.specs.private.Served.{recorded}
 use Rattle.x86_64.specs.Asked.{MapperCall, machine_call, calls_by}
 use Rattle.x86_64.specs.FreeFrames.{KeepsFree, back_by, all_back}
@@ -45,7 +45,7 @@ module _ {C : Type 0} (asks : C → MapperCall) (m : Machine) (s t : State) (r :
 
 items_both : (levels : ℕ) (xs ys : List Reply) → items_told levels (xs ++ ys) ≡ items_told levels xs ++ items_told levels ys
 items_both levels [] ys = refl
-items_both levels (x ∷ xs) ys = ap (λ zs. items_of levels x ++ zs) (items_both levels xs ys) ∙ sym (append_assoc (items_of levels x) (items_told levels xs) (items_told levels ys))
+items_both levels (x ∷ xs) ys = ap (λ zs. flush_items_of levels x ++ zs) (items_both levels xs ys) ∙ sym (append_assoc (flush_items_of levels x) (items_told levels xs) (items_told levels ys))
 
 all_parts : {X : Type 0} (P : X → Type 0) (xs : List X) (y : X) → AllByRecursion P (xs ++ y ∷ []) → AllByRecursion P xs × P y
 all_parts P [] y all = (tt, all.0)
@@ -58,14 +58,14 @@ module _ (before items more : List Reply) (r : Reply) (longer : length before �
   pub longer_next : length before ≤ length more
   longer_next = let long : length more ≡ length items + 1 = ap length e ∙ length-append items (r ∷ []) in omega (arith, longer, long)
 
-  pub items_next : (levels : ℕ) (b : Bool) (start held next : List FlushItem) → next ≡ held ++ recorded b (items_of levels r) → held ≡ start ++ recorded b (items_told levels (appended before items))
+  pub items_next : (levels : ℕ) (b : Bool) (start held next : List FlushItem) → next ≡ held ++ recorded b (flush_items_of levels r) → held ≡ start ++ recorded b (items_told levels (appended before items))
       → next ≡ start ++ recorded b (items_told levels (appended before more))
   items_next levels b start held next adds first =
-      adds ∙ ap (λ xs. xs ++ recorded b (items_of levels r)) first ∙ append_assoc start (recorded b (items_told levels (appended before items))) (recorded b (items_of levels r))
-      ∙ ap (λ xs. start ++ xs) (sym (recorded_both b (items_told levels (appended before items)) (items_of levels r)) ∙ ap (recorded b) (one_item ∙ ap (items_told levels) (sym one_appended)))
+      adds ∙ ap (λ xs. xs ++ recorded b (flush_items_of levels r)) first ∙ append_assoc start (recorded b (items_told levels (appended before items))) (recorded b (flush_items_of levels r))
+      ∙ ap (λ xs. start ++ xs) (sym (recorded_both b (items_told levels (appended before items)) (flush_items_of levels r)) ∙ ap (recorded b) (one_item ∙ ap (items_told levels) (sym one_appended)))
     where
-      one_item : items_told levels (appended before items) ++ items_of levels r ≡ items_told levels (appended before items ++ r ∷ [])
-      one_item = ap (λ xs. items_told levels (appended before items) ++ xs) (sym (append-nil (items_of levels r))) ∙ sym (items_both levels (appended before items) (r ∷ []))
+      one_item : items_told levels (appended before items) ++ flush_items_of levels r ≡ items_told levels (appended before items ++ r ∷ [])
+      one_item = ap (λ xs. items_told levels (appended before items) ++ xs) (sym (append-nil (flush_items_of levels r))) ∙ sym (items_both levels (appended before items) (r ∷ []))
 
   pub still_next : (m n o : Memory) → UnchangedIfRefused (appended before items) m n → (changes_nothing r ≡ true → o ≡ n) → UnchangedIfRefused (appended before more) m o
   still_next m n o first next all =

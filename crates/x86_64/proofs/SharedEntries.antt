@@ -14,7 +14,7 @@ use Rattle.x86_64_model.specs.Memory.{IsMapping, Words, word, set_word}
 use Rattle.x86_64_model.specs.Path.{AllBelow, path_at, span_size, span_start}
 use Rattle.x86_64_model.specs.Pool.{TakesBack}
 use Rattle.x86_64_model.specs.Position.{index, page_path, position_count, span}
-use Rattle.x86_64_model.specs.Store.{Fits, KeepsPool, Store}
+use Rattle.x86_64_model.specs.Store.{StoreFits, KeepsPool, Store}
 use Rattle.x86_64_model.specs.Window.{Window, outside_window}
 use Rattle.x86_64_model.proofs.Lemmas.CleanUps.Meets.{meets_at_pages}
 use Rattle.x86_64_model.proofs.Lemmas.Hierarchies.Held.{word-set_index}
@@ -186,7 +186,7 @@ module _ (L : ℕ) (some : 1 ≤ L) where
 
 -- a call that leaves the entries of the root at the shared indices keeps the address spaces that share them
 pub spaces_kept : SpacesStay → CallsKeepRootEntries → {Lent : Type 0} (h : Hierarchy Lent) → 3 < h.layout.levels → IsParentFlags h.layout.added_flags → IsMapping h.layout.places
-    → (store : Store) → TakesBack store.take_back → Fits h store → (call : MapperCall) → IsCall h.layout.levels (machine_call h.layout.levels call)
+    → (store : Store) → TakesBack store.take_back → StoreFits h store → (call : MapperCall) → IsCall h.layout.levels (machine_call h.layout.levels call)
     → (reply : Reply) (after : Hierarchy Lent) (rest : List ℕ) → KeepsPool h.layout store.serves h.memory store.frames after.memory rest → Stepped h store call reply after rest
     → (shared : ℕ → Bool) → KeepsShared h shared call → KeepsSpaces shared h store after rest
 spaces_kept stay root_stays h four adds mapping store gives fits call is reply after rest keeps step shared spares spaces member are =

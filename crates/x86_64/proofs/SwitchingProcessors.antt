@@ -4,7 +4,7 @@ use Rattle.std.proofs.lemmas.Bool.{and_from, cases_eq}
 use Rattle.x86_64_model.specs.Call.{Call, IsCall, parent_flags_of}
 use Rattle.x86_64_model.specs.Flushing as kernel
 use Rattle.x86_64_model.specs.Flushing.{Due, PageDue, TablesDue, LosesNothing, mapped_by}
-use Rattle.x86_64_model.specs.Laws.SwitchedSpaces.{space_in, between, started_in, call_events, CallsOn}
+use Rattle.x86_64_model.specs.Laws.SwitchedSpaces.{space_for, between, started_in, call_events, CallsOn}
 use Rattle.x86_64_model.specs.Layout.{Layout}
 use Rattle.x86_64_model.specs.Lists.{In}
 use Rattle.x86_64_model.specs.Machine.{State, step}
@@ -24,13 +24,13 @@ use Rattle.x86_64_model.proofs.Lemmas.Switches.Dues.{in_cond}
 use Rattle.x86_64_model.proofs.Lemmas.Switches.Layouts.{like, is_like, spaces_may_start}
 use Rattle.x86_64_model.proofs.Lemmas.Switches.Runs.{switches_are_flushed}
 use Rattle.x86_64.specs.Asked.{MapperCall, machine_call}
-use Rattle.x86_64.specs.Calls.{page_start}
-use Rattle.x86_64.specs.FlushesDue.{InPages, executed, settles, told}
+use Rattle.x86_64.specs.Calls.{page_of_call}
+use Rattle.x86_64.specs.FlushesDue.{InPages, executed, settles_any, flush_for}
 use Rattle.x86_64.specs.FreeFrames.{KeepsFree, back_by}
 use Rattle.x86_64.specs.Processors.{NoneLoses}
 use Rattle.x86_64.specs.Replies.{Reply}
 use Rattle.x86_64.specs.Runs.{AfterStep, step_by}
-use Rattle.x86_64.specs.SwitchingProcessors.{IsReached, NoneDue, RunsOn, made_by, with_due, executed_here, LeftHere, AreGivenUp, flush_events, ReachedFirst, ReachedByEvents, ReachedByCalls, ReachedByFlushes, ReachedByFlushedCalls, ReachedAccessesGo}
+use Rattle.x86_64.specs.SwitchingProcessors.{IsReachedBySwitches, NoneDue, RunsOn, made_by, with_due, executed_here, LeftHere, AreGivenUp, flush_events, ReachedFirst, ReachedByEvents, ReachedByCalls, ReachedByFlushes, ReachedByFlushedCalls, ReachedAccessesGo}
 use Rattle.x86_64.specs.declared.flushing.Flush.{Flush}
 use Rattle.x86_64.specs.declared.flushing.Flush.TheVariants.{Nothing, Tables, Page, Everything}
 use Rattle.x86_64.proofs.CallEvents.{run_calls_are_events}
@@ -144,10 +144,10 @@ module _ (k : Kernel) (places : Places) (mapping : IsMapping places) (levels : 0
         avoids = λ off. subst (λ (l : Layout). Avoids l.levels k.shared (machine_call l.levels call)) alike (runs.avoids off);
       }
 
-      call_reached : IsReached k places m pool layouts s → IsReached k places n rest layouts (with_due (made_by k one m pool call loses) reaches everywhere s)
+      call_reached : IsReachedBySwitches k places m pool layouts s → IsReachedBySwitches k places n rest layouts (with_due (made_by k one m pool call loses) reaches everywhere s)
       call_reached reached =
           let may = calls_may_switch k places mapping levels gives sharing m n pool rest layouts one s asked loses reaches everywhere calls_on in
-          subst (λ due. IsReached k places n rest layouts (with_due due reaches everywhere s)) same_due
+          subst (λ due. IsReachedBySwitches k places n rest layouts (with_due due reaches everywhere s)) same_due
           (reached_by_events k places m n pool rest layouts layouts s called reached events may.0 may.1)
 
 pub reached_by_calls : ReachedByCalls
@@ -239,16 +239,16 @@ module _ (k : Kernel) (places : Places) (m : Memory) (pool : List ℕ) (layouts 
         none_under_way = none_way flushed given_up ∙ none;
       }
 
-      flush_reached : IsReached k places m pool layouts s → ((c : Tagged) → In after c → In s.cache c × (is_left k.levels s.pcid f c.tag c.item ≡ true)) → IsReached k places m pool layouts then × NoneDue then
+      flush_reached : IsReachedBySwitches k places m pool layouts s → ((c : Tagged) → In after c → In s.cache c × (is_left k.levels s.pcid f c.tag c.item ≡ true)) → IsReachedBySwitches k places m pool layouts then × NoneDue then
       flush_reached reached left = (
         reached_by_events k places m m pool pool layouts layouts s then reached (Flushes f after ∷ map Abandons given_up) (left, may_give_up flushed given_up others) (given_up_stay flushed given_up),
         none_then,
       )
 
-  module _ (s : Switching) (reached : IsReached k places m pool layouts s) (none : s.under_way ≡ []) (due : List Due) (among : (tag : Tag) (d : Due) → In (s.due tag) d → In due d)
+  module _ (s : Switching) (reached : IsReachedBySwitches k places m pool layouts s) (none : s.under_way ≡ []) (due : List Due) (among : (tag : Tag) (d : Due) → In (s.due tag) d → In due d)
       (held : (c : ℕ) (d : Due) → In (s.due (Of c)) d → is_held s.reaches (s.holder c) ≡ true) (p : ℕ) (within : InPages k.levels due p) (after : List Tagged) (given_up : List ℕ) where
     -- the flush for all that is due settles it
-    settled : (d : Due) → In due d → settles k.levels (executed (told due) p) d ≡ true
+    settled : (d : Due) → In due d → settles_any k.levels (executed (flush_for due) p) d ≡ true
     settled = (flushes_settle k.levels due p).settled within
 
     -- the state after the flush
@@ -257,26 +257,26 @@ module _ (k : Kernel) (places : Places) (m : Memory) (pool : List ℕ) (layouts 
 
     by_invlpg : ((d : Due) → In due d → kernel.settles k.levels (kernel.Invlpg p) d ≡ true) → (flush : Flush) → (flush ≢ Everything) → AreGivenUp s flush given_up
         → ((c : Tagged) → In after c → In s.cache c × (is_left k.levels s.pcid (Invlpg p) c.tag c.item ≡ true))
-        → let t = after_switches k s (Flushes (Invlpg p) after ∷ map Abandons given_up) in IsReached k places m pool layouts t × NoneDue t
+        → let t = after_switches k s (Flushes (Invlpg p) after ∷ map Abandons given_up) in IsReachedBySwitches k places m pool layouts t × NoneDue t
     by_invlpg all flush some gone left = flush_reached s none (Invlpg p) after given_up gone.others
         (λ tag d i serves. and_from _ _ serves (all d (among tag d i)))
         (λ c d i apart. inr (gone.all some c apart (held c d i))) reached left
 
-    by_flush : (flush : Flush) → told due ≡ flush → AreGivenUp s flush given_up → LeftHere k.levels s (executed_here flush p) after → IsReached k places m pool layouts (end flush) × NoneDue (end flush)
+    by_flush : (flush : Flush) → flush_for due ≡ flush → AreGivenUp s flush given_up → LeftHere k.levels s (executed_here flush p) after → IsReachedBySwitches k places m pool layouts (end flush) × NoneDue (end flush)
     by_flush Nothing is gone left = (
       reached_by_events k places m m pool pool layouts layouts s (end Nothing) reached (map Abandons given_up) (may_give_up s given_up gone.others) (given_up_stay s given_up),
       record {
-        none_due = λ tag. none_in _ (λ d i. true≢false (sym (ap (λ f. settles k.levels (executed f p) d) (sym is) ∙ settled d (among tag d (due_then s given_up tag d i).0))));
+        none_due = λ tag. none_in _ (λ d i. true≢false (sym (ap (λ f. settles_any k.levels (executed f p) d) (sym is) ∙ settled d (among tag d (due_then s given_up tag d i).0))));
         none_under_way = none_way s given_up ∙ none;
       },
     )
     by_flush Tables is gone left = by_invlpg (λ d i. (flushes_settle k.levels due p).tables is p d i) Tables (λ e. cc) gone left
-    by_flush Page is gone left = by_invlpg (λ d i. ap (λ f. settles k.levels (executed f p) d) (sym is) ∙ settled d i) Page (λ e. cc) gone left
+    by_flush Page is gone left = by_invlpg (λ d i. ap (λ f. settles_any k.levels (executed f p) d) (sym is) ∙ settled d i) Page (λ e. cc) gone left
     by_flush Everything is gone left = flush_reached s none InvpcidAll after given_up gone.others (λ tag d i serves. refl) (λ c d i apart. inl refl) reached left
 
 pub reached_by_flushes : ReachedByFlushes
 reached_by_flushes k places m pool layouts s reached none due among held p within after left given_up gone =
-    by_flush k places m pool layouts s reached none due among held p within after given_up (told due) refl gone left
+    by_flush k places m pool layouts s reached none due among held p within after given_up (flush_for due) refl gone left
 
 -- ---- a call with its flush
 
@@ -286,8 +286,8 @@ reached_by_flushed_calls k places mapping levels gives sharing m n pool rest lay
     let called = with_due new reaches everywhere s in
     let asked = machine_call one.levels call in
     let r = (step (machine_of one k.take_back) (state_in one m pool) asked).reply in
-    let p = unwrap_or (page_start one.levels call) 0 in
-    let is_told : flush ≡ told new = tells one.window r refl (ap (λ (a : AfterStep Reply). a.reply) runs.steps) in
+    let p = unwrap_or (page_of_call one.levels call) 0 in
+    let is_told : flush ≡ flush_for new = tells one.window r refl (ap (λ (a : AfterStep Reply). a.reply) runs.steps) in
     let same : one.levels ≡ k.levels = runs.before.same_levels one runs.there in
     let within : InPages k.levels new p = subst (λ L. InPages L new p) same (some_in_pages one.levels one.window r loses call) in
     let then = reached_by_calls k places mapping levels gives sharing m n pool rest layouts one call reply loses reaches everywhere s runs reached
@@ -314,5 +314,5 @@ reached_by_flushed_calls k places mapping levels gives sharing m n pool rest lay
 pub reached_accesses_go : ReachedAccessesGo
 reached_accesses_go k places m pool layouts s reached none one ione here p w may =
     switches_are_flushed k reached.start reached.events (between k (words_of m places) pool layouts s) reached.switches
-    (space_in k (words_of m places) one) (in_map (space_in k (words_of m places)) layouts one ione) here p
+    (space_for k (words_of m places) one) (in_map (space_for k (words_of m places)) layouts one ione) here p
     (λ due i. absurd (subst (λ all. In all due) none i)) w may

@@ -5,7 +5,7 @@ use Rattle.x86_64_model.specs.Call as machine
 use Rattle.x86_64_model.specs.Refusal as refusal
 use Rattle.x86_64_model.specs.Refusal.{Refusal, Done, Refused}
 use Rattle.x86_64_model.specs.Translation.{Translated, NotMapped as Nowhere, Mapped as At}
-use Rattle.x86_64_tables.specs.MapperAnswers.{map_refusal, unmap_refusal, update_refusal, translate_refusal}
+use Rattle.x86_64_tables.specs.MapperAnswers.{map_refusal, refusal_of_unmap, refusal_of_update, refusal_of_translate}
 use Rattle.x86_64_tables.specs.declared.mapper.MapToError.{MapToError}
 use Rattle.x86_64_tables.specs.declared.mapper.UnmapError.{UnmapError}
 use Rattle.x86_64_tables.specs.declared.mapper.FlagUpdateError.{FlagUpdateError}
@@ -18,7 +18,7 @@ use Rattle.x86_64.specs.Asked.{PageCall, MapTo, MapToWithTableFlags, IdentityMap
 use Rattle.x86_64.specs.declared.call_values.PageReply.TheVariants.{Map, Unmap, Update, TableFlags, Frame}
 use Rattle.x86_64.specs.declared.call_values.MapperReply.TheVariants as reply
 use Rattle.x86_64.specs.Replies.{SizeReply, Reply, map_error, unmap_error, update_error, translate_error, size_answer, translate_result, sized, reply_of}
-use Rattle.x86_64.specs.ToldReplies.{size_told, told, RepliesTell}
+use Rattle.x86_64.specs.ToldReplies.{size_told, told_part, RepliesTell}
 
 -- ---- errors
 
@@ -29,24 +29,24 @@ map_back (refusal.PageAlreadyMapped frame) error is = ap map_refusal (sym (same_
 map_back refusal.PageNotMapped error is = cc
 map_back (refusal.InvalidFrameAddress address) error is = cc
 
-unmap_back : (why : Refusal) (error : UnmapError) → unmap_error why ≡ Some error → unmap_refusal error ≡ why
-unmap_back refusal.ParentEntryHugePage error is = ap unmap_refusal (sym (same_Some _ _ is))
-unmap_back refusal.PageNotMapped error is = ap unmap_refusal (sym (same_Some _ _ is))
-unmap_back (refusal.InvalidFrameAddress address) error is = ap unmap_refusal (sym (same_Some _ _ is))
+unmap_back : (why : Refusal) (error : UnmapError) → unmap_error why ≡ Some error → refusal_of_unmap error ≡ why
+unmap_back refusal.ParentEntryHugePage error is = ap refusal_of_unmap (sym (same_Some _ _ is))
+unmap_back refusal.PageNotMapped error is = ap refusal_of_unmap (sym (same_Some _ _ is))
+unmap_back (refusal.InvalidFrameAddress address) error is = ap refusal_of_unmap (sym (same_Some _ _ is))
 unmap_back (refusal.PageAlreadyMapped frame) error is = cc
 unmap_back refusal.FrameAllocationFailed error is = cc
 
-update_back : (why : Refusal) (error : FlagUpdateError) → update_error why ≡ Some error → update_refusal error ≡ why
-update_back refusal.PageNotMapped error is = ap update_refusal (sym (same_Some _ _ is))
-update_back refusal.ParentEntryHugePage error is = ap update_refusal (sym (same_Some _ _ is))
+update_back : (why : Refusal) (error : FlagUpdateError) → update_error why ≡ Some error → refusal_of_update error ≡ why
+update_back refusal.PageNotMapped error is = ap refusal_of_update (sym (same_Some _ _ is))
+update_back refusal.ParentEntryHugePage error is = ap refusal_of_update (sym (same_Some _ _ is))
 update_back (refusal.InvalidFrameAddress address) error is = cc
 update_back (refusal.PageAlreadyMapped frame) error is = cc
 update_back refusal.FrameAllocationFailed error is = cc
 
-translate_back : (why : Refusal) (error : TranslateError) → translate_error why ≡ Some error → translate_refusal error ≡ why
-translate_back refusal.PageNotMapped error is = ap translate_refusal (sym (same_Some _ _ is))
-translate_back refusal.ParentEntryHugePage error is = ap translate_refusal (sym (same_Some _ _ is))
-translate_back (refusal.InvalidFrameAddress address) error is = ap translate_refusal (sym (same_Some _ _ is))
+translate_back : (why : Refusal) (error : TranslateError) → translate_error why ≡ Some error → refusal_of_translate error ≡ why
+translate_back refusal.PageNotMapped error is = ap refusal_of_translate (sym (same_Some _ _ is))
+translate_back refusal.ParentEntryHugePage error is = ap refusal_of_translate (sym (same_Some _ _ is))
+translate_back (refusal.InvalidFrameAddress address) error is = ap refusal_of_translate (sym (same_Some _ _ is))
 translate_back (refusal.PageAlreadyMapped frame) error is = cc
 translate_back refusal.FrameAllocationFailed error is = cc
 
@@ -56,13 +56,13 @@ abbrev size_back : {S : Type 0} → SizeReply S → machine.Reply
 size_back (Map (Ok page)) = machine.Answered (Done 0)
 size_back (Map (Err why)) = machine.Answered (Refused (map_refusal why))
 size_back (Unmap (Ok unmapped)) = machine.Answered (Done unmapped.0)
-size_back (Unmap (Err why)) = machine.Answered (Refused (unmap_refusal why))
+size_back (Unmap (Err why)) = machine.Answered (Refused (refusal_of_unmap why))
 size_back (Update (Ok page)) = machine.Answered (Done 0)
-size_back (Update (Err why)) = machine.Answered (Refused (update_refusal why))
+size_back (Update (Err why)) = machine.Answered (Refused (refusal_of_update why))
 size_back (TableFlags (Ok done)) = machine.Answered (Done 0)
-size_back (TableFlags (Err why)) = machine.Answered (Refused (update_refusal why))
+size_back (TableFlags (Err why)) = machine.Answered (Refused (refusal_of_update why))
 size_back (Frame (Ok frame)) = machine.Answered (Done frame)
-size_back (Frame (Err why)) = machine.Answered (Refused (translate_refusal why))
+size_back (Frame (Err why)) = machine.Answered (Refused (refusal_of_translate why))
 
 abbrev back_where : {S : Type 0} → Option (SizeReply S) → machine.Reply
 back_where None = machine.NotAllowed
@@ -159,7 +159,7 @@ translated_back : (t : Translated) (found : Option TranslateResult) → ((x : Tr
 translated_back t None tells x e = cc
 translated_back t (Some result) tells x e = ap machine.Position (tells result refl) ∙ ap back (same_Some _ _ e)
 
-is_back : (call : MapperCall) (r : machine.Reply) (x : Reply) → reply_of call r ≡ Some x → told call r ≡ back x
+is_back : (call : MapperCall) (r : machine.Reply) (x : Reply) → reply_of call r ≡ Some x → told_part call r ≡ back x
 is_back (Of4KiB call) r x e = sized_back reply.Of4KiB (λ a. refl) (size_told call r) (size_answer call r) (size_is_back call r) x e
 is_back (Of2MiB call) r x e = sized_back reply.Of2MiB (λ a. refl) (size_told call r) (size_answer call r) (size_is_back call r) x e
 is_back (Of1GiB call) r x e = sized_back reply.Of1GiB (λ a. refl) (size_told call r) (size_answer call r) (size_is_back call r) x e
@@ -184,7 +184,7 @@ is_back (CleanUpRange low high) (machine.Answered a) x e = cc
 is_back (CleanUpRange low high) (machine.Position t) x e = cc
 is_back (CleanUpRange low high) (machine.Address a) x e = cc
 
-tells_by : (call : MapperCall) (r s : machine.Reply) (x : Reply) → reply_of call r ≡ Some x → reply_of call s ≡ Some x → told call r ≡ told call s
+tells_by : (call : MapperCall) (r s : machine.Reply) (x : Reply) → reply_of call r ≡ Some x → reply_of call s ≡ Some x → told_part call r ≡ told_part call s
 tells_by call r s x first second = is_back call r x first ∙ sym (is_back call s x second)
 
 pub replies_tell : RepliesTell

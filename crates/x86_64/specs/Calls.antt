@@ -31,14 +31,14 @@ size_asks bits (TranslatePage page) = asked.TranslatePage page
 
 -- A call of a mapper in numbers. `bits` returns the bits of flags of level five. A clean up of a range goes up to the last byte
 -- of its last page.
-abbrev pub asks : {L P5 : Type 0} → (bits : P5 → ℕ) → CallIn L P5 → MapperCall
-asks bits (Of4KiB call) = asked.Of4KiB (size_asks bits call)
-asks bits (Of2MiB call) = asked.Of2MiB (size_asks bits call)
-asks bits (Of1GiB call) = asked.Of1GiB (size_asks bits call)
-asks bits (Translate addr) = asked.Translate addr
-asks bits (TranslateAddr addr) = asked.TranslateAddr addr
-asks bits CleanUp = asked.CleanUp
-asks bits (CleanUpRange range) = asked.CleanUpRange range.start (range.end + 0xfff)
+abbrev pub to_call : {L P5 : Type 0} → (bits : P5 → ℕ) → CallIn L P5 → MapperCall
+to_call bits (Of4KiB call) = asked.Of4KiB (size_asks bits call)
+to_call bits (Of2MiB call) = asked.Of2MiB (size_asks bits call)
+to_call bits (Of1GiB call) = asked.Of1GiB (size_asks bits call)
+to_call bits (Translate addr) = asked.Translate addr
+to_call bits (TranslateAddr addr) = asked.TranslateAddr addr
+to_call bits CleanUp = asked.CleanUp
+to_call bits (CleanUpRange range) = asked.CleanUpRange range.start (range.end + 0xfff)
 
 -- The position of the page at a frame's own address, if there is such a page. In the lower half an address is its own position,
 -- and no other frame's address is canonical.
@@ -58,14 +58,14 @@ page_of L (asked.TranslatePage page) = Some page
 
 -- The position where the page of a mapper's call starts, if the call has a page. Translations of an address and clean ups have
 -- none.
-abbrev pub page_start : (L : ℕ) → MapperCall → Option ℕ
-page_start L (asked.Of4KiB call) = page_of L call
-page_start L (asked.Of2MiB call) = page_of L call
-page_start L (asked.Of1GiB call) = page_of L call
-page_start L (asked.Translate position) = None
-page_start L (asked.TranslateAddr position) = None
-page_start L asked.CleanUp = None
-page_start L (asked.CleanUpRange low high) = None
+abbrev pub page_of_call : (L : ℕ) → MapperCall → Option ℕ
+page_of_call L (asked.Of4KiB call) = page_of L call
+page_of_call L (asked.Of2MiB call) = page_of L call
+page_of_call L (asked.Of1GiB call) = page_of L call
+page_of_call L (asked.Translate position) = None
+page_of_call L (asked.TranslateAddr position) = None
+page_of_call L asked.CleanUp = None
+page_of_call L (asked.CleanUpRange low high) = None
 
 -- Whether the page of a call on a page of one size has the index i of the highest level.
 abbrev pub size_names : {S L P5 : Type 0} → (levels : ℕ) → (bits : P5 → ℕ) → SizeCallIn S L P5 → (i : ℕ) → Bool
@@ -73,7 +73,7 @@ size_names levels bits call i = page_names levels (size_asks bits call) i
 
 -- Whether the page or address of a call of a mapper has the index i of the highest level. A clean up names no index.
 abbrev pub names : {L P5 : Type 0} → (levels : ℕ) → (bits : P5 → ℕ) → CallIn L P5 → (i : ℕ) → Bool
-names levels bits call i = names_by levels (asks bits call) i
+names levels bits call i = names_by levels (to_call bits call) i
 
 -- Whether the page of a level at a position lies in the hierarchy's recursive window: its index of the highest level is the
 -- recursive index.

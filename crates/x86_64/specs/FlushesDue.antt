@@ -31,15 +31,15 @@ abbrev pub larger : Flush → Flush → Flush
 larger f g = cond (nat_lt (rank f) (rank g)) g f
 
 -- The flush to be executed for all that is due: the largest of those for one thing.
-abbrev pub told : List Due → Flush
-told [] = Nothing
-told (d ∷ due) = larger (told_of d) (told due)
+abbrev pub flush_for : List Due → Flush
+flush_for [] = Nothing
+flush_for (d ∷ due) = larger (told_of d) (flush_for due)
 
 -- The answer is the flush for all that is due after a call with this reply, with or without a recursive index. If `loses` is
 -- false, the caller knows that no used entry loses anything, and then nothing is due.
 abbrev pub TellsFlush : (L : ℕ) → MapperCall → Reply → (recursive_index : Option ℕ) → (loses : Bool) → (answer : Flush) → Type 0
 TellsFlush L call reply index loses answer = (window : Option Window) (r : machine.Reply) → option_map (λ (w : Window). w.index) window ≡ index → reply_of call r ≡ Some reply
-    → answer ≡ told (cond loses (flush_after L window (machine_call L call) r) [])
+    → answer ≡ flush_for (cond loses (flush_after L window (machine_call L call) r) [])
 
 -- ---- flushes as the processor sees them
 
@@ -52,9 +52,9 @@ executed Page p = Some (Invlpg p)
 executed Everything p = Some FlushAll
 
 -- Whether something is due no longer after what the kernel executed, if anything.
-abbrev pub settles : (L : ℕ) → Option kernel.Flush → Due → Bool
-settles L None due = false
-settles L (Some f) due = kernel.settles L f due
+abbrev pub settles_any : (L : ℕ) → Option kernel.Flush → Due → Bool
+settles_any L None due = false
+settles_any L (Some f) due = kernel.settles L f due
 
 -- The position lies in each page that is due.
 abbrev pub InPages : (L : ℕ) → List Due → (position : ℕ) → Type 0
@@ -63,12 +63,12 @@ InPages L due p = (q : List ℕ) (frame : ℕ) → In due (PageDue q frame) → 
 -- The flush for all that is due settles all of it, if the position of INVLPG lies in the pages that are due. If only tables are
 -- due, INVLPG of any address settles them, too.
 pub record ToldSettles (L : ℕ) (due : List Due) (p : ℕ) : Type 0 where
-  pub settled : InPages L due p → (d : Due) → In due d → settles L (executed (told due) p) d ≡ true
-  pub tables : told due ≡ Tables → (any : ℕ) (d : Due) → In due d → settles L (Some (Invlpg any)) d ≡ true
+  pub settled : InPages L due p → (d : Due) → In due d → settles_any L (executed (flush_for due) p) d ≡ true
+  pub tables : flush_for due ≡ Tables → (any : ℕ) (d : Due) → In due d → settles_any L (Some (Invlpg any)) d ≡ true
 
 -- The flush for all that is due is the least of the four: each one that settles all of it drops no less.
 abbrev pub ToldIsLeast : (L : ℕ) → List Due → (position : ℕ) → Type 0
-ToldIsLeast L due p = (f : Flush) → ((d : Due) → In due d → settles L (executed f p) d ≡ true) → rank (told due) ≤ rank f
+ToldIsLeast L due p = (f : Flush) → ((d : Due) → In due d → settles_any L (executed f p) d ≡ true) → rank (flush_for due) ≤ rank f
 
 -- Whatever is due, the flush for all of it settles all, at a position in the pages that are due.
 abbrev pub FlushesSettle : Type 0

@@ -5,7 +5,7 @@ use Rattle.x86_64_model.specs.Alike.{Alike}
 use Rattle.x86_64_model.specs.Mapper.{Hierarchy, paths}
 use Rattle.x86_64_model.specs.Pool.{serves_below}
 pub use Rattle.x86_64_model.specs.Store.{put_first}
-use Rattle.x86_64_model.specs.Store.{Store, Fits, Kept}
+use Rattle.x86_64_model.specs.Store.{Store, StoreFits, Keeps}
 use Rattle.x86_64_model.specs.Window.{Window}
 use Rattle.x86_64_tables.specs.FramePool.{FreeFrames}
 use Rattle.x86_64.specs.Asked.{MapperCall, names_by}
@@ -13,9 +13,9 @@ use Rattle.x86_64.specs.Replies.{Reply}
 use Rattle.x86_64.specs.Runs.{Ran}
 
 -- No call has a page or an address with the recursive index, if there is one.
-abbrev pub NoneNames : {C : Type 0} → (asks : C → MapperCall) → (levels : ℕ) → Option Window → List C → Type 0
-NoneNames asks levels None calls = ⊤
-NoneNames asks levels (Some window) calls = AllByRecursion (λ call. names_by levels (asks call) window.index ≡ false) calls
+abbrev pub NoCallNames : {C : Type 0} → (asks : C → MapperCall) → (levels : ℕ) → Option Window → List C → Type 0
+NoCallNames asks levels None calls = ⊤
+NoCallNames asks levels (Some window) calls = AllByRecursion (λ call. names_by levels (asks call) window.index ≡ false) calls
 
 -- The store that a `FramePool` is: it serves the frames with numbers from 1 up to its limit, which isn't included, and puts a
 -- returned frame in front.
@@ -24,8 +24,8 @@ pool_store pool = record { frames = pool.frames; serves = serves_below pool.limi
 
 -- One of the mappers may run the calls: its hierarchy is valid, its pool fits it, and no call names its recursive index.
 pub record MayRun {C Lent : Type 0} (asks : C → MapperCall) (levels : ℕ) (calls : List C) (h : Hierarchy Lent) (pool : FreeFrames) : Type 0 where
-  pub fits : Fits h (pool_store pool)
-  pub unnamed : NoneNames asks levels h.layout.window calls
+  pub fits : StoreFits h (pool_store pool)
+  pub unnamed : NoCallNames asks levels h.layout.window calls
 
 -- The two hierarchies are alike, and their pools have the same frames in the same order.
 pub record AreAlike {Lent Other : Type 0} (levels : ℕ) (h : Hierarchy Lent) (pool : FreeFrames) (other : Hierarchy Other) (other_pool : FreeFrames) : Type 0 where
@@ -36,4 +36,4 @@ pub record AreAlike {Lent Other : Type 0} (levels : ℕ) (h : Hierarchy Lent) (p
 -- in any case it kept what calls keep.
 pub record AfterRun {C Lent A E : Type 0} (asks : C → MapperCall) (calls : List C) (result : Result (Vec Reply A) E) (h : Hierarchy Lent) (pool : FreeFrames) (after : Hierarchy Lent) (rest : FreeFrames) : Type 0 where
   pub ran : IfOk result (λ replies. Ran asks h (pool_store pool) calls [] replies.items after rest.frames)
-  pub keeps : Kept h (pool_store pool) after (pool_store rest)
+  pub keeps : Keeps h (pool_store pool) after (pool_store rest)

@@ -10,7 +10,7 @@ use Rattle.x86_64_model.specs.Position.{page_path, span}
 use Rattle.x86_64_model.specs.Window.{begins_with, IsValidFor}
 use Rattle.x86_64_mappers.specs.RangeChanges.{unmaps, updates}
 use Rattle.x86_64_tables.specs.FlushRecorder.{flush_range, range_items}
-use Rattle.x86_64.specs.Flushes.{NoneCovers}
+use Rattle.x86_64.specs.Flushes.{NoFlushItemCovers}
 
 -- The calls unmap this many pages of a level, one after another from a page on, or set their flags.
 abbrev pub AreChanges : (L level page count : ℕ) → List Call → Type 0
@@ -22,5 +22,5 @@ AreChanges L level page count calls = (calls ≡ unmaps L level page count) ⊎ 
 abbrev pub RangeFlushesSuffice : Type 0
 RangeFlushesSuffice = (m : Machine) → IsMachine m → (m.levels ≡ 4) ⊎ (m.levels ≡ 5) → (T U : Words) (root : ℕ) (serves : ℕ → Bool) (s : State) → FitsState m T root serves s
     → (level page count most : ℕ) → 1 ≤ level → level ≤ 3 → (calls : List Call) → AreChanges m.levels level page count calls → IsValidFor m.levels m.window U root (state_after m s calls).paths
-    → (p : ℕ) → begins_with m.window (page_path m.levels p) ≡ false → NoneCovers m.levels (range_items m.levels (span level) most (flush_range page count)) p
+    → (p : ℕ) → begins_with m.window (page_path m.levels p) ≡ false → NoFlushItemCovers m.levels (range_items m.levels (span level) most (flush_range page count)) p
     → KeepsArrival (page_walk m.levels T root p) (page_walk m.levels U root p)

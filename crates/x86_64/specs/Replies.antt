@@ -113,17 +113,17 @@ reply_of call other = None
 -- ---- replies of calls that change nothing
 
 -- Whether a call with this result was refused.
-abbrev pub is_refused : {X E : Type 0} → Result X E → Bool
-is_refused (Ok done) = false
-is_refused (Err why) = true
+abbrev pub is_error : {X E : Type 0} → Result X E → Bool
+is_error (Ok done) = false
+is_error (Err why) = true
 
 -- Whether a reply to a call on a page shows that no word changed: the call is a translation, or it was refused and isn't a map. A
 -- refused map may have created tables.
 abbrev pub size_changes_nothing : {S : Type 0} → SizeReply S → Bool
 size_changes_nothing (page_reply.Map mapped) = false
-size_changes_nothing (page_reply.Unmap unmapped) = is_refused unmapped
-size_changes_nothing (page_reply.Update updated) = is_refused updated
-size_changes_nothing (page_reply.TableFlags done) = is_refused done
+size_changes_nothing (page_reply.Unmap unmapped) = is_error unmapped
+size_changes_nothing (page_reply.Update updated) = is_error updated
+size_changes_nothing (page_reply.TableFlags done) = is_error done
 size_changes_nothing (page_reply.Frame frame) = true
 
 -- Whether a mapper's reply shows that no word changed: the call is a translation, wasn't allowed, or was refused and isn't a map.

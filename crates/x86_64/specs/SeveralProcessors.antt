@@ -1,7 +1,7 @@
 -- Several processors that use one hierarchy: all see its calls and its words, and each has caches of its own, which it flushes
 -- itself.
 use Rattle.std.specs.Prelude.{◌≡◌, ℕ, ◌==◌, Bool, false, cond, List, [], ◌∷◌}
-use Rattle.x86_64_model.specs.Caches.{Way, Cached, MayAccess, walk}
+use Rattle.x86_64_model.specs.Caches.{PartialWalk, Cached, MayAccess, walk_with_rights}
 use Rattle.x86_64_model.specs.Call.{Call}
 use Rattle.x86_64_model.specs.Flushing as kernel
 use Rattle.x86_64_model.specs.Flushing.{Due, Flush, Event, System, concerns}
@@ -21,15 +21,15 @@ pub data SharedEvent : Type 0 where
   Changes : (processor : ℕ) → (after : List Cached) → SharedEvent
 
 -- The events that the processor with this number sees: calls, changes of words, and its own flushes and changes of caches.
-abbrev pub seen_by : (processor : ℕ) → List SharedEvent → List Event
-seen_by k [] = []
-seen_by k (Makes call loses ∷ more) = kernel.Makes call loses ∷ seen_by k more
-seen_by k (Writes N U ∷ more) = kernel.Writes N U ∷ seen_by k more
-seen_by k (Flushes j f after ∷ more) = cond (j == k) (kernel.Flushes f after ∷ seen_by k more) (seen_by k more)
-seen_by k (Changes j after ∷ more) = cond (j == k) (kernel.Changes after ∷ seen_by k more) (seen_by k more)
+abbrev pub events_seen : (processor : ℕ) → List SharedEvent → List Event
+events_seen k [] = []
+events_seen k (Makes call loses ∷ more) = kernel.Makes call loses ∷ events_seen k more
+events_seen k (Writes N U ∷ more) = kernel.Writes N U ∷ events_seen k more
+events_seen k (Flushes j f after ∷ more) = cond (j == k) (kernel.Flushes f after ∷ events_seen k more) (events_seen k more)
+events_seen k (Changes j after ∷ more) = cond (j == k) (kernel.Changes after ∷ events_seen k more) (events_seen k more)
 
 -- Two processors see the same state of the machine, the same path map and the same words.
-pub record SeeTheSame (a b : System) : Type 0 where
+pub record SystemsSeeTheSame (a b : System) : Type 0 where
   pub state : a.state ≡ b.state
   pub paths : a.paths ≡ b.paths
   pub words : a.words ≡ b.words
@@ -37,11 +37,11 @@ pub record SeeTheSame (a b : System) : Type 0 where
 -- If what a processor sees may happen, each of its accesses that nothing due on it concerns goes with the page walk.
 abbrev pub EachIsFlushed : Type 0
 EachIsFlushed = (m : Machine) (root : ℕ) (T : Words) (serves : ℕ → Bool) (s : State) → FitsState m T root serves s
-    → (events : List SharedEvent) (k : ℕ) (now : System) → Happens m root T s (seen_by k events) now
+    → (events : List SharedEvent) (k : ℕ) (now : System) → Happens m root T s (events_seen k events) now
     → (p : ℕ) → ((due : Due) → In now.due due → concerns m.levels m.window due p ≡ false)
-    → (w : Way) → MayAccess m.levels root now.words now.cache p w → WalksThere (walk m.levels now.words root p) w
+    → (w : PartialWalk) → MayAccess m.levels root now.words now.cache p w → WalksThere (walk_with_rights m.levels now.words root p) w
 
 -- All processors see the same words, so the page walk is the same on each.
-abbrev pub AllSeeTheSame : Type 0
-AllSeeTheSame = (m : Machine) (root : ℕ) (T : Words) (s : State) (events : List SharedEvent) (j k : ℕ) (here there : System)
-    → Happens m root T s (seen_by j events) here → Happens m root T s (seen_by k events) there → SeeTheSame here there
+abbrev pub ProcessorsSeeTheSame : Type 0
+ProcessorsSeeTheSame = (m : Machine) (root : ℕ) (T : Words) (s : State) (events : List SharedEvent) (j k : ℕ) (here there : System)
+    → Happens m root T s (events_seen j events) here → Happens m root T s (events_seen k events) there → SystemsSeeTheSame here there

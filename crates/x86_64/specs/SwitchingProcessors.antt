@@ -1,7 +1,7 @@
 -- A processor that switches between address spaces of a memory, caches what it finds and marks it, between the calls and flushes
 -- of a kernel.
 use Rattle.std.specs.Prelude.{◌≡◌, ◌≢◌, ◌<◌, ◌++◌, ℕ, Bool, true, false, cond, List, [], ◌∷◌, map, Some, None, option_map, unwrap_or}
-use Rattle.x86_64_model.specs.Caches.{Way, MayAccess, walk}
+use Rattle.x86_64_model.specs.Caches.{PartialWalk, MayAccess, walk_with_rights}
 use Rattle.x86_64_model.specs.Call.{IsCall, parent_flags_of}
 use Rattle.x86_64_model.specs.Entry.{IsParentFlags}
 use Rattle.x86_64_model.specs.Flushing.{Due, PageDue, TablesDue, flush_after, mapped_by}
@@ -23,8 +23,8 @@ use Rattle.x86_64_model.specs.Switches.{Kernel, Switching, SwitchEvent, Abandons
 use Rattle.x86_64_model.specs.Tags.{Tag, Tagged, Of, TaggedFlush, Invlpg, InvpcidAll, is_left, usable}
 use Rattle.x86_64_model.specs.Window.{Window}
 use Rattle.x86_64.specs.Asked.{MapperCall, machine_call}
-use Rattle.x86_64.specs.Calls.{page_start}
-use Rattle.x86_64.specs.FlushesDue.{TellsFlush, InPages, told}
+use Rattle.x86_64.specs.Calls.{page_of_call}
+use Rattle.x86_64.specs.FlushesDue.{TellsFlush, InPages, flush_for}
 use Rattle.x86_64.specs.FreeFrames.{KeepsFree, back_by}
 use Rattle.x86_64.specs.Processors.{NoneLoses}
 use Rattle.x86_64.specs.Replies.{Reply}
@@ -34,7 +34,7 @@ use Rattle.x86_64.specs.declared.flushing.Flush.TheVariants.{Nothing, Tables, Pa
 
 -- The address spaces with these layouts, the memory and its free frames, and the processor arose by events that may happen, and no
 -- call is under way: by calls, new spaces, loads of CR3, flushes, and by what the processor caches and marks, from empty caches on.
-pub record IsReached (k : Kernel) (places : Places) (m : Memory) (pool : List ℕ) (layouts : List Layout)
+pub record IsReachedBySwitches (k : Kernel) (places : Places) (m : Memory) (pool : List ℕ) (layouts : List Layout)
     (s : Switching) : Type 0 where
   pub start : Switching
   pub events : List SwitchEvent
@@ -126,17 +126,17 @@ ReachedFirst = (k : Kernel) (places : Places) → IsMapping places → 0 < k.lev
     → (m : Memory) (pool : List ℕ) (layouts : List Layout) → ArePaired sharing m k.serves pool layouts
     → MaySwitchIn k places (words_of m places) layouts
     → (one : Layout) → In layouts one → (pcid : ℕ)
-    → let s = started_in k (words_of m places) pool layouts one pcid in IsReached k places m pool layouts s
+    → let s = started_in k (words_of m places) pool layouts one pcid in IsReachedBySwitches k places m pool layouts s
     × NoneDue s
 
 -- Any events that may happen lead on: what the processor caches, marks and loads, and what the kernel does.
 abbrev pub ReachedByEvents : Type 0
 ReachedByEvents = (k : Kernel) (places : Places) (m n : Memory) (pool rest : List ℕ)
     (layouts later : List Layout) (s t : Switching)
-    → IsReached k places m pool layouts s
+    → IsReachedBySwitches k places m pool layouts s
     → (events : List SwitchEvent) → let now = between k (words_of m places) pool layouts s in
     AllMaySwitch k now events → after_switches k now events ≡ between k (words_of n places) rest later t
-    → IsReached k places n rest later t
+    → IsReachedBySwitches k places n rest later t
 
 -- A call as `run_call` ensures it makes due what the model's `flush_after` returns, or nothing if the kernel knows that no used
 -- entry loses anything. No map may begin while tables are due for a PCID, and no map of a smaller page where a larger one is due.
@@ -147,24 +147,24 @@ ReachedByCalls = (k : Kernel) (places : Places) → IsMapping places → 0 < k.l
     → (call : MapperCall) (reply : Reply) (loses : Bool) (reaches : ℕ → Bool) (everywhere : Bool)
     (s : Switching)
     → RunsOn k places sharing m pool n rest layouts one call reply loses reaches everywhere
-    → IsReached k places m pool layouts s
+    → IsReachedBySwitches k places m pool layouts s
     → ((c : ℕ) → In (s.due (Of c)) TablesDue → parent_flags_of (machine_call one.levels call) ≡ None)
     → ((tag : Tag) (q r : List ℕ) (frame : ℕ) → In (s.due tag) (PageDue q frame)
     → mapped_by one.levels (machine_call one.levels call) ≡ Some r → is_below q r ≡ false)
-    → IsReached k places n rest layouts (with_due (made_by k one m pool call loses) reaches everywhere s)
+    → IsReachedBySwitches k places n rest layouts (with_due (made_by k one m pool call loses) reaches everywhere s)
 
 -- If this list has all that is due, and each PCID for which something is due holds a root that the call reaches, the flush for
 -- the list leaves nothing due once the other PCIDs are given up.
 abbrev pub ReachedByFlushes : Type 0
 ReachedByFlushes = (k : Kernel) (places : Places) (m : Memory) (pool : List ℕ) (layouts : List Layout)
     (s : Switching)
-    → IsReached k places m pool layouts s → s.under_way ≡ []
+    → IsReachedBySwitches k places m pool layouts s → s.under_way ≡ []
     → (due : List Due) → ((tag : Tag) (d : Due) → In (s.due tag) d → In due d)
     → ((c : ℕ) (d : Due) → In (s.due (Of c)) d → is_held s.reaches (s.holder c) ≡ true)
     → (p : ℕ) → InPages k.levels due p
-    → (after : List Tagged) → LeftHere k.levels s (executed_here (told due) p) after → (given_up : List ℕ)
-    → AreGivenUp s (told due) given_up
-    → let t = after_switches k s (flush_events (executed_here (told due) p) after given_up) in IsReached k places m pool layouts t × NoneDue t
+    → (after : List Tagged) → LeftHere k.levels s (executed_here (flush_for due) p) after → (given_up : List ℕ)
+    → AreGivenUp s (flush_for due) given_up
+    → let t = after_switches k s (flush_events (executed_here (flush_for due) p) after given_up) in IsReachedBySwitches k places m pool layouts t × NoneDue t
 
 -- A call as `run_call` ensures it leaves nothing due if the flush follows that `flush_after` returns, or `flush_after_change` if
 -- the caller may know that no used entry loses anything, and the other PCIDs are given up.
@@ -176,19 +176,19 @@ ReachedByFlushedCalls = (k : Kernel) (places : Places) → IsMapping places → 
     → (call : MapperCall) (reply : Reply) (loses : Bool) (reaches : ℕ → Bool) (everywhere : Bool)
     (s : Switching)
     → RunsOn k places sharing m pool n rest layouts one call reply loses reaches everywhere
-    → IsReached k places m pool layouts s → NoneDue s
+    → IsReachedBySwitches k places m pool layouts s → NoneDue s
     → (flush : Flush)
     → TellsFlush one.levels call reply (option_map (λ (w : Window). w.index) one.window) loses flush
-    → let p = unwrap_or (page_start one.levels call) 0 in let called = with_due (made_by k one m pool call loses) reaches everywhere s in
+    → let p = unwrap_or (page_of_call one.levels call) 0 in let called = with_due (made_by k one m pool call loses) reaches everywhere s in
     (after : List Tagged) → LeftHere k.levels called (executed_here flush p) after → (given_up : List ℕ)
     → AreGivenUp called flush given_up
-    → let t = after_switches k called (flush_events (executed_here flush p) after given_up) in IsReached k places n rest layouts t × NoneDue t
+    → let t = after_switches k called (flush_events (executed_here flush p) after given_up) in IsReachedBySwitches k places n rest layouts t × NoneDue t
 
 -- If nothing is due for the items that serve, each access goes with the page walk from the current root.
 abbrev pub ReachedAccessesGo : Type 0
 ReachedAccessesGo = (k : Kernel) (places : Places) (m : Memory) (pool : List ℕ) (layouts : List Layout)
     (s : Switching)
-    → IsReached k places m pool layouts s → due_here s ≡ [] → (one : Layout) → In layouts one
+    → IsReachedBySwitches k places m pool layouts s → due_here s ≡ [] → (one : Layout) → In layouts one
     → one.root ≡ s.root
-    → (p : ℕ) (w : Way) → MayAccess k.levels s.root (words_of m places) (usable s.pcid s.cache) p w
-    → WalksThere (walk k.levels (words_of m places) s.root p) w
+    → (p : ℕ) (w : PartialWalk) → MayAccess k.levels s.root (words_of m places) (usable s.pcid s.cache) p w
+    → WalksThere (walk_with_rights k.levels (words_of m places) s.root p) w

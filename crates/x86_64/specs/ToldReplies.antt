@@ -27,15 +27,15 @@ size_told (SetFlags at page flags) r = without_frame r
 size_told (TranslatePage page) r = r
 
 -- The part of the machine's reply to a mapper's call that the mapper's reply determines.
-abbrev pub told : MapperCall → machine.Reply → machine.Reply
-told (Of4KiB call) r = size_told call r
-told (Of2MiB call) r = size_told call r
-told (Of1GiB call) r = size_told call r
-told (Translate position) r = r
-told (TranslateAddr position) r = r
-told CleanUp r = r
-told (CleanUpRange low high) r = r
+abbrev pub told_part : MapperCall → machine.Reply → machine.Reply
+told_part (Of4KiB call) r = size_told call r
+told_part (Of2MiB call) r = size_told call r
+told_part (Of1GiB call) r = size_told call r
+told_part (Translate position) r = r
+told_part (TranslateAddr position) r = r
+told_part CleanUp r = r
+told_part (CleanUpRange low high) r = r
 
 -- If one reply of a mapper stands for two replies of the machine to a call, these agree in the part that it determines.
 abbrev pub RepliesTell : Type 0
-RepliesTell = (call : MapperCall) (r s : machine.Reply) (reply : Reply) → reply_of call r ≡ Some reply → reply_of call s ≡ Some reply → told call r ≡ told call s
+RepliesTell = (call : MapperCall) (r s : machine.Reply) (reply : Reply) → reply_of call r ≡ Some reply → reply_of call s ≡ Some reply → told_part call r ≡ told_part call s

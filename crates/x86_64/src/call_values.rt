@@ -264,7 +264,7 @@ pub type Call = CallIn<FourLevels, NoLevelFive>;
 pub type Call57 = CallIn<FiveLevels, PageTableFlags>;
 
 impl<L: LevelCount, P5: LevelFiveFlags<L>> CallIn<L, P5> {
-    ghost use Rattle.x86_64.specs.Calls.{asks, names, page_start};
+    ghost use Rattle.x86_64.specs.Calls.{to_call, names, page_of_call};
 
     /// Returns true if the call's page or address has this index of the highest level, which is level four, or level
     /// five if there are five levels. The page of an identity map counts if there is one, that is if the frame starts
@@ -286,7 +286,7 @@ impl<L: LevelCount, P5: LevelFiveFlags<L>> CallIn<L, P5> {
     /// Returns the start address of the call's page, or `None` if the call has none: a translation of an address, a clean
     /// up, an identity map of a frame that doesn't start in the lower half of the address space.
     pub fn page_start(&self) -> Option<VirtAddrIn<L>>
-        ensures { result ≡ page_start L.LEVELS (asks P5.bits self.now) }
+        ensures { result ≡ page_of_call L.LEVELS (to_call P5.bits self.now) }
     {
         match self {
             CallIn::Of4KiB(call) => call.page_start(),

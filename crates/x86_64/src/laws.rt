@@ -10,7 +10,7 @@ ghost use Rattle.x86_64.specs.OneEntry.{OneEntryDecides};
 ghost use Rattle.x86_64.specs.PlacesStay.{PlacesStay, OffsetsFitStill};
 ghost use Rattle.x86_64.specs.Processors.{ArisesFirst, ArisesByCaching, ArisesByCalls, ArisesByFlushes, ArisesByFlushedCalls, FlushedAccessesGo};
 ghost use Rattle.x86_64.specs.RangeFlushes.{RangeFlushesSuffice};
-ghost use Rattle.x86_64.specs.SeveralProcessors.{EachIsFlushed, AllSeeTheSame};
+ghost use Rattle.x86_64.specs.SeveralProcessors.{EachIsFlushed, ProcessorsSeeTheSame};
 ghost use Rattle.x86_64.specs.SwitchingProcessors.{ReachedFirst, ReachedByEvents, ReachedByCalls, ReachedByFlushes, ReachedByFlushedCalls, ReachedAccessesGo};
 ghost use Rattle.x86_64.specs.ToldReplies.{RepliesTell};
 
@@ -74,7 +74,7 @@ pub fn flushed_calls_leave_no_stale_item()
 /// accesses of each go with the page walk, and all see the same words.
 pub fn several_processors_are_flushed_each()
     ensures each { EachIsFlushed }
-    ensures same { AllSeeTheSame }
+    ensures same { ProcessorsSeeTheSame }
 {}
 
 /// The same beside a processor that switches between address spaces of one memory, with loads of CR3, PCIDs and global pages,

@@ -4,10 +4,10 @@ ghost use Rattle.std.specs.Vec.{vec_capacity};
 ghost use Rattle.x86_64_model.specs.Entry.{huge, no_address};
 ghost use Rattle.x86_64_model.specs.Mapper.{Valid, allows};
 ghost use Rattle.x86_64_model.specs.PageCalls.{MayAsk, SetFlags, asked};
-ghost use Rattle.x86_64_model.specs.Store.{Fits, Kept, store_of};
+ghost use Rattle.x86_64_model.specs.Store.{StoreFits, Keeps, store_of};
 ghost use Rattle.x86_64_tables.specs.PageTableFlags.{bits_of};
-ghost use Rattle.x86_64.specs.Calls.{asks, size_asks, in_window};
-ghost use Rattle.x86_64.specs.Flushes.{items_of, items_told, size_items};
+ghost use Rattle.x86_64.specs.Calls.{to_call, size_asks, in_window};
+ghost use Rattle.x86_64.specs.Flushes.{flush_items_of, items_told, size_items};
 ghost use Rattle.x86_64.specs.Replies.{changes_nothing};
 ghost use Rattle.x86_64.specs.Runs.{LeavesFree, Ran, Stepped, appended};
 ghost use Rattle.x86_64.specs.private.Served.{PageStepped, PageLeavesFree, SetsFlags, recorded, items_where, changes_nothing_where};
@@ -50,14 +50,14 @@ pub fn run<L: LevelCount, P5: LevelFiveFlags<L>, M: TableAccess + TablesIn<L>, F
     calls: &[CallIn<L, P5>],
     replies: &mut Vec<ReplyIn<L>>,
 ) -> Result<(), AllocError>
-    requires { Fits (M.hierarchy mapper.old) (store_of F.FrameStore frames.old) }
-    ensures ran { OnOk result (Ran (asks P5.bits) (M.hierarchy mapper.old) (store_of F.FrameStore frames.old)
+    requires { StoreFits (M.hierarchy mapper.old) (store_of F.FrameStore frames.old) }
+    ensures ran { OnOk result (Ran (to_call P5.bits) (M.hierarchy mapper.old) (store_of F.FrameStore frames.old)
         calls.now replies.old.items replies.new.items (M.hierarchy mapper.new) (F.supply frames.new)) }
     ensures unchanged { OnErr result (
         (replies.new.items ≡ replies.old.items) × (vec_capacity replies.new ≡ vec_capacity replies.old)
         × (mapper.new ≡ mapper.old) × (frames.new ≡ frames.old)) }
     ensures needs_room { OnErr result (vec_capacity replies.old < vec_len replies.old + length calls.now) }
-    ensures keeps { Kept (M.hierarchy mapper.old) (store_of F.FrameStore frames.old)
+    ensures keeps { Keeps (M.hierarchy mapper.old) (store_of F.FrameStore frames.old)
         (M.hierarchy mapper.new) (store_of F.FrameStore frames.new) }
 {
     replies.reserve(calls.len())?;
@@ -73,14 +73,14 @@ pub fn run_call<L: LevelCount, P5: LevelFiveFlags<L>, M: TableAccess + TablesIn<
     frames: &mut F,
     call: CallIn<L, P5>,
 ) -> ReplyIn<L>
-    requires { Fits (M.hierarchy mapper.old) (store_of F.FrameStore frames.old) }
+    requires { StoreFits (M.hierarchy mapper.old) (store_of F.FrameStore frames.old) }
     ensures step { Stepped (M.hierarchy mapper.old) (store_of F.FrameStore frames.old)
-        (asks P5.bits call) result (M.hierarchy mapper.new) (F.supply frames.new) }
+        (to_call P5.bits call) result (M.hierarchy mapper.new) (F.supply frames.new) }
     ensures unchanged { changes_nothing result ≡ true
         → (M.hierarchy mapper.new).memory ≡ (M.hierarchy mapper.old).memory }
-    ensures free { LeavesFree (M.hierarchy mapper.old) (store_of F.FrameStore frames.old) (asks P5.bits call)
+    ensures free { LeavesFree (M.hierarchy mapper.old) (store_of F.FrameStore frames.old) (to_call P5.bits call)
         (M.hierarchy mapper.new) (F.supply frames.new) }
-    ensures keeps { Kept (M.hierarchy mapper.old) (store_of F.FrameStore frames.old)
+    ensures keeps { Keeps (M.hierarchy mapper.old) (store_of F.FrameStore frames.old)
         (M.hierarchy mapper.new) (store_of F.FrameStore frames.new) }
 {
     serve(mapper, frames, call, &mut Ignored)
@@ -100,14 +100,14 @@ fn serve_all<
     replies: &mut Vec<ReplyIn<L>>,
     tokens: &mut K,
 )
-    requires fits { Fits (M.hierarchy mapper.old) (store_of F.FrameStore frames.old) }
+    requires fits { StoreFits (M.hierarchy mapper.old) (store_of F.FrameStore frames.old) }
     requires reserved { vec_len replies.old + length calls.now ≤ vec_capacity replies.old }
     requires room { K.has_room tokens.old (length calls.now) }
-    ensures ran { Ran (asks P5.bits) (M.hierarchy mapper.old) (store_of F.FrameStore frames.old)
+    ensures ran { Ran (to_call P5.bits) (M.hierarchy mapper.old) (store_of F.FrameStore frames.old)
         calls.now replies.old.items replies.new.items (M.hierarchy mapper.new) (F.supply frames.new) }
     ensures items { K.items tokens.new ≡ K.items tokens.old
         ++ recorded K.records (items_told L.LEVELS (appended replies.old.items replies.new.items)) }
-    ensures keeps { Kept (M.hierarchy mapper.old) (store_of F.FrameStore frames.old)
+    ensures keeps { Keeps (M.hierarchy mapper.old) (store_of F.FrameStore frames.old)
         (M.hierarchy mapper.new) (store_of F.FrameStore frames.new) }
 {
     for call in calls {
@@ -123,18 +123,18 @@ fn serve<
     F: FrameStore,
     K: Tokens,
 >(mapper: &mut M, frames: &mut F, call: CallIn<L, P5>, tokens: &mut K) -> ReplyIn<L>
-    requires fits { Fits (M.hierarchy mapper.old) (store_of F.FrameStore frames.old) }
+    requires fits { StoreFits (M.hierarchy mapper.old) (store_of F.FrameStore frames.old) }
     requires room { K.has_room tokens.old 1 }
     ensures step { Stepped (M.hierarchy mapper.old) (store_of F.FrameStore frames.old)
-        (asks P5.bits call) result (M.hierarchy mapper.new) (F.supply frames.new) }
+        (to_call P5.bits call) result (M.hierarchy mapper.new) (F.supply frames.new) }
     ensures still { changes_nothing result ≡ true
         → (M.hierarchy mapper.new).memory ≡ (M.hierarchy mapper.old).memory }
-    ensures free { LeavesFree (M.hierarchy mapper.old) (store_of F.FrameStore frames.old) (asks P5.bits call)
+    ensures free { LeavesFree (M.hierarchy mapper.old) (store_of F.FrameStore frames.old) (to_call P5.bits call)
         (M.hierarchy mapper.new) (F.supply frames.new) }
-    ensures keeps { Kept (M.hierarchy mapper.old) (store_of F.FrameStore frames.old)
+    ensures keeps { Keeps (M.hierarchy mapper.old) (store_of F.FrameStore frames.old)
         (M.hierarchy mapper.new) (store_of F.FrameStore frames.new) }
     ensures items { K.items tokens.new ≡ K.items tokens.old
-        ++ recorded K.records (items_of L.LEVELS result) }
+        ++ recorded K.records (flush_items_of L.LEVELS result) }
     ensures room { (n : ℕ) → K.has_room tokens.old (n + 1) → K.has_room tokens.new n }
 {
     match call {
@@ -177,7 +177,7 @@ fn serve_page<
     call: SizeCallIn<S, L, P5>,
     tokens: &mut K,
 ) -> Option<SizeReplyIn<S, L>>
-    requires fits { Fits (M.hierarchy mapper.old) (store_of F.FrameStore frames.old) }
+    requires fits { StoreFits (M.hierarchy mapper.old) (store_of F.FrameStore frames.old) }
     requires room { K.has_room tokens.old 1 }
     ensures step { PageStepped (M.hierarchy mapper.old) (store_of F.FrameStore frames.old) S.LEVEL
         (size_asks P5.bits call) result (M.hierarchy mapper.new) (F.supply frames.new) }
@@ -185,7 +185,7 @@ fn serve_page<
         → (M.hierarchy mapper.new).memory ≡ (M.hierarchy mapper.old).memory }
     ensures free { PageLeavesFree (M.hierarchy mapper.old) (F.supply frames.old)
         (M.hierarchy mapper.new) (F.supply frames.new) }
-    ensures keeps { Kept (M.hierarchy mapper.old) (store_of F.FrameStore frames.old)
+    ensures keeps { Keeps (M.hierarchy mapper.old) (store_of F.FrameStore frames.old)
         (M.hierarchy mapper.new) (store_of F.FrameStore frames.new) }
     ensures items { K.items tokens.new ≡ K.items tokens.old
         ++ recorded K.records (items_where L.LEVELS S.SIZE result) }

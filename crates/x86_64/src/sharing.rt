@@ -4,10 +4,10 @@ ghost use Rattle.x86_64_model.specs.CleanUp.{meets};
 ghost use Rattle.x86_64_model.specs.Mapper.{Valid, paths};
 ghost use Rattle.x86_64_model.specs.PathMap.{entry};
 ghost use Rattle.x86_64_model.specs.Position.{index};
-ghost use Rattle.x86_64_model.specs.Store.{Fits, Kept, store_of};
+ghost use Rattle.x86_64_model.specs.Store.{StoreFits, Keeps, store_of};
 ghost use Rattle.x86_64_spaces.specs.SpaceLayouts.{indices_of};
 ghost use Rattle.x86_64_tables.specs.PageTableFlags.{bits_of};
-ghost use Rattle.x86_64.specs.Calls.{asks, size_asks};
+ghost use Rattle.x86_64.specs.Calls.{to_call, size_asks};
 ghost use Rattle.x86_64.specs.Runs.{LeavesFree, Stepped};
 ghost use Rattle.x86_64.specs.Sharing.{KeepsShared, KeepsSpaces, PageKeepsShared};
 
@@ -52,18 +52,18 @@ pub fn run_call_in_space<
     shared: SharedIndices,
     call: CallIn<L, P5>,
 ) -> Result<ReplyIn<L>, SharedEntry>
-    requires { Fits (M.hierarchy mapper.old) (store_of F.FrameStore frames.old) }
+    requires { StoreFits (M.hierarchy mapper.old) (store_of F.FrameStore frames.old) }
     ensures step { IfOk result (λ reply. Stepped (M.hierarchy mapper.old) (store_of F.FrameStore frames.old)
-        (asks P5.bits call) reply (M.hierarchy mapper.new) (F.supply frames.new)) }
+        (to_call P5.bits call) reply (M.hierarchy mapper.new) (F.supply frames.new)) }
     ensures free { OnOk result (LeavesFree (M.hierarchy mapper.old) (store_of F.FrameStore frames.old)
-        (asks P5.bits call) (M.hierarchy mapper.new) (F.supply frames.new)) }
+        (to_call P5.bits call) (M.hierarchy mapper.new) (F.supply frames.new)) }
     ensures refused { OnErr result (
-        (KeepsShared (M.hierarchy mapper.old) (indices_of shared) (asks P5.bits call) → ⊥)
+        (KeepsShared (M.hierarchy mapper.old) (indices_of shared) (to_call P5.bits call) → ⊥)
         × (mapper.new ≡ mapper.old) × (frames.new ≡ frames.old)) }
     ensures spaces { KeepsSpaces (indices_of shared)
         (M.hierarchy mapper.old) (store_of F.FrameStore frames.old)
         (M.hierarchy mapper.new) (F.supply frames.new) }
-    ensures keeps { Kept (M.hierarchy mapper.old) (store_of F.FrameStore frames.old)
+    ensures keeps { Keeps (M.hierarchy mapper.old) (store_of F.FrameStore frames.old)
         (M.hierarchy mapper.new) (store_of F.FrameStore frames.new) }
 {
     calls_keep_root_entries();
@@ -89,7 +89,7 @@ pub fn keeps_shared_entries<L: LevelCount, P5: LevelFiveFlags<L>, M: TableAccess
 ) -> bool
     requires { Valid (M.hierarchy mapper.now) }
     ensures { IsTrue result
-        ↔ KeepsShared (M.hierarchy mapper.now) (indices_of shared) (asks P5.bits call.now) }
+        ↔ KeepsShared (M.hierarchy mapper.now) (indices_of shared) (to_call P5.bits call.now) }
 {
     match call {
         CallIn::Of4KiB(call) => page_keeps(mapper, call, shared),

@@ -10,7 +10,7 @@ use Rattle.x86_64_model.specs.Position.{index, span}
 use Rattle.x86_64_tables.proofs.WalkSteps.{on_absent, on_end, on_none as walk_none, on_table}
 use Rattle.x86_64_tables.specs.Walks.{ends}
 use Rattle.std.proofs.lemmas.Bool.{leb-false}
-use Rattle.x86_64_model.specs.Access.{Access, Arrives, Controls, Faults, Outcome, allowed, code, low_bits, Step, steps_from, reserved}
+use Rattle.x86_64_model.specs.Access.{Access, Arrives, Controls, Faults, Outcome, access_allowed, code, low_bits, Step, steps_from, reserved}
 use Rattle.x86_64_access.specs.private.Walking.{access_on}
 use Rattle.x86_64_tables.specs.Rights.{both}
 use Rattle.x86_64_access.specs.Laws.{ArriveWhereWalksDo, WalksAllowedArrive}
@@ -62,7 +62,7 @@ module _ (c : Controls) (T : Words) (p : ℕ) (a : Access) where
   at_page : (level frame : ℕ) (r : Rights) (e to : ℕ) → 1 ≤ level → Some e ≡ read T frame (index level p)
       → present e ≡ true → reserved c level e ≡ false → maps_page level e ≡ true
       → access_on c T p a level frame r ≡ Arrives to → Reaches (walk_on T p level r.write r.user frame) to
-  at_page level frame r e to l is here sound page arrives = by_rights (allowed c a (granted r e)) refl
+  at_page level frame r e to l is here sound page arrives = by_rights (access_allowed c a (granted r e)) refl
     where
       there : page_start level e + p % span level ≡ to → Reaches (walk_on T p level r.write r.user frame) to
       there same = (
@@ -73,7 +73,7 @@ module _ (c : Controls) (T : Words) (p : ℕ) (a : Access) where
             ∙ ap (λ x. Some (record { address = x; write = r.write && writable e; user = r.user && user e })) same,
       )
 
-      by_rights : (b : Bool) → allowed c a (granted r e) ≡ b → Reaches (walk_on T p level r.write r.user frame) to
+      by_rights : (b : Bool) → access_allowed c a (granted r e) ≡ b → Reaches (walk_on T p level r.write r.user frame) to
       by_rights true enough = there (ap (λ o. arrival_of o 0)
           (sym (ap (λ b. cond (not b) (Faults (code c a true false) level) (Arrives (page_start level e + p % span level))) enough)
           ∙ on_page c T p a level frame r e l is here sound page ∙ arrives))
@@ -128,11 +128,11 @@ module _ (c : Controls) (T : Words) (p : ℕ) (a : Access) where
   -- an access on a walk that arrives is allowed and finds no reserved bit
   abbrev MayArrive : (level frame : ℕ) → Rights → Walked → Type 0
   MayArrive level frame r w = (walk_on T p level r.write r.user frame ≡ Some w) × AllSound (steps_from c T p level frame)
-      × (allowed c a (both r (rights_of (words_in (steps_from c T p level frame)))) ≡ true)
+      × (access_allowed c a (both r (rights_of (words_in (steps_from c T p level frame)))) ≡ true)
 
   page_allowed : (level frame : ℕ) (r : Rights) (e : ℕ) (w : Walked) → 1 ≤ level → Some e ≡ read T frame (index level p)
       → present e ≡ true → reserved c level e ≡ false → maps_page level e ≡ true
-      → walk_on T p level r.write r.user frame ≡ Some w → allowed c a (granted r e) ≡ true → access_on c T p a level frame r ≡ Arrives w.address
+      → walk_on T p level r.write r.user frame ≡ Some w → access_allowed c a (granted r e) ≡ true → access_on c T p a level frame r ≡ Arrives w.address
   page_allowed level frame r e w l is here sound page walks enough =
       sym (on_page c T p a level frame r e l is here sound page)
       ∙ ap (λ b. cond (not b) (Faults (code c a true false) level) (Arrives (page_start level e + p % span level))) enough
@@ -157,7 +157,7 @@ module _ (c : Controls) (T : Words) (p : ℕ) (a : Access) where
       by_page : (e : ℕ) → Some e ≡ read T frame (index (suc n) p) → present e ≡ true
           → (b : Bool) → maps_page (suc n) e ≡ b → access_on c T p a (suc n) frame r ≡ Arrives w.address
       by_page e is here true page = page_allowed (suc n) frame r e w low is here (first_sound e is) page walks
-          (sym (ap (allowed c a) (ap (λ steps. both r (rights_of (words_in steps))) (steps_page c T p a (suc n) frame r e low is page)
+          (sym (ap (access_allowed c a) (ap (λ steps. both r (rights_of (words_in steps))) (steps_page c T p a (suc n) frame r e low is page)
           ∙ (both_more r e [] ∙ both_none (granted r e)))) ∙ enough)
       by_page e is here false table =
           let sound = first_sound e is in
@@ -171,7 +171,7 @@ module _ (c : Controls) (T : Words) (p : ℕ) (a : Access) where
           ∙ below (address e) (granted r e) (
             ap (λ k. walk_on T p k (r.write && writable e) (r.user && user e) (address e)) (sym less) ∙ on_table T p (suc n) r.write r.user frame e is more here small ∙ walks,
             (λ s member. all_sound s (subst (λ list. In list s) (sym steps) (inr member))),
-            sym (ap (allowed c a) (ap (λ list. both r (rights_of (words_in list))) steps ∙ both_more r e (words_in (steps_from c T p n (address e))))) ∙ enough,
+            sym (ap (access_allowed c a) (ap (λ list. both r (rights_of (words_in list))) steps ∙ both_more r e (words_in (steps_from c T p n (address e))))) ∙ enough,
           )
 
       by_present : (e : ℕ) → Some e ≡ read T frame (index (suc n) p) → (b : Bool) → present e ≡ b

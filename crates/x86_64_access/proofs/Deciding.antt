@@ -8,7 +8,7 @@ use Rattle.std.specs.Int.Bits.{or_add_and, or_zero_l, and_zero_r}
 use Rattle.x86_64_model.proofs.Lemmas.Entries.Bits.{and_or_distrib}
 use Rattle.std.proofs.Math.Bool.{and-true, and-false, or-true, or-false}
 use Rattle.std.proofs.lemmas.Bool.{lt-leb}
-use Rattle.x86_64_model.specs.Access.{Access, Controls, Fetch, Kind, Read, Write, allowed, kept_out, kind_allowed, reserved}
+use Rattle.x86_64_model.specs.Access.{Access, Controls, Fetch, Kind, Read, Write, access_allowed, kept_out, kind_allowed, reserved}
 use Rattle.x86_64_model.specs.Entry.{has, present, huge, no_execute, address}
 use Rattle.x86_64_model.specs.Mappings.{every_right, granted}
 use Rattle.x86_64_access.specs.private.Masks.{high_bits, kept_bits, kind_bits, off_bits, user_bits}
@@ -287,7 +287,7 @@ right_bits c a = bit_or (kind_bits c a a.kind) (bit_or (user_bits a.user) (kept_
 abbrev pub needed_bits : Controls → Access → ℕ
 needed_bits c a = bit_or (kind_bits c a a.kind) (user_bits a.user)
 
-pub suffices : (c : Controls) (a : Access) (b : ℕ) → (bit_and b (right_bits c a) == needed_bits c a) ≡ allowed c a (rights_by b)
+pub suffices : (c : Controls) (a : Access) (b : ℕ) → (bit_and b (right_bits c a) == needed_bits c a) ≡ access_allowed c a (rights_by b)
 suffices c a b = by a.kind
   where
     user : Bool

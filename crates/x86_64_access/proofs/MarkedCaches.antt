@@ -1,12 +1,12 @@
 -- Marks change nothing of what a processor may cache.
 use Rattle.std.proofs.Common.{inl, inr, ◌⊎◌, ◌≡◌, ℕ, Some, refl, sym, ◌∙◌, List}
-use Rattle.x86_64_model.specs.Caches.{Cached, Caches, MayRead, Way, found}
+use Rattle.x86_64_model.specs.Caches.{Cached, Caches, MayRead, PartialWalk, cached_item}
 use Rattle.x86_64_model.specs.Lists.{In}
 use Rattle.x86_64_model.specs.Memory.{Words, word}
 use Rattle.x86_64_access.specs.Marks.{CachesStay, GetsMarks, OnlyMarks}
 use Rattle.x86_64_access.proofs.Marks.{same_address, same_has}
 
-same_found : (L : ℕ) (T U : Words) → OnlyMarks T U → (t : Way) (i : ℕ) → found L U t i ≡ found L T t i
+same_found : (L : ℕ) (T U : Words) → OnlyMarks T U → (t : PartialWalk) (i : ℕ) → cached_item L U t i ≡ cached_item L T t i
 same_found L T U only t i =
     let e = word T t.frame i in
     let g = word U t.frame i in
@@ -20,12 +20,12 @@ same_found L T U only t i =
       same_address e g gets,
     ) refl
 
-module _ (L root : ℕ) (T U : Words) (same : (t : Way) (i : ℕ) → found L U t i ≡ found L T t i) (these those : List Cached) where
+module _ (L root : ℕ) (T U : Words) (same : (t : PartialWalk) (i : ℕ) → cached_item L U t i ≡ cached_item L T t i) (these those : List Cached) where
   goes : Caches L root U these those → Caches L root T these those
   goes caches c member = by (caches c member)
     where
-      by : In these c ⊎ ((t : Way) × (i : ℕ) × MayRead root these t × (found L U t i ≡ Some c))
-          → In these c ⊎ ((t : Way) × (i : ℕ) × MayRead root these t × (found L T t i ≡ Some c))
+      by : In these c ⊎ ((t : PartialWalk) × (i : ℕ) × MayRead root these t × (cached_item L U t i ≡ Some c))
+          → In these c ⊎ ((t : PartialWalk) × (i : ℕ) × MayRead root these t × (cached_item L T t i ≡ Some c))
       by (inl there) = inl there
       by (inr (t, i, may, is)) = inr (t, i, may, sym (same t i) ∙ is)
 

@@ -10,7 +10,7 @@ use Rattle.x86_64_model.specs.Hierarchy.{IsValid, paths_of, read_at}
 use Rattle.x86_64_model.specs.Memory.{Words, set_word, word}
 use Rattle.x86_64_model.specs.PathMap.{PathMap, entry, table_at, table_of}
 use Rattle.x86_64_model.specs.Window.{SelfEntry, Window, outside_window}
-use Rattle.x86_64_access.specs.Marks.{GetsMarks, OnlyMarks, FitsStay, window_in}
+use Rattle.x86_64_access.specs.Marks.{GetsMarks, OnlyMarks, FitsStay, window_now}
 use Rattle.x86_64_access.proofs.Marks.{same_address, same_has}
 
 -- ---- entries
@@ -77,7 +77,7 @@ module _ (T U : Words) (only : OnlyMarks T U) where
 -- ---- the recursive index
 
 pub outside_marked : (window : Option Window) (root : ℕ) (T U : Words) → OnlyMarks T U
-    → OnlyMarks (outside_window window root T) (outside_window (window_in U root window) root U)
+    → OnlyMarks (outside_window window root T) (outside_window (window_now U root window) root U)
 outside_marked None root T U only = only
 outside_marked (Some w) root T U only = record {
   there = λ g. (
@@ -96,7 +96,7 @@ outside_marked (Some w) root T U only = record {
     at g j (inl one) (inl two) = subst₂ (λ x y. GetsMarks (word (set_word T root w.index 0) x y) (word (set_word U root w.index 0) x y)) (sym one) (sym two)
         (inl (word_unset U root w.index ∙ sym (word_unset T root w.index)))
 
-pub self_still : (window : Option Window) (root : ℕ) (T U : Words) → OnlyMarks T U → SelfEntry T root window → SelfEntry U root (window_in U root window)
+pub self_still : (window : Option Window) (root : ℕ) (T U : Words) → OnlyMarks T U → SelfEntry T root window → SelfEntry U root (window_now U root window)
 self_still None root T U only self = tt
 self_still (Some w) root T U only self =
     let gets : GetsMarks (word T root w.index) (word U root w.index) = only.words root w.index in
@@ -111,7 +111,7 @@ pub fits_stay : FitsStay
 fits_stay L levels window T U root serves pool only fits =
     let outside = outside_marked window root T U only in
     let T' = outside_window window root T in
-    let U' = outside_window (window_in U root window) root U in (
+    let U' = outside_window (window_now U root window) root U in (
       record {
         valid = record { valid = valid_still T' U' outside L root levels fits.valid.valid; self = self_still window root T U only fits.valid.self };
         each_once = fits.each_once;

@@ -2,7 +2,7 @@
 use Rattle.std.proofs.Common.{◌≡◌, inl, inr, ◌<◌, ◌+◌, ◌%◌, ◌==◌, ℕ, Bool, true≢false, true, false, cond, List, [], ◌∷◌, ◌++◌, Some, None, Option, option_map, refl, sym, ap, ◌∙◌, subst, subst₂}
 use Rattle.std.proofs.lemmas.Option.{same_Some}
 use Rattle.x86_64_model.specs.Arrivals.{NoWorse}
-use Rattle.x86_64_model.specs.Caches.{Cached, Page, Table, Way, MayAccess, walk, walked_in}
+use Rattle.x86_64_model.specs.Caches.{Cached, Page, Table, PartialWalk, MayAccess, walk_with_rights, walked_in}
 use Rattle.x86_64_model.specs.Entry.{LeadAlike, present}
 use Rattle.x86_64_model.specs.Flushing.{BelowDue, Due, IsDone, PageDue, System, TablesDue, WindowDue, after_event, concerns, fresh, loosens}
 use Rattle.x86_64_model.specs.Hierarchy.{IsValid, paths_of}
@@ -28,8 +28,8 @@ use Rattle.x86_64_model.proofs.Lemmas.Hierarchies.Exists.{held_is_paths_of}
 use Rattle.x86_64_model.proofs.Lemmas.Hierarchies.Trees.{IsHierarchy}
 use Rattle.x86_64_model.proofs.Lemmas.Machines.States.{Aside, IsSound}
 use Rattle.x86_64_model.proofs.Lemmas.Switches.Marks.{becomes_marked, item_marked}
-use Rattle.x86_64_access.specs.Marks.{GetsMarks, OnlyMarks, window_in}
-use Rattle.x86_64_access.specs.MarkingProcessors.{AllMarkingMayHappen, FlushesAreEnoughWithMarks, IsCovered, IsReached, MarkingEvent, MarkingMayHappen, Marks, MarksMayHappen, MayMark, Other, after_all_marking, after_marking, held_by, machine_in}
+use Rattle.x86_64_access.specs.Marks.{GetsMarks, OnlyMarks, window_now}
+use Rattle.x86_64_access.specs.MarkingProcessors.{AllMarkingMayHappen, FlushesAreEnoughWithMarks, IsCovered, IsReachedWithMarks, MarkingEvent, MarkingMayHappen, Marks, MarksMayHappen, MayMark, Other, after_all_marking, after_marking, paths_held, machine_in}
 use Rattle.x86_64_access.proofs.MarkedHierarchies.{entries_marked, outside_marked, same_table_of, same_used, self_still, valid_still}
 use Rattle.x86_64_access.proofs.Marks.{same_address, same_has}
 
@@ -58,30 +58,30 @@ one_of_two false x y x' y' h k = k
 
 -- ---- the recursive index
 
-window_had : (v : Option Window) (U : Words) (root : ℕ) (due : List Due) → HasWindow v due → HasWindow (window_in U root v) due
+window_had : (v : Option Window) (U : Words) (root : ℕ) (due : List Due) → HasWindow v due → HasWindow (window_now U root v) due
 window_had None U root due h w is = h w is
 window_had (Some a) U root due h w is = h a refl
 
-same_begins : (v : Option Window) (U : Words) (root : ℕ) (q : List ℕ) → begins_with (window_in U root v) q ≡ begins_with v q
+same_begins : (v : Option Window) (U : Words) (root : ℕ) (q : List ℕ) → begins_with (window_now U root v) q ≡ begins_with v q
 same_begins None U root q = refl
 same_begins (Some a) U root [] = refl
 same_begins (Some a) U root (i ∷ q) = refl
 
-same_concerns : (L : ℕ) (v : Option Window) (U : Words) (root : ℕ) (due : Due) (p : ℕ) → concerns L (window_in U root v) due p ≡ concerns L v due p
+same_concerns : (L : ℕ) (v : Option Window) (U : Words) (root : ℕ) (due : Due) (p : ℕ) → concerns L (window_now U root v) due p ≡ concerns L v due p
 same_concerns L v U root (PageDue q frame) p = refl
 same_concerns L v U root TablesDue p = refl
 same_concerns L v U root WindowDue p = same_begins v U root (page_path L p)
 same_concerns L v U root (BelowDue q) p = refl
 
-pub same_outside : (v : Option Window) (U T : Words) (root : ℕ) → outside_window (window_in U root v) root T ≡ outside_window v root T
+pub same_outside : (v : Option Window) (U T : Words) (root : ℕ) → outside_window (window_now U root v) root T ≡ outside_window v root T
 same_outside None U T root = refl
 same_outside (Some a) U T root = refl
 
-again : (v : Option Window) (T U : Words) (root : ℕ) → window_in U root (window_in T root v) ≡ window_in U root v
+again : (v : Option Window) (T U : Words) (root : ℕ) → window_now U root (window_now T root v) ≡ window_now U root v
 again None T U root = refl
 again (Some a) T U root = refl
 
-pub own_self : (v : Option Window) (T : Words) (root : ℕ) → SelfEntry T root v → v ≡ window_in T root v
+pub own_self : (v : Option Window) (T : Words) (root : ℕ) → SelfEntry T root v → v ≡ window_now T root v
 own_self None T root self = refl
 own_self (Some a) T root self = ap (λ x. Some (record { index = a.index; self_entry = x })) self.is_word
 
@@ -96,7 +96,7 @@ module _ (T U : Words) (root : ℕ) (only : OnlyMarks T U) (M N : PathMap) (gets
     through (i ∷ []) = one_of_two (i == a.index) _ _ _ _ self_marked (gets (i ∷ []))
     through (i ∷ j ∷ q) = one_of_two (i == a.index) _ _ _ _ (through (j ∷ q)) (gets (i ∷ j ∷ q))
 
-  pub seen_marked : (v : Option Window) → SelfEntry T root v → (q : List ℕ) → GetsMarks (entry_at v M q) (entry_at (window_in U root v) N q)
+  pub seen_marked : (v : Option Window) → SelfEntry T root v → (q : List ℕ) → GetsMarks (entry_at v M q) (entry_at (window_now U root v) N q)
   unfolding entry_at
   seen_marked None self q = gets q
   seen_marked (Some a) self q = through a self.is_word q
@@ -123,7 +123,7 @@ module _ (L root : ℕ) (M N : PathMap) (gets : (q : List ℕ) → GetsMarks (en
     none_huge = λ q high. same_has _ _ 0x80 (gets q) refl ∙ h.none_huge q high;
   }
 
-  aside_marked : (v : Option Window) (U : Words) → Aside v M → Aside (window_in U root v) N
+  aside_marked : (v : Option Window) (U : Words) → Aside v M → Aside (window_now U root v) N
   aside_marked None U a = tt
   aside_marked (Some w) U a = zero_stays _ _ (gets (w.index ∷ [])) a
 
@@ -132,7 +132,7 @@ module _ (L root : ℕ) (M N : PathMap) (gets : (q : List ℕ) → GetsMarks (en
   own_before pool f (inr (q, t)) = inr (q, led q f t)
 
   sound_marked : (v : Option Window) (U : Words) (serves : ℕ → Bool) (pool : List ℕ) → HasUsedAlone N
-      → IsSound L v root serves (record { paths = M; pool = pool }) → IsSound L (window_in U root v) root serves (record { paths = N; pool = pool })
+      → IsSound L v root serves (record { paths = M; pool = pool }) → IsSound L (window_now U root v) root serves (record { paths = N; pool = pool })
   sound_marked v U serves pool alone sound = record {
     hierarchy = hierarchy_marked alone sound.hierarchy;
     aside = aside_marked v U sound.aside;
@@ -157,17 +157,17 @@ becomes_seen L v w due pool q e f had (Reflagged same r d b h) = Reflagged same 
 becomes_seen L v w due pool q e f had (Removed z d h g names free) = Removed z d (had h) g names free
 
 module _ (v : Option Window) (U : Words) (root : ℕ) (due : List Due) where
-  loosens_still : (d : Due) (x : List ℕ) → loosens v d x ≡ true → loosens (window_in U root v) d x ≡ true
+  loosens_still : (d : Due) (x : List ℕ) → loosens v d x ≡ true → loosens (window_now U root v) d x ≡ true
   loosens_still (PageDue q frame) x l = l
   loosens_still TablesDue x l = l
   loosens_still WindowDue x l = same_begins v U root x ∙ l
   loosens_still (BelowDue q) x l = l
 
-  loose_still : (x : List ℕ) → LooseAt v due x → LooseAt (window_in U root v) due x
+  loose_still : (x : List ℕ) → LooseAt v due x → LooseAt (window_now U root v) due x
   loose_still x (d, i, l) = (d, i, loosens_still d x l)
 
   -- an item is safe still
-  safe_seen : (L : ℕ) (pool : List ℕ) (T : Words) (E : List ℕ → ℕ) (c : Cached) → items.Safe L root v due pool T E c → items.Safe L root (window_in U root v) due pool T E c
+  safe_seen : (L : ℕ) (pool : List ℕ) (T : Words) (E : List ℕ → ℕ) (c : Cached) → items.Safe L root v due pool T E c → items.Safe L root (window_now U root v) due pool T E c
   safe_seen L pool T E c (inl a) = inl a
   safe_seen L pool T E (Table t) (inr (inl x)) = inr (inl x)
   safe_seen L pool T E (Table t) (inr (inr x)) = inr (inr (loose_still t.path x.0, x.1))
@@ -189,7 +189,7 @@ module _ (m : Machine) (levels : 0 < m.levels) (root : ℕ) (serves : ℕ → Bo
   M = s.paths
 
   abbrev N : PathMap
-  N = held_by m root U
+  N = paths_held m root U
 
   -- the words outside the window
   abbrev T' : Words
@@ -252,7 +252,7 @@ module _ (m : Machine) (is : IsMachine m) (levels : 0 < m.levels) (root : ℕ) (
       let next = after_event (machine_in s.words root m) s e in
       let then = event_safe (machine_in s.words root m) (is_machine s.words) levels root serves s safe e may in
       subst (λ v. IsSafe (with_window v) root serves next)
-      (own_self (window_in s.words root m.window) next.words root then.valid.self ∙ again m.window s.words next.words root) then
+      (own_self (window_now s.words root m.window) next.words root then.valid.self ∙ again m.window s.words next.words root) then
   one_safe s safe (Marks called U) may = subst₂ (λ v (N : PathMap). IsSafe (with_window v) root serves
       (record { state = record { paths = called; pool = s.state.pool }; paths = N; words = U; cache = s.cache; due = s.due }))
       (again m.window s.words U root) (ap (λ V. paths_of m.levels V root) (same_outside m.window s.words U root))
@@ -268,7 +268,7 @@ module _ (m : Machine) (is : IsMachine m) (levels : 0 < m.levels) (root : ℕ) (
 
   module _ (s : System) (safe : IsSafeNow s) where
     goes_there : (p : ℕ) → ((due : Due) → In s.due due → concerns m.levels m.window due p ≡ false)
-        → (w : Way) → MayAccess m.levels root s.words s.cache p w → WalksThere (walk m.levels s.words root p) w
+        → (w : PartialWalk) → MayAccess m.levels root s.words s.cache p w → WalksThere (walk_with_rights m.levels s.words root p) w
     goes_there p settled w may = goes (machine_in s.words root m) (is_machine s.words) levels root serves s safe p
         (λ due i. same_concerns m.levels m.window s.words root due p ∙ settled due i) w may
 
@@ -291,13 +291,13 @@ module _ (m : Machine) (is : IsMachine m) (levels : 0 < m.levels) (root : ℕ) (
     }
 
   -- the systems that events lead to
-  reached_safe : (T : Words) (s : State) → FitsState m T root serves s → (events : List MarkingEvent) (now : System) → IsReached m root T s events now → IsSafeNow now
+  reached_safe : (T : Words) (s : State) → FitsState m T root serves s → (events : List MarkingEvent) (now : System) → IsReachedWithMarks m root T s events now → IsSafeNow now
   reached_safe T s fits events now reached = subst IsSafeNow reached.ends (all_safe events (fresh s T) (first_safe T s fits) reached.happen)
 
-  any_marks : (s : System) → IsSafeNow s → IsDone s → (U : Words) → OnlyMarks s.words U → MayMark s (held_by m root U) U
+  any_marks : (s : System) → IsSafeNow s → IsDone s → (U : Words) → OnlyMarks s.words U → MayMark s (paths_held m root U) U
   any_marks s safe done U only = subst (λ V. MayMark s (paths_of m.levels V root) U) (same_outside m.window s.words U root) (record {
     words = only;
-    paths = λ q. subst (λ (M : PathMap). GetsMarks (entry M q) (entry (held_by (machine_in s.words root m) root U) q)) done
+    paths = λ q. subst (λ (M : PathMap). GetsMarks (entry M q) (entry (paths_held (machine_in s.words root m) root U) q)) done
         (gets (machine_in s.words root m) levels root serves s safe U only q);
     used_alone = (valid_marked (machine_in s.words root m) levels root serves s safe U only).valid.holds.used_alone;
   })

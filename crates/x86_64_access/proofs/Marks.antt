@@ -7,7 +7,7 @@ use Rattle.x86_64_model.specs.Mappings.{Rights, maps_page, granted}
 use Rattle.x86_64_model.specs.Memory.{IsMapping, Memory, Places, Words, set_word, word, word_in, words_of}
 use Rattle.x86_64_model.specs.PageWalk.{Walked, arrives, page_start, page_walk, read, walk_on}
 use Rattle.x86_64_model.specs.Position.{index, span}
-use Rattle.x86_64_access.specs.Marks.{AreMarks, GetsMarks, OnlyMarks, WalksStay, AccessesStay, AccessesLeaveMarks}
+use Rattle.x86_64_access.specs.Marks.{AreMarks, GetsMarks, OnlyMarks, MarkedWalksStay, AccessesStay, AccessesLeaveMarks}
 use Rattle.x86_64_model.proofs.Lemmas.Caches.Walks.{read_or_zero}
 use Rattle.x86_64_model.proofs.Lemmas.Walks.Walked.{index_small, read_there}
 use Rattle.std.proofs.lemmas.Nat.{and_or_apart}
@@ -17,7 +17,7 @@ use Rattle.std.specs.FinMap.{get, insert}
 use Rattle.x86_64_model.proofs.Lemmas.Hierarchies.Held.{is_some-set, word-set_frame, word-set_index, word-set_same}
 use Rattle.x86_64_model.proofs.Lemmas.Hierarchies.Memories.{covered, words_of-insert}
 use Rattle.x86_64_model.proofs.Lemmas.Hierarchies.Unset.{is_some-unset}
-use Rattle.x86_64_model.specs.Access.{Access, Arrives, Controls, Faults, Outcome, allowed, code, low_bits, reserved, set_bits, Kind, NoMemory, access, bits_to_set, is_write, marked as marks_left, memory_after, steps_from}
+use Rattle.x86_64_model.specs.Access.{Access, Arrives, Controls, Faults, Outcome, access_allowed, code, low_bits, reserved, set_bits, Kind, NoMemory, access, bits_to_set, is_write, marked as marks_left, memory_after, steps_from}
 use Rattle.x86_64_access.specs.private.Walking.{access_on, ArrivesFrom}
 use Rattle.x86_64_access.proofs.Walked.{and_left, and_right, arrives_below, is_arrival, none_arrives, sound_arrives, steps_page, steps_table, on_fault, on_none, on_page, on_root, on_table as to_table, on_zero}
 
@@ -74,7 +74,7 @@ module _ (T U : Words) (p : ℕ) (marked : OnlyMarks T U) where
       ) refl
       ∙ sym (read_or_zero (on T) T f i (index_small level p) refl)
 
-pub walks_stay : WalksStay
+pub walks_stay : MarkedWalksStay
 unfolding page_walk
 walks_stay L T U root p marked = walk_same T U p marked L true true root
 
@@ -110,7 +110,7 @@ same_granted r e g gets = rw (same_has e g 0x2 gets refl, same_has e g 0x4 gets 
 module _ (c : Controls) (T U : Words) (p : ℕ) (a : Access) (marked : OnlyMarks T U) where
   -- where an access arrives in a page, or faults for want of rights
   abbrev in_page : (level e : ℕ) → Rights → Outcome
-  in_page level e r = cond (not (allowed c a r)) (Faults (code c a true false) level) (Arrives (page_start level e + p % span level))
+  in_page level e r = cond (not (access_allowed c a r)) (Faults (code c a true false) level) (Arrives (page_start level e + p % span level))
 
   at_entry : (n f : ℕ) (r : Rights) (e g : ℕ) → Some e ≡ read T f (index (suc n) p) → Some g ≡ read U f (index (suc n) p) → GetsMarks e g
       → ((f : ℕ) (s : Rights) → access_on c U p a n f s ≡ access_on c T p a n f s)
@@ -137,7 +137,7 @@ module _ (c : Controls) (T U : Words) (p : ℕ) (a : Access) (marked : OnlyMarks
       by_page there sound true page =
           sym (on_page c U p a (suc n) f r g low is' (here ∙ there) (odd ∙ sound) (same_page (suc n) e g gets ∙ page))
           ∙ (ap (in_page (suc n) g) (same_granted r e g gets)
-          ∙ ap (λ x. cond (not (allowed c a (granted r e))) (Faults (code c a true false) (suc n)) (Arrives (x / span (suc n) * span (suc n) + p % span (suc n))))
+          ∙ ap (λ x. cond (not (access_allowed c a (granted r e))) (Faults (code c a true false) (suc n)) (Arrives (x / span (suc n) * span (suc n) + p % span (suc n))))
           (same_address e g gets))
           ∙ on_page c T p a (suc n) f r e low is there sound page
       by_page there sound false table =

@@ -1,7 +1,7 @@
 -- The tables of rights and error codes are those of the definitions.
 use Rattle.std.proofs.Common.{◌≡◌, ℕ, ◌&&◌, ◌==◌, Bool, true, false, not, cond, refl, sym, eqb-true}
 use Rattle.std.proofs.lemmas.Bool.{and_parts}
-use Rattle.x86_64_model.specs.Access.{Access, Controls, Fetch, Kind, Read, Write, allowed, code}
+use Rattle.x86_64_model.specs.Access.{Access, Controls, Fetch, Kind, Read, Write, access_allowed, code}
 use Rattle.x86_64_model.specs.Mappings.{Rights}
 use Rattle.x86_64_access.specs.RightsTable.{CodesAreListed, RightsAreListed, in_codes_table, in_rights_table}
 
@@ -33,7 +33,7 @@ module _ (bits : ℕ) where
   abbrev row_right : Kind → Bool → (wp nx smep smap ac w u x : Bool) → Bool
   row_right kind user wp nx smep smap ac w u x =
       let c = controls wp nx smep smap ac in let a : Access = record { kind = kind; user = user } in let r : Rights = record { write = w; user = u; execute = x } in
-      same (allowed c a r) (in_rights_table c a r)
+      same (access_allowed c a r) (in_rights_table c a r)
 
   abbrev all_right : Kind → Bool → Bool
   all_right kind user = both (λ wp. both (λ nx. both (λ smep. both (λ smap. both (λ ac. both (λ w. both (λ u. both (λ x. row_right kind user wp nx smep smap ac w u x))))))))

@@ -3,7 +3,7 @@ use Rattle.std.proofs.Common.{zero, suc, inl, inr, ⊎_elim, ◌≡◌, ◌≢�
 use Rattle.std.proofs.lemmas.Bool.{cases_eq}
 use Rattle.x86_64_model.specs.Entry.{LeadAlike}
 use Rattle.x86_64_model.specs.Hierarchy.{paths_of, read_at}
-use Rattle.x86_64_model.specs.Laws.SwitchedSpaces.{space_in, between, AllShare, MaySwitchIn}
+use Rattle.x86_64_model.specs.Laws.SwitchedSpaces.{space_for, between, AllShare, MaySwitchIn}
 use Rattle.x86_64_model.specs.Layout.{Layout}
 use Rattle.x86_64_model.specs.Lists.{In}
 use Rattle.x86_64_model.specs.Mapper.{◌laid_in◌, PoolFits, paths}
@@ -20,7 +20,7 @@ use Rattle.x86_64_model.proofs.Lemmas.Hierarchies.Held.{word-set_index}
 use Rattle.x86_64_model.proofs.Lemmas.Hierarchies.Unset.{word_unset}
 use Rattle.x86_64_model.proofs.Lemmas.Lists.Members.{from_map}
 use Rattle.x86_64_model.proofs.Lemmas.Switches.Layouts.{like, is_like, fits_like, held_in}
-use Rattle.x86_64_access.specs.Marks.{GetsMarks, OnlyMarks, window_in}
+use Rattle.x86_64_access.specs.Marks.{GetsMarks, OnlyMarks, window_now}
 use Rattle.x86_64_access.specs.SwitchingMarks.{MarksMaySwitch, RootsStay}
 use Rattle.x86_64_access.proofs.MarkedHierarchies.{entries_marked, fits_stay, outside_marked}
 use Rattle.x86_64_access.proofs.MarkingProcessors.{alike, led, own_before, own_self, same_outside, seen_marked, zero_stays}
@@ -41,7 +41,7 @@ outside_stays (Some w) T U root i same = ⊎_elim
     (cases_eq i w.index)
 
 -- the self-entry gets no mark
-same_window : (v : Option Window) (T U : Words) (root : ℕ) → SelfEntry T root v → ((i : ℕ) → begins_with v (i ∷ []) ≡ true → word U root i ≡ word T root i) → window_in U root v ≡ v
+same_window : (v : Option Window) (T U : Words) (root : ℕ) → SelfEntry T root v → ((i : ℕ) → begins_with v (i ∷ []) ≡ true → word U root i ≡ word T root i) → window_now U root v ≡ v
 same_window None T U root self stays = refl
 same_window (Some w) T U root self stays = ap (λ x. Some (record { index = w.index; self_entry = x })) (stays w.index (eq-eqb w.index w.index refl)) ∙ sym (own_self (Some w) T root self)
 
@@ -61,7 +61,7 @@ module _ (L : ℕ) (levels : 0 < L) (v : Option Window) (T U : Words) (root : �
       ∙ outside_stays v T U root i same
       ∙ sym (entry_paths_of L (outside_window v root T) root (i ∷ []) ∙ read_root L levels (outside_window v root T) root i)
 
-  module _ (same : window_in U root v ≡ v) (serves : ℕ → Bool) (pool : List ℕ) (fits : Fits L v T root M serves pool) where
+  module _ (same : window_now U root v ≡ v) (serves : ℕ → Bool) (pool : List ℕ) (fits : Fits L v T root M serves pool) where
     fits_marked : Fits L v U root N serves pool
     fits_marked = subst (λ w. Fits L w U root (paths_of L (outside_window w root U) root) serves pool) same (fits_stay L levels v T U root serves pool only fits).0
 
@@ -70,9 +70,9 @@ module _ (L : ℕ) (levels : 0 < L) (v : Option Window) (T U : Words) (root : �
 
 -- ---- all spaces
 
-with_marks_in : (k : Kernel) (T U : Words) (layouts : List Layout) → map (with_marks k (held_by k U) U) (map (space_in k T) layouts) ≡ map (space_in k U) layouts
+with_marks_in : (k : Kernel) (T U : Words) (layouts : List Layout) → map (with_marks k (held_by k U) U) (map (space_for k T) layouts) ≡ map (space_for k U) layouts
 with_marks_in k T U [] = refl
-with_marks_in k T U (l ∷ layouts) = ap (λ more. space_in k U l ∷ more) (with_marks_in k T U layouts)
+with_marks_in k T U (l ∷ layouts) = ap (λ more. space_for k U l ∷ more) (with_marks_in k T U layouts)
 
 module _ (k : Kernel) (places : Places) (mapping : IsMapping places) (levels : 0 < k.levels) (sharing : (root other : ℕ) → ℕ → Bool) (is : IsSharing sharing) (all : AllShare k sharing)
     (m n : Memory) (pool : List ℕ) (layouts : List Layout) (are : ArePaired sharing m k.serves pool layouts) (may : MaySwitchIn k places (words_of m places) layouts)
@@ -93,7 +93,7 @@ module _ (k : Kernel) (places : Places) (mapping : IsMapping places) (levels : 0
     fits_before : PoolFits (there laid_in m) k.serves pool
     fits_before = fits_like k places mapping levels sharing all m pool layouts are may l il
 
-    stays : window_in U l.root l.window ≡ l.window
+    stays : window_now U l.root l.window ≡ l.window
     stays = same_window l.window T U l.root fits_before.valid.self (λ i at. roots l il i (inl at))
 
     fits_after : PoolFits (l laid_in n) k.serves pool
@@ -106,7 +106,7 @@ module _ (k : Kernel) (places : Places) (mapping : IsMapping places) (levels : 0
     root_entry i same = subst (λ (l : Layout). entry (paths (l laid_in n)) (i ∷ []) ≡ entry (paths (l laid_in m)) (i ∷ [])) (sym is_there)
         (root_stays k.levels levels l.window T U l.root only i same)
 
-    seen_after : (q : List ℕ) → GetsMarks (entry_at l.window (space_in k T l).paths q) (entry_at l.window (space_in k U l).paths q)
+    seen_after : (q : List ℕ) → GetsMarks (entry_at l.window (space_for k T l).paths q) (entry_at l.window (space_for k U l).paths q)
     seen_after q = seen k.levels levels l.window T U l.root only stays k.serves pool fits_before q
 
   shares : (a b : Layout) → In layouts a → In layouts b → a.root ≢ b.root → Shares (sharing a.root b.root) a n pool b
@@ -140,11 +140,11 @@ module _ (k : Kernel) (places : Places) (mapping : IsMapping places) (levels : 0
     now = between k T pool layouts s
 
     leads : (a : Space) → In now.spaces a → (q : List ℕ) → LeadAlike (entry a.paths q) (entry (held_by k U a) q)
-    leads a ia q = let o = from_map (space_in k T) layouts a ia in
+    leads a ia q = let o = from_map (space_for k T) layouts a ia in
         subst (λ (a : Space). LeadAlike (entry a.paths q) (entry (held_by k U a) q)) o.2 (alike _ _ (gets k.levels levels o.0.window T U o.0.root only q))
 
     leads_then : (a : Space) → In now.spaces a → (q : List ℕ) → LeadAlike (entry a.next q) (entry (held_by k U a) q)
-    leads_then a ia q = let o = from_map (space_in k T) layouts a ia in
+    leads_then a ia q = let o = from_map (space_for k T) layouts a ia in
         subst (λ (a : Space). LeadAlike (entry a.next q) (entry (held_by k U a) q)) o.2 (alike _ _ (gets k.levels levels o.0.window T U o.0.root only q))
 
     may_mark : MayMarkAll k now (held_by k U) U

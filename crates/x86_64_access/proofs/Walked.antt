@@ -7,7 +7,7 @@ use Rattle.x86_64_model.specs.Memory.{Memory, Places, Words}
 use Rattle.x86_64_model.specs.PageWalk.{read, page_start}
 use Rattle.x86_64_model.specs.Position.{index, span}
 use Rattle.x86_64_model.proofs.Lemmas.Entries.Words.{address_within}
-use Rattle.x86_64_model.specs.Access.{Access, Kind, Controls, set_bits, bits_to_set, marked, Outcome, NoMemory, Step, steps_from, ends_at, ends_by, reads_on, reserved, low_bits, allowed, code, Arrives, Faults, access}
+use Rattle.x86_64_model.specs.Access.{Access, Kind, Controls, set_bits, bits_to_set, marked, Outcome, NoMemory, Step, steps_from, ends_at, ends_by, reads_on, reserved, low_bits, access_allowed, code, Arrives, Faults, access}
 use Rattle.x86_64_access.proofs.Deciding.{both_left, both_right}
 use Rattle.x86_64_access.specs.private.Walking.{access_on, may_read_on, ArrivesFrom}
 use Rattle.x86_64_tables.specs.Rights.{both}
@@ -129,7 +129,7 @@ module _ (c : Controls) (T : Words) (p : ℕ) (a : Access) (level frame : ℕ) (
     where
       faults : (here odd : Bool) → (here && not odd) ≡ false → Faults (code c a here here) level
           ≡ cond (not here) (Faults (code c a false false) level) (cond odd (Faults (code c a true true) level)
-          (cond (not (maps_page level e)) (NoMemory (address e)) (cond (not (allowed c a (granted r e))) (Faults (code c a true false) level)
+          (cond (not (maps_page level e)) (NoMemory (address e)) (cond (not (access_allowed c a (granted r e))) (Faults (code c a true false) level)
           (Arrives (page_start level e + p % span level)))))
       faults false odd h = refl
       faults true true h = refl
@@ -137,14 +137,14 @@ module _ (c : Controls) (T : Words) (p : ℕ) (a : Access) (level frame : ℕ) (
 
   -- the word maps a page
   pub on_page : present e ≡ true → reserved c level e ≡ false → maps_page level e ≡ true
-      → cond (not (allowed c a (granted r e))) (Faults (code c a true false) level) (Arrives (page_start level e + p % span level)) ≡ access_on c T p a level frame r
+      → cond (not (access_allowed c a (granted r e))) (Faults (code c a true false) level) (Arrives (page_start level e + p % span level)) ≡ access_on c T p a level frame r
   on_page here sound page = arrives ∙ on_end (rw (here, sound, page) refl)
     where
-      arrives : cond (not (allowed c a (granted r e))) (Faults (code c a true false) level) (Arrives (page_start level e + p % span level)) ≡ ends_at c a p (granted r e) step
+      arrives : cond (not (access_allowed c a (granted r e))) (Faults (code c a true false) level) (Arrives (page_start level e + p % span level)) ≡ ends_at c a p (granted r e) step
       arrives = rw (here, sound, page) refl
 
   -- the word maps a page whose rights suffice
-  pub on_arrival : present e ≡ true → reserved c level e ≡ false → maps_page level e ≡ true → allowed c a (granted r e) ≡ true
+  pub on_arrival : present e ≡ true → reserved c level e ≡ false → maps_page level e ≡ true → access_allowed c a (granted r e) ≡ true
       → Arrives (page_start level e + p % span level) ≡ access_on c T p a level frame r
   on_arrival here sound page may =
       sym (ap (λ b. cond (not b) (Faults (code c a true false) level) (Arrives (page_start level e + p % span level))) may) ∙ on_page here sound page

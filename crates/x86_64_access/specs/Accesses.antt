@@ -9,14 +9,14 @@ use Rattle.x86_64_access.specs.declared.request.Fault.TheVariants.{PageFault, No
 use Rattle.x86_64_access.specs.declared.controls.Controls.{Controls}
 
 -- The kind of an access in the model that a kind in Rust stands for.
-abbrev pub kind_of : AccessKind → model.Kind
-kind_of Read = model.Read
-kind_of Write = model.Write
-kind_of Fetch = model.Fetch
+abbrev pub access_kind : AccessKind → model.Kind
+access_kind Read = model.Read
+access_kind Write = model.Write
+access_kind Fetch = model.Fetch
 
 -- The access in the model that an access in Rust stands for.
 abbrev pub access_of : Access → model.Access
-access_of a = record { kind = kind_of a.kind; user = a.user }
+access_of a = record { kind = access_kind a.kind; user = a.user }
 
 -- The controls of a processor in the model that the controls in Rust stand for.
 abbrev pub controls_of : Controls → model.Controls

@@ -1,7 +1,7 @@
 -- Worked cases of accesses that readers of the manual ask about.
 -- Intel SDM vol. 3A, "Access Rights", "Page-Fault Exceptions".
 use Rattle.std.specs.Prelude.{◌≡◌, ℕ, ◌≤◌, Bool, true, false, not, Some}
-use Rattle.x86_64_model.specs.Access.{Access, Controls, Faults, Fetch, Read, Write, access, allowed, code, reserved}
+use Rattle.x86_64_model.specs.Access.{Access, Controls, Faults, Fetch, Read, Write, access, access_allowed, code, reserved}
 use Rattle.x86_64_model.specs.Entry.{no_execute, present}
 use Rattle.x86_64_model.specs.Mappings.{Rights}
 use Rattle.x86_64_model.specs.Memory.{Words}
@@ -42,14 +42,14 @@ rights w u x = record { write = w; user = u; execute = x }
 -- A supervisor writes to its own pages that lack WRITABLE if and only if CR0.WP is off.
 abbrev pub SupervisorsWrite : Type 0
 SupervisorsWrite = (c : Controls) (execute : Bool)
-    → allowed c (record { kind = Write; user = false }) (rights false false execute) ≡ not c.write_protect
+    → access_allowed c (record { kind = Write; user = false }) (rights false false execute) ≡ not c.write_protect
 
 -- With SMAP a supervisor reads a user's pages if and only if EFLAGS.AC is on.
 abbrev pub SmapKeepsOut : Type 0
 SmapKeepsOut = (c : Controls) (write execute : Bool) → c.smap ≡ true
-    → allowed c (record { kind = Read; user = false }) (rights write true execute) ≡ c.ac
+    → access_allowed c (record { kind = Read; user = false }) (rights write true execute) ≡ c.ac
 
 -- A supervisor fetches from a user's page that may be executed if and only if SMEP is off.
 abbrev pub SmepKeepsOut : Type 0
 SmepKeepsOut = (c : Controls) (write : Bool)
-    → allowed c (record { kind = Fetch; user = false }) (rights write true true) ≡ not c.smep
+    → access_allowed c (record { kind = Fetch; user = false }) (rights write true true) ≡ not c.smep

@@ -24,8 +24,8 @@ pub record OnlyMarks (before after : Words) : Type 0 where
   pub words : (frame i : ℕ) → GetsMarks (word before frame i) (word after frame i)
 
 -- Marks (ACCESSED and DIRTY of present words) change no page walk.
-abbrev pub WalksStay : Type 0
-WalksStay = (L : ℕ) (before after : Words) (root p : ℕ) → OnlyMarks before after → page_walk L after root p ≡ page_walk L before root p
+abbrev pub MarkedWalksStay : Type 0
+MarkedWalksStay = (L : ℕ) (before after : Words) (root p : ℕ) → OnlyMarks before after → page_walk L after root p ≡ page_walk L before root p
 
 -- Marks (ACCESSED and DIRTY of present words) change the outcome of no access.
 abbrev pub AccessesStay : Type 0
@@ -39,15 +39,15 @@ AccessesLeaveMarks = (L : ℕ) (c : Controls) (m : Memory) (places : Places) (ro
     OnlyMarks words (words_of (memory_after places a.kind (steps_from c words p L root) (access L c words root p a) m) places)
 
 -- The recursive window, if there is one, with the word that the root has at its index as the self-entry.
-abbrev pub window_in : Words → (root : ℕ) → Option Window → Option Window
-window_in T root None = None
-window_in T root (Some w) = Some (record { index = w.index; self_entry = word T root w.index })
+abbrev pub window_now : Words → (root : ℕ) → Option Window → Option Window
+window_now T root None = None
+window_now T root (Some w) = Some (record { index = w.index; self_entry = word T root w.index })
 
 -- Marks (ACCESSED and DIRTY of present words) keep a hierarchy valid and each pool that fits it, and change its entries by marks
 -- alone.
 abbrev pub FitsStay : Type 0
 FitsStay = (L : ℕ) → 0 < L → (window : Option Window) (before after : Words) (root : ℕ) (serves : ℕ → Bool) (pool : List ℕ) → OnlyMarks before after
-    → let now = window_in after root window in
+    → let now = window_now after root window in
     Fits L window before root (paths_of L (outside_window window root before) root) serves pool
     → Fits L now after root (paths_of L (outside_window now root after) root) serves pool
     × ((q : List ℕ) → GetsMarks (entry (paths_of L (outside_window window root before) root) q) (entry (paths_of L (outside_window now root after) root) q))

@@ -1,7 +1,7 @@
 -- Which accesses are allowed, and the error codes of those that fault, as tables of all cases. They are read beside the manual's rules.
 -- Intel SDM vol. 3A, "Determination of Access Rights", "Page-Fault Exceptions".
 use Rattle.std.specs.Prelude.{◌≡◌, ℕ, ◌+◌, ◌*◌, ◌-◌, ◌^◌, ◌/◌, ◌%◌, ◌==◌, Bool, true, false}
-use Rattle.x86_64_model.specs.Access.{Access, Controls, Fetch, Kind, Read, Write, allowed, bit, code}
+use Rattle.x86_64_model.specs.Access.{Access, Controls, Fetch, Kind, Read, Write, access_allowed, bit_of, code}
 use Rattle.x86_64_model.specs.Mappings.{Rights}
 
 -- ---- rights
@@ -19,8 +19,8 @@ rights_row Fetch true = 0x33_33_33_33_33_33_33_33_11_11_11_11_11_11_11_11_33_33_
 
 -- The column of the rights table for these controls and rights: the number of the bit in a row, counted from 0 and from the left.
 abbrev pub rights_column : Controls → Rights → ℕ
-rights_column c r = 8 * (16 * bit c.write_protect + 8 * bit c.no_execute + 4 * bit c.smep + 2 * bit c.smap + bit c.ac)
-    + (4 * bit r.write + 2 * bit r.user + bit r.execute)
+rights_column c r = 8 * (16 * bit_of c.write_protect + 8 * bit_of c.no_execute + 4 * bit_of c.smep + 2 * bit_of c.smap + bit_of c.ac)
+    + (4 * bit_of r.write + 2 * bit_of r.user + bit_of r.execute)
 
 -- Whether the rights table allows an access with these controls and these rights, which are those that all words on the way grant.
 abbrev pub in_rights_table : Controls → Access → Rights → Bool
@@ -28,7 +28,7 @@ in_rights_table c a r = rights_row a.kind a.user / 2 ^ (255 - rights_column c r)
 
 -- An access is allowed if and only if the rights table allows it, for all controls and all rights that the words on the way grant.
 abbrev pub RightsAreListed : Type 0
-RightsAreListed = (c : Controls) (a : Access) (r : Rights) → allowed c a r ≡ in_rights_table c a r
+RightsAreListed = (c : Controls) (a : Access) (r : Rights) → access_allowed c a r ≡ in_rights_table c a r
 
 -- ---- error codes
 
@@ -46,7 +46,7 @@ codes_row Fetch true = 0x04_0c_05_0d_14_1c_15_1d_14_1c_15_1d_14_1c_15_1d
 -- The column of the table of error codes for these controls and a last word that may be present and have a reserved bit: the number
 -- of the byte in a row, counted from 0 and from the left.
 abbrev pub codes_column : Controls → (present reserved : Bool) → ℕ
-codes_column c here bad = 8 * bit c.no_execute + 4 * bit c.smep + 2 * bit here + bit bad
+codes_column c here bad = 8 * bit_of c.no_execute + 4 * bit_of c.smep + 2 * bit_of here + bit_of bad
 
 -- The error code that the table of error codes has for an access with these controls, by whether the last word is present and has a
 -- reserved bit.

@@ -1,7 +1,7 @@
 //! What a processor is set to.
 ghost use Rattle.std.specs.Prelude.{◌≡◌, ◌≤◌};
 ghost use Rattle.x86_64_model.specs.Access as model;
-ghost use Rattle.x86_64_access.specs.Accesses.{access_of, controls_of, kind_of};
+ghost use Rattle.x86_64_access.specs.Accesses.{access_of, controls_of, access_kind};
 
 use crate::code::PageFaultCode;
 use crate::request::{Access, AccessKind};
@@ -49,7 +49,7 @@ impl Controls {
     ///
     /// Intel SDM vol. 3A, "Access Rights".
     pub fn allows(&self, access: Access, rights: Rights) -> bool
-        ensures { result ≡ model.allowed (controls_of self.now) (access_of access) rights }
+        ensures { result ≡ model.access_allowed (controls_of self.now) (access_of access) rights }
     {
         let kind_allowed = match access.kind {
             AccessKind::Read => true,
@@ -66,7 +66,7 @@ impl Controls {
 
     /// Returns true if a supervisor is kept from users' pages for this kind of access.
     pub(crate) fn keeps_out(&self, kind: AccessKind) -> bool
-        ensures { result ≡ model.kept_out (controls_of self.now) (kind_of kind) }
+        ensures { result ≡ model.kept_out (controls_of self.now) (access_kind kind) }
     {
         match kind {
             AccessKind::Fetch => self.smep,

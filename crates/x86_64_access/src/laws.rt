@@ -1,7 +1,7 @@
 //! Laws of accesses: how they agree with page walks.
 ghost use Rattle.x86_64_access.specs.Corners.{MissingEntriesFault, NoExecuteIsReserved, ReservedBitsFault, SmapKeepsOut, SmepKeepsOut, SupervisorsWrite};
 ghost use Rattle.x86_64_access.specs.MarkingProcessors.{FlushesAreEnoughWithMarks, MarksMayHappen};
-ghost use Rattle.x86_64_access.specs.Marks.{AccessesLeaveMarks, AccessesStay, CachesStay, FitsStay, WalksStay};
+ghost use Rattle.x86_64_access.specs.Marks.{AccessesLeaveMarks, AccessesStay, CachesStay, FitsStay, MarkedWalksStay};
 ghost use Rattle.x86_64_access.specs.RightsTable.{CodesAreListed, RightsAreListed};
 ghost use Rattle.x86_64_access.specs.SwitchingMarks.{MarksMaySwitch};
 ghost use Rattle.x86_64_access.specs.Laws.{ArriveWhereWalksDo, WalksAllowedArrive};
@@ -21,7 +21,7 @@ pub fn allowed_walks_arrive()
 /// Marks (`ACCESSED` and `DIRTY` of present words) change no page walk.
 #[tactic(auto, using(crate::proofs::Marks::walks_stay))]
 pub fn marks_keep_walks()
-    ensures { WalksStay }
+    ensures { MarkedWalksStay }
 {}
 
 /// Marks (`ACCESSED` and `DIRTY` of present words) change the outcome of no access.

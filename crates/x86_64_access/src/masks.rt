@@ -1,6 +1,6 @@
 //! Masks, which say of an access what goes through by one comparison of an entry's bits.
 ghost use Rattle.std.specs.Prelude.{◌≡◌, ◌≤◌, ◌==◌, ◌&&◌, ◌||◌, not, ℕ, bit_and};
-ghost use Rattle.x86_64_model.specs.Access.{allowed, kept_out, low_bits, reserved};
+ghost use Rattle.x86_64_model.specs.Access.{access_allowed, kept_out, low_bits, reserved};
 ghost use Rattle.x86_64_model.specs.Mappings.{maps_page};
 ghost use Rattle.x86_64_model.specs.Entry.{present};
 ghost use Rattle.x86_64_access.specs.Accesses.{access_of, controls_of};
@@ -37,7 +37,7 @@ impl Masks {
         ensures page { (e : ℕ) → (bit_and e result.page == 1)
             ≡ (present e && not (reserved (controls_of controls.now) 1 e)) }
         ensures rights { (b : ℕ) → (bit_and b result.asked == result.needed)
-            ≡ allowed (controls_of controls.now) (access_of access) (rights_by b) }
+            ≡ access_allowed (controls_of controls.now) (access_of access) (rights_by b) }
     {
         let reserved = high_bits(controls) | off_bits(controls);
         let kind = kind_bits(access, controls);

@@ -4,7 +4,7 @@ ghost use Rattle.x86_64_model.specs.Access as model;
 ghost use Rattle.x86_64_model.specs.Memory.{words_of};
 ghost use Rattle.x86_64_model.specs.PageWalk.{page_start};
 ghost use Rattle.x86_64_model.specs.Position.{span};
-ghost use Rattle.x86_64_access.specs.Accesses.{access_of, controls_of, kind_of, outcome_of};
+ghost use Rattle.x86_64_access.specs.Accesses.{access_of, controls_of, access_kind, outcome_of};
 
 use crate::controls::Controls;
 use crate::entry_bits::{ACCESSED, DIRTY, PRESENT};
@@ -75,7 +75,7 @@ pub fn access_and_mark<T: TableMemory, P: PageTableFrameMapping, L: LevelCount>(
     ensures outcome { outcome_of result ≡ model.access L.LEVELS (controls_of controls.now)
         (words_of (T.tables memory.old) (P.places mapping.now)) root addr (access_of access) }
     ensures marks { let words = words_of (T.tables memory.old) (P.places mapping.now) in
-        T.tables memory.new ≡ model.memory_after (P.places mapping.now) (kind_of access.kind)
+        T.tables memory.new ≡ model.memory_after (P.places mapping.now) (access_kind access.kind)
         (model.steps_from (controls_of controls.now) words addr L.LEVELS root) (outcome_of result)
         (T.tables memory.old) }
     ensures lent { T.lent memory.new ≡ T.lent memory.old }
@@ -153,7 +153,7 @@ impl Request {
         requires arrives { ArrivesFrom (controls_of self.controls)
             (words_of (T.tables memory.old) (P.places mapping.now))
             position (access_of self.access) level frame }
-        ensures marks { T.tables memory.new ≡ marked (P.places mapping.now) (kind_of self.access.kind)
+        ensures marks { T.tables memory.new ≡ marked (P.places mapping.now) (access_kind self.access.kind)
             (steps_from (controls_of self.controls) (words_of (T.tables memory.old) (P.places mapping.now))
             position level frame) (T.tables memory.old) }
         ensures lent { T.lent memory.new ≡ T.lent memory.old }
@@ -173,7 +173,7 @@ impl Request {
 
     /// Returns the bits that the processor sets in an entry of a level: `ACCESSED`, and `DIRTY` in that of a page for a write.
     fn bits_to_set(self, level: u64, entry: &PageTableEntry) -> u64
-        ensures { result ≡ model.bits_to_set (kind_of self.access.kind) level entry.now }
+        ensures { result ≡ model.bits_to_set (access_kind self.access.kind) level entry.now }
     {
         if self.access.kind == AccessKind::Write && entry.maps_page(level) {
             ACCESSED | DIRTY

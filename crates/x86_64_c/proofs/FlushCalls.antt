@@ -12,7 +12,7 @@ use Rattle.x86_64_model.specs.Path.{front_at, is_small}
 use Rattle.x86_64_model.specs.Refusal.{Answer, Done, Refused, PageNotMapped, ParentEntryHugePage, InvalidFrameAddress, PageAlreadyMapped, FrameAllocationFailed}
 use Rattle.x86_64_model.specs.Window.{entry_at}
 use Rattle.x86_64_model.proofs.Lemmas.Machines.Effects.{step_cases}
-use Rattle.x86_64.specs.FlushesDue.{rank, told}
+use Rattle.x86_64.specs.FlushesDue.{rank, flush_for}
 use Rattle.x86_64_c.specs.Calls.{answer_status}
 use Rattle.x86_64_c.specs.Flushes.{IsAsked, TellsFlush, TellsFlushes, after_map, flush_by, flush_number, is_made, status_of}
 
@@ -30,14 +30,14 @@ of_map more (Refused (InvalidFrameAddress a)) = refl
 of_map more (Refused (PageAlreadyMapped frame)) = refl
 of_map more (Refused FrameAllocationFailed) = refl
 
-map_due : (b : Bool) (q : List ℕ) → cond b 3 0 ≡ rank (told (cond b (BelowDue q ∷ []) []))
+map_due : (b : Bool) (q : List ℕ) → cond b 3 0 ≡ rank (flush_for (cond b (BelowDue q ∷ []) []))
 map_due true q = refl
 map_due false q = refl
 
 mapped : (L more frame given : ℕ) (q : List ℕ) (answer : Answer) → Agrees 0 more L (MapToWithTableFlags q frame given more) (Answered answer)
 mapped L more frame given q answer = of_map more answer ∙ map_due (no_execute more) _
 
-page_due : (b : Bool) (q : List ℕ) (frame : ℕ) → 2 ≡ rank (told (PageDue q frame ∷ cond b [] []))
+page_due : (b : Bool) (q : List ℕ) (frame : ℕ) → 2 ≡ rank (flush_for (PageDue q frame ∷ cond b [] []))
 page_due true q frame = refl
 page_due false q frame = refl
 
@@ -65,7 +65,7 @@ set L more level given q (Refused (InvalidFrameAddress a)) = refl
 set L more level given q (Refused (PageAlreadyMapped frame)) = refl
 set L more level given q (Refused FrameAllocationFailed) = refl
 
-page_most : (b : Bool) (q : List ℕ) (r : Reply) → rank (told (if_accepted r (λ frame. PageDue q frame ∷ cond b [] []))) ≤ 2
+page_most : (b : Bool) (q : List ℕ) (r : Reply) → rank (flush_for (if_accepted r (λ frame. PageDue q frame ∷ cond b [] []))) ≤ 2
 page_most b q NotAllowed = omega arith
 page_most true q (Answered (Done frame)) = omega arith
 page_most false q (Answered (Done frame)) = omega arith
@@ -140,7 +140,7 @@ due_most L (MapToWithTableFlags q frame given flags) reply kind more asked =
     subst (λ k. flush_number L (MapToWithTableFlags q frame given flags) reply ≤ most k more) (some_is 0 kind asked.kind_is)
     (subst (λ f. flush_number L (MapToWithTableFlags q frame given flags) reply ≤ after_map f) asked.flags_are (by (no_execute flags) (take 1 q) reply))
   where
-    by : (b : Bool) (path : List ℕ) (r : Reply) → rank (told (if_allowed r (cond b (BelowDue path ∷ []) []))) ≤ cond b 3 0
+    by : (b : Bool) (path : List ℕ) (r : Reply) → rank (flush_for (if_allowed r (cond b (BelowDue path ∷ []) []))) ≤ cond b 3 0
     by true path NotAllowed = omega arith
     by true path (Answered a) = omega arith
     by true path (Position t) = omega arith
@@ -156,7 +156,7 @@ due_most L (Unmap q) reply kind more asked = subst (λ k. flush_number L (Unmap 
 due_most L (UpdateFlags q given) reply kind more asked = subst (λ k. flush_number L (UpdateFlags q given) reply ≤ most k more) (some_is 2 kind asked.kind_is) (page_most (is_small L q) q reply)
 due_most L (SetFlags level q given) reply kind more asked = subst (λ k. flush_number L (SetFlags level q given) reply ≤ most k more) (some_is 3 kind asked.kind_is) (by (front_at L level q) reply)
   where
-    by : (path : List ℕ) (r : Reply) → rank (told (if_accepted r (λ frame. BelowDue path ∷ []))) ≤ 3
+    by : (path : List ℕ) (r : Reply) → rank (flush_for (if_accepted r (λ frame. BelowDue path ∷ []))) ≤ 3
     by path NotAllowed = omega arith
     by path (Answered (Done frame)) = omega arith
     by path (Answered (Refused why)) = omega arith

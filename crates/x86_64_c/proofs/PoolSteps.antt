@@ -11,7 +11,7 @@ use Rattle.x86_64_model.specs.Memory.{IsMapping, Memory}
 use Rattle.x86_64_model.specs.PageCalls.{page_call}
 use Rattle.x86_64_model.specs.Pool.{TakesBack}
 use Rattle.x86_64_model.specs.Refusal.{Answer}
-use Rattle.x86_64_model.specs.Store.{Store, Fits}
+use Rattle.x86_64_model.specs.Store.{Store, StoreFits}
 use Rattle.x86_64_page.specs.declared.page.Size4KiB.{Size4KiB as Small}
 use Rattle.x86_64_page.specs.declared.page.Size2MiB.{Size2MiB as Large}
 use Rattle.x86_64_page.specs.declared.page.Size1GiB.{Size1GiB as Giant}
@@ -112,7 +112,7 @@ module _ (l : Layout) (store : Store) (m : Memory) (page frame given more : ℕ)
 
   -- a map that isn't allowed
   refused_on : (level : ℕ) (on : MapperCall) → machine_call l.levels on ≡ call level → reply_of on machine.NotAllowed ≡ Some reply.NotAllowed → back_by the_machine before (machine_call l.levels on) ≡ []
-      → Fits (of l m) store → allows (of l m) (call level) ≡ false → Runs (of l m) store on (of l m) store not_allowed
+      → StoreFits (of l m) store → allows (of l m) (call level) ≡ false → Runs (of l m) store on (of l m) store not_allowed
   refused_on level on is replies none fits refuses = record {
     reply = reply.NotAllowed;
     step = ap (λ c. replied_to on (step the_machine before c)) is
@@ -125,7 +125,7 @@ module _ (l : Layout) (store : Store) (m : Memory) (page frame given more : ℕ)
     free = subst (λ back. KeepsFree l m store.frames back m store.frames) (sym none) (nothing_keeps_free l m store.frames);
   }
 
-  pub refused : Fits (of l m) store → (level : ℕ) → 1 ≤ level → level ≤ 3 → allows (of l m) (call level) ≡ false → (n : Memory) → n ≡ m → Runs (of l m) store (on_page level map) (of l n) store not_allowed
+  pub refused : StoreFits (of l m) store → (level : ℕ) → 1 ≤ level → level ≤ 3 → allows (of l m) (call level) ≡ false → (n : Memory) → n ≡ m → Runs (of l m) store (on_page level map) (of l n) store not_allowed
   refused fits level low high refuses n same =
       subst (λ n. Runs (of l m) store (on_page level map) (of l n) store not_allowed) (sym same)
       (by_level (λ k. allows (of l m) (call k) ≡ false → Runs (of l m) store (on_page k map) (of l m) store not_allowed)
@@ -136,7 +136,7 @@ module _ (l : Layout) (store : Store) (m : Memory) (page frame given more : ℕ)
   wrapped wrap a = record { state = a.state; reply = option_map (sized wrap) a.reply }
 
   -- a map that a mapper did
-  module _ (rest : Store) (same_serves : rest.serves ≡ store.serves) (n : Memory) (status : ℕ) (some : 3 < l.levels) (adds : IsParentFlags l.added_flags) (gives : TakesBack store.take_back) (mapping : IsMapping l.places) (fits : Fits (of l m) store) where
+  module _ (rest : Store) (same_serves : rest.serves ≡ store.serves) (n : Memory) (status : ℕ) (some : 3 < l.levels) (adds : IsParentFlags l.added_flags) (gives : TakesBack store.take_back) (mapping : IsMapping l.places) (fits : StoreFits (of l m) store) where
     mapped_on : {S : Type 0} (R : Type 0) (level : ℕ) → 1 ≤ level → level ≤ 3 → (on : MapperCall) (wrap : SizeReply R → Reply)
         → step_by the_machine before on ≡ wrapped wrap (size_step the_machine level before map) → back_by the_machine before (machine_call l.levels on) ≡ []
         → ((r : Result ℕ (MapToError R)) → reply_status (wrap (Map r)) ≡ result_status map_refusal r) → ((r : Result ℕ (MapToError R)) → changes_nothing (wrap (Map r)) ≡ false)
@@ -190,7 +190,7 @@ clean_up_did h after l m n layout memory gone take_back held low high left clean
 
 -- a clean up of a pool whose free frames are those that it holds
 pub cleaned : (l : Layout) (store rest : Store) → rest.serves ≡ store.serves → (m n : Memory) (low high : ℕ) (held left : List ℕ) → store.frames ≡ held → rest.frames ≡ left → IsParentFlags l.added_flags → TakesBack store.take_back
-    → IsMapping l.places → Fits (of l m) store → CleansUp (of l m) store.take_back held low high (of l n) left → Runs (of l m) store (CleanUpRange low high) (of l n) rest ok
+    → IsMapping l.places → StoreFits (of l m) store → CleansUp (of l m) store.take_back held low high (of l n) left → Runs (of l m) store (CleanUpRange low high) (of l n) rest ok
 cleaned l store rest same_serves m n low high held left same last adds gives mapping fits cleans =
     let the_machine = machine_of l store.take_back in
     let one : step the_machine (state_in l m store.frames) (machine.CleanUp low high) ≡ record { state = state_in l n rest.frames; reply = machine.Cleaned } =

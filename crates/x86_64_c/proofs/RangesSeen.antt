@@ -17,7 +17,7 @@ use Rattle.x86_64_model.proofs.Lemmas.Machines.Fitting.{AllCalls, ready_of_fits}
 use Rattle.x86_64_model.proofs.Lemmas.Paths.Pages.{span_pos}
 use Rattle.x86_64_mappers.specs.Layouts.{direct_at}
 use Rattle.x86_64_mappers.specs.RangeChanges.{DoesChanges, IsRange, frames_done, unmaps, updates}
-use Rattle.x86_64_mappers.specs.Ranges.{DoesMaps, IsNextMap, MapRange, MapsByResult, MapsEach, MayMapRange, StopsAt, accepted, map_at, maps, page_at}
+use Rattle.x86_64_mappers.specs.Ranges.{DoesMaps, IsNextMap, MapRange, MapsByResult, MapsEach, MayMapRange, StopsAt, accepted_maps, map_at, maps, range_page}
 use Rattle.x86_64_mappers.specs.declared.access.ranges.MapRangeErrorIn.{MapRangeErrorIn}
 use Rattle.x86_64_tables.specs.FlushRecorder.{FlushRange, flush_range}
 use Rattle.x86_64_tables.specs.MapperAnswers.{map_refusal}
@@ -58,7 +58,7 @@ module _ (L level : ℕ) (low : 1 ≤ level) (high : level ≤ 3) (some : 3 < L)
   within = omega (arith, some, high)
 
   pub maps_are : (r : MapRange) → r.level ≡ level → (count : ℕ) → AllCalls L (maps L r count)
-  maps_are r is count = are_calls L (λ k. map_at L r k) (λ k. subst (λ v. IsPage L (path_at L v (page_at r k))) (sym is) (page_at_level L level (page_at r k) low high within)) 0 count
+  maps_are r is count = are_calls L (λ k. map_at L r k) (λ k. subst (λ v. IsPage L (path_at L v (range_page r k))) (sym is) (page_at_level L level (range_page r k) low high within)) 0 count
 
   pub unmaps_are : (page count : ℕ) → AllCalls L (unmaps L level page count)
   unmaps_are page count = are_calls L (λ k. Unmap (path_at L level (page + k * span level))) (λ k. page_at_level L level (page + k * span level) low high within) 0 count
@@ -177,16 +177,16 @@ pub mapped : {Lent S V : Type 0} (h after : Hierarchy Lent) (l : Layout) (m n : 
     → (status : ℕ) (done : Option ℕ) → status ≡ result_status (λ (error : MapRangeErrorIn S V). map_refusal error.why) result → IfOk result (λ flush. done ≡ Some flush.count) → IfErr result (λ error. done ≡ Some error.mapped.count)
     → (number : ℕ) × (done ≡ Some number) × Maps (of l m) pool r count (of l n) rest status number
 mapped h after l m n layout memory left adds pool rest r are fits page count (Ok flush) maps pages status number told all some =
-    let did = maps_did h after l m n layout memory left pool.frames r rest.frames count (accepted r count) maps in (
+    let did = maps_did h after l m n layout memory left pool.frames r rest.frames count (accepted_maps r count) maps in (
       flush.count,
       all,
       record {
         maps = inl (told, ap (λ (f : FlushRange). f.count) pages, did);
-        keeps = maps_keep l m n pool.serves pool.frames r count (accepted r count) rest.frames adds (are count) fits did;
+        keeps = maps_keep l m n pool.serves pool.frames r count (accepted_maps r count) rest.frames adds (are count) fits did;
       },
     )
 mapped h after l m n layout memory left adds pool rest r are fits page count (Err error) maps pages status number told all some =
-    let answers : (k : ℕ) → List Reply = λ k. accepted r k ++ Answered (Refused (map_refusal error.why)) ∷ [] in
+    let answers : (k : ℕ) → List Reply = λ k. accepted_maps r k ++ Answered (Refused (map_refusal error.why)) ∷ [] in
     let k = error.mapped.count in
     let did = maps_did h after l m n layout memory left pool.frames r rest.frames (k + 1) (answers k) maps.1 in (
       k,

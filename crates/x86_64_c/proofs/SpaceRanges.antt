@@ -11,7 +11,7 @@ use Rattle.x86_64_model.specs.Mapper.{Hierarchy, allows_map, path_of}
 use Rattle.x86_64_model.specs.Position.{position_count}
 use Rattle.x86_64_model.specs.Spaces.{Avoids}
 use Rattle.x86_64_model.specs.Store.{KeepsPool, put_first}
-use Rattle.x86_64_mappers.specs.Ranges.{DoesMaps, MapRange, frame_at, map_at, maps as maps_of, page_at}
+use Rattle.x86_64_mappers.specs.Ranges.{DoesMaps, MapRange, range_frame, map_at, maps as maps_of, range_page}
 use Rattle.x86_64_tables.specs.LentMemory.{numbered}
 use Rattle.x86_64_tables.specs.LentPool.{is_in, stacked}
 use Rattle.x86_64_tables.specs.Shifted.{shifted_is_mapping}
@@ -64,12 +64,12 @@ may_map h r count = ⊎_elim
     (λ frames. ⊎_elim
     (λ allowed. inl (here, record { pages = pages; frames = frames; allowed = allowed }))
     (λ none. inr (λ may. none may.1.allowed))
-    (all_below (λ k. allows_map h (path_of h r.level (page_at r k)) r.flags r.parent_flags ≡ true)
-    (λ k. is_true (allows_map h (path_of h r.level (page_at r k)) r.flags r.parent_flags)) count))
+    (all_below (λ k. allows_map h (path_of h r.level (range_page r k)) r.flags r.parent_flags ≡ true)
+    (λ k. is_true (allows_map h (path_of h r.level (range_page r k)) r.flags r.parent_flags)) count))
     (λ none. inr (λ may. none may.1.frames))
-    (all_below (λ k. frame_at r k < 2 ^ 52) (λ k. is_less (frame_at r k) (2 ^ 52)) count))
+    (all_below (λ k. range_frame r k < 2 ^ 52) (λ k. is_less (range_frame r k) (2 ^ 52)) count))
     (λ none. inr (λ may. none may.1.pages))
-    (all_below (λ k. page_at r k < position_count h.layout.levels) (λ k. is_less (page_at r k) (position_count h.layout.levels)) count))
+    (all_below (λ k. range_page r k < position_count h.layout.levels) (λ k. is_less (range_page r k) (position_count h.layout.levels)) count))
     (λ none. inr (λ may. none may.0))
     (is_true (present r.parent_flags))
 

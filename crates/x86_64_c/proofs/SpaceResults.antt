@@ -2,7 +2,7 @@
 use Rattle.std.proofs.Common.{◌≡◌, ◌≢◌, inl, ◌≤◌, ◌<◌, ◌+◌, ◌-◌, ℕ, Bool, List, ◌∷◌, length, get_or, Some, None, refl, sym, ap, ◌∙◌, subst, arith}
 use Rattle.std.specs.Prelude.{slice_get}
 use Rattle.x86_64_model.specs.Lists.{In}
-use Rattle.x86_64_model.specs.Store.{Fits}
+use Rattle.x86_64_model.specs.Store.{StoreFits}
 use Rattle.x86_64_spaces.specs.declared.giving_up.GiveUpError.{GiveUpError}
 use Rattle.x86_64_spaces.specs.declared.giving_up.GiveUpError.TheVariants.{EntryUsed}
 use Rattle.x86_64_spaces.specs.SpaceCalls.{TakesFirst, IsMade, IsGivenUp, IsReason}
@@ -41,7 +41,7 @@ not_empty array free root empty is = let z : Some root ≡ None = is ∙ ap (λ 
 
 module _ (own : List ℕ) (h : Given) (lent after : Loan) (few : length own ≤ length lent.array) (long : length after.array ≡ length lent.array) where
   makes : (shared : ℕ → Bool) (root : ℕ) → lent.free ≤ length lent.array → 0 < lent.free
-      → Fits (hierarchy_in h lent.tables) (pool_in own lent.array lent.free)
+      → StoreFits (hierarchy_in h lent.tables) (pool_in own lent.array lent.free)
       → TakesFirst (pool_in own lent.array lent.free) (Some root) (pool_in own after.array after.free)
       → IsMade shared (hierarchy_in h lent.tables) (pool_in own lent.array lent.free) (space_at root) (numbered after.tables) (pool_in own after.array after.free)
       → Makes own shared h lent after root
@@ -52,7 +52,7 @@ module _ (own : List ℕ) (h : Given) (lent after : Loan) (few : length own ≤ 
     fit = λ spaces member fit. record { room = omega (arith, few, long); are_spaces = made.spaces spaces member fit.are_spaces };
   }
 
-  pub makes_space : (from to before root : ℕ) → bad_new h lent from to ≡ None → Fits (hierarchy_in h lent.tables) (pool_in own lent.array lent.free)
+  pub makes_space : (from to before root : ℕ) → bad_new h lent from to ≡ None → StoreFits (hierarchy_in h lent.tables) (pool_in own lent.array lent.free)
       → MakesRoot own (shared_in from to) (hierarchy_in h lent.tables) lent.array lent.free (hierarchy_in h after.tables) after.array after.free (Some root)
       → MakesSpace own h lent from to status.ok before after root
   makes_space from to before root good fits made = record {

@@ -16,7 +16,7 @@ use Rattle.x86_64_mappers.specs.Layouts.{direct_at}
 use Rattle.x86_64_spaces.specs.declared.space.SharedIndices.{SharedIndices}
 use Rattle.x86_64_spaces.specs.declared.space.Space.{Space}
 use Rattle.x86_64_spaces.specs.Room.{spaces_in, ShareWithRoom}
-use Rattle.x86_64_spaces.specs.SpaceLayouts.{indices_of, layout_of, layouts_of, roots_of, spaces_at}
+use Rattle.x86_64_spaces.specs.SpaceLayouts.{indices_of, space_layout, layouts_of, roots_of, spaces_at}
 use Rattle.x86_64_tables.specs.LentMemory.{numbered}
 use Rattle.x86_64_tables.specs.LentPool.{is_in, stacked}
 use Rattle.x86_64_tables.specs.Shifted.{shifted_places, shifted_is_mapping}
@@ -36,7 +36,7 @@ use Rattle.x86_64_c.proofs.EntryChanges.{gives, plain}
 
 module _ (first levels : ℕ) (m : Memory) (roots : List ℕ) where
   same_layouts : layouts_of levels (shifted_places first) m (spaces_at roots) ≡ layouts_given first levels roots
-  same_layouts = map-map (layout_of levels (shifted_places first) m) space_at roots
+  same_layouts = map-map (space_layout levels (shifted_places first) m) space_at roots
 
   same_roots : roots_of (spaces_at roots) ≡ roots
   same_roots = map-map (λ (s : Space). s.root) space_at roots ∙ map-id roots

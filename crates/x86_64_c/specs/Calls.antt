@@ -5,7 +5,7 @@ use Rattle.x86_64_model.specs.Call as model
 use Rattle.x86_64_model.specs.Call.{Call}
 use Rattle.x86_64_model.specs.Mapper.{Hierarchy, Does, PoolFits, allows}
 use Rattle.x86_64_model.specs.Refusal.{Refusal, PageNotMapped, ParentEntryHugePage, InvalidFrameAddress, PageAlreadyMapped, FrameAllocationFailed, Answer, Done, Refused}
-use Rattle.x86_64_tables.specs.MapperAnswers.{map_refusal, unmap_refusal, update_refusal, translate_refusal}
+use Rattle.x86_64_tables.specs.MapperAnswers.{map_refusal, refusal_of_unmap, refusal_of_update, refusal_of_translate}
 use Rattle.x86_64.specs.Replies.{Reply, SizeReply}
 use Rattle.x86_64_model.specs.Store.{KeepsPool}
 use Rattle.x86_64.specs.declared.call_values.MapperReply.TheVariants.{Of4KiB, Of2MiB, Of1GiB, Translate, Address, Cleaned, NotAllowed}
@@ -38,10 +38,10 @@ result_status refusal (Err why) = refusal_status (refusal why)
 -- The status of a reply to a call on a page.
 abbrev pub page_status : {S : Type 0} → SizeReply S → ℕ
 page_status (Map mapped) = result_status map_refusal mapped
-page_status (Unmap unmapped) = result_status unmap_refusal unmapped
-page_status (Update updated) = result_status update_refusal updated
-page_status (TableFlags done) = result_status update_refusal done
-page_status (Frame frame) = result_status translate_refusal frame
+page_status (Unmap unmapped) = result_status refusal_of_unmap unmapped
+page_status (Update updated) = result_status refusal_of_update updated
+page_status (TableFlags done) = result_status refusal_of_update done
+page_status (Frame frame) = result_status refusal_of_translate frame
 
 -- The status of a reply.
 abbrev pub reply_status : Reply → ℕ

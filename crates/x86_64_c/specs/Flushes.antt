@@ -4,7 +4,7 @@ use Rattle.x86_64_model.specs.Call.{Call, MapTo, MapToWithTableFlags, IdentityMa
 use Rattle.x86_64_model.specs.Entry.{no_execute}
 use Rattle.x86_64_model.specs.Flushing.{flush_after}
 use Rattle.x86_64_model.specs.Machine.{Machine, State, step}
-use Rattle.x86_64.specs.FlushesDue.{rank, told}
+use Rattle.x86_64.specs.FlushesDue.{rank, flush_for}
 use Rattle.x86_64_c.specs.Calls.{answer_status}
 use Rattle.x86_64_c.specs.Status as status
 
@@ -37,7 +37,7 @@ pub record IsAsked (kind parent_flags : ℕ) (call : Call) : Type 0 where
 -- The number of the least flush that settles all that is due after a call with this reply: 0 nothing, 1 tables, 2 the page,
 -- 3 everything. Hierarchies have no recursive index here.
 abbrev pub flush_number : (L : ℕ) → Call → Reply → ℕ
-flush_number L call reply = rank (told (flush_after L None call reply))
+flush_number L call reply = rank (flush_for (flush_after L None call reply))
 
 -- The answer is that flush, after each such call to which the machine's reply has this status.
 abbrev pub TellsFlush : (kind parent_flags status answer : ℕ) → Type 0

@@ -2,7 +2,7 @@
 use Rattle.std.specs.Prelude.{◌≡◌, ◌≤◌, ℕ, ◌+◌, true, ◌==◌, ◌&&◌, nat_le, cond, List, length, Option, Some, None}
 use Rattle.std.specs.Option.{option_or}
 use Rattle.x86_64_model.specs.Mapper.{Hierarchy}
-use Rattle.x86_64_model.specs.Store.{Store, Fits, put_first, KeepsPool}
+use Rattle.x86_64_model.specs.Store.{Store, StoreFits, put_first, KeepsPool}
 use Rattle.x86_64_tables.specs.LentPool.{is_in, stacked}
 use Rattle.x86_64.specs.Asked as asked
 use Rattle.x86_64.specs.Asked.{MapperCall, PageCall}
@@ -95,7 +95,7 @@ pub record HasPool (own : List ℕ) (h : Given) (lent : Loan) (wrong : Option �
   -- The array has room for all of its own frames.
   pub room : length own ≤ length lent.array
   -- If no argument is wrong, the hierarchy is valid, and the pool fits it.
-  pub fits : wrong ≡ None → Fits (hierarchy_in h lent.tables) (pool_in own lent.array lent.free)
+  pub fits : wrong ≡ None → StoreFits (hierarchy_in h lent.tables) (pool_in own lent.array lent.free)
 
 -- A request may be made, with a pool that has these frames as its own.
 abbrev pub MayExecute : (own : List ℕ) (h : Given) (lent : Loan) (request : Request) → Type 0

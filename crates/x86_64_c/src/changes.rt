@@ -6,7 +6,7 @@ ghost use Rattle.x86_64_model.specs.Call.{UpdateFlags, SetFlags};
 ghost use Rattle.x86_64_model.specs.Mapper.{Hierarchy, Valid, allows, path_of};
 ghost use Rattle.x86_64_model.specs.Path.{path_at};
 ghost use Rattle.x86_64_model.specs.Refusal.{Refused};
-ghost use Rattle.x86_64_tables.specs.MapperAnswers.{unmap_answer, unmap_refusal, flags_answer};
+ghost use Rattle.x86_64_tables.specs.MapperAnswers.{unmap_answer, refusal_of_unmap, flags_answer};
 ghost use Rattle.x86_64_tables.specs.PageTableFlags.{bits_of};
 
 use crate::given::{AnyPage, Hierarchy, Located, Page, page_of};
@@ -189,8 +189,8 @@ fn tell_unmapped<S: PageSize, L: LevelCount>(
 
 /// Tells why an unmap was refused.
 fn tell_refused(error: UnmapError) -> Told
-    ensures status { result.status ≡ calls.refusal_status (unmap_refusal error) }
-    ensures address { result.address ≡ calls.told_by (Refused (unmap_refusal error)) }
+    ensures status { result.status ≡ calls.refusal_status (refusal_of_unmap error) }
+    ensures address { result.address ≡ calls.told_by (Refused (refusal_of_unmap error)) }
 {
     match error {
         UnmapError::PageNotMapped => Told {

@@ -4,7 +4,7 @@ ghost use Rattle.std.specs.Borrow.{GName};
 ghost use Rattle.x86_64_c.specs.Given as given;
 ghost use Rattle.x86_64_c.specs.private.Pools as pools;
 ghost use Rattle.x86_64_model.specs.Mapper as mapper;
-ghost use Rattle.x86_64_model.specs.Store.{Fits, Store, store_of};
+ghost use Rattle.x86_64_model.specs.Store.{StoreFits, Store, store_of};
 ghost use Rattle.x86_64_tables.specs.LentPool.{is_in, served_by};
 
 use crate::given::Located;
@@ -32,7 +32,7 @@ pub trait PoolStep<L: LevelCount> {
         located: Located,
         frames: &mut F,
     ) -> Self::Out
-        requires fits { Fits (given.at L.LEVELS located (T.tables memory.old))
+        requires fits { StoreFits (given.at L.LEVELS located (T.tables memory.old))
             (store_of F.FrameStore frames.old) }
         requires root { gives_root self.now ≡ true → F.serves frames.old located.root ≡ true }
         ensures does { does self.now (given.at L.LEVELS located (T.tables memory.old))

@@ -2,7 +2,7 @@
 ghost use Rattle.std.specs.Prelude.{◌≡◌};
 ghost use Rattle.x86_64_c.specs.Calls as calls;
 ghost use Rattle.x86_64_c.specs.Entries.{status_of};
-ghost use Rattle.x86_64_tables.specs.MapperAnswers.{map_refusal, update_refusal};
+ghost use Rattle.x86_64_tables.specs.MapperAnswers.{map_refusal, refusal_of_update};
 
 use x86_64::structures::paging::PageSize;
 use x86_64::structures::paging::mapper::{FlagUpdateError, MapToError};
@@ -75,7 +75,7 @@ pub const BAD_INDICES: u32 = 23;
 
 /// Returns the status of a refused change of flags.
 pub fn flags_status(error: FlagUpdateError) -> u32
-    ensures { result ≡ calls.refusal_status (update_refusal error) }
+    ensures { result ≡ calls.refusal_status (refusal_of_update error) }
 {
     match error {
         FlagUpdateError::PageNotMapped => PAGE_NOT_MAPPED,

@@ -9,7 +9,7 @@ use Rattle.x86_64_model.specs.Memory.{Words}
 use Rattle.x86_64_model.specs.PageWalk.{read}
 use Rattle.x86_64_model.proofs.Lemmas.Lists.Members.{in_left, in_right, in_flat_map}
 use Rattle.x86_64_dump.specs.Reached.{SameBelow}
-use Rattle.x86_64_dump.specs.Tables.{table_named, tables_named, is_among, met, each_once, tables_from, if_there, tables_by_level, is_in, words_in_frames}
+use Rattle.x86_64_dump.specs.Tables.{table_named, tables_named, is_among, met, each_once, tables_of_levels, if_there, tables_by_level, is_in_levels, words_in_frames}
 
 -- ---- membership as a test
 
@@ -85,11 +85,11 @@ below_or_none W frames f i e h is there small = by (W (address e)) refl
         (named_there W (unwrap_or (W f) []) e (word_of_frame W f i e (W f) refl is there) there small (ap is_some some))))
 
 -- words are equal below a frame of a level, and below a frame that W lacks, if they are equal in the frames of the levels
-same_below : (n : ℕ) (T W : Words) (frames : List ℕ) → ((f : ℕ) → W f ≡ None → T f ≡ None) → ((f : ℕ) → is_in (tables_from n W frames) f ≡ true → T f ≡ W f)
+same_below : (n : ℕ) (T W : Words) (frames : List ℕ) → ((f : ℕ) → W f ≡ None → T f ≡ None) → ((f : ℕ) → is_in_levels (tables_of_levels n W frames) f ≡ true → T f ≡ W f)
     → (f : ℕ) → In frames f ⊎ (W f ≡ None) → SameBelow n T W f
 same_below zero T W frames none same f h = tt
 same_below (suc n) T W frames none same f (inl h) =
-    let here : T f ≡ W f = same f (ap (λ b. b || is_in (tables_from n W (each_once (flat_map (tables_named W) frames))) f) (in_among frames f h)) in (
+    let here : T f ≡ W f = same f (ap (λ b. b || is_in_levels (tables_of_levels n W (each_once (flat_map (tables_named W) frames))) f) (in_among frames f h)) in (
       here,
       λ i e is there small. same_below n T W (each_once (flat_map (tables_named W) frames)) none (λ g k. same g (later (is_among frames g) _ k)) (address e)
           (below_or_none W frames f i e h (ap (option_map (λ words. get_or words i 0)) (sym here) ∙ is) there small),
@@ -108,7 +108,7 @@ pub none_either : (b : Bool) → cond {A = Option (List ℕ)} b None None ≡ No
 none_either true = refl
 none_either false = refl
 
-reversed : (levels : List (List ℕ)) (f : ℕ) → is_in (reverse levels) f ≡ is_in levels f
+reversed : (levels : List (List ℕ)) (f : ℕ) → is_in_levels (reverse levels) f ≡ is_in_levels levels f
 reversed levels f = sym (list_any-IsPermutation (λ frames. is_among frames f) levels (reverse levels) (IsPermutation-reverse levels))
 
 -- the words of the tables by level are equal to those of W below the root
@@ -117,10 +117,10 @@ unfolding tables_by_level
 same_below_root L W root T is = same_below L T W (if_there W root) none same root (by (W root) refl)
   where
     none : (f : ℕ) → W f ≡ None → T f ≡ None
-    none f lacks = (λ k. is k f) ∙ ap (λ o. cond (is_in (reverse (tables_from L W (if_there W root))) f) o None) lacks ∙ none_either (is_in (reverse (tables_from L W (if_there W root))) f)
+    none f lacks = (λ k. is k f) ∙ ap (λ o. cond (is_in_levels (reverse (tables_of_levels L W (if_there W root))) f) o None) lacks ∙ none_either (is_in_levels (reverse (tables_of_levels L W (if_there W root))) f)
 
-    same : (f : ℕ) → is_in (tables_from L W (if_there W root)) f ≡ true → T f ≡ W f
-    same f h = (λ k. is k f) ∙ ap (λ b. cond b (W f) None) (reversed (tables_from L W (if_there W root)) f ∙ h)
+    same : (f : ℕ) → is_in_levels (tables_of_levels L W (if_there W root)) f ≡ true → T f ≡ W f
+    same f h = (λ k. is k f) ∙ ap (λ b. cond b (W f) None) (reversed (tables_of_levels L W (if_there W root)) f ∙ h)
 
     by : (o : Option (List ℕ)) → W root ≡ o → In (if_there W root) root ⊎ (W root ≡ None)
     by None lacks = inr lacks

@@ -5,7 +5,7 @@ use Rattle.std.specs.List.{list_all}
 use Rattle.std.specs.Str.Parse.{AllDigits, IsNumeral, digits_value}
 use Rattle.std.proofs.lemmas.Bool.{and_from, and_parts}
 use Rattle.std.proofs.lemmas.Str.{IsUtf8-from_ascii}
-use Rattle.x86_64_dump.specs.VmCoreInfo.{number_of}
+use Rattle.x86_64_dump.specs.VmCoreInfo.{number_in_radix}
 
 tested : (radix : ℕ) (ds : List ℕ) → AllDigits radix ds → list_all (λ d. is_digit d radix) ds ≡ true
 tested radix [] are = refl
@@ -51,8 +51,8 @@ numeral_here radix ds is =
     ((some_digit ds first.0, all_digits radix ds first.1), ltb-true (digits_value radix ds) (2 ^ 64) parts.1)
 
 -- if the text is read as a number, or if it isn't
-pub number_read : (radix : ℕ) (ds : List ℕ) (found : Option ℕ) → SomeIff found (IsNumeral radix ds × (digits_value radix ds < 2 ^ 64)) (digits_value radix ds) → found ≡ number_of radix ds
-unfolding number_of is_number
+pub number_read : (radix : ℕ) (ds : List ℕ) (found : Option ℕ) → SomeIff found (IsNumeral radix ds × (digits_value radix ds < 2 ^ 64)) (digits_value radix ds) → found ≡ number_in_radix radix ds
+unfolding number_in_radix is_number
 number_read radix ds (Some n) is = ap Some is.1 ∙ sym (ap (λ b. cond b (Some (digits_value radix ds)) None) (numeral_there radix ds is.0.0 is.0.1))
 number_read radix ds None isnt = by (is_number radix ds) refl
   where
@@ -61,5 +61,5 @@ number_read radix ds None isnt = by (is_number radix ds) refl
     by true is = absurd (isnt (numeral_here radix ds is))
 
 -- a text that isn't UTF-8 is no number
-pub no_number : (radix : ℕ) (ds : List ℕ) → radix ≤ 36 → ¬ (IsUtf8 ds) → None ≡ number_of radix ds
+pub no_number : (radix : ℕ) (ds : List ℕ) → radix ≤ 36 → ¬ (IsUtf8 ds) → None ≡ number_in_radix radix ds
 no_number radix ds small isnt = number_read radix ds None (λ are. isnt (IsUtf8-from_ascii ds (ascii radix ds small are.0.1)))

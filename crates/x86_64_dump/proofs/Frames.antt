@@ -5,7 +5,7 @@ use Rattle.std.specs.Option.{option_map}
 use Rattle.x86_64_model.specs.Entry.{is_frame, address}
 use Rattle.x86_64_dump.specs.Numbers.{u64_at}
 use Rattle.x86_64_dump.specs.Segments.{is_memory}
-use Rattle.x86_64_dump.specs.Dump.{Contents, without, has_frame, frame_offset, offset_in, words_at, words_of_dump}
+use Rattle.x86_64_dump.specs.Dump.{Contents, without_bits, has_frame, frame_offset, offset_in, words_at, words_of_dump}
 use Rattle.x86_64_dump.specs.declared.segment.Segment.{Segment}
 use Rattle.std.proofs.lemmas.Bool.{and_parts}
 use Rattle.std.proofs.lemmas.List.{take_all}
@@ -14,23 +14,23 @@ use Rattle.x86_64_model.proofs.Lemmas.Entries.Words.{address-multiple}
 use Rattle.x86_64_dump.proofs.Parts.{Shows, part_shows, u64_shown, map_range_same}
 
 words_map_shown : (cleared : ℕ) (part file : List ℕ) (offset size n : ℕ) → Shows part file offset size → 8 * n ≤ size
-    → map (λ i. without cleared (u64_at part (0 + 8 * i))) (range_with_len 0 n) ≡ map (λ i. without cleared (u64_at file (offset + 8 * i))) (range_with_len 0 n)
+    → map (λ i. without_bits cleared (u64_at part (0 + 8 * i))) (range_with_len 0 n) ≡ map (λ i. without_bits cleared (u64_at file (offset + 8 * i))) (range_with_len 0 n)
 words_map_shown cleared part file offset size n shows fits = map_range_same _ _ 0 n (λ i low high.
-    ap (without cleared) (ap (u64_at part) (omega arith) ∙ u64_shown part file (8 * i) offset size shows (omega arith)))
+    ap (without_bits cleared) (ap (u64_at part) (omega arith) ∙ u64_shown part file (8 * i) offset size shows (omega arith)))
 
 pub words_shown : (cleared : ℕ) (part file : List ℕ) (offset : ℕ) → Shows part file offset 4096 → words_at cleared part 0 ≡ words_at cleared file offset
 unfolding words_at
 words_shown cleared part file offset shows = words_map_shown cleared part file offset 4096 512 shows (omega arith)
 
 words_by_count : (cleared : ℕ) (bytes : List ℕ) (n : ℕ)
-    → map (λ i. without cleared (u64_at bytes (8 * i))) (range_with_len 0 n) ≡ map (λ i. without cleared (u64_at bytes (0 + 8 * i))) (range_with_len 0 n)
-words_by_count cleared bytes n = map_range_same _ _ 0 n (λ i low high. ap (λ at. without cleared (u64_at bytes at)) (omega arith))
+    → map (λ i. without_bits cleared (u64_at bytes (8 * i))) (range_with_len 0 n) ≡ map (λ i. without_bits cleared (u64_at bytes (0 + 8 * i))) (range_with_len 0 n)
+words_by_count cleared bytes n = map_range_same _ _ 0 n (λ i low high. ap (λ at. without_bits cleared (u64_at bytes at)) (omega arith))
 
 pub all_words : (cleared : ℕ) (bytes words : List ℕ) (n : ℕ) → n ≡ 512 → length words ≡ 512
-    → take n words ≡ map (λ i. without cleared (u64_at bytes (8 * i))) (range_with_len 0 n) → words ≡ words_at cleared bytes 0
+    → take n words ≡ map (λ i. without_bits cleared (u64_at bytes (8 * i))) (range_with_len 0 n) → words ≡ words_at cleared bytes 0
 unfolding words_at
 all_words cleared bytes words n all size read =
-    sym (take_all n words (omega arith)) ∙ read ∙ words_by_count cleared bytes n ∙ ap (λ count. map (λ i. without cleared (u64_at bytes (0 + 8 * i))) (range_with_len 0 count)) all
+    sym (take_all n words (omega arith)) ∙ read ∙ words_by_count cleared bytes n ∙ ap (λ count. map (λ i. without_bits cleared (u64_at bytes (0 + 8 * i))) (range_with_len 0 count)) all
 
 none_either : {A : Type 0} (b : Bool) → cond {A = Option A} b None None ≡ None
 none_either true = refl

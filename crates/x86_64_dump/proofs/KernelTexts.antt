@@ -5,7 +5,7 @@ use Rattle.std.specs.Option.{option_map_or}
 use Rattle.std.proofs.lemmas.Bool.{and_parts, lt-leb}
 use Rattle.std.proofs.iter.Rest.{range_with_len_first, range_with_len_none}
 use Rattle.std.proofs.lemmas.List.{drop-take, length-drop, take_all}
-use Rattle.x86_64_dump.specs.KernelTexts.{begins_text, line_begins, memory_size, page_count, page_gap, page_texts, segment_texts, text_begins, text_in, texts_in, texts_within}
+use Rattle.x86_64_dump.specs.KernelTexts.{begins_text, line_begins, memory_size, page_count, page_gap, page_texts, segment_texts, text_begins, text_in_page, texts_in, texts_within}
 use Rattle.x86_64_dump.specs.Notes.{fitting}
 use Rattle.x86_64_dump.specs.Source.{part_of}
 use Rattle.x86_64_dump.specs.declared.error.Fault.{Fault}
@@ -34,7 +34,7 @@ nowhere page (at ∷ positions) blank =
     ap (λ b. cond (b && line_begins page at) (Some at) (find (text_begins page) positions)) (blank_begins at page blank) ∙ nowhere page positions blank
 
 -- bytes 0 have no text
-pub blank_text : (page : List ℕ) → list_all (λ byte. byte == 0) page ≡ true → text_in page ≡ []
+pub blank_text : (page : List ℕ) → list_all (λ byte. byte == 0) page ≡ true → text_in_page page ≡ []
 blank_text page blank = ap (λ found. option_map_or (λ at. drop at page) found []) (nowhere page (range_with_len 0 (length page)) blank)
 
 -- the positions from one on, of which the first one where the text begins counts
@@ -47,20 +47,20 @@ begins_further page at begins less tested none =
     ∙ ap (λ b. cond b (Some at) (begins_from page (at + 1))) (sym tested ∙ none))
 
 -- so does the text
-text_by : (page : List ℕ) (found : Option ℕ) → found ≡ begins_from page 0 → option_map_or (λ at. drop at page) found [] ≡ text_in page
+text_by : (page : List ℕ) (found : Option ℕ) → found ≡ begins_from page 0 → option_map_or (λ at. drop at page) found [] ≡ text_in_page page
 text_by page found first =
     let whole : length page - 0 ≡ length page = omega arith in
     ap (λ found. option_map_or (λ at. drop at page) found []) (first ∙ ap (λ n. find (text_begins page) (range_with_len 0 n)) whole)
 
 pub begins_here : (page : List ℕ) (at : ℕ) (begins : Bool) → at < length page → begins ≡ text_begins page at → begins ≡ true → begins_from page at ≡ begins_from page 0
-    → take (length page - at) (drop at page) ≡ text_in page
+    → take (length page - at) (drop at page) ≡ text_in_page page
 begins_here page at begins less tested is first =
     take_all (length page - at) (drop at page) (let rest = length-drop at page in omega (arith, rest))
     ∙ text_by page (Some at) (sym (ap (find (text_begins page)) (range_with_len_first at (length page) less)
     ∙ ap (λ b. cond b (Some at) (begins_from page (at + 1))) (sym tested ∙ is)) ∙ first)
 
 pub begins_nowhere : (page : List ℕ) (at : ℕ) → length page ≤ at → begins_from page at ≡ begins_from page 0
-    → take (length page - length page) (drop (length page) page) ≡ text_in page
+    → take (length page - length page) (drop (length page) page) ≡ text_in_page page
 begins_nowhere page at all first =
     let none : length page - length page ≡ 0 = omega arith in
     ap (λ n. take n (drop (length page) page)) none

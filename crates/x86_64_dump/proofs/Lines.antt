@@ -5,7 +5,7 @@ use Rattle.std.specs.Option.{option_map}
 use Rattle.std.proofs.lemmas.List.{length-drop, take_all}
 use Rattle.std.proofs.lemmas.List.Sums.{fails_before_first}
 use Rattle.std.proofs.lemmas.List.Splits.{slice_split_first, slice_split_none}
-use Rattle.x86_64_dump.specs.VmCoreInfo.{all_but_last, begins_with, lines_of, value_of}
+use Rattle.x86_64_dump.specs.VmCoreInfo.{all_but_last, has_prefix, text_lines, value_of}
 
 abbrev is_end : ℕ → Bool
 is_end byte = byte == 10
@@ -38,14 +38,14 @@ nowhere true n is = absurd (true≢false (sym (ap is_some is)))
 nowhere false n is = refl
 
 -- the lines are the one before the first line feed, and those behind it
-first_line : (text : List ℕ) (i : ℕ) → Some i ≡ position is_end text → lines_of text ≡ take i text ∷ lines_of (drop (i + 1) text)
+first_line : (text : List ℕ) (i : ℕ) → Some i ≡ position is_end text → text_lines text ≡ take i text ∷ text_lines (drop (i + 1) text)
 first_line text i is =
     let (below, at) = placed (nat_lt (position_or_len is_end text) (length text)) (position_or_len is_end text) i is in
     ap all_but_last (slice_split_first is_end text 0 (ltb-true _ _ below))
     ∙ not_last (before_first is_end text) (after_first is_end text)
-    ∙ ap (λ n. take n text ∷ lines_of (drop (n + 1) text)) (sym at)
+    ∙ ap (λ n. take n text ∷ text_lines (drop (n + 1) text)) (sym at)
 
-no_line : (text : List ℕ) → None ≡ position is_end text → lines_of text ≡ []
+no_line : (text : List ℕ) → None ≡ position is_end text → text_lines text ≡ []
 no_line text is =
     let past = ltb-false _ _ (nowhere (nat_lt (position_or_len is_end text) (length text)) (position_or_len is_end text) is) in
     ap all_but_last (slice_split_none is_end text (λ k d below. fails_before_first is_end text k d (omega (arith, below, past))))
@@ -63,20 +63,20 @@ behind_is text behind i is =
 
 module _ (text prefix : List ℕ) where
   -- if the first line begins with the prefix
-  pub value_here : (i : ℕ) → Some i ≡ position is_end text → begins_with (take i text) prefix ≡ true → Some (drop (length prefix) (take i text)) ≡ value_of text prefix
+  pub value_here : (i : ℕ) → Some i ≡ position is_end text → has_prefix (take i text) prefix ≡ true → Some (drop (length prefix) (take i text)) ≡ value_of text prefix
   unfolding value_of
   value_here i is begins =
-      sym (ap (λ lines. option_map (drop (length prefix)) (find (λ line. begins_with line prefix) lines)) (first_line text i is)
-      ∙ ap (λ b. option_map (drop (length prefix)) (cond b (Some (take i text)) (find (λ line. begins_with line prefix) (lines_of (drop (i + 1) text))))) begins)
+      sym (ap (λ lines. option_map (drop (length prefix)) (find (λ line. has_prefix line prefix) lines)) (first_line text i is)
+      ∙ ap (λ b. option_map (drop (length prefix)) (cond b (Some (take i text)) (find (λ line. has_prefix line prefix) (text_lines (drop (i + 1) text))))) begins)
 
   -- if it doesn't
-  pub value_behind : (i : ℕ) → Some i ≡ position is_end text → begins_with (take i text) prefix ≡ false → value_of (drop (i + 1) text) prefix ≡ value_of text prefix
+  pub value_behind : (i : ℕ) → Some i ≡ position is_end text → has_prefix (take i text) prefix ≡ false → value_of (drop (i + 1) text) prefix ≡ value_of text prefix
   unfolding value_of
   value_behind i is differs =
-      sym (ap (λ lines. option_map (drop (length prefix)) (find (λ line. begins_with line prefix) lines)) (first_line text i is)
-      ∙ ap (λ b. option_map (drop (length prefix)) (cond b (Some (take i text)) (find (λ line. begins_with line prefix) (lines_of (drop (i + 1) text))))) differs)
+      sym (ap (λ lines. option_map (drop (length prefix)) (find (λ line. has_prefix line prefix) lines)) (first_line text i is)
+      ∙ ap (λ b. option_map (drop (length prefix)) (cond b (Some (take i text)) (find (λ line. has_prefix line prefix) (text_lines (drop (i + 1) text))))) differs)
 
   -- if there is no line
   pub value_nowhere : None ≡ position is_end text → None ≡ value_of text prefix
   unfolding value_of
-  value_nowhere is = sym (ap (λ lines. option_map (drop (length prefix)) (find (λ line. begins_with line prefix) lines)) (no_line text is))
+  value_nowhere is = sym (ap (λ lines. option_map (drop (length prefix)) (find (λ line. has_prefix line prefix) lines)) (no_line text is))

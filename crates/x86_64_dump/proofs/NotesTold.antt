@@ -4,7 +4,7 @@ use Rattle.std.specs.List.{filter, flat_map, take_while}
 use Rattle.std.proofs.lemmas.Bool.{lt-leb, cases_lt}
 use Rattle.std.proofs.lemmas.List.Sums.{take_while-cons}
 use Rattle.x86_64_dump.specs.Numbers.{u32_at}
-use Rattle.x86_64_dump.specs.Notes.{is_kind, padded, note_at, notes_from, ends_by, notes_between, notes_in, notes_size, fitting}
+use Rattle.x86_64_dump.specs.Notes.{is_kind, padded, note_at, notes_from, note_ends_by, notes_between, notes_in, notes_size, fitting}
 use Rattle.x86_64_dump.specs.private.NotesLeft.{is_whole, if_kept, kept_notes, notes_left_in, notes_within}
 use Rattle.x86_64_dump.specs.declared.note.Note.{Note}
 use Rattle.x86_64_dump.specs.declared.note.NoteKind.{NoteKind}
@@ -17,17 +17,17 @@ shifted at size left = ⊎_elim
     (λ fits. le-leb (at + size) (at + left) (omega arith) ∙ sym (le-leb size left fits))
     (cases_lt left size)
 
-ends_if_whole : (file : List ℕ) (at left : ℕ) → ends_by (at + left) (note_at file at) ≡ is_whole file at left
+ends_if_whole : (file : List ℕ) (at left : ℕ) → note_ends_by (at + left) (note_at file at) ≡ is_whole file at left
 unfolding note_at is_whole
 ends_if_whole file at left = ap (λ n. nat_le n (at + left)) (omega arith) ∙ shifted at (12 + padded (u32_at file at) + u32_at file (at + 4)) left
 
-ends_after_start : (file : List ℕ) (at end : ℕ) → end < at → ends_by end (note_at file at) ≡ false
+ends_after_start : (file : List ℕ) (at end : ℕ) → end < at → note_ends_by end (note_at file at) ≡ false
 unfolding note_at
 ends_after_start file at end past = lt-leb _ _ (omega arith)
 
 -- the notes of a kind among some notes, up to the first note that ends after an offset
 kept_until : (kind : NoteKind) → (end : ℕ) → List Note → List Note
-kept_until kind end notes = filter (λ note. is_kind note.kind kind) (take_while (ends_by end) notes)
+kept_until kind end notes = filter (λ note. is_kind note.kind kind) (take_while (note_ends_by end) notes)
 
 joined : (b : Bool) (note : Note) (rest : List Note) → cond b (note ∷ rest) rest ≡ cond b (note ∷ []) [] ++ rest
 joined true note rest = refl
@@ -36,16 +36,16 @@ joined false note rest = refl
 filtered : (kind : NoteKind) (note : Note) (notes : List Note) → filter (λ n. is_kind n.kind kind) (note ∷ notes) ≡ if_kept kind note ++ filter (λ n. is_kind n.kind kind) notes
 filtered kind note notes = joined (is_kind note.kind kind) note (filter (λ n. is_kind n.kind kind) notes)
 
-until_ended : (kind : NoteKind) (end : ℕ) (note : Note) (notes : List Note) → ends_by end note ≡ false → kept_until kind end (note ∷ notes) ≡ []
+until_ended : (kind : NoteKind) (end : ℕ) (note : Note) (notes : List Note) → note_ends_by end note ≡ false → kept_until kind end (note ∷ notes) ≡ []
 unfolding kept_until
 until_ended kind end note notes past =
-    ap (filter (λ n. is_kind n.kind kind)) (take_while-cons (ends_by end) note notes ∙ ap (λ b. cond {A = List Note} b (note ∷ take_while (ends_by end) notes) []) past)
+    ap (filter (λ n. is_kind n.kind kind)) (take_while-cons (note_ends_by end) note notes ∙ ap (λ b. cond {A = List Note} b (note ∷ take_while (note_ends_by end) notes) []) past)
 
-until_next : (kind : NoteKind) (end : ℕ) (note : Note) (notes : List Note) → ends_by end note ≡ true → kept_until kind end (note ∷ notes) ≡ if_kept kind note ++ kept_until kind end notes
+until_next : (kind : NoteKind) (end : ℕ) (note : Note) (notes : List Note) → note_ends_by end note ≡ true → kept_until kind end (note ∷ notes) ≡ if_kept kind note ++ kept_until kind end notes
 unfolding kept_until
 until_next kind end note notes ends =
-    ap (filter (λ n. is_kind n.kind kind)) (take_while-cons (ends_by end) note notes ∙ ap (λ b. cond {A = List Note} b (note ∷ take_while (ends_by end) notes) []) ends)
-    ∙ filtered kind note (take_while (ends_by end) notes)
+    ap (filter (λ n. is_kind n.kind kind)) (take_while-cons (note_ends_by end) note notes ∙ ap (λ b. cond {A = List Note} b (note ∷ take_while (note_ends_by end) notes) []) ends)
+    ∙ filtered kind note (take_while (note_ends_by end) notes)
 
 none_until : (kind : NoteKind) (count : ℕ) (file : List ℕ) (at end : ℕ) → end < at → kept_until kind end (notes_from file at count) ≡ []
 unfolding kept_until

@@ -18,9 +18,9 @@ use Rattle.x86_64_model.specs.Memory.{Memory, Words, words_of, identity_places}
 use Rattle.x86_64_tables.specs.PhysMemory.{length_keys, tables_at}
 use Rattle.x86_64_tables.proofs.PlacesInOrder.{keys-tables}
 use Rattle.x86_64_dump.specs.Loaded.{frames_of}
-use Rattle.x86_64_dump.specs.Tables.{is_among, is_in, words_in_frames}
+use Rattle.x86_64_dump.specs.Tables.{is_among, is_in_levels, words_in_frames}
 use Rattle.x86_64_dump.proofs.Closed.{none_either}
-use Rattle.x86_64_dump.specs.private.FrameNumbers.{has_number, words_numbered, AreHeldBy, AreNumbers, HoldsFor}
+use Rattle.x86_64_dump.specs.private.FrameNumbers.{has_number, words_numbered, AreHeldBy, AreFrameNumbers, HoldsFor}
 
 -- ---- numbers
 
@@ -58,7 +58,7 @@ numbers_more numbers new levels i level within at added so_far f is =
     ∙ sym (list_any_more (λ level. is_among level.items f) levels i level within)
 
 -- all levels
-pub all_numbers : {A : Type 0} (levels : List (Vec ℕ A)) (f : ℕ) → list_any (λ level. is_among level.items f) levels ≡ is_in (frames_of levels) f
+pub all_numbers : {A : Type 0} (levels : List (Vec ℕ A)) (f : ℕ) → list_any (λ level. is_among level.items f) levels ≡ is_in_levels (frames_of levels) f
 all_numbers [] f = refl
 all_numbers (level ∷ levels) f = ap (λ b. is_among level.items f || b) (all_numbers levels f)
 
@@ -78,7 +78,7 @@ list_any-dedup p [] = refl
 list_any-dedup p (x ∷ xs) = list_any-dedup_from p x xs
 
 -- the frame of a number
-pub number_there : (numbers : List ℕ) (i d : ℕ) → i < length numbers → AreNumbers numbers → (is_frame (get_or numbers i d * 4096) ≡ true) × (has_number numbers (get_or numbers i d * 4096) ≡ true)
+pub number_there : (numbers : List ℕ) (i d : ℕ) → i < length numbers → AreFrameNumbers numbers → (is_frame (get_or numbers i d * 4096) ≡ true) × (has_number numbers (get_or numbers i d * 4096) ≡ true)
 number_there numbers i d within below =
     let n = get_or numbers i d in (
       eq-eqb (address (n * 4096)) (n * 4096) (address-multiple (n * 4096) (omega arith) (below i d within)),
@@ -86,8 +86,8 @@ number_there numbers i d within below =
     )
 
 -- what is true of the frames of some levels is true of those of the same numbers
-pub all_there : (has : ℕ → Bool) (numbers : List ℕ) (levels : List (List ℕ)) → AreNumbers numbers → ((f : ℕ) → is_frame f ≡ true → has_number numbers f ≡ is_in levels f)
-    → ((f : ℕ) → is_in levels f ≡ true → has f ≡ true) → AreHeldBy has numbers
+pub all_there : (has : ℕ → Bool) (numbers : List ℕ) (levels : List (List ℕ)) → AreFrameNumbers numbers → ((f : ℕ) → is_frame f ≡ true → has_number numbers f ≡ is_in_levels levels f)
+    → ((f : ℕ) → is_in_levels levels f ≡ true → has f ≡ true) → AreHeldBy has numbers
 all_there has numbers levels below same there i d within =
     let number = number_there numbers i d within below in
     there (get_or numbers i d * 4096) (sym (same (get_or numbers i d * 4096) number.0) ∙ number.1)
@@ -122,7 +122,7 @@ tables_held W (n ∷ ns) (t ∷ ts) same place =
     ∙ one_more W n ns t (get (tables_at ns ts) place) place (ap (λ os. get_or os 0 None) same) (tables_held W ns ts (ap (drop 1) same) place)
 
 -- the places of a memory for numbers of frames are such numbers
-pub places_below : (numbers : List ℕ) (tables : ℕ → Option (List ℕ)) (memory : Memory) → AreNumbers numbers → HoldsFor numbers tables memory
+pub places_below : (numbers : List ℕ) (tables : ℕ → Option (List ℕ)) (memory : Memory) → AreFrameNumbers numbers → HoldsFor numbers tables memory
     → (place : ℕ) → IsSome (get memory place) → place * 4096 < 2 ^ 52
 places_below numbers tables memory are held place there = by (list_any (λ n. place == n) numbers) refl
   where
@@ -140,18 +140,18 @@ places_counted numbers tables up same = sym (length_keys (tables_at numbers tabl
 
 -- the memory for all numbers holds the words of their frames
 pub words_filled : (W : Words) (numbers : List ℕ) (memory : Memory) (levels : List (List ℕ)) → ((f : ℕ) → is_frame f ≡ false → W f ≡ None)
-    → ((f : ℕ) → is_frame f ≡ true → has_number numbers f ≡ is_in levels f) → HoldsFor numbers (words_numbered W) memory → words_of memory identity_places ≡ words_in_frames levels W
+    → ((f : ℕ) → is_frame f ≡ true → has_number numbers f ≡ is_in_levels levels f) → HoldsFor numbers (words_numbered W) memory → words_of memory identity_places ≡ words_in_frames levels W
 words_filled W numbers memory levels only same held = λ k f. at f k
   where
-    frame : (f : ℕ) → is_frame f ≡ true → get memory (f / 4096) ≡ cond (is_in levels f) (W f) None
+    frame : (f : ℕ) → is_frame f ≡ true → get memory (f / 4096) ≡ cond (is_in_levels levels f) (W f) None
     frame f is =
         let whole : f / 4096 * 4096 ≡ f = omega (arith, address_aligned f, eqb-true (address f) f is) in
         held (f / 4096) ∙ ap₂ (λ b g. cond b (W g) None) (same f is) whole
 
     at : (f : ℕ) → words_of memory identity_places f ≡ words_in_frames levels W f
-    at f = elim (is_frame f) as (λ b. is_frame f ≡ b → cond b (get memory (f / 4096)) None ≡ cond (is_in levels f) (W f) None) [
+    at f = elim (is_frame f) as (λ b. is_frame f ≡ b → cond b (get memory (f / 4096)) None ≡ cond (is_in_levels levels f) (W f) None) [
       | true ↦ λ is. frame f is
-      | false ↦ λ no. sym (ap (λ o. cond (is_in levels f) o None) (only f no) ∙ none_either (is_in levels f))
+      | false ↦ λ no. sym (ap (λ o. cond (is_in_levels levels f) o None) (only f no) ∙ none_either (is_in_levels levels f))
     ] refl
 
 -- the first number from an index on

@@ -34,12 +34,12 @@ unfoldable pub frame_offset : (file_length : ℕ) → List Segment → (frame : 
 frame_offset file_length segments frame = option_map (λ segment. offset_in segment frame) (find (has_frame file_length frame) segments)
 
 -- The word, with the bits of a mask cleared.
-abbrev pub without : (bits word : ℕ) → ℕ
-without bits word = bit_and word (2 ^ 64 - 1 - bits)
+abbrev pub without_bits : (bits word : ℕ) → ℕ
+without_bits bits word = bit_and word (2 ^ 64 - 1 - bits)
 
 -- The 512 words of the 4096 bytes from an offset of the file on, with the bits of a mask cleared in each of them.
 unfoldable pub words_at : (cleared : ℕ) → (file : List ℕ) → (offset : ℕ) → List ℕ
-words_at cleared file offset = map (λ i. without cleared (u64_at file (offset + 8 * i))) (range_with_len 0 512)
+words_at cleared file offset = map (λ i. without_bits cleared (u64_at file (offset + 8 * i))) (range_with_len 0 512)
 
 -- The contents of a dump: the bytes of the file, its format, its segments, the texts of VMCOREINFO in memory that describe the
 -- kernel's root, and the bits that are cleared in each word that is read.

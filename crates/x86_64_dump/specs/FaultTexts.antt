@@ -33,7 +33,7 @@ abbrev pub note_cut_text : (offset size needed : ℕ) → List ℕ
 note_cut_text offset size needed = note_text offset size ++ needed_text needed
 
 -- The text of the fault of a note, or None for the fault of a file that isn't opened, whose text isn't specified.
-abbrev pub fault_text : Fault → Option (List ℕ)
-fault_text (faults.NoteCut offset size needed) = Some (note_cut_text offset size needed)
-fault_text (faults.VmCoreInfo fault) = Some (kernel_fault_text fault)
-fault_text fault = None
+abbrev pub dump_fault_text : Fault → Option (List ℕ)
+dump_fault_text (faults.NoteCut offset size needed) = Some (note_cut_text offset size needed)
+dump_fault_text (faults.VmCoreInfo fault) = Some (kernel_fault_text fault)
+dump_fault_text fault = None

@@ -32,8 +32,8 @@ abbrev pub text_begins : (page : List ℕ) → (at : ℕ) → Bool
 text_begins page at = begins_text (drop at page) && line_begins page at
 
 -- The text in a page: the bytes from the first offset on where it begins, or none.
-abbrev pub text_in : (page : List ℕ) → List ℕ
-text_in page = option_map_or (λ at. drop at page) (find (text_begins page) (range_with_len 0 (length page))) []
+abbrev pub text_in_page : (page : List ℕ) → List ℕ
+text_in_page page = option_map_or (λ at. drop at page) (find (text_begins page) (range_with_len 0 (length page))) []
 
 -- The text at an offset of the file with the kernel that it describes, or no text if it describes none.
 abbrev pub text_if : (offset : ℕ) → Result Kernel KernelFault → List KernelText
@@ -42,7 +42,7 @@ text_if offset (Err fault) = []
 
 -- The text in the page at an offset of the file, if there is one that describes a kernel.
 unfoldable pub page_texts : (offset : ℕ) → (page : List ℕ) → List KernelText
-page_texts offset page = text_if (offset + (length page - length (text_in page))) (kernel_of (text_in page))
+page_texts offset page = text_if (offset + (length page - length (text_in_page page))) (kernel_of (text_in_page page))
 
 -- ---- the pages of memory
 

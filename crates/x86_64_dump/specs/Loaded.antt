@@ -10,8 +10,8 @@ use Rattle.x86_64_dump.specs.Tables.{tables_by_level, words_in_frames}
 use Rattle.x86_64_dump.specs.declared.tables.dump_tables.DumpTables.{DumpTables}
 
 -- The words of the tables that were read, by their frames.
-abbrev pub words_in : DumpTables → Words
-words_in tables = words_of tables.memory identity_places
+abbrev pub loaded_words : DumpTables → Words
+loaded_words tables = words_of tables.memory identity_places
 
 -- Frames by level, each level as a list instead of a vector.
 abbrev pub frames_of : {A : Type 0} → List (Vec ℕ A) → List (List ℕ)
@@ -24,7 +24,7 @@ frames_in tables = frames_of tables.frames.items
 -- The tables are those that a root leads to in W, with L levels of tables: their frames level by level, and their words.
 pub record AreTables (L : ℕ) (W : Words) (root : ℕ) (tables : DumpTables) : Type 0 where
   pub frames : frames_in tables ≡ tables_by_level L W root
-  pub words : words_in tables ≡ words_in_frames (frames_in tables) W
+  pub words : loaded_words tables ≡ words_in_frames (frames_in tables) W
 
 -- The memory holds the tables in the frames of these levels and nothing else. The place of a table is the number of its frame.
 pub record HoldsTables (levels : List (List ℕ)) (W : Words) (memory : Memory) : Type 0 where

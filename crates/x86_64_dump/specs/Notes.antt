@@ -53,13 +53,13 @@ notes_from file at zero = []
 notes_from file at (suc count) = note_at file at ∷ notes_from file (at + (note_at file at).span) count
 
 -- Whether a note's descriptor ends at an offset of the file or before it.
-abbrev pub ends_by : (end : ℕ) → Note → Bool
-ends_by end note = nat_le (note.offset + note.size) end
+abbrev pub note_ends_by : (end : ℕ) → Note → Bool
+note_ends_by end note = nat_le (note.offset + note.size) end
 
 -- The notes of a kind in the part of the file from `start` to `end`, up to the first note that doesn't end in the part. A note
 -- has at least twelve bytes.
 unfoldable pub notes_between : NoteKind → (file : List ℕ) → (start end : ℕ) → List Note
-notes_between kind file start end = filter (λ note. is_kind note.kind kind) (take_while (ends_by end) (notes_from file start ((end - start) / 12)))
+notes_between kind file start end = filter (λ note. is_kind note.kind kind) (take_while (note_ends_by end) (notes_from file start ((end - start) / 12)))
 
 -- The number of bytes of notes that a segment has in a file of this length, which is 0 for segments of other kinds.
 abbrev pub notes_size : (file_length : ℕ) → Segment → ℕ

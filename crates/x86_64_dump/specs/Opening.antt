@@ -3,7 +3,7 @@ use Rattle.std.specs.Prelude.{◌≡◌, ℕ, ◌+◌, ◌*◌, ◌==◌, ◌&&�
 use Rattle.std.specs.List.{list_any}
 use Rattle.x86_64_dump.specs.Formats.{format_of}
 use Rattle.x86_64_dump.specs.Lime.{after, lime_segments}
-use Rattle.x86_64_dump.specs.Placement.{placed_by, raw_segments, unless}
+use Rattle.x86_64_dump.specs.Placement.{placed_by, raw_segments, unless_fault}
 use Rattle.x86_64_dump.specs.declared.placement.Placement.{Placement}
 use Rattle.x86_64_dump.specs.declared.placement.Placement.TheVariants.{Unstated}
 use Rattle.x86_64_dump.specs.Numbers.{byte_at, u16_at, u32_at, u64_at}
@@ -63,8 +63,8 @@ with_memory segments = if has_memory segments then Ok segments else Err faults.N
 -- The segments of an ELF file with this header, or why it isn't a core file of x86-64 with memory.
 unfoldable pub elf_segments : (file : List ℕ) → Header → Result (List Segment) Fault
 elf_segments file header =
-    unless (header_fault (length file) header)
-    (unless (table_fault (length file) (count_of file header) header)
+    unless_fault (header_fault (length file) header)
+    (unless_fault (table_fault (length file) (count_of file header) header)
     (with_memory (segments_at file header.headers (count_of file header))))
 
 -- The segments of a file of a format, or why it isn't a dump. Only a raw file may have a placement.
@@ -93,9 +93,9 @@ Fails may (errors.Read error) found = may ≡ true
 Fails may (errors.Fault fault) found = found ≡ Err fault
 
 -- The result, seen by `view`, is the expected one, unless memory allocation fails, or a read, if reads may fail.
-abbrev pub Gives : {X Y : Type 0} → (may_fail : Bool) → (X → Y) → Result X DumpError → Result Y Fault → Type 0
-Gives may view (Ok x) found = found ≡ Ok (view x)
-Gives may view (Err error) found = Fails may error found
+abbrev pub OpensAs : {X Y : Type 0} → (may_fail : Bool) → (X → Y) → Result X DumpError → Result Y Fault → Type 0
+OpensAs may view (Ok x) found = found ≡ Ok (view x)
+OpensAs may view (Err error) found = Fails may error found
 
 -- The result of a call that allocates no memory, seen by `view`, is the expected one, unless a read fails, if reads may fail.
 abbrev pub GivesAtOnce : {X Y : Type 0} → (may_fail : Bool) → (X → Y) → Result X DumpError → Result Y Fault → Type 0

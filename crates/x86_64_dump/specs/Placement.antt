@@ -9,9 +9,9 @@ use Rattle.x86_64_dump.specs.declared.error.Fault.{Fault}
 use Rattle.x86_64_dump.specs.declared.error.Fault.TheVariants as faults
 
 -- The fault if there is one, or else the result.
-abbrev pub unless : {A : Type 0} → Option Fault → Result A Fault → Result A Fault
-unless None found = found
-unless (Some fault) found = Err fault
+abbrev pub unless_fault : {A : Type 0} → Option Fault → Result A Fault → Result A Fault
+unless_fault None found = found
+unless_fault (Some fault) found = Err fault
 
 -- Why a range can't be one of a file of this length: it is empty, its bytes end after the file, or its addresses end above 2^64.
 -- None if it can.
@@ -38,7 +38,7 @@ whole_file file_length address = record { kind = 1; offset = 0; address = addres
 abbrev pub raw_segments : (file_length : ℕ) → Placement → Result (List Segment) Fault
 raw_segments file_length Unstated = Ok (whole_file file_length 0)
 raw_segments file_length (Base base) = Ok (whole_file file_length base)
-raw_segments file_length (Ranges ranges) = unless (first_fault file_length ranges.items) (Ok (map range_segment ranges.items))
+raw_segments file_length (Ranges ranges) = unless_fault (first_fault file_length ranges.items) (Ok (map range_segment ranges.items))
 
 -- The placement by the physical address of the first byte, which may be missing.
 abbrev pub placed_by : (base : Option ℕ) → Placement

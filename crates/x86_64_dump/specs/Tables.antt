@@ -26,9 +26,9 @@ abbrev pub each_once : (frames : List ℕ) → List ℕ
 each_once frames = fold met [] frames
 
 -- The frames of the tables of some levels, level by level from the highest down. `frames` are those of the highest level.
-abbrev pub tables_from : (levels : ℕ) → Words → (frames : List ℕ) → List (List ℕ)
-tables_from zero W frames = []
-tables_from (suc n) W frames = frames ∷ tables_from n W (each_once (flat_map (tables_named W) frames))
+abbrev pub tables_of_levels : (levels : ℕ) → Words → (frames : List ℕ) → List (List ℕ)
+tables_of_levels zero W frames = []
+tables_of_levels (suc n) W frames = frames ∷ tables_of_levels n W (each_once (flat_map (tables_named W) frames))
 
 -- The root, in a list of its own, or no frame if W doesn't have it.
 abbrev pub if_there : Words → (root : ℕ) → List ℕ
@@ -36,12 +36,12 @@ if_there W root = cond (is_some (W root)) (root ∷ []) []
 
 -- The frames of the tables that a root leads to in W, with L levels of tables, level one first.
 unfoldable pub tables_by_level : (L : ℕ) → Words → (root : ℕ) → List (List ℕ)
-tables_by_level L W root = reverse (tables_from L W (if_there W root))
+tables_by_level L W root = reverse (tables_of_levels L W (if_there W root))
 
 -- Whether a frame is at one of some levels.
-abbrev pub is_in : (levels : List (List ℕ)) → (frame : ℕ) → Bool
-is_in levels f = list_any (λ frames. is_among frames f) levels
+abbrev pub is_in_levels : (levels : List (List ℕ)) → (frame : ℕ) → Bool
+is_in_levels levels f = list_any (λ frames. is_among frames f) levels
 
 -- The words that W has in the frames of these levels, and none in other frames.
 abbrev pub words_in_frames : (levels : List (List ℕ)) → Words → Words
-words_in_frames levels W f = cond (is_in levels f) (W f) None
+words_in_frames levels W f = cond (is_in_levels levels f) (W f) None

@@ -41,8 +41,8 @@ all_but_last (part ∷ []) = []
 all_but_last (part ∷ next ∷ parts) = part ∷ all_but_last (next ∷ parts)
 
 -- The lines of a text, each ended by a line feed. What is behind the last line feed is no line.
-abbrev pub lines_of : (text : List ℕ) → List (List ℕ)
-lines_of text = all_but_last (slice_split (λ byte. byte == 10) text)
+abbrev pub text_lines : (text : List ℕ) → List (List ℕ)
+text_lines text = all_but_last (slice_split (λ byte. byte == 10) text)
 
 -- The name of a key, as the text of VMCOREINFO has it.
 abbrev pub key_name : Key → List ℕ
@@ -52,27 +52,27 @@ key_name FiveLevels = codes "NUMBER(pgtable_l5_enabled)"
 key_name SmeMask = codes "NUMBER(sme_mask)"
 
 -- The name of a key with `=` behind it, with which its line begins.
-abbrev pub key_text : Key → List ℕ
-key_text key = key_name key ++ codes "="
+abbrev pub key_bytes : Key → List ℕ
+key_bytes key = key_name key ++ codes "="
 
 -- Whether the first bytes of a line are those of a prefix.
-abbrev pub begins_with : (line prefix : List ℕ) → Bool
-begins_with line prefix = bytes_eq (take (length prefix) line) prefix
+abbrev pub has_prefix : (line prefix : List ℕ) → Bool
+has_prefix line prefix = bytes_eq (take (length prefix) line) prefix
 
 -- What is behind a prefix in the first line of the text that begins with it, or None if no line does.
 unfoldable pub value_of : (text prefix : List ℕ) → Option (List ℕ)
-value_of text prefix = option_map (drop (length prefix)) (find (λ line. begins_with line prefix) (lines_of text))
+value_of text prefix = option_map (drop (length prefix)) (find (λ line. has_prefix line prefix) (text_lines text))
 
 -- The number that one or more digits of a radix denote, if it is below 2^64 and there is nothing else.
-unfoldable pub number_of : (radix : ℕ) → (digits : List ℕ) → Option ℕ
-number_of radix digits =
+unfoldable pub number_in_radix : (radix : ℕ) → (digits : List ℕ) → Option ℕ
+number_in_radix radix digits =
     if not (length digits == 0) && list_all (λ digit. is_digit digit radix) digits && nat_lt (digits_value radix digits) (2 ^ 64)
     then Some (digits_value radix digits) else None
 
 -- The shift by a number in decimal digits below 2^64: down if a minus is in front of it, and up otherwise. None if it is no such
 -- number.
 unfoldable pub shift_of : (digits : List ℕ) → Option Shift
-shift_of digits = if begins_with digits (codes "-") then option_map Down (number_of 10 (drop 1 digits)) else option_map Up (number_of 10 digits)
+shift_of digits = if has_prefix digits (codes "-") then option_map Down (number_in_radix 10 (drop 1 digits)) else option_map Up (number_in_radix 10 digits)
 
 -- The number by which a shift moves, as a 64-bit word modulo 2^64. It may be negative down to -2^63.
 abbrev pub word_by : Shift → Option ℕ
@@ -81,11 +81,11 @@ word_by (Down n) = if nat_le n (2 ^ 63) then Some ((2 ^ 64 - n) % 2 ^ 64) else N
 
 -- The 64-bit word that a value denotes: hexadecimal digits behind 0x, or decimal digits, perhaps behind a minus.
 unfoldable pub word_of : (value : List ℕ) → Option ℕ
-word_of value = if begins_with value (codes "0x") then number_of 16 (drop 2 value) else option_and_then word_by (shift_of value)
+word_of value = if has_prefix value (codes "0x") then number_in_radix 16 (drop 2 value) else option_and_then word_by (shift_of value)
 
 -- The 64-bit word behind a key in the first line that begins with it, or None if there is no such line or no such word.
-abbrev pub word_in : (text key : List ℕ) → Option ℕ
-word_in text key = option_and_then word_of (value_of text key)
+abbrev pub value_in : (text key : List ℕ) → Option ℕ
+value_in text key = option_and_then word_of (value_of text key)
 
 -- The result of the next step on a value, or the fault if there is one.
 abbrev pub and_then : {A B : Type 0} → Result A KernelFault → (A → Result B KernelFault) → Result B KernelFault
@@ -100,11 +100,11 @@ parsed parse key (Some value) = option_map_or (λ a. Ok (Some a)) (parse value) 
 -- The number in digits of a radix that is the value of a key, None if no line has the key, or a fault if its value is no such
 -- number.
 abbrev pub number_in : (text : List ℕ) → (radix : ℕ) → Key → Result (Option ℕ) KernelFault
-number_in text radix key = parsed (number_of radix) key (value_of text (key_text key))
+number_in text radix key = parsed (number_in_radix radix) key (value_of text (key_bytes key))
 
 -- The shift that is the value of a key, None if no line has the key, or a fault if its value is no shift.
 abbrev pub shift_in : (text : List ℕ) → Key → Result (Option Shift) KernelFault
-shift_in text key = parsed shift_of key (value_of text (key_text key))
+shift_in text key = parsed shift_of key (value_of text (key_bytes key))
 
 -- The address, moved up or down by a number, or None if it would be negative.
 abbrev pub moved : (address : ℕ) → Shift → Option ℕ
@@ -112,12 +112,12 @@ moved address (Up n) = Some (address + n)
 moved address (Down n) = if nat_lt address n then None else Some (address - n)
 
 -- The address if it is that of a 4KiB frame, a multiple of 4096 below 2^52, or else None.
-abbrev pub frame_at : (address : ℕ) → Option ℕ
-frame_at address = if nat_lt address (2 ^ 52) && address % 4096 == 0 then Some address else None
+abbrev pub frame_at_address : (address : ℕ) → Option ℕ
+frame_at_address address = if nat_lt address (2 ^ 52) && address % 4096 == 0 then Some address else None
 
 -- The physical address of a symbol of the kernel: its virtual address - 0xffffffff80000000 + phys_base, if that is a frame's.
 unfoldable pub physical : (symbol : ℕ) → Shift → Option ℕ
-physical symbol shift = if nat_lt symbol 0xffff_ffff_8000_0000 then None else option_and_then frame_at (moved (symbol - 0xffff_ffff_8000_0000) shift)
+physical symbol shift = if nat_lt symbol 0xffff_ffff_8000_0000 then None else option_and_then frame_at_address (moved (symbol - 0xffff_ffff_8000_0000) shift)
 
 -- The number of levels by the value of `pgtable_l5_enabled`: five if it is 1, and four otherwise.
 abbrev pub levels_by : (five : ℕ) → Levels

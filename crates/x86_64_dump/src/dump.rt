@@ -47,7 +47,7 @@ impl<S: ByteSource> Dump<S> {
     ghost use Rattle.x86_64_model.specs.Entry.{is_frame};
     ghost use Rattle.x86_64_dump.specs.Dump.{words_of_dump, is_short};
     ghost use Rattle.x86_64_dump.specs.Formats.{is_raw};
-    ghost use Rattle.x86_64_dump.specs.Opening.{contents_of, contents_as, Gives, GivesAtOnce};
+    ghost use Rattle.x86_64_dump.specs.Opening.{contents_of, contents_as, OpensAs, GivesAtOnce};
     ghost use Rattle.x86_64_dump.specs.Opened.{opened, holds, is_cut};
     ghost use Rattle.x86_64_dump.specs.Notes.{is_note_cut, is_noted, is_of_virtualbox, note_cut, notes_of, processors_of, register_of};
     ghost use Rattle.x86_64_dump.specs.declared.error.DumpError.TheVariants as errors;
@@ -69,7 +69,7 @@ impl<S: ByteSource> Dump<S> {
     /// addresses of its own although there is a base.
     /// `DumpError::OutOfMemory` if memory allocation fails, `DumpError::Read` if a read fails.
     pub fn open(alloc: Global, source: S, base: Option<u64>) -> Result<Dump<S>, DumpError>
-        ensures { S.IsKnown → Gives S.may_fail (opened S.bytes) result (contents_of (S.bytes source) base) }
+        ensures { S.IsKnown → OpensAs S.may_fail (opened S.bytes) result (contents_of (S.bytes source) base) }
     {
         let format = read_format(&source)?;
         let placement = base.map_or(Placement::Unstated, Placement::Base);
@@ -90,7 +90,7 @@ impl<S: ByteSource> Dump<S> {
         placement: &Placement,
     ) -> Result<Dump<S>, DumpError>
         ensures { S.IsKnown →
-            Gives S.may_fail (opened S.bytes) result (contents_as format (S.bytes source) placement.now) }
+            OpensAs S.may_fail (opened S.bytes) result (contents_as format (S.bytes source) placement.now) }
     {
         let segments = read_segments(alloc, &source, format, placement)?;
         let stretches = sorted_stretches(alloc, &segments, source.len())?;
@@ -111,7 +111,7 @@ impl<S: ByteSource> Dump<S> {
     ///
     /// `DumpError::OutOfMemory` if memory allocation fails, `DumpError::Read` if the source can't be read.
     pub fn decrypted(self, alloc: Global) -> Result<Dump<S>, DumpError>
-        ensures { S.IsKnown → Gives S.may_fail (opened S.bytes) result
+        ensures { S.IsKnown → OpensAs S.may_fail (opened S.bytes) result
             (Ok (decrypted (opened S.bytes self))) }
     {
         let cleared = match self.kernel(alloc) {
@@ -292,7 +292,7 @@ impl<S: ByteSource> Dump<S> {
     /// `DumpError::OutOfMemory` if memory allocation fails, `DumpError::Read` if the source can't be read.
     pub fn processors(&self, alloc: Global) -> Result<Vec<Note>, DumpError>
         ensures { S.IsKnown →
-            Gives S.may_fail (λ notes. notes.items) result (Ok (processors_of (opened S.bytes self.now))) }
+            OpensAs S.may_fail (λ notes. notes.items) result (Ok (processors_of (opened S.bytes self.now))) }
     {
         self.notes(alloc, NoteKind::Qemu)
     }
@@ -300,7 +300,7 @@ impl<S: ByteSource> Dump<S> {
     /// Reads the notes of a kind, in order.
     fn notes(&self, alloc: Global, kind: NoteKind) -> Result<Vec<Note>, DumpError>
         ensures { S.IsKnown →
-            Gives S.may_fail (λ notes. notes.items) result (Ok (notes_of kind (opened S.bytes self.now))) }
+            OpensAs S.may_fail (λ notes. notes.items) result (Ok (notes_of kind (opened S.bytes self.now))) }
     {
         read_notes(alloc, &self.source, &self.segments, kind)
     }
@@ -317,7 +317,7 @@ impl<S: ByteSource> Dump<S> {
     /// `DumpError::OutOfMemory` if memory allocation fails, `DumpError::Read` if a read fails.
     pub fn kernel(&self, alloc: Global) -> Result<Option<Kernel>, DumpError>
         ensures { S.IsKnown →
-            Gives S.may_fail (λ kernel. kernel) result (kernel_in (opened S.bytes self.now)) }
+            OpensAs S.may_fail (λ kernel. kernel) result (kernel_in (opened S.bytes self.now)) }
     {
         match agreed_text(&self.texts) {
             Ok(Some(text)) => Ok(Some(text.kernel)),
@@ -329,7 +329,7 @@ impl<S: ByteSource> Dump<S> {
     /// Finds the root of the kernel by the first of the notes VMCOREINFO.
     fn noted_kernel(&self, alloc: Global) -> Result<Option<Kernel>, DumpError>
         ensures { S.IsKnown →
-            Gives S.may_fail (λ kernel. kernel) result (noted_kernel (opened S.bytes self.now)) }
+            OpensAs S.may_fail (λ kernel. kernel) result (noted_kernel (opened S.bytes self.now)) }
     {
         let Some(text) = self.noted_text(alloc)? else {
             return Ok(None);
@@ -348,7 +348,7 @@ impl<S: ByteSource> Dump<S> {
     ///
     /// `DumpError::OutOfMemory` if memory allocation fails, `DumpError::Read` if a read fails.
     pub fn vmcoreinfo(&self, alloc: Global) -> Result<Option<Vec<u8>>, DumpError>
-        ensures { S.IsKnown → Gives S.may_fail (option_map (λ text. text.items)) result
+        ensures { S.IsKnown → OpensAs S.may_fail (option_map (λ text. text.items)) result
             (Ok (vmcoreinfo_of (opened S.bytes self.now))) }
     {
         match self.texts.first() {
@@ -359,7 +359,7 @@ impl<S: ByteSource> Dump<S> {
 
     /// Reads the text of the first of the notes VMCOREINFO.
     fn noted_text(&self, alloc: Global) -> Result<Option<Vec<u8>>, DumpError>
-        ensures { S.IsKnown → Gives S.may_fail (option_map (λ text. text.items)) result
+        ensures { S.IsKnown → OpensAs S.may_fail (option_map (λ text. text.items)) result
             (Ok (noted_text (opened S.bytes self.now))) }
     {
         let notes = self.notes(alloc, NoteKind::VmCoreInfo)?;
@@ -371,7 +371,7 @@ impl<S: ByteSource> Dump<S> {
 
     /// Reads 4096 bytes from an offset of the file on, as far as the file has them.
     fn page_text(&self, alloc: Global, offset: u64) -> Result<Vec<u8>, DumpError>
-        ensures { S.IsKnown → Gives S.may_fail (λ text. text.items) result
+        ensures { S.IsKnown → OpensAs S.may_fail (λ text. text.items) result
             (Ok (part_of (opened S.bytes self.now).file offset 4096)) }
     {
         let note = Note {
@@ -390,7 +390,7 @@ impl<S: ByteSource> Dump<S> {
     /// `Fault::VmCoreInfo` if the text doesn't say the root, the levels and the mask. `DumpError::OutOfMemory` if memory allocation
     /// fails, `DumpError::Read` if a read fails.
     pub fn text_at(&self, alloc: Global, offset: u64) -> Result<KernelText, DumpError>
-        ensures { S.IsKnown → Gives S.may_fail (λ text. text) result
+        ensures { S.IsKnown → OpensAs S.may_fail (λ text. text) result
             (text_at (opened S.bytes self.now).file offset) }
     {
         let text = self.page_text(alloc, offset)?;
@@ -415,7 +415,7 @@ impl<S: ByteSource> Dump<S> {
         progress: &G,
     ) -> Result<Vec<KernelText>, DumpError>
         ensures { S.IsKnown →
-            Gives S.may_fail (λ texts. texts.items) result (Ok (kernel_texts (opened S.bytes self.now))) }
+            OpensAs S.may_fail (λ texts. texts.items) result (Ok (kernel_texts (opened S.bytes self.now))) }
     {
         let texts = read_texts(alloc, &self.source, &self.segments, progress);
         progress.search_ended();
@@ -429,7 +429,7 @@ impl<S: ByteSource> Dump<S> {
     /// `DumpError::OutOfMemory` if memory allocation fails, `DumpError::Read` if the source can't be read.
     pub fn is_noted(&self, alloc: Global) -> Result<bool, DumpError>
         ensures { S.IsKnown →
-            Gives S.may_fail (λ is. is) result (Ok (is_noted (opened S.bytes self.now))) }
+            OpensAs S.may_fail (λ is. is) result (Ok (is_noted (opened S.bytes self.now))) }
     {
         let processors = self.notes(alloc, NoteKind::Qemu)?;
         let kernels = self.notes(alloc, NoteKind::VmCoreInfo)?;
@@ -443,7 +443,7 @@ impl<S: ByteSource> Dump<S> {
     /// `DumpError::OutOfMemory` if memory allocation fails, `DumpError::Read` if the source can't be read.
     pub fn is_of_virtualbox(&self, alloc: Global) -> Result<bool, DumpError>
         ensures { S.IsKnown →
-            Gives S.may_fail (λ is. is) result (Ok (is_of_virtualbox (opened S.bytes self.now))) }
+            OpensAs S.may_fail (λ is. is) result (Ok (is_of_virtualbox (opened S.bytes self.now))) }
     {
         let notes = self.notes(alloc, NoteKind::VirtualBox)?;
         Ok(!notes.is_empty())

@@ -2,7 +2,7 @@
 ghost use Rattle.std.specs.Prelude.{◌≡◌, ◌+◌, ◌*◌, ◌/◌, ◌≤◌, ◌<◌, ◌^◌, ◌++◌, length, nat_lt, false, true, IfOk, IfErr, IfNone, OnOk, Ok};
 ghost use Rattle.x86_64_dump.specs.Numbers.{u32_at};
 ghost use Rattle.x86_64_dump.specs.Dump.{segment_at, segments_at};
-ghost use Rattle.x86_64_dump.specs.Opening.{header_of, header_fault, table_fault, count_of, elf_segments, has_memory, with_memory, Gives, GivesAtOnce};
+ghost use Rattle.x86_64_dump.specs.Opening.{header_of, header_fault, table_fault, count_of, elf_segments, has_memory, with_memory, OpensAs, GivesAtOnce};
 
 use crate::error::{DumpError, Fault};
 use crate::header::Header;
@@ -38,7 +38,7 @@ const COUNT_ELSEWHERE: u16 = 65535;
 
 /// Reads the segments of an ELF file.
 pub fn read_elf<S: ByteSource>(alloc: Global, source: &S) -> Result<Vec<Segment>, DumpError>
-    ensures { S.IsKnown → Gives S.may_fail (λ v. v.items) result
+    ensures { S.IsKnown → OpensAs S.may_fail (λ v. v.items) result
         (elf_segments (S.bytes source.now) (header_of (S.bytes source.now))) }
 {
     let header = read_header(source)?;
@@ -51,7 +51,7 @@ fn read_by<S: ByteSource>(
     source: &S,
     header: &Header,
 ) -> Result<Vec<Segment>, DumpError>
-    ensures { S.IsKnown → Gives S.may_fail (λ v. v.items) result
+    ensures { S.IsKnown → OpensAs S.may_fail (λ v. v.items) result
         (elf_segments (S.bytes source.now) header.now) }
 {
     let length = source.len();
@@ -201,7 +201,7 @@ fn read_table<S: ByteSource>(
 ) -> Result<Vec<Segment>, DumpError>
     requires { offset + 56 * count < 2 ^ 64 }
     ensures { S.IsKnown → offset + 56 * count ≤ length (S.bytes source.now) →
-        Gives S.may_fail (λ v. v.items) result (Ok (segments_at (S.bytes source.now) offset count)) }
+        OpensAs S.may_fail (λ v. v.items) result (Ok (segments_at (S.bytes source.now) offset count)) }
 {
     let mut segments = Vec::new(alloc);
     let mut done = 0;
@@ -228,7 +228,7 @@ fn add_piece<S: ByteSource>(
     requires few { count ≤ 73 }
     requires fits { offset + 56 * count < 2 ^ 64 }
     ensures { S.IsKnown → offset + 56 * count ≤ length (S.bytes source.now) →
-        Gives S.may_fail (λ _. segments.new.items) result
+        OpensAs S.may_fail (λ _. segments.new.items) result
         (Ok (segments.old.items ++ segments_at (S.bytes source.now) offset count)) }
 {
     let mut bytes = [0; 4088];

@@ -140,9 +140,9 @@ pub enum DumpError {
 }
 
 impl Display for Fault {
-    ghost use Rattle.x86_64_dump.specs.FaultTexts.{fault_text};
+    ghost use Rattle.x86_64_dump.specs.FaultTexts.{dump_fault_text};
 
-    ghost output = { fault_text };
+    ghost output = { dump_fault_text };
 
     fn fmt<W: Write>(&self, f: &mut Formatter<W>) -> FmtResult {
         match self {

@@ -86,7 +86,7 @@ fn push_text(page: &[u8], offset: u64, texts: &mut Vec<KernelText>) -> Result<()
 /// Returns the text in a page, or nothing if there is none.
 #[tactic(auto, using(crate::proofs::KernelTexts::blank_text))]
 fn text_in(page: &[u8]) -> &[u8]
-    ensures text { result.now ≡ specs.text_in page.now }
+    ensures text { result.now ≡ specs.text_in_page page.now }
     ensures inside { length result.now ≤ length page.now }
 {
     if is_blank(page) {
@@ -104,7 +104,7 @@ fn is_blank(page: &[u8]) -> bool
 
 /// Returns the bytes from the first position on where the text begins, or nothing if there is none.
 fn find_text(page: &[u8]) -> &[u8]
-    ensures text { result.now ≡ specs.text_in page.now }
+    ensures text { result.now ≡ specs.text_in_page page.now }
     ensures inside { length result.now ≤ length page.now }
 {
     for at in 0..page.len() {

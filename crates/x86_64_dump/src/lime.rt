@@ -1,7 +1,7 @@
 //! LiME files.
 ghost use Rattle.std.specs.Prelude.{◌≡◌, ◌+◌, ◌<◌, ◌^◌, false, length, IfOk};
 ghost use Rattle.x86_64_dump.specs.Lime.{cut_header, lime_segments, range_at, range_behind, range_header_at};
-ghost use Rattle.x86_64_dump.specs.Opening.{Gives, GivesAtOnce};
+ghost use Rattle.x86_64_dump.specs.Opening.{OpensAs, GivesAtOnce};
 
 use crate::elf::ends_after;
 use crate::error::{DumpError, Fault};
@@ -35,7 +35,7 @@ pub struct RangeHeader {
 /// Reads the ranges of a LiME file, as segments of memory. If the file is cut off, the last segment ends after it: it is the memory
 /// of a range, or a header.
 pub fn read_lime<S: ByteSource>(alloc: Global, source: &S) -> Result<Vec<Segment>, DumpError>
-    ensures { S.IsKnown → Gives S.may_fail (λ v. v.items) result (lime_segments (S.bytes source.now)) }
+    ensures { S.IsKnown → OpensAs S.may_fail (λ v. v.items) result (lime_segments (S.bytes source.now)) }
 {
     let length = source.len();
     let mut segments = Vec::new(alloc);

@@ -1,7 +1,7 @@
 //! The search for VMCOREINFO in memory.
 ghost use Rattle.std.specs.Prelude.{◌≡◌, ◌+◌, ◌-◌, ◌*◌, ◌≤◌, ◌<◌, ◌^◌, ◌++◌, length, drop, IfErr, IfOk, Ok};
 ghost use Rattle.x86_64_dump.specs.KernelTexts as specs;
-ghost use Rattle.x86_64_dump.specs.Opening.{Gives};
+ghost use Rattle.x86_64_dump.specs.Opening.{OpensAs};
 ghost use Rattle.x86_64_dump.specs.declared.error.DumpError.TheVariants as errors;
 
 use crate::error::DumpError;
@@ -24,7 +24,7 @@ pub fn read_texts<S: ByteSource, G: Progress>(
     segments: &[Segment],
     progress: &G,
 ) -> Result<Vec<KernelText>, DumpError>
-    ensures { S.IsKnown → Gives S.may_fail (λ v. v.items) result
+    ensures { S.IsKnown → OpensAs S.may_fail (λ v. v.items) result
         (Ok (specs.texts_within (length (S.bytes source.now)) (S.bytes source.now) segments.now)) }
 {
     let mut buffer = new_buffer(alloc)?;
@@ -51,7 +51,7 @@ fn add_segments<S: ByteSource, G: Progress>(
     progress: &G,
 ) -> Result<(), DumpError>
     requires { length buffer.old ≡ 1048576 }
-    ensures { S.IsKnown → Gives S.may_fail (λ _. texts.new.items) result (Ok (texts.old.items
+    ensures { S.IsKnown → OpensAs S.may_fail (λ _. texts.new.items) result (Ok (texts.old.items
         ++ specs.texts_within (length (S.bytes source.now)) (S.bytes source.now) segments.now)) }
 {
     let length = source.len();
@@ -93,7 +93,7 @@ fn add_segment<S: ByteSource, G: Progress>(
     requires inside { 0 < size → segment.now.offset + size ≤ S.size source.now }
     requires buffer { length buffer.old ≡ 1048576 }
     ensures length { length buffer.new ≡ 1048576 }
-    ensures texts { S.IsKnown → Gives S.may_fail (λ _. texts.new.items) result
+    ensures texts { S.IsKnown → OpensAs S.may_fail (λ _. texts.new.items) result
         (Ok (texts.old.items ++ specs.segment_texts (S.bytes source.now) segment.now)) }
 {
     // Its contract says that offsets in the file are below 2^64.
@@ -119,7 +119,7 @@ fn add_pages<S: ByteSource, G: Progress>(
     requires fits { offset + 4096 * pages < 2 ^ 64 }
     requires buffer { length buffer.old ≡ 1048576 }
     ensures length { length buffer.new ≡ 1048576 }
-    ensures texts { S.IsKnown → Gives S.may_fail (λ _. texts.new.items) result
+    ensures texts { S.IsKnown → OpensAs S.may_fail (λ _. texts.new.items) result
         (Ok (texts.old.items ++ specs.texts_in pages offset (drop offset (S.bytes source.now)))) }
 {
     let mut done = 0;
@@ -144,7 +144,7 @@ fn add_chunk<S: ByteSource>(
     requires fits { offset + 4096 * pages < 2 ^ 64 }
     requires few { 4096 * pages ≤ length buffer.old }
     ensures length { length buffer.new ≡ length buffer.old }
-    ensures texts { S.IsKnown → Gives S.may_fail (λ _. texts.new.items) result
+    ensures texts { S.IsKnown → OpensAs S.may_fail (λ _. texts.new.items) result
         (Ok (texts.old.items ++ specs.texts_in pages offset (drop offset (S.bytes source.now)))) }
 {
     let chunk = &mut buffer[..(PAGE * pages) as usize];

@@ -2,7 +2,7 @@
 ghost use Rattle.std.specs.Prelude.{◌≡◌, ◌+◌, ◌*◌, ◌/◌, ◌≤◌, ◌<◌, ◌^◌, ◌++◌, length, nat_lt, cond, true, Some, None, IfOk, IfErr, OnOk, Ok, Err};
 ghost use Rattle.x86_64_dump.specs.declared.error.DumpError.TheVariants as errors;
 ghost use Rattle.x86_64_dump.specs.Numbers.{u32_at};
-ghost use Rattle.x86_64_dump.specs.Opening.{Gives, GivesAtOnce};
+ghost use Rattle.x86_64_dump.specs.Opening.{OpensAs, GivesAtOnce};
 ghost use Rattle.x86_64_dump.specs.Notes.{padded, kind_at, note_at, note_cut, notes_size, is_note_cut, register_of};
 ghost use Rattle.x86_64_dump.specs.VmCoreInfo.{descriptor_of, text_of};
 ghost use Rattle.x86_64_dump.specs.private.NotesLeft.{is_whole, if_kept, kept_notes, notes_within};
@@ -33,7 +33,7 @@ pub fn read_notes<S: ByteSource>(
     segments: &[Segment],
     kind: NoteKind,
 ) -> Result<Vec<Note>, DumpError>
-    ensures { S.IsKnown → Gives S.may_fail (λ v. v.items) result
+    ensures { S.IsKnown → OpensAs S.may_fail (λ v. v.items) result
         (Ok (notes_within kind (length (S.bytes source.now)) (S.bytes source.now) segments.now)) }
 {
     let length = source.len();
@@ -60,7 +60,7 @@ fn add_from<S: ByteSource>(
 ) -> Result<(), DumpError>
     requires { offset + size < 2 ^ 64 }
     ensures { S.IsKnown → (0 < size → offset + size ≤ length (S.bytes source.now)) →
-        Gives S.may_fail (λ _. notes.new.items) result
+        OpensAs S.may_fail (λ _. notes.new.items) result
         (Ok (notes.old.items ++ kept_notes kind (size / 12) (S.bytes source.now) offset size)) }
 {
     let mut at = offset;
@@ -156,7 +156,7 @@ pub fn read_text<S: ByteSource>(
     source: &S,
     note: &Note,
 ) -> Result<Vec<u8>, DumpError>
-    ensures { S.IsKnown → Gives S.may_fail (λ v. v.items) result
+    ensures { S.IsKnown → OpensAs S.may_fail (λ v. v.items) result
         (Ok (text_of (S.bytes source.now) note.now)) }
 {
     let mut text = read_descriptor(alloc, source, note)?;
@@ -173,7 +173,7 @@ pub fn read_descriptor<S: ByteSource>(
     source: &S,
     note: &Note,
 ) -> Result<Vec<u8>, DumpError>
-    ensures { S.IsKnown → Gives S.may_fail (λ v. v.items) result
+    ensures { S.IsKnown → OpensAs S.may_fail (λ v. v.items) result
         (Ok (descriptor_of (S.bytes source.now) note.now)) }
 {
     let size = note

@@ -1,5 +1,5 @@
 //! Segments of files of each format.
-ghost use Rattle.x86_64_dump.specs.Opening.{Gives, segments_of};
+ghost use Rattle.x86_64_dump.specs.Opening.{OpensAs, segments_of};
 
 use crate::elf::read_elf;
 use crate::error::{DumpError, Fault};
@@ -19,7 +19,7 @@ pub fn read_segments<S: ByteSource>(
     placement: &Placement,
 ) -> Result<Vec<Segment>, DumpError>
     ensures { S.IsKnown →
-        Gives S.may_fail (λ v. v.items) result (segments_of format (S.bytes source.now) placement.now) }
+        OpensAs S.may_fail (λ v. v.items) result (segments_of format (S.bytes source.now) placement.now) }
 {
     match (format, placement) {
         (Format::Raw, _) => raw_segments(alloc, source.len(), placement),

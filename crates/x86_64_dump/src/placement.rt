@@ -1,7 +1,7 @@
 //! Where the bytes of raw files lie in physical memory.
 ghost use Rattle.std.specs.Prelude.{◌≡◌, false, Ok, IfOk, map};
 ghost use Rattle.x86_64_dump.specs.Placement.{first_fault, range_fault, range_segment, raw_segments, whole_file};
-ghost use Rattle.x86_64_dump.specs.Opening.{Gives};
+ghost use Rattle.x86_64_dump.specs.Opening.{OpensAs};
 
 use crate::elf::ends_after;
 use crate::error::{DumpError, Fault};
@@ -77,7 +77,7 @@ pub fn raw_segments(
     length: u64,
     placement: &Placement,
 ) -> Result<Vec<Segment>, DumpError>
-    ensures { Gives false (λ v. v.items) result (raw_segments length placement.now) }
+    ensures { OpensAs false (λ v. v.items) result (raw_segments length placement.now) }
 {
     match placement {
         Placement::Unstated => whole_file(alloc, length, 0),
@@ -98,7 +98,7 @@ fn segments_of(alloc: Global, ranges: &[RawRange]) -> Result<Vec<Segment>, Alloc
 
 /// Returns all bytes of a raw file of this length, from an address on, as a segment.
 fn whole_file(alloc: Global, length: u64, address: u64) -> Result<Vec<Segment>, DumpError>
-    ensures { Gives false (λ v. v.items) result (Ok (whole_file length address)) }
+    ensures { OpensAs false (λ v. v.items) result (Ok (whole_file length address)) }
 {
     let whole = Segment {
         kind: Segment::LOAD,

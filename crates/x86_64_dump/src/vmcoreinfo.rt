@@ -32,7 +32,7 @@ pub enum Key {
 impl Key {
     /// Returns the key with `=` behind it.
     fn text(self) -> &'static str
-        ensures { result.now ≡ info.key_text self }
+        ensures { result.now ≡ info.key_bytes self }
     {
         match self {
             Key::SwapperPgDir => "SYMBOL(swapper_pg_dir)=",
@@ -171,7 +171,7 @@ fn line_end(text: &[u8]) -> Option<usize>
 fn number_of(digits: &[u8], radix: u32) -> Option<u64>
     requires lower_bound { 2 ≤ radix }
     requires upper_bound { radix ≤ 36 }
-    ensures { result ≡ info.number_of radix digits.now }
+    ensures { result ≡ info.number_in_radix radix digits.now }
 {
     match str::from_utf8(digits) {
         Ok(text) => parse_digits(text, radix),
@@ -208,7 +208,7 @@ fn shift_of(text: &[u8]) -> Option<Shift>
 /// has it, or if the value is neither hexadecimal digits behind `0x` nor decimal digits, perhaps behind a minus, or too large. A
 /// number behind a minus counts modulo 2^64, as addresses are written that the kernel prints as signed numbers.
 pub fn word_in(text: &[u8], key: &[u8]) -> Option<u64>
-    ensures { result ≡ info.word_in text.now key.now }
+    ensures { result ≡ info.value_in text.now key.now }
 {
     let Some(value) = value_of(text, key) else {
         return None;

@@ -1,6 +1,6 @@
 -- A map that follows a look: it is refused as the look says, or done.
 use Rattle.std.proofs.Common.{◌≡◌, ℕ, true, false, cond, length, Result, Ok, Err, OnErr, refl, sym, ap, ◌∙◌, subst}
-use Rattle.x86_64_live.specs.MapsOrNothing.{MapsOrNothing, by_rule, call_of}
+use Rattle.x86_64_live.specs.MapsOrNothing.{MapsOrNothing, by_rule, call_for}
 use Rattle.x86_64_live.specs.WouldAnswer.{WouldAnswer}
 use Rattle.x86_64_live.specs.declared.map.PageMap.{PageMap}
 use Rattle.x86_64_mappers.specs.Supplies.{MapsFrom, Supply}
@@ -38,7 +38,7 @@ module _ {Lent S L : Type 0} (h : Hierarchy Lent) (supply : Supply) (level : ℕ
   told : (answer : Answer) → Foretold answer → rule.answer ≡ answer
   told answer foretold = foretold supply.frames _ _ refl
 
-  module _ (answer : Answer) (after : Hierarchy Lent) (rest : Supply) (maps : MapsFrom h supply level (call_of map) answer after rest) where
+  module _ (answer : Answer) (after : Hierarchy Lent) (rest : Supply) (maps : MapsFrom h supply level (call_for map) answer after rest) where
     by_machine : rule ≡ record { paths = paths after; supply = rest.frames; answer = answer }
     unfolding do_call
     by_machine = ap map_in (maps.map.outcome (λ held frame. held))
@@ -85,10 +85,10 @@ module _ {Lent : Type 0} (h : Hierarchy Lent) (l : Layout) (m : Memory) (layout 
 
   -- a map is done if the look found no reason against it
   pub done_after_look : {S L E X : Type 0} (after : Hierarchy Lent) (n : Memory) → after.memory ≡ n → (supply rest : Supply) (free : ℕ) → length supply.frames ≡ free → (level : ℕ) (map : PageMap S L) (result : Result X (MapToError E))
-      → WouldAnswer (l laid_in m) level map.page map.frame free (Done map.frame) → MapsFrom h supply level (call_of map) (map_answer map.frame result) after rest
+      → WouldAnswer (l laid_in m) level map.page map.frame free (Done map.frame) → MapsFrom h supply level (call_for map) (map_answer map.frame result) after rest
       → MapsOrNothing (l laid_in m) supply level map (map_answer map.frame result) (l laid_in n) rest × ((P : Type 0) → OnErr result P)
   done_after_look after n left supply rest free count level map result foretold maps =
-      let here = in_words after n left supply rest level (call_of map) (map_answer map.frame result) maps in
+      let here = in_words after n left supply rest level (call_for map) (map_answer map.frame result) maps in
       let known = subst (λ n. WouldAnswer (l laid_in m) level map.page map.frame n (Done map.frame)) (sym count) foretold in (
         done_map (l laid_in m) supply level map (map_answer map.frame result) (l laid_in n) rest here known,
         λ P. no_error map.frame result P (is_done (l laid_in m) supply level map (map_answer map.frame result) (l laid_in n) rest here known),

@@ -1,6 +1,6 @@
 //! Maps that change nothing if they are refused.
 ghost use Rattle.std.specs.Prelude.{◌≡◌, length, IfOk, OnErr};
-ghost use Rattle.x86_64_live.specs.MapsOrNothing.{MapsOrNothing, call_of};
+ghost use Rattle.x86_64_live.specs.MapsOrNothing.{MapsOrNothing, call_for};
 ghost use Rattle.x86_64_mappers.specs.Layouts.{direct_at};
 ghost use Rattle.x86_64_mappers.specs.PageAnswers.{allows_call};
 ghost use Rattle.x86_64_mappers.specs.Supplies.{supply_of};
@@ -44,7 +44,7 @@ pub fn may_map<S: PageSize, L: LevelCount, T: TableMemory, P: PageTableFrameMapp
 ) -> bool
     requires { Valid (direct_at L.LEVELS (P.places mapping) root laid_in T.tables memory.old) }
     ensures answer { result
-        ≡ allows_call (direct_at L.LEVELS (P.places mapping) root laid_in T.tables memory.old) S.LEVEL (call_of map) }
+        ≡ allows_call (direct_at L.LEVELS (P.places mapping) root laid_in T.tables memory.old) S.LEVEL (call_for map) }
     ensures kept { T.tables memory.new ≡ T.tables memory.old }
     ensures lent { T.lent memory.new ≡ T.lent memory.old }
 {
@@ -79,7 +79,7 @@ pub fn map_or_nothing<
     free_frames: usize,
 ) -> Result<MapperFlushIn<S, L>, MapToError<S>>
     requires may { MayAskMap (direct_at L.LEVELS (P.places mapping) root laid_in T.tables memory.old)
-        (A.supply frame_allocator.old) S.LEVEL (call_of map) }
+        (A.supply frame_allocator.old) S.LEVEL (call_for map) }
     requires count { length (A.supply frame_allocator.old) ≡ free_frames }
     ensures maps { let layout = direct_at L.LEVELS (P.places mapping) root in
         MapsOrNothing (layout laid_in T.tables memory.old) (supply_of A.FrameAllocator frame_allocator.old)

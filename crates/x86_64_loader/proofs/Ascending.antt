@@ -10,7 +10,7 @@ use Rattle.x86_64_model.specs.Position.{span}
 use Rattle.x86_64_model.proofs.Lemmas.Lists.All.{all_mapped}
 use Rattle.x86_64_tables.specs.PageTableFlags.{bits_of}
 use Rattle.x86_64_loader.specs.private.Loads.{pages_by}
-use Rattle.x86_64_loader.specs.Segments.{IsAllowed, count_before, count_large, large_pages, mapping_of, part_of, run_of, size_of, small_pages}
+use Rattle.x86_64_loader.specs.Segments.{IsAllowed, count_before, count_large, large_pages, page_mapping, pages_of_part, run_of, size_of, small_pages}
 use Rattle.x86_64_loader.specs.declared.loader.Sizes.{Sizes}
 use Rattle.x86_64_loader.specs.declared.loader.Sizes.TheVariants as sizes
 use Rattle.x86_64_loader.specs.declared.segment.Segment.{Segment}
@@ -36,7 +36,7 @@ ascends_run level page frame given n = subst₂ (λ a b. Ascends a b (run_of lev
     (let e : page + (0 + n) * span level ≡ page + n * span level = omega arith in e) (from 0 n)
   where
     nth : ℕ → PageMapping
-    nth k = mapping_of level (page + k * span level) (frame + k * span level) given
+    nth k = page_mapping level (page + k * span level) (frame + k * span level) given
 
     from : (a n : ℕ) → Ascends (page + a * span level) (page + (a + n) * span level) (map nth (range_with_len a n))
     from a zero = omega arith
@@ -127,18 +127,18 @@ segment_ascends sizes.Small s = lower s.page (s.page + 0 * 0x1000) (s.page + siz
 segment_ascends sizes.Large s =
     let first = count_before s in let large = count_large s in let behind = first + large * 512 in let few = count_few s in
     lower s.page (s.page + 0 * 0x1000) (s.page + size_of s) (large_pages s) (omega arith)
-    (ascends_then (s.page + 0 * 0x1000) (s.page + first * 0x1000) (s.page + size_of s) (part_of 1 s 0 first) (part_of 2 s first large ++ part_of 1 s behind (s.pages - behind))
-    (subst (λ high. Ascends (s.page + 0 * 0x1000) high (part_of 1 s 0 first)) (let e : s.page + 0 * 0x1000 + first * span 1 ≡ s.page + first * 0x1000 = omega arith in e)
+    (ascends_then (s.page + 0 * 0x1000) (s.page + first * 0x1000) (s.page + size_of s) (pages_of_part 1 s 0 first) (pages_of_part 2 s first large ++ pages_of_part 1 s behind (s.pages - behind))
+    (subst (λ high. Ascends (s.page + 0 * 0x1000) high (pages_of_part 1 s 0 first)) (let e : s.page + 0 * 0x1000 + first * span 1 ≡ s.page + first * 0x1000 = omega arith in e)
     (ascends_run 1 (s.page + 0 * 0x1000) (s.frame + 0 * 0x1000) (bits_of s.flags) first))
-    (ascends_then (s.page + first * 0x1000) (s.page + behind * 0x1000) (s.page + size_of s) (part_of 2 s first large) (part_of 1 s behind (s.pages - behind))
-    (subst (λ high. Ascends (s.page + first * 0x1000) high (part_of 2 s first large)) (let e : s.page + first * 0x1000 + large * span 2 ≡ s.page + behind * 0x1000 = omega arith in e)
+    (ascends_then (s.page + first * 0x1000) (s.page + behind * 0x1000) (s.page + size_of s) (pages_of_part 2 s first large) (pages_of_part 1 s behind (s.pages - behind))
+    (subst (λ high. Ascends (s.page + first * 0x1000) high (pages_of_part 2 s first large)) (let e : s.page + first * 0x1000 + large * span 2 ≡ s.page + behind * 0x1000 = omega arith in e)
     (ascends_run 2 (s.page + first * 0x1000) (s.frame + first * 0x1000) (bits_of s.flags) large))
-    (subst (λ high. Ascends (s.page + behind * 0x1000) high (part_of 1 s behind (s.pages - behind))) (let e : s.page + behind * 0x1000 + (s.pages - behind) * span 1 ≡ s.page + size_of s = omega (arith, few) in e)
+    (subst (λ high. Ascends (s.page + behind * 0x1000) high (pages_of_part 1 s behind (s.pages - behind))) (let e : s.page + behind * 0x1000 + (s.pages - behind) * span 1 ≡ s.page + size_of s = omega (arith, few) in e)
     (ascends_run 1 (s.page + behind * 0x1000) (s.frame + behind * 0x1000) (bits_of s.flags) (s.pages - behind)))))
 
 module _ {Lent : Type 0} (h : Hierarchy Lent) (some : 3 < h.layout.levels) (s : Segment) (aligned : s.page % 0x1000 ≡ 0) (allowed : IsAllowed h s) where
   part_pages : (level first count : ℕ) → 1 ≤ level → level ≤ 2 → (0 < count → (s.page + first * 0x1000) % span level ≡ 0) → first * 0x1000 + count * span level ≤ size_of s
-      → AllByRecursion (IsPageOf h s) (part_of level s first count)
+      → AllByRecursion (IsPageOf h s) (pages_of_part level s first count)
   part_pages level first count low high multiple within = all_in_run level (s.page + first * 0x1000) (s.frame + first * 0x1000) (bits_of s.flags) (IsPageOf h s) count
       (λ k below. let may = part_may h s level (span level) first count refl low (omega (arith, high)) allowed within (omega (arith, high, some)) k below in record {
         low = low;
@@ -154,8 +154,8 @@ module _ {Lent : Type 0} (h : Hierarchy Lent) (some : 3 < h.layout.levels) (s : 
   segment_pages sizes.Small = part_pages 1 0 s.pages (omega arith) (omega arith) (λ more. omega (arith, aligned)) (omega arith)
   segment_pages sizes.Large =
       let first = count_before s in let large = count_large s in let behind = first + large * 512 in let few = count_few s in
-      all_both_lists (IsPageOf h s) (part_of 1 s 0 first) (part_of 2 s first large ++ part_of 1 s behind (s.pages - behind))
+      all_both_lists (IsPageOf h s) (pages_of_part 1 s 0 first) (pages_of_part 2 s first large ++ pages_of_part 1 s behind (s.pages - behind))
       (part_pages 1 0 first (omega arith) (omega arith) (λ more. omega (arith, aligned)) (omega (arith, few)))
-      (all_both_lists (IsPageOf h s) (part_of 2 s first large) (part_of 1 s behind (s.pages - behind))
+      (all_both_lists (IsPageOf h s) (pages_of_part 2 s first large) (pages_of_part 1 s behind (s.pages - behind))
       (part_pages 2 first large (omega arith) (omega arith) (large_aligned s aligned) (omega (arith, few)))
       (part_pages 1 behind (s.pages - behind) (omega arith) (omega arith) (λ more. omega (arith, aligned)) (omega (arith, few))))

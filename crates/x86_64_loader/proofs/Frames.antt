@@ -11,7 +11,7 @@ use Rattle.x86_64_model.specs.Path.{parents, path_at}
 use Rattle.x86_64_model.specs.Position.{page_path, span}
 use Rattle.x86_64_model.proofs.Lemmas.Lists.Members.{in_left, in_map, in_range, in_right}
 use Rattle.x86_64_model.proofs.Lemmas.Paths.Pages.{front_in_page, length_taken}
-use Rattle.x86_64_loader.specs.Segments.{entries_of, frames_for, tables_of}
+use Rattle.x86_64_loader.specs.Segments.{entries_of, frames_for, table_estimate}
 use Rattle.x86_64_loader.specs.declared.segment.Segment.{Segment}
 
 -- the paths of the entries of a level on the paths to a segment's pages
@@ -29,7 +29,7 @@ tables_counted segments = length-flat_map tables_in segments ∙ (λ i. sum_by (
     long : (level : ℕ) (s : Segment) → length (tables_at level s) ≡ entries_of s level
     long level s = length-map-range_with_len (λ j. path_at 4 level ((s.page / span level + j) * span level)) 0 (entries_of s level)
 
-    counted : (s : Segment) → length (tables_in s) ≡ tables_of s
+    counted : (s : Segment) → length (tables_in s) ≡ table_estimate s
     counted s = by (s.pages == 0)
       where
         by : (b : Bool) → length (cond b [] (tables_at 4 s ++ (tables_at 3 s ++ tables_at 2 s))) ≡ cond b 0 (entries_of s 4 + entries_of s 3 + entries_of s 2)

@@ -14,9 +14,9 @@ use Rattle.x86_64_model.proofs.Lemmas.Machines.Standing.{arrives_where_stands}
 use Rattle.x86_64_model.specs.MapRule.{parent_part}
 use Rattle.x86_64_model.specs.Mapper.{paths}
 use Rattle.x86_64_mappers.specs.Supplies.{Supply}
-use Rattle.x86_64_loader.specs.private.Held.{IsHeld, AreHeld}
-use Rattle.x86_64_loader.specs.Maps.{Kept}
-use Rattle.x86_64_loader.specs.Pages.{IsFree, Leaves, MayBeMapped, RunStands}
+use Rattle.x86_64_loader.specs.private.Held.{IsHeld, PagesAreHeld}
+use Rattle.x86_64_loader.specs.Maps.{KeptWithSupply}
+use Rattle.x86_64_loader.specs.Pages.{IsFree, LeavesSupply, MayBeMapped, RunStands}
 use Rattle.x86_64_loader.specs.Segments.{ReachesAt}
 use Rattle.x86_64_loader.specs.declared.segment.Segment.{Segment}
 use Rattle.x86_64_loader.proofs.Runs.{no_worse_then}
@@ -29,7 +29,7 @@ module _ {Lent : Type 0} (h : Hierarchy Lent) (level size page frame given count
   some_bytes : 0 < size
   some_bytes = subst (λ s. 0 < s) (sym spans) (pow_pos (12 + 9 * (level - 1)))
 
-  pub run_is_held : AreHeld h (count * size) page frame given
+  pub run_is_held : PagesAreHeld h (count * size) page frame given
   run_is_held o within =
       let low : o / size * size ≤ o = div-mul-le_self o size in
       let high : o < o / size * size + size = lt-div-mul-add some_bytes in
@@ -67,7 +67,7 @@ module _ {Lent : Type 0} (h : Hierarchy Lent) (p to given : ℕ) (held : IsHeld 
       ∙ ap (λ a. Some (record { address = a; write = writable given; user = user given })) there
 
   -- is still held after later maps
-  pub held_still : {supply : Supply} (after : Hierarchy Lent) (rest : Supply) → Leaves 3 h supply after rest → IsHeld after p to given
+  pub held_still : {supply : Supply} (after : Hierarchy Lent) (rest : Supply) → LeavesSupply 3 h supply after rest → IsHeld after p to given
   held_still after rest left = record {
     level = held.level;
     page = held.page;
@@ -89,6 +89,6 @@ module _ {Lent : Type 0} (h : Hierarchy Lent) (p to given : ℕ) (held : IsHeld 
   held_reached valid = (record { address = to; write = writable given; user = user given }, held_arrives valid, record { same_place = refl; write_kept = λ a. a; user_kept = λ a. a })
 
 -- a page walk that arrived as it should still does after maps
-pub reached_after : {Lent : Type 0} {supply : Supply} (h after : Hierarchy Lent) (rest : Supply) (s : Segment) (o : ℕ) → Kept h supply after rest → ReachesAt h s o → ReachesAt after s o
+pub reached_after : {Lent : Type 0} {supply : Supply} (h after : Hierarchy Lent) (rest : Supply) (s : Segment) (o : ℕ) → KeptWithSupply h supply after rest → ReachesAt h s o → ReachesAt after s o
 reached_after h after rest s o kept before =
     let now = kept.walks (s.page + o) before.0 before.1 in (now.0, now.1, no_worse_then _ before.0 now.0 before.2 now.2)

@@ -6,7 +6,7 @@ use Rattle.std.proofs.lemmas.List.FromFn.{length-map-range_with_len, get_or-map-
 use Rattle.std.specs.List.{AllByRecursion, range_with_len}
 use Rattle.x86_64_model.specs.PageMappings.{PageMapping}
 use Rattle.x86_64_model.specs.Position.{span}
-use Rattle.x86_64_loader.specs.Segments.{mapping_of, run_of}
+use Rattle.x86_64_loader.specs.Segments.{page_mapping, run_of}
 
 pub all_both_lists : {X : Type 0} (P : X → Type 0) (xs ys : List X) → AllByRecursion P xs → AllByRecursion P ys → AllByRecursion P (xs ++ ys)
 all_both_lists P [] ys all more = more
@@ -18,7 +18,7 @@ all_in_range P f a (suc n) each = (subst (λ j. P (f j)) (omega arith) (each 0 (
 
 module _ (level page frame given : ℕ) where
   abbrev nth : ℕ → PageMapping
-  nth k = mapping_of level (page + k * span level) (frame + k * span level) given
+  nth k = page_mapping level (page + k * span level) (frame + k * span level) given
 
   pub all_in_run : (P : PageMapping → Type 0) (count : ℕ) → ((k : ℕ) → k < count → P (nth k)) → AllByRecursion P (run_of level page frame given count)
   all_in_run P count each = all_in_range P nth 0 count (λ k below. subst (λ j. P (nth j)) (omega arith) (each k below))

@@ -22,8 +22,8 @@ use Rattle.x86_64.specs.declared.call_values.PageReply.TheVariants as reply
 use Rattle.x86_64.proofs.FreeFrames.{nothing_keeps_free}
 use Rattle.x86_64.proofs.Keeping.{keeps_nothing}
 use Rattle.x86_64.proofs.PageSteps.{Serves, Start, map_to_served}
-use Rattle.x86_64_loader.specs.Maps.{Accepts, Kept, Made, Refuses}
-use Rattle.x86_64_loader.specs.Segments.{mapping_of}
+use Rattle.x86_64_loader.specs.Maps.{Accepts, KeptWithSupply, Made, Refuses}
+use Rattle.x86_64_loader.specs.Segments.{page_mapping}
 
 -- the supply that a value is, by what it can hand out and what it serves
 abbrev pub supplied : {Self : Type 0} → (supply : Self → List ℕ) → (serves : Self → ℕ → Bool) → Self → Supply
@@ -68,7 +68,7 @@ refuses_then h now after supply between rest xs ys same next why one two =
 -- for one map
 pub made_one : {Lent : Type 0} (h : Hierarchy Lent) (supply : List ℕ) (level page frame given : ℕ) (answer : Answer) (after : Hierarchy Lent) (rest : List ℕ)
     → MayMap h supply (MapTo (path_of h level page) frame given) → DoesMap h supply (MapTo (path_of h level page) frame given) answer after rest
-    → Made h supply (mapping_of level page frame given ∷ []) (Answered answer ∷ []) after rest
+    → Made h supply (page_mapping level page frame given ∷ []) (Answered answer ∷ []) after rest
 made_one h supply level page frame given answer after rest may does = record {
   replies = λ take_back. ap (λ (x : AfterCall). x.reply ∷ []) (one take_back);
   state = λ take_back. ap (λ (x : AfterCall). x.state) (one take_back);
@@ -86,7 +86,7 @@ pub gives_first : TakesBack put_first
 gives_first = record { same_frames = λ held f g. (λ i. i, λ i. i); each_once = λ held f once. once }
 
 -- no map
-pub kept_none : {Lent : Type 0} (h : Hierarchy Lent) (supply : Supply) → PoolFits h (λ f. true) supply.frames → Kept h supply h supply
+pub kept_none : {Lent : Type 0} (h : Hierarchy Lent) (supply : Supply) → PoolFits h (λ f. true) supply.frames → KeptWithSupply h supply h supply
 kept_none h supply fits = record {
   fits = fits;
   keeps = λ serves fits. keeps_nothing h.layout serves h.memory supply.frames fits;
@@ -100,7 +100,7 @@ kept_none h supply fits = record {
 -- one map
 pub kept_one : {Lent : Type 0} {S : Type 0} (h after : Hierarchy Lent) (supply rest : Supply) (level page frame given : ℕ) → 1 ≤ level → level ≤ 3 → 3 < h.layout.levels
     → IsParentFlags h.layout.added_flags → IsMapping h.layout.places → (result : Result ℕ (MapToError S)) → IfOk result (λ flush. flush ≡ page)
-    → MayMap h supply.frames (MapTo (path_of h level page) frame given) → DoesMapFrom h supply (MapTo (path_of h level page) frame given) (map_answer frame result) after rest → Kept h supply after rest
+    → MayMap h supply.frames (MapTo (path_of h level page) frame given) → DoesMapFrom h supply (MapTo (path_of h level page) frame given) (map_answer frame result) after rest → KeptWithSupply h supply after rest
 kept_one {S = S} h after supply rest level page frame given low high some adds mapping result same may does = record {
   fits = does.map.fits;
   keeps = λ serves fits. (served serves fits).keeps;

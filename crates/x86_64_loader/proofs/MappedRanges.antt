@@ -14,13 +14,13 @@ use Rattle.x86_64_model.specs.Refusal.{Answer, Done, Refused}
 use Rattle.x86_64_model.proofs.Lemmas.Machines.Owners.{does_map_to}
 use Rattle.x86_64_tables.specs.MapperAnswers.{map_refusal}
 use Rattle.x86_64_tables.specs.declared.mapper.MapToError.{MapToError}
-use Rattle.x86_64_mappers.specs.Ranges.{MapRange, MapsAll, MayMapRange, MapsEach, StopsAt, accepted, frame_at, map_at, range_of}
+use Rattle.x86_64_mappers.specs.Ranges.{MapRange, MapsAll, MayMapRange, MapsEach, StopsAt, accepted_maps, range_frame, map_at, range_of}
 use Rattle.x86_64_mappers.specs.Supplies.{Supply, DoesMapFrom}
 use Rattle.x86_64_mappers.proofs.Range.Runs.{accepted_more}
 use Rattle.x86_64_loader.specs.private.Loads.{AreMapped, IsStopped}
 use Rattle.x86_64_loader.specs.Maps.{Accepts, Made, Refuses}
 use Rattle.x86_64_loader.specs.Pages.{MayBeMapped}
-use Rattle.x86_64_loader.specs.Segments.{mapping_of, run_of}
+use Rattle.x86_64_loader.specs.Segments.{page_mapping, run_of}
 use Rattle.x86_64_loader.proofs.Listed.{run_more}
 use Rattle.x86_64_loader.proofs.Made.{accepts_none, accepts_then, kept_none, made_one, refuses_then}
 use Rattle.x86_64_loader.proofs.OneMap.{done_not_refused, makes_stand, was_free, leaves}
@@ -52,7 +52,7 @@ module _ {Lent : Type 0} (h : Hierarchy Lent) (supply : Supply) (level page fram
     stand = λ j before. absurd (omega (arith, before));
     were_free = λ l q f g multiple stands p from to. absurd (omega (arith, from, to));
     leaves = record { kept = kept_none h supply fits; pages = λ l q f g up stands. stands };
-    accepted = accepts_none h supply.frames;
+    accepted_maps = accepts_none h supply.frames;
   }
 
   -- the map of page k
@@ -85,14 +85,14 @@ module _ {Lent : Type 0} (h : Hierarchy Lent) (supply : Supply) (level page fram
     may_to : MayMap now left (MapTo (path_of now level p) f given)
     may_to = subst (λ (l : Layout). MayMap now left (MapTo (path_at l.levels level p) f given)) (sym same) (record { fits = may.fits; allowed = may.allowed })
 
-    made : Made now left (mapping_of level p f given ∷ []) (Answered answer ∷ []) after rest
+    made : Made now left (page_mapping level p f given ∷ []) (Answered answer ∷ []) after rest
     made = made_one now left level p f given answer after rest may_to does_to.map
 
     -- it was accepted
     done_more : answer ≡ Done f → f < 2 ^ 52 → So_far (suc k) after rest
     done_more accepts there =
         let to = subst (λ a. DoesMapFrom now (holding left) (MapTo (path_of now level p) f given) a after (holding rest)) accepts does_to in
-        let one = subst (λ a. Made now left (mapping_of level p f given ∷ []) (Answered a ∷ []) after rest) accepts made in
+        let one = subst (λ a. Made now left (page_mapping level p f given ∷ []) (Answered a ∷ []) after rest) accepts made in
         let stands = makes_stand now after (holding left) (holding rest) level (span level) p f given refl low high some_now may_to adds_now there (add-mul-mod_self_right frame k (span level) ∙ frame_aligned) is_present to in
         let free = was_free now after (holding left) (holding rest) level (span level) p f given refl low high some_now may_to (add-mul-mod_self_right page k (span level) ∙ page_aligned) to in
         let leave = leaves now after (holding left) (holding rest) level (span level) p f given refl low high some_now may_to {S = ℕ} (Ok p) 3 refl (inr (done_not_refused f)) adds_now mapping_now to in
@@ -100,34 +100,34 @@ module _ {Lent : Type 0} (h : Hierarchy Lent) (supply : Supply) (level page fram
           stand = one_more_stands h now after (holding rest) level (span level) page frame given k high so_far.stand leave stands;
           were_free = one_more_free h now after (holding rest) level (span level) page frame given k (holding left) so_far.were_free so_far.leaves free;
           leaves = leaves_then h now after (holding left) (holding rest) 3 3 3 (omega arith) (omega arith) so_far.leaves leave;
-          accepted = subst (λ pages. Accepts h supply.frames pages after rest) (sym (run_more level page frame given k))
-              (accepts_then h now after supply.frames left rest (run_of level page frame given k) (mapping_of level p f given ∷ []) same so_far.accepted one);
+          accepted_maps = subst (λ pages. Accepts h supply.frames pages after rest) (sym (run_more level page frame given k))
+              (accepts_then h now after supply.frames left rest (run_of level page frame given k) (page_mapping level p f given ∷ []) same so_far.accepted one);
         })
 
     -- it was refused
     refused_more : {S : Type 0} (why : MapToError S) → answer ≡ Refused (map_refusal why) → (count : ℕ) → k < count → IsStopped h supply level (span level) page frame given count k (map_refusal why) after (holding rest)
     refused_more {S} why refuses count less =
         let to = subst (λ a. DoesMapFrom now (holding left) (MapTo (path_of now level p) f given) a after (holding rest)) refuses does_to in
-        let one = subst (λ a. Made now left (mapping_of level p f given ∷ []) (Answered a ∷ []) after rest) refuses made in
+        let one = subst (λ a. Made now left (page_mapping level p f given ∷ []) (Answered a ∷ []) after rest) refuses made in
         let leave = leaves now after (holding left) (holding rest) level (span level) p f given refl low high some_now may_to {S = S} (Err why) level tt (inl (omega arith)) adds_now mapping_now to in
         record {
           within = less;
           stand = λ j before. leave.pages level (page + j * span level) (frame + j * span level) given (omega arith) (so_far.stand j before);
           leaves = leaves_then h now after (holding left) (holding rest) 3 level level high (omega arith) so_far.leaves leave;
-          refused = subst (λ pages. Refuses h supply.frames pages (mapping_of level p f given) (map_refusal why) after rest) (append-nil (run_of level page frame given k))
-              (refuses_then h now after supply.frames left rest (run_of level page frame given k) [] same (mapping_of level p f given) (map_refusal why) so_far.accepted one);
+          refused = subst (λ pages. Refuses h supply.frames pages (page_mapping level p f given) (map_refusal why) after rest) (append-nil (run_of level page frame given k))
+              (refuses_then h now after supply.frames left rest (run_of level page frame given k) [] same (page_mapping level p f given) (map_refusal why) so_far.accepted one);
         }
 
   -- ---- all maps
 
   -- the last answer, and those before
-  last_accepted : (k : ℕ) (before : List Reply) (answer : Answer) → accepted r (suc k) ≡ before ++ Answered answer ∷ [] → (before ≡ accepted r k) × (answer ≡ Done (frame_at r k))
+  last_accepted : (k : ℕ) (before : List Reply) (answer : Answer) → accepted_maps r (suc k) ≡ before ++ Answered answer ∷ [] → (before ≡ accepted_maps r k) × (answer ≡ Done (range_frame r k))
   last_accepted k before answer is =
-      let parts = same_from_push before (accepted r k) (Answered answer) (Answered (Done (frame_at r k))) (sym is ∙ ap (accepted r) (sym (add-one k)) ∙ accepted_more r k) in
+      let parts = same_from_push before (accepted_maps r k) (Answered answer) (Answered (Done (range_frame r k))) (sym is ∙ ap (accepted_maps r) (sym (add-one k)) ∙ accepted_more r k) in
       let last = parts.1 in
       (parts.0, cc)
 
-  all_so_far : (total : ℕ) → ((k : ℕ) → k < total → frame + k * span level < 2 ^ 52) → (now : Hierarchy Lent) (left : List ℕ) → MapsEach h supply.frames r total (accepted r total) now left → So_far total now left
+  all_so_far : (total : ℕ) → ((k : ℕ) → k < total → frame + k * span level < 2 ^ 52) → (now : Hierarchy Lent) (left : List ℕ) → MapsEach h supply.frames r total (accepted_maps r total) now left → So_far total now left
   all_so_far zero there now left (none, same, rest) = subst₂ (λ now left. So_far 0 now left) (sym same) (sym rest) start
   all_so_far (suc k) there now left (mid, between, before, each, next) =
       let last = last_accepted k before next.answer next.last in
@@ -143,12 +143,12 @@ module _ {Lent : Type 0} (h : Hierarchy Lent) (supply : Supply) (level page fram
       → rest.serves ≡ supply.serves → IsStopped h supply level (span level) page frame given count done (map_refusal why) after rest
   some_mapped count done why there after rest stops served =
       subst (λ s. IsStopped h supply level (span level) page frame given count done (map_refusal why) after (record { frames = rest.frames; serves = s })) (sym served)
-      (by (subst (λ n. MapsEach h supply.frames r n (accepted r done ++ Answered (Refused (map_refusal why)) ∷ []) after rest.frames) (add-one done) stops.1.each))
+      (by (subst (λ n. MapsEach h supply.frames r n (accepted_maps r done ++ Answered (Refused (map_refusal why)) ∷ []) after rest.frames) (add-one done) stops.1.each))
     where
-      by : MapsEach h supply.frames r (suc done) (accepted r done ++ Answered (Refused (map_refusal why)) ∷ []) after rest.frames
+      by : MapsEach h supply.frames r (suc done) (accepted_maps r done ++ Answered (Refused (map_refusal why)) ∷ []) after rest.frames
           → IsStopped h supply level (span level) page frame given count done (map_refusal why) after (holding rest.frames)
       by (mid, between, before, each, next) =
-          let parts = same_from_push before (accepted r done) (Answered next.answer) (Answered (Refused (map_refusal why))) (sym next.last) in
+          let parts = same_from_push before (accepted_maps r done) (Answered next.answer) (Answered (Refused (map_refusal why))) (sym next.last) in
           let last = parts.1 in
           let less = stops.0 in
           let so_far = all_so_far done (λ j before. there j (omega (arith, before, less))) mid between (subst (λ rs. MapsEach h supply.frames r done rs mid between) parts.0 each) in

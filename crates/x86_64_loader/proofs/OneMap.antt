@@ -4,7 +4,7 @@ use Rattle.std.specs.Result.{IfOk}
 use Rattle.x86_64_model.specs.Call.{MapTo}
 use Rattle.x86_64_model.specs.Entry.{IsParentFlags, present}
 use Rattle.x86_64_model.specs.Memory.{IsMapping}
-use Rattle.x86_64_model.specs.Mapper.{Hierarchy, MayMap, Stands, path_of}
+use Rattle.x86_64_model.specs.Mapper.{Hierarchy, MayMap, IsMappedAs, path_of}
 use Rattle.x86_64_model.specs.Position.{span}
 use Rattle.x86_64_model.specs.Refusal.{Answer, Done, Refused, ParentEntryHugePage}
 use Rattle.x86_64_model.proofs.Lemmas.Machines.Standing.{map_to_stands, stands_after, stands_refuses}
@@ -12,7 +12,7 @@ use Rattle.x86_64_tables.specs.MapperAnswers.{map_answer}
 use Rattle.x86_64_tables.specs.declared.mapper.MapToError.{MapToError}
 use Rattle.x86_64_mappers.specs.Supplies.{Supply, DoesMapFrom}
 use Rattle.x86_64_mappers.proofs.Map.MapArrivals.{frame_address, small_multiple}
-use Rattle.x86_64_loader.specs.Pages.{IsFree, Leaves}
+use Rattle.x86_64_loader.specs.Pages.{IsFree, LeavesSupply}
 use Rattle.x86_64_loader.proofs.Made.{kept_one}
 
 module _ {Lent : Type 0} (h after : Hierarchy Lent) (supply rest : Supply) (level size page frame given : ℕ) (spans : size ≡ span level) (low : 1 ≤ level) (high : level ≤ 3) (some : 3 < h.layout.levels)
@@ -23,7 +23,7 @@ module _ {Lent : Type 0} (h after : Hierarchy Lent) (supply rest : Supply) (leve
   fits_in : level ≤ h.layout.levels
   fits_in = omega (arith, some, high)
 
-  pub makes_stand : IsParentFlags h.layout.added_flags → frame < 2 ^ 52 → frame % size ≡ 0 → present given ≡ true → Does (Done frame) → Stands after level page frame given
+  pub makes_stand : IsParentFlags h.layout.added_flags → frame < 2 ^ 52 → frame % size ≡ 0 → present given ≡ true → Does (Done frame) → IsMappedAs after level page frame given
   makes_stand adds below aligned is_present does =
       let multiple : frame % span level ≡ 0 = ap (λ s. frame % s) (sym spans) ∙ aligned in
       map_to_stands h after supply.frames rest.frames level page frame given (Done frame) low fits_in may does.map high adds (frame_address frame below (small_multiple level frame low high multiple)) multiple is_present refl
@@ -34,7 +34,7 @@ module _ {Lent : Type 0} (h after : Hierarchy Lent) (supply rest : Supply) (leve
       (p - page) (p - q) (let below : p < page + span level = subst (λ s. p < page + s) spans to in omega (arith, below, from)) (omega (arith, its_from, its_to)) (omega (arith, from, its_from)) refl
 
   pub leaves : {S : Type 0} (result : Result ℕ (MapToError S)) (highest : ℕ) → IfOk result (λ flush. flush ≡ page) → (highest ≤ level) ⊎ (map_answer frame result ≢ Refused ParentEntryHugePage)
-      → IsParentFlags h.layout.added_flags → IsMapping h.layout.places → Does (map_answer frame result) → Leaves highest h supply after rest
+      → IsParentFlags h.layout.added_flags → IsMapping h.layout.places → Does (map_answer frame result) → LeavesSupply highest h supply after rest
   leaves result highest same spared adds mapping does = record {
     kept = kept_one h after supply rest level page frame given low high some adds mapping result same may does;
     pages = λ l q f g up stands. stands_after h after supply.frames rest.frames level page frame given (map_answer frame result) low fits_in may does.map l q f g (as_high l up spared) stands;

@@ -13,8 +13,8 @@ use Rattle.x86_64_tables.specs.PageTableFlags.{bits_of}
 use Rattle.x86_64_mappers.specs.Supplies.{Supply}
 use Rattle.x86_64_loader.specs.private.Loads.{HoldsSegment, IsHalted}
 use Rattle.x86_64_loader.specs.Maps.{Accepts, Refuses}
-use Rattle.x86_64_loader.specs.Pages.{IsFree, Leaves}
-use Rattle.x86_64_loader.specs.Segments.{AllStand, AreApart, Has, IsAllowed, IsLoaded, IsRefused, size_of}
+use Rattle.x86_64_loader.specs.Pages.{IsFree, LeavesSupply}
+use Rattle.x86_64_loader.specs.Segments.{AllStand, SegmentsAreApart, Has, IsAllowed, IsLoaded, LoadIsRefused, size_of}
 use Rattle.x86_64_loader.specs.declared.segment.LoadError.{LoadError}
 use Rattle.x86_64_loader.specs.declared.segment.Segment.{Segment}
 use Rattle.x86_64_loader.proofs.Holding.{held_arrives, held_not_free, held_reached, held_still, reached_after}
@@ -22,7 +22,7 @@ use Rattle.x86_64_loader.proofs.Made.{refuses_then}
 use Rattle.x86_64_loader.proofs.Runs.{may_now, one_more}
 
 -- a segment that may be loaded still may after maps
-pub still_allowed : {Lent : Type 0} {supply : Supply} (h now : Hierarchy Lent) (rest : Supply) (s : Segment) → Leaves 3 h supply now rest → IsAllowed h s → IsAllowed now s
+pub still_allowed : {Lent : Type 0} {supply : Supply} (h now : Hierarchy Lent) (rest : Supply) (s : Segment) → LeavesSupply 3 h supply now rest → IsAllowed h s → IsAllowed now s
 still_allowed h now rest s left allowed = record {
   is_present = allowed.is_present;
   each_page = λ k within. let may = allowed.each_page k within in record {
@@ -58,11 +58,11 @@ module _ (segments : List Segment) (i : ℕ) (s : Segment) (here : i < length se
   allowed_at h all = subst (IsAllowed h) (is_at s) (all i s here)
 
   module _ {Lent : Type 0} (now after : Hierarchy Lent) (rest : Supply) (held : (j : ℕ) (d : Segment) → j < i → HoldsSegment now (get_or segments j d)) where
-    pub held_next : {between : Supply} → Leaves 3 now between after rest → HoldsSegment after s → (j : ℕ) (d : Segment) → j < i + 1 → HoldsSegment after (get_or segments j d)
+    pub held_next : {between : Supply} → LeavesSupply 3 now between after rest → HoldsSegment after s → (j : ℕ) (d : Segment) → j < i + 1 → HoldsSegment after (get_or segments j d)
     held_next left = next_too (HoldsSegment after)
         (λ j d before o low fits. let t = get_or segments j d in held_still now (t.page + o) (t.frame + o) (bits_of t.flags) (held j d before o low fits) after rest left)
 
-    pub apart_next : AreApart segments i → IsFree now s.page (size_of s) → AreApart segments (i + 1)
+    pub apart_next : SegmentsAreApart segments i → IsFree now s.page (size_of s) → SegmentsAreApart segments (i + 1)
     apart_next apart free j k d less within p in_first in_second = elim (cases_lt k i) [
       | inl before ↦ apart j k d less before p in_first in_second
       | inr not_before ↦
@@ -75,8 +75,8 @@ module _ (segments : List Segment) (i : ℕ) (s : Segment) (here : i < length se
           s.page (size_of s) free (let from = in_this.0 in omega (arith, from, at)) (let to = in_this.1 in omega (arith, to, at))
     ]
 
-    pub refused_here : (pages_of : Segment → List PageMapping) (h : Hierarchy Lent) (supply between : Supply) (e : LoadError) → Leaves 3 h supply now between → e.segment ≡ i → e.page ≡ s.page + e.mapped * 0x1000
-        → Accepts h supply.frames (flat_map pages_of (take i segments)) now between.frames → IsHalted now between s (pages_of s) 0 e.mapped (map_refusal e.why) after rest → IsRefused pages_of h supply.frames segments e after rest.frames
+    pub refused_here : (pages_of : Segment → List PageMapping) (h : Hierarchy Lent) (supply between : Supply) (e : LoadError) → LeavesSupply 3 h supply now between → e.segment ≡ i → e.page ≡ s.page + e.mapped * 0x1000
+        → Accepts h supply.frames (flat_map pages_of (take i segments)) now between.frames → IsHalted now between s (pages_of s) 0 e.mapped (map_refusal e.why) after rest → LoadIsRefused pages_of h supply.frames segments e after rest.frames
     refused_here pages_of h supply between e left at page accepted halted = (
       s,
       record {

@@ -1,12 +1,12 @@
 -- Parts of a segment, one after another.
 use Rattle.std.proofs.Common.{◌≡◌, ◌≤◌, ◌+◌, ◌++◌, ℕ, List, inl, inr, subst, arith}
 use Rattle.std.proofs.lemmas.Bool.{cases_lt}
-use Rattle.x86_64_model.specs.Mapper.{Hierarchy, Stands}
+use Rattle.x86_64_model.specs.Mapper.{Hierarchy, IsMappedAs}
 use Rattle.x86_64_model.specs.PageMappings.{PageMapping}
 use Rattle.x86_64_model.specs.Refusal.{Refusal}
 use Rattle.x86_64_tables.specs.PageTableFlags.{bits_of}
 use Rattle.x86_64_mappers.specs.Supplies.{Supply}
-use Rattle.x86_64_loader.specs.private.Loads.{IsHalted, IsMapped}
+use Rattle.x86_64_loader.specs.private.Loads.{IsHalted, SegmentIsMapped}
 use Rattle.x86_64_loader.specs.declared.segment.Segment.{Segment}
 use Rattle.x86_64_loader.proofs.Holding.{held_reached, held_still, reached_after}
 use Rattle.x86_64_loader.proofs.Listed.{all_both_lists, cut_before, cut_behind}
@@ -34,9 +34,9 @@ halted_behind h after supply rest s pages more low mapped why halted = record {
 }
 
 module _ {Lent : Type 0} (h now after : Hierarchy Lent) (supply between rest : Supply) (s : Segment) (pages others : List PageMapping) (first size next low : ℕ) (meet : next ≤ first + size) (from : first ≤ low)
-    (one : IsMapped h supply s pages first size now between) where
+    (one : SegmentIsMapped h supply s pages first size now between) where
   -- pages that were mapped, followed by others that are
-  pub mapped_then : (more total : ℕ) → low + total ≤ next + more → IsMapped now between s others next more after rest → IsMapped h supply s (pages ++ others) low total after rest
+  pub mapped_then : (more total : ℕ) → low + total ≤ next + more → SegmentIsMapped now between s others next more after rest → SegmentIsMapped h supply s (pages ++ others) low total after rest
   mapped_then more total to two = record {
     held = λ o starts ends. elim (cases_lt o (first + size)) [
       | inl before ↦ held_still now (s.page + o) (s.frame + o) (bits_of s.flags) (one.held o (omega (arith, from, starts)) before) after rest two.leaves
@@ -45,7 +45,7 @@ module _ {Lent : Type 0} (h now after : Hierarchy Lent) (supply between rest : S
     were_free = free_then h now between (s.page + first) size (s.page + next) more (s.page + low) total (omega (arith, from)) (omega (arith, meet)) (omega (arith, to))
         one.were_free one.leaves two.were_free;
     leaves = leaves_then h now after between rest 3 3 3 (omega arith) (omega arith) one.leaves two.leaves;
-    stand = all_both_lists (λ x. Stands after x.level x.page x.frame x.flags) pages others (still_stand now after between rest two.leaves pages one.stand) two.stand;
+    stand = all_both_lists (λ x. IsMappedAs after x.level x.page x.frame x.flags) pages others (still_stand now after between rest two.leaves pages one.stand) two.stand;
     accepted = accepts_then h now after supply.frames between.frames rest.frames pages others one.leaves.kept.layout one.accepted two.accepted;
   }
 

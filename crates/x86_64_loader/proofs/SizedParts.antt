@@ -5,7 +5,7 @@ use Rattle.std.proofs.lemmas.Bool.{and_from, and_parts}
 use Rattle.x86_64_model.specs.Allowed.{map_allowed}
 use Rattle.x86_64_model.specs.Entry.{present, huge}
 use Rattle.x86_64_model.specs.MapRule.{parent_part}
-use Rattle.x86_64_model.specs.Mapper.{Hierarchy, Stands, paths}
+use Rattle.x86_64_model.specs.Mapper.{Hierarchy, IsMappedAs, paths}
 use Rattle.x86_64_model.specs.Path.{is_small, path_at}
 use Rattle.x86_64_model.specs.PathMap.{PathMap}
 use Rattle.x86_64_model.specs.Position.{span, page_path}
@@ -19,7 +19,7 @@ use Rattle.x86_64_mappers.specs.Supplies.{Supply}
 use Rattle.x86_64_loader.specs.private.Held.{IsHeld}
 use Rattle.x86_64_loader.specs.private.Loads.{HoldsPart, IsHalted, IsStopped}
 use Rattle.x86_64_loader.specs.Pages.{MayBeMapped, RunStands}
-use Rattle.x86_64_loader.specs.Segments.{AllStand, IsAllowed, mapping_of, part_of, size_of}
+use Rattle.x86_64_loader.specs.Segments.{AllStand, IsAllowed, page_mapping, pages_of_part, size_of}
 use Rattle.x86_64_loader.specs.declared.segment.Segment.{Segment}
 use Rattle.x86_64_loader.proofs.Holding.{held_reached, run_is_held, run_outside}
 use Rattle.x86_64_model.proofs.Lemmas.Machines.PageMappings.{will_be_present}
@@ -128,13 +128,13 @@ module _ {Lent : Type 0} (h : Hierarchy Lent) (s : Segment) (level size first co
         (o - first * 0x1000) (omega (arith, from, to)))
 
     -- the part's first n pages stand
-    pub part_stand : (n : ℕ) → RunStands after level size (s.page + first * 0x1000) (s.frame + first * 0x1000) (bits_of s.flags) n → AllStand after (part_of level s first n)
-    part_stand n stand = all_in_run level (s.page + first * 0x1000) (s.frame + first * 0x1000) (bits_of s.flags) (λ x. Stands after x.level x.page x.frame x.flags) n
-        (λ k below. subst (λ z. Stands after level (s.page + first * 0x1000 + k * z) (s.frame + first * 0x1000 + k * z) (bits_of s.flags)) spans (stand k below))
+    pub part_stand : (n : ℕ) → RunStands after level size (s.page + first * 0x1000) (s.frame + first * 0x1000) (bits_of s.flags) n → AllStand after (pages_of_part level s first n)
+    part_stand n stand = all_in_run level (s.page + first * 0x1000) (s.frame + first * 0x1000) (bits_of s.flags) (λ x. IsMappedAs after x.level x.page x.frame x.flags) n
+        (λ k below. subst (λ z. IsMappedAs after level (s.page + first * 0x1000 + k * z) (s.frame + first * 0x1000 + k * z) (bits_of s.flags)) spans (stand k below))
 
     pub part_halted : (supply : Supply) (mapped : ℕ) (why : Refusal)
         → IsStopped h supply level size (s.page + first * 0x1000) (s.frame + first * 0x1000) (bits_of s.flags) count mapped why after rest
-        → IsHalted h supply s (part_of level s first count) (first * 0x1000) (first + mapped * (size / 0x1000)) why after rest
+        → IsHalted h supply s (pages_of_part level s first count) (first * 0x1000) (first + mapped * (size / 0x1000)) why after rest
     part_halted supply mapped why stopped =
         let is = in_small mapped in let kept = stopped.leaves.kept in record {
           above = omega arith;
@@ -142,9 +142,9 @@ module _ {Lent : Type 0} (h : Hierarchy Lent) (s : Segment) (level size first co
           pages_before = λ o from to. held_reached after (s.page + o) (s.frame + o) (bits_of s.flags)
               (part_held mapped (let end = stopped.within in omega (arith, end)) kept.layout stopped.stand o from (omega (arith, to, is))) kept.fits.valid;
           kept = kept;
-          before = part_of level s first mapped;
-          next = mapping_of level (s.page + first * 0x1000 + mapped * span level) (s.frame + first * 0x1000 + mapped * span level) (bits_of s.flags);
-          left = drop (suc mapped) (part_of level s first count);
+          before = pages_of_part level s first mapped;
+          next = page_mapping level (s.page + first * 0x1000 + mapped * span level) (s.frame + first * 0x1000 + mapped * span level) (bits_of s.flags);
+          left = drop (suc mapped) (pages_of_part level s first count);
           cut = run_cut level (s.page + first * 0x1000) (s.frame + first * 0x1000) (bits_of s.flags) mapped count stopped.within;
           page = ap (λ z. s.page + first * 0x1000 + mapped * z) (sym spans) ∙ moved s.page mapped;
           refused = stopped.refused;

@@ -21,7 +21,7 @@ use Rattle.x86_64_tables.specs.MapperAnswers.{map_refusal}
 use Rattle.x86_64.specs.Pairs.{put_first}
 use Rattle.x86_64_loader.specs.private.Loads.{pages_by}
 use Rattle.x86_64_loader.specs.Maps.{Refuses}
-use Rattle.x86_64_loader.specs.Segments.{Disjoint, Has, IsAllowed, IsRefused, Suffices, size_of}
+use Rattle.x86_64_loader.specs.Segments.{Disjoint, Has, IsAllowed, LoadIsRefused, Suffices, size_of}
 use Rattle.x86_64_loader.specs.declared.loader.Sizes.{Sizes}
 use Rattle.x86_64_loader.specs.declared.segment.LoadError.{LoadError}
 use Rattle.x86_64_loader.specs.declared.segment.Segment.{Segment}
@@ -170,7 +170,7 @@ module _ {Lent : Type 0} (h : Hierarchy Lent) (supply : List ℕ) (way : Sizes) 
 -- a load can't have been refused
 pub cannot_be_refused : {Lent : Type 0} (h : Hierarchy Lent) (supply : List ℕ) (way : Sizes) (segments : List Segment) → h.layout.levels ≡ 4 → IsParentFlags h.layout.added_flags → SupplyFits h supply
     → All (IsAllowed h) segments → Suffices (pages_by way) h supply segments → (error : LoadError) (after : Hierarchy Lent) (rest : List ℕ)
-    → ((j : ℕ) (d : Segment) → j < error.segment + 1 → (get_or segments j d).page % 0x1000 ≡ 0) → IsRefused (pages_by way) h supply segments error after rest → ⊥
+    → ((j : ℕ) (d : Segment) → j < error.segment + 1 → (get_or segments j d).page % 0x1000 ≡ 0) → LoadIsRefused (pages_by way) h supply segments error after rest → ⊥
 cannot_be_refused h supply way segments four adds fits allowed suffices error after rest aligned (s, refused) =
     let i = error.segment in
     let there = refused.there in

@@ -28,7 +28,7 @@ Refuses h supply pages next why after rest = Made h supply (pages ++ next ∷ []
 
 -- What maps keep: all that lists of calls keep of a pool that fits, whatever frames it serves, and the words of free frames. The
 -- supply serves the same frames. Each page walk that arrived still does, at its address and with no right lost.
-pub record Kept {Lent : Type 0} (h : Hierarchy Lent) (supply : Supply) (after : Hierarchy Lent) (rest : Supply) : Type 0 where
+pub record KeptWithSupply {Lent : Type 0} (h : Hierarchy Lent) (supply : Supply) (after : Hierarchy Lent) (rest : Supply) : Type 0 where
   pub fits : SupplyFits after rest.frames
   pub keeps : (serves : ℕ → Bool) → PoolFits h serves supply.frames → KeepsPool h.layout serves h.memory supply.frames after.memory rest.frames
   pub serves : rest.serves ≡ supply.serves

@@ -3,7 +3,7 @@ use Rattle.std.specs.Prelude.{◌≡◌, ◌+◌, ◌-◌, ◌*◌, ◌/◌, ◌
 use Rattle.std.specs.List.{All, AllByRecursion, range_with_len, sum_by}
 use Rattle.x86_64_model.specs.Arrivals.{NoWorse}
 use Rattle.x86_64_model.specs.Entry.{present, writable, user}
-use Rattle.x86_64_model.specs.Mapper.{Hierarchy, ArrivesIn, Stands, paths, walk}
+use Rattle.x86_64_model.specs.Mapper.{Hierarchy, ArrivesIn, IsMappedAs, paths, walk}
 use Rattle.x86_64_model.specs.PageMappings.{PageMapping, IsUnmapped, entry_path}
 use Rattle.x86_64_model.specs.PageWalk.{Walked}
 use Rattle.x86_64_model.specs.Position.{span}
@@ -32,30 +32,30 @@ abbrev pub Has : Segment → (position : ℕ) → Type 0
 Has s p = (s.page ≤ p) × (p < s.page + size_of s)
 
 -- No two of the first `count` segments have a position in common.
-abbrev pub AreApart : List Segment → (count : ℕ) → Type 0
-AreApart segments n = (i j : ℕ) (d : Segment) → i < j → j < n → (p : ℕ) → Has (get_or segments i d) p → Has (get_or segments j d) p → ⊥
+abbrev pub SegmentsAreApart : List Segment → (count : ℕ) → Type 0
+SegmentsAreApart segments n = (i j : ℕ) (d : Segment) → i < j → j < n → (p : ℕ) → Has (get_or segments i d) p → Has (get_or segments j d) p → ⊥
 
 -- No two of the segments have a position in common.
 abbrev pub Disjoint : List Segment → Type 0
-Disjoint segments = AreApart segments (length segments)
+Disjoint segments = SegmentsAreApart segments (length segments)
 
 -- ---- the pages with which a segment is mapped
 
 -- A page of a level, to be mapped to a frame with these flags.
-abbrev pub mapping_of : (level page frame flags : ℕ) → PageMapping
-mapping_of level page frame given = record { level = level; page = page; frame = frame; flags = given }
+abbrev pub page_mapping : (level page frame flags : ℕ) → PageMapping
+page_mapping level page frame given = record { level = level; page = page; frame = frame; flags = given }
 
 -- Consecutive pages of a level from a page on, to be mapped to the frames from a frame on with equal flags.
 abbrev pub run_of : (level page frame flags count : ℕ) → List PageMapping
-run_of level page frame given count = map (λ k. mapping_of level (page + k * span level) (frame + k * span level) given) (range_with_len 0 count)
+run_of level page frame given count = map (λ k. page_mapping level (page + k * span level) (frame + k * span level) given) (range_with_len 0 count)
 
 -- Consecutive pages of a level, from the segment's 4KiB page with the number `first` on, with the segment's frames and flags.
-abbrev pub part_of : (level : ℕ) → Segment → (first count : ℕ) → List PageMapping
-part_of level s first count = run_of level (s.page + first * 0x1000) (s.frame + first * 0x1000) (bits_of s.flags) count
+abbrev pub pages_of_part : (level : ℕ) → Segment → (first count : ℕ) → List PageMapping
+pages_of_part level s first count = run_of level (s.page + first * 0x1000) (s.frame + first * 0x1000) (bits_of s.flags) count
 
 -- The pages with which a segment is mapped if all of them have 4KiB.
 abbrev pub small_pages : Segment → List PageMapping
-small_pages s = part_of 1 s 0 s.pages
+small_pages s = pages_of_part 1 s 0 s.pages
 
 -- The number of 4KiB pages before the first of 2MiB: all of the segment, if page and frame have different offsets in their 2MiB
 -- pages.
@@ -71,13 +71,13 @@ count_large s = (s.pages - count_before s) / 512
 -- multiple of 2MiB and enough of the segment is left, and pages of 4KiB before and after them.
 abbrev pub large_pages : Segment → List PageMapping
 large_pages s = let first = count_before s in let behind = first + count_large s * 512 in
-    part_of 1 s 0 first ++ (part_of 2 s first (count_large s) ++ part_of 1 s behind (s.pages - behind))
+    pages_of_part 1 s 0 first ++ (pages_of_part 2 s first (count_large s) ++ pages_of_part 1 s behind (s.pages - behind))
 
 -- ---- the effect of a load
 
 -- Each of these pages stands (is mapped as `map_to` maps it).
 abbrev pub AllStand : {Lent : Type 0} → Hierarchy Lent → List PageMapping → Type 0
-AllStand h pages = AllByRecursion (λ x. Stands h x.level x.page x.frame x.flags) pages
+AllStand h pages = AllByRecursion (λ x. IsMappedAs h x.level x.page x.frame x.flags) pages
 
 -- The segment starts at the start of a page, its positions exist, and its pages stand, so each is mapped with all of its flags.
 -- The page walk of each of its addresses arrives at the first frame's start plus the offset in the segment, with the rights to
@@ -95,8 +95,8 @@ ReachesAt h s o = (walked : Walked) × (walk h (s.page + o) ≡ Some walked)
     × NoWorse (record { address = s.frame + o; write = writable (bits_of s.flags); user = user (bits_of s.flags) }) walked
 
 -- The page walk of each of the first `size` offsets in the segment arrives where it should, with no right missing.
-abbrev pub IsReached : {Lent : Type 0} → Hierarchy Lent → Segment → (size : ℕ) → Type 0
-IsReached h s size = (offset : ℕ) → offset < size → ReachesAt h s offset
+abbrev pub SegmentIsReached : {Lent : Type 0} → Hierarchy Lent → Segment → (size : ℕ) → Type 0
+SegmentIsReached h s size = (offset : ℕ) → offset < size → ReachesAt h s offset
 
 -- The load was refused at a page of the segment. All maps before were accepted, and the last map was the one of this page, which
 -- was refused for the reason reported. The segments before are reached, and so are the pages of this segment before the page.
@@ -111,12 +111,12 @@ pub record IsRefusedAt {Lent : Type 0} (pages_of : Segment → List PageMapping)
   pub mapped : next.page ≡ s.page + error.mapped * 0x1000
   pub within : error.mapped < s.pages
   pub refused : Refuses h supply (flat_map pages_of (take error.segment segments) ++ before) next (map_refusal error.why) after rest
-  pub segments_before : (i : ℕ) (d : Segment) → i < error.segment → IsReached after (get_or segments i d) (size_of (get_or segments i d))
-  pub pages_before : IsReached after s (error.mapped * 0x1000)
+  pub segments_before : (i : ℕ) (d : Segment) → i < error.segment → SegmentIsReached after (get_or segments i d) (size_of (get_or segments i d))
+  pub pages_before : SegmentIsReached after s (error.mapped * 0x1000)
 
 -- The load was refused at a page of one of the segments, as the error names both.
-abbrev pub IsRefused : {Lent : Type 0} → (pages_of : Segment → List PageMapping) → Hierarchy Lent → (supply : List ℕ) → List Segment → LoadError → (after : Hierarchy Lent) → (rest : List ℕ) → Type 0
-IsRefused pages_of h supply segments error after rest = (s : Segment) × IsRefusedAt pages_of h supply segments error after rest s
+abbrev pub LoadIsRefused : {Lent : Type 0} → (pages_of : Segment → List PageMapping) → Hierarchy Lent → (supply : List ℕ) → List Segment → LoadError → (after : Hierarchy Lent) → (rest : List ℕ) → Type 0
+LoadIsRefused pages_of h supply segments error after rest = (s : Segment) × IsRefusedAt pages_of h supply segments error after rest s
 
 -- ---- the number of frames that suffices
 
@@ -125,13 +125,13 @@ abbrev pub entries_of : Segment → (level : ℕ) → ℕ
 entries_of s level = (s.page + (s.pages - 1) * 0x1000) / span level - s.page / span level + 1
 
 -- The number of tables below the root on the paths to the segment's pages of 4KiB, with four levels.
-abbrev pub tables_of : Segment → ℕ
-tables_of s = cond (s.pages == 0) 0 (entries_of s 4 + entries_of s 3 + entries_of s 2)
+abbrev pub table_estimate : Segment → ℕ
+table_estimate s = cond (s.pages == 0) 0 (entries_of s 4 + entries_of s 3 + entries_of s 2)
 
 -- A number of frames that is enough to load the segments: one for each table on the paths to a segment's pages. A table for two
 -- segments counts twice.
 abbrev pub frames_for : List Segment → ℕ
-frames_for segments = sum_by tables_of segments
+frames_for segments = sum_by table_estimate segments
 
 -- Nothing is mapped in the way of the pages, no two segments overlap, and there are enough frames.
 pub record Suffices {Lent : Type 0} (pages_of : Segment → List PageMapping) (h : Hierarchy Lent) (supply : List ℕ) (segments : List Segment) : Type 0 where

@@ -1,7 +1,7 @@
 //! Loads of segments.
 ghost use Rattle.std.specs.Prelude.{◌≡◌, ◌%◌};
 ghost use Rattle.std.specs.List.{All};
-ghost use Rattle.x86_64_loader.specs.Loads.{Loads};
+ghost use Rattle.x86_64_loader.specs.Loads.{LoadsSegments};
 ghost use Rattle.x86_64_loader.specs.Segments.{IsAllowed, large_pages, small_pages};
 ghost use Rattle.x86_64_loader.specs.private.Loads.{LoadsSegment, pages_by};
 ghost use Rattle.x86_64_mappers.specs.Supplies.{supply_of};
@@ -49,7 +49,7 @@ pub fn load<M: MapperAllSizes, A: FrameAllocator<Size4KiB>>(
 ) -> Result<(), LoadError>
     requires fits { SupplyFits (M.hierarchy mapper.old) (A.supply frames.old) }
     requires allowed { All (IsAllowed (M.hierarchy mapper.old)) segments.now }
-    ensures { Loads small_pages (M.hierarchy mapper.old) (supply_of A.FrameAllocator frames.old)
+    ensures { LoadsSegments small_pages (M.hierarchy mapper.old) (supply_of A.FrameAllocator frames.old)
         segments.now result (M.hierarchy mapper.new) (supply_of A.FrameAllocator frames.new) }
 {
     load_each(mapper, frames, segments, Sizes::Small)
@@ -68,7 +68,7 @@ pub fn load_large<M: MapperAllSizes, A: FrameAllocator<Size4KiB>>(
 ) -> Result<(), LoadError>
     requires fits { SupplyFits (M.hierarchy mapper.old) (A.supply frames.old) }
     requires allowed { All (IsAllowed (M.hierarchy mapper.old)) segments.now }
-    ensures { Loads large_pages (M.hierarchy mapper.old) (supply_of A.FrameAllocator frames.old)
+    ensures { LoadsSegments large_pages (M.hierarchy mapper.old) (supply_of A.FrameAllocator frames.old)
         segments.now result (M.hierarchy mapper.new) (supply_of A.FrameAllocator frames.new) }
 {
     load_each(mapper, frames, segments, Sizes::Large)
@@ -92,7 +92,7 @@ fn load_each<M: MapperAllSizes, A: FrameAllocator<Size4KiB>>(
 ) -> Result<(), LoadError>
     requires fits { SupplyFits (M.hierarchy mapper.old) (A.supply frames.old) }
     requires allowed { All (IsAllowed (M.hierarchy mapper.old)) segments.now }
-    ensures { Loads (pages_by sizes) (M.hierarchy mapper.old) (supply_of A.FrameAllocator frames.old)
+    ensures { LoadsSegments (pages_by sizes) (M.hierarchy mapper.old) (supply_of A.FrameAllocator frames.old)
         segments.now result (M.hierarchy mapper.new) (supply_of A.FrameAllocator frames.new) }
 {
     for (index, segment) in segments.iter().enumerate() {

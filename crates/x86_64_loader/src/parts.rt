@@ -1,7 +1,7 @@
 //! Maps of parts of a segment with pages of one size.
 ghost use Rattle.std.specs.Prelude.{◌≡◌, ◌+◌, ◌*◌, ◌%◌, ◌<◌, ◌≤◌};
 ghost use Rattle.x86_64_loader.specs.private.Loads.{LoadsPart};
-ghost use Rattle.x86_64_loader.specs.Segments.{IsAllowed, count_before, part_of, size_of};
+ghost use Rattle.x86_64_loader.specs.Segments.{IsAllowed, count_before, pages_of_part, size_of};
 ghost use Rattle.x86_64_mappers.specs.Supplies.{supply_of};
 ghost use Rattle.x86_64_model.specs.Mapper.{SupplyFits};
 ghost use Rattle.x86_64_tables.specs.MapperAnswers.{map_refusal};
@@ -27,7 +27,7 @@ pub(crate) fn map_part<S: PageSize, M: Mapper<S>, A: FrameAllocator<Size4KiB>>(
     requires frame_aligned { 0 < count → 1 < S.LEVEL → (segment.now.frame + first * 0x1000) % S.SIZE ≡ 0 }
     requires within { first * 0x1000 + count * S.SIZE ≤ size_of segment.now }
     ensures { LoadsPart (M.hierarchy mapper.old) (supply_of A.FrameAllocator frames.old) segment.now
-        (part_of S.LEVEL segment.now first count) (first * 0x1000) (count * S.SIZE) result
+        (pages_of_part S.LEVEL segment.now first count) (first * 0x1000) (count * S.SIZE) result
         (M.hierarchy mapper.new) (supply_of A.FrameAllocator frames.new) }
 {
     if count == 0 {

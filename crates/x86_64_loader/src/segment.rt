@@ -1,7 +1,7 @@
 //! Segments, the tests of them, and the errors of loads.
 ghost use Rattle.std.specs.Prelude.{◌≡◌, ◌+◌, ◌-◌, ◌*◌, ◌/◌, ◌^◌, ◌<◌, ◌≤◌, ◌↔◌, true, None, IsTrue, IfSome};
 ghost use Rattle.std.specs.List.{All};
-ghost use Rattle.x86_64_loader.specs.Segments.{IsAllowed, IsInside, frames_for, tables_of};
+ghost use Rattle.x86_64_loader.specs.Segments.{IsAllowed, IsInside, frames_for, table_estimate};
 ghost use Rattle.x86_64_model.specs.Mapper.{Valid};
 
 use x86_64::structures::paging::mapper::MapToError;
@@ -89,7 +89,7 @@ pub fn frames_needed(segments: &[Segment]) -> Option<u64>
 /// Returns the number of tables on the paths to the pages of a segment.
 fn tables_needed(segment: &Segment) -> u64
     requires { IsInside segment.now }
-    ensures { result ≡ tables_of segment.now }
+    ensures { result ≡ table_estimate segment.now }
 {
     if segment.pages == 0 {
         return 0;

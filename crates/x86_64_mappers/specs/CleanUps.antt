@@ -8,8 +8,8 @@ abbrev pub DeallocatorMembers : Type 0 → Type 0
 DeallocatorMembers Self = record { serves : Self → ℕ → Bool; held : Self → List ℕ; take_back : List ℕ → ℕ → List ℕ }
 
 -- The store that a value of a type is, by the ghost members of its `FrameDeallocator`: its free frames are those that it holds.
-abbrev pub store_of : {Self : Type 0} → DeallocatorMembers Self → Self → Store
-store_of members value = record { frames = members.held value; serves = members.serves value; take_back = members.take_back }
+abbrev pub deallocator_store : {Self : Type 0} → DeallocatorMembers Self → Self → Store
+deallocator_store members value = record { frames = members.held value; serves = members.serves value; take_back = members.take_back }
 
 -- A clean up that returns frames to the store may be made: the hierarchy is valid, and the store serves the frame of each table but
 -- the root and doesn't hold it.

@@ -31,5 +31,5 @@ refuses_at levels memory cr3 table p = if is_root_window levels p then (if is_ac
 
 -- The reason why no recursive mapper of an active memory is created for the table in a frame, with a position (an address counted
 -- without the non-canonical gap) that is said to be the table's window. None if a mapper is created.
-abbrev pub refuses : {N : Type 0} → (levels : ℕ) → Active N Memory → (table position : ℕ) → Option InvalidPageTable
-refuses levels active table p = refuses_at levels (memory_of active) (cr3_of active) table p
+abbrev pub invalid_table : {N : Type 0} → (levels : ℕ) → Active N Memory → (table position : ℕ) → Option InvalidPageTable
+invalid_table levels active table p = refuses_at levels (memory_of active) (cr3_of active) table p

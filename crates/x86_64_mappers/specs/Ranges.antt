@@ -27,30 +27,30 @@ abbrev pub range_of : (level page frame flags parent_flags : ℕ) → MapRange
 range_of level page frame given more = record { level = level; page = page; frame = frame; flags = given; parent_flags = more }
 
 -- The position of page k of a range, counted from 0 (a position is an address counted without the non-canonical gap).
-abbrev pub page_at : MapRange → (k : ℕ) → ℕ
-page_at r k = r.page + k * span r.level
+abbrev pub range_page : MapRange → (k : ℕ) → ℕ
+range_page r k = r.page + k * span r.level
 
 -- The address of the frame to which page k of a range is mapped, counted from 0.
-abbrev pub frame_at : MapRange → (k : ℕ) → ℕ
-frame_at r k = r.frame + k * span r.level
+abbrev pub range_frame : MapRange → (k : ℕ) → ℕ
+range_frame r k = r.frame + k * span r.level
 
 -- The call that maps page k of a range, counted from 0, to its frame, with L levels of tables.
 abbrev pub map_at : (L : ℕ) → MapRange → (k : ℕ) → Call
-map_at L r k = MapToWithTableFlags (path_at L r.level (page_at r k)) (frame_at r k) r.flags r.parent_flags
+map_at L r k = MapToWithTableFlags (path_at L r.level (range_page r k)) (range_frame r k) r.flags r.parent_flags
 
 -- The calls that map the first `count` pages of a range, in order, with L levels of tables.
 abbrev pub maps : (L : ℕ) → MapRange → (count : ℕ) → List Call
 maps L r count = map (λ k. map_at L r k) (range_with_len 0 count)
 
 -- The replies of the maps of the first `count` pages of a range, in order, if all of them are done.
-abbrev pub accepted : MapRange → (count : ℕ) → List Reply
-accepted r count = map (λ k. Answered (Done (frame_at r k))) (range_with_len 0 count)
+abbrev pub accepted_maps : MapRange → (count : ℕ) → List Reply
+accepted_maps r count = map (λ k. Answered (Done (range_frame r k))) (range_with_len 0 count)
 
 -- The first `count` pages of a range may be mapped: each page and its frame exist, and the map's own condition holds.
 pub record MayMapRange {Lent : Type 0} (h : Hierarchy Lent) (r : MapRange) (count : ℕ) : Type 0 where
-  pub pages : (k : ℕ) → k < count → page_at r k < position_count h.layout.levels
-  pub frames : (k : ℕ) → k < count → frame_at r k < 2 ^ 52
-  pub allowed : (k : ℕ) → k < count → allows_map h (path_of h r.level (page_at r k)) r.flags r.parent_flags ≡ true
+  pub pages : (k : ℕ) → k < count → range_page r k < position_count h.layout.levels
+  pub frames : (k : ℕ) → k < count → range_frame r k < 2 ^ 52
+  pub allowed : (k : ℕ) → k < count → allows_map h (path_of h r.level (range_page r k)) r.flags r.parent_flags ≡ true
 
 -- A map that may be made was made, and `answers` is the list `before` with its answer at the end.
 pub record IsNextMap {Lent : Type 0} (h : Hierarchy Lent) (supply : List ℕ) (call : Call) (before answers : List Reply) (after : Hierarchy Lent) (rest : List ℕ) : Type 0 where
@@ -82,13 +82,13 @@ pub record DoesMaps {Lent : Type 0} (h : Hierarchy Lent) (supply : List ℕ) (r 
 -- All of the first `count` pages of a range were mapped one after another, and each map did what a single one does. The rest of the
 -- supply is left.
 abbrev pub MapsAll : {Lent : Type 0} → Hierarchy Lent → (supply : List ℕ) → MapRange → (count : ℕ) → (after : Hierarchy Lent) → (rest : List ℕ) → Type 0
-MapsAll h supply r count after rest = DoesMaps h supply r count (accepted r count) after rest
+MapsAll h supply r count after rest = DoesMaps h supply r count (accepted_maps r count) after rest
 
 -- The first `done` pages of a range were mapped, and the map of the next one was refused for this reason. No further one of the
 -- first `count` pages was mapped.
 abbrev pub StopsAt : {Lent : Type 0} → Hierarchy Lent → (supply : List ℕ) → MapRange → (count done : ℕ) → Refusal → (after : Hierarchy Lent) → (rest : List ℕ) → Type 0
 StopsAt h supply r count done why after rest =
-    (done < count) × DoesMaps h supply r (done + 1) (accepted r done ++ Answered (Refused why) ∷ []) after rest
+    (done < count) × DoesMaps h supply r (done + 1) (accepted_maps r done ++ Answered (Refused why) ∷ []) after rest
 
 -- What maps of the first pages of a range leave, by their result: all were mapped, or the map of one of them was refused.
 abbrev pub MapsByResult : {Lent X S L : Type 0} → Hierarchy Lent → (supply : List ℕ) → MapRange → (count : ℕ) → Result X (MapRangeErrorIn S L) → (after : Hierarchy Lent) → (rest : List ℕ) → Type 0

@@ -16,5 +16,5 @@ pub record IsReached (l : Layout) (m : Memory) (path : List ℕ) (frame : ℕ) :
 
 -- The words of the hierarchy lead along a path, on which each entry is present and names a table, to the table in a frame. This
 -- table and the root are in the memory, and the root has its self-entry if there is a recursive index.
-abbrev pub Reaches : {Lent : Type 0} → Hierarchy Lent → (path : List ℕ) → (frame : ℕ) → Type 0
-Reaches h path frame = IsReached h.layout h.memory path frame
+abbrev pub PathReaches : {Lent : Type 0} → Hierarchy Lent → (path : List ℕ) → (frame : ℕ) → Type 0
+PathReaches h path frame = IsReached h.layout h.memory path frame

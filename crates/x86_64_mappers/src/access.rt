@@ -6,7 +6,7 @@ ghost use Rattle.x86_64_model.specs.Mapper.{words};
 ghost use Rattle.x86_64_mappers.specs.AccessLending.{LendsEntryBy, put_table, with_zeros, table_with};
 ghost use Rattle.x86_64_tables.specs.Lending.{LendsTableBy};
 ghost use Rattle.x86_64_mappers.specs.private.OwnedSteps.{SetsWord};
-ghost use Rattle.x86_64_mappers.specs.Reached.{Reaches};
+ghost use Rattle.x86_64_mappers.specs.Reached.{PathReaches};
 ghost use Rattle.x86_64_tables.specs.PageTableFlags.{bits_of};
 
 pub mod change;
@@ -50,7 +50,7 @@ pub trait TableAccess: Tables {
     /// Requires that the path leads to the table in this frame, through present entries that name tables, and that it
     /// has fewer indices than there are levels.
     fn table(&self, path: &[PageTableIndex], frame: PhysFrame<Size4KiB>) -> &PageTable
-        requires reached { Reaches (Self.hierarchy self.now) path.now frame }
+        requires reached { PathReaches (Self.hierarchy self.now) path.now frame }
         requires short { length path.now < (Self.hierarchy self.now).layout.levels }
         ensures { words (Self.hierarchy self.now) frame ≡ Some result.now };
 
@@ -59,7 +59,7 @@ pub trait TableAccess: Tables {
     /// Requires that the path leads to the table in this frame, through present entries that name tables, and that it
     /// has fewer indices than there are levels.
     fn table_mut(&mut self, path: &[PageTableIndex], frame: PhysFrame<Size4KiB>) -> &mut PageTable
-        requires reached { Reaches (Self.hierarchy self.old) path.now frame }
+        requires reached { PathReaches (Self.hierarchy self.old) path.now frame }
         requires short { length path.now < (Self.hierarchy self.old).layout.levels }
         ensures* lends { sem 𝓛 (LendsTableBy Self.row self.entry result (Self.with_table self.old frame)) }
         ensures value { words (Self.hierarchy self.old) frame ≡ Some result.now };
@@ -91,7 +91,7 @@ fn entry<'m, M: TableAccess>(
     frame: PhysFrame<Size4KiB>,
     index: PageTableIndex,
 ) -> &'m PageTableEntry
-    requires reached { Reaches (M.hierarchy mapper.now) path.now frame }
+    requires reached { PathReaches (M.hierarchy mapper.now) path.now frame }
     requires short { length path.now < (M.hierarchy mapper.now).layout.levels }
     ensures value { result.now ≡ word (words (M.hierarchy mapper.now)) frame index }
     ensures index { index < 512 }
@@ -106,7 +106,7 @@ fn entry_mut<'m, M: TableAccess>(
     frame: PhysFrame<Size4KiB>,
     index: PageTableIndex,
 ) -> &'m mut PageTableEntry
-    requires reached { Reaches (M.hierarchy mapper.old) path.now frame }
+    requires reached { PathReaches (M.hierarchy mapper.old) path.now frame }
     requires short { length path.now < (M.hierarchy mapper.old).layout.levels }
     ensures* lends { sem 𝓛 (LendsEntryBy M.row mapper.entry result
         (λ w. M.with_table mapper.old frame (table_with (M.hierarchy mapper.old) frame index w))) }

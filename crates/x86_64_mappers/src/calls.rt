@@ -5,7 +5,7 @@ ghost use Rattle.std.specs.Prelude.{◌≡◌, ◌<◌, ◌≤◌, ◌-◌, IfOk
 ghost use Rattle.x86_64_model.specs.Mapper.{Valid};
 ghost use Rattle.x86_64_model.specs.Position.{lower_half, position_count};
 ghost use Rattle.x86_64_model.specs.PageCalls.{MayAsk, MayAskMap, Answers, MapTo, MapToWithTableFlags, IdentityMap, Unmap, UpdateFlags, SetFlags};
-ghost use Rattle.x86_64_mappers.specs.CleanUps.{store_of, MayCleanUpInto, CleansUpInto};
+ghost use Rattle.x86_64_mappers.specs.CleanUps.{deallocator_store, MayCleanUpInto, CleansUpInto};
 ghost use Rattle.x86_64_mappers.specs.PageAnswers.{allows_call, allows_page, translated_page, AnswersFlags, ArrivesIfPresent};
 ghost use Rattle.x86_64_mappers.specs.Supplies.{MapsFrom, supply_of};
 ghost use Rattle.x86_64_tables.specs.MapperAnswers.{map_answer, unmap_answer, translate_answer};
@@ -260,10 +260,10 @@ pub fn clean_up<L: LevelCount, M: TableAccess + TablesIn<L>, D: FrameDeallocator
     mapper: &mut M,
     frame_deallocator: &mut D,
 )
-    requires { MayCleanUpInto (M.hierarchy mapper.old) (store_of D.FrameDeallocator frame_deallocator.old) }
-    ensures { CleansUpInto (M.hierarchy mapper.old) (store_of D.FrameDeallocator frame_deallocator.old)
+    requires { MayCleanUpInto (M.hierarchy mapper.old) (deallocator_store D.FrameDeallocator frame_deallocator.old) }
+    ensures { CleansUpInto (M.hierarchy mapper.old) (deallocator_store D.FrameDeallocator frame_deallocator.old)
         0 (position_count L.LEVELS - 1)
-        (M.hierarchy mapper.new) (store_of D.FrameDeallocator frame_deallocator.new) }
+        (M.hierarchy mapper.new) (deallocator_store D.FrameDeallocator frame_deallocator.new) }
 {
     clean_up_range(mapper, all_pages::<L>(), frame_deallocator);
 }

@@ -83,7 +83,7 @@ impl<'a, L: LevelCount> RecursivePageTableIn<'a, L> {
     ghost use Rattle.std.specs.Prelude.{◌↔◌, None, IsOk, IfOk, IfErr};
     ghost use Rattle.x86_64_model.specs.Position.{index};
     ghost use Rattle.x86_64_tables.specs.ActiveMemory.{memory_of, cr3_of};
-    ghost use Rattle.x86_64_mappers.specs.InvalidPageTables.{refuses};
+    ghost use Rattle.x86_64_mappers.specs.InvalidPageTables.{invalid_table};
     ghost use Rattle.x86_64_mappers.specs.Recursive.{active_in, layout_through};
 
     /// Creates a mapper for the hierarchy whose root is the table in a frame, given the address of the root's window.
@@ -101,14 +101,14 @@ impl<'a, L: LevelCount> RecursivePageTableIn<'a, L> {
         table: PhysFrame<Size4KiB>,
         virt: VirtAddrIn<L>,
     ) -> Result<Self, InvalidPageTable>
-        requires { refuses L.LEVELS active table virt ≡ None
+        requires { invalid_table L.LEVELS active table virt ≡ None
             → ValidThrough L.LEVELS (memory_of active) (cr3_of active) (index L.LEVELS virt) }
         ensures* unchanged { sem 𝓛 (RestsUnlessMade active.entry result) }
         ensures active { IfOk result (λ mapper. active_in mapper ≡ active.entry) }
         ensures layout { IfOk result (λ mapper. (⟦<Self as Tables>⟧.hierarchy mapper).layout
             ≡ layout_through L.LEVELS active.entry (index L.LEVELS virt)) }
-        ensures made { IsOk result ↔ (refuses L.LEVELS active.entry table virt ≡ None) }
-        ensures refused { IfErr result (λ why. refuses L.LEVELS active.entry table virt ≡ Some why) }
+        ensures made { IsOk result ↔ (invalid_table L.LEVELS active.entry table virt ≡ None) }
+        ensures refused { IfErr result (λ why. invalid_table L.LEVELS active.entry table virt ≡ Some why) }
     {
         let refusal = Self::refusal(&active, table, virt);
         let index = virt.root_index();

@@ -22,7 +22,7 @@ use Rattle.x86_64_mappings.specs.declared.summaries.distinct.KindRights.{KindRig
 use Rattle.x86_64_mappings.specs.declared.summaries.distinct.Memo.{Memo}
 use Rattle.x86_64_mappings.specs.declared.summaries.distinct.TableKind.{TableKind}
 use Rattle.x86_64_mappings.specs.declared.summaries.reached_table.ReachedTable.{ReachedTable}
-use Rattle.x86_64_mappings.specs.private.Distinct.{kind_eq, kind_of, kind_rights, rights_eq, table_eq, table_kind, covers, seen_after, new_among, AreSeen, AreByKind, AreKnown, Takes}
+use Rattle.x86_64_mappings.specs.private.Distinct.{kind_eq, kind_of, kind_rights, rights_eq, table_eq, table_kind, covers_table, seen_after, new_among, AreSeen, AreByKind, AreKnown, TakesDistinct}
 use Rattle.x86_64_mappings.specs.private.Placed.{placed}
 use Rattle.x86_64_mappings.specs.private.Targets.{selected_in}
 use Rattle.x86_64_mappings.proofs.Unselected.{earlier, later}
@@ -166,7 +166,7 @@ module _ (L : ℕ) (s : Selection) where
       by false e = e
 
   module _ (asked : Asked) where
-    all_covered : (t : ReachedTable) → covers L s t ≡ true
+    all_covered : (t : ReachedTable) → covers_table L s t ≡ true
         → AllByRecursion (λ m. is_mapping_selected L s m ≡ includes m.rights s.rights) (map (placed t.start t.above) (asked_mappings asked t.level t.frame))
     all_covered t h =
         let its = map (placed t.start t.above) (asked_mappings asked t.level t.frame) in
@@ -195,7 +195,7 @@ module _ {V : Type 0} (visits : V → V → List Mapping → Type 0) (L : ℕ) (
   pub takes_one : (old new : Distinct V Memo) (m : Mapping) → new.visitor.ghost_name ≡ old.visitor.ghost_name → new.selection ≡ old.selection → new.memo.known ≡ old.memo.known
       → ((k : Kind) → contains kind_eq new.memo.seen k ≡ cond (kind_eq (kind_of m) k) true (contains kind_eq old.memo.seen k))
       → visits old.visitor.now new.visitor.now (cond (contains kind_eq old.memo.seen (kind_of m)) [] (m ∷ []))
-      → Takes visits L visited old new (m ∷ [])
+      → TakesDistinct visits L visited old new (m ∷ [])
   takes_one old new m name selection known updates passed = λ by_kind before.
       let seen : (k : Kind) → contains kind_eq new.memo.seen k ≡ with_kind (contains kind_eq old.memo.seen) m k = λ k. updates k ∙ or_cond (kind_eq (kind_of m) k) (contains kind_eq old.memo.seen k) in record {
         visitor = name;
@@ -204,12 +204,12 @@ module _ {V : Type 0} (visits : V → V → List Mapping → Type 0) (L : ℕ) (
         passed = passed;
         known = λ t is covered. more_seen (contains kind_eq old.memo.seen) (contains kind_eq new.memo.seen)
             (λ k h. seen k ∙ or_later (kind_eq (kind_of m) k) (contains kind_eq old.memo.seen k) h) (map kind_of (visited t))
-            (before t (ap (λ k. contains table_eq k (table_kind t)) (sym known) ∙ is) (ap (λ s. covers L s t) (sym selection) ∙ covered));
+            (before t (ap (λ k. contains table_eq k (table_kind t)) (sym known) ∙ is) (ap (λ s. covers_table L s t) (sym selection) ∙ covered));
       }
 
   -- a table that is known
-  pub takes_known : (none : (v : V) → visits v v []) (d : Distinct V Memo) (t : ReachedTable) → contains table_eq d.memo.known (table_kind t) ≡ true → covers L d.selection t ≡ true
-      → Takes visits L visited d d (visited t)
+  pub takes_known : (none : (v : V) → visits v v []) (d : Distinct V Memo) (t : ReachedTable) → contains table_eq d.memo.known (table_kind t) ≡ true → covers_table L d.selection t ≡ true
+      → TakesDistinct visits L visited d d (visited t)
   takes_known none d t is covered = λ by_kind known.
       let seen = known t is covered in record {
         visitor = refl;
@@ -222,8 +222,8 @@ module _ {V : Type 0} (visits : V → V → List Mapping → Type 0) (L : ℕ) (
   -- a table that becomes known
   pub takes_remembered : (before old new : Distinct V Memo) (t : ReachedTable) → new.visitor ≡ old.visitor → new.selection ≡ old.selection → new.memo.seen ≡ old.memo.seen
       → ((k : TableKind) → contains table_eq new.memo.known k ≡ cond (table_eq (table_kind t) k) true (contains table_eq old.memo.known k))
-      → covers L old.selection t ≡ true
-      → Takes visits L visited before old (visited t) → Takes visits L visited before new (visited t)
+      → covers_table L old.selection t ≡ true
+      → TakesDistinct visits L visited before old (visited t) → TakesDistinct visits L visited before new (visited t)
   takes_remembered before old new t visitor selection same updates covered takes = λ by_kind known.
       let after = takes by_kind known in
       let its : AreSeen (contains kind_eq new.memo.seen) (visited t) =
@@ -233,18 +233,18 @@ module _ {V : Type 0} (visits : V → V → List Mapping → Type 0) (L : ℕ) (
         seen = ap (contains kind_eq) same ∙ after.seen;
         passed = subst (λ v. visits before.visitor.now v.now (new_among (contains kind_eq before.memo.seen) (visited t))) (sym visitor) after.passed;
         known = λ u is also.
-            let first : covers L before.selection t ≡ true = ap (λ s. covers L s t) (sym after.selection) ∙ covered in
-            let second : covers L before.selection u ≡ true = ap (λ s. covers L s u) (sym (selection ∙ after.selection)) ∙ also in
+            let first : covers_table L before.selection t ≡ true = ap (λ s. covers_table L s t) (sym after.selection) ∙ covered in
+            let second : covers_table L before.selection u ≡ true = ap (λ s. covers_table L s u) (sym (selection ∙ after.selection)) ∙ also in
             by (table_eq (table_kind t) (table_kind u)) u refl is also its (by_kind t u) first second after.known;
       }
     where
-      by : (b : Bool) (u : ReachedTable) → table_eq (table_kind t) (table_kind u) ≡ b → contains table_eq new.memo.known (table_kind u) ≡ true → covers L new.selection u ≡ true
+      by : (b : Bool) (u : ReachedTable) → table_eq (table_kind t) (table_kind u) ≡ b → contains table_eq new.memo.known (table_kind u) ≡ true → covers_table L new.selection u ≡ true
           → AreSeen (contains kind_eq new.memo.seen) (visited t)
-          → (table_kind t ≡ table_kind u → covers L before.selection t ≡ true → covers L before.selection u ≡ true → map kind_of (visited t) ≡ map kind_of (visited u))
-          → covers L before.selection t ≡ true → covers L before.selection u ≡ true → AreKnown L visited old
+          → (table_kind t ≡ table_kind u → covers_table L before.selection t ≡ true → covers_table L before.selection u ≡ true → map kind_of (visited t) ≡ map kind_of (visited u))
+          → covers_table L before.selection t ≡ true → covers_table L before.selection u ≡ true → AreKnown L visited old
           → AreSeen (contains kind_eq new.memo.seen) (visited u)
       by true u eq is also its same_kinds first second known =
           subst (AllByRecursion (λ k. contains kind_eq new.memo.seen k ≡ true)) (same_kinds (same_table (table_kind t) (table_kind u) eq) first second) its
       by false u eq is also its same_kinds first second known =
           let there : contains table_eq old.memo.known (table_kind u) ≡ true = sym (updates (table_kind u) ∙ ap (λ b. cond b true (contains table_eq old.memo.known (table_kind u))) eq) ∙ is in
-          subst (λ seen. AreSeen (contains kind_eq seen) (visited u)) (sym same) (known u there (ap (λ s. covers L s u) (sym selection) ∙ also))
+          subst (λ seen. AreSeen (contains kind_eq seen) (visited u)) (sym same) (known u there (ap (λ s. covers_table L s u) (sym selection) ∙ also))

@@ -11,7 +11,7 @@ use Rattle.x86_64_model.specs.Mappings.{Rights, Mapping, maps_page, every_right,
 use Rattle.x86_64_model.specs.private.Found.{page_at, found_on, found}
 use Rattle.x86_64_model.proofs.Lemmas.Mappings.Found.{leads_first, found_unread}
 use Rattle.x86_64_model.proofs.Lemmas.Mappings.Listing.{from_found, from_past, from_last}
-use Rattle.x86_64_mappings.specs.private.Cursors.{found_by, IsOn, IsCursor, IsStep, listed_from, small_page_first, is_there, way_left, table_by}
+use Rattle.x86_64_mappings.specs.private.Cursors.{found_by, IsOn, IsCursor, IsStep, listed_from, small_page_first, cursor_is_there, way_left, table_by}
 use Rattle.x86_64_tables.specs.EntryTargets.{target_of}
 use Rattle.x86_64_tables.specs.declared.page_table.target.EntryTarget.TheVariants.{Nothing, Page, Table}
 use Rattle.x86_64_mappings.specs.declared.listing.cursor.Cursor.{Cursor}
@@ -39,12 +39,12 @@ way_later L next level rest later level' rest' more most low few some =
 
 -- ---- the first entry
 
-pub there_first : (L next level : ℕ) (rest : List ℕ) → 0 < length rest → is_there L next level rest ≡ (present (get_or rest 0 0) && maps_page level (get_or rest 0 0))
+pub there_first : (L next level : ℕ) (rest : List ℕ) → 0 < length rest → cursor_is_there L next level rest ≡ (present (get_or rest 0 0) && maps_page level (get_or rest 0 0))
 there_first L next level [] some = absurd (omega arith)
 there_first L next level (e ∷ rest) some = refl
 
 -- at the end, if no entries remain, all positions are past
-pub there_last : (L next level : ℕ) (rest : List ℕ) → length rest ≤ 0 → is_there L next level rest ≡ true → next ≡ position_count L
+pub there_last : (L next level : ℕ) (rest : List ℕ) → length rest ≤ 0 → cursor_is_there L next level rest ≡ true → next ≡ position_count L
 there_last L next level [] none there = eqb-true next (position_count L) there
 there_last L next level (e ∷ rest) none there = absurd (omega (arith, none))
 

@@ -14,7 +14,7 @@ use Rattle.x86_64_mappings.specs.Wanted.{Asked, is_wanted, asked_mappings}
 use Rattle.x86_64_tables.specs.declared.page_table.target.EntryTarget.TheVariants.{Page, Table}
 use Rattle.x86_64_mappings.specs.private.Placed.{placed}
 use Rattle.x86_64_tables.specs.EntryTargets.{target_of}
-use Rattle.x86_64_mappings.specs.private.Targets.{asked_by, asked_on, mapped_by}
+use Rattle.x86_64_mappings.specs.private.Targets.{asked_by, asked_on, mappings_at}
 use Rattle.x86_64_tables.specs.Rights.{both}
 use Rattle.x86_64_mappings.specs.private.Merged.{joined, lessened, of_bits}
 use Rattle.x86_64_model.specs.Position.{span}
@@ -204,7 +204,7 @@ page_more asked i words count some all less page wanted is =
     bits_more count some all e
     ∙ sum_more asked 1 i words (of_bits count some all) (one_summary 4096 r) less is (λ start.
     of_wanted asked.wanted (small_page_by e) start r refl wanted
-    ∙ ap (λ t. summary_of (filter (is_wanted asked.wanted) (mapped_by asked.words 1 start every_right e t))) page)
+    ∙ ap (λ t. summary_of (filter (is_wanted asked.wanted) (mappings_at asked.words 1 start every_right e t))) page)
 
 -- a page that isn't wanted
 pub page_unwanted : (asked : Asked) (i : ℕ) (words : List ℕ) (sum : Summary) → i < length words
@@ -214,5 +214,5 @@ page_unwanted asked i words sum less page unwanted is =
     let e = get_or words i 0 in
     let s = 0 + i * span 1 in
     visited_same asked 1 0 every_right words i less (λ ms. sum ≡ summary_of ms)
-    (ap (λ t. filter (is_wanted asked.wanted) (mapped_by asked.words 1 s every_right e t)) (sym page)
+    (ap (λ t. filter (is_wanted asked.wanted) (mappings_at asked.words 1 s every_right e t)) (sym page)
     ∙ ap (λ b. cond b (page_from s 1 every_right e ∷ []) []) (wanted_at asked.wanted (small_page_by e) s ∙ unwanted)) is

@@ -18,14 +18,14 @@ use Rattle.x86_64_tables.specs.declared.page_table.target.EntryTarget.TheVariant
 use Rattle.x86_64_mappings.specs.Wanted.{Asked, is_wanted, asked_mappings}
 use Rattle.x86_64_mappings.specs.private.Placed.{placed}
 use Rattle.x86_64_tables.specs.EntryTargets.{target_of}
-use Rattle.x86_64_mappings.specs.private.Targets.{mapped_by, asked_by, asked_on}
+use Rattle.x86_64_mappings.specs.private.Targets.{mappings_at, asked_by, asked_on}
 use Rattle.x86_64_mappings.proofs.Placed.{flat_map-same, mappings_placed}
 
 -- ---- by the words that are read
 
 module _ (T : Words) where
   -- the mappings by a word
-  by_leads : (n s : ℕ) (r : Rights) (e : ℕ) → listed_by s (suc n) r e (listed_on T n s (granted r e) (address e)) ≡ mapped_by T (suc n) s r e (target_of (suc n) e)
+  by_leads : (n s : ℕ) (r : Rights) (e : ℕ) → listed_by s (suc n) r e (listed_on T n s (granted r e) (address e)) ≡ mappings_at T (suc n) s r e (target_of (suc n) e)
   by_leads n s r e = by (present e) (maps_page (suc n) e) (huge e)
     where
       table : listed_on T n s (granted r e) (address e) ≡ map (placed s (granted r e)) (mappings_of (suc n - 1) T (address e))
@@ -33,7 +33,7 @@ module _ (T : Words) where
           ∙ ap (λ k. map (placed s (granted r e)) (mappings_of k T (address e))) (let e : n ≡ suc n - 1 = omega arith in e)
 
       by : (b m h : Bool) → cond b (cond m (page_from s (suc n) r e ∷ []) (cond h [] (listed_on T n s (granted r e) (address e)))) []
-          ≡ mapped_by T (suc n) s r e (cond b (cond m Page (cond h Nothing (Table (address e)))) Nothing)
+          ≡ mappings_at T (suc n) s r e (cond b (cond m Page (cond h Nothing (Table (address e)))) Nothing)
       by false m h = refl
       by true true h = refl
       by true false true = refl
@@ -41,11 +41,11 @@ module _ (T : Words) where
 
   -- the placed mappings of a frame's table
   pub mappings_read : (n s : ℕ) (r : Rights) (f : ℕ) → map (placed s r) (mappings_of (suc n) T f)
-      ≡ flat_map (λ i. list_and_then (λ e. mapped_by T (suc n) (s + i * span (suc n)) r e (target_of (suc n) e)) (read T f i)) indices
+      ≡ flat_map (λ i. list_and_then (λ e. mappings_at T (suc n) (s + i * span (suc n)) r e (target_of (suc n) e)) (read T f i)) indices
   mappings_read n s r f = sym (mappings_placed T (suc n) s r f) ∙ flat_map-same _ _ (λ i. by (s + i * span (suc n)) (read T f i)) indices
     where
       by : (start : ℕ) (o : Option ℕ) → list_and_then (λ e. listed_by start (suc n) r e (listed_on T n start (granted r e) (address e))) o
-          ≡ list_and_then (λ e. mapped_by T (suc n) start r e (target_of (suc n) e)) o
+          ≡ list_and_then (λ e. mappings_at T (suc n) start r e (target_of (suc n) e)) o
       by start None = refl
       by start (Some e) = by_leads n start r e
 
@@ -67,7 +67,7 @@ filter-placed wanted s r (m ∷ ms) = ap (λ b. cond b (placed s r m ∷ filter 
 
 module _ (asked : Asked) (level s : ℕ) (r : Rights) where
   abbrev by_index : List ℕ → ℕ → List Mapping
-  by_index all i = mapped_by asked.words level (s + i * span level) r (get_or all i 0) (target_of level (get_or all i 0))
+  by_index all i = mappings_at asked.words level (s + i * span level) r (get_or all i 0) (target_of level (get_or all i 0))
 
   next : (i : ℕ) → s + (i + 1) * span level ≡ s + i * span level + span level
   next i = let e = add-mul i 1 (span level) in omega (arith, e)
@@ -103,7 +103,7 @@ asked_table asked zero s r f words low there size = absurd (omega arith)
 asked_table asked (suc n) s r f words low there size =
     sym (filter-placed asked.wanted s r (mappings_of (suc n) asked.words f))
     ∙ ap (filter (is_wanted asked.wanted)) (mappings_read asked.words n s r f
-    ∙ flat_map-same _ (by_index asked (suc n) s r words) (λ i. ap (λ o. list_and_then (λ e. mapped_by asked.words (suc n) (s + i * span (suc n)) r e (target_of (suc n) e)) (option_map (λ words. get_or words i 0) o)) there) indices
+    ∙ flat_map-same _ (by_index asked (suc n) s r words) (λ i. ap (λ o. list_and_then (λ e. mappings_at asked.words (suc n) (s + i * span (suc n)) r e (target_of (suc n) e)) (option_map (λ words. get_or words i 0) o)) there) indices
     ∙ ap (flat_map (by_index asked (suc n) s r words)) (indices_by (length words) size))
     ∙ on_words asked (suc n) s r words 0 words (λ k. ap (λ j. get_or words j 0) (let e : 0 + k ≡ k = omega arith in e))
     ∙ ap (λ s. asked_on asked (suc n) s r words) (let e : s + 0 * span (suc n) ≡ s = omega arith in e)
@@ -133,12 +133,12 @@ on_more asked level s r words i less =
 -- ---- by what an entry leads to
 
 pub by_nothing : (asked : Asked) (level s : ℕ) (r : Rights) (e : ℕ) → Nothing ≡ target_of level e → asked_by asked level s r e ≡ []
-by_nothing asked level s r e is = ap (λ t. filter (is_wanted asked.wanted) (mapped_by asked.words level s r e t)) (sym is)
+by_nothing asked level s r e is = ap (λ t. filter (is_wanted asked.wanted) (mappings_at asked.words level s r e t)) (sym is)
 
 pub by_table : (asked : Asked) (level s : ℕ) (r : Rights) (e f : ℕ) → Table f ≡ target_of level e
     → asked_by asked level s r e ≡ map (placed s (granted r e)) (asked_mappings asked (level - 1) f)
 by_table asked level s r e f is =
-    ap (λ t. filter (is_wanted asked.wanted) (mapped_by asked.words level s r e t)) (sym is)
+    ap (λ t. filter (is_wanted asked.wanted) (mappings_at asked.words level s r e t)) (sym is)
     ∙ filter-placed asked.wanted s (granted r e) (mappings_of (level - 1) asked.words f)
 
 -- the mapping of a page, if it is wanted
@@ -147,7 +147,7 @@ pub by_page : (asked : Asked) (level s : ℕ) (r : Rights) (e : ℕ) (m : Mappin
 by_page asked level s r e m is at aligned =
     let start : s / span level * span level ≡ s = omega (arith, aligned) in
     let same : page_from s level r e ≡ m = ap (λ s. page_from s level r e) (sym start) ∙ sym at in
-    ap (λ t. filter (is_wanted asked.wanted) (mapped_by asked.words level s r e t)) (sym is)
+    ap (λ t. filter (is_wanted asked.wanted) (mappings_at asked.words level s r e t)) (sym is)
     ∙ ap (λ m. cond (is_wanted asked.wanted m) (m ∷ []) []) same
 
 -- ---- the mappings of a table that isn't moved

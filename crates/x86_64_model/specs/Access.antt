@@ -90,12 +90,12 @@ kept_out c kind = c.smap && not c.ac
 
 -- Whether a page with these rights allows an access: it allows the access's kind, a user needs a user's page, and SMEP or SMAP may
 -- keep a supervisor from users' pages.
-abbrev pub allowed : Controls → Access → Rights → Bool
-allowed c a r = kind_allowed c a r a.kind && cond a.user r.user (not (r.user && kept_out c a.kind))
+abbrev pub access_allowed : Controls → Access → Rights → Bool
+access_allowed c a r = kind_allowed c a r a.kind && cond a.user r.user (not (r.user && kept_out c a.kind))
 
 -- The bit that stands for a truth value: 1 for true, 0 for false.
-abbrev pub bit : Bool → ℕ
-bit b = cond b 1 0
+abbrev pub bit_of : Bool → ℕ
+bit_of b = cond b 1 0
 
 -- Whether the kind of an access is a write.
 abbrev pub is_write : Kind → Bool
@@ -110,7 +110,7 @@ is_fetch kind = false
 -- The error code of a page fault. Bit 0 says that the last word that was read is present, bit 1 that the access is a write, bit 2
 -- that it is a user's, bit 3 that a reserved bit is set, and bit 4 that it is a fetch, if EFER.NXE or CR4.SMEP is on.
 abbrev pub code : Controls → Access → (present reserved : Bool) → ℕ
-code c a here bad = bit here + 2 * bit (is_write a.kind) + 4 * bit a.user + 8 * bit bad + 16 * bit (is_fetch a.kind && (c.no_execute || c.smep))
+code c a here bad = bit_of here + 2 * bit_of (is_write a.kind) + 4 * bit_of a.user + 8 * bit_of bad + 16 * bit_of (is_fetch a.kind && (c.no_execute || c.smep))
 
 -- The outcome of an access at position p if this word is the last one that the processor reads, and all words that it reads grant
 -- these rights together.
@@ -119,7 +119,7 @@ ends_at c a p r s =
     cond (not (present s.word)) (Faults (code c a false false) s.level)
     (cond (reserved c s.level s.word) (Faults (code c a true true) s.level)
     (cond (not (maps_page s.level s.word)) (NoMemory (address s.word))
-    (cond (not (allowed c a r)) (Faults (code c a true false) s.level)
+    (cond (not (access_allowed c a r)) (Faults (code c a true false) s.level)
     (Arrives (page_start s.level s.word + p % span s.level)))))
 
 -- The outcome of an access at position p by the last word that the processor reads, if there is one, and the rights that all words

@@ -24,9 +24,9 @@ abbrev pub by_masks : (keep given : ℕ) → (entry : ℕ) → ℕ
 by_masks keep given e = bit_or (bit_and e keep) given
 
 -- The path of the entry that a happening changes.
-abbrev pub path_of : Happening → List ℕ
-path_of (Marks q mark) = q
-path_of (Exchanges q next) = q
+abbrev pub changed_path : Happening → List ℕ
+changed_path (Marks q mark) = q
+changed_path (Exchanges q next) = q
 
 -- The word that a happening makes of an entry.
 abbrev pub next_word : Happening → (entry : ℕ) → ℕ
@@ -35,7 +35,7 @@ next_word (Exchanges q next) e = next e
 
 -- The path map after a happening has changed one entry.
 abbrev pub after_happening : PathMap → Happening → PathMap
-after_happening paths h = put paths (path_of h) (next_word h (entry paths (path_of h)))
+after_happening paths h = put paths (changed_path h) (next_word h (entry paths (changed_path h)))
 
 -- The path map after a list of happenings, in order.
 abbrev pub after_happenings : PathMap → List Happening → PathMap
@@ -69,15 +69,15 @@ after_all_placed l m (x ∷ xs) = after_all_placed l (after_placed l m x) xs
 
 -- The happening may change its word: this is the word of the entry at its path, and the new word may take the
 -- entry's place.
-abbrev pub MayHappen : Layout → Memory → Placed → Type 0
-MayHappen l m x = IsInPlace l m (path_of x.what) x.frame x.index
-    × MayReplace l.levels (path_of x.what) (entry (paths (l laid_in m)) (path_of x.what))
-    (next_word x.what (entry (paths (l laid_in m)) (path_of x.what)))
+abbrev pub MayTakePlace : Layout → Memory → Placed → Type 0
+MayTakePlace l m x = IsInPlace l m (changed_path x.what) x.frame x.index
+    × MayReplace l.levels (changed_path x.what) (entry (paths (l laid_in m)) (changed_path x.what))
+    (next_word x.what (entry (paths (l laid_in m)) (changed_path x.what)))
 
 -- The happenings may change their words one after the other, each in the memory that those before it leave.
-abbrev pub AllMayHappen : Layout → Memory → List Placed → Type 0
-AllMayHappen l m [] = Unit {0}
-AllMayHappen l m (x ∷ xs) = MayHappen l m x × AllMayHappen l (after_placed l m x) xs
+abbrev pub AllMayTakePlace : Layout → Memory → List Placed → Type 0
+AllMayTakePlace l m [] = Unit {0}
+AllMayTakePlace l m (x ∷ xs) = MayTakePlace l m x × AllMayTakePlace l (after_placed l m x) xs
 
 -- What a happening that finds this entry learns, in front of what later ones learn: an exchange learns its
 -- path and the entry, a mark nothing.

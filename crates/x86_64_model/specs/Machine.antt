@@ -8,7 +8,7 @@ use Rattle.x86_64_model.specs.Translation.{translate, address_of}
 use Rattle.x86_64_model.specs.MapRule.{AfterMap, map_call, parent_part}
 use Rattle.x86_64_model.specs.PageRules.{AfterChange, unmap, update_flags, translate_page, set_flags}
 use Rattle.x86_64_model.specs.CleanUp.{AfterCleanUp, clean_up}
-use Rattle.x86_64_model.specs.Pool.{TakesBack, given_back}
+use Rattle.x86_64_model.specs.Pool.{TakesBack, with_returned}
 use Rattle.x86_64_model.specs.Call.{Call, MapTo, MapToWithTableFlags, IdentityMap, Unmap, UpdateFlags, SetFlags, TranslatePage, Translate, TranslateAddress, CleanUp, Reply, NotAllowed, Answered, Position, Address, Cleaned}
 use Rattle.x86_64_model.specs.Allowed.{allowed}
 
@@ -50,7 +50,7 @@ after_change pool a = record { state = record { paths = a.paths; pool = pool }; 
 
 -- The result of a clean up that leaves this path map and frees these frames, which return to the pool one at a time.
 abbrev pub after_clean_up : (take_back : List ℕ → ℕ → List ℕ) → (pool : List ℕ) → AfterCleanUp → AfterCall
-after_clean_up take_back pool a = record { state = record { paths = a.paths; pool = given_back take_back pool a.back }; reply = Cleaned }
+after_clean_up take_back pool a = record { state = record { paths = a.paths; pool = with_returned take_back pool a.back }; reply = Cleaned }
 
 -- The result of an allowed call on a state of the machine: the state after it, and its reply.
 unfoldable pub do_call : Machine → State → Call → AfterCall

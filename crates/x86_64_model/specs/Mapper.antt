@@ -12,9 +12,9 @@ use Rattle.x86_64_model.specs.PageRules.{translate_page}
 use Rattle.x86_64_model.specs.PageWalk.{Walked, page_walk}
 use Rattle.x86_64_model.specs.Path.{front_at, path_at}
 use Rattle.x86_64_model.specs.PathMap.{PathMap, table_at}
-use Rattle.x86_64_model.specs.Pool.{IsOwn, IsTable, Fits, TakesBack, given_back}
+use Rattle.x86_64_model.specs.Pool.{IsOwn, IsTable, Fits, TakesBack, with_returned}
 use Rattle.x86_64_model.specs.Refusal.{Answer}
-use Rattle.x86_64_model.specs.Standing.{StandsAt}
+use Rattle.x86_64_model.specs.Standing.{IsMappedIn}
 use Rattle.x86_64_model.specs.Translation.{Translated, translate}
 use Rattle.x86_64_model.specs.Hierarchy.{paths_of}
 use Rattle.x86_64_model.specs.Layout.{Layout}
@@ -101,7 +101,7 @@ abbrev pub allows_map : {Lent : Type 0} → Hierarchy Lent → (page : List ℕ)
 allows_map h q given parent_flags = map_allowed h.layout.levels h.layout.window (paths h) q given parent_flags
 
 -- The call may be made: the hierarchy is valid, and the call is allowed.
-pub record May {Lent : Type 0} (h : Hierarchy Lent) (call : Call) : Type 0 where
+pub record MayCall {Lent : Type 0} (h : Hierarchy Lent) (call : Call) : Type 0 where
   pub valid : Valid h
   pub allowed : allows h call ≡ true
 
@@ -165,14 +165,14 @@ ArrivesIn h size page frame given =
     (offset : ℕ) → offset < size → walk h (page + offset) ≡ Some (record { address = frame + offset; write = writable given; user = user given })
 
 -- The page of a level that starts at a position is mapped to the frame as a `map_to` with these flags maps it.
-abbrev pub Stands : {Lent : Type 0} → Hierarchy Lent → (level page frame flags : ℕ) → Type 0
-Stands h level page frame given = StandsAt h.layout.levels level (paths h) (path_of h level page) frame given
+abbrev pub IsMappedAs : {Lent : Type 0} → Hierarchy Lent → (level page frame flags : ℕ) → Type 0
+IsMappedAs h level page frame given = IsMappedIn h.layout.levels level (paths h) (path_of h level page) frame given
 
 -- ---- clean ups
 
 -- The frames that a clean up of the positions from low to high frees, in order.
-abbrev pub back : {Lent : Type 0} → Hierarchy Lent → (low high : ℕ) → List ℕ
-back h low high = (clean_up h.layout.levels (paths h) low high).back
+abbrev pub freed_frames : {Lent : Type 0} → Hierarchy Lent → (low high : ℕ) → List ℕ
+freed_frames h low high = (clean_up h.layout.levels (paths h) low high).back
 
 -- The clean up may be made: the hierarchy is valid, and the frame of each table but the root is served by the pool and not held in
 -- it.
@@ -187,8 +187,8 @@ pub record MayCleanUp {Lent : Type 0} (h : Hierarchy Lent) (serves : ℕ → Boo
 pub record CleansUp {Lent : Type 0} (h : Hierarchy Lent) (take_back : List ℕ → ℕ → List ℕ) (held : List ℕ) (low high : ℕ) (after : Hierarchy Lent) (rest : List ℕ) : Type 0 where
   pub outcome : do_call (machine_of h.layout take_back) (state_of h held) (CleanUp low high) ≡ record { state = state_of after rest; reply = Cleaned }
   pub valid : Valid after
-  pub fits : (take_back : List ℕ → ℕ → List ℕ) → TakesBack take_back → (supply : List ℕ) → SupplyFits h supply → SupplyFits after (given_back take_back supply (back h low high))
-  pub empty : (f : ℕ) → In (back h low high) f → (i : ℕ) → word (words after) f i ≡ 0
+  pub fits : (take_back : List ℕ → ℕ → List ℕ) → TakesBack take_back → (supply : List ℕ) → SupplyFits h supply → SupplyFits after (with_returned take_back supply (freed_frames h low high))
+  pub empty : (f : ℕ) → In (freed_frames h low high) f → (i : ℕ) → word (words after) f i ≡ 0
   pub others : KeepsOthers (IsTable h.layout.levels h.layout.root (paths h)) h after
   pub layout : after.layout ≡ h.layout
   pub lent : after.lent ≡ h.lent

@@ -2,7 +2,7 @@
 use Rattle.std.specs.Prelude.{ℕ, List}
 use Rattle.x86_64_model.specs.Call as call
 use Rattle.x86_64_model.specs.Call.{Call}
-use Rattle.x86_64_model.specs.Mapper.{Hierarchy, May, MayMap, Does, DoesMap}
+use Rattle.x86_64_model.specs.Mapper.{Hierarchy, MayCall, MayMap, Does, DoesMap}
 use Rattle.x86_64_model.specs.Path.{path_at}
 use Rattle.x86_64_model.specs.Refusal.{Answer}
 
@@ -37,7 +37,7 @@ asked h level call = page_call h.layout.levels level call
 
 -- The hierarchy may be asked for the call: it is valid, and the call's condition holds.
 abbrev pub MayAsk : {Lent : Type 0} → Hierarchy Lent → (level : ℕ) → PageCall → Type 0
-MayAsk h level call = May h (asked h level call)
+MayAsk h level call = MayCall h (asked h level call)
 
 -- The hierarchy may be asked for the map: it is valid, the call's condition holds, and the supply (the frames to hand out, in
 -- order) fits it.

@@ -37,6 +37,6 @@ pub record TakesBack (take_back : List ℕ → ℕ → List ℕ) : Type 0 where
   pub each_once : (held : List ℕ) (f : ℕ) → EachOnce (f ∷ held) → EachOnce (take_back held f)
 
 -- The frames that a pool holds after these frames are returned, one at a time.
-abbrev pub given_back : (take_back : List ℕ → ℕ → List ℕ) → (held back : List ℕ) → List ℕ
-given_back take_back held [] = held
-given_back take_back held (f ∷ fs) = given_back take_back (take_back held f) fs
+abbrev pub with_returned : (take_back : List ℕ → ℕ → List ℕ) → (held back : List ℕ) → List ℕ
+with_returned take_back held [] = held
+with_returned take_back held (f ∷ fs) = with_returned take_back (take_back held f) fs

@@ -71,14 +71,14 @@ HasFlags shared root_entry (i ∷ q) given = shared i ≡ true → bit_or (root_
 
 -- The call changes no entry of the root at a shared index: a map adds no flag to one, no flags are set at the highest level, and
 -- no span of one overlaps the range of a clean up.
-abbrev pub SparesRoot : (L : ℕ) (shared : ℕ → Bool) → (root_entry : ℕ → ℕ) → Call → Type 0
-SparesRoot L shared root_entry (MapTo q frame given) = HasFlags shared root_entry q (parent_part given)
-SparesRoot L shared root_entry (MapToWithTableFlags q frame given parent_flags) = HasFlags shared root_entry q parent_flags
-SparesRoot L shared root_entry (IdentityMap level frame given) = HasFlags shared root_entry (path_at L level frame) (parent_part given)
-SparesRoot L shared root_entry (Unmap q) = Unit {0}
-SparesRoot L shared root_entry (UpdateFlags q given) = Unit {0}
-SparesRoot L shared root_entry (SetFlags level q given) = is_shared shared q ≡ true → level < L
-SparesRoot L shared root_entry (TranslatePage q) = Unit {0}
-SparesRoot L shared root_entry (Translate p) = Unit {0}
-SparesRoot L shared root_entry (TranslateAddress p) = Unit {0}
-SparesRoot L shared root_entry (CleanUp low high) = (i : ℕ) → shared i ≡ true → meets L low high (i ∷ []) ≡ false
+abbrev pub LeavesRootEntry : (L : ℕ) (shared : ℕ → Bool) → (root_entry : ℕ → ℕ) → Call → Type 0
+LeavesRootEntry L shared root_entry (MapTo q frame given) = HasFlags shared root_entry q (parent_part given)
+LeavesRootEntry L shared root_entry (MapToWithTableFlags q frame given parent_flags) = HasFlags shared root_entry q parent_flags
+LeavesRootEntry L shared root_entry (IdentityMap level frame given) = HasFlags shared root_entry (path_at L level frame) (parent_part given)
+LeavesRootEntry L shared root_entry (Unmap q) = Unit {0}
+LeavesRootEntry L shared root_entry (UpdateFlags q given) = Unit {0}
+LeavesRootEntry L shared root_entry (SetFlags level q given) = is_shared shared q ≡ true → level < L
+LeavesRootEntry L shared root_entry (TranslatePage q) = Unit {0}
+LeavesRootEntry L shared root_entry (Translate p) = Unit {0}
+LeavesRootEntry L shared root_entry (TranslateAddress p) = Unit {0}
+LeavesRootEntry L shared root_entry (CleanUp low high) = (i : ℕ) → shared i ≡ true → meets L low high (i ∷ []) ≡ false

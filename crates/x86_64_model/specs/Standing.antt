@@ -14,7 +14,7 @@ pub record IsParent (given e : ℕ) : Type 0 where
 
 -- The page at a path is mapped to the frame as a `map_to` with these flags maps it: its own entry is the requested one, and each
 -- parent names a table and has the parent flags.
-pub record StandsAt (L level : ℕ) (paths : PathMap) (page : List ℕ) (frame flags : ℕ) : Type 0 where
+pub record IsMappedIn (L level : ℕ) (paths : PathMap) (page : List ℕ) (frame flags : ℕ) : Type 0 where
   pub asks : Asks L level page frame flags
   pub own_entry : entry paths page ≡ leaf_entry L page frame flags
   pub below : AllByRecursion (λ p. IsParent (parent_part flags) (entry paths p)) (parents page)

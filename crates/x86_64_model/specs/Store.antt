@@ -26,8 +26,8 @@ put_first frames frame = frame ∷ frames
 
 -- The hierarchy is valid, and the frames of the store fit it: they are distinct, in the memory, and neither 0 nor in use as a
 -- table, and the store serves them and the frame of each table but the root.
-abbrev pub Fits : {Lent : Type 0} → Hierarchy Lent → Store → Type 0
-Fits h store = PoolFits h store.serves store.frames
+abbrev pub StoreFits : {Lent : Type 0} → Hierarchy Lent → Store → Type 0
+StoreFits h store = PoolFits h store.serves store.frames
 
 -- Calls led from the memory m and a pool to the memory n and the rest of the pool. The rest fits the hierarchy again, free frames
 -- and table frames together are the same set as before, and no word changed outside the root, the tables and the frames that were
@@ -40,7 +40,7 @@ pub record KeepsPool (layout : Layout) (serves : ℕ → Bool) (m : Memory) (poo
 -- What calls keep: the rest of the store fits the hierarchy again, and serves the same frames. Free frames and frames of tables
 -- together are the same set as before, and no word changed outside the root, the tables and the frames that were free before.
 -- The layout stays, and what was lent.
-pub record Kept {Lent : Type 0} (h : Hierarchy Lent) (store : Store) (after : Hierarchy Lent) (rest : Store) : Type 0 where
+pub record Keeps {Lent : Type 0} (h : Hierarchy Lent) (store : Store) (after : Hierarchy Lent) (rest : Store) : Type 0 where
   pub keeps : KeepsPool h.layout store.serves h.memory store.frames after.memory rest.frames
   pub serves : rest.serves ≡ store.serves
   pub layout : after.layout ≡ h.layout

@@ -7,7 +7,7 @@ use Rattle.x86_64_model.specs.Position.{page_path}
 use Rattle.x86_64_model.specs.Path.{begins}
 use Rattle.x86_64_model.specs.Entry.{has}
 use Rattle.x86_64_model.specs.Memory.{Words, word}
-use Rattle.x86_64_model.specs.Caches.{Way, Cached, Table, Page, MayRead, found}
+use Rattle.x86_64_model.specs.Caches.{PartialWalk, Cached, Table, Page, MayRead, cached_item}
 use Rattle.x86_64_model.specs.Flushing as one
 use Rattle.x86_64_model.specs.Flushing.{Due, PageDue, TablesDue, WindowDue, BelowDue}
 
@@ -48,7 +48,7 @@ MayTag pcid e (Page w) tag = (tag ≡ Of pcid) ⊎ ((tag ≡ Global) × (global 
 -- serves.
 abbrev pub CachesTagged : (L root pcid : ℕ) → Words → (before after : List Tagged) → Type 0
 CachesTagged L root pcid T before after = (c : Tagged) → In after c → In before c
-    ⊎ ((t : Way) × (i : ℕ) × MayRead root (usable pcid before) t × (found L T t i ≡ Some c.item)
+    ⊎ ((t : PartialWalk) × (i : ℕ) × MayRead root (usable pcid before) t × (cached_item L T t i ≡ Some c.item)
     × MayTag pcid (word T t.frame i) c.item c.tag)
 
 -- ---- flushes

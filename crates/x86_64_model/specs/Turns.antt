@@ -12,10 +12,10 @@ pub data Touch : Type 0 where
   Exchanges : (frame index seen value : ℕ) → Touch
 
 -- The frame of the word that is read, written or exchanged.
-abbrev pub frame_of : Touch → ℕ
-frame_of (Reads f i seen) = f
-frame_of (Writes f i w) = f
-frame_of (Exchanges f i seen w) = f
+abbrev pub touched_frame : Touch → ℕ
+touched_frame (Reads f i seen) = f
+touched_frame (Writes f i w) = f
+touched_frame (Exchanges f i seen w) = f
 
 -- The index, in the table of its frame, of the word that is read, written or exchanged.
 abbrev pub index_of : Touch → ℕ
@@ -55,13 +55,13 @@ abbrev pub turns_of : (processor : ℕ) → List Turn → List Turn
 turns_of k turns = filter (λ t. t.processor == k) turns
 
 -- The word is only read, neither written nor exchanged.
-abbrev pub OnlyReads : Touch → Type 0
-OnlyReads (Reads f i seen) = Unit {0}
-OnlyReads (Writes f i w) = ⊥
-OnlyReads (Exchanges f i seen w) = ⊥
+abbrev pub IsRead : Touch → Type 0
+IsRead (Reads f i seen) = Unit {0}
+IsRead (Writes f i w) = ⊥
+IsRead (Exchanges f i seen w) = ⊥
 
 -- The turn touches a word that its processor owns, or only reads a word that no processor owns, such as one
 -- of a shared table.
 abbrev pub KeepsApart : (owner : (frame i : ℕ) → Option ℕ) → Turn → Type 0
-KeepsApart owner t = (owner (frame_of t.touch) (index_of t.touch) ≡ Some t.processor)
-    ⊎ (OnlyReads t.touch × (owner (frame_of t.touch) (index_of t.touch) ≡ None))
+KeepsApart owner t = (owner (touched_frame t.touch) (index_of t.touch) ≡ Some t.processor)
+    ⊎ (IsRead t.touch × (owner (touched_frame t.touch) (index_of t.touch) ≡ None))

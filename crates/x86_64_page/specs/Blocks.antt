@@ -50,8 +50,8 @@ pub record Ends : Type 0 where
 
 -- The ends of a range with the given start block and end block. `place` says where a block starts: the position of a page, or the
 -- address of a frame.
-abbrev pub ends : {B : Type 0} → (place : B → ℕ) → (start end : B) → Ends
-ends place start end = record { start = place start; end = place end }
+abbrev pub block_ends : {B : Type 0} → (place : B → ℕ) → (start end : B) → Ends
+block_ends place start end = record { start = place start; end = place end }
 
 -- The ends of a range that excludes its end, after n blocks of a size, or all if there are fewer, are taken from its front: the
 -- start is raised.

@@ -6,7 +6,7 @@ ghost use Rattle.std.specs.Prelude.{◌≡◌, ℕ, ◌+◌, ◌*◌, ◌%◌, �
 ghost use Rattle.std.specs.Iterator.{YieldsFirstBy, YieldsLastBy, item_count, UpTo, at_most};
 ghost use Rattle.std.specs.Iterator.SizeHint.{IsWithinCount};
 ghost use Rattle.x86_64_page.specs.BlockRanges.{blocks_in};
-ghost use Rattle.x86_64_page.specs.Blocks.{IsBlockSize, IsLimit, ends, front_taken, back_taken};
+ghost use Rattle.x86_64_page.specs.Blocks.{IsBlockSize, IsLimit, block_ends, front_taken, back_taken};
 
 use crate::frame::PhysFrame;
 use crate::page::{PageIn, PageSize};
@@ -103,8 +103,8 @@ impl<B: Block> BlockRange<B> {
     /// Skips `n` blocks and returns the next one, in constant time. Leaves the range as `n + 1` calls of `next` do.
     pub fn nth(&mut self, n: usize) -> Option<B>
         ensures item { option_map B.place result ≡ slice_get (blocks_in B.SIZE B.place self.old) n }
-        ensures ends { ends B.place self.new.start self.new.end
-            ≡ front_taken B.SIZE (n + 1) (ends B.place self.old.start self.old.end) }
+        ensures ends { block_ends B.place self.new.start self.new.end
+            ≡ front_taken B.SIZE (n + 1) (block_ends B.place self.old.start self.old.end) }
     {
         let start = self.start.place();
         let end = self.end.place();
@@ -123,8 +123,8 @@ impl<B: Block> BlockRange<B> {
     /// `next_back` do.
     pub fn nth_back(&mut self, n: usize) -> Option<B>
         ensures item { option_map B.place result ≡ slice_get (reverse (blocks_in B.SIZE B.place self.old)) n }
-        ensures ends { ends B.place self.new.start self.new.end
-            ≡ back_taken B.SIZE (n + 1) (ends B.place self.old.start self.old.end) }
+        ensures ends { block_ends B.place self.new.start self.new.end
+            ≡ back_taken B.SIZE (n + 1) (block_ends B.place self.old.start self.old.end) }
     {
         let start = self.start.place();
         let end = self.end.place();
@@ -144,7 +144,7 @@ impl<B: Block> Iterator for BlockRange<B> {
 
     ghost next_gives = { λ r block s.
         YieldsFirstBy B.place (blocks_in B.SIZE B.place) r block s
-        × (ends B.place s.start s.end ≡ front_taken B.SIZE 1 (ends B.place r.start r.end)) };
+        × (block_ends B.place s.start s.end ≡ front_taken B.SIZE 1 (block_ends B.place r.start r.end)) };
 
     ghost remaining = { item_count (blocks_in B.SIZE B.place) };
 
@@ -172,7 +172,7 @@ impl<B: Block> Iterator for BlockRange<B> {
 impl<B: Block> DoubleEndedIterator for BlockRange<B> {
     ghost next_back_gives = { λ r block s.
         YieldsLastBy B.place (blocks_in B.SIZE B.place) r block s
-        × (ends B.place s.start s.end ≡ back_taken B.SIZE 1 (ends B.place r.start r.end)) };
+        × (block_ends B.place s.start s.end ≡ back_taken B.SIZE 1 (block_ends B.place r.start r.end)) };
 
     fn next_back(&mut self) -> Option<B> {
         let end = self.end.place();

@@ -10,7 +10,7 @@ use Rattle.x86_64_spaces.specs.declared.space.Space.{Space}
 use Rattle.x86_64_spaces.specs.Room.{AreSpacesWithRoom, ArePairedWithRoom}
 use Rattle.x86_64_spaces.specs.SpaceGroups.{Grouped, spaces_of, are_one, group_of, sharing_of, all_sharing}
 use Rattle.x86_64_spaces.specs.private.SpaceTables.{grouped_at}
-use Rattle.x86_64_spaces.specs.SpaceLayouts.{layout_of, layouts_of, roots_of}
+use Rattle.x86_64_spaces.specs.SpaceLayouts.{space_layout, layouts_of, roots_of}
 
 pub answers_alike : {X Y E : Type 0} → X ↔ Y → (r : Result Bool E) → IfOk r (λ fit. IsTrue fit ↔ X) → IfOk r (λ fit. IsTrue fit ↔ Y)
 answers_alike same (Ok fit) tells = (λ t. same.0 (tells.0 t), λ y. tells.1 (same.1 y))
@@ -54,7 +54,7 @@ module _ (shared : ℕ → Bool) where
     sharing = sharing_of (all_sharing shared spaces)
 
     root_of : (a : Layout) → In layouts a → In (roots_of spaces) a.root
-    root_of a h = let s = from_map (layout_of L places m) spaces a h in
+    root_of a h = let s = from_map (space_layout L places m) spaces a h in
         subst (In (roots_of spaces)) (ap (λ (l : Layout). l.root) s.2) (in_map (λ (s : Space). s.root) spaces s.0 s.1)
 
     at_index : (a b : Layout) → In layouts a → In layouts b → (i : ℕ) → sharing a.root b.root i ≡ shared i

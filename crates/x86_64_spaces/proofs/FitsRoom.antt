@@ -17,7 +17,7 @@ use Rattle.x86_64_model.proofs.Lemmas.Tables.Exact.{inside_window}
 use Rattle.x86_64_spaces.specs.declared.space.Space.{Space}
 use Rattle.x86_64_spaces.specs.Room.{AreSpacesWithRoom, ArePairedWithRoom}
 use Rattle.x86_64_spaces.specs.SpaceGroups.{Grouped, spaces_of, sharing_of}
-use Rattle.x86_64_spaces.specs.SpaceLayouts.{layout_of, layouts_of, roots_of, spaces_at}
+use Rattle.x86_64_spaces.specs.SpaceLayouts.{space_layout, layouts_of, roots_of, spaces_at}
 use Rattle.x86_64_spaces.specs.private.SpaceTables.{space_tables, SoundSpaces}
 use Rattle.x86_64_spaces.proofs.Sound.{sound_is_spaces, table_listed, led_to, in_layouts, from_layouts}
 use Rattle.x86_64_tables.specs.LentPool.{is_in}
@@ -56,7 +56,7 @@ module _ (n : ℕ) (places : Places) (mapping : IsMapping places) (m : Memory) (
   T = words_of m places
 
   abbrev layout : Grouped → Layout
-  layout s = layout_of (suc (suc n)) places m s.space
+  layout s = space_layout (suc (suc n)) places m s.space
 
   abbrev layouts : List Layout
   layouts = layouts_of (suc (suc n)) places m (spaces_of spaces)
@@ -152,5 +152,5 @@ pub all_frames : (shared : ℕ → Bool) (L : ℕ) (places : Places) → IsMappi
 all_frames shared L places mapping m capacity pool roots room = All-from_get_or (λ root. is_frame root ≡ true) roots 0 (λ i small.
     let root = get_or roots i 0 in
     let at : ℕ → Space = λ root. record { root = root; recursive = None } in
-    let fits = room.spaces.fits (layout_of L places m (at root)) (in_map (layout_of L places m) (spaces_at roots) (at root) (in_map at roots root (in_get roots i small))) in
+    let fits = room.spaces.fits (space_layout L places m (at root)) (in_map (space_layout L places m) (spaces_at roots) (at root) (in_map at roots root (in_get roots i small))) in
     mappings_show_frames m places mapping root (fits.valid.valid.holds.in_memory [] root refl))

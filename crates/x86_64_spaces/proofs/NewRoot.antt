@@ -17,8 +17,8 @@ use Rattle.x86_64_model.proofs.Lemmas.Hierarchies.Held.{word_past, word-set_inde
 use Rattle.x86_64_model.proofs.Lemmas.Hierarchies.Memories.{covered}
 use Rattle.x86_64_model.proofs.Lemmas.Hierarchies.Unset.{word_unset}
 use Rattle.x86_64_spaces.specs.declared.space.Space.{Space}
-use Rattle.x86_64_spaces.specs.SpaceLayouts.{layout_of}
-use Rattle.x86_64_spaces.specs.private.SpaceTables.{seen_by}
+use Rattle.x86_64_spaces.specs.SpaceLayouts.{space_layout}
+use Rattle.x86_64_spaces.specs.private.SpaceTables.{words_without}
 use Rattle.x86_64_spaces.specs.private.Writes.{Stores, HasShared, with_self_entry}
 use Rattle.x86_64_spaces.proofs.Sound.{seen_outside}
 use Rattle.x86_64_tables.specs.SelfEntries.{window_in}
@@ -34,24 +34,24 @@ taken [] f h = cc
 taken (g ∷ pool) f h = let e : g ≡ f = cc in ap (λ f. f ∷ pool) e
 
 -- a root has the entries that the words seen by its space are
-pub root_entries : (L : ℕ) (places : Places) (m : Memory) (s : Space) (serves : ℕ → Bool) (pool : List ℕ) → PoolFits (layout_of L places m s laid_in m) serves pool
-    → (i : ℕ) → entry (paths (layout_of L places m s laid_in m)) (i ∷ []) ≡ word (seen_by (words_of m places) s) s.root i
+pub root_entries : (L : ℕ) (places : Places) (m : Memory) (s : Space) (serves : ℕ → Bool) (pool : List ℕ) → PoolFits (space_layout L places m s laid_in m) serves pool
+    → (i : ℕ) → entry (paths (space_layout L places m s laid_in m)) (i ∷ []) ≡ word (words_without (words_of m places) s) s.root i
 root_entries L places m s serves pool fits i = fits.valid.valid.holds.entries [] i ∙ ap (λ (U : Words). word U s.root i) (seen_outside (words_of m places) s)
 
 module _ (shared : ℕ → Bool) (L : ℕ) (places : Places) (mapping : IsMapping places) (m n' n : Memory) (first : Space) (serves : ℕ → Bool) (root : ℕ) (rest : List ℕ)
-    (fits : PoolFits (layout_of L places m first laid_in m) serves (root ∷ rest)) (recursive : Option ℕ)
+    (fits : PoolFits (space_layout L places m first laid_in m) serves (root ∷ rest)) (recursive : Option ℕ)
     (place : ℕ) (at : place ≡ places.place root) (small : (r : ℕ) → recursive ≡ Some r → r < 512)
-    (unused : (r : ℕ) → recursive ≡ Some r → shared r ≡ true → entry (paths (layout_of L places m first laid_in m)) (r ∷ []) ≡ 0)
-    (copy : HasShared shared (word (seen_by (words_of m places) first) first.root) m place 512 n')
+    (unused : (r : ℕ) → recursive ≡ Some r → shared r ≡ true → entry (paths (space_layout L places m first laid_in m)) (r ∷ []) ≡ 0)
+    (copy : HasShared shared (word (words_without (words_of m places) first) first.root) m place 512 n')
     (written : Stores n' place (with_self_entry recursive root copy.table) n) where
   abbrev one : Layout
-  one = layout_of L places m first
+  one = space_layout L places m first
 
   abbrev new : Space
   new = record { root = root; recursive = recursive }
 
   abbrev layout : Layout
-  layout = layout_of L places n new
+  layout = space_layout L places n new
 
   abbrev U : Words
   U = words_of n places
@@ -64,9 +64,9 @@ module _ (shared : ℕ → Bool) (L : ℕ) (places : Places) (mapping : IsMappin
 
   -- the words of the copy, at indices of a table
   copied_word : (i : ℕ) → i < 512 → (b : Bool) → shared i ≡ b → get_or copy.table i 0 ≡ cond b (entry (paths (one laid_in m)) (i ∷ [])) 0
-  copied_word i i_small b is = copy.copied i i_small ∙ ap₂ (λ a b. cond (a && b) (word (seen_by (words_of m places) first) first.root i) 0) is (lt-ltb i 512 i_small) ∙ by b
+  copied_word i i_small b is = copy.copied i i_small ∙ ap₂ (λ a b. cond (a && b) (word (words_without (words_of m places) first) first.root i) 0) is (lt-ltb i 512 i_small) ∙ by b
     where
-      by : (b : Bool) → cond (b && true) (word (seen_by (words_of m places) first) first.root i) 0 ≡ cond b (entry (paths (one laid_in m)) (i ∷ [])) 0
+      by : (b : Bool) → cond (b && true) (word (words_without (words_of m places) first) first.root i) 0 ≡ cond b (entry (paths (one laid_in m)) (i ∷ [])) 0
       by true = sym (root_entries L places m first serves (root ∷ rest) fits i)
       by false = refl
 
@@ -91,7 +91,7 @@ module _ (shared : ℕ → Bool) (L : ℕ) (places : Places) (mapping : IsMappin
       (cases_lt i 512)
     where
       past : (b : Bool) → 512 ≤ i → cond b (entry (paths (one laid_in m)) (i ∷ [])) 0 ≡ 0
-      past true large = root_entries L places m first serves (root ∷ rest) fits i ∙ word_past (seen_by (words_of m places) first) first.root i large
+      past true large = root_entries L places m first serves (root ∷ rest) fits i ∙ word_past (words_without (words_of m places) first) first.root i large
       past false large = refl
 
   address_is : address root ≡ root

@@ -26,8 +26,8 @@ use Rattle.x86_64_model.proofs.Lemmas.Tables.Exact.{sound_fits, fits_sound}
 use Rattle.x86_64_model.proofs.Lemmas.Tables.Walked.{frame_at, table_at_frame, in_tables, from_tables, in_below, from_below}
 use Rattle.x86_64_spaces.specs.declared.space.Space.{Space}
 use Rattle.x86_64_spaces.specs.SpaceGroups.{Grouped, spaces_of, are_one, sharing_of}
-use Rattle.x86_64_spaces.specs.SpaceLayouts.{layout_of, layouts_of, roots_of}
-use Rattle.x86_64_spaces.specs.private.SpaceTables.{seen_by, part, owner, owns, own_tables, space_tables, SoundSpaces}
+use Rattle.x86_64_spaces.specs.SpaceLayouts.{space_layout, layouts_of, roots_of}
+use Rattle.x86_64_spaces.specs.private.SpaceTables.{words_without, part, owner, owns, own_tables, space_tables, SoundSpaces}
 use Rattle.x86_64_spaces.proofs.Chosen.{from_yes, once_yes, once_keys, same_keys, once_lists}
 use Rattle.x86_64_spaces.proofs.Groups.{root, roots_are, from_roots, in_roots, sharing_is, owner_in, owner_again, owner_same, owner_shares, one_owner}
 use Rattle.x86_64_tables.specs.SelfEntries.{window_in}
@@ -60,14 +60,14 @@ tables_by_words (suc n) T U f same = ap (λ xs. f ∷ xs) (same_lists (part n T 
     same_part_by n T U f i (word_by T U f i (same f (inl refl))) (λ a. tables_by_words n T U a) (λ g h. same g (inr (in_flat_map (part n T f) indices i g k h)))))
 
 -- a space sees the words of all frames but its root
-seen_elsewhere : (T : Words) (s : Space) (g : ℕ) → g ≢ s.root → seen_by T s g ≡ T g
+seen_elsewhere : (T : Words) (s : Space) (g : ℕ) → g ≢ s.root → words_without T s g ≡ T g
 seen_elsewhere T s g = by s.recursive
   where
     by : (recursive : Option ℕ) → g ≢ s.root → without_word recursive s.root T g ≡ T g
     by None apart = refl
     by (Some r) apart = set_word_other T s.root r 0 g apart
 
-pub seen_outside : (T : Words) (s : Space) → outside_window (window_in T s.root s.recursive) s.root T ≡ seen_by T s
+pub seen_outside : (T : Words) (s : Space) → outside_window (window_in T s.root s.recursive) s.root T ≡ words_without T s
 seen_outside T s = by s.recursive
   where
     by : (recursive : Option ℕ) → outside_window (window_in T s.root recursive) s.root T ≡ without_word recursive s.root T
@@ -89,13 +89,13 @@ module _ (n : ℕ) (places : Places) (mapping : IsMapping places) (m : Memory) (
   T = words_of m places
 
   abbrev V : Grouped → Words
-  V s = seen_by T s.space
+  V s = words_without T s.space
 
   abbrev serves : ℕ → Bool
   serves = serves_below limit
 
   abbrev layout : Grouped → Layout
-  layout s = layout_of (suc (suc n)) places m s.space
+  layout s = space_layout (suc (suc n)) places m s.space
 
   abbrev layouts : List Layout
   layouts = layouts_of (suc (suc n)) places m (spaces_of spaces)
@@ -117,13 +117,13 @@ module _ (n : ℕ) (places : Places) (mapping : IsMapping places) (m : Memory) (
   all = space_tables spaces n T
 
   pub in_layouts : (s : Grouped) → In spaces s → In layouts (layout s)
-  in_layouts s i = in_map (layout_of (suc (suc n)) places m) (spaces_of spaces) s.space (in_map (λ (s : Grouped). s.space) spaces s i)
+  in_layouts s i = in_map (space_layout (suc (suc n)) places m) (spaces_of spaces) s.space (in_map (λ (s : Grouped). s.space) spaces s i)
 
   pub from_layouts : (a : Layout) → In layouts a → (s : Grouped) × In spaces s × (layout s ≡ a)
   from_layouts a h =
-      let x = from_map (layout_of (suc (suc n)) places m) (spaces_of spaces) a h in
+      let x = from_map (space_layout (suc (suc n)) places m) (spaces_of spaces) a h in
       let s = from_map (λ (s : Grouped). s.space) spaces x.0 x.1 in
-      (s.0, s.1, ap (layout_of (suc (suc n)) places m) s.2 ∙ x.2)
+      (s.0, s.1, ap (space_layout (suc (suc n)) places m) s.2 ∙ x.2)
 
   -- the tables of a space's path map
   table_frame : (s : Grouped) (q : List ℕ) → table_at (suc (suc n)) s.space.root (paths (layout s laid_in m)) q ≡ frame_at (suc n) (V s) s.space.root q

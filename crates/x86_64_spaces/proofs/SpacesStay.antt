@@ -8,7 +8,7 @@ use Rattle.x86_64_model.specs.Window.{Window, SelfEntry}
 use Rattle.x86_64_model.proofs.Lemmas.Lists.Members.{in_map}
 use Rattle.x86_64_spaces.specs.declared.space.Space.{Space}
 use Rattle.x86_64_spaces.specs.SpaceLaws.{LayoutsStay, PairedLayoutsStay}
-use Rattle.x86_64_spaces.specs.SpaceLayouts.{layout_of, layouts_of, flags_added}
+use Rattle.x86_64_spaces.specs.SpaceLayouts.{space_layout, layouts_of, flags_added}
 use Rattle.x86_64_tables.specs.SelfEntries.{window_in}
 
 same_window : (m n : Memory) (places : Places) (root : ℕ) (recursive : Option ℕ) → SelfEntry (words_of n places) root (window_in (words_of m places) root recursive)
@@ -16,7 +16,7 @@ same_window : (m n : Memory) (places : Places) (root : ℕ) (recursive : Option 
 same_window m n places root None self = refl
 same_window m n places root (Some r) self = ap (λ e. Some (record { index = r; self_entry = e })) self.is_word
 
-same_layout : (levels : ℕ) (places : Places) (m n : Memory) (s : Space) → Valid (layout_of levels places m s laid_in n) → layout_of levels places m s ≡ layout_of levels places n s
+same_layout : (levels : ℕ) (places : Places) (m n : Memory) (s : Space) → Valid (space_layout levels places m s laid_in n) → space_layout levels places m s ≡ space_layout levels places n s
 same_layout levels places m n s valid =
     ap (λ (window : Option Window). record { levels = levels; places = places; root = s.root; window = window; added_flags = flags_added s.recursive })
     (same_window m n places s.root s.recursive valid.self)
@@ -28,8 +28,8 @@ same_layouts f g (s ∷ spaces) same = ap₂ (λ l ls. l ∷ ls) (same s (inl re
 all_stay : (levels : ℕ) (places : Places) (m n : Memory) (serves : ℕ → Bool) (pool : List ℕ) (spaces : List Space)
     → ((a : Layout) → In (layouts_of levels places m spaces) a → PoolFits (a laid_in n) serves pool) → layouts_of levels places m spaces ≡ layouts_of levels places n spaces
 all_stay levels places m n serves pool spaces fits =
-    same_layouts (layout_of levels places m) (layout_of levels places n) spaces
-    (λ s i. same_layout levels places m n s (fits (layout_of levels places m s) (in_map (layout_of levels places m) spaces s i)).valid)
+    same_layouts (space_layout levels places m) (space_layout levels places n) spaces
+    (λ s i. same_layout levels places m n s (fits (space_layout levels places m s) (in_map (space_layout levels places m) spaces s i)).valid)
 
 pub layouts_stay : LayoutsStay
 layouts_stay shared levels places m n serves pool spaces are = all_stay levels places m n serves pool spaces are.fits

@@ -9,7 +9,7 @@ use Rattle.x86_64_model.specs.Memory.{Memory, Places, Words, word, word_in, word
 use Rattle.x86_64_model.specs.private.Tables.{without_word}
 use Rattle.x86_64_model.proofs.Lemmas.Hierarchies.Memories.{same_key, other_key}
 use Rattle.x86_64_spaces.specs.declared.space.Space.{Space}
-use Rattle.x86_64_spaces.specs.private.SpaceTables.{seen_by}
+use Rattle.x86_64_spaces.specs.private.SpaceTables.{words_without}
 use Rattle.x86_64_spaces.specs.private.Writes.{Stores, HasShared}
 use Rattle.x86_64_tables.specs.PageTable.{zero_words, length-zero_words, get_or-zero_words}
 
@@ -27,7 +27,7 @@ stores_again m n k place table other first second = record { here = second.here;
 pub words_stay : (m n : Memory) (places : Places) (place : ℕ) (table : List ℕ) → Stores m place table n → (f : ℕ) → places.place f ≢ place → words_of n places f ≡ words_of m places f
 words_stay m n places place table stored f apart = ap (λ o. cond (places.covers f) o None) (stored.others (places.place f) apart)
 
-pub seen_same : (T U : Words) (s : Space) (i : ℕ) → T s.root ≡ U s.root → word (seen_by T s) s.root i ≡ word (seen_by U s) s.root i
+pub seen_same : (T U : Words) (s : Space) (i : ℕ) → T s.root ≡ U s.root → word (words_without T s) s.root i ≡ word (words_without U s) s.root i
 unfolding word set_word
 seen_same T U s i e = by s.recursive
   where

@@ -7,11 +7,11 @@ use Rattle.x86_64_model.specs.Mapper.{◌laid_in◌, Hierarchy, paths, KeepsOthe
 use Rattle.x86_64_model.specs.Memory.{Memory, word, words_of}
 use Rattle.x86_64_model.specs.PathMap.{entry}
 use Rattle.x86_64_model.specs.Spaces.{AreSpaces}
-use Rattle.x86_64_model.specs.Store.{Store, Fits}
+use Rattle.x86_64_model.specs.Store.{Store, StoreFits}
 use Rattle.x86_64_spaces.specs.declared.giving_up.GiveUpError.{GiveUpError}
 use Rattle.x86_64_spaces.specs.declared.giving_up.GiveUpError.TheVariants.{EntryUsed, FrameZero}
 use Rattle.x86_64_spaces.specs.declared.space.Space.{Space}
-use Rattle.x86_64_spaces.specs.SpaceLayouts.{layout_of, HasSharedAlone}
+use Rattle.x86_64_spaces.specs.SpaceLayouts.{space_layout, HasSharedAlone}
 use Rattle.x86_64_tables.specs.PageTable.{zero_words}
 
 -- ---- a new space
@@ -23,12 +23,12 @@ TakesFirst store taken rest = (taken ≡ slice_get store.frames 0) × (rest.fram
 -- A hierarchy may be the template of a new address space: it is valid, and the frames of the store fit it. Its root's entry at the
 -- recursive index of the new one is unused (or its own self-entry), if this index is shared.
 pub record MayBeTemplate {Lent : Type 0} (shared : ℕ → Bool) (recursive : Option ℕ) (template : Hierarchy Lent) (store : Store) : Type 0 where
-  pub fits : Fits template store
+  pub fits : StoreFits template store
   pub index_unused : (r : ℕ) → recursive ≡ Some r → shared r ≡ true → entry (paths template) (r ∷ []) ≡ 0
 
 -- The layout of a space in a memory, with the number of levels and the places of frames of a hierarchy.
 abbrev pub layout_beside : {Lent : Type 0} → Hierarchy Lent → Memory → Space → Layout
-layout_beside h memory space = layout_of h.layout.levels h.layout.places memory space
+layout_beside h memory space = space_layout h.layout.levels h.layout.places memory space
 
 -- A space was made after a template, whose memory became n.
 pub record IsMade {Lent : Type 0} (shared : ℕ → Bool) (template : Hierarchy Lent) (store : Store) (new : Space) (n : Memory) (rest : Store) : Type 0 where
@@ -44,7 +44,7 @@ pub record IsMade {Lent : Type 0} (shared : ℕ → Bool) (template : Hierarchy 
 
 -- A space may be given up if its hierarchy is valid, the frames of the store fit it, and the store serves the root's frame.
 pub record MayBeGivenUp {Lent : Type 0} (gone : Hierarchy Lent) (store : Store) : Type 0 where
-  pub fits : Fits gone store
+  pub fits : StoreFits gone store
   pub served : store.serves gone.layout.root ≡ true
 
 -- The reason why a space isn't given up: an entry of its root that isn't shared is used, or else the root is in frame 0.

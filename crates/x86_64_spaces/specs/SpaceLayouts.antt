@@ -18,8 +18,8 @@ flags_added None = 0
 flags_added (Some r) = 3
 
 -- The layout of an address space whose tables are in a memory.
-abbrev pub layout_of : (levels : ℕ) → Places → Memory → Space → Layout
-layout_of levels places memory space = record {
+abbrev pub space_layout : (levels : ℕ) → Places → Memory → Space → Layout
+space_layout levels places memory space = record {
   levels = levels;
   places = places;
   root = space.root;
@@ -29,11 +29,11 @@ layout_of levels places memory space = record {
 
 -- The hierarchy of an address space whose tables are in a memory.
 abbrev pub space_in : (levels : ℕ) → Places → Memory → Space → Hierarchy (Unit {0})
-space_in levels places memory space = layout_of levels places memory space laid_in memory
+space_in levels places memory space = space_layout levels places memory space laid_in memory
 
 -- The layouts of address spaces whose tables are in a memory.
 abbrev pub layouts_of : (levels : ℕ) → Places → Memory → List Space → List Layout
-layouts_of levels places memory spaces = map (layout_of levels places memory) spaces
+layouts_of levels places memory spaces = map (space_layout levels places memory) spaces
 
 -- The frames of the roots of address spaces.
 abbrev pub roots_of : List Space → List ℕ

@@ -11,6 +11,6 @@ abbrev pub target_of : (level entry : ℕ) → EntryTarget
 target_of level e = cond (present e) (cond (maps_page level e) Page (cond (huge e) Nothing (Table (address e)))) Nothing
 
 -- The target of an entry is a table.
-abbrev pub IsTable : EntryTarget → Type 0
-IsTable (Table frame) = Unit {0}
-IsTable _ = ⊥
+abbrev pub NamesTable : EntryTarget → Type 0
+NamesTable (Table frame) = Unit {0}
+NamesTable _ = ⊥

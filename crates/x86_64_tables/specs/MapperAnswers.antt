@@ -23,32 +23,32 @@ map_answer frame (Ok _) = Done frame
 map_answer frame (Err why) = Refused (map_refusal why)
 
 -- The model's refusal for an error of a call that unmaps a page.
-abbrev pub unmap_refusal : UnmapError → Refusal
-unmap_refusal unmap.ParentEntryHugePage = refusal.ParentEntryHugePage
-unmap_refusal unmap.PageNotMapped = refusal.PageNotMapped
-unmap_refusal (unmap.InvalidFrameAddress address) = refusal.InvalidFrameAddress address
+abbrev pub refusal_of_unmap : UnmapError → Refusal
+refusal_of_unmap unmap.ParentEntryHugePage = refusal.ParentEntryHugePage
+refusal_of_unmap unmap.PageNotMapped = refusal.PageNotMapped
+refusal_of_unmap (unmap.InvalidFrameAddress address) = refusal.InvalidFrameAddress address
 
 -- The model's answer for the result of a call that unmaps a page: done with the frame that it was mapped to, or refused. If done,
 -- the call returned this frame and a token for the TLB flush.
 abbrev pub unmap_answer : Result (ℕ × ℕ) UnmapError → Answer
 unmap_answer (Ok unmapped) = Done unmapped.0
-unmap_answer (Err why) = Refused (unmap_refusal why)
+unmap_answer (Err why) = Refused (refusal_of_unmap why)
 
 -- The model's answer for the result of a call that unmaps the page at a path: done with the frame that it was mapped to, or
 -- refused. If done, the call returned this frame and no token.
 abbrev pub frame_answer : Result ℕ UnmapError → Answer
 frame_answer (Ok frame) = Done frame
-frame_answer (Err why) = Refused (unmap_refusal why)
+frame_answer (Err why) = Refused (refusal_of_unmap why)
 
 -- The model's refusal for an error of a call that changes the flags of an entry.
-abbrev pub update_refusal : FlagUpdateError → Refusal
-update_refusal update.PageNotMapped = refusal.PageNotMapped
-update_refusal update.ParentEntryHugePage = refusal.ParentEntryHugePage
+abbrev pub refusal_of_update : FlagUpdateError → Refusal
+refusal_of_update update.PageNotMapped = refusal.PageNotMapped
+refusal_of_update update.ParentEntryHugePage = refusal.ParentEntryHugePage
 
 -- The reason why a call didn't change the flags of an entry, None if it changed them.
 abbrev pub flags_refusal : {X : Type 0} → Result X FlagUpdateError → Option Refusal
 flags_refusal (Ok _) = None
-flags_refusal (Err why) = Some (update_refusal why)
+flags_refusal (Err why) = Some (refusal_of_update why)
 
 -- The model's answer for the result of a call that changes the flags of an entry: done with the frame that the entry names, or
 -- refused.
@@ -56,12 +56,12 @@ abbrev pub flags_answer : {X : Type 0} → (frame : ℕ) → Result X FlagUpdate
 flags_answer frame result = answer_unless (flags_refusal result) (Done frame)
 
 -- The model's refusal for an error of a call that translates a page.
-abbrev pub translate_refusal : TranslateError → Refusal
-translate_refusal translate.PageNotMapped = refusal.PageNotMapped
-translate_refusal translate.ParentEntryHugePage = refusal.ParentEntryHugePage
-translate_refusal (translate.InvalidFrameAddress address) = refusal.InvalidFrameAddress address
+abbrev pub refusal_of_translate : TranslateError → Refusal
+refusal_of_translate translate.PageNotMapped = refusal.PageNotMapped
+refusal_of_translate translate.ParentEntryHugePage = refusal.ParentEntryHugePage
+refusal_of_translate (translate.InvalidFrameAddress address) = refusal.InvalidFrameAddress address
 
 -- The model's answer for the result of a call that translates a page: done with the frame that it is mapped to, or refused.
 abbrev pub translate_answer : Result ℕ TranslateError → Answer
 translate_answer (Ok frame) = Done frame
-translate_answer (Err why) = Refused (translate_refusal why)
+translate_answer (Err why) = Refused (refusal_of_translate why)

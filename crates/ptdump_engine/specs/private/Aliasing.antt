@@ -21,10 +21,10 @@ abbrev pub IsAligned : MappedFrame → Type 0
 IsAligned frame = frame_start frame % frame_size frame ≡ 0
 
 -- A number that is different for each frame of 4KiB, 2MiB or 1GiB that starts at a multiple of its size.
-abbrev pub key_of : MappedFrame → ℕ
-key_of (Size4KiB start) = start + 1
-key_of (Size2MiB start) = start + 2
-key_of (Size1GiB start) = start + 3
+abbrev pub frame_key : MappedFrame → ℕ
+frame_key (Size4KiB start) = start + 1
+frame_key (Size2MiB start) = start + 2
+frame_key (Size1GiB start) = start + 3
 
 -- The 2MiB frame that contains a physical address.
 abbrev pub in_2mib : (address : ℕ) → MappedFrame
@@ -35,24 +35,24 @@ abbrev pub in_1gib : (address : ℕ) → MappedFrame
 in_1gib a = Size1GiB (a - a % 0x4000_0000)
 
 -- A mapping leads to a frame, which starts at a multiple of its size.
-pub record LeadsTo (m : Mapping) (frame : MappedFrame) : Type 0 where
+pub record MapsFrame (m : Mapping) (frame : MappedFrame) : Type 0 where
   pub size : m.size ≡ frame_size frame
   pub start : m.frame ≡ frame_start frame
   pub aligned : IsAligned frame
 
 -- A mapping leads to some frame of 4KiB, 2MiB or 1GiB, which starts at a multiple of its size.
-abbrev pub IsPage : Mapping → Type 0
-IsPage m = (frame : MappedFrame) × LeadsTo m frame
+abbrev pub MapsAPage : Mapping → Type 0
+MapsAPage m = (frame : MappedFrame) × MapsFrame m frame
 
 -- ---- mappings of a frame
 
 -- Whether a start and a size in bytes are those of a frame.
-abbrev pub is_frame : MappedFrame → (start size : ℕ) → Bool
-is_frame frame start size = (size == frame_size frame) && (start == frame_start frame)
+abbrev pub is_same_frame : MappedFrame → (start size : ℕ) → Bool
+is_same_frame frame start size = (size == frame_size frame) && (start == frame_start frame)
 
 -- Whether a mapping leads to a frame with rights that differ from these.
 abbrev pub is_other : MappedFrame → Rights → Mapping → Bool
-is_other frame rights n = is_frame frame n.frame n.size && not (same_rights rights n.rights)
+is_other frame rights n = is_same_frame frame n.frame n.size && not (same_rights rights n.rights)
 
 -- The first mapping of a frame with rights that differ from these, or None if there is none. It is found by the frame's first
 -- mapping and its first one whose rights differ from those of the first.
@@ -70,19 +70,19 @@ noted (Some firsts) m = record {
 
 -- The first mapping of a frame with rights that differ from these, by the first mappings of all frames, or None if there is none.
 abbrev pub other_at : {X : Type 0} → FirstMappings X → MappedFrame → Rights → Option Mapping
-other_at firsts frame rights = option_and_then (other_in rights) (get nat_eq firsts.firsts (key_of frame))
+other_at firsts frame rights = option_and_then (other_in rights) (get nat_eq firsts.firsts (frame_key frame))
 
 -- ---- after some of the mappings
 
 -- The first mappings of all frames are those among these mappings, each of which leads to a frame.
-pub record IsAfter {X : Type 0} (firsts : FirstMappings X) (ms : List Mapping) : Type 0 where
-  pub pages : AllByRecursion IsPage ms
+pub record AreFirstsAfter {X : Type 0} (firsts : FirstMappings X) (ms : List Mapping) : Type 0 where
+  pub pages : AllByRecursion MapsAPage ms
   pub others : (frame : MappedFrame) → IsAligned frame → (rights : Rights) → other_at firsts frame rights ≡ find (is_other frame rights) ms
 
 -- The first mappings of all frames change as more mappings are visited: if those before are the first among some mappings, those
 -- after are the first among these and more.
-abbrev pub Takes : {X : Type 0} → (old new : FirstMappings X) → (more : List Mapping) → Type 0
-Takes old new more = (ms : List Mapping) → IsAfter old ms → IsAfter new (ms ++ more)
+abbrev pub TakesFirsts : {X : Type 0} → (old new : FirstMappings X) → (more : List Mapping) → Type 0
+TakesFirsts old new more = (ms : List Mapping) → AreFirstsAfter old ms → AreFirstsAfter new (ms ++ more)
 
 -- ---- the first alias
 
@@ -117,6 +117,6 @@ aliased_by L m n = record {
 -- The first mappings of all frames are those among these mappings, which lie one behind the other within the address space of L
 -- levels of tables.
 pub record AreOfAll {X : Type 0} (L : ℕ) (firsts : FirstMappings X) (ms : List Mapping) : Type 0 where
-  pub after : IsAfter firsts ms
+  pub after : AreFirstsAfter firsts ms
   pub order : InOrder (λ m n. (m.start < n.start) × (m.start + m.size ≤ n.start)) ms
   pub fit : AllByRecursion (λ m. m.start + m.size ≤ position_count L) ms

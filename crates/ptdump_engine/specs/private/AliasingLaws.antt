@@ -6,15 +6,15 @@ use Rattle.ptdump_engine.specs.Aliases.{said_of_mapping}
 use Rattle.ptdump_engine.specs.Said.{Said}
 use Rattle.ptdump_engine.specs.declared.check.aliases.AliasLines.{AliasLines}
 use Rattle.ptdump_engine.specs.declared.check.first_mappings.FirstMappings.{FirstMappings}
-use Rattle.ptdump_engine.specs.private.Aliasing.{AreOfAll, IsAfter, Takes}
+use Rattle.ptdump_engine.specs.private.Aliasing.{AreOfAll, AreFirstsAfter, TakesFirsts}
 use Rattle.ptdump_engine.specs.private.AliasingLines.{AreAliased}
 
 module _ {X : Type 0} where
-  pub taken_nothing : (firsts : FirstMappings X) → Takes firsts firsts []
-  taken_nothing firsts = λ ms after. subst (IsAfter firsts) (sym (append-nil ms)) after
+  pub taken_nothing : (firsts : FirstMappings X) → TakesFirsts firsts firsts []
+  taken_nothing firsts = λ ms after. subst (AreFirstsAfter firsts) (sym (append-nil ms)) after
 
-  pub taken_both : (before between after : FirstMappings X) (front back : List Mapping) → Takes before between front → Takes between after back → Takes before after (front ++ back)
-  taken_both before between after front back first second = λ ms is. subst (IsAfter after) (append_assoc ms front back) (second (ms ++ front) (first ms is))
+  pub taken_both : (before between after : FirstMappings X) (front back : List Mapping) → TakesFirsts before between front → TakesFirsts between after back → TakesFirsts before after (front ++ back)
+  taken_both before between after front back first second = λ ms is. subst (AreFirstsAfter after) (append_assoc ms front back) (second (ms ++ front) (first ms is))
 
 module _ {X O : Type 0} (Lines : O → O → List Said → Type 0) where
   pub aliased_nothing : (nothing : (o : O) → Lines o o []) (L : ℕ) (visitor : AliasLines X O) → AreAliased Lines L visitor visitor []

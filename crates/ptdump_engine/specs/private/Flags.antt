@@ -4,8 +4,8 @@ use Rattle.ptdump_engine.specs.Names.{Flag}
 use Rattle.ptdump_engine.specs.declared.names.Flag.{Flag as Listed}
 
 -- A flag of entries as specifications have it, from the one in code: its bit and its name.
-abbrev pub named : Listed → Flag
-named f = record { bit = f.bit; name = f.name.now }
+abbrev pub named_flag : Listed → Flag
+named_flag f = record { bit = f.bit; name = f.name.now }
 
 -- The flags of a list that are set in a word, in order.
 abbrev pub set_in : (word : ℕ) → List Flag → List Flag

@@ -11,8 +11,8 @@ use Rattle.x86_64_model.specs.Access.{Outcome, Arrives, Faults, NoMemory}
 use Rattle.x86_64_model.specs.Mappings.{Mapping}
 use Rattle.x86_64_model.specs.Regions.{Region}
 use Rattle.ptdump_engine.specs.FindingObjects.{json_of_finding}
-use Rattle.ptdump_engine.specs.InfoObjects.{json_of_processor, json_of_registers, json_of_root, root_members, told}
-use Rattle.ptdump_engine.specs.Json.{count, json_of_access, json_of_mapping, json_of_region, json_of_word}
+use Rattle.ptdump_engine.specs.InfoObjects.{json_of_processor, json_of_registers, json_of_root, root_members, named_member}
+use Rattle.ptdump_engine.specs.Json.{json_count, json_of_access, json_of_mapping, json_of_region, json_of_word}
 use Rattle.ptdump_engine.specs.Processors.{json_of_group}
 use Rattle.ptdump_engine.specs.Start.{mode_of}
 use Rattle.ptdump_engine.specs.private.Walked.{json_of_line, json_of_value}
@@ -76,7 +76,7 @@ no_float_mapping L (Some area) m = refl
 
 -- ---- groups of processors
 
-numbers_have_none : (numbers : List ℕ) → items_have_float (items_of (map count numbers)) ≡ false
+numbers_have_none : (numbers : List ℕ) → items_have_float (items_of (map json_count numbers)) ≡ false
 numbers_have_none [] = refl
 numbers_have_none (n ∷ numbers) = numbers_have_none numbers
 
@@ -89,7 +89,7 @@ pub no_float_processor : (cpu : ℕ) (registers : Option Registers) → has_floa
 no_float_processor cpu None = refl
 no_float_processor cpu (Some r) = by (mode_of r.cr0 r.cr4)
   where
-    by : (mode : Mode) → has_float (told (codes "processor") (json_of_registers cpu r mode)) ≡ false
+    by : (mode : Mode) → has_float (named_member (codes "processor") (json_of_registers cpu r mode)) ≡ false
     by NoPaging = refl
     by Paging32 = refl
     by Paging64 = refl
@@ -97,7 +97,7 @@ no_float_processor cpu (Some r) = by (mode_of r.cr0 r.cr4)
 pub no_float_root : (cpu : ℕ) (start : Start) → has_float (json_of_root cpu start) ≡ false
 no_float_root cpu start = by start.origin
   where
-    by : (origin : Origin) → has_float (told (codes "root") (object (root_members cpu start.root start.levels origin))) ≡ false
+    by : (origin : Origin) → has_float (named_member (codes "root") (object (root_members cpu start.root start.levels origin))) ≡ false
     by ByRequest = refl
     by ByProcessor = refl
     by ByKernel = refl

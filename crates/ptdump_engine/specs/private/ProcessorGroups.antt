@@ -17,8 +17,8 @@ are_five Four = false
 are_five Five = true
 
 -- The root of a processor, and whether its tables have five levels, by which processors are grouped.
-abbrev pub key_of : Processor → ℕ × Bool
-key_of p = (p.start.root, are_five p.start.levels)
+abbrev pub group_key : Processor → ℕ × Bool
+group_key p = (p.start.root, are_five p.start.levels)
 
 -- Whether two keys of groups of processors are equal: the root, and whether there are five levels.
 abbrev pub same_key : (one other : ℕ × Bool) → Bool
@@ -30,7 +30,7 @@ cpus_at cpus k = option_map_or (λ numbers. numbers.items) (get same_key cpus k)
 
 -- Whether a processor has tables, with the root and the number of levels of a key.
 abbrev pub has_key : ℕ × Bool → Processor → Bool
-has_key k p = has_tables p && same_key (key_of p) k
+has_key k p = has_tables p && same_key (group_key p) k
 
 -- The list of the number of a processor if it has tables with the root and the number of levels of a key, or else the empty list.
 abbrev pub cpu_if : ℕ × Bool → Processor → List ℕ
@@ -38,7 +38,7 @@ cpu_if k p = if has_key k p then p.cpu ∷ [] else []
 
 -- The numbers that groups have of the processors with the root and the number of levels of one processor.
 abbrev pub cpus_in : ProcessorGroups → Processor → List ℕ
-cpus_in groups p = cpus_at groups.cpus (key_of p)
+cpus_in groups p = cpus_at groups.cpus (group_key p)
 
 -- Whether groups have a processor with a lower number than this one, and with its root and number of levels.
 abbrev pub is_later_in : ProcessorGroups → Processor → Bool

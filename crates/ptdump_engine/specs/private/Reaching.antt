@@ -22,8 +22,8 @@ abbrev pub address_in : (L physical : ℕ) → Mapping → ℕ
 address_in L a m = raw L ((m.start + (a - m.frame)) % position_count L)
 
 -- For each of some frames, the virtual address in the first mapping that leads to it, or None if none does.
-abbrev pub firsts_of : (L : ℕ) → (frames : List ℕ) → List Mapping → List (Option ℕ)
-firsts_of L frames ms = map (λ f. option_map (address_in L f) (find (leads_to f) ms)) frames
+abbrev pub first_address_of_each : (L : ℕ) → (frames : List ℕ) → List Mapping → List (Option ℕ)
+first_address_of_each L frames ms = map (λ f. option_map (address_in L f) (find (leads_to f) ms)) frames
 
 -- ---- mappings
 
@@ -72,8 +72,8 @@ abbrev pub Cover : (ms others : List Mapping) → Type 0
 Cover ms others = (a : ℕ) → find (leads_to a) ms ≡ None → find (leads_to a) others ≡ None
 
 -- Whether a physical address is in a frame with this start and this size in bytes.
-abbrev pub is_within : (start size address : ℕ) → Bool
-is_within start size a = nat_le start a && nat_lt a (start + size)
+abbrev pub address_is_within : (start size address : ℕ) → Bool
+address_is_within start size a = nat_le start a && nat_lt a (start + size)
 
 -- The query of a search: the words of its memory, with all mappings wanted.
 abbrev pub searched : Search → Asked
@@ -92,13 +92,13 @@ sought_in search visit = sought search (map (placed visit.start visit.above) (as
 
 -- The search went through some mappings, and found for each frame the first of them that leads to it. Whatever the tables and pages
 -- lead to that it needn't visit again, some of these mappings lead to.
-pub record IsAfter (L : ℕ) (search : Search) (found : Found) (ms : List Mapping) : Type 0 where
+pub record IsFoundAfter (L : ℕ) (search : Search) (found : Found) (ms : List Mapping) : Type 0 where
   pub ascend : IsNonDecreasingBy (λ f. f) search.frames.now
-  pub firsts : found.firsts.items ≡ firsts_of L search.frames.now ms
+  pub firsts : found.firsts.items ≡ first_address_of_each L search.frames.now ms
   pub visited : (level frame : ℕ) → level < 4096 → frame % 4096 ≡ 0 → contains nat_eq found.visited (frame + level) ≡ true → Cover ms (kept_below search level frame)
-  pub pages : (start : ℕ) → IfSome (get nat_eq found.pages start) (λ size. (a : ℕ) → find (leads_to a) ms ≡ None → is_within start size a ≡ false)
+  pub pages : (start : ℕ) → IfSome (get nat_eq found.pages start) (λ size. (a : ℕ) → find (leads_to a) ms ≡ None → address_is_within start size a ≡ false)
 
 -- The search went through more mappings: if its state before is that after some mappings, its state after is that after these and
 -- more.
-abbrev pub Takes : (L : ℕ) → Search → (old new : Found) → (more : List Mapping) → Type 0
-Takes L search old new more = (ms : List Mapping) → IsAfter L search old ms → IsAfter L search new (ms ++ more)
+abbrev pub TakesFound : (L : ℕ) → Search → (old new : Found) → (more : List Mapping) → Type 0
+TakesFound L search old new more = (ms : List Mapping) → IsFoundAfter L search old ms → IsFoundAfter L search new (ms ++ more)

@@ -15,21 +15,21 @@ use Rattle.ptdump_engine.specs.declared.walked.WalkEnd.{WalkEnd}
 use Rattle.ptdump_engine.specs.declared.walked.WalkEnd.TheVariants as ends
 
 -- The end of a walk as code represents it, with these rights if the walk arrives.
-abbrev pub end_at : Rights → End → WalkEnd
-end_at rights (arrives_at to size) = ends.Arrives (record { address = to; rights = rights }) size
-end_at rights not_present = ends.NotPresent
-end_at rights (no_table frame) = ends.MissingTable frame
-end_at rights (huge_page level) = ends.HugePage level
+abbrev pub walk_end_at : Rights → End → WalkEnd
+walk_end_at rights (arrives_at to size) = ends.Arrives (record { address = to; rights = rights }) size
+walk_end_at rights not_present = ends.NotPresent
+walk_end_at rights (no_table frame) = ends.MissingTable frame
+walk_end_at rights (huge_page level) = ends.HugePage level
 
 -- The end of a walk as code represents it, if the words above the walk grant some rights. If the walk arrives, it has those of them
 -- that all of its words grant too.
 abbrev pub end_with : (above : Rights) → Walk → WalkEnd
-end_with above walk = end_at (both above (walk_rights walk)) walk.end
+end_with above walk = walk_end_at (both above (walk_rights walk)) walk.end
 
 -- The value represents a walk in code: its words, and its end, which has the rights that all words grant if the walk arrives.
 pub record IsWalk (walk : Walk) (value : WalkValue) : Type 0 where
   pub words : value.words.items ≡ walk.words
-  pub end : value.end ≡ end_at (walk_rights walk) walk.end
+  pub end : value.end ≡ walk_end_at (walk_rights walk) walk.end
 
 -- The rights at the address where a walk arrives, by its end as code represents it, or all rights if it doesn't arrive.
 abbrev pub rights_at : WalkEnd → Rights
@@ -37,11 +37,11 @@ rights_at (ends.Arrives at size) = at.rights
 rights_at end = every_right
 
 -- The end of a walk, by its end as code represents it.
-abbrev pub end_of : WalkEnd → End
-end_of (ends.Arrives at size) = arrives_at at.address size
-end_of ends.NotPresent = not_present
-end_of (ends.MissingTable frame) = no_table frame
-end_of (ends.HugePage level) = huge_page level
+abbrev pub end_said : WalkEnd → End
+end_said (ends.Arrives at size) = arrives_at at.address size
+end_said ends.NotPresent = not_present
+end_said (ends.MissingTable frame) = no_table frame
+end_said (ends.HugePage level) = huge_page level
 
 -- The size in bytes of the page in which a walk arrives, or None if it doesn't arrive.
 abbrev pub page_size : End → Option ℕ
@@ -57,7 +57,7 @@ is_arrival end = is_some (page_size end)
 -- The text of the end of a walk, by its end as code represents it: the address at which it arrives with its rights, or why it
 -- doesn't arrive.
 abbrev pub text_of_end : WalkEnd → List ℕ
-text_of_end end = end_text (rights_at end) (end_of end)
+text_of_end end = end_text (rights_at end) (end_said end)
 
 -- The lines of a walk, by its value in code: one for each word, another if a processor with these controls faults there, and one
 -- for the end.
@@ -73,7 +73,7 @@ json_of_line line = json_of_access line.access line.controls line.source (outcom
 -- The members of a walk's JSON object, by its end as code represents it: the address, how the walk ends, and the words that it
 -- reads.
 abbrev pub value_members : (address words : Data) → WalkEnd → Members
-value_members address words end = member (codes "address") address (end_members words (rights_at end) (end_of end))
+value_members address words end = member (codes "address") address (end_members words (rights_at end) (end_said end))
 
 -- The JSON object of a walk to a virtual address, by its value in code, with the access there, if there is one.
 abbrev pub json_of_value : (address : ℕ) → WalkValue → Option Data → Data

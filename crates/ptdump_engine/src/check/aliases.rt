@@ -3,7 +3,7 @@ ghost use Rattle.std.specs.Prelude.{◌≡◌, [], List, OnOk};
 ghost use Rattle.std.specs.List.{cons_option};
 ghost use Rattle.x86_64_model.specs.Mappings.{Mapping, mappings_of};
 ghost use Rattle.ptdump_engine.specs.Aliases.{alias_lines, said_of_mapping};
-ghost use Rattle.ptdump_engine.specs.Loaded.{IsLoaded, words_loaded};
+ghost use Rattle.ptdump_engine.specs.Loaded.{IsLoadedDump, words_loaded};
 ghost use Rattle.ptdump_engine.specs.private.Aliasing.{AreOfAll};
 ghost use Rattle.ptdump_engine.specs.private.Checked.{aliases_by};
 
@@ -90,7 +90,7 @@ fn write_aliases_by<L: LevelCount, O: LineOutput>(
     firsts: &FirstMappings<L>,
     output: &mut O,
 ) -> Result<(), O::Error>
-    requires loaded { IsLoaded loaded.now }
+    requires loaded { IsLoadedDump loaded.now }
     requires firsts { AreOfAll L.LEVELS firsts.now
         (mappings_of L.LEVELS (words_loaded loaded.now) loaded.now.root) }
     ensures { OnOk result (O.Lines output.old output.new (alias_lines L.LEVELS selection.now
@@ -115,7 +115,7 @@ pub fn write_aliases<L: LevelCount, O: LineOutput>(
     subject: &Subject<'_>,
     output: &mut O,
 ) -> Result<(), O::Error>
-    requires { IsLoaded loaded.now }
+    requires { IsLoadedDump loaded.now }
     ensures { OnOk result (O.Lines output.old output.new (aliases_by L.LEVELS loaded.now subject.now)) }
 {
     if !subject.aliases {

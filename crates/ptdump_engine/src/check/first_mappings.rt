@@ -1,7 +1,7 @@
 //! The first mappings of frames.
 ghost use Rattle.std.specs.Prelude.{◌≡◌, ◌∷◌, [], IfOk, OnOk};
 ghost use Rattle.x86_64_model.specs.Mappings.{mappings_of};
-ghost use Rattle.ptdump_engine.specs.Loaded.{IsLoaded, words_loaded};
+ghost use Rattle.ptdump_engine.specs.Loaded.{IsLoadedDump, words_loaded};
 ghost use Rattle.ptdump_engine.specs.private.Aliasing as aliasing;
 
 use crate::loaded::Loaded;
@@ -72,7 +72,7 @@ impl<L: LevelCount> FirstMappings<L> {
     ///
     /// `AllocError` if memory allocation fails.
     pub fn of(alloc: Global, loaded: &Loaded<'_, L>) -> Result<FirstMappings<L>, AllocError>
-        requires { IsLoaded loaded.now }
+        requires { IsLoadedDump loaded.now }
         ensures { IfOk result (λ all. aliasing.AreOfAll L.LEVELS all
             (mappings_of L.LEVELS (words_loaded loaded.now) loaded.now.root)) }
     {
@@ -125,7 +125,7 @@ impl<L: LevelCount> FirstMappings<L> {
 
     /// Notes a mapping.
     fn note(&mut self, mapping: &MappingIn<L>) -> Result<(), AllocError>
-        ensures { OnOk result (aliasing.Takes self.old self.new (mapping.now ∷ [])) }
+        ensures { OnOk result (aliasing.TakesFirsts self.old self.new (mapping.now ∷ [])) }
     {
         let number = key(mapping.frame);
         let firsts = self.firsts.get(&number).copied();
@@ -137,10 +137,10 @@ impl<L: LevelCount> FirstMappings<L> {
 impl<L: LevelCount> Visitor<MappingIn<L>> for FirstMappings<L> {
     type Error = AllocError;
 
-    ghost use Rattle.ptdump_engine.specs.private.Aliasing.{Takes};
+    ghost use Rattle.ptdump_engine.specs.private.Aliasing.{TakesFirsts};
     ghost use Rattle.ptdump_engine.specs.private.AliasingLaws.{taken_nothing, taken_both};
 
-    ghost Visits = { λ old new mappings. Takes old new mappings };
+    ghost Visits = { λ old new mappings. TakesFirsts old new mappings };
 
     /// Notes a mapping.
     fn visit(&mut self, mapping: MappingIn<L>) -> Result<(), AllocError> {
@@ -154,7 +154,7 @@ impl<L: LevelCount> Visitor<MappingIn<L>> for FirstMappings<L> {
 
 /// Returns a number that is different for each frame.
 fn key(frame: MappedFrame) -> u64
-    ensures key { result ≡ aliasing.key_of frame }
+    ensures key { result ≡ aliasing.frame_key frame }
     ensures aligned { aliasing.IsAligned frame }
 {
     match frame {

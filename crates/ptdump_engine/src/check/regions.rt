@@ -2,7 +2,7 @@
 ghost use Rattle.std.specs.Prelude.{cond, filter, None, OnOk, Some};
 ghost use Rattle.x86_64_model.specs.Regions.{regions_of};
 ghost use Rattle.ptdump_engine.specs.Findings.{flawed_lines, has_flaw, said_of_flawed};
-ghost use Rattle.ptdump_engine.specs.Loaded.{IsLoaded, words_loaded};
+ghost use Rattle.ptdump_engine.specs.Loaded.{IsLoadedDump, words_loaded};
 ghost use Rattle.x86_64_mappings.specs.Selections.{is_selected};
 
 use crate::findings::{Flaw, FlawedRegion};
@@ -34,7 +34,7 @@ pub fn write_flawed<L: LevelCount, O: LineOutput>(
     flaw: Flaw,
     output: &mut O,
 ) -> Result<(), O::Error>
-    requires { IsLoaded loaded.now }
+    requires { IsLoadedDump loaded.now }
     ensures { OnOk result (O.Lines output.old output.new
         (flawed_lines L.LEVELS flaw (filter (is_selected L.LEVELS selection.now)
         (regions_of L.LEVELS (words_loaded loaded.now) loaded.now.root)))) }

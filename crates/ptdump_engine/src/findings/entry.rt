@@ -112,7 +112,7 @@ impl Entry {
     /// Returns true if the entry names a table: it is above level one, has `PRESENT` and maps no page. Above level three no
     /// entry maps a page, even with `HUGE_PAGE`.
     pub fn names_table(&self) -> bool
-        ensures { result ≡ entries.names_table self.now }
+        ensures { result ≡ entries.entry_names_table self.now }
     {
         self.is_present() && self.level > 1 && (self.level > HIGHEST_OF_PAGES || !self.is_huge())
     }

@@ -64,7 +64,7 @@ pub struct Image {
 }
 
 impl Image {
-    ghost use Rattle.ptdump_engine.specs.Entries.{names_table};
+    ghost use Rattle.ptdump_engine.specs.Entries.{entry_names_table};
 
     /// Finds the tables that a root leads to, with this number of levels.
     ///
@@ -253,7 +253,7 @@ impl Image {
     /// Returns the word of an entry, with the new address if it names a table.
     fn renamed(&self, entry: &Entry) -> u64
         ensures flags { flags result ≡ flags entry.now.word }
-        ensures others { names_table entry.now ≡ false → result ≡ entry.now.word }
+        ensures others { entry_names_table entry.now ≡ false → result ≡ entry.now.word }
     {
         if !entry.names_table() {
             return entry.word;

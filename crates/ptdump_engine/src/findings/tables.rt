@@ -1,7 +1,7 @@
 //! The tables in which findings are looked for.
 ghost use Rattle.std.specs.Prelude.{◌≡◌, ◌++◌, IfOk, OnOk, map};
 ghost use Rattle.x86_64_dump.specs.Loaded.{frames_of};
-ghost use Rattle.ptdump_engine.specs.Findings.{frames_above, tables_from, tables_in_order};
+ghost use Rattle.ptdump_engine.specs.Findings.{frames_above, tables_below, tables_by_address};
 
 use crate::findings::entry::Table;
 use std::alloc::{AllocError, Global};
@@ -16,7 +16,7 @@ use x86_64_page::page::Size4KiB;
 /// `AllocError` if memory allocation fails.
 #[tactic(auto, unfolding(crate::specs::Findings::tables_in_order))]
 pub fn tables_in_order(alloc: Global, frames: TablesByLevel<'_>) -> Result<Vec<Table>, AllocError>
-    ensures { IfOk result (λ tables. tables.items ≡ tables_in_order (frames_of frames.now)) }
+    ensures { IfOk result (λ tables. tables.items ≡ tables_by_address (frames_of frames.now)) }
 {
     let mut tables = tables_by_level(alloc, frames)?;
     tables.sort_by_key(|table: &Table| -> u64 { table.frame.start_address().as_u64() })?;
@@ -25,7 +25,7 @@ pub fn tables_in_order(alloc: Global, frames: TablesByLevel<'_>) -> Result<Vec<T
 
 /// Returns the tables by level.
 fn tables_by_level(alloc: Global, frames: TablesByLevel<'_>) -> Result<Vec<Table>, AllocError>
-    ensures { IfOk result (λ tables. tables.items ≡ tables_from 1 (frames_of frames.now)) }
+    ensures { IfOk result (λ tables. tables.items ≡ tables_below 1 (frames_of frames.now)) }
 {
     let mut tables = Vec::new(alloc);
     let mut level = 0;

@@ -115,7 +115,7 @@ struct Place {
 }
 
 impl Display for Place {
-    ghost output = { λ place. Some (texts.place_text place.root place.levels) };
+    ghost output = { λ place. Some (texts.root_place_text place.root place.levels) };
 
     #[tactic(auto, unfolding(crate::specs::InfoTexts::place_text))]
     fn fmt<W: Write>(&self, f: &mut Formatter<W>) -> FmtResult {

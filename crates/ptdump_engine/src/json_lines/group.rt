@@ -2,7 +2,7 @@
 ghost use Rattle.std.specs.Prelude.{◌≡◌, IfOk, map};
 ghost use Rattle.serde_json.specs.Data.{array};
 ghost use Rattle.serde_json.specs.View.{items_of, view};
-ghost use Rattle.ptdump_engine.specs.Json.{count};
+ghost use Rattle.ptdump_engine.specs.Json.{json_count};
 
 use super::ToJson;
 use super::object::Object;
@@ -39,7 +39,7 @@ impl ToJson for ProcessorGroup<'_> {
 
 /// Returns the array of some numbers.
 fn numbers_to_json(alloc: Global, numbers: &[usize]) -> Result<Value, AllocError>
-    ensures { IfOk result (λ value. view value ≡ array (items_of (map count numbers.now))) }
+    ensures { IfOk result (λ value. view value ≡ array (items_of (map json_count numbers.now))) }
 {
     let mut values = Vec::new(alloc);
     for number in numbers {

@@ -4,7 +4,7 @@
 ghost use Rattle.std.specs.Prelude.{◌≡◌, IfOk, codes};
 ghost use Rattle.serde_json.specs.Data.{boolean, no_members, object as object_of, put, string};
 ghost use Rattle.serde_json.specs.View.{view};
-ghost use Rattle.ptdump_engine.specs.Json.{count, hexadecimal_string};
+ghost use Rattle.ptdump_engine.specs.Json.{json_count, hexadecimal_string};
 ghost use Rattle.ptdump_engine.specs.private.Objects.{members_in};
 
 use serde_json::{Map, Value};
@@ -59,7 +59,7 @@ impl Object {
     /// Puts a number.
     pub fn put_number(self, name: &'static str, number: u64) -> Result<Object, AllocError>
         ensures { IfOk result (λ object. members_in object
-            ≡ put name.now (count number) (members_in self)) }
+            ≡ put name.now (json_count number) (members_in self)) }
     {
         self.put(name, Value::from(number))
     }

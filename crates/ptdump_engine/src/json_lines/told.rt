@@ -160,7 +160,7 @@ impl ToJson for NoRoot {
 /// Returns the object that tells something under a name.
 fn told(alloc: Global, name: &'static str, object: Object) -> Result<Value, AllocError>
     ensures { IfOk result (λ value. view value
-        ≡ objects.told name.now (object_of (members_in object))) }
+        ≡ objects.named_member name.now (object_of (members_in object))) }
 {
     let object = Object::new(alloc).put(name, object.finish())?;
     Ok(object.finish())

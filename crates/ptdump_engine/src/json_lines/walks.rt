@@ -3,7 +3,7 @@ ghost use Rattle.std.specs.Prelude.{◌≡◌, IfOk, OnOk, map, option_map};
 ghost use Rattle.serde_json.specs.Data.{array};
 ghost use Rattle.serde_json.specs.View.{items_of, view};
 ghost use Rattle.x86_64_access.specs.Accesses.{outcome_of};
-ghost use Rattle.ptdump_engine.specs.Accesses.{is_arrived, is_there, outcome_in};
+ghost use Rattle.ptdump_engine.specs.Accesses.{is_arrived, is_access_there, outcome_in};
 ghost use Rattle.ptdump_engine.specs.Json as json;
 ghost use Rattle.ptdump_engine.specs.Loaded.{words_loaded};
 ghost use Rattle.x86_64_model.specs.Position.{raw};
@@ -190,7 +190,7 @@ pub fn write_json_walk<L: LevelCount, O: Lines>(
     ensures text { OnOk result (O.puts output.old output.new (
         walk_lines Json L.LEVELS (words_loaded loaded.now) loaded.now.root options address)) }
     ensures arrives { IfOk result (λ arrives.
-        arrives ≡ is_there options.controls options.access
+        arrives ≡ is_access_there options.controls options.access
         L.LEVELS (words_loaded loaded.now) loaded.now.root address) }
 {
     let report = report_on(alloc, loaded, address, options)?;
@@ -211,7 +211,7 @@ fn report_on<L: LevelCount>(
         (json.json_of_asked options.controls options.source options.access
         L.LEVELS (words_loaded loaded.now) loaded.now.root address)) }
     ensures arrives { IfOk result (λ report. report_arrives report
-        ≡ is_there options.controls options.access
+        ≡ is_access_there options.controls options.access
         L.LEVELS (words_loaded loaded.now) loaded.now.root address) }
 {
     let walk = walk_to(alloc, loaded, address)?;

@@ -21,8 +21,8 @@ pub fn note<L: LevelCount>(
 )
     requires { mapping.now.start + mapping.now.size ≤ position_count L.LEVELS }
     ensures { (ms : List Mapping) → IsNonDecreasingBy (λ f. f) frames.now →
-        firsts.old ≡ reaching.firsts_of L.LEVELS frames.now ms →
-        firsts.new ≡ reaching.firsts_of L.LEVELS frames.now (ms ++ mapping.now ∷ []) }
+        firsts.old ≡ reaching.first_address_of_each L.LEVELS frames.now ms →
+        firsts.new ≡ reaching.first_address_of_each L.LEVELS frames.now (ms ++ mapping.now ∷ []) }
 {
     let start = mapping.frame.start_address().as_u64();
     let begin = frames.partition_point(|frame| frame.start_address().as_u64() < start);

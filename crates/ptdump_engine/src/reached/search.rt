@@ -99,7 +99,7 @@ fn visit_table<L: LevelCount>(
     requires high { table.now.level ≤ 5 }
     requires aligned { table.now.start % span_of table.now.level ≡ 0 }
     requires inside { table.now.start + 512 * span_of table.now.level ≤ position_count L.LEVELS }
-    ensures { OnOk result (reaching.Takes L.LEVELS search.now found.old found.new
+    ensures { OnOk result (reaching.TakesFound L.LEVELS search.now found.old found.new
         (reaching.sought_in search.now table.now)) }
 {
     let Some(words) = table_in(search.memory, &IdentityMapping, table.frame) else {
@@ -139,7 +139,7 @@ fn note_page<L: LevelCount>(
     found: &mut Found,
 ) -> Result<(), AllocError>
     requires { page.now.start + page.now.size ≤ position_count L.LEVELS }
-    ensures { OnOk result (reaching.Takes L.LEVELS search.now found.old found.new
+    ensures { OnOk result (reaching.TakesFound L.LEVELS search.now found.old found.new
         (reaching.sought search.now (page.now ∷ []))) }
 {
     if !search.seeks::<L>(page) {
@@ -163,7 +163,7 @@ fn note_large_page<L: LevelCount>(
     found: &mut Found,
 ) -> Result<(), AllocError>
     requires { page.now.start + page.now.size ≤ position_count L.LEVELS }
-    ensures { OnOk result (reaching.Takes L.LEVELS search.now found.old found.new (page.now ∷ [])) }
+    ensures { OnOk result (reaching.TakesFound L.LEVELS search.now found.old found.new (page.now ∷ [])) }
 {
     let start = page.frame.start_address().as_u64();
     if is_noted(&found.pages, start, page.size()) {
@@ -189,7 +189,7 @@ fn is_new<L: LevelCount>(search: &Search<'_>, table: &Visit, found: &Found) -> b
     requires low { 1 ≤ table.now.level }
     requires high { table.now.level ≤ 5 }
     requires inside { table.now.start + 512 * span_of table.now.level ≤ position_count L.LEVELS }
-    ensures old { result ≡ false → reaching.Takes L.LEVELS search.now found.now found.now
+    ensures old { result ≡ false → reaching.TakesFound L.LEVELS search.now found.now found.now
         (reaching.sought_in search.now table.now) }
     ensures rights { result ≡ true → selections.includes table.now.above search.now.needed ≡ true }
 {
@@ -217,8 +217,8 @@ fn mark<L: LevelCount>(
     requires inside { table.now.start + 512 * span_of table.now.level ≤ position_count L.LEVELS }
     requires rights { selections.includes table.now.above search.now.needed ≡ true }
     ensures { OnOk result ((ms : List Mapping) →
-        reaching.IsAfter L.LEVELS search.now found.old (ms ++ reaching.sought_in search.now table.now) →
-        reaching.IsAfter L.LEVELS search.now found.new (ms ++ reaching.sought_in search.now table.now)) }
+        reaching.IsFoundAfter L.LEVELS search.now found.old (ms ++ reaching.sought_in search.now table.now) →
+        reaching.IsFoundAfter L.LEVELS search.now found.new (ms ++ reaching.sought_in search.now table.now)) }
 {
     if !search.is_apart(table.positions::<L>()) {
         return Ok(());

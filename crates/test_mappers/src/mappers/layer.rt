@@ -2,7 +2,7 @@
 ghost use Rattle.std.specs.Prelude.{◌≡◌};
 ghost use Rattle.x86_64_model.specs.Call.{Unmap};
 ghost use Rattle.x86_64_model.specs.Memory.{identity_places};
-ghost use Rattle.x86_64_model.specs.Mapper.{◌laid_in◌, May, Does, path_of, PoolFits, Valid};
+ghost use Rattle.x86_64_model.specs.Mapper.{◌laid_in◌, MayCall, Does, path_of, PoolFits, Valid};
 ghost use Rattle.x86_64_model.specs.Pool.{serves_below};
 ghost use Rattle.x86_64_mappers.specs.Layouts.{direct, owned};
 ghost use Rattle.x86_64_tables.specs.MapperAnswers.{frame_answer};
@@ -100,7 +100,7 @@ fn unmap_by<S: PageSize, M: Mapper<S>>(
     mapper: &mut M,
     page: Page<S>,
 ) -> Result<PhysFrame<S>, UnmapError>
-    requires { May (M.hierarchy mapper.old) (Unmap (path_of (M.hierarchy mapper.old) S.LEVEL page)) }
+    requires { MayCall (M.hierarchy mapper.old) (Unmap (path_of (M.hierarchy mapper.old) S.LEVEL page)) }
     ensures { let h = M.hierarchy mapper.old in
         Does h (Unmap (path_of h S.LEVEL page)) (frame_answer result) (M.hierarchy mapper.new) }
 {
@@ -115,7 +115,7 @@ fn unmap_by_layer<S: PageSize, M: Mapper<S>>(
     mapper: &mut M,
     page: Page<S>,
 ) -> (Result<PhysFrame<S>, UnmapError>, u64)
-    requires { May (M.hierarchy mapper.old) (Unmap (path_of (M.hierarchy mapper.old) S.LEVEL page)) }
+    requires { MayCall (M.hierarchy mapper.old) (Unmap (path_of (M.hierarchy mapper.old) S.LEVEL page)) }
     ensures { let h = M.hierarchy mapper.old in
         Does h (Unmap (path_of h S.LEVEL page)) (frame_answer result.0) (M.hierarchy mapper.new) }
 {

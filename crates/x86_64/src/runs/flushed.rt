@@ -1,8 +1,8 @@
 //! Lists of calls whose TLB flushes are recorded.
 ghost use Rattle.std.specs.Prelude.{◌≡◌, ◌+◌, ◌<◌, ◌≤◌, ◌⊎◌, [], length, vec_len, IfOk, OnOk, OnErr};
 ghost use Rattle.std.specs.Vec.{vec_capacity};
-ghost use Rattle.x86_64_model.specs.Store.{Fits, Kept, store_of};
-ghost use Rattle.x86_64.specs.Calls.{asks};
+ghost use Rattle.x86_64_model.specs.Store.{StoreFits, Keeps, store_of};
+ghost use Rattle.x86_64.specs.Calls.{to_call};
 ghost use Rattle.x86_64.specs.Flushes.{Flushed};
 ghost use Rattle.x86_64.specs.Runs.{Ran};
 
@@ -37,17 +37,17 @@ pub fn run_flushed<
     replies: &mut Vec<ReplyIn<L>>,
     recorder: &mut FlushRecorder,
 ) -> Result<(), AllocError>
-    requires { Fits (M.hierarchy mapper.old) (store_of F.FrameStore frames.old) }
-    ensures ran { OnOk result (Ran (asks P5.bits) (M.hierarchy mapper.old) (store_of F.FrameStore frames.old)
+    requires { StoreFits (M.hierarchy mapper.old) (store_of F.FrameStore frames.old) }
+    ensures ran { OnOk result (Ran (to_call P5.bits) (M.hierarchy mapper.old) (store_of F.FrameStore frames.old)
         calls.now replies.old.items replies.new.items (M.hierarchy mapper.new) (F.supply frames.new)) }
     ensures flushed { OnOk result (
-        Flushed (asks P5.bits) (M.hierarchy mapper.old) (store_of F.FrameStore frames.old) calls.now
+        Flushed (to_call P5.bits) (M.hierarchy mapper.old) (store_of F.FrameStore frames.old) calls.now
         replies.old.items replies.new.items recorder.old.items recorder.new.items (M.hierarchy mapper.new)) }
     ensures unchanged { OnErr result ((replies.new ≡ replies.old) × (recorder.new ≡ recorder.old)
         × (mapper.new ≡ mapper.old) × (frames.new ≡ frames.old)) }
     ensures needs_room { OnErr result ((vec_capacity replies.old < vec_len replies.old + length calls.now)
         ⊎ (recorder.old.room < length calls.now)) }
-    ensures keeps { Kept (M.hierarchy mapper.old) (store_of F.FrameStore frames.old)
+    ensures keeps { Keeps (M.hierarchy mapper.old) (store_of F.FrameStore frames.old)
         (M.hierarchy mapper.new) (store_of F.FrameStore frames.new) }
 {
     make_room(replies, recorder, calls.len())?;

@@ -3,7 +3,7 @@ ghost use Rattle.std.specs.Prelude.{◌≡◌, ◌+◌, ◌++◌, [], ◌∷◌,
 ghost use Rattle.x86_64_tables.specs.declared.mapper.recorder.FlushItem.{FlushItem as Item};
 ghost use Rattle.x86_64_tables.specs.FlushRecorder.{page_item};
 ghost use Rattle.x86_64_tables.specs.MapperAnswers.{flags_refusal};
-ghost use Rattle.x86_64.specs.Flushes.{page_items, unmapped_items, all_items};
+ghost use Rattle.x86_64.specs.Flushes.{items_of_page, unmapped_items, every_item};
 ghost use Rattle.x86_64.specs.private.Served.{recorded};
 
 use x86_64_addr::level_count::LevelCount;
@@ -99,7 +99,7 @@ pub fn take<S: PageSize, L: LevelCount, E, K: Tokens>(
     requires { K.has_room tokens.old 1 }
     ensures result { result ≡ flushed }
     ensures items { K.items tokens.new ≡ K.items tokens.old
-        ++ recorded K.records (page_items L.LEVELS S.SIZE result) }
+        ++ recorded K.records (items_of_page L.LEVELS S.SIZE result) }
     ensures room { (n : ℕ) → K.has_room tokens.old (n + 1) → K.has_room tokens.new n }
 {
     let flush = flushed?;
@@ -132,7 +132,7 @@ pub fn take_all<K: Tokens>(
 ) -> Result<(), FlagUpdateError>
     requires { K.has_room tokens.old 1 }
     ensures result { flags_refusal result ≡ flags_refusal flushed }
-    ensures items { K.items tokens.new ≡ K.items tokens.old ++ recorded K.records (all_items result) }
+    ensures items { K.items tokens.new ≡ K.items tokens.old ++ recorded K.records (every_item result) }
     ensures room { (n : ℕ) → K.has_room tokens.old (n + 1) → K.has_room tokens.new n }
 {
     tokens.all(flushed?);

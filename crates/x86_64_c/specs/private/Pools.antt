@@ -1,7 +1,7 @@
 -- How a pool in an array that the caller lends is used.
 use Rattle.std.specs.Prelude.{◌≡◌, ◌≤◌, ℕ, Bool, List, length}
 use Rattle.x86_64_model.specs.Mapper.{Hierarchy}
-use Rattle.x86_64_model.specs.Store.{Store, Fits, put_first}
+use Rattle.x86_64_model.specs.Store.{Store, StoreFits, put_first}
 use Rattle.x86_64_c.specs.PoolCalls.{pool_in}
 
 -- A pool that is a stack of free frames.
@@ -10,7 +10,7 @@ stack serves frames = record { frames = frames; serves = serves; take_back = put
 
 -- The pool in an array fits a hierarchy, and the array has room for all of the pool's own frames.
 abbrev pub FitsIn : (own : List ℕ) → Hierarchy (Unit {0}) → (array : List ℕ) → (free : ℕ) → Type 0
-FitsIn own h array free = (length own ≤ length array) × Fits h (pool_in own array free)
+FitsIn own h array free = (length own ≤ length array) × StoreFits h (pool_in own array free)
 
 -- A step was taken with the pool in an array. The array is as long as before, and the free frames are in it.
 pub record Leaves (own array : List ℕ) (free : ℕ) (left : List ℕ) (count : ℕ) (Does : (pool rest : Store) → Type 0) : Type 0 where

@@ -10,8 +10,8 @@ abbrev pub has_number : (numbers : List ℕ) → (frame : ℕ) → Bool
 has_number numbers f = list_any (λ n. f / 4096 == n) numbers
 
 -- All of these are numbers of frames: 4096 times each of them is below 2^52.
-abbrev pub AreNumbers : (numbers : List ℕ) → Type 0
-AreNumbers numbers = All (λ n. n * 4096 < 2 ^ 52) numbers
+abbrev pub AreFrameNumbers : (numbers : List ℕ) → Type 0
+AreFrameNumbers numbers = All (λ n. n * 4096 < 2 ^ 52) numbers
 
 -- The memory has at each of these places the table that `tables` has there, and at other places none.
 abbrev pub HoldsFor : (places : List ℕ) → (tables : ℕ → Option (List ℕ)) → Memory → Type 0
@@ -22,13 +22,13 @@ abbrev pub words_numbered : Words → (number : ℕ) → Option (List ℕ)
 words_numbered W n = W (n * 4096)
 
 -- The test `has` is true of each of these frames.
-abbrev pub AreHeld : (has : ℕ → Bool) → (frames : List ℕ) → Type 0
-AreHeld has frames = All (λ f. has f ≡ true) frames
+abbrev pub HasAll : (has : ℕ → Bool) → (frames : List ℕ) → Type 0
+HasAll has frames = All (λ f. has f ≡ true) frames
 
 -- The test `has` is true of each frame of these levels.
 abbrev pub AreAllHeld : {A : Type 0} → (has : ℕ → Bool) → (levels : List (Vec ℕ A)) → Type 0
-AreAllHeld has levels = All (λ level. AreHeld has level.items) levels
+AreAllHeld has levels = All (λ level. HasAll has level.items) levels
 
 -- The test `has` is true of each frame with one of these numbers.
 abbrev pub AreHeldBy : (has : ℕ → Bool) → (numbers : List ℕ) → Type 0
-AreHeldBy has numbers = AreHeld (λ n. has (n * 4096)) numbers
+AreHeldBy has numbers = HasAll (λ n. has (n * 4096)) numbers

@@ -4,7 +4,7 @@ ghost use Rattle.std.specs.FinMap as finite;
 ghost use Rattle.x86_64_dump.specs.Opened.{words_opened};
 ghost use Rattle.x86_64_model.specs.Mappings.{mappings_of};
 ghost use Rattle.x86_64_dump.specs.Reached.{SameBelow};
-ghost use Rattle.x86_64_dump.specs.Loaded.{words_in, up_to, AreTables, Counts, HasCount, MayFail, SameWalks};
+ghost use Rattle.x86_64_dump.specs.Loaded.{loaded_words, up_to, AreTables, Counts, HasCount, MayFail, SameWalks};
 
 use crate::tables::levels::read_levels;
 use crate::tables::loading::read_memory;
@@ -74,11 +74,11 @@ pub fn read_tables<L: LevelCount, S: ByteSource, G: Progress>(
 ) -> Result<DumpTables, DumpError>
     ensures tables { S.IsKnown → IfOk result (AreTables L.LEVELS (words_opened S.bytes dump.now) root) }
     ensures same { S.IsKnown → IfOk result (λ tables.
-        SameBelow L.LEVELS (words_in tables) (words_opened S.bytes dump.now) root) }
-    ensures mappings { S.IsKnown → IfOk result (λ tables. mappings_of L.LEVELS (words_in tables) root
+        SameBelow L.LEVELS (loaded_words tables) (words_opened S.bytes dump.now) root) }
+    ensures mappings { S.IsKnown → IfOk result (λ tables. mappings_of L.LEVELS (loaded_words tables) root
         ≡ mappings_of L.LEVELS (words_opened S.bytes dump.now) root) }
     ensures walks { S.IsKnown → IfOk result (λ tables.
-        SameWalks L.LEVELS (words_in tables) (words_opened S.bytes dump.now) root) }
+        SameWalks L.LEVELS (loaded_words tables) (words_opened S.bytes dump.now) root) }
     ensures count { S.IsKnown → IfOk result (HasCount L.LEVELS (words_opened S.bytes dump.now) root) }
     ensures told { IfOk result (λ read. G.Told progress.old progress.new (up_to (finite.len read.memory))) }
     ensures counted { Counts G.Told progress.old progress.new }

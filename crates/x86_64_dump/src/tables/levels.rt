@@ -4,7 +4,7 @@ ghost use Rattle.std.specs.List.{filter_map, flat_map, fold};
 ghost use Rattle.x86_64_dump.specs.Dump.{words_of_dump};
 ghost use Rattle.x86_64_dump.specs.Opened.{holds, opened};
 ghost use Rattle.x86_64_dump.specs.Loaded.{MayFail, frames_of};
-ghost use Rattle.x86_64_dump.specs.private.FrameNumbers.{AreAllHeld, AreHeld};
+ghost use Rattle.x86_64_dump.specs.private.FrameNumbers.{AreAllHeld, HasAll};
 ghost use Rattle.x86_64_dump.specs.private.TablesRead.{AreOf};
 ghost use Rattle.x86_64_dump.specs.Tables.{table_named, tables_named, met, each_once, tables_by_level, if_there};
 
@@ -53,7 +53,7 @@ fn root_level<S: ByteSource>(
 ) -> Result<Vec<PhysFrame<Size4KiB>>, AllocError>
     ensures frames { S.IsKnown → IfOk result (λ frames.
         frames.items ≡ if_there (words_of_dump (opened S.bytes dump.now)) root) }
-    ensures held { IfOk result (λ frames. AreHeld (holds S.size dump.now) frames.items) }
+    ensures held { IfOk result (λ frames. HasAll (holds S.size dump.now) frames.items) }
 {
     let mut frames = Vec::new(alloc);
     if dump.has_frame(root) {
@@ -73,7 +73,7 @@ fn read_below<S: ByteSource>(
     ensures read { S.IsKnown → OnOk result (AreOf (words_of_dump (opened S.bytes dump.now)) read.new) }
     ensures frames { S.IsKnown → IfOk result (λ below. below.items
         ≡ each_once (flat_map (tables_named (words_of_dump (opened S.bytes dump.now))) frames.now)) }
-    ensures held { IfOk result (λ below. AreHeld (holds S.size dump.now) below.items) }
+    ensures held { IfOk result (λ below. HasAll (holds S.size dump.now) below.items) }
     ensures errors { IfErr result (MayFail S.may_fail) }
 {
     let mut below = FrameSet::new(alloc);
@@ -95,7 +95,7 @@ fn add_named<S: ByteSource>(
     ensures named { S.IsKnown → OnOk result (below.new ≡ fold met below.old
         (filter_map (table_named (words_of_dump (opened S.bytes dump.now))) words.now)) }
     ensures held { OnOk result (
-        AreHeld (holds S.size dump.now) below.old → AreHeld (holds S.size dump.now) below.new) }
+        HasAll (holds S.size dump.now) below.old → HasAll (holds S.size dump.now) below.new) }
 {
     for word in words {
         if let Some(named) = table_named(dump, word) {

@@ -6,9 +6,9 @@ ghost use Rattle.x86_64_dump.specs.Dump.{words_of_dump};
 ghost use Rattle.x86_64_dump.specs.Opened.{holds, opened};
 ghost use Rattle.x86_64_model.specs.Entry.{is_frame};
 ghost use Rattle.x86_64_dump.specs.Loaded.{Counts, HoldsTables, MayFail, frames_of, up_to};
-ghost use Rattle.x86_64_dump.specs.Tables.{is_among, is_in};
+ghost use Rattle.x86_64_dump.specs.Tables.{is_among, is_in_levels};
 ghost use Rattle.x86_64_dump.specs.private.TablesRead.{AreOf};
-ghost use Rattle.x86_64_dump.specs.private.FrameNumbers.{has_number, words_numbered, AreAllHeld, AreHeldBy, AreNumbers};
+ghost use Rattle.x86_64_dump.specs.private.FrameNumbers.{has_number, words_numbered, AreAllHeld, AreHeldBy, AreFrameNumbers};
 ghost use Rattle.x86_64_dump.specs.private.FileParts.{IsOf};
 
 use crate::file_part::{FilePart, MOST_FRAMES};
@@ -57,7 +57,7 @@ fn tables_of<S: ByteSource, G: Progress>(
     read: &TablesRead,
     progress: &mut G,
 ) -> Result<Vec<PageTable>, DumpError>
-    requires numbers { AreNumbers numbers.now }
+    requires numbers { AreFrameNumbers numbers.now }
     requires there { AreHeldBy (holds S.size dump.now) numbers.now }
     requires read { S.IsKnown → AreOf (words_of_dump (opened S.bytes dump.now)) read.now }
     ensures tables { S.IsKnown → IfOk result (λ tables. map Some tables.items
@@ -80,8 +80,8 @@ fn tables_of<S: ByteSource, G: Progress>(
 /// Returns the numbers of the frames, in order and each once.
 fn numbers_of(alloc: Global, frames: TablesByLevel<'_>) -> Result<Vec<u64>, AllocError>
     ensures numbers { IfOk result (λ numbers. (frame : ℕ) → is_frame frame ≡ true →
-        has_number numbers.items frame ≡ is_in (frames_of frames.now) frame) }
-    ensures below { IfOk result (λ numbers. AreNumbers numbers.items) }
+        has_number numbers.items frame ≡ is_in_levels (frames_of frames.now) frame) }
+    ensures below { IfOk result (λ numbers. AreFrameNumbers numbers.items) }
     ensures increasing { IfOk result (λ numbers. IsStrictlyIncreasing numbers.items) }
 {
     let mut numbers = Vec::new(alloc);
@@ -98,7 +98,7 @@ fn add_numbers(numbers: &mut Vec<u64>, frames: &[PhysFrame<Size4KiB>]) -> Result
     ensures numbers { OnOk result ((frame : ℕ) → is_frame frame ≡ true →
         has_number numbers.new.items frame
         ≡ (has_number numbers.old.items frame || is_among frames.now frame)) }
-    ensures below { OnOk result (AreNumbers numbers.old.items → AreNumbers numbers.new.items) }
+    ensures below { OnOk result (AreFrameNumbers numbers.old.items → AreFrameNumbers numbers.new.items) }
 {
     for frame in frames {
         numbers.push(frame.start_address().as_u64() / Size4KiB::SIZE)?;
@@ -120,7 +120,7 @@ fn fill_table<S: ByteSource>(
     table: &mut PageTable,
 ) -> Result<(), DumpError>
     requires some { 0 < length numbers.now }
-    requires numbers { AreNumbers numbers.now }
+    requires numbers { AreFrameNumbers numbers.now }
     requires there { holds S.size dump.now (slice_index numbers.now 0 * 4096) ≡ true }
     requires read { S.IsKnown → AreOf (words_of_dump (opened S.bytes dump.now)) read.now }
     requires part { S.IsKnown → IsOf (S.bytes dump.now.source) part.old }
@@ -154,7 +154,7 @@ fn frames_together<S: ByteSource>(
     offset: u64,
 ) -> usize
     requires some { 0 < length numbers.now }
-    requires numbers { AreNumbers numbers.now }
+    requires numbers { AreFrameNumbers numbers.now }
     requires inside { offset + 4096 ≤ S.size dump.now.source }
     ensures few { result ≤ 8 }
     ensures some { 0 < result }

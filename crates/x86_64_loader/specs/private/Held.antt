@@ -1,6 +1,6 @@
 -- Held positions: those of pages that stand (are mapped as `map_to` maps them) and map them where they should.
 use Rattle.std.specs.Prelude.{◌≡◌, ◌+◌, ◌%◌, ◌<◌, ◌≤◌, ℕ, false}
-use Rattle.x86_64_model.specs.Mapper.{Hierarchy, Stands, path_of}
+use Rattle.x86_64_model.specs.Mapper.{Hierarchy, IsMappedAs, path_of}
 use Rattle.x86_64_model.specs.Position.{span}
 use Rattle.x86_64_model.specs.Window.{begins_with}
 
@@ -9,7 +9,7 @@ pub record IsHeld {Lent : Type 0} (h : Hierarchy Lent) (position to flags : ℕ)
   pub level : ℕ
   pub page : ℕ
   pub frame : ℕ
-  pub stands : Stands h level page frame flags
+  pub stands : IsMappedAs h level page frame flags
   pub aligned : page % span level ≡ 0
   pub outside : begins_with h.layout.window (path_of h level page) ≡ false
   pub from_start : page ≤ position
@@ -17,5 +17,5 @@ pub record IsHeld {Lent : Type 0} (h : Hierarchy Lent) (position to flags : ℕ)
   pub lands : to + page ≡ frame + position
 
 -- These `size` positions from a page on are held, and mapped to the addresses from a frame on.
-abbrev pub AreHeld : {Lent : Type 0} → Hierarchy Lent → (size page frame flags : ℕ) → Type 0
-AreHeld h size page frame given = (offset : ℕ) → offset < size → IsHeld h (page + offset) (frame + offset) given
+abbrev pub PagesAreHeld : {Lent : Type 0} → Hierarchy Lent → (size page frame flags : ℕ) → Type 0
+PagesAreHeld h size page frame given = (offset : ℕ) → offset < size → IsHeld h (page + offset) (frame + offset) given

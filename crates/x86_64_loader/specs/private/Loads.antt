@@ -12,9 +12,9 @@ use Rattle.x86_64_loader.specs.declared.loader.Sizes.TheVariants as sizes
 use Rattle.x86_64_loader.specs.declared.pages.Stopped.{Stopped}
 use Rattle.x86_64_loader.specs.declared.segment.Segment.{Segment}
 use Rattle.x86_64_loader.specs.private.Held.{IsHeld}
-use Rattle.x86_64_loader.specs.Maps.{Accepts, Refuses, Kept}
-use Rattle.x86_64_loader.specs.Pages.{IsFree, Leaves, RunStands}
-use Rattle.x86_64_loader.specs.Segments.{AllStand, ReachesAt, large_pages, mapping_of, run_of, size_of, small_pages}
+use Rattle.x86_64_loader.specs.Maps.{Accepts, Refuses, KeptWithSupply}
+use Rattle.x86_64_loader.specs.Pages.{IsFree, LeavesSupply, RunStands}
+use Rattle.x86_64_loader.specs.Segments.{AllStand, ReachesAt, large_pages, page_mapping, run_of, size_of, small_pages}
 
 -- The pages with which a segment is mapped: only those of 4KiB, or those of 2MiB where they fit, too.
 abbrev pub pages_by : Sizes → Segment → List PageMapping
@@ -26,14 +26,14 @@ pages_by sizes.Large = large_pages
 pub record IsStopped {Lent : Type 0} (h : Hierarchy Lent) (supply : Supply) (level size page frame flags count mapped : ℕ) (why : Refusal) (after : Hierarchy Lent) (rest : Supply) : Type 0 where
   pub within : mapped < count
   pub stand : RunStands after level size page frame flags mapped
-  pub leaves : Leaves level h supply after rest
-  pub refused : Refuses h supply.frames (run_of level page frame flags mapped) (mapping_of level (page + mapped * span level) (frame + mapped * span level) flags) why after rest.frames
+  pub leaves : LeavesSupply level h supply after rest
+  pub refused : Refuses h supply.frames (run_of level page frame flags mapped) (page_mapping level (page + mapped * span level) (frame + mapped * span level) flags) why after rest.frames
 
 -- The `count` pages of a run are mapped: they stand, no page that stood overlapped them, and what stood still stands.
 pub record AreMapped {Lent : Type 0} (h : Hierarchy Lent) (supply : Supply) (level size page frame flags count : ℕ) (after : Hierarchy Lent) (rest : Supply) : Type 0 where
   pub stand : RunStands after level size page frame flags count
   pub were_free : IsFree h page (count * size)
-  pub leaves : Leaves 3 h supply after rest
+  pub leaves : LeavesSupply 3 h supply after rest
   pub accepted : Accepts h supply.frames (run_of level page frame flags count) after rest.frames
 
 -- The segment's positions from one offset up to another, which isn't included, are held and mapped where they should be.
@@ -50,7 +50,7 @@ pub record IsHalted {Lent : Type 0} (h : Hierarchy Lent) (supply : Supply) (s : 
   pub above : low ≤ mapped * 0x1000
   pub within : mapped < s.pages
   pub pages_before : (offset : ℕ) → low ≤ offset → offset < mapped * 0x1000 → ReachesAt after s offset
-  pub kept : Kept h supply after rest
+  pub kept : KeptWithSupply h supply after rest
   pub before : List PageMapping
   pub next : PageMapping
   pub left : List PageMapping
@@ -60,17 +60,17 @@ pub record IsHalted {Lent : Type 0} (h : Hierarchy Lent) (supply : Supply) (s : 
 
 -- These pages, which are `size` bytes of the segment from an offset on, were mapped. They are held, no page that stood overlapped
 -- them, and what stood still stands.
-pub record IsMapped {Lent : Type 0} (h : Hierarchy Lent) (supply : Supply) (s : Segment) (pages : List PageMapping) (low size : ℕ) (after : Hierarchy Lent) (rest : Supply) : Type 0 where
+pub record SegmentIsMapped {Lent : Type 0} (h : Hierarchy Lent) (supply : Supply) (s : Segment) (pages : List PageMapping) (low size : ℕ) (after : Hierarchy Lent) (rest : Supply) : Type 0 where
   pub held : HoldsPart after s low (low + size)
   pub were_free : IsFree h (s.page + low) size
-  pub leaves : Leaves 3 h supply after rest
+  pub leaves : LeavesSupply 3 h supply after rest
   pub stand : AllStand after pages
   pub accepted : Accepts h supply.frames pages after rest.frames
 
 -- The effect of a load of these pages, which are `size` bytes of the segment from an offset on, by its result.
 abbrev pub LoadsPart : {Lent Value Size : Type 0} → Hierarchy Lent → (supply : Supply) → Segment → List PageMapping → (low size : ℕ) → Result Value (Stopped Size)
     → (after : Hierarchy Lent) → (rest : Supply) → Type 0
-LoadsPart h supply s pages low size (Ok _) after rest = IsMapped h supply s pages low size after rest
+LoadsPart h supply s pages low size (Ok _) after rest = SegmentIsMapped h supply s pages low size after rest
 LoadsPart h supply s pages low size (Err stopped) after rest = IsHalted h supply s pages low stopped.mapped (map_refusal stopped.why) after rest
 
 -- The effect of the load of a whole segment, by its result.

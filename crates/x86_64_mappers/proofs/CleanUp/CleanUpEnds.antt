@@ -13,7 +13,7 @@ use Rattle.x86_64_model.specs.Machine.{AfterCall, State, do_call}
 use Rattle.x86_64_model.specs.Memory.{Memory}
 use Rattle.x86_64_model.specs.Mapper.{Hierarchy, Valid, CleansUp, words, paths, state_of}
 use Rattle.x86_64_model.specs.PathMap.{PathMap}
-use Rattle.x86_64_model.specs.Pool.{Fits, given_back}
+use Rattle.x86_64_model.specs.Pool.{Fits, with_returned}
 use Rattle.x86_64_model.specs.Window.{IsValidFor}
 use Rattle.x86_64_mappers.proofs.CleanUp.Cleaned.{cleaned_nothing}
 use Rattle.x86_64_mappers.specs.private.CleaningUp.{IsCleaned}
@@ -39,9 +39,9 @@ module _ {Lent : Type 0} (h : Hierarchy Lent) (adds : IsParentFlags h.layout.add
       → CleansUp h take_back held low high (record h { memory = n }) rest
   unfolding do_call
   ends N back paths_are back_is n rest c = record {
-    outcome = ap₂ (λ N pool. after_state (record { paths = N; pool = pool })) (sym is) (ap (given_back take_back held) (sym back_is) ∙ sym c.given);
+    outcome = ap₂ (λ N pool. after_state (record { paths = N; pool = pool })) (sym is) (ap (with_returned take_back held) (sym back_is) ∙ sym c.given);
     valid = c.valid;
-    fits = λ other gives supply fits. subst (λ N. Fits L h.layout.window (words (record h { memory = n })) h.layout.root N (λ f. true) (given_back other supply after.back)) (sym is)
+    fits = λ other gives supply fits. subst (λ N. Fits L h.layout.window (words (record h { memory = n })) h.layout.root N (λ f. true) (with_returned other supply after.back)) (sym is)
         (step_fits L h.layout.window (words h) (words (record h { memory = n })) h.layout.root (λ f. true) h.layout.added_flags adds other gives (state_of h supply) (CleanUp low high) tt fits
         (subst (IsValidFor L h.layout.window (words (record h { memory = n })) h.layout.root) is c.valid) c.there);
     empty = λ f i. c.empty f (subst (λ fs. In fs f) (sym back_is) i);

@@ -13,7 +13,7 @@ use Rattle.x86_64_model.specs.Lists.{In}
 use Rattle.x86_64_model.specs.Memory.{Memory, Distinct, Words, word, word_in, set_word}
 use Rattle.x86_64_model.specs.Mapper.{◌laid_in◌, Hierarchy, MayCleanUp, Valid, paths, words}
 use Rattle.x86_64_model.specs.PathMap.{PathMap, entry, put, table_at}
-use Rattle.x86_64_model.specs.Pool.{IsTable, TakesBack, given_back}
+use Rattle.x86_64_model.specs.Pool.{IsTable, TakesBack, with_returned}
 use Rattle.x86_64_model.specs.Window.{Window, IsValidFor, begins_with}
 use Rattle.x86_64_mappers.proofs.Memory.Changed.{set_is, set_others, set_keeps}
 use Rattle.x86_64_mappers.specs.private.CleaningUp.{IsCleaned}
@@ -25,7 +25,7 @@ word_same : (T U : Words) (f i : ℕ) → U f ≡ T f → word U f i ≡ word T 
 unfolding word
 word_same T U f i e = ap (λ o. cond (nat_lt i 512) (word_in o i) 0) e
 
-given_more : (take_back : List ℕ → ℕ → List ℕ) (held xs ys : List ℕ) → given_back take_back held (xs ++ ys) ≡ given_back take_back (given_back take_back held xs) ys
+given_more : (take_back : List ℕ → ℕ → List ℕ) (held xs ys : List ℕ) → with_returned take_back held (xs ++ ys) ≡ with_returned take_back (with_returned take_back held xs) ys
 given_more take_back held [] ys = refl
 given_more take_back held (x ∷ xs) ys = given_more take_back (take_back held x) xs ys
 
@@ -69,7 +69,7 @@ module _ (l : Layout) (take_back : List ℕ → ℕ → List ℕ) where
       cleaned_then = record {
         meant = b.meant;
         valid = b.valid;
-        given = b.given ∙ ap (λ held. given_back take_back held more) a.given ∙ sym (given_more take_back held back more);
+        given = b.given ∙ ap (λ held. with_returned take_back held more) a.given ∙ sym (given_more take_back held back more);
         left = λ q f t. a.left q f (b.left q f t);
         were = λ f h. ⊎_elim (a.were f) (λ h. was_table f (b.were f h)) (in_append back more f h);
         gone = λ f h t. ⊎_elim (λ h. a.gone f h (t.0, b.left t.0 f t.1)) (λ h. b.gone f h t) (in_append back more f h);

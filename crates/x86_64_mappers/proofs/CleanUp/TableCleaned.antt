@@ -14,24 +14,24 @@ use Rattle.x86_64_model.specs.Memory.{Memory, Distinct}
 use Rattle.x86_64_model.specs.Path.{AllBelow, span_start}
 use Rattle.x86_64_model.specs.PathMap.{PathMap}
 use Rattle.x86_64_mappers.proofs.CleanUp.Cleaned.{cleaned_nothing, cleaned_then}
-use Rattle.x86_64_mappers.specs.private.CleaningUp.{span_end, IsPageRange, IsEntryCleaned, IsCleaned, IsCleanedAt}
+use Rattle.x86_64_mappers.specs.private.CleaningUp.{last_position, IsPageRange, IsEntryCleaned, IsCleaned, IsCleanedAt}
 use Rattle.x86_64_mappers.proofs.Memory.WordsRead.{words_read}
 
 -- ---- which entries the range meets
 
 module _ (L : ℕ) (M : PathMap) (first last : List ℕ) (range : IsPageRange L first last) (q : List ℕ) (short : length q < L) (below : AllBelow q)
-    (visits : Visits L M (span_start L first) (span_end L last) q) (i : ℕ) (small : i < 512) where
-  met : meets L (span_start L first) (span_end L last) (q ++ i ∷ []) ≡ nat_le (first_index q first) i && nat_le i (last_index q last)
+    (visits : Visits L M (span_start L first) (last_position L last) q) (i : ℕ) (small : i < 512) where
+  met : meets L (span_start L first) (last_position L last) (q ++ i ∷ []) ≡ nat_le (first_index q first) i && nat_le i (last_index q last)
   met = meets_at_pages L first last range.first_long range.first_below range.last_long range.last_below range.in_order q i short below
-      (visits_meets L M (span_start L first) (span_end L last) q visits) small
+      (visits_meets L M (span_start L first) (last_position L last) q visits) small
 
-  pub met_between : first_index q first ≤ i → i < last_index q last + 1 → meets L (span_start L first) (span_end L last) (q ++ i ∷ []) ≡ true
+  pub met_between : first_index q first ≤ i → i < last_index q last + 1 → meets L (span_start L first) (last_position L last) (q ++ i ∷ []) ≡ true
   met_between low high = met ∙ and_from _ _ (le-leb (first_index q first) i low) (le-leb i (last_index q last) (omega (arith, high)))
 
-  pub out_before : i < first_index q first → in_range L M (span_start L first) (span_end L last) (q ++ i ∷ []) ≡ false
+  pub out_before : i < first_index q first → in_range L M (span_start L first) (last_position L last) (q ++ i ∷ []) ≡ false
   out_before low = and_right _ _ (met ∙ and_left _ _ (lt-leb (first_index q first) i low))
 
-  pub out_after : last_index q last + 1 ≤ i → in_range L M (span_start L first) (span_end L last) (q ++ i ∷ []) ≡ false
+  pub out_after : last_index q last + 1 ≤ i → in_range L M (span_start L first) (last_position L last) (q ++ i ∷ []) ≡ false
   out_after high = and_right _ _ (met ∙ and_right _ _ (lt-leb i (last_index q last) (omega (arith, high))))
 
 -- ---- entries that stay

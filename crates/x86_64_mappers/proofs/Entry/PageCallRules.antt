@@ -19,7 +19,7 @@ use Rattle.x86_64_model.specs.Position.{span}
 use Rattle.x86_64_model.specs.Refusal.{Refusal, PageNotMapped, ParentEntryHugePage, InvalidFrameAddress, Done, Refused, first_stop, refused_if, answer_unless, Answer}
 use Rattle.x86_64_model.specs.Window.{Window, begins_with}
 use Rattle.x86_64_mappers.specs.private.EntryCalls.{word_said}
-use Rattle.x86_64_mappers.specs.private.LeafFrames.{leaf_by, leaf_frame, maps_page, named_by, named_frame}
+use Rattle.x86_64_mappers.specs.private.LeafFrames.{leaf_by, leaf_frame, is_page_entry, named_by, named_frame}
 use Rattle.x86_64_mappers.specs.private.Stops.{IsFound}
 use Rattle.x86_64_mappers.specs.private.PageCalls.{unused_after, unmap_says, page_word, update_says}
 use Rattle.x86_64_mappers.proofs.Entry.EntryRules.{after_entry}
@@ -137,7 +137,7 @@ module _ (l : Layout) (m : Memory) (level : ℕ) (q : List ℕ) (at_level : leng
     pub unmap_change : (frame : ℕ) → Ok frame ≡ leaf_frame level e → IsChange l.levels l.window M q 0
     unmap_change frame is = let leaf = names_frame level e frame is in page_change 0 (used_present e leaf.is_present) leaf.is_huge (unused_no_table l.levels q)
 
-    pub update_change : (given : ℕ) → maps_page level e ≡ true → IsChange l.levels l.window M q (page_word level (address e) given)
+    pub update_change : (given : ℕ) → is_page_entry level e ≡ true → IsChange l.levels l.window M q (page_word level (address e) given)
     update_change given maps = page_change (page_word level (address e) given) (by_used (used e) _ maps) (λ large. by_huge (used e) (level == 1) (huge e) large maps)
         (ap (λ s. table_of l.levels q (bit_or (address e) (cond s given (bit_or given 0x80)))) (sym small) ∙ none_at_leaf l.levels q (address e) given)
       where
@@ -159,11 +159,11 @@ module _ (l : Layout) (m : Memory) (level : ℕ) (q : List ℕ) (at_level : leng
         by (Err why) is said = absurd (let t = said in cc)
 
     pub update_changes : (given w frame : ℕ) → update_says level given e ≡ Ok (w, frame) → IsChange l.levels l.window M q w
-    update_changes given w frame = by (maps_page level e) refl
+    update_changes given w frame = by (is_page_entry level e) refl
       where
         says : Bool → Result (ℕ × ℕ) Refusal
         says maps = cond maps (Ok (page_word level (address e) given, address e)) (Err PageNotMapped)
 
-        by : (b : Bool) → maps_page level e ≡ b → says b ≡ Ok (w, frame) → IsChange l.levels l.window M q w
+        by : (b : Bool) → is_page_entry level e ≡ b → says b ≡ Ok (w, frame) → IsChange l.levels l.window M q w
         by true maps said = subst (IsChange l.levels l.window M q) (ap (word_said w) said) (update_change given maps)
         by false maps said = absurd (let t = said in cc)

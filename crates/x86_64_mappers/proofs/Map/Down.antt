@@ -12,7 +12,7 @@ use Rattle.x86_64_model.specs.Refusal.{Refusal, Answer, Refused}
 use Rattle.x86_64_model.specs.Window.{begins_with}
 use Rattle.x86_64_mappers.specs.private.MapSteps.{mapped_from, IsAt, IsDown}
 use Rattle.x86_64_mappers.specs.private.Linked.{Beside}
-use Rattle.x86_64_mappers.specs.private.Writes.{IsMade, IsLeafSet}
+use Rattle.x86_64_mappers.specs.private.Writes.{IsTableMade, IsLeafSet}
 use Rattle.x86_64_mappers.proofs.Map.OwnedWays.{owned_then}
 use Rattle.x86_64_mappers.proofs.Map.StepOutcomes.{Reached, Stopped, IsStep, IsPathMapped, IsLeaf}
 use Rattle.x86_64_mappers.proofs.Way.Outside.{beside_on, beside_at}
@@ -55,14 +55,14 @@ module _ (l : Layout) (apart : Distinct l.places) (adds : IsParentFlags l.added_
   room : length (take k path ++ i ∷ []) < l.levels
   room = simp length-append (omega (arith, length-take k path))
 
-  pub made : (r : Result ℕ Refusal) → IsMade l.places more l.added_flags n rest f i r o fs → IsStep l n rest more (take k path) (get_or path k 0) r o fs
+  pub made : (r : Result ℕ Refusal) → IsTableMade l.places more l.added_flags n rest f i r o fs → IsStep l n rest more (take k path) (get_or path k 0) r o fs
   made r h = subst (λ i. IsStep l n rest more (take k path) i r o fs) is
       (step l apart n (take k path) i f here.leads small (subst (Beside l.window l.root f) (sym is) (beside_at l n here.owned.ready.valid path k within outside f here.leads)) more marks adds room rest here.owned.ready r o fs h)
 
-  pub turn : (g : ℕ) → IsMade l.places more l.added_flags n rest f i (Ok g) o fs → IsAt l m s more path (take (k + 1) path) (drop (k + 1) path) o fs g
+  pub turn : (g : ℕ) → IsTableMade l.places more l.added_flags n rest f i (Ok g) o fs → IsAt l m s more path (take (k + 1) path) (drop (k + 1) path) o fs g
   turn g h = index_next l m s more path k within n rest f here o fs g (made (Ok g) h)
 
-  pub stop : (why : Refusal) → IsMade l.places more l.added_flags n rest f i (Err why) o fs → IsDown l m s more path (Err why) o fs
+  pub stop : (why : Refusal) → IsTableMade l.places more l.added_flags n rest f i (Err why) o fs → IsDown l m s more path (Err why) o fs
   stop why h = index_stop l m s more path k within n rest f here o fs why (made (Err why) h)
 
 -- the whole map

@@ -19,7 +19,7 @@ use Rattle.x86_64_model.specs.Mapper.{◌laid_in◌, Hierarchy, words}
 use Rattle.x86_64_mappers.specs.AccessLending.{with_zeros}
 use Rattle.x86_64_mappers.specs.Reached.{IsReached}
 use Rattle.x86_64_mappers.specs.private.Linked.{Beside, IsClearedFirst, MayLink, NotOnWay}
-use Rattle.x86_64_mappers.specs.private.Writes.{IsThere, IsSet, IsCleared, IsTaken, word_in_frame}
+use Rattle.x86_64_mappers.specs.private.Writes.{IsThere, IsSet, IsZeroed, IsTaken, word_in_frame}
 use Rattle.x86_64_mappers.proofs.Memory.Changed.{not_none, set_is, set_keeps, self_set, cleared_other, cleared_keeps, cleared_here}
 use Rattle.x86_64_mappers.proofs.Way.ReachedSteps.{leads_last}
 use Rattle.x86_64_model.proofs.Lemmas.Hierarchies.Memories.{covered}
@@ -37,11 +37,11 @@ commute m a b x y apart = same_map nat_cmp_total nat_cmp-IsAntisymmetric _ _ (λ
     (cases_eq k b))
     (cases_eq k a))
 
-pub cleared_first : (places : Places) → Distinct places → (m : Memory) (f i w g : ℕ) (a n : Memory) → f ≢ g → IsThere places m g → IsSet places m f i w a → IsCleared places a g n → IsClearedFirst places m f i w g n
+pub cleared_first : (places : Places) → Distinct places → (m : Memory) (f i w g : ℕ) (a n : Memory) → f ≢ g → IsThere places m g → IsSet places m f i w a → IsZeroed places a g n → IsClearedFirst places m f i w g n
 cleared_first places apart m f i w g a n other there k c =
     let cf = covered m places f (not_none _ k.table k.is) in
     let cg = covered m places g there in
-    let cleared : IsCleared places m g (insert m (places.place g) zero_words) = record { there = there; after = refl } in record {
+    let cleared : IsZeroed places m g (insert m (places.place g) zero_words) = record { there = there; after = refl } in record {
       middle = insert m (places.place g) zero_words;
       is_cleared = cleared;
       is_set = record {
@@ -99,7 +99,7 @@ leads_front T root (k ∷ a) b f led = by (λ e led. leads_front T (address e) a
 
 -- ---- the table is cleared first
 
-module _ (l : Layout) (apart : Distinct l.places) (m : Memory) (path : List ℕ) (k f g x : ℕ) (may : MayLink l m path k f g x) (n : Memory) (cleared : IsCleared l.places m g n) where
+module _ (l : Layout) (apart : Distinct l.places) (m : Memory) (path : List ℕ) (k f g x : ℕ) (may : MayLink l m path k f g x) (n : Memory) (cleared : IsZeroed l.places m g n) where
   abbrev q : List ℕ
   q = take k path
 
@@ -141,7 +141,7 @@ module _ (l : Layout) (apart : Distinct l.places) (m : Memory) (path : List ℕ)
 
 -- the mapper's hierarchy after it was to clear the table
 module _ {Lent : Type 0} (h after : Hierarchy Lent) (apart : Distinct h.layout.places) (path : List ℕ) (k f g x : ℕ) (may : MayLink h.layout h.memory path k f g x) (was : Bool) (is : after ≡ cond was (with_zeros h g) h) where
-  now_cleared : IsCleared h.layout.places h.memory g (with_zeros h g).memory
+  now_cleared : IsZeroed h.layout.places h.memory g (with_zeros h g).memory
   now_cleared = record { there = may.there; after = refl }
 
   pub same_layout : after.layout ≡ h.layout
@@ -175,7 +175,7 @@ module _ {Lent : Type 0} (h after : Hierarchy Lent) (apart : Distinct h.layout.p
   }
 
   -- the entry was set before the table was cleared
-  pub cleared_after : was ≡ false → (i w : ℕ) (a n : Memory) → IsSet after.layout.places after.memory f i w a → IsCleared h.layout.places a g n → IsClearedFirst h.layout.places h.memory f i w g n
+  pub cleared_after : was ≡ false → (i w : ℕ) (a n : Memory) → IsSet after.layout.places after.memory f i w a → IsZeroed h.layout.places a g n → IsClearedFirst h.layout.places h.memory f i w g n
   cleared_after done i w a n set cleared = let e : after ≡ h = rw done at is in
       cleared_first h.layout.places apart h.memory f i w g a n (may.unmet (take k path) [] (sym (append-nil _)) f may.reached.way) may.there
       (subst (λ (h : Hierarchy Lent). IsSet h.layout.places h.memory f i w a) e set) cleared

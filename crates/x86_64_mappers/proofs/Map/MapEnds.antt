@@ -4,7 +4,7 @@ use Rattle.x86_64_model.specs.Window.{Window, begins_with}
 use Rattle.x86_64_model.proofs.Lemmas.Machines.Owners.{does_map}
 use Rattle.x86_64_model.specs.Allowed.{map_allowed}
 use Rattle.x86_64_model.specs.Call.{MapToWithTableFlags}
-use Rattle.x86_64_model.specs.private.MapperCalls.{IsMapped}
+use Rattle.x86_64_model.specs.private.MapperCalls.{MapsPage}
 use Rattle.x86_64_model.specs.Mapper.{Hierarchy, MayMap, DoesMap, paths}
 use Rattle.x86_64_model.specs.Refusal.{Answer}
 use Rattle.x86_64_mappers.proofs.Entry.EntryEnds.{with_memory}
@@ -21,6 +21,6 @@ module _ {Lent : Type 0} (h : Hierarchy Lent) (supply : List ℕ) (q : List ℕ)
   map_is_allowed may = may.allowed
 
   pub ends_map : (after : Hierarchy Lent) → after.layout ≡ h.layout → after.lent ≡ h.lent → (answer : Answer) (rest : List ℕ)
-      → IsMapped h.layout h.memory supply q frame given more answer after.memory rest → DoesMap h supply (MapToWithTableFlags q frame given more) answer after rest
+      → MapsPage h.layout h.memory supply q frame given more answer after.memory rest → DoesMap h supply (MapToWithTableFlags q frame given more) answer after rest
   ends_map after layout lent answer rest mapped = subst (λ h'. DoesMap h supply (MapToWithTableFlags q frame given more) answer h' rest) (with_memory h after layout lent)
       (does_map h supply q frame given more answer after.memory rest mapped)

@@ -18,7 +18,7 @@ use Rattle.x86_64_model.specs.PathMap.{PathMap, entry, put, table_of, table_at}
 use Rattle.x86_64_model.specs.Refusal.{Refused, ParentEntryHugePage}
 use Rattle.x86_64_mappers.specs.private.MapSteps.{KeepsOwned, mapped_from}
 use Rattle.x86_64_mappers.specs.private.Linked.{Beside}
-use Rattle.x86_64_mappers.specs.private.Writes.{IsMarked}
+use Rattle.x86_64_mappers.specs.private.Writes.{IsEntryMarked}
 use Rattle.x86_64_mappers.proofs.Memory.Changed.{set_others, set_keeps, read_set, self_set}
 use Rattle.x86_64_mappers.proofs.Map.StepOutcomes.{Reached, Stopped}
 use Rattle.x86_64_mappers.proofs.Memory.WordsRead.{words_read, read_word, read_table}
@@ -46,7 +46,7 @@ module _ (l : Layout) (apart : Distinct l.places) (m : Memory) (pre : List ℕ) 
   is : entry M p ≡ word (words (l laid_in m)) f i
   is = entry_is l apart at_least_four m pre i f leads small beside s ready
 
-  marked : (n : Memory) → IsMarked l.places m f i more n → (put M p (bit_or (entry M p) more) ≡ paths (l laid_in n)) × KeepsOwned l m s n s
+  marked : (n : Memory) → IsEntryMarked l.places m f i more n → (put M p (bit_or (entry M p) more) ≡ paths (l laid_in n)) × KeepsOwned l m s n s
   marked n k =
       let T = words_read l m in
       let t = read_table l.window l.root (words (l laid_in m)) f k.is_set.table k.is_set.is in
@@ -61,7 +61,7 @@ module _ (l : Layout) (apart : Distinct l.places) (m : Memory) (pre : List ℕ) 
       (λ a h. set_others l.places apart m f i _ n k.is_set a (own_place l apart at_least_four m pre i f leads small beside s ready s (λ f h. h) a h))
 
   -- a parent that isn't huge leads to the next table
-  pub reached_used : (g : ℕ) (n : Memory) → IsMarked l.places m f i more n → huge (word (words (l laid_in m)) f i) ≡ false → g ≡ address (word (words (l laid_in m)) f i) → Reached l m s more pre i n s g
+  pub reached_used : (g : ℕ) (n : Memory) → IsEntryMarked l.places m f i more n → huge (word (words (l laid_in m)) f i) ≡ false → g ≡ address (word (words (l laid_in m)) f i) → Reached l m s more pre i n s g
   unfolding table_of
   reached_used g n k h names =
       let u : used (entry M p) ≡ true = ap used is ∙ k.is_used in
@@ -84,7 +84,7 @@ module _ (l : Layout) (apart : Distinct l.places) (m : Memory) (pre : List ℕ) 
       }
 
   -- a huge parent refuses
-  pub stopped_huge : (n : Memory) → IsMarked l.places m f i more n → huge (word (words (l laid_in m)) f i) ≡ true → Stopped l m s more pre i n s ParentEntryHugePage
+  pub stopped_huge : (n : Memory) → IsEntryMarked l.places m f i more n → huge (word (words (l laid_in m)) f i) ≡ true → Stopped l m s more pre i n s ParentEntryHugePage
   stopped_huge n k h =
       let w = marked n k in record {
         owned = w.1;

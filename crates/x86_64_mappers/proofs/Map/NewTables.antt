@@ -22,7 +22,7 @@ use Rattle.x86_64_model.specs.Window.{SelfEntry}
 use Rattle.x86_64_tables.specs.PageTable.{zero_words}
 use Rattle.x86_64_mappers.specs.private.MapSteps.{mapped_from}
 use Rattle.x86_64_mappers.specs.private.Linked.{Beside}
-use Rattle.x86_64_mappers.specs.private.Writes.{IsSet, IsCleared}
+use Rattle.x86_64_mappers.specs.private.Writes.{IsSet, IsZeroed}
 use Rattle.x86_64_mappers.proofs.Memory.Changed.{not_none, set_others, set_keeps, read_set, self_set, cleared_other, cleared_here, cleared_other_word, cleared_words, cleared_keeps}
 use Rattle.x86_64_mappers.proofs.Map.OwnedWays.{owned_nothing}
 use Rattle.x86_64_mappers.proofs.Map.StepOutcomes.{Reached, Stopped}
@@ -59,7 +59,7 @@ module _ (l : Layout) (apart : Distinct l.places) (m : Memory) (pre : List ℕ) 
 
   -- the frame g was cleared, and then the entry came to name it
   module _ (g : ℕ) (rest : List ℕ) (ready : SupplyFits (l laid_in m) (g ∷ rest)) (middle n : Memory) (u : used (word (words (l laid_in m)) f i) ≡ false)
-      (cleared : IsCleared l.places m g middle) (k : IsSet l.places middle f i (bit_or g (bit_or more l.added_flags)) n) where
+      (cleared : IsZeroed l.places m g middle) (k : IsSet l.places middle f i (bit_or g (bit_or more l.added_flags)) n) where
     abbrev w : ℕ
     w = bit_or g (bit_or more l.added_flags)
 

@@ -9,7 +9,7 @@ use Rattle.x86_64_model.specs.PathMap.{PathMap, put, table_at}
 use Rattle.x86_64_model.specs.Refusal.{Refusal, PageNotMapped, ParentEntryHugePage, InvalidFrameAddress, PageAlreadyMapped, FrameAllocationFailed, Answer, Done, Refused}
 use Rattle.x86_64_mappers.specs.private.MapSteps.{KeepsOwned, mapped_from}
 use Rattle.x86_64_mappers.specs.private.Linked.{Beside}
-use Rattle.x86_64_mappers.specs.private.Writes.{IsMade, IsLeafSet}
+use Rattle.x86_64_mappers.specs.private.Writes.{IsTableMade, IsLeafSet}
 use Rattle.x86_64_mappers.proofs.Map.OwnedWays.{owned_nothing}
 use Rattle.x86_64_mappers.proofs.Map.StepOutcomes.{Reached, Stopped, IsStep, IsLeaf}
 use Rattle.x86_64_mappers.proofs.Map.Marked.{reached_used, stopped_huge}
@@ -25,7 +25,7 @@ module _ (l : Layout) (apart : Distinct l.places) (m : Memory) (pre : List ℕ) 
 
   -- a step down
   module _ (marks : IsParentFlags more) (adds : IsParentFlags l.added_flags) (room : length p < l.levels) where
-    pub step : (s : List ℕ) → SupplyFits (l laid_in m) s → (r : Result ℕ Refusal) (n : Memory) (rest : List ℕ) → IsMade l.places more l.added_flags m s f i r n rest → IsStep l m s more pre i r n rest
+    pub step : (s : List ℕ) → SupplyFits (l laid_in m) s → (r : Result ℕ Refusal) (n : Memory) (rest : List ℕ) → IsTableMade l.places more l.added_flags m s f i r n rest → IsStep l m s more pre i r n rest
     step s ready (Ok g) n rest (inl k) = subst (λ rest. Reached l m s more pre i n rest g) (sym k.3) (reached_used l apart m pre i f leads small beside more marks room s ready g n k.0 k.1 k.2)
     step s ready (Ok g) n rest (inr k) = subst (λ s. Reached l m s more pre i n rest g) (sym k.first)
         (reached_new l apart m pre i f leads small beside more marks adds room g rest (subst (SupplyFits (l laid_in m)) k.first ready) k.middle n k.is_unused k.is_cleared k.is_set)

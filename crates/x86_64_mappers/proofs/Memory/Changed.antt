@@ -11,7 +11,7 @@ use Rattle.x86_64_model.specs.Memory.{Memory, Places, Distinct, words_of, word, 
 use Rattle.x86_64_model.specs.Window.{SelfEntry, outside_window}
 use Rattle.x86_64_tables.specs.PageTable.{zero_words, get_or-zero_words}
 use Rattle.x86_64_mappers.specs.private.Linked.{Beside}
-use Rattle.x86_64_mappers.specs.private.Writes.{IsSet, IsCleared}
+use Rattle.x86_64_mappers.specs.private.Writes.{IsSet, IsZeroed}
 use Rattle.x86_64_mappers.proofs.Memory.WordsRead.{words_read, self-set_word}
 use Rattle.x86_64_mappers.proofs.Memory.Stored.{words_of-put, get-put, put_back, there_is}
 
@@ -46,21 +46,21 @@ module _ (places : Places) (apart : Distinct places) where
 
   -- ---- a table that was cleared
 
-  cleared_is : (m : Memory) (f : ℕ) (n : Memory) → IsCleared places m f n → (g : ℕ) → words_of n places g ≡ cond (g == f) (Some zero_words) (words_of m places g)
+  cleared_is : (m : Memory) (f : ℕ) (n : Memory) → IsZeroed places m f n → (g : ℕ) → words_of n places g ≡ cond (g == f) (Some zero_words) (words_of m places g)
   cleared_is m f n c g = ap (λ x. words_of x places g) c.after ∙ words_of-put m places f zero_words apart (covered m places f c.there) g
 
-  pub cleared_other : (m : Memory) (f : ℕ) (n : Memory) → IsCleared places m f n → (g : ℕ) → g ≢ f → words_of n places g ≡ words_of m places g
+  pub cleared_other : (m : Memory) (f : ℕ) (n : Memory) → IsZeroed places m f n → (g : ℕ) → g ≢ f → words_of n places g ≡ words_of m places g
   cleared_other m f n c g e = cleared_is m f n c g ∙ ap (λ b. cond b (Some zero_words) (words_of m places g)) (ne_eqb g f e)
 
-  pub cleared_here : (m : Memory) (f : ℕ) (n : Memory) → IsCleared places m f n → words_of n places f ≡ Some zero_words
+  pub cleared_here : (m : Memory) (f : ℕ) (n : Memory) → IsZeroed places m f n → words_of n places f ≡ Some zero_words
   cleared_here m f n c = cleared_is m f n c f ∙ ap (λ b. cond b (Some zero_words) (words_of m places f)) (eq-eqb f f refl)
 
   -- a word of another frame's table
-  pub cleared_other_word : (m : Memory) (f : ℕ) (n : Memory) → IsCleared places m f n → (g j : ℕ) → f ≢ g → word (words_of n places) g j ≡ word (words_of m places) g j
+  pub cleared_other_word : (m : Memory) (f : ℕ) (n : Memory) → IsZeroed places m f n → (g j : ℕ) → f ≢ g → word (words_of n places) g j ≡ word (words_of m places) g j
   unfolding word
   cleared_other_word m f n c g j e = ap (λ o. cond (nat_lt j 512) (word_in o j) 0) (cleared_other m f n c g (λ x. e (sym x)))
 
-  pub cleared_words : (m : Memory) (f : ℕ) (n : Memory) → IsCleared places m f n → (j : ℕ) → word (words_of n places) f j ≡ 0
+  pub cleared_words : (m : Memory) (f : ℕ) (n : Memory) → IsZeroed places m f n → (j : ℕ) → word (words_of n places) f j ≡ 0
   unfolding word
   cleared_words m f n c j = ap (λ o. cond (nat_lt j 512) (word_in o j) 0) (cleared_here m f n c) ∙ by (nat_lt j 512) refl
     where
@@ -68,7 +68,7 @@ module _ (places : Places) (apart : Distinct places) where
       by true e = get_or-zero_words j (grind (arith, e))
       by false e = refl
 
-  pub cleared_keeps : (m : Memory) (f : ℕ) (n : Memory) → IsCleared places m f n → (g : ℕ) → IsSome (words_of m places g) → IsSome (words_of n places g)
+  pub cleared_keeps : (m : Memory) (f : ℕ) (n : Memory) → IsZeroed places m f n → (g : ℕ) → IsSome (words_of m places g) → IsSome (words_of n places g)
   cleared_keeps m f n c g h = ⊎_elim
       (λ e. not_none _ zero_words (ap (λ g. words_of n places g) e ∙ cleared_here m f n c))
       (λ e. subst IsSome (sym (cleared_other m f n c g e)) h) (cases_eq g f)

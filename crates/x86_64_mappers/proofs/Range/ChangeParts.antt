@@ -22,7 +22,7 @@ use Rattle.x86_64_model.proofs.Lemmas.Maps.Arrives.{entry_outside, first_alone}
 use Rattle.x86_64_model.proofs.Lemmas.Paths.Pages.{length_taken}
 use Rattle.x86_64_model.proofs.Lemmas.Walks.Walked.{one_more}
 use Rattle.x86_64_mappers.specs.private.EntryCalls.{word_said, answer_said}
-use Rattle.x86_64_mappers.specs.private.RangeChangeSteps.{AreChanged, AreRefused, AreStoppedIn, IsChangeRun, IsPartChanged, last_index, replies_said, table_path, with_words}
+use Rattle.x86_64_mappers.specs.private.RangeChangeSteps.{AreChanged, AreRefused, AreStoppedIn, IsChangeRun, IsPartChanged, last_index, replies_said, table_path, with_results}
 use Rattle.x86_64_mappers.specs.private.Stops.{IsFound}
 use Rattle.x86_64_mappers.specs.private.Writes.{IsSet}
 use Rattle.x86_64_mappers.proofs.Entry.EntryRules.{Ends, after_entry, ended, stopped}
@@ -252,7 +252,7 @@ module _ (l : Layout) (apart : Distinct l.places) (level : ℕ) (low : 1 ≤ lev
 
 -- a part whose table was found, and its entries changed from an index on
 pub part_in_table : (l : Layout) (m : Memory) (level page : ℕ) (says : ℕ → Result (ℕ × ℕ) Refusal) (count : ℕ) (n : Memory) (path : List ℕ) → path ≡ path_at l.levels level page → (i : ℕ) → i ≡ last_index path → last_index path + count ≤ 512
-    → (frame : ℕ) → IsFound l m (table_path path) (Ok frame) → (t : List ℕ) → words_of m l.places frame ≡ Some t → length t ≡ 512 → n ≡ insert m (l.places.place frame) (with_words says i t count)
+    → (frame : ℕ) → IsFound l m (table_path path) (Ok frame) → (t : List ℕ) → words_of m l.places frame ≡ Some t → length t ≡ 512 → n ≡ insert m (l.places.place frame) (with_results says i t count)
     → IsPartChanged l m level page says count (replies_said says i t count) n
 part_in_table l m level page says count n path is_path i index fits frame found t is long put =
     subst (λ q. (last_index q + count ≤ 512) × AreChanged l m (table_path q) says (last_index q) count (replies_said says i t count) n ⊎ AreRefused l m level page count (replies_said says i t count) n) is_path
@@ -264,7 +264,7 @@ part_in_table l m level page says count n path is_path i index fits frame found 
         table = t;
         is = is;
         long = long;
-        put = put ∙ ap (λ j. insert m (l.places.place frame) (with_words says j t count)) index;
+        put = put ∙ ap (λ j. insert m (l.places.place frame) (with_results says j t count)) index;
         replies = ap (λ j. replies_said says j t count) index;
       },
     ))

@@ -19,8 +19,8 @@ use Rattle.x86_64_model.specs.Window.{Window}
 use Rattle.x86_64_model.proofs.Lemmas.Machines.Owners.{does_map}
 use Rattle.x86_64_model.proofs.Lemmas.Maps.Mapped.{walks_after}
 use Rattle.x86_64_model.proofs.Lemmas.Runs.Runs.{replies_append, state_append}
-use Rattle.x86_64_mappers.specs.Ranges.{MapRange, DoesMaps, IsNextMap, MapsEach, page_at, frame_at, map_at, maps, accepted}
-use Rattle.x86_64_mappers.specs.private.RangeSteps.{IsRun}
+use Rattle.x86_64_mappers.specs.Ranges.{MapRange, DoesMaps, IsNextMap, MapsEach, range_page, range_frame, map_at, maps, accepted_maps}
+use Rattle.x86_64_mappers.specs.private.RangeSteps.{IsRangeRun}
 use Rattle.x86_64_mappers.proofs.Entry.EntryEnds.{with_memory}
 use Rattle.x86_64_mappers.proofs.Map.OwnedWays.{owned_then}
 use Rattle.x86_64_mappers.proofs.Map.StepOutcomes.{IsPathMapped}
@@ -56,36 +56,36 @@ arrives_then more x y z one two w is =
 
 -- ---- runs
 
-pub accepted_more : (r : MapRange) (k : ℕ) → accepted r (k + 1) ≡ accepted r k ++ Answered (Done (frame_at r k)) ∷ []
-accepted_more r k = map-range_with_len_more (λ k. Answered (Done (frame_at r k))) 0 k k (let e : 0 + k ≡ k = omega arith in e)
+pub accepted_more : (r : MapRange) (k : ℕ) → accepted_maps r (k + 1) ≡ accepted_maps r k ++ Answered (Done (range_frame r k)) ∷ []
+accepted_more r k = map-range_with_len_more (λ k. Answered (Done (range_frame r k))) 0 k k (let e : 0 + k ≡ k = omega arith in e)
 
 maps_more : (L : ℕ) (r : MapRange) (k : ℕ) → maps L r (k + 1) ≡ maps L r k ++ map_at L r k ∷ []
 maps_more L r k = map-range_with_len_more (λ k. map_at L r k) 0 k k (let e : 0 + k ≡ k = omega arith in e)
 
-module _ (l : Layout) (m : Memory) (s : List ℕ) (r : MapRange) (k : ℕ) (marks : IsParentFlags r.parent_flags) (n : Memory) (rest : List ℕ) (replies : List Reply) (run : IsRun l m s r k replies n rest) where
+module _ (l : Layout) (m : Memory) (s : List ℕ) (r : MapRange) (k : ℕ) (marks : IsParentFlags r.parent_flags) (n : Memory) (rest : List ℕ) (replies : List Reply) (run : IsRangeRun l m s r k replies n rest) where
   abbrev q : List ℕ
-  q = path_at l.levels r.level (page_at r k)
+  q = path_at l.levels r.level (range_page r k)
 
   -- one map more
   module _ (allowed : map_allowed l.levels l.window (paths (l laid_in n)) q r.flags r.parent_flags ≡ true) (answer : Answer) (o : Memory) (fs : List ℕ)
-      (mapped : IsPathMapped l n rest r.parent_flags q (leaf_entry l.levels q (frame_at r k) r.flags) (frame_at r k) answer o fs) where
+      (mapped : IsPathMapped l n rest r.parent_flags q (leaf_entry l.levels q (range_frame r k) r.flags) (range_frame r k) answer o fs) where
     one : (take_back : List ℕ → ℕ → List ℕ) → step (machine_of l take_back) (state_in l n rest) (map_at l.levels r k) ≡ record { state = state_in l o fs; reply = Answered answer }
     unfolding do_call
     one take_back = ap (λ b. cond b (do_call (machine_of l take_back) (state_in l n rest) (map_at l.levels r k)) (only_reply (state_in l n rest) NotAllowed)) allowed
         ∙ ap after_map mapped.outcome
 
     walks_on : (p : ℕ) → Arrives r.parent_flags (walk (l laid_in n) p) (walk (l laid_in o) p)
-    walks_on = walks_after l n rest q (frame_at r k) r.flags r.parent_flags answer o fs marks run.owned.ready mapped.outcome mapped.owned.ready
+    walks_on = walks_after l n rest q (range_frame r k) r.flags r.parent_flags answer o fs marks run.owned.ready mapped.outcome mapped.owned.ready
 
     next : IsNextMap (l laid_in n) rest (map_at l.levels r k) replies (replies ++ Answered answer ∷ []) (l laid_in o) fs
     next = record {
       answer = answer;
       may = record { fits = run.owned.ready; allowed = allowed };
-      does = does_map (l laid_in n) rest q (frame_at r k) r.flags r.parent_flags answer o fs (record { outcome = mapped.outcome; ready = mapped.owned.ready; others = mapped.owned.others; walks = walks_on });
+      does = does_map (l laid_in n) rest q (range_frame r k) r.flags r.parent_flags answer o fs (record { outcome = mapped.outcome; ready = mapped.owned.ready; others = mapped.owned.others; walks = walks_on });
       last = refl;
     }
 
-    pub one_more : IsRun l m s r (k + 1) (replies ++ Answered answer ∷ []) o fs
+    pub one_more : IsRangeRun l m s r (k + 1) (replies ++ Answered answer ∷ []) o fs
     one_more = record {
       replies = λ take_back.
           let machine = machine_of l take_back in
@@ -104,7 +104,7 @@ module _ (l : Layout) (m : Memory) (s : List ℕ) (r : MapRange) (k : ℕ) (mark
       owned = owned_then l m s n rest o fs run.owned mapped.owned;
       walks = λ p. arrives_then r.parent_flags (walk (l laid_in m) p) (walk (l laid_in n) p) (walk (l laid_in o) p) (run.walks p) (walks_on p);
       each = subst (λ j. MapsEach (l laid_in m) s r j (replies ++ Answered answer ∷ []) (l laid_in o) fs) (sym (add-one k)) ((l laid_in n), rest, replies, run.each, next);
-      parents = λ p h. parents_mapped l n rest run.owned.ready r.parent_flags marks q (leaf_entry l.levels q (frame_at r k) r.flags) (frame_at r k) answer o fs mapped p (run.parents p h);
+      parents = λ p h. parents_mapped l n rest run.owned.ready r.parent_flags marks q (leaf_entry l.levels q (range_frame r k) r.flags) (range_frame r k) answer o fs mapped p (run.parents p h);
     }
 
 -- ---- ends
@@ -132,7 +132,7 @@ module _ {Lent : Type 0} (lent : Lent) where
 
 -- what a run leaves in the hierarchy that a mapper owns
 pub ends_run : {Lent : Type 0} (h : Hierarchy Lent) (supply : List ℕ) (r : MapRange) (k : ℕ) (replies : List Reply) (after : Hierarchy Lent) (rest : List ℕ) → after.layout ≡ h.layout → after.lent ≡ h.lent
-    → IsRun h.layout h.memory supply r k replies after.memory rest → DoesMaps h supply r k replies after rest
+    → IsRangeRun h.layout h.memory supply r k replies after.memory rest → DoesMaps h supply r k replies after rest
 ends_run h supply r k replies after rest layout lent run = subst (λ h'. DoesMaps h supply r k replies h' rest) (with_memory h after layout lent) (record {
   replies = run.replies;
   state = run.state;

@@ -13,7 +13,7 @@ use Rattle.x86_64_model.specs.Refusal.{Refusal, ParentEntryHugePage, PageNotMapp
 use Rattle.x86_64_model.proofs.Lemmas.Hierarchies.Changes.{map_again}
 use Rattle.x86_64_model.proofs.Lemmas.Walks.Agrees.{reads}
 use Rattle.x86_64_model.proofs.Lemmas.Walks.Walked.{names}
-use Rattle.x86_64_mappers.specs.private.Stops.{table_below, table_read, LeadsTo, IsFound, StopsBelow}
+use Rattle.x86_64_mappers.specs.private.Stops.{table_below, table_read, PathLeadsTo, IsFound, StopsBelow}
 
 -- the stop at an entry that names no table, and otherwise the next one
 abbrev pub stop_or : Result ℕ Refusal → (next : Option Refusal) → Option Refusal
@@ -27,7 +27,7 @@ stop_from E pre r = option_map (λ p. cond (present (E p)) ParentEntryHugePage P
 
 -- the walk so far: done are the indices up to the table in a frame, and left those to come
 pub record IsOnWay (l : Layout) (m : Memory) (path done left : List ℕ) (frame : ℕ) : Type 0 where
-  pub leads : LeadsTo l m done frame
+  pub leads : PathLeadsTo l m done frame
   pub stop : (last : ℕ) → stop_from (read_entry (l laid_in m)) [] (path ++ last ∷ []) ≡ stop_from (read_entry (l laid_in m)) done (left ++ last ∷ [])
 
 -- ---- the first stop, at the next parent
@@ -112,7 +112,7 @@ module _ (l : Layout) (m : Memory) (valid : Valid (l laid_in m)) (path done left
       named : names_table (E (done ++ i ∷ [])) ≡ true
       named = names (E (done ++ i ∷ [])) n.is_present n.not_huge
 
-      leads : LeadsTo l m (done ++ i ∷ []) g
+      leads : PathLeadsTo l m (done ++ i ∷ []) g
       leads = let r = reads l.levels (words (l laid_in m)) l.root (paths (l laid_in m)) l.window valid in record {
         table = table_last l.levels l.root E done i ∙ ap₂ (λ b c. cond (b && c) (Some (address (E (done ++ i ∷ [])))) None) named (lt-ltb (length (done ++ i ∷ [])) l.levels room) ∙ ap Some (sym n.address);
         there = subst (λ g. IsSome (words (l laid_in m) g)) (sym n.address) (r.there (done ++ i ∷ []) named room);

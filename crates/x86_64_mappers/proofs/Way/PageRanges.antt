@@ -13,7 +13,7 @@ use Rattle.x86_64_model.specs.Window.{Window, begins_with}
 use Rattle.x86_64_model.proofs.Lemmas.Machines.Effects.{map_may}
 use Rattle.x86_64_model.proofs.Lemmas.Paths.Pages.{length_taken, span_pos, span_up}
 use Rattle.x86_64_mappers.specs.RangeChanges.{IsRange}
-use Rattle.x86_64_mappers.specs.Ranges.{MapRange, MayMapRange, page_at}
+use Rattle.x86_64_mappers.specs.Ranges.{MapRange, MayMapRange, range_page}
 use Rattle.x86_64_mappers.specs.private.MapConditions.{AreOutside, flags_allowed}
 use Rattle.x86_64_mappers.proofs.Way.FirstIndex.{first_index, is_index}
 use Rattle.x86_64_mappers.proofs.Way.Pages.{small_page}
@@ -164,9 +164,9 @@ will_be_present M more q is = or_true (present more) _ is
     or_true false b h = cc
 
 module _ {Lent : Type 0} (h : Hierarchy Lent) (r : MapRange) (low : 1 ≤ r.level) (high : r.level ≤ 3) (levels : 3 < h.layout.levels) (is_present : present r.parent_flags ≡ true) (count : ℕ) (some : 0 < count) where
-  small : (k : ℕ) → is_small h.layout.levels (path_of h r.level (page_at r k)) ≡ (r.level == 1)
-  small k = small_page h.layout.levels r.level (path_of h r.level (page_at r k))
-      (let size = length_taken (page_at r k) (h.layout.levels + 1 - r.level) h.layout.levels (omega (arith, low)) in omega (arith, size, high, levels))
+  small : (k : ℕ) → is_small h.layout.levels (path_of h r.level (range_page r k)) ≡ (r.level == 1)
+  small k = small_page h.layout.levels r.level (path_of h r.level (range_page r k))
+      (let size = length_taken (range_page r k) (h.layout.levels + 1 - r.level) h.layout.levels (omega (arith, low)) in omega (arith, size, high, levels))
 
   -- the test of all maps
   pub map_range_tested : (exist pages flags : Bool) → (IsTrue exist ↔ (r.frame + (count - 1) * span r.level < 2 ^ 52)) → (IsTrue pages ↔ IsRange h r.level r.page count) → flags ≡ flags_allowed (r.level == 1) r.flags r.parent_flags
@@ -180,12 +180,12 @@ module _ {Lent : Type 0} (h : Hierarchy Lent) (r : MapRange) (low : 1 ≤ r.leve
           record {
             pages = range.there;
             frames = λ k less. let up = before_last r.frame (span r.level) k count less in let end = frames_test.0 two.0 in omega (arith, up, end);
-            allowed = λ k less. and_from _ _ (and_from _ _ (ap (λ s. flags_allowed s r.flags r.parent_flags) (small k) ∙ sym flags_test ∙ both.1) (will_be_present (paths h) r.parent_flags (path_of h r.level (page_at r k)) is_present))
+            allowed = λ k less. and_from _ _ (and_from _ _ (ap (λ s. flags_allowed s r.flags r.parent_flags) (small k) ∙ sym flags_test ∙ both.1) (will_be_present (paths h) r.parent_flags (path_of h r.level (range_page r k)) is_present))
                 (ap not (range.outside k less));
           },
         ),
     λ may.
-        let outside = λ (k : ℕ) (less : k < count). (map_may h.layout.levels h.layout.window (paths h) (path_of h r.level (page_at r k)) r.flags r.parent_flags (may.1.allowed k less)).outside in
+        let outside = λ (k : ℕ) (less : k < count). (map_may h.layout.levels h.layout.window (paths h) (path_of h r.level (range_page r k)) r.flags r.parent_flags (may.1.allowed k less)).outside in
         let first = (and_parts _ _ (and_parts _ _ (may.1.allowed 0 some)).0).0 in
         and_from _ _ (and_from _ _ (frames_test.1 (may.1.frames (count - 1) (omega (arith, some)))) (pages_test.1 (record { there = may.1.pages; outside = outside })))
         (flags_test ∙ ap (λ s. flags_allowed s r.flags r.parent_flags) (sym (small 0)) ∙ first),

@@ -9,7 +9,7 @@ use Rattle.x86_64_model.specs.Position.{page_path, span}
 use Rattle.x86_64_model.specs.Window.{Window, IsSelfEntry}
 use Rattle.x86_64_model.proofs.Lemmas.Entries.Words.{address_aligned}
 use Rattle.x86_64_model.proofs.Lemmas.Walks.Windows.{windows_reach}
-use Rattle.x86_64_tables.specs.ActiveMemory.{frame_at, walked_frame, walked_table}
+use Rattle.x86_64_tables.specs.ActiveMemory.{frame_walked_to, walked_frame, walked_table}
 use Rattle.x86_64_tables.specs.SelfEntries.{has_self_entry, window_at}
 use Rattle.x86_64_mappers.specs.Reached.{IsReached}
 use Rattle.x86_64_mappers.specs.Recursive.{recursive_at}
@@ -67,7 +67,7 @@ windows_show_tables levels r times path p some aligned is T root frame found way
     let there = present_there T root r self.is_present in
     let walk = windows_reach levels some T root (window_at T root r) there.0 there.1 self times path frame way p is in
     let root_aligned = ap (λ f. f % 4096) (sym self.names_root) ∙ address_aligned (word T root r) in
-    ap (option_and_then frame_at) walk.2
+    ap (option_and_then frame_walked_to) walk.2
     ∙ arrived (frame + p % span 1) frame (ap (λ o. frame + o) aligned ∙ omega arith) (leads_aligned T path root frame root_aligned way)
 
 -- ---- the page of a window

@@ -9,7 +9,7 @@ use Rattle.x86_64_model.specs.Mapper.{◌laid_in◌, Hierarchy, KeepsOthers, Val
 use Rattle.x86_64_model.specs.Memory.{Memory, word}
 use Rattle.x86_64_model.specs.Path.{AllBelow, span_start}
 use Rattle.x86_64_model.specs.PathMap.{PathMap, entry, put, table_at}
-use Rattle.x86_64_model.specs.Pool.{IsTable, given_back}
+use Rattle.x86_64_model.specs.Pool.{IsTable, with_returned}
 use Rattle.x86_64_model.specs.Store.{Store}
 use Rattle.x86_64_model.specs.Window.{begins_with}
 use Rattle.x86_64_mappers.specs.CleanUps.{CleansUpInto}
@@ -18,8 +18,8 @@ use Rattle.x86_64_mappers.specs.CleanUps.{CleansUpInto}
 
 -- The position (an address counted without the non-canonical gap) of the last byte of the 4KiB page with a path, with L levels of
 -- tables.
-abbrev pub span_end : (L : ℕ) → List ℕ → ℕ
-span_end L q = span_start L q + 0xfff
+abbrev pub last_position : (L : ℕ) → List ℕ → ℕ
+last_position L q = span_start L q + 0xfff
 
 -- These are the paths of the first and of the last 4KiB page of a range that isn't empty, with L levels of tables.
 pub record IsPageRange (L : ℕ) (first last : List ℕ) : Type 0 where
@@ -27,7 +27,7 @@ pub record IsPageRange (L : ℕ) (first last : List ℕ) : Type 0 where
   pub last_long : length last ≡ L
   pub first_below : AllBelow first
   pub last_below : AllBelow last
-  pub in_order : span_start L first ≤ span_end L last
+  pub in_order : span_start L first ≤ last_position L last
 
 -- ---- where it is
 
@@ -47,7 +47,7 @@ pub record IsVisited (l : Layout) (m : Memory) (low high : ℕ) (path : List ℕ
 pub record IsCleaned (l : Layout) (take_back : List ℕ → ℕ → List ℕ) (m : Memory) (held : List ℕ) (N : PathMap) (back : List ℕ) (n : Memory) (rest : List ℕ) : Type 0 where
   pub meant : paths (l laid_in n) ≡ N
   pub valid : Valid (l laid_in n)
-  pub given : rest ≡ given_back take_back held back
+  pub given : rest ≡ with_returned take_back held back
   pub left : (q : List ℕ) (f : ℕ) → table_at l.levels l.root (paths (l laid_in n)) q ≡ Some f → table_at l.levels l.root (paths (l laid_in m)) q ≡ Some f
   pub were : (f : ℕ) → In back f → IsTable l.levels l.root (paths (l laid_in m)) f
   pub gone : (f : ℕ) → In back f → IsTable l.levels l.root (paths (l laid_in n)) f → ⊥
@@ -76,26 +76,26 @@ pub record IsCleanedAt (l : Layout) (take_back : List ℕ → ℕ → List ℕ) 
 
 -- A clean up of the pages from a first to a last one, given by their paths, is at the table in the frame, to which the path leads.
 abbrev pub VisitsTable : {Lent : Type 0} → Hierarchy Lent → (first last path : List ℕ) → (frame : ℕ) → Type 0
-VisitsTable h first last path frame = IsVisited h.layout h.memory (span_start h.layout.levels first) (span_end h.layout.levels last) path frame
+VisitsTable h first last path frame = IsVisited h.layout h.memory (span_start h.layout.levels first) (last_position h.layout.levels last) path frame
 
 -- The span of the entry at the path meets the pages from a first to a last one, given by their paths.
 abbrev pub MeetsPages : {Lent : Type 0} → Hierarchy Lent → (first last path : List ℕ) → Type 0
-MeetsPages h first last path = meets h.layout.levels (span_start h.layout.levels first) (span_end h.layout.levels last) path ≡ true
+MeetsPages h first last path = meets h.layout.levels (span_start h.layout.levels first) (last_position h.layout.levels last) path ≡ true
 
 -- The tables below the table that the path leads to were cleaned up for the pages from a first to a last one, given by their paths.
 -- The store is `rest` then, and serves the same frames.
 pub record CleansBelow {Lent : Type 0} (h : Hierarchy Lent) (store : Store) (first last path : List ℕ) (after : Hierarchy Lent) (rest : Store) : Type 0 where
-  pub below : IsCleaned h.layout store.take_back h.memory store.frames (cleaned_below h.layout.levels (paths h) (span_start h.layout.levels first) (span_end h.layout.levels last) path)
-      (back_below h.layout.levels (paths h) (span_start h.layout.levels first) (span_end h.layout.levels last) path) after.memory rest.frames
+  pub below : IsCleaned h.layout store.take_back h.memory store.frames (cleaned_below h.layout.levels (paths h) (span_start h.layout.levels first) (last_position h.layout.levels last) path)
+      (back_below h.layout.levels (paths h) (span_start h.layout.levels first) (last_position h.layout.levels last) path) after.memory rest.frames
   pub serves : rest.serves ≡ store.serves
 
 -- The entry at the path, with all tables below it, was cleaned up for the pages from a first to a last one, given by their paths.
 -- The store is `rest` then, and serves the same frames.
 pub record CleansEntry {Lent : Type 0} (h : Hierarchy Lent) (store : Store) (first last path : List ℕ) (after : Hierarchy Lent) (rest : Store) : Type 0 where
-  pub cleaned : IsCleanedAt h.layout store.take_back h.memory store.frames (span_start h.layout.levels first) (span_end h.layout.levels last) path after.memory rest.frames
+  pub cleaned : IsCleanedAt h.layout store.take_back h.memory store.frames (span_start h.layout.levels first) (last_position h.layout.levels last) path after.memory rest.frames
   pub serves : rest.serves ≡ store.serves
 
 -- The hierarchy was cleaned up for the pages from a first to a last one, given by their paths, and is `after` then. The frames of
 -- the removed tables were returned to the store, which is `rest` then.
 abbrev pub CleansUpPages : {Lent : Type 0} → Hierarchy Lent → Store → (first last : List ℕ) → (after : Hierarchy Lent) → (rest : Store) → Type 0
-CleansUpPages h store first last after rest = CleansUpInto h store (span_start h.layout.levels first) (span_end h.layout.levels last) after rest
+CleansUpPages h store first last after rest = CleansUpInto h store (span_start h.layout.levels first) (last_position h.layout.levels last) after rest

@@ -17,8 +17,8 @@ abbrev pub leaf_frame : (level entry : ℕ) → Result ℕ Refusal
 leaf_frame level e = leaf_by (present e) (level == 1) (huge e) (address e % span level == 0) (address e)
 
 -- Whether an entry maps a page of a level: it is used, and huge above level one.
-abbrev pub maps_page : (level entry : ℕ) → Bool
-maps_page level e = used e && ((level == 1) || huge e)
+abbrev pub is_page_entry : (level entry : ℕ) → Bool
+is_page_entry level e = used e && ((level == 1) || huge e)
 
 -- The frame or the refusal of a page's translation by the page's entry: whether the entry is used, it maps a page of its level, and
 -- its address is a multiple of the page's size.
@@ -27,4 +27,4 @@ named_by u maps aligned a = cond (not u) (Err PageNotMapped) (cond (maps && alig
 
 -- The frame that the entry of a page of a level names, present or not, or the reason why it names none.
 abbrev pub named_frame : (level entry : ℕ) → Result ℕ Refusal
-named_frame level e = named_by (used e) (maps_page level e) (address e % span level == 0) (address e)
+named_frame level e = named_by (used e) (is_page_entry level e) (address e % span level == 0) (address e)

@@ -7,7 +7,7 @@ use Rattle.x86_64_model.specs.Mapper.{◌laid_in◌, words}
 use Rattle.x86_64_model.specs.Memory.{Memory, Places, Words}
 use Rattle.x86_64_model.specs.Window.{Window}
 use Rattle.x86_64_mappers.specs.Reached.{IsReached}
-use Rattle.x86_64_mappers.specs.private.Writes.{IsThere, IsSet, IsCleared}
+use Rattle.x86_64_mappers.specs.private.Writes.{IsThere, IsSet, IsZeroed}
 
 -- Word i of the table in the frame f isn't the root's word at the recursive index.
 abbrev pub Beside : Option Window → (root f i : ℕ) → Type 0
@@ -35,5 +35,5 @@ pub record MayLink (l : Layout) (m : Memory) (path : List ℕ) (k f g flags : �
 -- Word i of the table in the frame f was set to w and the table in the frame g cleared, with the effect of clearing it first.
 pub record IsClearedFirst (places : Places) (m : Memory) (f i w g : ℕ) (n : Memory) : Type 0 where
   pub middle : Memory
-  pub is_cleared : IsCleared places m g middle
+  pub is_cleared : IsZeroed places m g middle
   pub is_set : IsSet places middle f i w n

@@ -9,17 +9,17 @@ use Rattle.x86_64_mappers.specs.private.Linked.{IsClearedFirst, MayLink}
 use Rattle.x86_64_mappers.specs.private.MapSteps.{IsDown}
 use Rattle.x86_64_mappers.specs.private.OpenWay.{IsOpenWay}
 use Rattle.x86_64_mappers.specs.private.Stops.{IsFound, StopsBelow}
-use Rattle.x86_64_mappers.specs.private.Writes.{IsSet, IsMade, IsLeafSet}
+use Rattle.x86_64_mappers.specs.private.Writes.{IsSet, IsTableMade, IsLeafSet}
 
 -- The path of a page's parents leads through present table entries of the hierarchy to the table in the frame of the result, or the
 -- first parent that isn't one refuses the page for the reason in the result.
-abbrev pub Finds : {Lent : Type 0} → Hierarchy Lent → (parents : List ℕ) → Result ℕ Refusal → Type 0
-Finds h path found = IsFound h.layout h.memory path found
+abbrev pub FindsTable : {Lent : Type 0} → Hierarchy Lent → (parents : List ℕ) → Result ℕ Refusal → Type 0
+FindsTable h path found = IsFound h.layout h.memory path found
 
 -- The first entry on a path of the hierarchy that isn't a present table entry, the one at the path's end included, refuses each
 -- page below the path for this reason.
-abbrev pub StopsAt : {Lent : Type 0} → Hierarchy Lent → (path : List ℕ) → Refusal → Type 0
-StopsAt h path why = StopsBelow h.layout h.memory path why
+abbrev pub RefusesBelow : {Lent : Type 0} → Hierarchy Lent → (path : List ℕ) → Refusal → Type 0
+RefusesBelow h path why = StopsBelow h.layout h.memory path why
 
 -- Word i of the table in a frame of the hierarchy was set to w.
 abbrev pub SetsWord : {Lent : Type 0} → Hierarchy Lent → (frame i w : ℕ) → (after : Hierarchy Lent) → Type 0
@@ -33,7 +33,7 @@ LinksTable h f i w g after = IsClearedFirst h.layout.places h.memory f i w g aft
 -- Word i of the table in a frame of the hierarchy names a table, created from the supply if it was missing, or the step was
 -- refused. The supply is `rest` then, and serves the same frames.
 pub record MakesTable {Lent : Type 0} (h : Hierarchy Lent) (supply : Supply) (parent_flags frame i : ℕ) (made : Result ℕ Refusal) (after : Hierarchy Lent) (rest : Supply) : Type 0 where
-  pub is : IsMade h.layout.places parent_flags h.layout.added_flags h.memory supply.frames frame i made after.memory rest.frames
+  pub is : IsTableMade h.layout.places parent_flags h.layout.added_flags h.memory supply.frames frame i made after.memory rest.frames
   pub serves : rest.serves ≡ supply.serves
 
 -- The tables along the parents of a page exist now in the hierarchy, created from the supply if they were missing, or the way down

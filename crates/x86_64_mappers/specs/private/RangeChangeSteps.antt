@@ -17,9 +17,9 @@ use Rattle.x86_64_mappers.specs.private.Stops.{IsFound}
 
 -- The words of a table after one call on each of n entries, from index i on. The function `says` tells an entry's new word and the
 -- frame in the answer, or the refusal, by its old word.
-abbrev pub with_words : (says : ℕ → Result (ℕ × ℕ) Refusal) → (i : ℕ) → List ℕ → (n : ℕ) → List ℕ
-with_words says i t zero = t
-with_words says i t (suc n) = set (with_words says i t n) (i + n) (word_said (get_or t (i + n) 0) (says (get_or t (i + n) 0)))
+abbrev pub with_results : (says : ℕ → Result (ℕ × ℕ) Refusal) → (i : ℕ) → List ℕ → (n : ℕ) → List ℕ
+with_results says i t zero = t
+with_results says i t (suc n) = set (with_results says i t n) (i + n) (word_said (get_or t (i + n) 0) (says (get_or t (i + n) 0)))
 
 -- The replies of one call on each of n entries of a table, from index i on, by the table's words before. The function `says` tells
 -- an entry's new word and the frame in the answer, or the refusal, by its old word.
@@ -39,7 +39,7 @@ pub record AreChanged (l : Layout) (m : Memory) (parents : List ℕ) (says : ℕ
   pub table : List ℕ
   pub is : words_of m l.places frame ≡ Some table
   pub long : length table ≡ 512
-  pub put : n ≡ insert m (l.places.place frame) (with_words says i table count)
+  pub put : n ≡ insert m (l.places.place frame) (with_results says i table count)
   pub replies : answers ≡ replies_said says i table count
 
 -- The path of the table with the entry at a path: all indices but the last.

@@ -64,7 +64,7 @@ pub record MapsPart {Lent : Type 0} (h : Hierarchy Lent) (supply : Supply) (pare
 -- What the maps of the first `count` pages of a range, one after another, leave in a memory, with the rest of the supply. Each does
 -- what a single map does, and replies and state are the machine's. Each page walk that arrived still arrives at the same address,
 -- loses no right, and gains only rights that the parent flags grant.
-pub record IsRun (l : Layout) (m : Memory) (s : List ℕ) (r : MapRange) (count : ℕ) (answers : List Reply) (n : Memory) (rest : List ℕ) : Type 0 where
+pub record IsRangeRun (l : Layout) (m : Memory) (s : List ℕ) (r : MapRange) (count : ℕ) (answers : List Reply) (n : Memory) (rest : List ℕ) : Type 0 where
   pub replies : (take_back : List ℕ → ℕ → List ℕ) → replies_of (machine_of l take_back) (state_in l m s) (maps l.levels r count) ≡ answers
   pub state : (take_back : List ℕ → ℕ → List ℕ) → state_after (machine_of l take_back) (state_in l m s) (maps l.levels r count) ≡ state_in l n rest
   pub owned : KeepsOwned l m s n rest

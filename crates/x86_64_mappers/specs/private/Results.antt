@@ -2,7 +2,7 @@
 use Rattle.std.specs.Prelude.{Result, Ok, Err}
 use Rattle.x86_64_model.specs.Refusal.{Refusal}
 use Rattle.x86_64_model.specs.Refusal as refusal
-use Rattle.x86_64_tables.specs.MapperAnswers.{unmap_refusal, translate_refusal}
+use Rattle.x86_64_tables.specs.MapperAnswers.{refusal_of_unmap, refusal_of_translate}
 use Rattle.x86_64_tables.specs.declared.mapper.UnmapError.{UnmapError}
 use Rattle.x86_64_tables.specs.declared.mapper.TranslateError.{TranslateError}
 use Rattle.x86_64_mappers.specs.declared.access.find.PageTableWalkError.{PageTableWalkError}
@@ -32,11 +32,11 @@ walk_result (Ok x) = Ok x
 walk_result (Err why) = Err (walk_refusal why)
 
 -- The result of a step of a page's translation, with the refusal in place of the Rust error.
-abbrev pub translate_result : {X : Type 0} → Result X TranslateError → Result X Refusal
-translate_result (Ok x) = Ok x
-translate_result (Err why) = Err (translate_refusal why)
+abbrev pub translation_answer : {X : Type 0} → Result X TranslateError → Result X Refusal
+translation_answer (Ok x) = Ok x
+translation_answer (Err why) = Err (refusal_of_translate why)
 
 -- The result of a step of an unmap, with the refusal in place of the Rust error.
 abbrev pub unmap_result : {X : Type 0} → Result X UnmapError → Result X Refusal
 unmap_result (Ok x) = Ok x
-unmap_result (Err why) = Err (unmap_refusal why)
+unmap_result (Err why) = Err (refusal_of_unmap why)

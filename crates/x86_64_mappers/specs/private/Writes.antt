@@ -22,12 +22,12 @@ pub record IsSet (places : Places) (m : Memory) (f i w : ℕ) (n : Memory) : Typ
   pub after : n ≡ insert m (places.place f) (set table i w)
 
 -- All words of the table in the frame f were set to 0, which led from the memory m to n.
-pub record IsCleared (places : Places) (m : Memory) (f : ℕ) (n : Memory) : Type 0 where
+pub record IsZeroed (places : Places) (m : Memory) (f : ℕ) (n : Memory) : Type 0 where
   pub there : IsThere places m f
   pub after : n ≡ insert m (places.place f) zero_words
 
 -- Flags were added to word i of the table in the frame f, which is used. This led from the memory m to n.
-pub record IsMarked (places : Places) (m : Memory) (f i more : ℕ) (n : Memory) : Type 0 where
+pub record IsEntryMarked (places : Places) (m : Memory) (f i more : ℕ) (n : Memory) : Type 0 where
   pub is_used : used (word_in_frame places m f i) ≡ true
   pub is_set : IsSet places m f i (bit_or (word_in_frame places m f i) more) n
 
@@ -37,21 +37,21 @@ pub record IsTaken (places : Places) (m : Memory) (s : List ℕ) (f i flags g : 
   pub is_unused : used (word_in_frame places m f i) ≡ false
   pub first : s ≡ g ∷ rest
   pub middle : Memory
-  pub is_cleared : IsCleared places m g middle
+  pub is_cleared : IsZeroed places m g middle
   pub is_set : IsSet places middle f i (bit_or g flags) n
 
 -- By the result of a map's step: word i of the table in the frame f names a table, which it named before or which was created in
 -- the first frame of the supply, or the step was refused. A used word gets the flags `more`, a new one `more` and `added`, and the
 -- rest of the supply is left.
-abbrev pub IsMade : Places → (more added : ℕ) → Memory → (supply : List ℕ) → (f i : ℕ) → Result ℕ Refusal → Memory → (rest : List ℕ) → Type 0
-IsMade places more added m s f i (Ok g) n rest =
-    (IsMarked places m f i more n × (huge (word_in_frame places m f i) ≡ false) × (g ≡ address (word_in_frame places m f i)) × (rest ≡ s))
+abbrev pub IsTableMade : Places → (more added : ℕ) → Memory → (supply : List ℕ) → (f i : ℕ) → Result ℕ Refusal → Memory → (rest : List ℕ) → Type 0
+IsTableMade places more added m s f i (Ok g) n rest =
+    (IsEntryMarked places m f i more n × (huge (word_in_frame places m f i) ≡ false) × (g ≡ address (word_in_frame places m f i)) × (rest ≡ s))
     ⊎ IsTaken places m s f i (bit_or more added) g n rest
-IsMade places more added m s f i (Err ParentEntryHugePage) n rest = IsMarked places m f i more n × (huge (word_in_frame places m f i) ≡ true) × (rest ≡ s)
-IsMade places more added m s f i (Err FrameAllocationFailed) n rest = (used (word_in_frame places m f i) ≡ false) × (s ≡ []) × (n ≡ m) × (rest ≡ [])
-IsMade places more added m s f i (Err PageNotMapped) n rest = ⊥
-IsMade places more added m s f i (Err (InvalidFrameAddress a)) n rest = ⊥
-IsMade places more added m s f i (Err (PageAlreadyMapped g)) n rest = ⊥
+IsTableMade places more added m s f i (Err ParentEntryHugePage) n rest = IsEntryMarked places m f i more n × (huge (word_in_frame places m f i) ≡ true) × (rest ≡ s)
+IsTableMade places more added m s f i (Err FrameAllocationFailed) n rest = (used (word_in_frame places m f i) ≡ false) × (s ≡ []) × (n ≡ m) × (rest ≡ [])
+IsTableMade places more added m s f i (Err PageNotMapped) n rest = ⊥
+IsTableMade places more added m s f i (Err (InvalidFrameAddress a)) n rest = ⊥
+IsTableMade places more added m s f i (Err (PageAlreadyMapped g)) n rest = ⊥
 
 -- The unused word i of the table in the frame f became the entry w of a page, or the word is used, nothing changed and the map to
 -- the given frame was refused.

@@ -2,7 +2,7 @@
 ghost use Rattle.std.specs.Prelude.{◌≡◌, ◌<◌, ◌≤◌, ◌+◌, length};
 ghost use Rattle.std.specs.Fn.{FnOnceReturnsAtMut};
 ghost use Rattle.x86_64_model.specs.Call.{Unmap, UpdateFlags, SetFlags};
-ghost use Rattle.x86_64_model.specs.Mapper.{Valid, May, Does};
+ghost use Rattle.x86_64_model.specs.Mapper.{Valid, MayCall, Does};
 ghost use Rattle.x86_64_model.specs.Refusal.{refusal_of};
 ghost use Rattle.x86_64_mappers.specs.private.EntryCalls.{answer_said, word_said};
 ghost use Rattle.x86_64_mappers.specs.private.PageCalls.{unmap_says, update_says};
@@ -32,7 +32,7 @@ pub fn unmap_path<S: PageSize, M: TableAccess>(
     path: &[PageTableIndex],
 ) -> Result<PhysFrame<S>, UnmapError>
     requires levels { length path.now + S.LEVEL ≡ (M.hierarchy mapper.old).layout.levels + 1 }
-    requires may { May (M.hierarchy mapper.old) (Unmap path.now) }
+    requires may { MayCall (M.hierarchy mapper.old) (Unmap path.now) }
     ensures { Does (M.hierarchy mapper.old) (Unmap path.now) (frame_answer result) (M.hierarchy mapper.new) }
 {
     change_entry(mapper, path, |entry| unmap_entry(entry))?
@@ -49,7 +49,7 @@ pub fn update_path<S: PageSize, M: TableAccess>(
     flags: PageTableFlags,
 ) -> Result<(), FlagUpdateError>
     requires levels { length path.now + S.LEVEL ≡ (M.hierarchy mapper.old).layout.levels + 1 }
-    requires may { May (M.hierarchy mapper.old) (UpdateFlags path.now (bits_of flags)) }
+    requires may { MayCall (M.hierarchy mapper.old) (UpdateFlags path.now (bits_of flags)) }
     ensures { DoesFlags (M.hierarchy mapper.old) (UpdateFlags path.now (bits_of flags)) result
         (M.hierarchy mapper.new) }
 {
@@ -71,7 +71,7 @@ pub fn set_table_flags<S: PageSize, M: TableAccess>(
     requires levels { length path.now + S.LEVEL ≡ (M.hierarchy mapper.old).layout.levels + 1 }
     requires low { 2 ≤ level }
     requires high { level ≤ (M.hierarchy mapper.old).layout.levels }
-    requires may { May (M.hierarchy mapper.old) (SetFlags level path.now (bits_of flags)) }
+    requires may { MayCall (M.hierarchy mapper.old) (SetFlags level path.now (bits_of flags)) }
     ensures { DoesFlags (M.hierarchy mapper.old) (SetFlags level path.now (bits_of flags)) result
         (M.hierarchy mapper.new) }
 {

@@ -7,9 +7,9 @@ ghost use Rattle.x86_64_model.specs.Path.{AllBelow, begins, span_start};
 ghost use Rattle.x86_64_model.specs.Position.{position_count};
 ghost use Rattle.x86_64_model.specs.Window.{begins_with};
 ghost use Rattle.x86_64_mappers.specs.private.CleaningUp.{IsPageRange, VisitsTable, MeetsPages, CleansBelow, CleansEntry, CleansUpPages};
-ghost use Rattle.x86_64_mappers.specs.private.Stops.{names_table};
-ghost use Rattle.x86_64_mappers.specs.Reached.{Reaches};
-ghost use Rattle.x86_64_mappers.specs.CleanUps.{store_of, MayCleanUpInto, CleansUpInto};
+ghost use Rattle.x86_64_mappers.specs.private.Stops.{leads_to_table};
+ghost use Rattle.x86_64_mappers.specs.Reached.{PathReaches};
+ghost use Rattle.x86_64_mappers.specs.CleanUps.{deallocator_store, MayCleanUpInto, CleansUpInto};
 
 use super::find::next_table;
 use super::path::{MOST_LEVELS, path_of_address};
@@ -50,10 +50,10 @@ pub fn clean_up_range<M: TableAccess + TablesIn<L>, L: LevelCount, D: FrameDeall
     range: BlockRangeInclusive<PageIn<Size4KiB, L>>,
     frame_deallocator: &mut D,
 )
-    requires { MayCleanUpInto (M.hierarchy mapper.old) (store_of D.FrameDeallocator frame_deallocator.old) }
-    ensures { CleansUpInto (M.hierarchy mapper.old) (store_of D.FrameDeallocator frame_deallocator.old)
+    requires { MayCleanUpInto (M.hierarchy mapper.old) (deallocator_store D.FrameDeallocator frame_deallocator.old) }
+    ensures { CleansUpInto (M.hierarchy mapper.old) (deallocator_store D.FrameDeallocator frame_deallocator.old)
         range.start (range.end + 0xfff)
-        (M.hierarchy mapper.new) (store_of D.FrameDeallocator frame_deallocator.new) }
+        (M.hierarchy mapper.new) (deallocator_store D.FrameDeallocator frame_deallocator.new) }
 {
     let first = path_of_address(mapper, range.start.start_address());
     let last = path_of_address(mapper, range.end.start_address());
@@ -71,9 +71,9 @@ fn clean_up_paths<M: TableAccess, D: FrameDeallocator<Size4KiB>>(
     requires first { length first.now ≡ (M.hierarchy mapper.old).layout.levels }
     requires last { length last.now ≡ (M.hierarchy mapper.old).layout.levels }
     requires may { MayCleanUpInto (M.hierarchy mapper.old)
-        (store_of D.FrameDeallocator frame_deallocator.old) }
-    ensures { CleansUpPages (M.hierarchy mapper.old) (store_of D.FrameDeallocator frame_deallocator.old)
-        first.now last.now (M.hierarchy mapper.new) (store_of D.FrameDeallocator frame_deallocator.new) }
+        (deallocator_store D.FrameDeallocator frame_deallocator.old) }
+    ensures { CleansUpPages (M.hierarchy mapper.old) (deallocator_store D.FrameDeallocator frame_deallocator.old)
+        first.now last.now (M.hierarchy mapper.new) (deallocator_store D.FrameDeallocator frame_deallocator.new) }
 {
     if page_number(last) < page_number(first) {
         return;
@@ -99,14 +99,14 @@ fn clean_up_table<M: TableAccess, D: FrameDeallocator<Size4KiB>>(
 )
     requires short { length path.now < (M.hierarchy mapper.old).layout.levels }
     requires may { MayCleanUpInto (M.hierarchy mapper.old)
-        (store_of D.FrameDeallocator frame_deallocator.old) }
+        (deallocator_store D.FrameDeallocator frame_deallocator.old) }
     requires range { IsPageRange (M.hierarchy mapper.old).layout.levels
         range.now.first.now range.now.last.now }
     requires visited { VisitsTable (M.hierarchy mapper.old)
         range.now.first.now range.now.last.now path.now table }
-    ensures cleaned { CleansBelow (M.hierarchy mapper.old) (store_of D.FrameDeallocator frame_deallocator.old)
+    ensures cleaned { CleansBelow (M.hierarchy mapper.old) (deallocator_store D.FrameDeallocator frame_deallocator.old)
         range.now.first.now range.now.last.now path.now
-        (M.hierarchy mapper.new) (store_of D.FrameDeallocator frame_deallocator.new) }
+        (M.hierarchy mapper.new) (deallocator_store D.FrameDeallocator frame_deallocator.new) }
     ensures layout { (M.hierarchy mapper.new).layout ≡ (M.hierarchy mapper.old).layout }
     ensures lent { (M.hierarchy mapper.new).lent ≡ (M.hierarchy mapper.old).lent }
 {
@@ -131,14 +131,14 @@ fn next_named<M: TableAccess>(
     from: u16,
     last: u16,
 ) -> u16
-    requires reached { Reaches (M.hierarchy mapper.now) path.now frame }
+    requires reached { PathReaches (M.hierarchy mapper.now) path.now frame }
     requires short { length path.now < (M.hierarchy mapper.now).layout.levels }
     requires last { last < 512 }
     ensures from { result ≤ last → from ≤ result }
     ensures last { result ≤ last + 1 }
     ensures passed { (i : ℕ) → from ≤ i → i < result
-        → names_table (word (words (M.hierarchy mapper.now)) frame i) ≡ false }
-    ensures named { result ≤ last → names_table (word (words (M.hierarchy mapper.now)) frame result) ≡ true }
+        → leads_to_table (word (words (M.hierarchy mapper.now)) frame i) ≡ false }
+    ensures named { result ≤ last → leads_to_table (word (words (M.hierarchy mapper.now)) frame result) ≡ true }
 {
     let table = mapper.table(path, frame);
     for index in from..last + 1 {
@@ -164,16 +164,16 @@ fn clean_up_entry<M: TableAccess, D: FrameDeallocator<Size4KiB>>(
 )
     requires short { length path.now + 1 < (M.hierarchy mapper.old).layout.levels }
     requires may { MayCleanUpInto (M.hierarchy mapper.old)
-        (store_of D.FrameDeallocator frame_deallocator.old) }
+        (deallocator_store D.FrameDeallocator frame_deallocator.old) }
     requires range { IsPageRange (M.hierarchy mapper.old).layout.levels
         range.now.first.now range.now.last.now }
     requires visited { VisitsTable (M.hierarchy mapper.old)
         range.now.first.now range.now.last.now path.now table }
     requires meets { MeetsPages (M.hierarchy mapper.old)
         range.now.first.now range.now.last.now (path.now ++ index ∷ []) }
-    ensures cleaned { CleansEntry (M.hierarchy mapper.old) (store_of D.FrameDeallocator frame_deallocator.old)
+    ensures cleaned { CleansEntry (M.hierarchy mapper.old) (deallocator_store D.FrameDeallocator frame_deallocator.old)
         range.now.first.now range.now.last.now (path.now ++ index ∷ [])
-        (M.hierarchy mapper.new) (store_of D.FrameDeallocator frame_deallocator.new) }
+        (M.hierarchy mapper.new) (deallocator_store D.FrameDeallocator frame_deallocator.new) }
     ensures layout { (M.hierarchy mapper.new).layout ≡ (M.hierarchy mapper.old).layout }
     ensures lent { (M.hierarchy mapper.new).lent ≡ (M.hierarchy mapper.old).lent }
 {

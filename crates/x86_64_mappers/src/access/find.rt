@@ -2,11 +2,11 @@
 ghost use Rattle.std.specs.Prelude.{◌≡◌, ◌<◌, ◌≤◌, ◌+◌, ◌-◌, length, take, Ok, IfOk, IfErr};
 ghost use Rattle.x86_64_model.specs.Memory.{word};
 ghost use Rattle.x86_64_model.specs.Mapper.{Valid, words};
-ghost use Rattle.x86_64_mappers.specs.private.OwnedSteps.{Finds, StopsAt};
-ghost use Rattle.x86_64_mappers.specs.Reached.{Reaches};
+ghost use Rattle.x86_64_mappers.specs.private.OwnedSteps.{FindsTable, RefusesBelow};
+ghost use Rattle.x86_64_mappers.specs.Reached.{PathReaches};
 ghost use Rattle.x86_64_mappers.specs.private.Results.{walk_refusal, walk_result};
 ghost use Rattle.x86_64_mappers.specs.private.Stops.{table_below};
-ghost use Rattle.x86_64_tables.specs.MapperAnswers.{unmap_refusal, update_refusal, translate_refusal};
+ghost use Rattle.x86_64_tables.specs.MapperAnswers.{refusal_of_unmap, refusal_of_update, refusal_of_translate};
 
 use super::{TableAccess, entry};
 use x86_64_addr::index::PageTableIndex;
@@ -25,7 +25,7 @@ pub enum PageTableWalkError {
 }
 
 impl From<PageTableWalkError> for UnmapError {
-    ghost from_gives = { λ error gives. unmap_refusal gives ≡ walk_refusal error };
+    ghost from_gives = { λ error gives. refusal_of_unmap gives ≡ walk_refusal error };
 
     fn from(error: PageTableWalkError) -> UnmapError {
         match error {
@@ -36,7 +36,7 @@ impl From<PageTableWalkError> for UnmapError {
 }
 
 impl From<PageTableWalkError> for FlagUpdateError {
-    ghost from_gives = { λ error gives. update_refusal gives ≡ walk_refusal error };
+    ghost from_gives = { λ error gives. refusal_of_update gives ≡ walk_refusal error };
 
     fn from(error: PageTableWalkError) -> FlagUpdateError {
         match error {
@@ -47,7 +47,7 @@ impl From<PageTableWalkError> for FlagUpdateError {
 }
 
 impl From<PageTableWalkError> for TranslateError {
-    ghost from_gives = { λ error gives. translate_refusal gives ≡ walk_refusal error };
+    ghost from_gives = { λ error gives. refusal_of_translate gives ≡ walk_refusal error };
 
     fn from(error: PageTableWalkError) -> TranslateError {
         match error {
@@ -68,7 +68,7 @@ pub fn next_table<M: TableAccess>(
     table: PhysFrame<Size4KiB>,
     index: PageTableIndex,
 ) -> Result<PhysFrame<Size4KiB>, PageTableWalkError>
-    requires reached { Reaches (M.hierarchy mapper.now) path.now table }
+    requires reached { PathReaches (M.hierarchy mapper.now) path.now table }
     requires short { length path.now < (M.hierarchy mapper.now).layout.levels }
     ensures below { walk_result result ≡ table_below (word (words (M.hierarchy mapper.now)) table index) }
     ensures index { index < 512 }
@@ -103,10 +103,10 @@ pub fn walk_to_table<M: TableAccess>(
 ) -> Result<PhysFrame<Size4KiB>, WalkEnd>
     requires valid { Valid (M.hierarchy mapper.now) }
     requires short { length parents.now < (M.hierarchy mapper.now).layout.levels }
-    ensures found { IfOk result (λ table. Finds (M.hierarchy mapper.now) parents.now (Ok table)) }
-    ensures reached { IfOk result (λ table. Reaches (M.hierarchy mapper.now) parents.now table) }
+    ensures found { IfOk result (λ table. FindsTable (M.hierarchy mapper.now) parents.now (Ok table)) }
+    ensures reached { IfOk result (λ table. PathReaches (M.hierarchy mapper.now) parents.now table) }
     ensures ends { IfErr result (λ end.
-        StopsAt (M.hierarchy mapper.now) (take end.depth parents.now) (walk_refusal end.why)) }
+        RefusesBelow (M.hierarchy mapper.now) (take end.depth parents.now) (walk_refusal end.why)) }
     ensures depth { IfErr result (λ end. (0 < end.depth) × (end.depth ≤ length parents.now)) }
 {
     let mut table = mapper.root();
@@ -131,8 +131,8 @@ pub fn find_table<M: TableAccess>(
 ) -> Result<PhysFrame<Size4KiB>, PageTableWalkError>
     requires valid { Valid (M.hierarchy mapper.now) }
     requires short { length parents.now < (M.hierarchy mapper.now).layout.levels }
-    ensures found { Finds (M.hierarchy mapper.now) parents.now (walk_result result) }
-    ensures reached { IfOk result (λ table. Reaches (M.hierarchy mapper.now) parents.now table) }
+    ensures found { FindsTable (M.hierarchy mapper.now) parents.now (walk_result result) }
+    ensures reached { IfOk result (λ table. PathReaches (M.hierarchy mapper.now) parents.now table) }
 {
     match walk_to_table(mapper, parents) {
         Ok(table) => Ok(table),

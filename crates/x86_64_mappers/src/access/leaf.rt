@@ -1,7 +1,7 @@
 //! The meaning of the entries of pages.
 ghost use Rattle.std.specs.Prelude.{◌≡◌, ◌==◌, if◌then◌else◌, bit_or};
-ghost use Rattle.x86_64_mappers.specs.private.LeafFrames.{leaf_frame, maps_page, named_frame};
-ghost use Rattle.x86_64_mappers.specs.private.Results.{translate_result, unmap_result};
+ghost use Rattle.x86_64_mappers.specs.private.LeafFrames.{leaf_frame, is_page_entry, named_frame};
+ghost use Rattle.x86_64_mappers.specs.private.Results.{translation_answer, unmap_result};
 ghost use Rattle.x86_64_tables.specs.PageTableFlags.{bits_of};
 
 use bitflags::Flags;
@@ -37,7 +37,7 @@ pub fn leaf_frame<S: PageSize>(entry: &PageTableEntry) -> Result<PhysFrame<S>, U
 
 /// Returns true if an entry maps a page of this size: it is used, and has `HUGE_PAGE` for 2MiB and 1GiB.
 pub fn maps_page<S: PageSize>(entry: &PageTableEntry) -> bool
-    ensures { result ≡ maps_page S.LEVEL entry.now }
+    ensures { result ≡ is_page_entry S.LEVEL entry.now }
 {
     !entry.is_unused() && (S::LEVEL == 1 || entry.flags().contains(PageTableFlags::HUGE_PAGE))
 }
@@ -50,7 +50,7 @@ pub fn maps_page<S: PageSize>(entry: &PageTableEntry) -> bool
 /// - Otherwise `InvalidFrameAddress`, for 2MiB and 1GiB, if it lacks `HUGE_PAGE` or its address isn't a multiple of
 ///   the size.
 pub fn named_frame<S: PageSize>(entry: &PageTableEntry) -> Result<PhysFrame<S>, TranslateError>
-    ensures { translate_result result ≡ named_frame S.LEVEL entry.now }
+    ensures { translation_answer result ≡ named_frame S.LEVEL entry.now }
 {
     if entry.is_unused() {
         return Err(TranslateError::PageNotMapped);

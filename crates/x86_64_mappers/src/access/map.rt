@@ -8,7 +8,7 @@ ghost use Rattle.x86_64_model.specs.Window.{begins_with};
 ghost use Rattle.x86_64_mappers.specs.Supplies.{DoesMapFrom, supply_of};
 ghost use Rattle.x86_64_mappers.specs.private.OpenWay.{WillBePresent};
 ghost use Rattle.x86_64_mappers.specs.private.OwnedSteps.{LinksTable, MakesTable, MakesTables, SetsLeaf, SetsWord, LeadsOpenly, MayNameTable};
-ghost use Rattle.x86_64_mappers.specs.Reached.{Reaches};
+ghost use Rattle.x86_64_mappers.specs.Reached.{PathReaches};
 ghost use Rattle.x86_64_mappers.specs.private.PageCalls.{page_word};
 ghost use Rattle.x86_64_mappers.specs.private.Results.{create_refusal, create_result};
 ghost use Rattle.x86_64_tables.specs.MapperAnswers.{map_answer};
@@ -65,7 +65,7 @@ fn name_table<M: TableAccess>(
     requires may { MayNameTable (M.hierarchy mapper.old) parents.now k table frame (bits_of flags) }
     ensures named { SetsWord (M.hierarchy mapper.old) table (get_or parents.now k 0)
         (bit_or frame (bits_of flags)) (M.hierarchy mapper.new) }
-    ensures reached { Reaches (M.hierarchy mapper.new) (take (k + 1) parents.now) frame }
+    ensures reached { PathReaches (M.hierarchy mapper.new) (take (k + 1) parents.now) frame }
     ensures layout { (M.hierarchy mapper.new).layout ≡ (M.hierarchy mapper.old).layout }
     ensures lent { (M.hierarchy mapper.new).lent ≡ (M.hierarchy mapper.old).lent }
 {
@@ -199,7 +199,7 @@ pub(super) fn create_tables<M: TableAccess, A: FrameAllocator<Size4KiB>>(
     ensures made { MakesTables (M.hierarchy mapper.old) (supply_of A.FrameAllocator frame_allocator.old)
         (bits_of parent_flags) parents.now (create_result result)
         (M.hierarchy mapper.new) (supply_of A.FrameAllocator frame_allocator.new) }
-    ensures reached { IfOk result (λ frame. Reaches (M.hierarchy mapper.new) parents.now frame) }
+    ensures reached { IfOk result (λ frame. PathReaches (M.hierarchy mapper.new) parents.now frame) }
     ensures layout { (M.hierarchy mapper.new).layout ≡ (M.hierarchy mapper.old).layout }
     ensures lent { (M.hierarchy mapper.new).lent ≡ (M.hierarchy mapper.old).lent }
 {
@@ -224,7 +224,7 @@ fn set_leaf<S: PageSize, M: TableAccess>(
     frame: PhysFrame<S>,
     flags: PageTableFlags,
 ) -> Result<(), MapToError<S>>
-    requires reached { Reaches (M.hierarchy mapper.old) parents.now table }
+    requires reached { PathReaches (M.hierarchy mapper.old) parents.now table }
     requires short { length parents.now < (M.hierarchy mapper.old).layout.levels }
     ensures set { SetsLeaf (M.hierarchy mapper.old) table index
         (page_word S.LEVEL frame (bits_of flags)) frame (map_answer frame result) (M.hierarchy mapper.new) }

@@ -5,10 +5,10 @@ ghost use Rattle.x86_64_model.specs.Entry.{no_address};
 ghost use Rattle.x86_64_model.specs.Mapper.{Valid, path_of};
 ghost use Rattle.x86_64_model.specs.Position.{span};
 ghost use Rattle.x86_64_mappers.specs.RangeChanges.{frames_done, IsRange, UnmapsEach, UpdatesEach};
-ghost use Rattle.x86_64_mappers.specs.Reached.{Reaches};
-ghost use Rattle.x86_64_mappers.specs.private.OwnedSteps.{Finds};
+ghost use Rattle.x86_64_mappers.specs.Reached.{PathReaches};
+ghost use Rattle.x86_64_mappers.specs.private.OwnedSteps.{FindsTable};
 ghost use Rattle.x86_64_mappers.specs.private.PageCalls.{unmap_says, update_says};
-ghost use Rattle.x86_64_mappers.specs.private.RangeChangeSteps.{with_words, replies_said, count_unless, last_index, table_path, AreStopped, ChangesPart};
+ghost use Rattle.x86_64_mappers.specs.private.RangeChangeSteps.{with_results, replies_said, count_unless, last_index, table_path, AreStopped, ChangesPart};
 ghost use Rattle.x86_64_mappers.specs.private.Results.{walk_refusal};
 ghost use Rattle.x86_64_tables.specs.FlushRecorder.{flush_range};
 ghost use Rattle.x86_64_tables.specs.MapperAnswers.{frame_answer, flags_refusal};
@@ -78,9 +78,9 @@ fn find_part<S: PageSize, L: LevelCount, M: TableAccess + TablesIn<L>>(
     ensures some { 0 < result.pages }
     ensures within { result.pages ≤ count }
     ensures found { IfOk result.table (λ table.
-        Finds (M.hierarchy mapper.now) (table_path path.now) (Ok table)) }
+        FindsTable (M.hierarchy mapper.now) (table_path path.now) (Ok table)) }
     ensures reached { IfOk result.table (λ table.
-        Reaches (M.hierarchy mapper.now) (table_path path.now) table) }
+        PathReaches (M.hierarchy mapper.now) (table_path path.now) table) }
     ensures fits { IfOk result.table (λ _. last_index path.now + result.pages ≤ 512) }
     ensures refused { IfErr result.table (λ why.
         AreStopped (M.hierarchy mapper.now) S.LEVEL page result.pages (walk_refusal why)) }
@@ -116,7 +116,7 @@ fn unmap_entries<S: PageSize, K: FrameSink>(
     sink: &mut K,
 )
     requires { first + count ≤ 512 }
-    ensures words { table.new ≡ with_words (unmap_says S.LEVEL) first table.old count }
+    ensures words { table.new ≡ with_results (unmap_says S.LEVEL) first table.old count }
     ensures taken { sink.new ≡ fold K.with_frame sink.old
         (frames_done (replies_said (unmap_says S.LEVEL) first table.old count)) }
     ensures size { 0 < count → length table.old ≡ 512 }
@@ -206,7 +206,7 @@ fn update_entries<S: PageSize>(
     flags: PageTableFlags,
 ) -> u64
     requires { first + count ≤ 512 }
-    ensures words { table.new ≡ with_words (update_says S.LEVEL (bits_of flags)) first table.old count }
+    ensures words { table.new ≡ with_results (update_says S.LEVEL (bits_of flags)) first table.old count }
     ensures changed { result ≡ length (frames_done
         (replies_said (update_says S.LEVEL (bits_of flags)) first table.old count)) }
     ensures few { result ≤ count }

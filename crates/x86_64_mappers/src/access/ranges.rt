@@ -4,7 +4,7 @@ ghost use Rattle.x86_64_model.specs.Entry.{IsParentFlags};
 ghost use Rattle.x86_64_model.specs.Mapper.{SupplyFits, paths};
 ghost use Rattle.x86_64_model.specs.Window.{begins_with};
 ghost use Rattle.x86_64_mappers.specs.Ranges.{range_of, MayMapRange, MapsRange};
-ghost use Rattle.x86_64_mappers.specs.Reached.{Reaches};
+ghost use Rattle.x86_64_mappers.specs.Reached.{PathReaches};
 ghost use Rattle.x86_64_mappers.specs.Supplies.{supply_of};
 ghost use Rattle.x86_64_mappers.specs.private.OpenWay.{WillBePresent};
 ghost use Rattle.x86_64_mappers.specs.private.RangeSteps.{with_leaves, AreUnused, SetsLeaves, MapsPart};
@@ -84,7 +84,7 @@ fn set_leaves<S: PageSize, M: TableAccess>(
     frame: PhysFrame<S>,
     flags: PageTableFlags,
 ) -> usize
-    requires reached { Reaches (M.hierarchy mapper.old) parents.now table }
+    requires reached { PathReaches (M.hierarchy mapper.old) parents.now table }
     requires short { length parents.now < (M.hierarchy mapper.old).layout.levels }
     requires some { 0 < count }
     requires within { first + count ≤ 512 }

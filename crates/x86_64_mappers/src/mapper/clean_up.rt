@@ -10,7 +10,7 @@ use x86_64_tables::mapper::PageTables;
 ///
 /// A mapper gets these calls by an implementation of [`TableAccess`].
 pub trait CleanUp: TableAccess + PageTables {
-    ghost use Rattle.x86_64_mappers.specs.CleanUps.{store_of, MayCleanUpInto, CleansUpInto};
+    ghost use Rattle.x86_64_mappers.specs.CleanUps.{deallocator_store, MayCleanUpInto, CleansUpInto};
 
     /// Removes the empty tables of the whole address space, in both halves, and returns their frames to the
     /// deallocator, with all words 0.
@@ -23,10 +23,10 @@ pub trait CleanUp: TableAccess + PageTables {
     /// doesn't hold it.
     final fn clean_up<D: FrameDeallocator<Size4KiB>>(&mut self, frame_deallocator: &mut D)
         requires { MayCleanUpInto (Self.hierarchy self.old)
-            (store_of D.FrameDeallocator frame_deallocator.old) }
+            (deallocator_store D.FrameDeallocator frame_deallocator.old) }
         ensures { CleansUpInto (Self.hierarchy self.old)
-            (store_of D.FrameDeallocator frame_deallocator.old) 0 0xffff_ffff_ffff
-            (Self.hierarchy self.new) (store_of D.FrameDeallocator frame_deallocator.new) }
+            (deallocator_store D.FrameDeallocator frame_deallocator.old) 0 0xffff_ffff_ffff
+            (Self.hierarchy self.new) (deallocator_store D.FrameDeallocator frame_deallocator.new) }
     {
         calls::clean_up(self, frame_deallocator);
     }
@@ -46,10 +46,10 @@ pub trait CleanUp: TableAccess + PageTables {
         frame_deallocator: &mut D,
     )
         requires { MayCleanUpInto (Self.hierarchy self.old)
-            (store_of D.FrameDeallocator frame_deallocator.old) }
+            (deallocator_store D.FrameDeallocator frame_deallocator.old) }
         ensures { CleansUpInto (Self.hierarchy self.old)
-            (store_of D.FrameDeallocator frame_deallocator.old) range.start (range.end + 0xfff)
-            (Self.hierarchy self.new) (store_of D.FrameDeallocator frame_deallocator.new) }
+            (deallocator_store D.FrameDeallocator frame_deallocator.old) range.start (range.end + 0xfff)
+            (Self.hierarchy self.new) (deallocator_store D.FrameDeallocator frame_deallocator.new) }
     {
         calls::clean_up_range(self, range, frame_deallocator);
     }

@@ -11,7 +11,7 @@ use x86_64_tables::mapper::PageTables57;
 ///
 /// A mapper gets these calls by an implementation of [`TableAccess`].
 pub trait CleanUp57: TableAccess + PageTables57 {
-    ghost use Rattle.x86_64_mappers.specs.CleanUps.{store_of, MayCleanUpInto, CleansUpInto};
+    ghost use Rattle.x86_64_mappers.specs.CleanUps.{deallocator_store, MayCleanUpInto, CleansUpInto};
 
     /// Removes the empty tables of the whole address space, in both halves, and returns their frames to the
     /// deallocator, with all words 0.
@@ -24,10 +24,10 @@ pub trait CleanUp57: TableAccess + PageTables57 {
     /// doesn't hold it.
     final fn clean_up<D: FrameDeallocator<Size4KiB>>(&mut self, frame_deallocator: &mut D)
         requires { MayCleanUpInto (Self.hierarchy self.old)
-            (store_of D.FrameDeallocator frame_deallocator.old) }
+            (deallocator_store D.FrameDeallocator frame_deallocator.old) }
         ensures { CleansUpInto (Self.hierarchy self.old)
-            (store_of D.FrameDeallocator frame_deallocator.old) 0 0x1ff_ffff_ffff_ffff
-            (Self.hierarchy self.new) (store_of D.FrameDeallocator frame_deallocator.new) }
+            (deallocator_store D.FrameDeallocator frame_deallocator.old) 0 0x1ff_ffff_ffff_ffff
+            (Self.hierarchy self.new) (deallocator_store D.FrameDeallocator frame_deallocator.new) }
     {
         calls::clean_up(self, frame_deallocator);
     }
@@ -47,10 +47,10 @@ pub trait CleanUp57: TableAccess + PageTables57 {
         frame_deallocator: &mut D,
     )
         requires { MayCleanUpInto (Self.hierarchy self.old)
-            (store_of D.FrameDeallocator frame_deallocator.old) }
+            (deallocator_store D.FrameDeallocator frame_deallocator.old) }
         ensures { CleansUpInto (Self.hierarchy self.old)
-            (store_of D.FrameDeallocator frame_deallocator.old) range.start (range.end + 0xfff)
-            (Self.hierarchy self.new) (store_of D.FrameDeallocator frame_deallocator.new) }
+            (deallocator_store D.FrameDeallocator frame_deallocator.old) range.start (range.end + 0xfff)
+            (Self.hierarchy self.new) (deallocator_store D.FrameDeallocator frame_deallocator.new) }
     {
         calls::clean_up_range(self, range, frame_deallocator);
     }

@@ -73,7 +73,7 @@ impl<'a, L: LevelCount, T: TableMemory> WalkedTables<L> for Active<'a, L, T> {
     ghost use Rattle.std.proofs.Common.{refl, ap};
     ghost use Rattle.std.specs.Borrow.{GName};
     ghost use Rattle.x86_64_mappers.specs.private.ImplLaws.{place_there};
-    ghost use Rattle.x86_64_tables.specs.ActiveMemory.{memory_of, cr3_of, lent as lent_of, with_table as active_with};
+    ghost use Rattle.x86_64_tables.specs.ActiveMemory.{memory_of, cr3_of, lent as lent_of, with_table_put as active_with};
 
     ghost memory = { λ s. T.tables (memory_of s) };
 

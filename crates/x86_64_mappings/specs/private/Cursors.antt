@@ -56,9 +56,9 @@ small_page_first level (e ∷ rest) = (level == 1) && present e
 
 -- Whether a listing is at a page or at its end: the first remaining entry maps a page, or no entry remains and all positions of the
 -- address space are past.
-abbrev pub is_there : (L next level : ℕ) (rest : List ℕ) → Bool
-is_there L next level [] = next == position_count L
-is_there L next level (e ∷ rest) = present e && maps_page level e
+abbrev pub cursor_is_there : (L next level : ℕ) (rest : List ℕ) → Bool
+cursor_is_there L next level [] = next == position_count L
+cursor_is_there L next level (e ∷ rest) = present e && maps_page level e
 
 -- A bound on the steps that a listing of mappings takes from a position, with these remaining entries of a level, to the end of the
 -- address space.

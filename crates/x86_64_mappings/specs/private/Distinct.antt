@@ -62,19 +62,19 @@ AreSeen seen ms = AllByRecursion (λ k. seen k ≡ true) (map kind_of ms)
 
 -- Whether all positions in the span of a table that a walk reaches lie within the addresses of a selection, with L levels of
 -- tables.
-abbrev pub covers : (L : ℕ) → Selection → ReachedTable → Bool
-covers L s t = is_from L s.from t.start && is_to L s.to (t.start + (position_count t.level - 1))
+abbrev pub covers_table : (L : ℕ) → Selection → ReachedTable → Bool
+covers_table L s t = is_from L s.from t.start && is_to L s.to (t.start + (position_count t.level - 1))
 
 -- Tables of the same kind have mappings of the same kinds, in the same order, if a selection has all positions in the spans of
 -- both. `visited` says which mappings of a table are visited.
 abbrev pub AreByKind : (L : ℕ) → Selection → (visited : ReachedTable → List Mapping) → Type 0
-AreByKind L s visited = (t u : ReachedTable) → table_kind t ≡ table_kind u → covers L s t ≡ true → covers L s u ≡ true
+AreByKind L s visited = (t u : ReachedTable) → table_kind t ≡ table_kind u → covers_table L s t ≡ true → covers_table L s u ≡ true
     → map kind_of (visited t) ≡ map kind_of (visited u)
 
 -- The kinds of all visited mappings of a table are seen, if the table's kind is known and the selection has all positions of its
 -- span.
 abbrev pub AreKnown : {V : Type 0} → (L : ℕ) → (visited : ReachedTable → List Mapping) → Distinct V Memo → Type 0
-AreKnown L visited d = (t : ReachedTable) → contains table_eq d.memo.known (table_kind t) ≡ true → covers L d.selection t ≡ true
+AreKnown L visited d = (t : ReachedTable) → contains table_eq d.memo.known (table_kind t) ≡ true → covers_table L d.selection t ≡ true
     → AreSeen (contains kind_eq d.memo.seen) (visited t)
 
 -- ---- visits
@@ -90,5 +90,5 @@ pub record IsAfter {V : Type 0} (visits : V → V → List Mapping → Type 0) (
 
 -- A visitor that passes on the first mapping of each kind takes these mappings, in order, if what it knows of tables is true
 -- before, and tables of the same kind have mappings of the same kinds. What it knows of tables is true after it too.
-abbrev pub Takes : {V : Type 0} → (visits : V → V → List Mapping → Type 0) → (L : ℕ) → (visited : ReachedTable → List Mapping) → (old new : Distinct V Memo) → List Mapping → Type 0
-Takes visits L visited old new ms = AreByKind L old.selection visited → AreKnown L visited old → IsAfter visits L visited old new ms
+abbrev pub TakesDistinct : {V : Type 0} → (visits : V → V → List Mapping → Type 0) → (L : ℕ) → (visited : ReachedTable → List Mapping) → (old new : Distinct V Memo) → List Mapping → Type 0
+TakesDistinct visits L visited old new ms = AreByKind L old.selection visited → AreKnown L visited old → IsAfter visits L visited old new ms

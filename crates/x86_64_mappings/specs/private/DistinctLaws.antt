@@ -6,7 +6,7 @@ use Rattle.x86_64_mappings.specs.declared.summaries.distinct.Distinct.{Distinct}
 use Rattle.x86_64_mappings.specs.declared.summaries.distinct.Kind.{Kind}
 use Rattle.x86_64_mappings.specs.declared.summaries.distinct.Memo.{Memo}
 use Rattle.x86_64_mappings.specs.declared.summaries.reached_table.ReachedTable.{ReachedTable}
-use Rattle.x86_64_mappings.specs.private.Distinct.{kind_eq, kind_of, seen_after, new_among, AreByKind, Takes}
+use Rattle.x86_64_mappings.specs.private.Distinct.{kind_eq, kind_of, seen_after, new_among, AreByKind, TakesDistinct}
 
 pub seen_after-append : (seen : Kind → Bool) (front back : List Mapping) → seen_after seen (front ++ back) ≡ seen_after (seen_after seen front) back
 seen_after-append seen [] back = refl
@@ -21,12 +21,12 @@ new_among-append seen (m ∷ front) back = by (seen (kind_of m)) _ _ _ (new_amon
     by false all first second e = ap (λ ms. m ∷ ms) e
 
 module _ {V : Type 0} (visits : V → V → List Mapping → Type 0) where
-  pub taken_nothing : (none : (v : V) → visits v v []) (L : ℕ) (visited : ReachedTable → List Mapping) (visitor : Distinct V Memo) → Takes visits L visited visitor visitor []
+  pub taken_nothing : (none : (v : V) → visits v v []) (L : ℕ) (visited : ReachedTable → List Mapping) (visitor : Distinct V Memo) → TakesDistinct visits L visited visitor visitor []
   taken_nothing none L visited visitor = λ by_kind known. record { visitor = refl; selection = refl; seen = refl; passed = none visitor.visitor.now; known = known }
 
   pub taken_both : (both : (before between after : V) (front back : List Mapping) → visits before between front → visits between after back → visits before after (front ++ back))
       (L : ℕ) (visited : ReachedTable → List Mapping) (before between after : Distinct V Memo) (front back : List Mapping)
-      → Takes visits L visited before between front → Takes visits L visited between after back → Takes visits L visited before after (front ++ back)
+      → TakesDistinct visits L visited before between front → TakesDistinct visits L visited between after back → TakesDistinct visits L visited before after (front ++ back)
   taken_both both L visited before between after front back first second = λ by_kind known.
       let one = first by_kind known in
       let two = second (subst (λ s. AreByKind L s visited) (sym one.selection) by_kind) one.known in

@@ -11,5 +11,5 @@ abbrev pub page_bits : (entry : ℕ) → ℕ
 page_bits e = bit_and e page_mask
 
 -- Whether two entries of level one have the same bits PRESENT, WRITABLE, USER_ACCESSIBLE and NO_EXECUTE.
-abbrev pub is_like : (other entry : ℕ) → Bool
-is_like f e = page_bits e == page_bits f
+abbrev pub has_page_bits : (other entry : ℕ) → Bool
+has_page_bits f e = page_bits e == page_bits f

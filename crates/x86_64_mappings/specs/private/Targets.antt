@@ -15,15 +15,15 @@ use Rattle.x86_64_mappings.specs.private.Placed.{placed}
 
 -- The mappings by an entry of a level, by its target: none, the page that it maps, or those of the table that it names. The entry's
 -- span starts at the position `start`, and the words above it grant rights r.
-abbrev pub mapped_by : Words → (level start : ℕ) → Rights → (entry : ℕ) → EntryTarget → List Mapping
-mapped_by T level s r e Nothing = []
-mapped_by T level s r e Page = page_from s level r e ∷ []
-mapped_by T level s r e (Table frame) = map (placed s (granted r e)) (mappings_of (level - 1) T frame)
+abbrev pub mappings_at : Words → (level start : ℕ) → Rights → (entry : ℕ) → EntryTarget → List Mapping
+mappings_at T level s r e Nothing = []
+mappings_at T level s r e Page = page_from s level r e ∷ []
+mappings_at T level s r e (Table frame) = map (placed s (granted r e)) (mappings_of (level - 1) T frame)
 
 -- The mappings that a query asks for by an entry of a level whose span starts at the position `start`, below words that grant
 -- rights r.
 abbrev pub asked_by : Asked → (level start : ℕ) → Rights → (entry : ℕ) → List Mapping
-asked_by asked level s r e = filter (is_wanted asked.wanted) (mapped_by asked.words level s r e (target_of level e))
+asked_by asked level s r e = filter (is_wanted asked.wanted) (mappings_at asked.words level s r e (target_of level e))
 
 -- The mappings that a query asks for by entries of a level, one after the other, below words that grant rights r. The span of the
 -- first entry starts at the position `start`.

@@ -108,7 +108,7 @@ impl<'a> Cursor<'a> {
     /// Returns true if the first remaining entry maps a page, or no entry remains and all positions are past.
     fn is_there<L: LevelCount>(&self) -> bool
         ensures { result
-            ≡ cursors.is_there L.LEVELS self.now.next self.now.level self.now.rest.now }
+            ≡ cursors.cursor_is_there L.LEVELS self.now.next self.now.level self.now.rest.now }
     {
         match self.rest.first() {
             Some(entry) => has_flag(entry, PageTableFlags::PRESENT) && entry.maps_page(self.level),
@@ -132,7 +132,7 @@ pub(super) fn find_page<'a, L: LevelCount, T: TableMemory, P: PageTableFrameMapp
         (words_of (T.tables memory.now) (P.places mapping.now)) root cursor.new }
     ensures same { cursors.ComesFrom L.LEVELS
         (words_of (T.tables memory.now) (P.places mapping.now)) root cursor.old.next cursor.new }
-    ensures there { cursors.is_there L.LEVELS
+    ensures there { cursors.cursor_is_there L.LEVELS
         cursor.new.next cursor.new.level cursor.new.rest.now ≡ true }
 {
     while !cursor.is_there::<L>() {
@@ -149,7 +149,7 @@ fn step<'a, L: LevelCount, T: TableMemory, P: PageTableFrameMapping>(
 ) -> Cursor<'a>
     requires on { cursors.IsCursor L.LEVELS
         (words_of (T.tables memory.now) (P.places mapping.now)) root cursor.now }
-    requires not_there { cursors.is_there L.LEVELS cursor.now.next cursor.now.level
+    requires not_there { cursors.cursor_is_there L.LEVELS cursor.now.next cursor.now.level
         cursor.now.rest.now ≡ false }
     ensures { cursors.IsStep L.LEVELS
         (words_of (T.tables memory.now) (P.places mapping.now)) root cursor.now result }

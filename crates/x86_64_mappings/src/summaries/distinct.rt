@@ -146,7 +146,7 @@ impl<'a, V> Distinct<'a, V> {
         requires low { 1 ≤ table.now.level }
         requires high { table.now.level < 5 }
         requires inside { table.now.start + position_count table.now.level ≤ position_count 5 }
-        ensures { result ≡ distinct.covers L.LEVELS self.now.selection table.now }
+        ensures { result ≡ distinct.covers_table L.LEVELS self.now.selection table.now }
     {
         let last = table.start + (span(table.level + 1) - 1);
         self.selection.covers::<L>(table.start, last)
@@ -159,10 +159,10 @@ where
 {
     type Error = V::Error;
 
-    ghost use Rattle.x86_64_mappings.specs.private.Distinct.{Takes};
+    ghost use Rattle.x86_64_mappings.specs.private.Distinct.{TakesDistinct};
     ghost use Rattle.x86_64_mappings.specs.private.DistinctLaws.{taken_nothing, taken_both};
 
-    ghost Visits = { λ visited old new mappings. Takes V.Visits L.LEVELS visited old new mappings };
+    ghost Visits = { λ visited old new mappings. TakesDistinct V.Visits L.LEVELS visited old new mappings };
 
     /// Passes a mapping on, unless one of its kind was seen.
     fn visit(&mut self, mapping: MappingIn<L>) -> Result<(), V::Error> {

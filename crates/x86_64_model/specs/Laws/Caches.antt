@@ -13,7 +13,7 @@ use Rattle.x86_64_model.specs.Pool.{IsTable}
 use Rattle.x86_64_model.specs.Window.{Window, begins_with, entry_at, IsValidFor}
 use Rattle.x86_64_model.specs.PageWalk.{page_start, page_walk}
 use Rattle.x86_64_model.specs.Machine.{Machine, IsMachine, State, step}
-use Rattle.x86_64_model.specs.Caches.{Way, start, AtMost, Cached, Table, Page, found, Caches, MayRead, MayAccess, walk_from, walk, walked_in}
+use Rattle.x86_64_model.specs.Caches.{PartialWalk, start, AtMost, Cached, Table, Page, cached_item, Caches, MayRead, MayAccess, walk_with_rights_from, walk_with_rights, walked_in}
 use Rattle.x86_64_model.specs.Flushing.{Due, PageDue, TablesDue, WindowDue, BelowDue, flush_after, concerns, HasZeros, Invlpg, survives, System, Event, Makes, Exchanges, MayMake, MayWrite, MayPut, MayExchange, LosesNothing, due_between, after_event, AllMayHappen, after_events, fresh}
 use Rattle.x86_64_model.specs.MapRule.{map_call}
 use Rattle.x86_64_model.specs.CleanUp.{clean_up}
@@ -27,7 +27,7 @@ use Rattle.x86_64_model.specs.Laws.Worked.{small_mapped, small_memory}
 -- The page walk arrives if and only if the walk that also says the page's path and its right to execute leads to a page, and then
 -- at this page, with the same rights to write and of user mode.
 abbrev pub WalksWithRights : Type 0
-WalksWithRights = (L : ℕ) (T : Words) (root p : ℕ) → page_walk L T root p ≡ option_map (walked_in L p) (walk L T root p)
+WalksWithRights = (L : ℕ) (T : Words) (root p : ℕ) → page_walk L T root p ≡ option_map (walked_in L p) (walk_with_rights L T root p)
 
 -- The processor may change its cached items step by step, from those before through each list between, of which the last one is
 -- those after.
@@ -37,12 +37,12 @@ CachesInTurn L root T before (next ∷ more) after = Caches L root T before next
 
 -- From whatever it has cached, the processor may come to cache a page to which a page walk leads, and nothing else.
 abbrev pub WalksAreCached : Type 0
-WalksAreCached = (L : ℕ) (T : Words) (root p : ℕ) (w : Way) → walk L T root p ≡ Some w → (before : List Cached)
+WalksAreCached = (L : ℕ) (T : Words) (root p : ℕ) (w : PartialWalk) → walk_with_rights L T root p ≡ Some w → (before : List Cached)
     → (between : List (List Cached)) × CachesInTurn L root T before between (Page w ∷ [])
 
 -- The page walk leads to this page, by the same path and to the same frame, with at least its rights.
-abbrev pub WalksThere : Option Way → (page : Way) → Type 0
-WalksThere walk w = (v : Way) × (walk ≡ Some v) × (v.path ≡ w.path) × (v.frame ≡ w.frame) × AtMost w.rights v.rights
+abbrev pub WalksThere : Option PartialWalk → (page : PartialWalk) → Type 0
+WalksThere walk_with_rights w = (v : PartialWalk) × (walk_with_rights ≡ Some v) × (v.path ≡ w.path) × (v.frame ≡ w.frame) × AtMost w.rights v.rights
 
 -- From a state and words, with empty caches and nothing due, these events may happen in order, and lead to this system: calls,
 -- exchanges, writes of words in memory, flushes, and changes of the caches.
@@ -59,7 +59,7 @@ abbrev pub FlushesAreEnough : Type 0
 FlushesAreEnough = (m : Machine) (root : ℕ) (T : Words) (serves : ℕ → Bool) (s : State) → FitsState m T root serves s
     → (events : List Event) (now : System) → Happens m root T s events now
     → (p : ℕ) → ((due : Due) → In now.due due → concerns m.levels m.window due p ≡ false)
-    → (w : Way) → MayAccess m.levels root now.words now.cache p w → WalksThere (walk m.levels now.words root p) w
+    → (w : PartialWalk) → MayAccess m.levels root now.words now.cache p w → WalksThere (walk_with_rights m.levels now.words root p) w
 
 -- At every moment, also during calls, if an access at a position goes to a page, and nothing that is due concerns the position, the
 -- page walk in the present words arrives at the same address, with the same rights to write and of user mode at least.
@@ -67,20 +67,20 @@ abbrev pub AccessesAreWalks : Type 0
 AccessesAreWalks = (m : Machine) (root : ℕ) (T : Words) (serves : ℕ → Bool) (s : State) → FitsState m T root serves s
     → (events : List Event) (now : System) → Happens m root T s events now
     → (p : ℕ) → ((due : Due) → In now.due due → concerns m.levels m.window due p ≡ false)
-    → (w : Way) → MayAccess m.levels root now.words now.cache p w → KeepsArrival (Some (walked_in m.levels p w)) (page_walk m.levels now.words root p)
+    → (w : PartialWalk) → MayAccess m.levels root now.words now.cache p w → KeepsArrival (Some (walked_in m.levels p w)) (page_walk m.levels now.words root p)
 
 -- At every moment, also during calls, the processor reads only words of tables of the hierarchy, which are in memory. Until a clean
 -- up is flushed it may also read words of free frames, all of them 0.
 abbrev pub OnlyTablesAreRead : Type 0
 OnlyTablesAreRead = (m : Machine) (root : ℕ) (T : Words) (serves : ℕ → Bool) (s : State) → FitsState m T root serves s
     → (events : List Event) (now : System) → Happens m root T s events now
-    → (t : Way) → MayRead root now.cache t
+    → (t : PartialWalk) → MayRead root now.cache t
     → (IsTable m.levels root now.paths t.frame × IsSome (now.words t.frame)) ⊎ (In now.due TablesDue × In now.state.pool t.frame × HasZeros now.words t.frame)
 
 -- ---- where accesses go while something is due
 
 -- The entry at the path of a page maps it, present or not, to the page's frame.
-pub record IsMapped (L : ℕ) (E : List ℕ → ℕ) (page : Way) : Type 0 where
+pub record IsMapped (L : ℕ) (E : List ℕ → ℕ) (page : PartialWalk) : Type 0 where
   pub is_used : used (E page.path) ≡ true
   pub maps : maps_page (level_of L page.path) (E page.path) ≡ true
   pub frame : page.frame ≡ page_start (level_of L page.path) (E page.path)
@@ -88,7 +88,7 @@ pub record IsMapped (L : ℕ) (E : List ℕ → ℕ) (page : Way) : Type 0 where
 -- The page may be cached still though entries changed: it is due, and its frame is the one that it had when it was let go, or
 -- all items on its path are due, and its entry still maps it, so that at most its rights are wrong, or it lies in the recursive
 -- window, which is due.
-pub data IsStale (L : ℕ) (window : Option Window) (due : List Due) (E : List ℕ → ℕ) (page : Way) : Type 0 where
+pub data IsStale (L : ℕ) (window : Option Window) (due : List Due) (E : List ℕ → ℕ) (page : PartialWalk) : Type 0 where
   WasThere : (frame : ℕ) → In due (PageDue page.path frame) → page.frame ≡ page_start (level_of L page.path) frame → IsStale L window due E page
   HadRights : (q : List ℕ) → In due (BelowDue q) → begins q page.path ≡ true → IsMapped L E page → IsStale L window due E page
   InWindow : In due WindowDue → begins_with window page.path ≡ true → IsStale L window due E page
@@ -98,8 +98,8 @@ pub data IsStale (L : ℕ) (window : Option Window) (due : List Due) (E : List �
 abbrev pub StaleAccessesAreOld : Type 0
 StaleAccessesAreOld = (m : Machine) (root : ℕ) (T : Words) (serves : ℕ → Bool) (s : State) → FitsState m T root serves s
     → (events : List Event) (now : System) → Happens m root T s events now
-    → (p : ℕ) (w : Way) → MayAccess m.levels root now.words now.cache p w
-    → WalksThere (walk m.levels now.words root p) w ⊎ IsStale m.levels m.window now.due (entry_at m.window now.paths) w
+    → (p : ℕ) (w : PartialWalk) → MayAccess m.levels root now.words now.cache p w
+    → WalksThere (walk_with_rights m.levels now.words root p) w ⊎ IsStale m.levels m.window now.due (entry_at m.window now.paths) w
 
 -- Whether a physical address lies in the page at a path, of L levels, if the page is in this frame.
 abbrev pub in_page : (L : ℕ) (path : List ℕ) (frame address : ℕ) → Bool
@@ -120,7 +120,7 @@ abbrev pub LetGoIsUnreached : Type 0
 LetGoIsUnreached = (m : Machine) (root : ℕ) (T : Words) (serves : ℕ → Bool) (s : State) → FitsState m T root serves s
     → (events : List Event) (now : System) → Happens m root T s events now
     → (address : ℕ) → IsLetGo m.levels m.window now.due (entry_at m.window now.paths) address
-    → (p : ℕ) (w : Way) → MayAccess m.levels root now.words now.cache p w → (walked_in m.levels p w).address ≢ address
+    → (p : ℕ) (w : PartialWalk) → MayAccess m.levels root now.words now.cache p w → (walked_in m.levels p w).address ≢ address
 
 -- ---- calls as a whole
 
@@ -186,7 +186,7 @@ reused_memory = insert (insert (insert (insert (empty {X = List ℕ} {R = nat_cm
     1 (0 ∷ 0x2003 ∷ replicate 510 0)) 2 (0x3003 ∷ replicate 511 0)) 3 (0x4003 ∷ replicate 511 0)) 4 (0 ∷ 0 ∷ 0 ∷ 0 ∷ 0 ∷ 0x9003 ∷ replicate 506 0)
 
 -- A way by this path to this frame, with the rights to write and to execute, but not of user mode.
-abbrev pub writable_way : (path : List ℕ) (frame : ℕ) → Way
+abbrev pub writable_way : (path : List ℕ) (frame : ℕ) → PartialWalk
 writable_way q f = record { path = q; frame = f; rights = record { write = true; user = false; execute = true } }
 
 -- A worked example: the processor caches the table at path [0] in frame 0x2000, a clean up frees it, for which no flush is
@@ -194,9 +194,9 @@ writable_way q f = record { path = q; frame = f; rights = record { write = true;
 -- page [0, 0, 0, 5], which was never mapped, and the flush of the mapped page doesn't drop it: accesses to 0x5000 go to frame
 -- 0x9000, while the page walk arrives nowhere.
 pub record UnflushedCleanUp : Type 0 where
-  pub cached : found 4 (words_of emptied_memory identity_places) (start 0x1000) 0 ≡ Some (Table (writable_way (0 ∷ []) 0x2000))
+  pub cached : cached_item 4 (words_of emptied_memory identity_places) (start 0x1000) 0 ≡ Some (Table (writable_way (0 ∷ []) 0x2000))
   pub none_recorded : (low high : ℕ) → items_of 4 (CleanUp low high) Cleaned ≡ []
-  pub goes_on : walk_from 4 (words_of reused_memory identity_places) 0x5000 3 (writable_way (0 ∷ []) 0x2000) ≡ Some (writable_way (0 ∷ 0 ∷ 0 ∷ 5 ∷ []) 0x9000)
+  pub goes_on : walk_with_rights_from 4 (words_of reused_memory identity_places) 0x5000 3 (writable_way (0 ∷ []) 0x2000) ≡ Some (writable_way (0 ∷ 0 ∷ 0 ∷ 5 ∷ []) 0x9000)
   pub recorded : items_of 4 (MapTo (1 ∷ 0 ∷ 0 ∷ 5 ∷ []) 0x9000 3) (Answered (Done 0x9000)) ≡ OnePage (1 ∷ 0 ∷ 0 ∷ 5 ∷ []) ∷ []
   pub flushed : page_path 4 0x80_0000_5000 ≡ 1 ∷ 0 ∷ 0 ∷ 5 ∷ []
   pub left : survives 4 (Invlpg 0x80_0000_5000) (Page (writable_way (0 ∷ 0 ∷ 0 ∷ 5 ∷ []) 0x9000)) ≡ true
@@ -205,13 +205,13 @@ pub record UnflushedCleanUp : Type 0 where
 -- ---- a map that takes the right to execute
 
 -- The way to the page at path [0, 0, 0, 1] in frame 0x5000, which may be written and executed.
-abbrev pub executable_page : Way
+abbrev pub executable_page : PartialWalk
 executable_page = writable_way (0 ∷ 0 ∷ 0 ∷ 1 ∷ []) 0x5000
 
 -- A worked example: a map of the page [0, 0, 0, 2] with NO_EXECUTE among its parent flags adds it to the tables above this page and
 -- the page [0, 0, 0, 1]. If only the page that was mapped is flushed, the TLB still has the other page with the right to execute.
 pub record UnflushedNoExecute : Type 0 where
-  pub before : walk 4 (words_of small_memory identity_places) 0x1000 0x1000 ≡ Some executable_page
+  pub before : walk_with_rights 4 (words_of small_memory identity_places) 0x1000 0x1000 ≡ Some executable_page
   pub maps : (map_call 4 small_mapped [] 0x8000_0000_0000_0003 0 (0 ∷ 0 ∷ 0 ∷ 2 ∷ []) 0x6000 3).paths
       ≡ put (put (put (put small_mapped (0 ∷ []) 0x8000_0000_0000_2003) (0 ∷ 0 ∷ []) 0x8000_0000_0000_3003) (0 ∷ 0 ∷ 0 ∷ []) 0x8000_0000_0000_4003) (0 ∷ 0 ∷ 0 ∷ 2 ∷ []) 0x6003
   pub left : survives 4 (Invlpg 0x2000) (Page executable_page) ≡ true
@@ -228,6 +228,6 @@ uncleared_memory = insert (insert (insert (insert (empty {X = List ℕ} {R = nat
 -- A worked example: during a map that names a table before it clears it, the processor can find a page in an old word of the
 -- table's frame. After the map the page walk arrives nowhere there, and nothing is due.
 pub record UnclearedTable : Type 0 where
-  pub in_between : walk 4 (words_of uncleared_memory identity_places) 0x1000 0x2000 ≡ Some (writable_way (0 ∷ 0 ∷ 0 ∷ 2 ∷ []) 0x7000)
+  pub in_between : walk_with_rights 4 (words_of uncleared_memory identity_places) 0x1000 0x2000 ≡ Some (writable_way (0 ∷ 0 ∷ 0 ∷ 2 ∷ []) 0x7000)
   pub afterwards : page_walk 4 (words_of small_memory identity_places) 0x1000 0x2000 ≡ None
   pub none_due : flush_after 4 None (MapTo (0 ∷ 0 ∷ 0 ∷ 1 ∷ []) 0x5000 3) (Answered (Done 0x5000)) ≡ []

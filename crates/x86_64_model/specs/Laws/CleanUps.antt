@@ -7,14 +7,14 @@ use Rattle.x86_64_model.specs.Hierarchy.{Holds}
 use Rattle.x86_64_model.specs.Window.{Window, begins_with, entry_at, IsValidFor}
 use Rattle.x86_64_model.specs.Translation.{translate}
 use Rattle.x86_64_model.specs.CleanUp.{clean_up}
-use Rattle.x86_64_model.specs.Pool.{TakesBack, given_back}
+use Rattle.x86_64_model.specs.Pool.{TakesBack, with_returned}
 use Rattle.x86_64_model.specs.Conserved.{Conserves}
 
 -- A clean up conserves frames, wherever the pool puts those that return: the set of free and table frames stays the same, and if
 -- each frame had one use before, it has one use after.
 abbrev pub CleanUpConserves : Type 0
 CleanUpConserves = (L : ℕ) (T : Words) (root : ℕ) (M : PathMap) → Holds L T root M → (take_back : List ℕ → ℕ → List ℕ) → TakesBack take_back → (low high : ℕ) (pool : List ℕ)
-    → Conserves L root M pool (clean_up L M low high).paths (given_back take_back pool (clean_up L M low high).back)
+    → Conserves L root M pool (clean_up L M low high).paths (with_returned take_back pool (clean_up L M low high).back)
 
 -- A clean up changes no answer of `translate` outside the recursive window. A position is the number of an address counted without
 -- the non-canonical gap.

@@ -5,7 +5,7 @@ use Rattle.x86_64_model.specs.Entry.{IsParentFlags, has, used}
 use Rattle.x86_64_model.specs.Laws.EntriesInPlace.{IsInPlace, MayReplace}
 use Rattle.x86_64_model.specs.Layout.{Layout}
 use Rattle.x86_64_model.specs.Lists.{In}
-use Rattle.x86_64_model.specs.Live.{Happening, Marks, Placed, after_happenings, learned, after_all_placed, AllMayHappen, words_learned}
+use Rattle.x86_64_model.specs.Live.{Happening, Marks, Placed, after_happenings, learned, after_all_placed, AllMayTakePlace, words_learned}
 use Rattle.x86_64_model.specs.Mapper.{◌laid_in◌, Owns, PoolFits, paths, words}
 use Rattle.x86_64_model.specs.Memory.{Memory, Words, IsMapping, word}
 use Rattle.x86_64_model.specs.PathMap.{PathMap, entry, put, table_at}
@@ -36,7 +36,7 @@ pub record IsLiveAfter (l : Layout) (serves : ℕ → Bool) (pool : List ℕ) (m
 abbrev pub LiveTablesFit : Type 0
 LiveTablesFit = (l : Layout) → IsMapping l.places → 0 < l.levels
     → (serves : ℕ → Bool) (m : Memory) (pool : List ℕ) → PoolFits (l laid_in m) serves pool
-    → (placed : List Placed) → AllMayHappen l m placed
+    → (placed : List Placed) → AllMayTakePlace l m placed
     → let hs = map (λ x. x.what) placed in IsLiveAfter l serves pool m hs (after_all_placed l m placed)
     × (words_learned l m placed ≡ learned (paths (l laid_in m)) hs)
 

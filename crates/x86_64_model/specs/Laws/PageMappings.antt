@@ -15,7 +15,7 @@ use Rattle.x86_64_model.specs.Path.{parents}
 use Rattle.x86_64_model.specs.PathMap.{PathMap, entry}
 use Rattle.x86_64_model.specs.Position.{span, position_count}
 use Rattle.x86_64_model.specs.Refusal.{Done}
-use Rattle.x86_64_model.specs.Standing.{StandsAt}
+use Rattle.x86_64_model.specs.Standing.{IsMappedIn}
 
 -- The page starts at a position (the number of an address counted without the gap) that is a multiple of its size, may be mapped
 -- with PRESENT, and isn't mapped.
@@ -53,8 +53,8 @@ abbrev pub MappingsStand : Type 0
 MappingsStand = (m : Machine) → IsMachine m → (T : Words) (root : ℕ) (serves : ℕ → Bool) (s : State) → FitsState m T root serves s
     → (xs : List PageMapping) → AllByRecursion (AsksFor m.levels) xs → replies_of m s (map_calls m.levels xs) ≡ map accepted xs
     → let after = (state_after m s (map_calls m.levels xs)).paths in
-    AllByRecursion (λ x. StandsAt m.levels x.level after (entry_path m.levels x) x.frame x.flags) xs
-    × ((level : ℕ) (page : List ℕ) (frame flags : ℕ) → StandsAt m.levels level s.paths page frame flags → StandsAt m.levels level after page frame flags)
+    AllByRecursion (λ x. IsMappedIn m.levels x.level after (entry_path m.levels x) x.frame x.flags) xs
+    × ((level : ℕ) (page : List ℕ) (frame flags : ℕ) → IsMappedIn m.levels level s.paths page frame flags → IsMappedIn m.levels level after page frame flags)
 
 -- ---- two pages, with four levels, from an empty root and four free frames
 

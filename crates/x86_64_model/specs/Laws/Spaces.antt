@@ -15,7 +15,7 @@ use Rattle.x86_64_model.specs.Path.{is_below}
 use Rattle.x86_64_model.specs.PathMap.{PathMap, entry}
 use Rattle.x86_64_model.specs.Pool.{TakesBack}
 use Rattle.x86_64_model.specs.Position.{page_path}
-use Rattle.x86_64_model.specs.Spaces.{is_shared, Shares, AreSpaces, IsSharing, ArePaired, Avoids, SparesRoot}
+use Rattle.x86_64_model.specs.Spaces.{is_shared, Shares, AreSpaces, IsSharing, ArePaired, Avoids, LeavesRootEntry}
 use Rattle.x86_64_model.specs.Window.{SelfEntry, outside_window, begins_with}
 
 -- After the memory m became n, the second hierarchy is valid. Below the shared indices it is as the first one is now, elsewhere
@@ -104,7 +104,7 @@ CallsKeepRootEntries = (shared : ℕ → Bool) (layout : Layout) → 3 < layout.
     → (take_back : List ℕ → ℕ → List ℕ) → TakesBack take_back
     → (serves : ℕ → Bool) (m n : Memory) (pool rest : List ℕ) (calls : List Call) → AllCalls layout.levels calls
     → PoolFits (layout laid_in m) serves pool → Led layout take_back m pool calls n rest
-    → AllByRecursion (SparesRoot layout.levels shared (λ i. entry (paths (layout laid_in m)) (i ∷ []))) calls → KeepsRootEntries shared layout m n
+    → AllByRecursion (LeavesRootEntry layout.levels shared (λ i. entry (paths (layout laid_in m)) (i ∷ []))) calls → KeepsRootEntries shared layout m n
 
 -- A clean up keeps the root's entry at an index if something below it is used and isn't a present table entry, for example a page.
 abbrev pub PinnedEntriesStay : Type 0

@@ -2,7 +2,7 @@
 -- a table.
 use Rattle.std.specs.Prelude.{suc, ◌≡◌, ◌≢◌, ◌<◌, ◌≤◌, ◌+◌, ◌*◌, ◌-◌, ◌%◌, ◌&&◌, not, ℕ, Bool, true, false, List, [], ◌∷◌, ◌++◌, length, get_or, Option, option_map, bit_or, bit_and, cond}
 use Rattle.std.specs.FinMap.{insert}
-use Rattle.x86_64_model.specs.Caches.{Way}
+use Rattle.x86_64_model.specs.Caches.{PartialWalk}
 use Rattle.x86_64_model.specs.Caches as caches
 use Rattle.x86_64_model.specs.Entry.{present, writable, user, huge, no_execute, address, is_frame, names_table, has, flags}
 use Rattle.x86_64_model.specs.Laws.EntriesInPlace.{IsInPlace, with_word}
@@ -26,13 +26,13 @@ pub record Arrival : Type 0 where
   pub rights : Rights
 
 -- Where an access at position p arrives over the words of a way that leads to a page, with L levels.
-abbrev pub arrival_in : (L p : ℕ) → Way → Arrival
-arrival_in L p w = record { address = w.frame + p % span (level_of L w.path); rights = w.rights }
+abbrev pub arrival_of_way : (L p : ℕ) → PartialWalk → Arrival
+arrival_of_way L p w = record { address = w.frame + p % span (level_of L w.path); rights = w.rights }
 
 -- Where an access at position p (the number of an address counted without the gap of the address space)
 -- arrives by a walk from the root, without any cache, None if it arrives nowhere.
-abbrev pub arrival : (L : ℕ) → Words → (root p : ℕ) → Option Arrival
-arrival L tables root p = option_map (arrival_in L p) (caches.walk L tables root p)
+abbrev pub arrival_at : (L : ℕ) → Words → (root p : ℕ) → Option Arrival
+arrival_at L tables root p = option_map (arrival_of_way L p) (caches.walk_with_rights L tables root p)
 
 -- The words of a table of this level are the parts of a page that the entry e of the level above maps: word
 -- j maps the part at index j of its 512 parts of equal size. Below the entry t, which names the table, each
@@ -59,8 +59,8 @@ pub record IsInParts (L : ℕ) (path : List ℕ) (e t frame : ℕ) (part : ℕ �
 -- ---- split
 
 -- The memory after a table is written into a frame, and then named by a word of another frame.
-abbrev pub with_table : Layout → Memory → (frame : ℕ) → (table : List ℕ) → (above i entry : ℕ) → Memory
-with_table l m g table f i t = with_word l (insert m (l.places.place g) table) f i t
+abbrev pub split_memory : Layout → Memory → (frame : ℕ) → (table : List ℕ) → (above i entry : ℕ) → Memory
+split_memory l m g table f i t = with_word l (insert m (l.places.place g) table) f i t
 
 -- The path map N has t at the path, the parts directly below it, and is as M elsewhere.
 pub record HasParts (path : List ℕ) (t : ℕ) (part : ℕ → ℕ) (M N : PathMap) : Type 0 where
@@ -76,11 +76,11 @@ PagesMayBeSplit = (l : Layout) → IsMapping l.places → 0 < l.levels
     → (serves : ℕ → Bool) (m : Memory) (g : ℕ) (rest : List ℕ) → PoolFits (l laid_in m) serves (g ∷ rest)
     → (q : List ℕ) (f i t : ℕ) (table : List ℕ) → IsInPlace l m q f i → length table ≡ 512
     → IsInParts l.levels q (entry (paths (l laid_in m)) q) t g (λ j. get_or table j 0)
-    → let n = with_table l m g table f i t in
+    → let n = split_memory l m g table f i t in
     KeepsPool l serves m (g ∷ rest) n rest
     × HasParts q t (λ j. get_or table j 0) (paths (l laid_in m)) (paths (l laid_in n))
     × ((p : ℕ) → begins_with l.window (page_path l.levels p) ≡ false
-    → arrival l.levels (words (l laid_in n)) l.root p ≡ arrival l.levels (words (l laid_in m)) l.root p)
+    → arrival_at l.levels (words (l laid_in n)) l.root p ≡ arrival_at l.levels (words (l laid_in m)) l.root p)
 
 -- ---- join
 
@@ -103,7 +103,7 @@ PagesMayBeJoined = (l : Layout) → IsMapping l.places → 0 < l.levels
     → let n = with_word l m f i e in
     KeepsPool l serves m pool n (take_back pool g) × IsJoined q e (paths (l laid_in m)) (paths (l laid_in n))
     × ((p : ℕ) → begins_with l.window (page_path l.levels p) ≡ false
-    → arrival l.levels (words (l laid_in n)) l.root p ≡ arrival l.levels (words (l laid_in m)) l.root p)
+    → arrival_at l.levels (words (l laid_in n)) l.root p ≡ arrival_at l.levels (words (l laid_in m)) l.root p)
 
 -- ---- which words
 
@@ -140,7 +140,7 @@ PagesHaveParts = (e t : ℕ) (part : ℕ → ℕ) → AllowsAll t
 abbrev pub ArrivalsSayWalks : Type 0
 ArrivalsSayWalks = (L : ℕ) (T : Words) (root p : ℕ)
     → page_walk L T root p ≡ option_map
-    (λ a. record { address = a.address; write = a.rights.write; user = a.rights.user }) (arrival L T root p)
+    (λ a. record { address = a.address; write = a.rights.write; user = a.rights.user }) (arrival_at L T root p)
 
 -- A table with the words of `part_of_2mib` has the parts of each 2MiB page, and one with those of
 -- `part_of_1gib` the parts of each 1GiB page whose PAT bit is clear. The table may be in any frame, and its

@@ -77,10 +77,10 @@ FlushesSuffice = (m : Machine) → IsMachine m → (T V U : Words) (root : ℕ) 
 -- ---- maps
 
 -- The page, the frame and the flags of a `map_to` or an `identity_map`, None for any other call.
-abbrev pub asked_of : (L : ℕ) → Call → Option (List ℕ × (ℕ × ℕ))
-asked_of L (MapTo q frame given) = Some (q, (frame, given))
-asked_of L (IdentityMap level frame given) = Some (path_at L level frame, (frame, given))
-asked_of L call = None
+abbrev pub mapping_asked : (L : ℕ) → Call → Option (List ℕ × (ℕ × ℕ))
+mapping_asked L (MapTo q frame given) = Some (q, (frame, given))
+mapping_asked L (IdentityMap level frame given) = Some (path_at L level frame, (frame, given))
+mapping_asked L call = None
 
 -- If the walk arrives in words that mean the state before a map call of a list, it arrives in words that mean the state after it,
 -- whatever the call answers. It arrives at the same address, loses no right, and gains only rights that the parent flags grant.
@@ -94,7 +94,7 @@ RunMapsKeepWalks = (m : Machine) (V U : Words) (root : ℕ) (s : State) (calls :
 abbrev pub RunMapsArrive : Type 0
 RunMapsArrive = (m : Machine) → IsMachine m → (T U : Words) (root : ℕ) (serves : ℕ → Bool) (s : State) (calls : List Call) → AllCalls m.levels calls
     → FitsState m T root serves s
-    → (k level frame given : ℕ) (q : List ℕ) (call : Call) → slice_get calls k ≡ Some call → asked_of m.levels call ≡ Some (q, (frame, given)) → Asks m.levels level q frame given
+    → (k level frame given : ℕ) (q : List ℕ) (call : Call) → slice_get calls k ≡ Some call → mapping_asked m.levels call ≡ Some (q, (frame, given)) → Asks m.levels level q frame given
     → (step m (state_after m s (take k calls)) call).reply ≡ Answered (Done frame) → IsValidFor m.levels m.window U root (state_after m s (take (k + 1) calls)).paths
     → (p : ℕ) → take (length q) (page_path m.levels p) ≡ q
     → page_walk m.levels U root p ≡ Some (record { address = frame + p % span level; write = writable given; user = user given })

@@ -23,8 +23,8 @@ use Rattle.x86_64_model.specs.Laws.Spaces.{KeepsRootEntries, IsNewRoot}
 use Rattle.x86_64_model.specs.Laws.Switches.{IsStarted}
 
 -- The space of a layout, as words hold it while no call is under way.
-abbrev pub space_in : Kernel → Words → Layout → Space
-space_in k T l = record {
+abbrev pub space_for : Kernel → Words → Layout → Space
+space_for k T l = record {
   root = l.root;
   window = l.window;
   added_flags = l.added_flags;
@@ -39,7 +39,7 @@ pub record MaySwitchIn (k : Kernel) (places : Places) (T : Words) (layouts : Lis
   pub mapping : (l : Layout) → In layouts l → l.places ≡ places
   pub same_levels : (l : Layout) → In layouts l → l.levels ≡ k.levels
   pub globals : (l : Layout) → In layouts l → (q : List ℕ)
-      → let e = entry_at l.window (space_in k T l).paths q in
+      → let e = entry_at l.window (space_for k T l).paths q in
       present e ≡ true → maps_page (level_of k.levels q) e ≡ true → global e ≡ true
       → is_shared k.shared q ≡ true
   pub windows : (l : Layout) → In layouts l → (q : List ℕ) → begins_with l.window q ≡ true
@@ -57,18 +57,18 @@ SpacesAreHeld = (k : Kernel) (places : Places) → IsMapping places → 0 < k.le
     → (sharing : (root other : ℕ) → ℕ → Bool) → AllShare k sharing
     → (m : Memory) (pool : List ℕ) (layouts : List Layout) → ArePaired sharing m k.serves pool layouts
     → MaySwitchIn k places (words_of m places) layouts
-    → AreHeld k (words_of m places) (map (space_in k (words_of m places)) layouts)
+    → AreHeld k (words_of m places) (map (space_for k (words_of m places)) layouts)
 
 -- The system while no call is under way, with these words, free frames and address spaces.
 abbrev pub between : Kernel → Words → (pool : List ℕ) → List Layout → Switching → Switching
-between k T pool layouts s = record s { spaces = map (space_in k T) layouts; pool = pool; words = T }
+between k T pool layouts s = record s { spaces = map (space_for k T) layouts; pool = pool; words = T }
 
 -- The system in which a processor starts with the root of an address space and a PCID, which holds it: nothing
 -- is cached or due, and no other PCID holds a root.
 abbrev pub started_in : Kernel → Words → (pool : List ℕ) → List Layout → (one : Layout) → (pcid : ℕ)
     → Switching
 started_in k T pool layouts one pcid = record {
-  spaces = map (space_in k T) layouts;
+  spaces = map (space_for k T) layouts;
   pool = pool;
   words = T;
   under_way = [];
@@ -99,7 +99,7 @@ NewSpacesMayBegin = (k : Kernel) (places : Places) → IsMapping places → 0 < 
     → ArePaired sharing m k.serves pool (new ∷ layouts)
     → MaySwitchIn k places (words_of m places) (new ∷ layouts)
     → (s : Switching) → ((c : ℕ) → s.holder c ≢ Some new.root)
-    → MayBegin k (between k (words_of m places) pool layouts s) (space_in k (words_of m places) new)
+    → MayBegin k (between k (words_of m places) pool layouts s) (space_for k (words_of m places) new)
 
 -- A call on one of the address spaces led from the memory m and a pool to the memory n and the rest of the
 -- pool. It conserved frames, kept the root's entries at the indices that it shares, and left in each free
@@ -116,18 +116,18 @@ pub record CallsOn (k : Kernel) (places : Places) (sharing : (root other : ℕ) 
   pub later : MaySwitchIn k places (words_of n places) layouts
   pub adds : IsParentFlags one.added_flags
   pub is_call : IsCall k.levels call
-  pub steps : let a = space_in k (words_of m places) one in
+  pub steps : let a = space_for k (words_of m places) one in
       (step (machine_at k a) (record { paths = a.paths; pool = pool }) call).state
-      ≡ record { paths = (space_in k (words_of n places) one).paths; pool = rest }
+      ≡ record { paths = (space_for k (words_of n places) one).paths; pool = rest }
   pub keeps : KeepsPool one k.serves m pool n rest
   pub root_entries : (b : Layout) → In layouts b → one.root ≢ b.root
       → KeepsRootEntries (sharing one.root b.root) one m n
-  pub free : let a = space_in k (words_of m places) one in
+  pub free : let a = space_for k (words_of m places) one in
       IsAfterCall (machine_at k a) one.root (words_of m places) (words_of n places)
       (record { paths = a.paths; pool = pool }) call
   pub loses_nothing : loses ≡ false → (q : List ℕ)
-      → let e = entry (space_in k (words_of m places) one).paths q in
-      used e ≡ true → LosesNothing e (entry (space_in k (words_of n places) one).paths q)
+      → let e = entry (space_for k (words_of m places) one).paths q in
+      used e ≡ true → LosesNothing e (entry (space_for k (words_of n places) one).paths q)
   pub waits : (c : ℕ) → In (s.due (Of c)) TablesDue → parent_flags_of call ≡ None
   pub apart : (tag : Tag) (q r : List ℕ) (frame : ℕ) → In (s.due tag) (PageDue q frame)
       → mapped_by k.levels call ≡ Some r → is_below q r ≡ false
@@ -140,7 +140,7 @@ pub record CallsOn (k : Kernel) (places : Places) (sharing : (root other : ℕ) 
 abbrev pub call_events : Kernel → (before after : Words) → (one : Layout) → Call → (loses : Bool)
     → (reaches : ℕ → Bool) → (everywhere : Bool) → List SwitchEvent
 call_events k T U one call loses reaches everywhere =
-    Makes (space_in k T one) call loses reaches everywhere (held_by k U) ∷ Writes U ∷ Returns ∷ []
+    Makes (space_for k T one) call loses reaches everywhere (held_by k U) ∷ Writes U ∷ Returns ∷ []
 
 -- A call on one of the address spaces of a memory, which conserves frames and keeps the root's entries at
 -- shared indices, may happen while a processor switches between them. It leads to the system with the words
@@ -161,7 +161,7 @@ CallsMaySwitch = (k : Kernel) (places : Places) → IsMapping places → 0 < k.l
 -- The events by which a space begins: the kernel takes its root from the pool, which leaves the rest,
 -- writes words, and begins the space.
 abbrev pub new_events : Kernel → (after : Words) → (rest : List ℕ) → (new : Layout) → List SwitchEvent
-new_events k U rest new = Pools rest ∷ Writes U ∷ Begins (space_in k U new) ∷ []
+new_events k U rest new = Pools rest ∷ Writes U ∷ Begins (space_for k U new) ∷ []
 
 -- A frame of the pool may become the root of one more address space while a processor switches, if no
 -- PCID's tables are due, and none holds this root. This leads to the system with the words, the rest of the

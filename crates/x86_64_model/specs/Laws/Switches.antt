@@ -3,7 +3,7 @@ use Rattle.std.specs.Prelude.{◌≡◌, ◌≢◌, ◌⊎◌, ◌<◌, ◌==◌
 use Rattle.x86_64_model.specs.Lists.{In}
 use Rattle.x86_64_model.specs.Pool.{TakesBack}
 use Rattle.x86_64_model.specs.Window.{entry_at}
-use Rattle.x86_64_model.specs.Caches.{Way, MayAccess, walk, walked_in}
+use Rattle.x86_64_model.specs.Caches.{PartialWalk, MayAccess, walk_with_rights, walked_in}
 use Rattle.x86_64_model.specs.Flushing.{Due, concerns}
 use Rattle.x86_64_model.specs.Tags.{Tag, Of, Global, usable}
 use Rattle.x86_64_model.specs.Switches.{Kernel, Space, AreHeld, Switching, AreDone, SwitchEvent, Makes, Writes, Marks, Returns, Pools, Begins, Ends, Loads, Abandons, Flushes, Changes}
@@ -45,8 +45,8 @@ SwitchesAreFlushed = (k : Kernel) (start : Switching) (events : List SwitchEvent
     → Switches k start events now
     → (a : Space) → In now.spaces a → a.root ≡ now.root
     → (p : ℕ) → ((due : Due) → In (due_here now) due → concerns k.levels a.window due p ≡ false)
-    → (w : Way) → MayAccess k.levels now.root now.words (usable now.pcid now.cache) p w
-    → WalksThere (walk k.levels now.words now.root p) w
+    → (w : PartialWalk) → MayAccess k.levels now.root now.words (usable now.pcid now.cache) p w
+    → WalksThere (walk_with_rights k.levels now.words now.root p) w
 
 -- At every moment, also during calls, each access in a space goes with the page walk from its root in the
 -- present words, or to a page that may be cached still. Such a page is due here, in the frame that it had
@@ -55,8 +55,8 @@ abbrev pub StaleSwitchesAreOld : Type 0
 StaleSwitchesAreOld = (k : Kernel) (start : Switching) (events : List SwitchEvent) (now : Switching)
     → Switches k start events now
     → (a : Space) → In now.spaces a → a.root ≡ now.root
-    → (p : ℕ) (w : Way) → MayAccess k.levels now.root now.words (usable now.pcid now.cache) p w
-    → WalksThere (walk k.levels now.words now.root p) w
+    → (p : ℕ) (w : PartialWalk) → MayAccess k.levels now.root now.words (usable now.pcid now.cache) p w
+    → WalksThere (walk_with_rights k.levels now.words now.root p) w
     ⊎ IsStale k.levels a.window (due_here now) (entry_at a.window a.paths) w
 
 -- The current root is always that of a space, and its words hold the space's path map.
@@ -73,7 +73,7 @@ LetGoIsUnreachedHere = (k : Kernel) (start : Switching) (events : List SwitchEve
     → Switches k start events now
     → (a : Space) → In now.spaces a → a.root ≡ now.root
     → (address : ℕ) → IsLetGo k.levels a.window (due_here now) (entry_at a.window a.paths) address
-    → (p : ℕ) (w : Way) → MayAccess k.levels now.root now.words (usable now.pcid now.cache) p w
+    → (p : ℕ) (w : PartialWalk) → MayAccess k.levels now.root now.words (usable now.pcid now.cache) p w
     → (walked_in k.levels p w).address ≢ address
 
 -- ---- several processors
@@ -113,8 +113,8 @@ EachIsFlushedHere = (k : Kernel) (events : List (ℕ × SwitchEvent)) (j : ℕ) 
     → Switches k start (seen_by j events) now
     → (a : Space) → In now.spaces a → a.root ≡ now.root
     → (p : ℕ) → ((due : Due) → In (due_here now) due → concerns k.levels a.window due p ≡ false)
-    → (w : Way) → MayAccess k.levels now.root now.words (usable now.pcid now.cache) p w
-    → WalksThere (walk k.levels now.words now.root p) w
+    → (w : PartialWalk) → MayAccess k.levels now.root now.words (usable now.pcid now.cache) p w
+    → WalksThere (walk_with_rights k.levels now.words now.root p) w
 
 -- Two processors that start with the same spaces, free frames and words see the same ones always.
 abbrev pub AllSeeTheSame : Type 0

@@ -20,7 +20,7 @@ Uses l m supply rest f = Owns (l laid_in m) supply f × (In rest f → ⊥)
 -- those of the map rule, the hierarchy is valid again, and the rest of the supply fits it. Only words in the root, the tables
 -- and the taken frames change. Each page walk that arrived still arrives at the same address, loses no right, and gains only
 -- rights that the parent flags grant.
-pub record IsMapped (l : Layout) (m : Memory) (supply : List ℕ) (page : List ℕ) (frame flags parent_flags : ℕ) (answer : Answer) (n : Memory) (rest : List ℕ) : Type 0 where
+pub record MapsPage (l : Layout) (m : Memory) (supply : List ℕ) (page : List ℕ) (frame flags parent_flags : ℕ) (answer : Answer) (n : Memory) (rest : List ℕ) : Type 0 where
   pub outcome : map_call l.levels (paths (l laid_in m)) supply parent_flags l.added_flags page frame flags ≡ record { paths = paths (l laid_in n); supply = rest; answer = answer }
   pub ready : SupplyFits (l laid_in n) rest
   pub others : KeepsOthers (Uses l m supply rest) (l laid_in m) (l laid_in n)

@@ -6,7 +6,7 @@ ghost use Rattle.std.specs.Prelude.{◌≡◌, ℕ, ◌+◌, ◌-◌, ◌*◌, �
 ghost use Rattle.std.specs.Iterator.{YieldsFirstBy, YieldsLastBy, item_count, UpTo, at_most};
 ghost use Rattle.std.specs.Iterator.SizeHint.{IsWithinCount};
 ghost use Rattle.x86_64_page.specs.BlockRanges.{inclusive_blocks_in};
-ghost use Rattle.x86_64_page.specs.Blocks.{ends, front_taken_inclusive, back_taken_inclusive};
+ghost use Rattle.x86_64_page.specs.Blocks.{block_ends, front_taken_inclusive, back_taken_inclusive};
 
 use crate::range::{Block, write_range};
 use std::fmt::{Debug, Formatter, Result as FmtResult, Write};
@@ -45,8 +45,8 @@ impl<B: Block> BlockRangeInclusive<B> {
     /// Skips `n` blocks and returns the next one, in constant time. Leaves the range as `n + 1` calls of `next` do.
     pub fn nth(&mut self, n: usize) -> Option<B>
         ensures item { option_map B.place result ≡ slice_get (inclusive_blocks_in B.SIZE B.place self.old) n }
-        ensures ends { ends B.place self.new.start self.new.end
-            ≡ front_taken_inclusive B.SIZE B.LIMIT (n + 1) (ends B.place self.old.start self.old.end) }
+        ensures ends { block_ends B.place self.new.start self.new.end
+            ≡ front_taken_inclusive B.SIZE B.LIMIT (n + 1) (block_ends B.place self.old.start self.old.end) }
     {
         let start = self.start.place();
         let end = self.end.place();
@@ -66,8 +66,8 @@ impl<B: Block> BlockRangeInclusive<B> {
     pub fn nth_back(&mut self, n: usize) -> Option<B>
         ensures item { option_map B.place result
             ≡ slice_get (reverse (inclusive_blocks_in B.SIZE B.place self.old)) n }
-        ensures ends { ends B.place self.new.start self.new.end
-            ≡ back_taken_inclusive B.SIZE (n + 1) (ends B.place self.old.start self.old.end) }
+        ensures ends { block_ends B.place self.new.start self.new.end
+            ≡ back_taken_inclusive B.SIZE (n + 1) (block_ends B.place self.old.start self.old.end) }
     {
         let start = self.start.place();
         let end = self.end.place();
@@ -121,8 +121,8 @@ impl<B: Block> Iterator for BlockRangeInclusive<B> {
     type Item = B;
 
     ghost next_gives = { λ r block s. YieldsFirstBy B.place (inclusive_blocks_in B.SIZE B.place) r block s
-        × (ends B.place s.start s.end
-        ≡ front_taken_inclusive B.SIZE B.LIMIT 1 (ends B.place r.start r.end)) };
+        × (block_ends B.place s.start s.end
+        ≡ front_taken_inclusive B.SIZE B.LIMIT 1 (block_ends B.place r.start r.end)) };
 
     ghost remaining = { item_count (inclusive_blocks_in B.SIZE B.place) };
 
@@ -151,7 +151,7 @@ impl<B: Block> Iterator for BlockRangeInclusive<B> {
 impl<B: Block> DoubleEndedIterator for BlockRangeInclusive<B> {
     ghost next_back_gives = { λ r block s.
         YieldsLastBy B.place (inclusive_blocks_in B.SIZE B.place) r block s
-        × (ends B.place s.start s.end ≡ back_taken_inclusive B.SIZE 1 (ends B.place r.start r.end)) };
+        × (block_ends B.place s.start s.end ≡ back_taken_inclusive B.SIZE 1 (block_ends B.place r.start r.end)) };
 
     fn next_back(&mut self) -> Option<B> {
         if self.end.place() < self.start.place() {

@@ -16,12 +16,12 @@ use Rattle.x86_64_tables.specs.SelfEntries.{window_in}
 use Rattle.x86_64_tables.specs.Views.{mark_slot}
 
 -- The words of all tables as a space sees them: its root's word at the recursive index is read as 0.
-abbrev pub seen_by : Words → Space → Words
-seen_by T space = without_word space.recursive space.root T
+abbrev pub words_without : Words → Space → Words
+words_without T space = without_word space.recursive space.root T
 
 -- The word of a space's root at an index, read as 0 at the recursive index.
 abbrev pub root_words : Memory → Places → Space → (index : ℕ) → ℕ
-root_words memory places space i = word (seen_by (words_of memory places) space) space.root i
+root_words memory places space i = word (words_without (words_of memory places) space) space.root i
 
 -- The table that entry i of the table in a frame names, and all tables below it through n levels, or none if the entry names no
 -- table.
@@ -55,7 +55,7 @@ owns spaces s i = (owner spaces s i).space.root == s.space.root
 -- The root of a space and all tables below the indices that no earlier space of the list shares with it. The root names tables that
 -- have n levels of tables below them.
 abbrev pub own_tables : List Grouped → (n : ℕ) → Words → Grouped → List ℕ
-own_tables spaces n T s = s.space.root ∷ parts_where (owns spaces s) n (seen_by T s.space) s.space.root
+own_tables spaces n T s = s.space.root ∷ parts_where (owns spaces s) n (words_without T s.space) s.space.root
 
 -- The roots of all spaces of a list, each followed by all tables below the indices that no earlier space shares with it. The roots
 -- name tables that have n levels of tables below them.
@@ -66,8 +66,8 @@ space_tables spaces n T = flat_map (own_tables spaces n T) spaces
 -- the index. No word above level three is huge.
 pub record IsAlike (spaces : List Grouped) (n : ℕ) (T : Words) (s : Grouped) : Type 0 where
   pub self : SelfEntry T s.space.root (window_in T s.space.root s.space.recursive)
-  pub none_huge : NoneHuge (suc n) (seen_by T s.space) s.space.root
-  pub alike : (i : ℕ) → word (seen_by T s.space) s.space.root i ≡ word (seen_by T (owner spaces s i).space) (owner spaces s i).space.root i
+  pub none_huge : NoneHuge (suc n) (words_without T s.space) s.space.root
+  pub alike : (i : ℕ) → word (words_without T s.space) s.space.root i ≡ word (words_without T (owner spaces s i).space) (owner spaces s i).space.root i
 
 -- Each root has its self-entry, if there is a recursive index, no huge word above level three, and at each index the word of the
 -- first root that shares the index. The tables of the spaces and the frames of a pool are each in the memory and met once, and all
@@ -131,7 +131,7 @@ tables_of test spaces s = own_tables spaces test.levels (tested_words test) s
 
 -- All tables of a space that a test looks at below the indices that no earlier space of the list shares with it, without the root.
 abbrev pub tables_below : Tested → List Grouped → Grouped → List ℕ
-tables_below test spaces s = parts_where (owns spaces s) test.levels (seen_by (tested_words test) s.space) s.space.root
+tables_below test spaces s = parts_where (owns spaces s) test.levels (words_without (tested_words test) s.space) s.space.root
 
 -- The index of a frame's mark while a space is tested, if the frame has one.
 abbrev pub slot_of : Tested → Grouped → (frame : ℕ) → Option ℕ

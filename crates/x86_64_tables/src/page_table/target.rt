@@ -1,7 +1,7 @@
 //! What page table entries lead to.
 ghost use Rattle.std.specs.Prelude.{◌≡◌, ◌<◌, ◌≤◌, true};
 ghost use Rattle.x86_64_model.specs.Mappings.{maps_page};
-ghost use Rattle.x86_64_tables.specs.EntryTargets.{target_of, IsTable};
+ghost use Rattle.x86_64_tables.specs.EntryTargets.{target_of, NamesTable};
 ghost use Rattle.x86_64_tables.specs.declared.page_table.target.EntryTarget.TheVariants.{Page};
 
 use super::{PageTableEntry, PageTableFlags, has_flag};
@@ -28,7 +28,7 @@ impl PageTableEntry {
         requires { 1 ≤ level }
         ensures value { result ≡ target_of level self.now }
         ensures page { result ≡ Page → maps_page level self.now ≡ true }
-        ensures table { IsTable result → 1 < level }
+        ensures table { NamesTable result → 1 < level }
     {
         if !has_flag(self, PageTableFlags::PRESENT) {
             EntryTarget::Nothing

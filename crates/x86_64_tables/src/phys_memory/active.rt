@@ -3,7 +3,7 @@ ghost use Rattle.std.specs.Prelude.{◌≡◌, ◌/◌, true};
 ghost use Rattle.std.specs.Borrow.{sem};
 ghost use Rattle.std.specs.Option.{option_copied, option_copied_mut};
 ghost use Rattle.x86_64_model.specs.Entry.{is_frame};
-ghost use Rattle.x86_64_tables.specs.ActiveMemory.{lent, memory_of, words_in, cr3_of, walked_frame, walked_table, kept_of, LendsWalked, LendsFrame, RestsUnlessKept};
+ghost use Rattle.x86_64_tables.specs.ActiveMemory.{lent, memory_of, active_words, cr3_of, walked_frame, walked_table, kept_of, LendsWalked, LendsFrame, RestsUnlessKept};
 ghost use Rattle.x86_64_tables.specs.SelfEntries.{has_self_entry};
 
 use super::hierarchy_view::has_self_entry;
@@ -60,7 +60,7 @@ impl<'a, L: LevelCount, T: TableMemory> Active<'a, L, T> {
     /// Returns true if the table in CR3's frame is in the memory, and [`frame`](crate::page_table::PageTableEntry::frame) of
     /// its entry at the index is CR3's frame: the entry has `PRESENT`, lacks `HUGE_PAGE` and names that frame.
     pub fn self_entry(&self, index: PageTableIndex) -> bool
-        ensures { result ≡ has_self_entry (words_in T.tables self.now) (cr3_of self.now) index }
+        ensures { result ≡ has_self_entry (active_words T.tables self.now) (cr3_of self.now) index }
     {
         has_self_entry(self.memory, &IdentityMapping, self.cr3(), index)
     }
@@ -69,7 +69,7 @@ impl<'a, L: LevelCount, T: TableMemory> Active<'a, L, T> {
     /// of 4096, or at no table in the memory. It may arrive inside a huge page.
     pub fn table(&self, addr: VirtAddrIn<L>) -> Option<&PageTable>
         ensures { option_copied result
-            ≡ walked_table L.LEVELS (words_in T.tables self.now) (cr3_of self.now) addr }
+            ≡ walked_table L.LEVELS (active_words T.tables self.now) (cr3_of self.now) addr }
     {
         let frame = self.arrive(addr)?;
         self.memory.table(place_of(frame))
@@ -81,7 +81,7 @@ impl<'a, L: LevelCount, T: TableMemory> Active<'a, L, T> {
         ensures* writes_back { sem 𝓛
             (LendsWalked L.row T.row ⟦<T as TableMemory>⟧ L.LEVELS self.entry addr result) }
         ensures value { option_copied_mut result
-            ≡ walked_table L.LEVELS (words_in T.tables self.old) (cr3_of self.old) addr }
+            ≡ walked_table L.LEVELS (active_words T.tables self.old) (cr3_of self.old) addr }
     {
         match self.arrive(addr) {
             Some(frame) => self.table_in(frame),
@@ -91,7 +91,7 @@ impl<'a, L: LevelCount, T: TableMemory> Active<'a, L, T> {
 
     /// Returns the frame that starts where the page walk of an address arrives, if there is one.
     fn arrive(&self, addr: VirtAddrIn<L>) -> Option<PhysFrame<Size4KiB>>
-        ensures { result ≡ walked_frame L.LEVELS (words_in T.tables self.now) (cr3_of self.now) addr }
+        ensures { result ≡ walked_frame L.LEVELS (active_words T.tables self.now) (cr3_of self.now) addr }
     {
         let walked = page_walk(self.memory, &IdentityMapping, self.cr3(), addr)?;
         PhysFrame::from_start_address(walked.address).ok()
@@ -101,7 +101,7 @@ impl<'a, L: LevelCount, T: TableMemory> Active<'a, L, T> {
     fn table_in(&mut self, frame: PhysFrame<Size4KiB>) -> Option<&mut PageTable>
         ensures* writes_back { sem 𝓛
             (LendsFrame L.row T.row ⟦<T as TableMemory>⟧ self.entry frame result) }
-        ensures value { option_copied_mut result ≡ words_in T.tables self.old frame }
+        ensures value { option_copied_mut result ≡ active_words T.tables self.old frame }
     {
         let place = place_of(frame);
         self.memory.table_mut(place)

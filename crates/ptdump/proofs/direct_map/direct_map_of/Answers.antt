@@ -2,8 +2,8 @@ use Rattle.std.proofs.Common.{◌≡◌, ◌∙◌, List, ℕ, rules, Option, So
 use Rattle.std.specs.Borrow.{Bor}
 use Rattle.clap.specs.Matches.{first_value, found_of}
 use Rattle.ptdump.specs.DirectMaps.{IsDirectMap}
-use Rattle.ptdump.specs.Reasons.{IsReason}
-use Rattle.ptdump.specs.Requests.{IsUnread}
+use Rattle.ptdump.specs.Reasons.{IsStopReason}
+use Rattle.ptdump.specs.Requests.{IsUnreadArgument}
 use Rattle.ptdump.proofs.Reasons.{no_direct_map, unread_map}
 use Rattle.ptdump.proofs.direct_map.direct_map_of.Goals as goal
 
@@ -12,7 +12,7 @@ returns-in_err-range-clause-err c =
     let found = found_of c.args.arguments.now in
     let given : first_value found (codes "direct-map") ≡ Some c.in-Some.text.now =
     sym c.get_str.ensures ∙ ap (λ (o : Option (Bor (List ℕ))). option_map (λ (s : Bor (List ℕ)). s.now) o) c.in-Some.is in
-    let unread : IsUnread (IsDirectMap (first_value found (codes "direct-map"))) c.in_err-range.field-0.0 =
+    let unread : IsUnreadArgument (IsDirectMap (first_value found (codes "direct-map"))) c.in_err-range.field-0.0 =
     unread_map (first_value found (codes "direct-map")) c.in-Some.text.now c.in_err-range.field-0.0 given c.in_err-range.ensures.err in
     search (rules, unread)
 
@@ -21,6 +21,6 @@ returns-in_err-range-clause-reason c =
     let found = found_of c.args.arguments.now in
     let given : first_value found (codes "direct-map") ≡ Some c.in-Some.text.now =
     sym c.get_str.ensures ∙ ap (λ (o : Option (Bor (List ℕ))). option_map (λ (s : Bor (List ℕ)). s.now) o) c.in-Some.is in
-    let reason : IsReason found c.in_err-range.field-0.0 =
+    let reason : IsStopReason found c.in_err-range.field-0.0 =
     no_direct_map found c.in-Some.text c.in_err-range.field-0.0 given c.in_err-range.ensures.reason c.in_err-range.ensures.err in
     search (rules, reason)

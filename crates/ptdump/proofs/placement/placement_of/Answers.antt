@@ -4,8 +4,8 @@ use Rattle.std.specs.Borrow.{Bor}
 use Rattle.std.specs.Option.{option_copied}
 use Rattle.clap.specs.Matches.{first_value, found_of}
 use Rattle.ptdump.specs.Placements.{IsPlacement}
-use Rattle.ptdump.specs.Reasons.{IsNoPlacement, IsReason}
-use Rattle.ptdump.specs.Requests.{IsUnread, values}
+use Rattle.ptdump.specs.Reasons.{IsNoPlacement, IsStopReason}
+use Rattle.ptdump.specs.Requests.{IsUnreadArgument, values}
 use Rattle.ptdump.proofs.NumberTexts.{texts_given}
 use Rattle.ptdump.proofs.Reasons.{of_placement}
 use Rattle.ptdump.proofs.placement.placement_of.Goals as goal
@@ -21,8 +21,8 @@ pub returns-clause-err : goal.returns-clause-err
 returns-clause-err c =
     let texts = ap (λ (s : Bor (List (Bor (List ℕ)))). map (λ (v : Bor (List ℕ)). v.now) s.now) c.unwrap_or.ensures
     ∙ texts_given c.get_strs.result _ _ refl c.get_strs.ensures in
-    subst (λ (base : Option (List ℕ)). IfErr c.placed.result (IsUnread (IsPlacement base (values (found_of c.args.arguments.now) (codes "range"))))) c.get_str.ensures
-    (subst (λ (ts : List (List ℕ)). IfErr c.placed.result (IsUnread (IsPlacement (option_copied c.get_str.result) ts))) texts c.placed.ensures.err)
+    subst (λ (base : Option (List ℕ)). IfErr c.placed.result (IsUnreadArgument (IsPlacement base (values (found_of c.args.arguments.now) (codes "range"))))) c.get_str.ensures
+    (subst (λ (ts : List (List ℕ)). IfErr c.placed.result (IsUnreadArgument (IsPlacement (option_copied c.get_str.result) ts))) texts c.placed.ensures.err)
 
 pub returns-clause-reason : goal.returns-clause-reason
 returns-clause-reason c =
@@ -30,6 +30,6 @@ returns-clause-reason c =
     let ranges = values found (codes "range") in
     let texts = ap (λ (s : Bor (List (Bor (List ℕ)))). map (λ (v : Bor (List ℕ)). v.now) s.now) c.unwrap_or.ensures
     ∙ texts_given c.get_strs.result _ _ refl c.get_strs.ensures in
-    IfErr-weaker c.placed.result (IsNoPlacement (first_value found (codes "base")) ranges) (IsReason found) (of_placement found)
+    IfErr-weaker c.placed.result (IsNoPlacement (first_value found (codes "base")) ranges) (IsStopReason found) (of_placement found)
     (subst (λ (base : Option (List ℕ)). IfErr c.placed.result (IsNoPlacement base ranges)) c.get_str.ensures
     (subst (λ (ts : List (List ℕ)). IfErr c.placed.result (IsNoPlacement (option_copied c.get_str.result) ts)) texts c.placed.ensures.reason))

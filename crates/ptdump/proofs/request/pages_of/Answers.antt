@@ -1,12 +1,12 @@
 use Rattle.std.proofs.Common.{rules, inr, refl, codes}
 use Rattle.clap.specs.Matches.{found_of}
-use Rattle.ptdump.specs.Requests.{IsCommand, IsUnread}
+use Rattle.ptdump.specs.Requests.{IsCommand, IsUnreadArgument}
 use Rattle.ptdump.proofs.Commands.{no_pages}
 use Rattle.ptdump.proofs.request.pages_of.Goals as goal
 
 pub returns-in_err-selection_of-clause-err : goal.returns-in_err-selection_of-clause-err
 returns-in_err-selection_of-clause-err c =
     let found = found_of c.args.arguments.now in
-    let unread : IsUnread (IsCommand (codes "pages") found) c.in_err-selection_of.field-0.0 =
+    let unread : IsUnreadArgument (IsCommand (codes "pages") found) c.in_err-selection_of.field-0.0 =
     inr (no_pages (codes "pages") found refl (λ selection is. c.in_err-selection_of.ensures.err selection is)) in
     search (rules, unread)

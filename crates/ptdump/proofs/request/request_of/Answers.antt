@@ -1,12 +1,12 @@
 use Rattle.std.proofs.Common.{rules, inl, inr}
 use Rattle.clap.specs.Matches.{found_of}
 use Rattle.ptdump_engine.specs.declared.request.Request.{Request}
-use Rattle.ptdump.specs.Requests.{IsRequest, IsUnread}
+use Rattle.ptdump.specs.Requests.{IsRequest, IsUnreadArgument}
 use Rattle.ptdump.proofs.request.request_of.Goals as goal
 
 pub returns-in_err-command_of-clause-err : goal.returns-in_err-command_of-clause-err
 returns-in_err-command_of-clause-err c =
-    let unread : IsUnread (IsRequest c.args.is_terminal c.args.name.now (found_of c.args.arguments.now)) c.in_err-command_of.field-0.0 =
+    let unread : IsUnreadArgument (IsRequest c.args.is_terminal c.args.name.now (found_of c.args.arguments.now)) c.in_err-command_of.field-0.0 =
     elim c.in_err-command_of.ensures.err [
       | inl memory ↦ inl memory
       | inr none ↦ inr (λ (request : Request) is. none request.command is.command)
@@ -15,7 +15,7 @@ returns-in_err-command_of-clause-err c =
 
 pub returns-in_err-placement_of-clause-err : goal.returns-in_err-placement_of-clause-err
 returns-in_err-placement_of-clause-err c =
-    let unread : IsUnread (IsRequest c.args.is_terminal c.args.name.now (found_of c.args.arguments.now)) c.in_err-placement_of.field-0.0 =
+    let unread : IsUnreadArgument (IsRequest c.args.is_terminal c.args.name.now (found_of c.args.arguments.now)) c.in_err-placement_of.field-0.0 =
     elim c.in_err-placement_of.ensures.err [
       | inl memory ↦ inl memory
       | inr none ↦ inr (λ (request : Request) is. none request.placement is.placement)
@@ -24,6 +24,6 @@ returns-in_err-placement_of-clause-err c =
 
 pub returns-in_err-levels_of-clause-err : goal.returns-in_err-levels_of-clause-err
 returns-in_err-levels_of-clause-err c =
-    let unread : IsUnread (IsRequest c.args.is_terminal c.args.name.now (found_of c.args.arguments.now)) c.in_err-levels_of.field-0.0 =
+    let unread : IsUnreadArgument (IsRequest c.args.is_terminal c.args.name.now (found_of c.args.arguments.now)) c.in_err-levels_of.field-0.0 =
     inr (λ (request : Request) is. c.in_err-levels_of.ensures.err request.levels is.levels) in
     search (rules, unread)

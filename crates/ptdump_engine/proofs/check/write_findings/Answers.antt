@@ -5,7 +5,7 @@ use Rattle.x86_64_model.specs.Memory.{Words, identity_places, words_of}
 use Rattle.x86_64_model.specs.Mappings.{mappings_of}
 use Rattle.x86_64_model.specs.Regions.{regions_of}
 use Rattle.ptdump_engine.specs.Aliases.{alias_lines}
-use Rattle.ptdump_engine.specs.Findings.{check_text, finding_lines, findings_by, flawed_lines, frames_above, line_count, names_in, names_in_order, processor_of, said_of, said_of_count, table_findings, tables_from, tables_in_order}
+use Rattle.ptdump_engine.specs.Findings.{check_text, finding_lines, findings_by, flawed_lines, frames_above, line_count, names_in, names_in_order, processor_of, said_of, said_of_count, table_findings, tables_below, tables_by_address}
 use Rattle.ptdump_engine.specs.ReachedTables.{all_reached}
 use Rattle.ptdump_engine.specs.Loaded.{HasAllTables, words_loaded}
 use Rattle.ptdump_engine.specs.Output.{Puts}
@@ -34,7 +34,7 @@ mapped checking L T root tables = all_reached L T root tables ++ all_writable L 
 
 -- the lines for the tables in order, their names and those that are reached are those of the report
 all_lines : {X : Type 0} (checking : Checking) (L : ℕ) (loaded : Loaded X) (subject : Subject) → HasAllTables L loaded → subject.selection ≡ checking.selection → subject.processor ≡ processor_of checking → subject.memory.now ≡ loaded.tables.now.memory → subject.root ≡ loaded.root
-    → subject.tables.now ≡ tables_in_order (frames_of loaded.tables.now.frames.items) → subject.names.now ≡ names_in_order (words_of subject.memory.now identity_places) subject.tables.now
+    → subject.tables.now ≡ tables_by_address (frames_of loaded.tables.now.frames.items) → subject.names.now ≡ names_in_order (words_of subject.memory.now identity_places) subject.tables.now
     → subject.reached.now ≡ mapped checking L (words_of subject.memory.now identity_places) subject.root subject.tables.now
     → subject.aliases ≡ checking.aliases
     → finding_lines_by L loaded subject ≡ finding_lines checking L (words_loaded loaded) loaded.root
@@ -55,11 +55,11 @@ all_lines checking L loaded subject all selection processor memory root tables n
     ∙ ap (λ fs. lines (findings_by (processor_of checking) W subject.root subject.tables.now (names_in_order W subject.tables.now) ++ fs)) reached
     ∙ ap (λ m. lines (found (words_of m identity_places) subject.root subject.tables.now)) memory
     ∙ ap (λ r. lines (found T r subject.tables.now)) root
-    ∙ ap (λ ts. lines (found T loaded.root ts)) (tables ∙ ap tables_in_order all)
+    ∙ ap (λ ts. lines (found T loaded.root ts)) (tables ∙ ap tables_by_address all)
 
-ascend_tables : (levels : List (List ℕ)) → Ascend (λ (table : Table). table.frame) (tables_in_order levels)
-unfolding tables_in_order
-ascend_tables levels = ascend_in_order (λ table. table.frame) (tables_from 1 levels)
+ascend_tables : (levels : List (List ℕ)) → Ascend (λ (table : Table). table.frame) (tables_by_address levels)
+unfolding tables_by_address
+ascend_tables levels = ascend_in_order (λ table. table.frame) (tables_below 1 levels)
 
 ascend_names : (T : Words) (tables : List Table) → Ascend (λ (name : Name). name.frame) (names_in_order T tables)
 unfolding names_in_order
@@ -81,8 +81,8 @@ returns-clause-text g c = λ all.
     let contents = g.W.Destination.contents in
     let subject : Subject = record { memory = c.memory-memory.result; selection = c.args.checking.selection; processor = c.processor_of.result; root = loaded.root; tables = c.deref-3.result; names = c.deref-4.result; reached = c.deref-5.result; aliases = c.args.checking.aliases } in
     let W = words_of c.memory-memory.result.now identity_places in
-    let tables : c.deref-3.result.now ≡ tables_in_order (frames_of loaded.tables.now.frames.items) =
-    c.deref-3.ensures.value ∙ c.in_ok-tables.ensures ∙ ap (λ fs. tables_in_order (frames_of fs)) c.frames.ensures in
+    let tables : c.deref-3.result.now ≡ tables_by_address (frames_of loaded.tables.now.frames.items) =
+    c.deref-3.ensures.value ∙ c.in_ok-tables.ensures ∙ ap (λ fs. tables_by_address (frames_of fs)) c.frames.ensures in
     let names : c.deref-4.result.now ≡ names_in_order W c.deref-3.result.now =
     c.deref-4.ensures.value ∙ c.in_ok-names.ensures ∙ ap (names_in_order W) (c.deref.ensures.value ∙ sym c.deref-3.ensures.value) in
     let reached : c.deref-5.result.now ≡ mapped c.args.checking L W loaded.root c.deref-3.result.now =
@@ -100,8 +100,8 @@ returns-clause-nothing g c = λ all.
     let loaded = c.args.loaded.now in
     let subject : Subject = record { memory = c.memory-memory.result; selection = c.args.checking.selection; processor = c.processor_of.result; root = loaded.root; tables = c.deref-3.result; names = c.deref-4.result; reached = c.deref-5.result; aliases = c.args.checking.aliases } in
     let W = words_of c.memory-memory.result.now identity_places in
-    let tables : c.deref-3.result.now ≡ tables_in_order (frames_of loaded.tables.now.frames.items) =
-    c.deref-3.ensures.value ∙ c.in_ok-tables.ensures ∙ ap (λ fs. tables_in_order (frames_of fs)) c.frames.ensures in
+    let tables : c.deref-3.result.now ≡ tables_by_address (frames_of loaded.tables.now.frames.items) =
+    c.deref-3.ensures.value ∙ c.in_ok-tables.ensures ∙ ap (λ fs. tables_by_address (frames_of fs)) c.frames.ensures in
     let names : c.deref-4.result.now ≡ names_in_order W c.deref-3.result.now =
     c.deref-4.ensures.value ∙ c.in_ok-names.ensures ∙ ap (names_in_order W) (c.deref.ensures.value ∙ sym c.deref-3.ensures.value) in
     let reached : c.deref-5.result.now ≡ mapped c.args.checking L W loaded.root c.deref-3.result.now =

@@ -3,13 +3,13 @@ use Rattle.std.specs.FinMap.{len}
 use Rattle.std.specs.Io.KnownBytes.{Appends}
 use Rattle.x86_64_dump.specs.Dump.{words_of_dump}
 use Rattle.x86_64_dump.specs.Opened.{opened}
-use Rattle.x86_64_dump.specs.Loaded.{words_in, IsTableCount}
+use Rattle.x86_64_dump.specs.Loaded.{loaded_words, IsTableCount}
 use Rattle.x86_64_model.specs.Mappings.{Mapping}
 use Rattle.std.specs.declared.alloc.Global.{Global}
 use Rattle.ptdump_engine.specs.Output.{Puts, put_in}
 use Rattle.ptdump_engine.specs.Program.{ToldInTurn}
 use Rattle.ptdump_engine.specs.Reserved.{reserved_note}
-use Rattle.ptdump_engine.specs.Totals.{IsMapped, totals_text}
+use Rattle.ptdump_engine.specs.Totals.{IsMappedMemory, totals_text}
 use Rattle.ptdump_engine.specs.Walks.{line}
 use Rattle.ptdump_engine.specs.declared.output.Output.{Output}
 use Rattle.ptdump_engine.proofs.SameTables.{same_note, same_tables}
@@ -22,7 +22,7 @@ use Rattle.ptdump_engine.proofs.engine.report.Goals.{After-end}
 pub returns-clause-written : goal.returns-clause-written
 returns-clause-written g c = λ known.
     let L = g.L.LevelCount.LEVELS in
-    let T = words_in c.in_ok-tables.tables in
+    let T = loaded_words c.in_ok-tables.tables in
     let W = words_of_dump (opened g.S.ByteSource.bytes c.args.dump.now) in
     let contents = g.W.Destination.contents in
     record {
@@ -36,7 +36,7 @@ returns-clause-written g c = λ known.
 pub returns-clause-totals : goal.returns-clause-totals
 returns-clause-totals g c = λ known not_image.
     let L = g.L.LevelCount.LEVELS in
-    let T = words_in c.in_ok-tables.tables in
+    let T = loaded_words c.in_ok-tables.tables in
     let W = words_of_dump (opened g.S.ByteSource.bytes c.args.dump.now) in
     let root = c.args.root in
     let command = c.args.request.now.command in
@@ -46,7 +46,7 @@ returns-clause-totals g c = λ known not_image.
     let below = c.in_ok-tables.ensures.same known in
     let all = (c.in_ok-tables.ensures.tables known).frames ∙ sym (same_tables T W L root below) in
     let (totals, tables, mapped, last) = c.in_ok-write_totals.ensures.text in
-    let Mapped : List Mapping → Type 0 = λ ms. IsMapped ms totals in
+    let Mapped : List Mapping → Type 0 = λ ms. IsMappedMemory ms totals in
     let noted : Puts contents c.write_whole.new.notes c.write_reserved.new.notes (reserved_note command L W root) =
     subst (Puts contents c.write_whole.new.notes c.write_reserved.new.notes) (same_note T W command L root below) (c.in_ok-write_reserved.ensures all) in
     let puts = puts_both contents c.write_whole.new.notes c.write_reserved.new.notes end _ _ noted last in
@@ -69,7 +69,7 @@ returns-clause-told g c = λ known. (len c.in_ok-tables.tables.memory, c.read_ta
 pub write_whole-requires-clause-tables : goal.write_whole-requires-clause-tables
 write_whole-requires-clause-tables g c = λ known.
     let L = g.L.LevelCount.LEVELS in
-    let T = words_in c.in_ok-tables.tables in
+    let T = loaded_words c.in_ok-tables.tables in
     let W = words_of_dump (opened g.S.ByteSource.bytes c.args.dump.now) in
     (c.in_ok-tables.ensures.tables known).frames ∙ sym (same_tables T W L c.args.root (c.in_ok-tables.ensures.same known))
 

@@ -5,8 +5,8 @@ use Rattle.x86_64_dump.specs.Opened.{opened}
 use Rattle.ptdump_engine.specs.Failure.{failure_of}
 use Rattle.ptdump_engine.specs.NotedControls.{command_by, registers_for}
 use Rattle.ptdump_engine.specs.Resolved.{resolved}
-use Rattle.ptdump_engine.specs.NotedLevels.{levels_text}
-use Rattle.ptdump_engine.specs.Program.{EndsByTotals, Machine, Notes, NotesAs, NotesOnTables, Reports, ReportsAll, RunsAs, ToldAs, ToldOfTablesOf, is_image, is_info, is_of_processors, level_count, opening_text, source_text}
+use Rattle.ptdump_engine.specs.NotedLevels.{noted_levels_text}
+use Rattle.ptdump_engine.specs.Program.{EndsByTotals, DumpedMachine, StderrIs, NotesAs, NotesOnTables, Reports, ReportsAll, RunsAs, ToldAs, ToldOfTablesOf, is_image, is_info, is_of_processors, level_count, opening_text, source_text}
 use Rattle.ptdump_engine.specs.Processors.{firsts_of}
 use Rattle.ptdump_engine.specs.Steps.{InTurn, of_dump}
 use Rattle.std.specs.Io.KnownBytes.{Appends}
@@ -52,7 +52,7 @@ returns-then-is_info-clause-notes g c = λ known.
     let begun : Appends (contents c.args.errors.now) (contents ended.writer.now) (opening_text dump) =
     subst (λ e. Appends (contents e) (contents ended.writer.now) (opening_text dump)) c.new-notes.ensures.now told in
     let same = (c.in_ok-write_opening.ensures.text known).writer in
-    let noted : Notes request file (contents c.args.errors.now) (contents ended.writer.now) =
+    let noted : StderrIs request file (contents c.args.errors.now) (contents ended.writer.now) =
     subst (λ info. NotesAs info (is_of_processors request) request file (contents c.args.errors.now) (contents ended.writer.now)) (sym is) (dump, ap of_dump (c.in_ok-dump.ensures known), begun) in
     search (rules, noted)
 
@@ -89,7 +89,7 @@ returns-then-is_of_processors-clause-run g c = λ known.
     let fails = g.S.ByteSource.may_fail in
     let may = g.W.Destination.may_refuse || g.E.Destination.may_refuse in
     let contents = g.W.Destination.contents in
-    let m : Machine = record { dump = opened g.S.ByteSource.bytes c.in_ok-dump.dump; processors = c.in_ok-processors.processors.items } in
+    let m : DumpedMachine = record { dump = opened g.S.ByteSource.bytes c.in_ok-dump.dump; processors = c.in_ok-processors.processors.items } in
     let not : is_info request.command ≡ false = sym c.is_info.ensures ∙ c.if-is_info.false in
     let all : is_of_processors request ≡ true = sym c.is_of_processors.ensures ∙ c.if-is_of_processors.true in
     subst (λ info. RunsAs info (is_of_processors request) fails may request file (contents c.args.writer.now) (contents c.report_on_processors.new.writer) c.report_on_processors.result) (sym not)
@@ -105,7 +105,7 @@ returns-then-is_of_processors-clause-notes g c = λ known.
     let request = c.args.request in
     let file = g.S.ByteSource.bytes c.args.source in
     let contents = g.E.Destination.contents in
-    let m : Machine = record { dump = opened g.S.ByteSource.bytes c.in_ok-dump.dump; processors = c.in_ok-processors.processors.items } in
+    let m : DumpedMachine = record { dump = opened g.S.ByteSource.bytes c.in_ok-dump.dump; processors = c.in_ok-processors.processors.items } in
     let not : is_info request.command ≡ false = sym c.is_info.ensures ∙ c.if-is_info.false in
     let all : is_of_processors request ≡ true = sym c.is_of_processors.ensures ∙ c.if-is_of_processors.true in
     let now = c.write_opening.new.notes in
@@ -116,7 +116,7 @@ returns-then-is_of_processors-clause-notes g c = λ known.
     on_ok c.report_on_processors.result (λ noted not_image.
     let (name, between, left_out, totals) = noted in
     let same = (c.in_ok-write_opening.ensures.text known).writer in
-    let noted : Notes request file (contents c.args.errors.now) (contents ended.writer.now) =
+    let noted : StderrIs request file (contents c.args.errors.now) (contents ended.writer.now) =
     subst (λ info. NotesAs info (is_of_processors request) request file (contents c.args.errors.now) (contents ended.writer.now)) (sym not)
     (subst (λ all. NotesAs false all request file (contents c.args.errors.now) (contents ended.writer.now)) (sym all)
     (m, between, shows request file m.dump m.processors (c.in_ok-dump.ensures known) (c.in_ok-processors.ensures known), Appends-trans _ _ _ _ _ begun left_out, totals)) in
@@ -127,7 +127,7 @@ pub returns-then-is_of_processors-clause-told : goal.returns-then-is_of_processo
 returns-then-is_of_processors-clause-told g c = λ known.
     let request = c.args.request in
     let file = g.S.ByteSource.bytes c.args.source in
-    let m : Machine = record { dump = opened g.S.ByteSource.bytes c.in_ok-dump.dump; processors = c.in_ok-processors.processors.items } in
+    let m : DumpedMachine = record { dump = opened g.S.ByteSource.bytes c.in_ok-dump.dump; processors = c.in_ok-processors.processors.items } in
     let Told = g.G.Progress.Told in
     let Ended = g.G.Progress.Ended in
     let before = c.args.progress.now in
@@ -214,10 +214,10 @@ returns-clause-notes g c = λ known.
     let contents = g.E.Destination.contents in
     let not : is_info request.command ≡ false = sym c.is_info.ensures ∙ c.if-is_info.false in
     let one : is_of_processors request ≡ false = sym c.is_of_processors.ensures ∙ c.if-is_of_processors.false in
-    let text = opening_text dump ++ source_text start.origin ++ levels_text request.levels start.noted_levels in
+    let text = opening_text dump ++ source_text start.origin ++ noted_levels_text request.levels start.noted_levels in
     let ended = c.write_levels.new.notes in
     let both = puts_both contents c.new-notes.result c.write_opening.new.notes c.write_source.new.notes (opening_text dump) (source_text start.origin) (c.in_ok-write_opening.ensures.text known) c.in_ok-write_source.ensures.text in
-    let all = puts_both contents c.new-notes.result c.write_source.new.notes ended (opening_text dump ++ source_text start.origin) (levels_text request.levels start.noted_levels) both c.in_ok-write_levels.ensures in
+    let all = puts_both contents c.new-notes.result c.write_source.new.notes ended (opening_text dump ++ source_text start.origin) (noted_levels_text request.levels start.noted_levels) both c.in_ok-write_levels.ensures in
     let told = put_first contents c.new-notes.result ended text c.new-notes.ensures.empty all in
     let begun : Appends (contents c.args.errors.now) (put_in contents ended) text =
     subst (λ e. Appends (contents e) (put_in contents ended) text) c.new-notes.ensures.now told in
@@ -234,7 +234,7 @@ returns-clause-notes g c = λ known.
       same_ends registers request.command (level_count start.levels) (words_of_dump dump) start.root (put_in contents ended) (contents c.report_from.new.notes.writer.now)
           (subst (λ asked. EndsByTotals asked (level_count start.levels) (words_of_dump dump) start.root (put_in contents ended) (contents c.report_from.new.notes.writer.now)) is ends.1),
     ) in
-    let noted : Notes request file (contents c.args.errors.now) (contents c.report_from.new.notes.writer.now) =
+    let noted : StderrIs request file (contents c.args.errors.now) (contents c.report_from.new.notes.writer.now) =
     subst (λ info. NotesAs info (is_of_processors request) request file (contents c.args.errors.now) (contents c.report_from.new.notes.writer.now)) (sym not)
     (subst (λ all. NotesAs false all request file (contents c.args.errors.now) (contents c.report_from.new.notes.writer.now)) (sym one) tables) in
     search (rules, noted))

@@ -4,7 +4,7 @@ use Rattle.ptdump_engine.specs.FailureTexts.{failure_text}
 use Rattle.ptdump_engine.specs.Info.{no_root_line, root_line}
 use Rattle.ptdump_engine.specs.Output.{Puts}
 use Rattle.ptdump_engine.specs.Program.{start_for}
-use Rattle.ptdump_engine.specs.Steps.{IsForced}
+use Rattle.ptdump_engine.specs.Steps.{MayBeForced}
 use Rattle.ptdump_engine.specs.declared.failure.Failure.{Failure}
 use Rattle.ptdump_engine.proofs.Failing.{forced_write}
 use Rattle.ptdump_engine.proofs.Results.{both_ok, if_err, on_ok}
@@ -33,9 +33,9 @@ returns-in-Err-clause-errors g c = λ known.
     let found = start_for c.args.request.now (opened g.S.ByteSource.bytes c.args.dump.now) in
     let failure = c.in-Err.failure in
     if_err c.write_failure.result
-    (λ (error : Failure) (fact : IsForced false may error ⊎ ((failure_text failure ≡ None) × (error ≡ failure))). elim fact [
+    (λ (error : Failure) (fact : MayBeForced false may error ⊎ ((failure_text failure ≡ None) × (error ≡ failure))). elim fact [
       | inl forced ↦ forced_write fails may error forced
-      | inr other ↦ subst (IsForced fails may) (sym other.1)
+      | inr other ↦ subst (MayBeForced fails may) (sym other.1)
           (unshown fails may failure found (c.in-Err.ensures.start known) (start_has_text c.args.request.now (opened g.S.ByteSource.bytes c.args.dump.now) c.requires) other.0)
     ])
     c.write_failure.ensures.errors

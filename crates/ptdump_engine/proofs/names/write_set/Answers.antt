@@ -2,7 +2,7 @@ use Rattle.std.proofs.Common.{rules, ◌≡◌, ◌∙◌, ◌++◌, ◌==◌, [
 use Rattle.std.proofs.lemmas.Grind.{put_three}
 use Rattle.ptdump_engine.specs.Names.{set_text}
 use Rattle.ptdump_engine.specs.declared.names.Flag.{Flag}
-use Rattle.ptdump_engine.specs.private.Flags.{named}
+use Rattle.ptdump_engine.specs.private.Flags.{named_flag}
 use Rattle.ptdump_engine.proofs.Named.{is_set, separator_set, text_set}
 use Rattle.ptdump_engine.proofs.names.write_set.Goals as goal
 
@@ -23,6 +23,6 @@ loop-flag-preserved g c =
           let one = c.in_ok-write_str.ensures.writes before.plain (refl {a = true}) in
           let two = c.in_ok-write_str-2.ensures.writes one.plain (refl {a = true}) in
           put_three g.W.Write.write_str_gives _ _ _ _ _ _ _ _ before one two
-          (ap (λ s. set_text w (map named (take i fs)) ++ (s ++ flag.name.now)) c.loop-flag.invariant.2 ∙ sym (text_set w fs i nothing below is)),
+          (ap (λ s. set_text w (map named_flag (take i fs)) ++ (s ++ flag.name.now)) c.loop-flag.invariant.2 ∙ sym (text_set w fs i nothing below is)),
       sym (separator_set w fs i nothing below is),
     )

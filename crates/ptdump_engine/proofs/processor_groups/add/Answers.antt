@@ -3,7 +3,7 @@ use Rattle.std.specs.HashMap.{get}
 use Rattle.std.specs.HashMap.Entry.{map_with_value}
 use Rattle.std.specs.Map.{lookup}
 use Rattle.std.specs.Option.{option_map_or}
-use Rattle.ptdump_engine.specs.private.ProcessorGroups.{cpu_if, cpus_at, key_of, same_key}
+use Rattle.ptdump_engine.specs.private.ProcessorGroups.{cpu_if, cpus_at, group_key, same_key}
 use Rattle.ptdump_engine.proofs.ProcessorGroups.{lent, one_more}
 use Rattle.ptdump_engine.proofs.processor_groups.add.Goals as goal
 
@@ -11,7 +11,7 @@ pub returns-in_ok-push : goal.returns-in_ok-push
 returns-in_ok-push c =
     let old = c.args.cpus.now in
     let p = c.args.processor.now in
-    let key : c.key.result ≡ key_of p = c.key.ensures in
+    let key : c.key.result ≡ group_key p = c.key.ensures in
     let all : (k : ℕ × Bool) → cpus_at (map_with_value c.in_ok-cpus.field-0 c.push.new.self) k ≡ cpus_at old k ++ cpu_if k p =
     one_more old (map_with_value c.in_ok-cpus.field-0 c.push.new.self) p c.push.new.self (sym c.has_tables.ensures ∙ c.if-has_tables.true)
     (c.in_ok-push.ensures.items ∙ ap (λ ns. ns ++ p.cpu ∷ []) (lent _ _ c.or_default.ensures.value

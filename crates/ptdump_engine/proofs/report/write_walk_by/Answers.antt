@@ -1,5 +1,5 @@
 use Rattle.std.proofs.Common.{◌∙◌, ◌++◌, [], if◌then◌else◌, sym, ap, subst, append-nil}
-use Rattle.ptdump_engine.specs.Accesses.{asked_text, is_there}
+use Rattle.ptdump_engine.specs.Accesses.{asked_text, is_access_there}
 use Rattle.ptdump_engine.specs.Explanations.{explanation_text}
 use Rattle.ptdump_engine.specs.Loaded.{words_loaded}
 use Rattle.ptdump_engine.specs.Output.{Puts}
@@ -30,7 +30,7 @@ returns-in-None-clause-arrives g c =
     let T = words_loaded c.args.loaded.now in
     let root = c.args.loaded.now.root in
     let p = c.args.address in
-    c.arrives.ensures ∙ value_arrives L T root p c.in_ok-walk.walk c.in_ok-walk.ensures ∙ ap (λ asked. is_there c.args.options.controls asked L T root p) (sym c.in-None.is)
+    c.arrives.ensures ∙ value_arrives L T root p c.in_ok-walk.walk c.in_ok-walk.ensures ∙ ap (λ asked. is_access_there c.args.options.controls asked L T root p) (sym c.in-None.is)
 
 pub returns-clause-text : goal.returns-clause-text
 returns-clause-text g c =

@@ -1,6 +1,6 @@
 use Rattle.std.proofs.Common.{◌∙◌, ◌%◌, ◌&&◌, ap₂, sym, refl}
 use Rattle.x86_64_model.specs.Position.{position_count}
-use Rattle.ptdump_engine.specs.Accesses.{is_there}
+use Rattle.ptdump_engine.specs.Accesses.{is_access_there}
 use Rattle.ptdump_engine.specs.Loaded.{words_loaded}
 use Rattle.ptdump_engine.specs.Reports.{are_several, headed_walk, walks_text}
 use Rattle.ptdump_engine.specs.private.Puts.{puts_nothing}
@@ -23,5 +23,5 @@ loop-address-preserved g c =
       puts_more g.W.Destination.contents (headed_walk c.args.form (are_several xs) L T root asked) c.args.output.now c.loop-address.output c.write_headed_walk.new.output xs i 0
           c.loop-address-test.true c.loop-address.invariant.0 c.in_ok-arrives.ensures.text,
       ap₂ (λ b d. b && d) c.loop-address.invariant.1 c.in_ok-arrives.ensures.arrives
-          ∙ sym (all_more (λ a. is_there asked.controls asked.access L T root (a % position_count L)) xs i c.loop-address-test.true),
+          ∙ sym (all_more (λ a. is_access_there asked.controls asked.access L T root (a % position_count L)) xs i c.loop-address-test.true),
     )

@@ -14,7 +14,7 @@ use Rattle.x86_64_model.specs.Pool.{Fits}
 use Rattle.x86_64_tables.specs.PageTable.{zero_words, get_or-zero_words}
 use Rattle.x86_64.specs.EmptyRoots.{EmptyRootsAreSpaces}
 use Rattle.x86_64.proofs.EmptyRoots.{only_root}
-use Rattle.test_mappers.specs.Beside.{AreTwo}
+use Rattle.test_mappers.specs.Beside.{AreTwoRoots}
 use Rattle.test_mappers.proofs.beside.pool_of_two.Goals as goal
 
 -- all places below n have zero words only
@@ -46,7 +46,7 @@ module _ (m : Memory) (n : ℕ) (fresh : AllZero m n) where
     abbrev other : Layout
     other = direct identity_places second
 
-    are_two : OneIsASpace → EmptyRootsAreSpaces → AreTwo first second m serves pool
+    are_two : OneIsASpace → EmptyRootsAreSpaces → AreTwoRoots first second m serves pool
     are_two one_is empty_is = empty_is (other ∷ []) other (inl refl) (lit< tt) serves m pool (one_is (λ i. false) other serves m pool second_fits)
         first (first_fits.valid.valid.holds.in_memory [] first refl) (all_zero first) (λ a. ⊎_elim
         (λ e. subst (λ (l : Layout). Owns (l laid_in m) pool first → ⊥) e (⊎_elim

@@ -1,11 +1,11 @@
 use Rattle.std.proofs.Common.{◌≡◌, inl, inr, ℕ, Bool, List, refl, sym, subst}
 use Rattle.x86_64_model.specs.Memory.{Memory}
-use Rattle.test_mappers.specs.Beside.{AreTwo}
+use Rattle.test_mappers.specs.Beside.{AreTwoRoots}
 use Rattle.test_mappers.proofs.beside.run_in_turn.Goals as goal
 
 -- with the frames that the pool serves then
-at : (first second : ℕ) (m : Memory) (serves now : ℕ → Bool) (pool : List ℕ) → now ≡ serves → AreTwo first second m serves pool → AreTwo first second m now pool
-at first second m serves now pool same = subst (λ s. AreTwo first second m s pool) (sym same)
+at : (first second : ℕ) (m : Memory) (serves now : ℕ → Bool) (pool : List ℕ) → now ≡ serves → AreTwoRoots first second m serves pool → AreTwoRoots first second m now pool
+at first second m serves now pool same = subst (λ s. AreTwoRoots first second m s pool) (sym same)
 
 pub run_on-requires : goal.run_on-requires
 run_on-requires g c = c.requires.fits _ (inl refl)

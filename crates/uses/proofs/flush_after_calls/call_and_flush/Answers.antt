@@ -3,9 +3,9 @@ use Rattle.x86_64_model.specs.Call.{IsCall}
 use Rattle.x86_64_model.specs.Mapper.{◌laid_in◌, PoolFits}
 use Rattle.x86_64_model.specs.Window.{Window}
 use Rattle.x86_64.specs.Asked.{machine_call}
-use Rattle.x86_64.specs.Calls.{asks, page_start}
+use Rattle.x86_64.specs.Calls.{to_call, page_of_call}
 use Rattle.x86_64.specs.FlushesDue.{TellsFlush, executed}
-use Rattle.x86_64.specs.Processors.{Arises, LeftBy}
+use Rattle.x86_64.specs.Processors.{IsReachable, LeftBy}
 use Rattle.x86_64.proofs.AskedCalls.{is_call}
 use Rattle.x86_64.proofs.CallsFlushed.{arises_by_flushed_calls}
 use Rattle.x86_64.proofs.Processors.{flushed_accesses_go}
@@ -25,13 +25,13 @@ returns-clause-again g c =
     let take_back = g.F.FrameDeallocator.take_back in
     let levels : l.levels ≡ g.L.LevelCount.LEVELS = g.met.M.TablesIn.level_count mapper in
     let ran = c.run_call-reply.ensures in
-    let call = asks g.P5.LevelFiveFlags.bits c.args.call in
+    let call = to_call g.P5.LevelFiveFlags.bits c.args.call in
     let flush = c.flush_after-flush.result in
     let before = g.C.Processor.cached c.args.processor.now in
     let first = g.C.Processor.cached c.cache.new.self in
     let second = g.C.Processor.cached c.cache-2.new.self in
     let after = g.C.Processor.cached c.execute.new.processor in
-    let arises : Arises l take_back serves n rest after [] =
+    let arises : IsReachable l take_back serves n rest after [] =
     arises_by_flushed_calls l take_back serves m n (g.F.FrameAllocator.supply c.args.frames.now) rest call c.run_call-reply.result true
     (subst (λ L. IsCall L (machine_call L call)) (sym levels) (is_call g.L.LevelCount.LEVELS g.L.LevelCount.at_least_four g.P5.LevelFiveFlags.bits g.met.P5.LevelFiveFlags.five c.args.call))
     c.requires.fits ran.step ran.free ran.keeps.keeps.fits (λ no. cc)
@@ -39,11 +39,11 @@ returns-clause-again g c =
     before first second after c.requires.arises
     c.cache.ensures
     (rw ran.keeps.layout at c.cache-2.ensures)
-    (subst (λ L. LeftBy L (executed flush (unwrap_or (page_start L call) 0)) second after) (sym levels) (rw c.page_start.ensures at c.execute.ensures)) in
+    (subst (λ L. LeftBy L (executed flush (unwrap_or (page_of_call L call) 0)) second after) (sym levels) (rw c.page_start.ensures at c.execute.ensures)) in
     let next = g.M.Tables.hierarchy c.run_call-reply.new.mapper in
     let later = g.F.FrameKeeper.serves c.run_call-reply.new.frames in
     let fits : PoolFits (next.layout laid_in n) later rest = rw (ran.keeps.layout, ran.keeps.serves) ran.keeps.keeps.fits in
-    let arises_then : Arises next.layout take_back later n rest after [] = rw (ran.keeps.layout, ran.keeps.serves) arises in
+    let arises_then : IsReachable next.layout take_back later n rest after [] = rw (ran.keeps.layout, ran.keeps.serves) arises in
     record { fits = fits; arises = arises_then }
 
 pub returns-clause-accesses : goal.returns-clause-accesses

@@ -1,7 +1,7 @@
 use Rattle.std.proofs.Common.{◌∙◌, arith}
 use Rattle.x86_64_model.specs.Machine.{Machine, State, state_after}
 use Rattle.x86_64.specs.Asked.{calls_by}
-use Rattle.x86_64.specs.Calls.{asks}
+use Rattle.x86_64.specs.Calls.{to_call}
 use Rattle.x86_64.specs.Runs.{machine_of, state_in}
 use Rattle.x86_64.proofs.Processors.{flushed_accesses_go}
 use Rattle.x86_64.proofs.Rounds.{rest_next, rest_last, step_at}
@@ -18,9 +18,9 @@ loop-call-preserved g c =
     let made = c.call_and_flush in
     let next = g.M.Tables.hierarchy made.new.mapper in
     let rest = g.F.FrameAllocator.supply made.new.frames in
-    let one = step_at layout _ before.layout g.F.FrameDeallocator.take_back _ next.memory _ rest (asks bits c.call-item.result) made.result made.ensures.step in
+    let one = step_at layout _ before.layout g.F.FrameDeallocator.take_back _ next.memory _ rest (to_call bits c.call-item.result) made.result made.ensures.step in
     record {
-      rest = rest_next (asks bits) machine _ _ made.result calls c.loop-call.call-index c.call-item.result c.loop-call-test.true c.call-item.is one (state_after machine start (calls_by (asks bits) layout.levels calls)) before.rest;
+      rest = rest_next (to_call bits) machine _ _ made.result calls c.loop-call.call-index c.call-item.result c.loop-call-test.true c.call-item.is one (state_after machine start (calls_by (to_call bits) layout.levels calls)) before.rest;
       layout = made.ensures.keeps.layout ∙ before.layout;
       in_use = made.ensures.again;
     }
@@ -32,7 +32,7 @@ returns-clause-state g c =
     let bits = g.P5.LevelFiveFlags.bits in
     let machine : Machine = machine_of layout g.F.FrameDeallocator.take_back in
     let start : State = state_in layout (g.M.Tables.hierarchy c.args.mapper.now).memory (g.F.FrameAllocator.supply c.args.frames.now) in
-    rest_last (asks bits) machine _ calls c.loop-call.call-index (omega arith) (state_after machine start (calls_by (asks bits) layout.levels calls)) c.loop-call.invariant.rest
+    rest_last (to_call bits) machine _ calls c.loop-call.call-index (omega arith) (state_after machine start (calls_by (to_call bits) layout.levels calls)) c.loop-call.invariant.rest
 
 pub returns-clause-accesses : goal.returns-clause-accesses
 returns-clause-accesses g c =

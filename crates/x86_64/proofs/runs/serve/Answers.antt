@@ -1,9 +1,9 @@
 use Rattle.std.proofs.Common.{◌-◌, ap, sym, subst}
 use Rattle.x86_64_model.specs.Call as machine
-use Rattle.x86_64_model.specs.Mapper.{back}
+use Rattle.x86_64_model.specs.Mapper.{freed_frames}
 use Rattle.x86_64_model.specs.Position.{position_count}
 use Rattle.x86_64_model.proofs.Lemmas.Machines.Giving.{giving_from}
-use Rattle.x86_64.specs.Calls.{asks, size_asks}
+use Rattle.x86_64.specs.Calls.{to_call, size_asks}
 use Rattle.x86_64.specs.FreeFrames.{KeepsFree}
 use Rattle.x86_64.proofs.CallSteps.{translate_served, address_served}
 use Rattle.x86_64.proofs.SizedSteps.{stepped_4KiB, stepped_2MiB, stepped_1GiB}
@@ -14,10 +14,10 @@ use Rattle.x86_64.proofs.Rounds.{nothing_recorded}
 use Rattle.x86_64.proofs.runs.serve.Goals as goal
 
 pub returns-in-Translate-clause-step : goal.returns-in-Translate-clause-step
-returns-in-Translate-clause-step g c = translate_served _ _ _ _ _ _ (ap (asks g.P5.LevelFiveFlags.bits) c.in-Translate.is) _ c.translate.ensures.answer
+returns-in-Translate-clause-step g c = translate_served _ _ _ _ _ _ (ap (to_call g.P5.LevelFiveFlags.bits) c.in-Translate.is) _ c.translate.ensures.answer
 
 pub returns-in-TranslateAddr-clause-step : goal.returns-in-TranslateAddr-clause-step
-returns-in-TranslateAddr-clause-step g c = address_served _ _ _ _ _ _ (ap (asks g.P5.LevelFiveFlags.bits) c.in-TranslateAddr.is) _ c.translate_addr.ensures
+returns-in-TranslateAddr-clause-step g c = address_served _ _ _ _ _ _ (ap (to_call g.P5.LevelFiveFlags.bits) c.in-TranslateAddr.is) _ c.translate_addr.ensures
 
 pub clean_up-requires : goal.clean_up-requires
 clean_up-requires g c = held_may_clean_up (g.M.Tables.hierarchy c.args.mapper.now) _ _ _ (g.met.F.FrameStore.one_list _) c.requires.fits
@@ -39,7 +39,7 @@ pub returns-in-CleanUp-clause-free : goal.returns-in-CleanUp-clause-free
 returns-in-CleanUp-clause-free g c =
     let h = g.M.Tables.hierarchy c.args.mapper.now in
     let after = g.M.Tables.hierarchy c.clean_up.new.mapper in
-    rw c.in-CleanUp.is (subst (λ n. KeepsFree h.layout h.memory (g.F.FrameAllocator.supply c.args.frames.now) (back h 0 (position_count n - 1)) after.memory (g.F.FrameAllocator.supply c.clean_up.new.frame_deallocator))
+    rw c.in-CleanUp.is (subst (λ n. KeepsFree h.layout h.memory (g.F.FrameAllocator.supply c.args.frames.now) (freed_frames h 0 (position_count n - 1)) after.memory (g.F.FrameAllocator.supply c.clean_up.new.frame_deallocator))
     (sym (g.met.M.TablesIn.level_count c.args.mapper.now)) (free_cleaned h _ _ _ (g.met.F.FrameStore.one_list _) c.requires.fits _ _ _ _ _ _ (g.met.F.FrameStore.one_list _) c.clean_up.ensures.cleans
     (g.met.M.Tables.is_mapping _) (giving_from _ g.met.F.FrameDeallocator.take_back_rearranges)))
 
@@ -50,7 +50,7 @@ returns-in-CleanUpRange-clause-free g c =
 
 pub returns-in-Some-clause-step : goal.returns-in-Some-clause-step
 returns-in-Some-clause-step g c =
-    stepped_4KiB _ _ _ _ _ (ap (asks g.P5.LevelFiveFlags.bits) c.in-Of4KiB.is) _ c.in-Some.ensures.step
+    stepped_4KiB _ _ _ _ _ (ap (to_call g.P5.LevelFiveFlags.bits) c.in-Of4KiB.is) _ c.in-Some.ensures.step
 
 pub returns-in-Some-clause-free : goal.returns-in-Some-clause-free
 returns-in-Some-clause-free g c =
@@ -59,7 +59,7 @@ returns-in-Some-clause-free g c =
 
 pub returns-in-None-clause-step : goal.returns-in-None-clause-step
 returns-in-None-clause-step g c =
-    stepped_4KiB _ _ _ _ _ (ap (asks g.P5.LevelFiveFlags.bits) c.in-Of4KiB.is) _ c.in-None.ensures.step
+    stepped_4KiB _ _ _ _ _ (ap (to_call g.P5.LevelFiveFlags.bits) c.in-Of4KiB.is) _ c.in-None.ensures.step
 
 pub returns-in-None-clause-free : goal.returns-in-None-clause-free
 returns-in-None-clause-free g c =
@@ -68,7 +68,7 @@ returns-in-None-clause-free g c =
 
 pub returns-in-Some-serve_page-clause-step : goal.returns-in-Some-serve_page-clause-step
 returns-in-Some-serve_page-clause-step g c =
-    stepped_2MiB _ _ _ _ _ (ap (asks g.P5.LevelFiveFlags.bits) c.in-Of2MiB.is) _ c.in-Some-serve_page.ensures.step
+    stepped_2MiB _ _ _ _ _ (ap (to_call g.P5.LevelFiveFlags.bits) c.in-Of2MiB.is) _ c.in-Some-serve_page.ensures.step
 
 pub returns-in-Some-serve_page-clause-free : goal.returns-in-Some-serve_page-clause-free
 returns-in-Some-serve_page-clause-free g c =
@@ -77,7 +77,7 @@ returns-in-Some-serve_page-clause-free g c =
 
 pub returns-in-None-serve_page-clause-step : goal.returns-in-None-serve_page-clause-step
 returns-in-None-serve_page-clause-step g c =
-    stepped_2MiB _ _ _ _ _ (ap (asks g.P5.LevelFiveFlags.bits) c.in-Of2MiB.is) _ c.in-None-serve_page.ensures.step
+    stepped_2MiB _ _ _ _ _ (ap (to_call g.P5.LevelFiveFlags.bits) c.in-Of2MiB.is) _ c.in-None-serve_page.ensures.step
 
 pub returns-in-None-serve_page-clause-free : goal.returns-in-None-serve_page-clause-free
 returns-in-None-serve_page-clause-free g c =
@@ -86,7 +86,7 @@ returns-in-None-serve_page-clause-free g c =
 
 pub returns-in-Some-serve_page-2-clause-step : goal.returns-in-Some-serve_page-2-clause-step
 returns-in-Some-serve_page-2-clause-step g c =
-    stepped_1GiB _ _ _ _ _ (ap (asks g.P5.LevelFiveFlags.bits) c.in-Of1GiB.is) _ c.in-Some-serve_page-2.ensures.step
+    stepped_1GiB _ _ _ _ _ (ap (to_call g.P5.LevelFiveFlags.bits) c.in-Of1GiB.is) _ c.in-Some-serve_page-2.ensures.step
 
 pub returns-in-Some-serve_page-2-clause-free : goal.returns-in-Some-serve_page-2-clause-free
 returns-in-Some-serve_page-2-clause-free g c =
@@ -95,7 +95,7 @@ returns-in-Some-serve_page-2-clause-free g c =
 
 pub returns-in-None-serve_page-2-clause-step : goal.returns-in-None-serve_page-2-clause-step
 returns-in-None-serve_page-2-clause-step g c =
-    stepped_1GiB _ _ _ _ _ (ap (asks g.P5.LevelFiveFlags.bits) c.in-Of1GiB.is) _ c.in-None-serve_page-2.ensures.step
+    stepped_1GiB _ _ _ _ _ (ap (to_call g.P5.LevelFiveFlags.bits) c.in-Of1GiB.is) _ c.in-None-serve_page-2.ensures.step
 
 pub returns-in-None-serve_page-2-clause-free : goal.returns-in-None-serve_page-2-clause-free
 returns-in-None-serve_page-2-clause-free g c =

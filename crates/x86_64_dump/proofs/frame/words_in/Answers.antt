@@ -1,7 +1,7 @@
 use Rattle.std.proofs.Common.{◌*◌, ◌∙◌, length-set, arith}
 use Rattle.std.proofs.lemmas.List.{take_more_set}
 use Rattle.std.proofs.lemmas.List.FromFn.{map-range_with_len_more}
-use Rattle.x86_64_dump.specs.Dump.{without}
+use Rattle.x86_64_dump.specs.Dump.{without_bits}
 use Rattle.x86_64_dump.specs.Numbers.{u64_at}
 use Rattle.x86_64_dump.proofs.Frames.{all_words}
 use Rattle.x86_64_dump.proofs.frame.words_in.Goals as goal
@@ -12,9 +12,9 @@ loop-i-preserved c =
     let words = c.loop-i.words in
     let before = c.loop-i.invariant.words in
     let read = c.read_u64.ensures in
-    let more = take_more_set words at (without c.args.cleared c.read_u64.result) (omega (arith, c.loop-i.invariant.size, c.loop-i-test.true)) in
-    let next = map-range_with_len_more (λ i. without c.args.cleared (u64_at c.args.bytes.now (8 * i))) 0 at at (omega arith) in
-    record { size = length-set words at (without c.args.cleared c.read_u64.result) ∙ c.loop-i.invariant.size; words = cc }
+    let more = take_more_set words at (without_bits c.args.cleared c.read_u64.result) (omega (arith, c.loop-i.invariant.size, c.loop-i-test.true)) in
+    let next = map-range_with_len_more (λ i. without_bits c.args.cleared (u64_at c.args.bytes.now (8 * i))) 0 at at (omega arith) in
+    record { size = length-set words at (without_bits c.args.cleared c.read_u64.result) ∙ c.loop-i.invariant.size; words = cc }
 
 pub returns : goal.returns
 returns c = all_words c.args.cleared c.args.bytes.now c.loop-i.words c.loop-i.i (omega (arith, c.loop-i.auto.i-end, c.loop-i-test.false)) c.loop-i.invariant.size c.loop-i.invariant.words

@@ -1,8 +1,8 @@
 use Rattle.std.proofs.Common.{◌≡◌, ℕ, ◌<◌, ◌%◌, flat_map, take, get_or}
 use Rattle.x86_64_loader.specs.private.Loads.{HoldsSegment, pages_by}
 use Rattle.x86_64_loader.specs.Maps.{Accepts}
-use Rattle.x86_64_loader.specs.Pages.{Leaves}
-use Rattle.x86_64_loader.specs.Segments.{AllStand, AreApart}
+use Rattle.x86_64_loader.specs.Pages.{LeavesSupply}
+use Rattle.x86_64_loader.specs.Segments.{AllStand, SegmentsAreApart}
 use Rattle.x86_64_loader.specs.declared.segment.Segment.{Segment}
 use Rattle.x86_64_loader.proofs.Made.{supplied}
 use Rattle.x86_64_loader.proofs.loader.load_each.Given as goal
@@ -17,7 +17,7 @@ invariant-loop-index g l =
       held : (j : ℕ) (d : Segment) → j < l.index → HoldsSegment now (get_or l.segments j d);
       stand : (j : ℕ) (d : Segment) → j < l.index → AllStand now (pages_by l.sizes (get_or l.segments j d));
       aligned : (j : ℕ) (d : Segment) → j < l.index → (get_or l.segments j d).page % 0x1000 ≡ 0;
-      apart : AreApart l.segments l.index;
-      leaves : Leaves 3 h supply now rest;
+      apart : SegmentsAreApart l.segments l.index;
+      leaves : LeavesSupply 3 h supply now rest;
       accepted : Accepts h supply.frames (flat_map (pages_by l.sizes) (take l.index l.segments)) now rest.frames;
     }

@@ -1,7 +1,7 @@
 //! Runs of entries of level one that map pages with equal rights, or map nothing.
 ghost use Rattle.std.specs.Prelude.{◌≡◌, ◌<◌, length, slice_index};
 ghost use Rattle.std.specs.List.{prefix_len};
-ghost use Rattle.x86_64_mappings.specs.private.Runs.{page_bits, is_like};
+ghost use Rattle.x86_64_mappings.specs.private.Runs.{page_bits, has_page_bits};
 
 use x86_64_tables::page_table::PageTableEntry;
 
@@ -12,7 +12,7 @@ const PAGE_BITS: u64 = 0x8000_0000_0000_0007;
 /// Returns the number of entries that have the page bits of the first, up to the first that differs.
 pub(super) fn run_length(entries: &[PageTableEntry]) -> usize
     requires { 0 < length entries.now }
-    ensures { result ≡ prefix_len (is_like (slice_index entries.now 0)) entries.now }
+    ensures { result ≡ prefix_len (has_page_bits (slice_index entries.now 0)) entries.now }
 {
     let first = page_bits(&entries[0]);
     for (count, entry) in entries.iter().enumerate() {

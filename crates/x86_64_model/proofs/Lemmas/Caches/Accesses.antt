@@ -9,7 +9,7 @@ use Rattle.x86_64_model.specs.Path.{level_of, begins}
 use Rattle.x86_64_model.specs.Position.{index, page_path}
 use Rattle.x86_64_model.specs.Mappings.{Rights, maps_page, granted}
 use Rattle.x86_64_model.specs.PageWalk.{page_start}
-use Rattle.x86_64_model.specs.Caches.{Way, over, AtMost, Cached, Table, Page, leads_to, found, then_on, walk_from, walk}
+use Rattle.x86_64_model.specs.Caches.{PartialWalk, over, AtMost, Cached, Table, Page, item_over, cached_item, then_on, walk_with_rights_from, walk_with_rights}
 use Rattle.x86_64_model.proofs.Lemmas.Paths.Begins.{begins_on, begins_itself, from_begins, begins_more}
 use Rattle.x86_64_model.proofs.Lemmas.Walks.Walked.{Reads, one_more}
 use Rattle.x86_64_model.proofs.Lemmas.Walks.Fronts.{goes_on}
@@ -18,18 +18,18 @@ use Rattle.x86_64_model.proofs.Lemmas.Caches.Agrees.{front_more, Grants, granted
 -- ---- more rights
 
 -- a walk goes to the same page, with these rights at least
-abbrev pub Goes : Way → Option Way → Type 0
-Goes w walk = (v : Way) × (walk ≡ Some v) × (v.path ≡ w.path) × (v.frame ≡ w.frame) × AtMost w.rights v.rights
+abbrev pub Goes : PartialWalk → Option PartialWalk → Type 0
+Goes w walk_with_rights = (v : PartialWalk) × (walk_with_rights ≡ Some v) × (v.path ≡ w.path) × (v.frame ≡ w.frame) × AtMost w.rights v.rights
 
-abbrev pub with_rights : Way → Rights → Way
+abbrev pub with_rights : PartialWalk → Rights → PartialWalk
 with_rights t r = record { path = t.path; frame = t.frame; rights = r }
 
 -- where an entry leads, by its tests
-abbrev led : Way → (i e level : ℕ) (b m h : Bool) → Option Cached
+abbrev led : PartialWalk → (i e level : ℕ) (b m h : Bool) → Option Cached
 led t i e level b m h = cond b (cond m (Some (Page (over t i e (page_start level e)))) (cond h None (Some (Table (over t i e (address e)))))) None
 
-walk_more : (L : ℕ) (T : Words) (p n : ℕ) (t : Way) (s : Rights) (w : Way) → AtMost t.rights s → walk_from L T p n t ≡ Some w → Goes w (walk_from L T p n (with_rights t s))
-unfolding walk_from
+walk_more : (L : ℕ) (T : Words) (p n : ℕ) (t : PartialWalk) (s : Rights) (w : PartialWalk) → AtMost t.rights s → walk_with_rights_from L T p n t ≡ Some w → Goes w (walk_with_rights_from L T p n (with_rights t s))
+unfolding walk_with_rights_from
 walk_more L T p zero t s w m is = cc
 walk_more L T p (suc n) t s w m is = by (present e) (maps_page level e) (huge e) (λ m is. walk_more L T p n (over t i e (address e)) (granted s e) w m is) is
   where
@@ -42,8 +42,8 @@ walk_more L T p (suc n) t s w m is = by (present e) (maps_page level e) (huge e)
     level : ℕ
     level = level_of L (t.path ++ i ∷ [])
 
-    by : (b m h : Bool) → (AtMost (granted t.rights e) (granted s e) → walk_from L T p n (over t i e (address e)) ≡ Some w → Goes w (walk_from L T p n (over (with_rights t s) i e (address e))))
-        → option_and_then (then_on (λ on. walk_from L T p n on)) (led t i e level b m h) ≡ Some w → Goes w (option_and_then (then_on (λ on. walk_from L T p n on)) (led (with_rights t s) i e level b m h))
+    by : (b m h : Bool) → (AtMost (granted t.rights e) (granted s e) → walk_with_rights_from L T p n (over t i e (address e)) ≡ Some w → Goes w (walk_with_rights_from L T p n (over (with_rights t s) i e (address e))))
+        → option_and_then (then_on (λ on. walk_with_rights_from L T p n on)) (led t i e level b m h) ≡ Some w → Goes w (option_and_then (then_on (λ on. walk_with_rights_from L T p n on)) (led (with_rights t s) i e level b m h))
     by true true h on is = let same : over t i e (page_start level e) ≡ w = same_Some _ _ is in
         (over (with_rights t s) i e (page_start level e), refl, ap (λ w. w.path) same, ap (λ w. w.frame) same, subst (λ w. AtMost w.rights (granted s e)) same (granted_most e t.rights s m))
     by true false true on is = cc
@@ -52,10 +52,10 @@ walk_more L T p (suc n) t s w m is = by (present e) (maps_page level e) (huge e)
 
 -- ---- down the tables
 
-pub led_page : (L : ℕ) (t : Way) (i e : ℕ) → present e ≡ true → maps_page (level_of L (t.path ++ i ∷ [])) e ≡ true → leads_to L t i e ≡ Some (Page (over t i e (page_start (level_of L (t.path ++ i ∷ [])) e)))
+pub led_page : (L : ℕ) (t : PartialWalk) (i e : ℕ) → present e ≡ true → maps_page (level_of L (t.path ++ i ∷ [])) e ≡ true → item_over L t i e ≡ Some (Page (over t i e (page_start (level_of L (t.path ++ i ∷ [])) e)))
 led_page L t i e h m = λ k. cond (h k) (cond (m k) (Some (Page (over t i e (page_start (level_of L (t.path ++ i ∷ [])) e)))) (cond (huge e) None (Some (Table (over t i e (address e)))))) None
 
-pub led_table : (L : ℕ) (t : Way) (i e : ℕ) → present e ≡ true → huge e ≡ false → level_of L (t.path ++ i ∷ []) ≢ 1 → leads_to L t i e ≡ Some (Table (over t i e (address e)))
+pub led_table : (L : ℕ) (t : PartialWalk) (i e : ℕ) → present e ≡ true → huge e ≡ false → level_of L (t.path ++ i ∷ []) ≢ 1 → item_over L t i e ≡ Some (Table (over t i e (address e)))
 led_table L t i e h g n = λ k. cond (h k) (cond (maps k) (Some (Page (over t i e (page_start level e)))) (cond (g k) None (Some (Table (over t i e (address e)))))) None
   where
     level : ℕ
@@ -91,16 +91,16 @@ way_front L E q s way = let short = way.short in record {
 
 module _ (L : ℕ) (T : Words) (root : ℕ) (E : List ℕ → ℕ) (reads : Reads L T root E) (p : ℕ) where
   -- the table at a path, with rights
-  abbrev table : List ℕ → Rights → Way
+  abbrev table : List ℕ → Rights → PartialWalk
   table q s = record { path = q; frame = frame_at root E q; rights = s }
 
   -- the walk so far
   abbrev Here : (n : ℕ) → List ℕ → Type 0
   Here n q = page_path L p ≡ q ++ page_path n p
 
-  found_at : (q : List ℕ) (n : ℕ) (s : Rights) → IsWay L E q → Here (suc n) q → found L T (table q s) (index (suc n) p) ≡ leads_to L (table q s) (index (suc n) p) (E (q ++ index (suc n) p ∷ []))
+  found_at : (q : List ℕ) (n : ℕ) (s : Rights) → IsWay L E q → Here (suc n) q → cached_item L T (table q s) (index (suc n) p) ≡ item_over L (table q s) (index (suc n) p) (E (q ++ index (suc n) p ∷ []))
   found_at q n s way here = let i = index (suc n) p in
-      ap (leads_to L (table q s) i) (word_below L T root E reads q (frame_at root E q) i (way_leads L root E q way))
+      ap (item_over L (table q s) i) (word_below L T root E reads q (frame_at root E q) i (way_leads L root E q way))
 
   index_is : (q : List ℕ) (n j : ℕ) (r : List ℕ) → Here (suc n) q → begins (q ++ j ∷ r) (page_path L p) ≡ true → index (suc n) p ≡ j
   unfolding page_path
@@ -109,10 +109,10 @@ module _ (L : ℕ) (T : Words) (root : ℕ) (E : List ℕ → ℕ) (reads : Read
 
   -- the walk from a table on the way goes through the tables further down it
   reach : (rest q x : List ℕ) → x ≡ q ++ rest → (r s : Rights) (n : ℕ) → IsWay L E x → AllGrant E x r → AtMost r s → Here n q → length q + n ≡ L → begins x (page_path L p) ≡ true
-      → (s' : Rights) × AtMost r s' × (walk_from L T p n (table q s) ≡ walk_from L T p (L - length x) (table x s')) × Here (L - length x) x
-  unfolding walk_from
-  reach [] q x e r s n way g m here l on = subst (λ x. (s' : Rights) × AtMost r s' × (walk_from L T p n (table q s) ≡ walk_from L T p (L - length x) (table x s')) × Here (L - length x) x) (sym (e ∙ append-nil q))
-      (s, m, ap (λ n. walk_from L T p n (table q s)) left, subst (λ n. Here n q) left here)
+      → (s' : Rights) × AtMost r s' × (walk_with_rights_from L T p n (table q s) ≡ walk_with_rights_from L T p (L - length x) (table x s')) × Here (L - length x) x
+  unfolding walk_with_rights_from
+  reach [] q x e r s n way g m here l on = subst (λ x. (s' : Rights) × AtMost r s' × (walk_with_rights_from L T p n (table q s) ≡ walk_with_rights_from L T p (L - length x) (table x s')) × Here (L - length x) x) (sym (e ∙ append-nil q))
+      (s, m, ap (λ n. walk_with_rights_from L T p n (table q s)) left, subst (λ n. Here n q) left here)
     where
       left : n ≡ L - length q
       left = omega (arith, l)
@@ -128,23 +128,23 @@ module _ (L : ℕ) (T : Words) (root : ℕ) (E : List ℕ → ℕ) (reads : Read
       let more = reach rest (q ++ i ∷ []) x further r w n way g (still_granted _ r s m (grants_at L E x r g q i front)) (goes_on L p n q here) (omega (arith, l, one_more q i)) on in (
         more.0,
         more.1,
-        ap (option_and_then (then_on (λ on. walk_from L T p n on)))
+        ap (option_and_then (then_on (λ on. walk_with_rights_from L T p n on)))
             (found_at q n s (way_front L E q (j ∷ rest) (subst (IsWay L E) e way)) here ∙ led_table L (table q s) i _ (way_present L E x way q i front) (way_plain L E x way q i front) deep)
-            ∙ ap (λ f. walk_from L T p n (record { path = q ++ i ∷ []; frame = f; rights = w })) (last_frame root E q i)
+            ∙ ap (λ f. walk_with_rights_from L T p n (record { path = q ++ i ∷ []; frame = f; rights = w })) (last_frame root E q i)
             ∙ more.2,
         more.3,
       )
 
   -- an access that goes on from a table
-  pub walks_on : (t w : Way) → AgreesTable L root E t → begins t.path (page_path L p) ≡ true → walk_from L T p (L - length t.path) t ≡ Some w → Goes w (walk L T root p)
+  pub walks_on : (t w : PartialWalk) → AgreesTable L root E t → begins t.path (page_path L p) ≡ true → walk_with_rights_from L T p (L - length t.path) t ≡ Some w → Goes w (walk_with_rights L T root p)
   walks_on t w a on is =
       let way = reach t.path [] t.path refl t.rights _ L a.way a.grants (record { write = λ h. refl; user = λ h. refl; execute = λ h. refl }) refl (omega arith) on in
       let more = walk_more L T p (L - length t.path) t way.0 w way.1 is in
-      (more.0, way.2 ∙ ap (λ f. walk_from L T p (L - length t.path) (record { path = t.path; frame = f; rights = way.0 })) (sym a.frame) ∙ more.1, more.2, more.3, more.4)
+      (more.0, way.2 ∙ ap (λ f. walk_with_rights_from L T p (L - length t.path) (record { path = t.path; frame = f; rights = way.0 })) (sym a.frame) ∙ more.1, more.2, more.3, more.4)
 
   -- an access by the TLB
-  pub hits : (w : Way) → AgreesPage L E w → begins w.path (page_path L p) ≡ true → Goes w (walk L T root p)
-  unfolding walk_from
+  pub hits : (w : PartialWalk) → AgreesPage L E w → begins w.path (page_path L p) ≡ true → Goes w (walk_with_rights L T root p)
+  unfolding walk_with_rights_from
   hits w a on =
       let q = a.front in let way = a.way in
       let on' : begins (q ++ a.last ∷ []) (page_path L p) ≡ true = subst (λ x. begins x (page_path L p) ≡ true) a.path on in
@@ -153,8 +153,8 @@ module _ (L : ℕ) (T : Words) (root : ℕ) (E : List ℕ → ℕ) (reads : Read
       (begins_more q (q ++ a.last ∷ []) (page_path L p) (begins_on q (a.last ∷ [])) on') in
       by (L - length q) refl more.0 more.1 more.2 more.3 on' grants
     where
-      by : (n : ℕ) → L - length a.front ≡ n → (s : Rights) → AtMost w.rights s → walk L T root p ≡ walk_from L T p (L - length a.front) (table a.front s) → Here (L - length a.front) a.front
-          → begins (a.front ++ a.last ∷ []) (page_path L p) ≡ true → AllGrant E (a.front ++ a.last ∷ []) w.rights → Goes w (walk L T root p)
+      by : (n : ℕ) → L - length a.front ≡ n → (s : Rights) → AtMost w.rights s → walk_with_rights L T root p ≡ walk_with_rights_from L T p (L - length a.front) (table a.front s) → Here (L - length a.front) a.front
+          → begins (a.front ++ a.last ∷ []) (page_path L p) ≡ true → AllGrant E (a.front ++ a.last ∷ []) w.rights → Goes w (walk_with_rights L T root p)
       by zero l s m is here on grants = let short = a.way.short in absurd (omega (arith, short, l))
       by (suc n) l s m is here on grants =
           let q = a.front in let i = index (suc n) p in
@@ -162,8 +162,8 @@ module _ (L : ℕ) (T : Words) (root : ℕ) (E : List ℕ → ℕ) (reads : Read
           let path : w.path ≡ q ++ i ∷ [] = a.path ∙ ap (λ j. q ++ j ∷ []) (sym (index_is q n a.last [] here' on)) in
           let e = E (q ++ i ∷ []) in let level = level_of L (q ++ i ∷ []) in (
             over (table q s) i e (page_start level e),
-            is ∙ ap (λ n. walk_from L T p n (table q s)) l
-                ∙ ap (option_and_then (then_on (λ on. walk_from L T p n on)))
+            is ∙ ap (λ n. walk_with_rights_from L T p n (table q s)) l
+                ∙ ap (option_and_then (then_on (λ on. walk_with_rights_from L T p n on)))
                 (found_at q n s a.way here' ∙ led_page L (table q s) i e (subst (λ x. present (E x) ≡ true) path a.is_present) (subst (λ x. maps_page (level_of L x) (E x) ≡ true) path a.maps)),
             sym path,
             sym (a.frame ∙ ap (λ x. page_start (level_of L x) (E x)) path),

@@ -8,7 +8,7 @@ use Rattle.x86_64_model.specs.Memory.{Words, word}
 use Rattle.x86_64_model.specs.Path.{level_of, begins}
 use Rattle.x86_64_model.specs.Mappings.{Rights, maps_page, granted}
 use Rattle.x86_64_model.specs.PageWalk.{page_start}
-use Rattle.x86_64_model.specs.Caches.{Way, start, over, AtMost, Cached, Table, Page, leads_to, found}
+use Rattle.x86_64_model.specs.Caches.{PartialWalk, start, over, AtMost, Cached, Table, Page, item_over, cached_item}
 use Rattle.x86_64_model.proofs.Lemmas.Paths.Begins.{begins_on, begins_itself, from_begins}
 use Rattle.x86_64_model.proofs.Lemmas.Walks.Agrees.{named}
 use Rattle.x86_64_model.proofs.Lemmas.Hierarchies.Trees.{table_of_gives}
@@ -81,13 +81,13 @@ abbrev pub AllGrant : (List ℕ → ℕ) → List ℕ → Rights → Type 0
 AllGrant E q r = (i : ℕ) (c : List ℕ) → begins (i ∷ c) q ≡ true → Grants (E (i ∷ c)) r
 
 -- the table is where the map's present entries lead, and they grant its rights
-pub record AgreesTable (L root : ℕ) (E : List ℕ → ℕ) (t : Way) : Type 0 where
+pub record AgreesTable (L root : ℕ) (E : List ℕ → ℕ) (t : PartialWalk) : Type 0 where
   pub way : IsWay L E t.path
   pub frame : t.frame ≡ frame_at root E t.path
   pub grants : AllGrant E t.path t.rights
 
 -- the page is the one that the last entry maps, a present one, below present table entries, and all grant its rights
-pub record AgreesPage (L : ℕ) (E : List ℕ → ℕ) (w : Way) : Type 0 where
+pub record AgreesPage (L : ℕ) (E : List ℕ → ℕ) (w : PartialWalk) : Type 0 where
   pub front : List ℕ
   pub last : ℕ
   pub path : w.path ≡ front ++ last ∷ []
@@ -111,10 +111,10 @@ start_agrees L root E l = record {
 -- ---- what is found agrees
 
 -- by the word, which is the entry
-pub led_cases : (L : ℕ) (t : Way) (i e : ℕ) (c : Cached) (P : Cached → Type 0)
+pub led_cases : (L : ℕ) (t : PartialWalk) (i e : ℕ) (c : Cached) (P : Cached → Type 0)
     → (present e ≡ true → maps_page (level_of L (t.path ++ i ∷ [])) e ≡ true → P (Page (over t i e (page_start (level_of L (t.path ++ i ∷ [])) e))))
     → (present e ≡ true → maps_page (level_of L (t.path ++ i ∷ [])) e ≡ false → huge e ≡ false → P (Table (over t i e (address e))))
-    → leads_to L t i e ≡ Some c → P c
+    → item_over L t i e ≡ Some c → P c
 led_cases L t i e c P page table is = by (present e) (maps_page (level_of L (t.path ++ i ∷ [])) e) (huge e) page table is
   where
     by : (b m h : Bool) → (b ≡ true → m ≡ true → P (Page (over t i e (page_start (level_of L (t.path ++ i ∷ [])) e)))) → (b ≡ true → m ≡ false → h ≡ false → P (Table (over t i e (address e))))
@@ -141,7 +141,7 @@ module _ (L : ℕ) (E : List ℕ → ℕ) (q : List ℕ) (j : ℕ) where
       (λ b. grants_fewer _ _ r (granted_fewer r _) (g i c b))
       (λ e. subst (λ c. Grants (E c) (granted r (E (q ++ j ∷ [])))) (sym e) (granted_grants r _)) (front_cases (i ∷ c) q j b)
 
-pub found_agrees : (L root : ℕ) (E : List ℕ → ℕ) (t : Way) (i : ℕ) (c : Cached) → AgreesTable L root E t → leads_to L t i (E (t.path ++ i ∷ [])) ≡ Some c → Agrees L root E c
+pub found_agrees : (L root : ℕ) (E : List ℕ → ℕ) (t : PartialWalk) (i : ℕ) (c : Cached) → AgreesTable L root E t → item_over L t i (E (t.path ++ i ∷ [])) ≡ Some c → Agrees L root E c
 found_agrees L root E t i c a is = let e = E (t.path ++ i ∷ []) in led_cases L t i e c (Agrees L root E)
     (λ h m. record { front = t.path; last = i; path = refl; way = a.way; is_present = h; maps = m; frame = refl; grants = grants_over L E t.path i t.rights a.grants })
     (λ h m g. let not_one = not_level_one _ e m in let short = a.way.short in
@@ -162,7 +162,7 @@ pub way_leads : (L root : ℕ) (E : List ℕ → ℕ) (q : List ℕ) → IsWay L
 way_leads L root E [] way = refl
 way_leads L root E (i ∷ q) way = named L (i ∷ q) _ (names _ (way.is_present i q (begins_itself (i ∷ q))) (way.not_huge i q (begins_itself (i ∷ q)))) way.short
 
-pub agrees_leads : (L root : ℕ) (E : List ℕ → ℕ) (t : Way) → AgreesTable L root E t → leads L root E t.path ≡ Some t.frame
+pub agrees_leads : (L root : ℕ) (E : List ℕ → ℕ) (t : PartialWalk) → AgreesTable L root E t → leads L root E t.path ≡ Some t.frame
 agrees_leads L root E t a = way_leads L root E t.path a.way ∙ ap Some (sym a.frame)
 
 module _ (L : ℕ) (T : Words) (root : ℕ) (E : List ℕ → ℕ) (r : Reads L T root E) where
@@ -176,9 +176,9 @@ module _ (L : ℕ) (T : Words) (root : ℕ) (E : List ℕ → ℕ) (r : Reads L 
   table_there [] f t = subst (λ f. IsSome (T f)) (same_Some _ _ t) r.root_there
   table_there (j ∷ q) f t = let n = table_of_gives L (j ∷ q) _ f t in subst (λ f. IsSome (T f)) n.at (r.there (j ∷ q) n.is_table n.high)
 
-  pub found_is : (t : Way) (i : ℕ) → leads L root E t.path ≡ Some t.frame → found L T t i ≡ leads_to L t i (E (t.path ++ i ∷ []))
-  found_is t i l = ap (leads_to L t i) (word_below t.path t.frame i l)
+  pub found_is : (t : PartialWalk) (i : ℕ) → leads L root E t.path ≡ Some t.frame → cached_item L T t i ≡ item_over L t i (E (t.path ++ i ∷ []))
+  found_is t i l = ap (item_over L t i) (word_below t.path t.frame i l)
 
   -- what is found at a table that agrees, agrees
-  pub finds : (t : Way) (i : ℕ) (c : Cached) → AgreesTable L root E t → found L T t i ≡ Some c → Agrees L root E c
+  pub finds : (t : PartialWalk) (i : ℕ) (c : Cached) → AgreesTable L root E t → cached_item L T t i ≡ Some c → Agrees L root E c
   finds t i c a is = found_agrees L root E t i c a (sym (found_is t i (agrees_leads L root E t a)) ∙ is)

@@ -10,7 +10,7 @@ use Rattle.x86_64_model.specs.Spaces.{is_shared}
 use Rattle.x86_64_model.specs.Window.{Window}
 use Rattle.x86_64_model.specs.MapRule.{map_call, parent_part, leaf_entry}
 use Rattle.x86_64_model.specs.CleanUp.{is_removed, clean_up}
-use Rattle.x86_64_model.specs.Pool.{given_back}
+use Rattle.x86_64_model.specs.Pool.{with_returned}
 use Rattle.x86_64_model.specs.Allowed.{allowed}
 use Rattle.x86_64_model.specs.Call.{Call, IsCall, MapTo, MapToWithTableFlags, IdentityMap, Unmap, UpdateFlags, SetFlags, TranslatePage, Translate, TranslateAddress, CleanUp, parent_flags_of}
 use Rattle.x86_64_model.specs.Machine.{Machine, IsMachine, State, do_call, step, after_map, after_change}
@@ -46,7 +46,7 @@ module _ (m : Machine) (root : ℕ) (serves : ℕ → Bool) (s : State) (sound :
     → P call (after_map (map_call m.levels s.paths s.pool more m.added_flags q frame given)).state d)
     (pages : (call : Call) (q : List ℕ) (w : ℕ) → table_of m.levels q (entry s.paths q) ≡ None → P call (record { paths = put s.paths q w; pool = s.pool }) (page_due m.levels m.window q (address (entry s.paths q))))
     (tables : (call : Call) (q : List ℕ) (w : ℕ) → SameTarget (entry s.paths q) w → P call (record { paths = put s.paths q w; pool = s.pool }) (below_due m.window q))
-    (cleans : (low high : ℕ) → P (CleanUp low high) (record { paths = (clean_up m.levels s.paths low high).paths; pool = given_back m.take_back s.pool (clean_up m.levels s.paths low high).back }) (TablesDue ∷ if_window m.window)) where
+    (cleans : (low high : ℕ) → P (CleanUp low high) (record { paths = (clean_up m.levels s.paths low high).paths; pool = with_returned m.take_back s.pool (clean_up m.levels s.paths low high).back }) (TablesDue ∷ if_window m.window)) where
   done_cases : (call : Call) → IsCall m.levels call → allowed m.levels m.window s.paths call ≡ true → P call (do_call m s call).state (flush_after m.levels m.window call (do_call m s call).reply)
   unfolding do_call
   done_cases (MapTo q frame given) is h = maps (MapTo q frame given) q frame given (parent_part given) [] refl (map_may m.levels m.window s.paths q given _ h) (λ x. let t : true ≡ false = sym x ∙ no_execute_part given in cc)
@@ -157,13 +157,13 @@ module _ (m : Machine) (is : IsMachine m) (root : ℕ) (serves : ℕ → Bool) (
     λ waits tables f i. i,
   )
 
-  by_clean_up : (low high : ℕ) → Does (CleanUp low high) (record { paths = (clean_up m.levels s.paths low high).paths; pool = given_back m.take_back s.pool (clean_up m.levels s.paths low high).back }) (TablesDue ∷ if_window m.window)
+  by_clean_up : (low high : ℕ) → Does (CleanUp low high) (record { paths = (clean_up m.levels s.paths low high).paths; pool = with_returned m.take_back s.pool (clean_up m.levels s.paths low high).back }) (TablesDue ∷ if_window m.window)
   by_clean_up low high = (moved, λ waits tables f i. (given_frames m.take_back is.gives s.pool back f).1 (in_right back s.pool f i))
     where
       back : List ℕ
       back = (clean_up m.levels s.paths low high).back
 
-      moved : MovesTo (record { paths = (clean_up m.levels s.paths low high).paths; pool = given_back m.take_back s.pool back }) (TablesDue ∷ if_window m.window)
+      moved : MovesTo (record { paths = (clean_up m.levels s.paths low high).paths; pool = with_returned m.take_back s.pool back }) (TablesDue ∷ if_window m.window)
       moved [] = AsBefore (stays m.levels root s.paths sound.hierarchy.tree low high [] (⊎_elim (λ r. absurd (root_stays m.levels root s.paths sound.hierarchy.tree low high r)) (λ k. k) (cases_Bool (is_removed m.levels s.paths low high []))))
       moved (i ∷ q) = ⊎_elim
           (λ r. Removed (gone m.levels root s.paths sound.hierarchy.tree low high (i ∷ q) r) (inl refl) (λ v is. inr (window_in m.window due v is))

@@ -9,7 +9,7 @@ use Rattle.x86_64_model.specs.PageWalk.{page_start}
 use Rattle.x86_64_model.specs.Position.{span}
 use Rattle.x86_64_model.specs.Window.{Window, begins_with}
 use Rattle.x86_64_model.specs.Mappings.{Rights, maps_page}
-use Rattle.x86_64_model.specs.Caches.{Way, Cached, Table, Page, way_of}
+use Rattle.x86_64_model.specs.Caches.{PartialWalk, Cached, Table, Page, way_of}
 use Rattle.x86_64_model.specs.Flushing.{Due, PageDue, TablesDue, WindowDue, BelowDue, loosens}
 use Rattle.x86_64_model.proofs.Lemmas.Entries.Bits.{used_present}
 use Rattle.x86_64_model.proofs.Lemmas.Paths.Puts.{no_end}
@@ -112,7 +112,7 @@ module _ (L root : ℕ) (E F : List ℕ → ℕ) where
   kept_at (i ∷ c) q j e k h = k i c (begins_itself (i ∷ c)) h
 
   -- the entries on a page's path are present
-  page_present : (w : Way) → AgreesPage L E w → (i : ℕ) (c : List ℕ) → begins (i ∷ c) w.path ≡ true → present (E (i ∷ c)) ≡ true
+  page_present : (w : PartialWalk) → AgreesPage L E w → (i : ℕ) (c : List ℕ) → begins (i ∷ c) w.path ≡ true → present (E (i ∷ c)) ≡ true
   page_present w a i c b = ⊎_elim (λ b. a.way.is_present i c b) (λ e. ap (λ c. present (E c)) (e ∙ sym a.path) ∙ a.is_present)
       (front_cases (i ∷ c) a.front a.last (ap (begins (i ∷ c)) (sym a.path) ∙ b))
 
@@ -136,7 +136,7 @@ module _ (L root : ℕ) (E F : List ℕ → ℕ) where
 -- ---- pages whose entries lead there, with whatever rights
 
 -- the entry at the page's path maps it, present or not, below an entry that names a table
-pub record Stands (L : ℕ) (E : List ℕ → ℕ) (w : Way) : Type 0 where
+pub record Stands (L : ℕ) (E : List ℕ → ℕ) (w : PartialWalk) : Type 0 where
   pub front : List ℕ
   pub last : ℕ
   pub path : w.path ≡ front ++ last ∷ []
@@ -146,7 +146,7 @@ pub record Stands (L : ℕ) (E : List ℕ → ℕ) (w : Way) : Type 0 where
   pub maps : maps_page (level_of L w.path) (E w.path) ≡ true
   pub frame : w.frame ≡ page_start (level_of L w.path) (E w.path)
 
-pub agrees_stands : (L : ℕ) (E : List ℕ → ℕ) (w : Way) → AgreesPage L E w → Stands L E w
+pub agrees_stands : (L : ℕ) (E : List ℕ → ℕ) (w : PartialWalk) → AgreesPage L E w → Stands L E w
 agrees_stands L E w a = record {
   front = a.front;
   last = a.last;

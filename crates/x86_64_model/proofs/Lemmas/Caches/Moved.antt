@@ -8,7 +8,7 @@ use Rattle.x86_64_model.specs.Path.{level_of, begins}
 use Rattle.x86_64_model.specs.Position.{span}
 use Rattle.x86_64_model.specs.Window.{Window}
 use Rattle.x86_64_model.specs.Memory.{Words}
-use Rattle.x86_64_model.specs.Caches.{Way, Table, Page}
+use Rattle.x86_64_model.specs.Caches.{PartialWalk, Table, Page}
 use Rattle.x86_64_model.specs.Flushing.{Due, TablesDue, HasZeros}
 use Rattle.x86_64_model.proofs.Lemmas.Entries.Bits.{used_present, zero_absent}
 use Rattle.x86_64_model.proofs.Lemmas.Hierarchies.Changes.{unused_no_table, zero_not_used}
@@ -84,7 +84,7 @@ module _ (L root : ℕ) (window : Option Window) (E F : List ℕ → ℕ) (due :
       (address (E (i ∷ c)), named L (i ∷ c) _ (names _ (way.is_present i c b) (way.not_huge i c b)) l)
 
   -- a table agrees still, if it is one and the items on its path aren't due
-  pub table_moves : (t : Way) → (LooseAt window due t.path → ⊥) → AgreesTable L root E t → leads L root F t.path ≡ Some t.frame → AgreesTable L root F t
+  pub table_moves : (t : PartialWalk) → (LooseAt window due t.path → ⊥) → AgreesTable L root E t → leads L root F t.path ≡ Some t.frame → AgreesTable L root F t
   table_moves t none a there = agrees_kept L root E F (Table t) a (λ i c b h. let g = way_table t.path a.way i c b in
       kept_way i c h g.0 g.1 (λ l. none (loose_more window due (i ∷ c) t.path b l)) (λ n. let more = from_begins (i ∷ c) t.path b in on more.0 i c n more.1))
     where
@@ -95,7 +95,7 @@ module _ (L root : ℕ) (window : Option Window) (E F : List ℕ → ℕ) (due :
           some_not_none t.frame (sym there ∙ ap (leads L root F) e ∙ ap (table_of L (i ∷ c ++ j ∷ s)) (below_freed s (i ∷ c) j l n) ∙ unused_no_table L (i ∷ c ++ j ∷ s))
 
   -- a page agrees still, or what is due drops it
-  pub page_moves : (w : Way) → (LooseAt window due w.path → ⊥) → AgreesPage L E w → AgreesPage L F w ⊎ PageDrops window due w.path (address (E w.path))
+  pub page_moves : (w : PartialWalk) → (LooseAt window due w.path → ⊥) → AgreesPage L E w → AgreesPage L F w ⊎ PageDrops window due w.path (address (E w.path))
   page_moves w none a = let short = a.way.short in by (moves w.path (omega (arith, short, ap length a.path, one_more a.front a.last)))
     where
       agreed : Kept (E w.path) (F w.path) → AgreesPage L F w
@@ -127,7 +127,7 @@ module _ (L root : ℕ) (window : Option Window) (E F : List ℕ → ℕ) (due :
       by (Unseen n none d) = absurd (let x : true ≡ false = sym a.is_present ∙ n in cc)
 
   -- a page whose entry leads there has such an entry still, or what is due drops it, if all items on its path are due
-  pub stands_moves : (w : Way) → LooseAt window due w.path → Stands L E w → Stands L F w ⊎ PageDrops window due w.path (address (E w.path))
+  pub stands_moves : (w : PartialWalk) → LooseAt window due w.path → Stands L E w → Stands L F w ⊎ PageDrops window due w.path (address (E w.path))
   stands_moves w loose s = let short = s.short in by (moves w.path (omega (arith, short, ap length s.path, one_more s.front s.last)))
     where
       still : used (F w.path) ≡ true → leads L 0 F s.front ≡ None → ⊥

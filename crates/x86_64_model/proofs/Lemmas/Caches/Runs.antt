@@ -9,7 +9,7 @@ use Rattle.x86_64_model.specs.Pool.{IsTable}
 use Rattle.x86_64_model.specs.Position.{span, page_path}
 use Rattle.x86_64_model.specs.Window.{entry_at}
 use Rattle.x86_64_model.specs.Machine.{Machine, IsMachine, State}
-use Rattle.x86_64_model.specs.Caches.{Way, Table, Page, MayRead, MayAccess, walk, walked_in}
+use Rattle.x86_64_model.specs.Caches.{PartialWalk, Table, Page, MayRead, MayAccess, walk_with_rights, walked_in}
 use Rattle.x86_64_model.specs.Flushing.{Due, TablesDue, HasZeros, concerns, System, Event, Makes, Writes, Flushes, Changes, Exchanges, after_event, MayHappen, AllMayHappen, after_events, fresh}
 use Rattle.x86_64_model.specs.Laws.Caches.{FlushesAreEnough, AccessesAreWalks, OnlyTablesAreRead, WalksThere, IsStale, StaleAccessesAreOld, IsLetGo, LetGoIsUnreached}
 use Rattle.x86_64_model.specs.Laws.Steps.{FitsState}
@@ -70,24 +70,24 @@ module _ (m : Machine) (is : IsMachine m) (levels : 0 < m.levels) (root : ℕ) (
     r : Reads m.levels s.words root E
     r = reads m.levels s.words root s.paths m.window safe.valid
 
-    pub stale_or_not : (p : ℕ) (w : Way) → MayAccess m.levels root s.words s.cache p w → WalksThere (walk m.levels s.words root p) w ⊎ IsStale m.levels m.window s.due E w
+    pub stale_or_not : (p : ℕ) (w : PartialWalk) → MayAccess m.levels root s.words s.cache p w → WalksThere (walk_with_rights m.levels s.words root p) w ⊎ IsStale m.levels m.window s.due E w
     stale_or_not p w may = ⊎_elim (λ goes. inl goes) (λ x. inr (stale m.levels m.window s.due E w x)) (by may)
       where
         by : MayAccess m.levels root s.words s.cache p w → Access m.levels root s.words E r levels m.window s.due s.state.pool p w
         by (inl (there, on)) = hit_goes m.levels root s.words E r levels m.window s.due s.state.pool p w (safe.items (Page w) there) on
         by (inr (t, may, on, arrives)) = walk_goes m.levels root s.words E r levels m.window s.due s.state.pool p t w (table_safe m root serves s safe levels t may) on arrives
 
-    pub on_path : (p : ℕ) (w : Way) → MayAccess m.levels root s.words s.cache p w → begins w.path (page_path m.levels p) ≡ true
+    pub on_path : (p : ℕ) (w : PartialWalk) → MayAccess m.levels root s.words s.cache p w → begins w.path (page_path m.levels p) ≡ true
     on_path p w (inl (there, on)) = on
     on_path p w (inr (t, may, on, arrives)) = walked_path m.levels s.words p t w on arrives
 
-    pub goes : (p : ℕ) → ((due : Due) → In s.due due → concerns m.levels m.window due p ≡ false) → (w : Way) → MayAccess m.levels root s.words s.cache p w → WalksThere (walk m.levels s.words root p) w
+    pub goes : (p : ℕ) → ((due : Due) → In s.due due → concerns m.levels m.window due p ≡ false) → (w : PartialWalk) → MayAccess m.levels root s.words s.cache p w → WalksThere (walk_with_rights m.levels s.words root p) w
     goes p settled w may = ⊎_elim (λ goes. goes) (λ x. absurd (settled_stale m.levels m.window s.due E w p (on_path p w may) settled x)) (stale_or_not p w may)
 
-    pub unreached : (a : ℕ) → IsLetGo m.levels m.window s.due E a → (p : ℕ) (w : Way) → MayAccess m.levels root s.words s.cache p w → (walked_in m.levels p w).address ≢ a
+    pub unreached : (a : ℕ) → IsLetGo m.levels m.window s.due E a → (p : ℕ) (w : PartialWalk) → MayAccess m.levels root s.words s.cache p w → (walked_in m.levels p w).address ≢ a
     unreached a free p w may = let_go m.levels m.window s.due s.words root E r levels a free p w (stale_or_not p w may)
 
-    pub reads_tables : (t : Way) → MayRead root s.cache t → (IsTable m.levels root s.paths t.frame × IsSome (s.words t.frame)) ⊎ (In s.due TablesDue × In s.state.pool t.frame × HasZeros s.words t.frame)
+    pub reads_tables : (t : PartialWalk) → MayRead root s.cache t → (IsTable m.levels root s.paths t.frame × IsSome (s.words t.frame)) ⊎ (In s.due TablesDue × In s.state.pool t.frame × HasZeros s.words t.frame)
     reads_tables t may = ⊎_elim
         (λ e. table (subst (λ t. leads m.levels root E t.path ≡ Some t.frame) (sym e) refl))
         (λ there. by (safe.items (Table t) there)) may
@@ -102,25 +102,25 @@ module _ (m : Machine) (is : IsMachine m) (levels : 0 < m.levels) (root : ℕ) (
 
 pub flushes_are_enough : FlushesAreEnough
 flushes_are_enough m root T serves s fits events now ran = subst
-    (λ now. (p : ℕ) → ((due : Due) → In now.due due → concerns m.levels m.window due p ≡ false) → (w : Way) → MayAccess m.levels root now.words now.cache p w → WalksThere (walk m.levels now.words root p) w)
+    (λ now. (p : ℕ) → ((due : Due) → In now.due due → concerns m.levels m.window due p ≡ false) → (w : PartialWalk) → MayAccess m.levels root now.words now.cache p w → WalksThere (walk_with_rights m.levels now.words root p) w)
     ran.ends
     (goes m ran.machine ran.levels root serves (after_events m (fresh s T) events) (events_safe m ran.machine ran.levels root serves events (fresh s T) (fresh_safe m ran.machine ran.levels root serves T s fits) ran.happen))
 
 pub stale_accesses_are_old : StaleAccessesAreOld
 stale_accesses_are_old m root T serves s fits events now ran = subst
-    (λ now. (p : ℕ) (w : Way) → MayAccess m.levels root now.words now.cache p w → WalksThere (walk m.levels now.words root p) w ⊎ IsStale m.levels m.window now.due (entry_at m.window now.paths) w)
+    (λ now. (p : ℕ) (w : PartialWalk) → MayAccess m.levels root now.words now.cache p w → WalksThere (walk_with_rights m.levels now.words root p) w ⊎ IsStale m.levels m.window now.due (entry_at m.window now.paths) w)
     ran.ends
     (stale_or_not m ran.machine ran.levels root serves (after_events m (fresh s T) events) (events_safe m ran.machine ran.levels root serves events (fresh s T) (fresh_safe m ran.machine ran.levels root serves T s fits) ran.happen))
 
 pub let_go_is_unreached : LetGoIsUnreached
 let_go_is_unreached m root T serves s fits events now ran = subst
-    (λ now. (a : ℕ) → IsLetGo m.levels m.window now.due (entry_at m.window now.paths) a → (p : ℕ) (w : Way) → MayAccess m.levels root now.words now.cache p w → (walked_in m.levels p w).address ≢ a)
+    (λ now. (a : ℕ) → IsLetGo m.levels m.window now.due (entry_at m.window now.paths) a → (p : ℕ) (w : PartialWalk) → MayAccess m.levels root now.words now.cache p w → (walked_in m.levels p w).address ≢ a)
     ran.ends
     (unreached m ran.machine ran.levels root serves (after_events m (fresh s T) events) (events_safe m ran.machine ran.levels root serves events (fresh s T) (fresh_safe m ran.machine ran.levels root serves T s fits) ran.happen))
 
 pub only_tables_are_read : OnlyTablesAreRead
 only_tables_are_read m root T serves s fits events now ran = subst
-    (λ now. (t : Way) → MayRead root now.cache t → (IsTable m.levels root now.paths t.frame × IsSome (now.words t.frame)) ⊎ (In now.due TablesDue × In now.state.pool t.frame × HasZeros now.words t.frame))
+    (λ now. (t : PartialWalk) → MayRead root now.cache t → (IsTable m.levels root now.paths t.frame × IsSome (now.words t.frame)) ⊎ (In now.due TablesDue × In now.state.pool t.frame × HasZeros now.words t.frame))
     ran.ends
     (reads_tables m ran.machine ran.levels root serves (after_events m (fresh s T) events) (events_safe m ran.machine ran.levels root serves events (fresh s T) (fresh_safe m ran.machine ran.levels root serves T s fits) ran.happen))
 

@@ -8,7 +8,7 @@ use Rattle.x86_64_model.specs.PathMap.{PathMap, entry}
 use Rattle.x86_64_model.specs.Window.{entry_at, outside_window, IsValidFor}
 use Rattle.x86_64_model.specs.Call.{Call}
 use Rattle.x86_64_model.specs.Machine.{Machine, IsMachine, step}
-use Rattle.x86_64_model.specs.Caches.{Way, Cached, Table, Page, MayRead, Caches}
+use Rattle.x86_64_model.specs.Caches.{PartialWalk, Cached, Table, Page, MayRead, Caches}
 use Rattle.x86_64_model.specs.Flushing.{Due, PageDue, TablesDue, WindowDue, BelowDue, loosens, flush_after, Flush, Invlpg, LoadCr3, FlushAll, survives, settles, System, Makes, Writes, Flushes, after_event, MayMake, MayWrite}
 use Rattle.x86_64_model.proofs.Lemmas.Hierarchies.Trees.{IsTree, hierarchy_of_valid}
 use Rattle.x86_64_model.proofs.Lemmas.Lists.Members.{in_filter, in_right}
@@ -114,7 +114,7 @@ module _ (m : Machine) (root : ℕ) (serves : ℕ → Bool) (s : System) (safe :
   pub r : Reads m.levels s.words root (entry_at m.window s.paths)
   r = reads m.levels s.words root s.paths m.window safe.valid
 
-  pub table_safe : 0 < m.levels → (t : Way) → MayRead root s.cache t → Safe m root s (Table t)
+  pub table_safe : 0 < m.levels → (t : PartialWalk) → MayRead root s.cache t → Safe m root s (Table t)
   table_safe levels t (inl e) = inl (subst (λ t. AgreesTable m.levels root (entry_at m.window s.paths) t) (sym e) (start_agrees m.levels root (entry_at m.window s.paths) levels))
   table_safe levels t (inr there) = safe.items (Table t) there
 

@@ -6,19 +6,19 @@ use Rattle.x86_64_model.specs.PathMap.{put}
 use Rattle.x86_64_model.specs.MapRule.{map_rule, map_call}
 use Rattle.x86_64_model.specs.Position.{index, page_path}
 use Rattle.x86_64_model.specs.PageWalk.{walk_on, page_walk}
-use Rattle.x86_64_model.specs.Caches.{start, Table, Page, found, walk_from, walk}
+use Rattle.x86_64_model.specs.Caches.{start, Table, Page, cached_item, walk_with_rights_from, walk_with_rights}
 use Rattle.x86_64_model.specs.Flushing.{Invlpg, survives}
 use Rattle.x86_64_model.specs.Laws.Worked.{nothing_mapped, small_mapped, small_memory}
 use Rattle.x86_64_model.specs.Laws.Caches.{emptied_memory, reused_memory, writable_way, executable_page, uncleared_memory, UnflushedCleanUp, UnflushedNoExecute, UnclearedTable, ExchangedWords}
 use Rattle.x86_64_model.proofs.Lemmas.Paths.Puts.{entry-put, entry-empty}
 use Rattle.x86_64_model.proofs.Lemmas.Worked.FourLevels.{get_it}
 
-cached : found 4 (words_of emptied_memory identity_places) (start 0x1000) 0 ≡ Some (Table (writable_way (0 ∷ []) 0x2000))
+cached : cached_item 4 (words_of emptied_memory identity_places) (start 0x1000) 0 ≡ Some (Table (writable_way (0 ∷ []) 0x2000))
 unfolding word emptied_memory has address
 cached = simp get_it
 
-goes_on : walk_from 4 (words_of reused_memory identity_places) 0x5000 3 (writable_way (0 ∷ []) 0x2000) ≡ Some (writable_way (0 ∷ 0 ∷ 0 ∷ 5 ∷ []) 0x9000)
-unfolding walk_from word reused_memory has index address
+goes_on : walk_with_rights_from 4 (words_of reused_memory identity_places) 0x5000 3 (writable_way (0 ∷ []) 0x2000) ≡ Some (writable_way (0 ∷ 0 ∷ 0 ∷ 5 ∷ []) 0x9000)
+unfolding walk_with_rights_from word reused_memory has index address
 goes_on = simp get_it
 
 nowhere : page_walk 4 (words_of reused_memory identity_places) 0x1000 0x5000 ≡ None
@@ -36,8 +36,8 @@ left = refl
 pub unflushed_clean_up : UnflushedCleanUp
 unflushed_clean_up = record { cached = cached; none_recorded = λ low high. refl; goes_on = goes_on; recorded = refl; flushed = flushed; left = left; nowhere = nowhere }
 
-before : walk 4 (words_of small_memory identity_places) 0x1000 0x1000 ≡ Some executable_page
-unfolding walk_from word small_memory has index address
+before : walk_with_rights 4 (words_of small_memory identity_places) 0x1000 0x1000 ≡ Some executable_page
+unfolding walk_with_rights_from word small_memory has index address
 before = simp get_it
 
 maps : (map_call 4 small_mapped [] 0x8000_0000_0000_0003 0 (0 ∷ 0 ∷ 0 ∷ 2 ∷ []) 0x6000 3).paths
@@ -53,8 +53,8 @@ pub unflushed_no_execute : UnflushedNoExecute
 unfolding has
 unflushed_no_execute = record { before = before; maps = maps; left = still; due = refl }
 
-in_between : walk 4 (words_of uncleared_memory identity_places) 0x1000 0x2000 ≡ Some (writable_way (0 ∷ 0 ∷ 0 ∷ 2 ∷ []) 0x7000)
-unfolding walk_from word uncleared_memory has index address
+in_between : walk_with_rights 4 (words_of uncleared_memory identity_places) 0x1000 0x2000 ≡ Some (writable_way (0 ∷ 0 ∷ 0 ∷ 2 ∷ []) 0x7000)
+unfolding walk_with_rights_from word uncleared_memory has index address
 in_between = simp get_it
 
 afterwards : page_walk 4 (words_of small_memory identity_places) 0x1000 0x2000 ≡ None

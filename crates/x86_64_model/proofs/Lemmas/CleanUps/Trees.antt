@@ -6,7 +6,7 @@ use Rattle.x86_64_model.specs.PathMap.{PathMap, entry, HasUsedAlone, table_of, t
 use Rattle.x86_64_model.specs.Path.{paths_below, indices}
 use Rattle.x86_64_model.specs.CleanUp.{is_removed, clean_up}
 use Rattle.x86_64_model.specs.Lists.{In, EachOnce}
-use Rattle.x86_64_model.specs.Pool.{TakesBack, given_back}
+use Rattle.x86_64_model.specs.Pool.{TakesBack, with_returned}
 use Rattle.x86_64_model.proofs.Lemmas.Paths.Puts.{append_longer}
 use Rattle.x86_64_model.proofs.Lemmas.Hierarchies.Changes.{zero_not_huge}
 use Rattle.x86_64_model.proofs.Lemmas.CleanUps.Removed.{removed_gives, empty_if_removed}
@@ -48,14 +48,14 @@ once_paths (suc n) q = once_flat_map (λ i. paths_below n (q ++ i ∷ []) ++ (q 
 -- ---- frames that were given back
 
 module _ (take_back : List ℕ → ℕ → List ℕ) (gives : TakesBack take_back) where
-  pub given_frames : (held fs : List ℕ) (g : ℕ) → In (given_back take_back held fs) g ↔ In (fs ++ held) g
+  pub given_frames : (held fs : List ℕ) (g : ℕ) → In (with_returned take_back held fs) g ↔ In (fs ++ held) g
   given_frames held [] g = (λ h. h, λ h. h)
   given_frames held (f ∷ fs) g = let more = given_frames (take_back held f) fs g in let one = gives.same_frames held f g in (
     λ h. ⊎_elim (λ h. inr (in_left fs held g h)) (λ h. ⊎_elim (λ e. inl e) (λ h. inr (in_right fs held g h)) (one.0 h)) (in_append fs (take_back held f) g (more.0 h)),
     ⊎_elim (λ e. more.1 (in_right fs (take_back held f) g (one.1 (inl e)))) (λ h. more.1 (⊎_elim (λ h. in_left fs (take_back held f) g h) (λ h. in_right fs (take_back held f) g (one.1 (inr h))) (in_append fs held g h))),
   )
 
-  pub given_once : (held fs : List ℕ) → EachOnce held → EachOnce fs → ((g : ℕ) → In fs g → In held g → ⊥) → EachOnce (given_back take_back held fs)
+  pub given_once : (held fs : List ℕ) → EachOnce held → EachOnce fs → ((g : ℕ) → In fs g → In held g → ⊥) → EachOnce (with_returned take_back held fs)
   given_once held [] a b apart = a
   given_once held (f ∷ fs) a b apart = given_once (take_back held f) fs (gives.each_once held f (λ h. apart f (inl refl) h, a)) b.1
       (λ g h k. ⊎_elim (λ e. b.0 (subst (In fs) (sym e) h)) (λ k. apart g (inr h) k) ((gives.same_frames held f g).0 k))
@@ -98,7 +98,7 @@ module _ (take_back : List ℕ → ℕ → List ℕ) (gives : TakesBack take_bac
   still_no_table [] f t p e r = root_stays L root M h low high (ap (is_removed L M low high) e ∙ r)
   still_no_table (i ∷ q) f t p e r = let x = (clean_table L root M h low high i q f t).0 in let y : true ≡ false = sym r ∙ ap (is_removed L M low high) (sym e) ∙ x in cc
 
-  pub clean_conserves : Conserves L root M pool (clean_up L M low high).paths (given_back take_back pool (clean_up L M low high).back)
+  pub clean_conserves : Conserves L root M pool (clean_up L M low high).paths (with_returned take_back pool (clean_up L M low high).back)
   unfolding clean_up
   clean_conserves = record {
     same_set = λ f. let s = clean_same_set L root M h low high pool f in let g = given_frames take_back gives pool back f in (

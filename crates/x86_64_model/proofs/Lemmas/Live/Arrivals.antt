@@ -1,8 +1,8 @@
 -- Where accesses arrive, from the entries at the front parts of a path in place of the words.
 use Rattle.std.proofs.Common.{zero, suc, ◌≡◌, ◌+◌, ◌%◌, ℕ, Bool, true, false, cond, List, [], ◌∷◌, ◌++◌, length, Some, None, Option, option_map, option_and_then, refl, sym, ap, ap₂, ◌∙◌, arith}
-use Rattle.x86_64_model.specs.Caches.{Way, start, over, Table, Page, leads_to, then_on, walk_from, walk}
+use Rattle.x86_64_model.specs.Caches.{PartialWalk, start, over, Table, Page, item_over, then_on, walk_with_rights_from, walk_with_rights}
 use Rattle.x86_64_model.specs.Entry.{present, huge, address, names_table}
-use Rattle.x86_64_model.specs.Laws.Splits.{Arrival, arrival_in, arrival}
+use Rattle.x86_64_model.specs.Laws.Splits.{Arrival, arrival_of_way, arrival_at}
 use Rattle.x86_64_model.specs.Mappings.{Rights, maps_page, every_right, granted}
 use Rattle.x86_64_model.specs.Memory.{Words, word}
 use Rattle.x86_64_model.specs.PageWalk.{page_start}
@@ -28,21 +28,21 @@ arrived E p (suc n) c r = let e = E (c ++ index (suc n) p ∷ []) in by_word (su
 
 module _ (L : ℕ) (T : Words) (root : ℕ) (E : List ℕ → ℕ) (is : Reads L T root E) (p : ℕ) where
   -- what a word leads to
-  at_word : (n : ℕ) (t : Way) (i e : ℕ) (walk : Way → Option Way) (next : Option Arrival)
+  at_word : (n : ℕ) (t : PartialWalk) (i e : ℕ) (walk_with_rights : PartialWalk → Option PartialWalk) (next : Option Arrival)
       → level_of L (t.path ++ i ∷ []) ≡ suc n
       → (present e ≡ true → huge e ≡ false → maps_page (suc n) e ≡ false
-      → option_map (arrival_in L p) (walk (over t i e (address e))) ≡ next)
-      → option_map (arrival_in L p) (option_and_then (then_on walk) (leads_to L t i e))
+      → option_map (arrival_of_way L p) (walk_with_rights (over t i e (address e))) ≡ next)
+      → option_map (arrival_of_way L p) (option_and_then (then_on walk_with_rights) (item_over L t i e))
       ≡ by_word (suc n) p t.rights e next
-  at_word n t i e walk next level on =
-      ap (λ k. option_map (arrival_in L p)
-      (option_and_then (then_on walk) (cond (present e)
+  at_word n t i e walk_with_rights next level on =
+      ap (λ k. option_map (arrival_of_way L p)
+      (option_and_then (then_on walk_with_rights) (cond (present e)
       (cond (maps_page k e) (Some (Page (over t i e (page_start k e))))
       (cond (huge e) None (Some (Table (over t i e (address e)))))) None))) level
       ∙ by (present e) (maps_page (suc n) e) (huge e) refl refl refl
     where
       by : (a b c : Bool) → present e ≡ a → maps_page (suc n) e ≡ b → huge e ≡ c
-          → option_map (arrival_in L p) (option_and_then (then_on walk)
+          → option_map (arrival_of_way L p) (option_and_then (then_on walk_with_rights)
           (cond a (cond b (Some (Page (over t i e (page_start (suc n) e))))
           (cond c None (Some (Table (over t i e (address e)))))) None))
           ≡ cond a (cond b
@@ -57,26 +57,26 @@ module _ (L : ℕ) (T : Words) (root : ℕ) (E : List ℕ → ℕ) (is : Reads L
       by true false true x y z = refl
       by true false false x y z = on x z y
 
-  walk_arrives : (n : ℕ) (t : Way) → length t.path + n ≡ L
+  walk_arrives : (n : ℕ) (t : PartialWalk) → length t.path + n ≡ L
       → ((j : ℕ) → word T t.frame j ≡ E (t.path ++ j ∷ []))
-      → option_map (arrival_in L p) (walk_from L T p n t) ≡ arrived E p n t.path t.rights
-  unfolding walk_from
+      → option_map (arrival_of_way L p) (walk_with_rights_from L T p n t) ≡ arrived E p n t.path t.rights
+  unfolding walk_with_rights_from
   walk_arrives zero t l at = refl
   walk_arrives (suc n) t l at =
       let i = index (suc n) p in let e = E (t.path ++ i ∷ []) in
-      ap (λ e. option_map (arrival_in L p)
-      (option_and_then (then_on (λ on. walk_from L T p n on)) (leads_to L t i e))) (at i)
-      ∙ at_word n t i e (λ on. walk_from L T p n on) (arrived E p n (t.path ++ i ∷ []) (granted t.rights e))
+      ap (λ e. option_map (arrival_of_way L p)
+      (option_and_then (then_on (λ on. walk_with_rights_from L T p n on)) (item_over L t i e))) (at i)
+      ∙ at_word n t i e (λ on. walk_with_rights_from L T p n on) (arrived E p n (t.path ++ i ∷ []) (granted t.rights e))
       (omega (arith, one_more t.path i, l))
       (λ x z y. on n t i e l refl x z y (walk_arrives n (over t i e (address e))
       (omega (arith, one_more t.path i, l))))
     where
-      on : (n : ℕ) (t : Way) (i e : ℕ) → length t.path + suc n ≡ L → e ≡ E (t.path ++ i ∷ [])
+      on : (n : ℕ) (t : PartialWalk) (i e : ℕ) → length t.path + suc n ≡ L → e ≡ E (t.path ++ i ∷ [])
           → present e ≡ true → huge e ≡ false → maps_page (suc n) e ≡ false
           → (((j : ℕ) → word T (address e) j ≡ E ((t.path ++ i ∷ []) ++ j ∷ []))
-          → option_map (arrival_in L p) (walk_from L T p n (over t i e (address e)))
+          → option_map (arrival_of_way L p) (walk_with_rights_from L T p n (over t i e (address e)))
           ≡ arrived E p n (t.path ++ i ∷ []) (granted t.rights e))
-          → option_map (arrival_in L p) (walk_from L T p n (over t i e (address e)))
+          → option_map (arrival_of_way L p) (walk_with_rights_from L T p n (over t i e (address e)))
           ≡ arrived E p n (t.path ++ i ∷ []) (granted t.rights e)
       on zero t i e l is_entry x z y rest = absurd
           (let last : maps_page 1 e ≡ true = refl in let c : true ≡ false = sym last ∙ y in cc)
@@ -85,7 +85,7 @@ module _ (L : ℕ) (T : Words) (root : ℕ) (E : List ℕ → ℕ) (is : Reads L
           ∙ sym (is.next (t.path ++ i ∷ []) j (ap names_table (sym is_entry) ∙ names e x z)
           (omega (arith, one_more t.path i, l))))
 
-  pub arrival_is : arrival L T root p ≡ arrived E p L [] every_right
+  pub arrival_is : arrival_at L T root p ≡ arrived E p L [] every_right
   arrival_is = walk_arrives L (start root) (omega arith) (λ j. sym (is.first j))
 
 -- outside the window by the map alone
@@ -105,7 +105,7 @@ module _ (L p : ℕ) (E F : List ℕ → ℕ) (same : SameOnPath L p E F) where
 
 pub arrival_of_map : (L : ℕ) (window : Option Window) (T : Words) (root : ℕ) (M : PathMap) (p : ℕ)
     → IsValidFor L window T root M → begins_with window (page_path L p) ≡ false
-    → arrival L T root p ≡ arrived (entry M) p L [] every_right
+    → arrival_at L T root p ≡ arrived (entry M) p L [] every_right
 arrival_of_map L window T root M p valid out =
     arrival_is L T root (entry_at window M) (reads L T root M window valid) p
     ∙ arrived_same L p (entry_at window M) (entry M) (outside_same L window M p out) L [] every_right refl

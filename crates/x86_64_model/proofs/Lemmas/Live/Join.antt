@@ -5,7 +5,7 @@ use Rattle.std.proofs.lemmas.Bool.{cases_lt}
 use Rattle.std.proofs.lemmas.Option.{none-some, same_Some}
 use Rattle.x86_64_model.specs.Entry.{is_frame}
 use Rattle.x86_64_model.specs.Laws.EntriesInPlace.{IsInPlace, with_word}
-use Rattle.x86_64_model.specs.Laws.Splits.{arrival, IsInParts, IsJoined, PagesMayBeJoined}
+use Rattle.x86_64_model.specs.Laws.Splits.{arrival_at, IsInParts, IsJoined, PagesMayBeJoined}
 use Rattle.x86_64_model.specs.Layout.{Layout}
 use Rattle.x86_64_model.specs.Lists.{In}
 use Rattle.x86_64_model.specs.Mapper.{◌laid_in◌, Owns, PoolFits, paths, words}
@@ -196,7 +196,7 @@ module _ (l : Layout) (mapping : IsMapping l.places) (some : 0 < l.levels) (serv
   }
 
   pub arrivals : (p : ℕ) → begins_with l.window (page_path L p) ≡ false
-      → arrival L U l.root p ≡ arrival L T l.root p
+      → arrival_at L U l.root p ≡ arrival_at L T l.root p
   arrivals p out = arrival_of_map L l.window U l.root N p valid_now out
       ∙ sym (arrived_in_parts L p q (nonempty L V W l.root M some fits.valid.valid q f i e None replaced)
       (entry N) (entry M) (entry M q) g (λ j. entry M (q ++ j ∷ []))

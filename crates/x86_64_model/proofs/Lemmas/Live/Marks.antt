@@ -9,7 +9,7 @@ use Rattle.x86_64_model.specs.Entry.{has}
 use Rattle.x86_64_model.specs.Laws.Live.{NoMarkIsLost, DoesntWrite, WhoTakesFlagsSeesThem, MarkIsLost, EntryIsPutBack}
 use Rattle.x86_64_model.specs.Lists.{In}
 use Rattle.x86_64_model.specs.Live as live
-use Rattle.x86_64_model.specs.Live.{Happening, Marks, path_of, next_word, after_happening, after_happenings, learned}
+use Rattle.x86_64_model.specs.Live.{Happening, Marks, changed_path, next_word, after_happening, after_happenings, learned}
 use Rattle.x86_64_model.specs.Memory.{Words, word, word_in, set_word}
 use Rattle.x86_64_model.specs.PathMap.{PathMap, entry, put}
 use Rattle.x86_64_model.specs.Turns.{Touch, Reads, Writes, Exchanges, Sees, after_touch, Turn, AllSee, after_turns}

@@ -2,9 +2,9 @@
 use Rattle.std.proofs.Common.{◌≡◌, ◌<◌, ◌+◌, ◌*◌, ◌/◌, ◌==◌, ◌&&◌, not, ℕ, Bool, true, false, cond, Some, None, Option, option_map, bit_and, bit_or, refl, ap, ap₂, ◌∙◌, arith}
 use Rattle.std.proofs.lemmas.Nat.{and_assoc}
 use Rattle.std.specs.Int.Bits.{and_zero_l, and_zero_r}
-use Rattle.x86_64_model.specs.Caches.{Way, walk, walked_in}
+use Rattle.x86_64_model.specs.Caches.{PartialWalk, walk_with_rights, walked_in}
 use Rattle.x86_64_model.specs.Entry.{has, present, writable, user, huge, no_execute, address, flags}
-use Rattle.x86_64_model.specs.Laws.Splits.{arrival_in, AreParts, AllowsAll, part_of_2mib, part_of_1gib, PagesHaveParts, ArrivalsSayWalks}
+use Rattle.x86_64_model.specs.Laws.Splits.{arrival_of_way, AreParts, AllowsAll, part_of_2mib, part_of_1gib, PagesHaveParts, ArrivalsSayWalks}
 use Rattle.x86_64_model.specs.PageWalk.{page_start}
 use Rattle.x86_64_model.specs.Position.{span}
 use Rattle.x86_64_model.proofs.Lemmas.Caches.Walks.{walks_with_rights}
@@ -114,10 +114,10 @@ pages_have_parts e t part allows = (parts_2 e t part allows, λ is_page plain. p
 -- ---- and the page walk
 
 pub arrivals_say_walks : ArrivalsSayWalks
-arrivals_say_walks L T root p = walks_with_rights L T root p ∙ by (walk L T root p)
+arrivals_say_walks L T root p = walks_with_rights L T root p ∙ by (walk_with_rights L T root p)
   where
-    by : (o : Option Way) → option_map (λ w. walked_in L p w) o
+    by : (o : Option PartialWalk) → option_map (λ w. walked_in L p w) o
         ≡ option_map (λ a. record { address = a.address; write = a.rights.write; user = a.rights.user })
-        (option_map (arrival_in L p) o)
+        (option_map (arrival_of_way L p) o)
     by None = refl
     by (Some w) = refl

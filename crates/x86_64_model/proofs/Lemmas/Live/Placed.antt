@@ -5,7 +5,7 @@ use Rattle.x86_64_model.specs.Entry.{huge}
 use Rattle.x86_64_model.specs.Laws.EntriesInPlace.{OneChanged, with_word}
 use Rattle.x86_64_model.specs.Laws.Live.{IsLiveAfter, LiveTablesFit, MarksMayReplace}
 use Rattle.x86_64_model.specs.Layout.{Layout}
-use Rattle.x86_64_model.specs.Live.{Happening, Marks, Exchanges, Placed, path_of, next_word, after_happening, after_happenings, learned, with_learned, words_learned, after_placed, after_all_placed, AllMayHappen}
+use Rattle.x86_64_model.specs.Live.{Happening, Marks, Exchanges, Placed, changed_path, next_word, after_happening, after_happenings, learned, with_learned, words_learned, after_placed, after_all_placed, AllMayTakePlace}
 use Rattle.x86_64_model.specs.Mapper.{◌laid_in◌, PoolFits, paths, words}
 use Rattle.x86_64_model.specs.Memory.{Memory, IsMapping, word}
 use Rattle.x86_64_model.specs.Path.{level_of}
@@ -14,7 +14,7 @@ use Rattle.x86_64_model.proofs.Lemmas.Entries.Bits.{has_or, address_or}
 use Rattle.x86_64_model.proofs.Lemmas.Live.Changed.{one_changed, seen_there}
 
 learned_first : (M : PathMap) (h : Happening) (hs : List Happening)
-    → learned M (h ∷ hs) ≡ with_learned h (entry M (path_of h)) (learned (after_happening M h) hs)
+    → learned M (h ∷ hs) ≡ with_learned h (entry M (changed_path h)) (learned (after_happening M h) hs)
 learned_first M (Marks q mark) hs = refl
 learned_first M (Exchanges q next) hs = refl
 
@@ -29,7 +29,7 @@ module _ (l : Layout) (mapping : IsMapping l.places) (some : 0 < l.levels) (serv
     end = after_all_placed l (after_placed l m x) xs
 
     abbrev q : List ℕ
-    q = path_of x.what
+    q = changed_path x.what
 
     abbrev M : PathMap
     M = paths (l laid_in m)
@@ -60,7 +60,7 @@ module _ (l : Layout) (mapping : IsMapping l.places) (some : 0 < l.levels) (serv
           ∙ sym (learned_first M x.what hs),
     )
 
-  live : (placed : List Placed) (m : Memory) → PoolFits (l laid_in m) serves pool → AllMayHappen l m placed
+  live : (placed : List Placed) (m : Memory) → PoolFits (l laid_in m) serves pool → AllMayTakePlace l m placed
       → IsLiveAfter l serves pool m (map (λ (x : Placed). x.what) placed) (after_all_placed l m placed)
       × (words_learned l m placed ≡ learned (paths (l laid_in m)) (map (λ (x : Placed). x.what) placed))
   live [] m fits may = (
@@ -77,7 +77,7 @@ module _ (l : Layout) (mapping : IsMapping l.places) (some : 0 < l.levels) (serv
     refl,
   )
   live (x ∷ xs) m fits may =
-      let q = path_of x.what in let M = paths (l laid_in m) in
+      let q = changed_path x.what in let M = paths (l laid_in m) in
       let seen = seen_there l mapping some serves m pool fits q x.frame x.index
       (next_word x.what (entry M q)) may.0.0 may.0.1 in
       let one : OneChanged l serves pool m q (next_word x.what (entry M q)) (after_placed l m x) =

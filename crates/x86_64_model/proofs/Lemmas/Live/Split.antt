@@ -6,7 +6,7 @@ use Rattle.std.specs.Cmp.{nat_cmp_total}
 use Rattle.std.specs.FinMap.{get, insert, get-insert}
 use Rattle.x86_64_model.specs.Entry.{huge}
 use Rattle.x86_64_model.specs.Laws.EntriesInPlace.{IsInPlace}
-use Rattle.x86_64_model.specs.Laws.Splits.{IsInParts, with_table}
+use Rattle.x86_64_model.specs.Laws.Splits.{IsInParts, split_memory}
 use Rattle.x86_64_model.specs.Layout.{Layout}
 use Rattle.x86_64_model.specs.Mapper.{◌laid_in◌, PoolFits, paths, words}
 use Rattle.x86_64_model.specs.Mappings.{maps_page}
@@ -68,7 +68,7 @@ module _ (l : Layout) (mapping : IsMapping l.places) (some : 0 < l.levels) (serv
   filled = insert m (l.places.place g) table
 
   abbrev n : Memory
-  n = with_table l m g table f i t
+  n = split_memory l m g table f i t
 
   abbrev F : Words
   F = words (l laid_in filled)

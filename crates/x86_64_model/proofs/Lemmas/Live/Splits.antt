@@ -4,7 +4,7 @@ use Rattle.std.proofs.lemmas.Option.{none-some, same_Some}
 use Rattle.std.specs.Cmp.{nat_cmp_total}
 use Rattle.std.specs.FinMap.{get, insert, get-insert}
 use Rattle.x86_64_model.specs.Laws.EntriesInPlace.{IsInPlace}
-use Rattle.x86_64_model.specs.Laws.Splits.{arrival, IsInParts, with_table, HasParts, PagesMayBeSplit}
+use Rattle.x86_64_model.specs.Laws.Splits.{arrival_at, IsInParts, split_memory, HasParts, PagesMayBeSplit}
 use Rattle.x86_64_model.specs.Layout.{Layout}
 use Rattle.x86_64_model.specs.Lists.{In}
 use Rattle.x86_64_model.specs.Mapper.{◌laid_in◌, Owns, PoolFits, paths, words}
@@ -39,7 +39,7 @@ module _ (l : Layout) (mapping : IsMapping l.places) (some : 0 < l.levels) (serv
   M = paths (l laid_in m)
 
   abbrev n : Memory
-  n = with_table l m g table f i t
+  n = split_memory l m g table f i t
 
   abbrev F : Words
   F = words (l laid_in (insert m (l.places.place g) table))
@@ -169,7 +169,7 @@ module _ (l : Layout) (mapping : IsMapping l.places) (some : 0 < l.levels) (serv
   }
 
   arrivals : (p : ℕ) → begins_with l.window (page_path L p) ≡ false
-      → arrival L U l.root p ≡ arrival L T l.root p
+      → arrival_at L U l.root p ≡ arrival_at L T l.root p
   arrivals p out = arrival_of_map L l.window U l.root N p valid_now out
       ∙ arrived_in_parts L p q (nonempty L (outside_window l.window l.root T)
       (outside_window l.window l.root U) l.root M some fits.valid.valid q f i t (Some g) replaced)

@@ -7,7 +7,7 @@ use Rattle.std.proofs.lemmas.Option.{none-some, same_Some}
 use Rattle.x86_64_model.specs.Laws.Locality.{TurnsAreAlone, CallsInTurn}
 use Rattle.x86_64_model.specs.Mapper.{◌laid_in◌, paths, words}
 use Rattle.x86_64_model.specs.Memory.{Words, word, word_in, set_word}
-use Rattle.x86_64_model.specs.Turns.{Touch, Reads, Writes, Exchanges, frame_of, index_of, Sees, after_touch, Turn, AllSee, after_turns, turns_of, OnlyReads, KeepsApart}
+use Rattle.x86_64_model.specs.Turns.{Touch, Reads, Writes, Exchanges, touched_frame, index_of, Sees, after_touch, Turn, AllSee, after_turns, turns_of, IsRead, KeepsApart}
 use Rattle.x86_64_model.proofs.Lemmas.Hierarchies.Held.{word-set_frame, word-set_index, is_some-set}
 use Rattle.x86_64_model.proofs.Lemmas.Live.Owned.{hierarchies_are_local}
 use Rattle.x86_64_model.proofs.Lemmas.Machines.Fitting.{own_there}
@@ -81,26 +81,26 @@ set_alike T U f i w g j long same = ⊎_elim
     (λ n. set_other U f i w g j n ∙ same ∙ sym (set_other T f i w g j n))
     (same_spot g j f i)
 
-touch_alike : (T U : Words) (t : Touch) (g j : ℕ) → size (U (frame_of t)) ≡ size (T (frame_of t))
+touch_alike : (T U : Words) (t : Touch) (g j : ℕ) → size (U (touched_frame t)) ≡ size (T (touched_frame t))
     → word U g j ≡ word T g j → word (after_touch U t) g j ≡ word (after_touch T t) g j
 touch_alike T U (Reads f i seen) g j long same = same
 touch_alike T U (Writes f i w) g j long same = set_alike T U f i w g j long same
 touch_alike T U (Exchanges f i seen w) g j long same = set_alike T U f i w g j long same
 
-same_sight : (T U : Words) (t : Touch) → word U (frame_of t) (index_of t) ≡ word T (frame_of t) (index_of t)
+same_sight : (T U : Words) (t : Touch) → word U (touched_frame t) (index_of t) ≡ word T (touched_frame t) (index_of t)
     → Sees T t → Sees U t
 same_sight T U (Reads f i seen) same sees = same ∙ sees
 same_sight T U (Writes f i w) same sees = tt
 same_sight T U (Exchanges f i seen w) same sees = same ∙ sees
 
 -- a touch leaves other words, and a read leaves all
-touch_other : (T : Words) (t : Touch) (g j : ℕ) → (g ≢ frame_of t) ⊎ (j ≢ index_of t)
+touch_other : (T : Words) (t : Touch) (g j : ℕ) → (g ≢ touched_frame t) ⊎ (j ≢ index_of t)
     → word (after_touch T t) g j ≡ word T g j
 touch_other T (Reads f i seen) g j apart = refl
 touch_other T (Writes f i w) g j apart = set_other T f i w g j apart
 touch_other T (Exchanges f i seen w) g j apart = set_other T f i w g j apart
 
-read_leaves : (T : Words) (t : Touch) (g j : ℕ) → OnlyReads t → word (after_touch T t) g j ≡ word T g j
+read_leaves : (T : Words) (t : Touch) (g j : ℕ) → IsRead t → word (after_touch T t) g j ≡ word T g j
 read_leaves T (Reads f i seen) g j only = refl
 read_leaves T (Writes f i w) g j only = absurd only
 read_leaves T (Exchanges f i seen w) g j only = absurd only
@@ -112,7 +112,7 @@ module _ (owner : (frame i : ℕ) → Option ℕ) where
   not_touched : (T : Words) (t : Turn) → KeepsApart owner t → (g j : ℕ) → owner g j ≢ Some t.processor
       → word (after_touch T t.touch) g j ≡ word T g j
   not_touched T t (inl o) g j not = ⊎_elim (λ at. absurd (not (ap₂ owner at.0 at.1 ∙ o)))
-      (λ n. touch_other T t.touch g j n) (same_spot g j (frame_of t.touch) (index_of t.touch))
+      (λ n. touch_other T t.touch g j n) (same_spot g j (touched_frame t.touch) (index_of t.touch))
   not_touched T t (inr r) g j not = read_leaves T t.touch g j r.0
 
   not_whose : (f i k : ℕ) → owner f i ≡ None → owner f i ≢ Some k
@@ -142,13 +142,13 @@ module _ (owner : (frame i : ℕ) → Option ℕ) where
         × ((f i : ℕ) → owner f i ≡ Some k → word (after_turns T turns) f i
         ≡ word (after_turns U (turns_of k turns)) f i)
 
-    seen_word : (t : Turn) → t.processor ≡ k → KeepsApart owner t → Its (frame_of t.touch) (index_of t.touch)
+    seen_word : (t : Turn) → t.processor ≡ k → KeepsApart owner t → Its (touched_frame t.touch) (index_of t.touch)
     seen_word t is (inl o) = inl (o ∙ ap Some is)
     seen_word t is (inr r) = inr r.1
 
     own_turn : (T U : Words) (t : Turn) → Alike T U → Alike (after_touch T t.touch) (after_touch U t.touch)
     own_turn T U t alike = record {
-      its = λ f i o. touch_alike T U t.touch f i (alike.long (frame_of t.touch)) (alike.its f i o);
+      its = λ f i o. touch_alike T U t.touch f i (alike.long (touched_frame t.touch)) (alike.its f i o);
       long = λ f. touch_size U t.touch f ∙ alike.long f ∙ sym (touch_size T t.touch f);
     }
 
@@ -174,7 +174,7 @@ module _ (owner : (frame i : ℕ) → Option ℕ) where
         ≡ word (after_turns U (cond b (t ∷ turns_of k ts) (turns_of k ts))) f i))
         (sym is) (
           (
-            same_sight T U t.touch (alike.its (frame_of t.touch) (index_of t.touch)
+            same_sight T U t.touch (alike.its (touched_frame t.touch) (index_of t.touch)
                 (seen_word t (eqb-true t.processor k is) apart.0)) see.0,
             rest.0,
           ),

@@ -13,7 +13,7 @@ use Rattle.x86_64_model.specs.Path.{AllBelow, front_at, IsPage, path_at, begins}
 use Rattle.x86_64_model.specs.Call.{IsCall, Call, MapTo, MapToWithTableFlags, IdentityMap, Unmap, UpdateFlags, SetFlags, TranslatePage, Translate, TranslateAddress, CleanUp, NotAllowed}
 use Rattle.x86_64_model.specs.Machine.{Machine, State, AfterCall, only_reply, after_map, after_change, do_call, step}
 use Rattle.x86_64_model.specs.Allowed.{parents_present, map_allowed, allowed}
-use Rattle.x86_64_model.specs.Pool.{given_back}
+use Rattle.x86_64_model.specs.Pool.{with_returned}
 use Rattle.x86_64_model.specs.Flush.{Item, OnePage, Everything, covers, if_done, items_of}
 use Rattle.x86_64_model.proofs.Lemmas.Maps.Flags.{has_bit, zero_or_one}
 use Rattle.x86_64_model.proofs.Lemmas.Walks.Walked.{index_small}
@@ -80,7 +80,7 @@ module _ (L : ℕ) (window : Option Window) (added : ℕ) (take_back : List ℕ 
     (nothing : P s [])
     (maps : (q : List ℕ) (frame given more : ℕ) (items : List Item) → IsPage L q → MapMay window s.paths q given more → P (after_map (map_call L s.paths s.pool more added q frame given)).state items)
     (changes : (q : List ℕ) (w : ℕ) (item : Item) → IsChange L window s.paths q w → ((p : ℕ) → covers L item p ≡ false → begins q (page_path L p) ≡ false) → P (record { paths = put s.paths q w; pool = s.pool }) (item ∷ []))
-    (cleans : (low high : ℕ) → P (record { paths = (clean_up L s.paths low high).paths; pool = given_back take_back s.pool (clean_up L s.paths low high).back }) []) where
+    (cleans : (low high : ℕ) → P (record { paths = (clean_up L s.paths low high).paths; pool = with_returned take_back s.pool (clean_up L s.paths low high).back }) []) where
   pub done_ind : (call : Call) → IsCall L call → allowed L window s.paths call ≡ true → P (do_call (machine L window added take_back) s call).state (items_of L call (do_call (machine L window added take_back) s call).reply)
   unfolding do_call
   done_ind (MapTo q frame given) is h = maps q frame given (parent_part given) _ is (map_may L window s.paths q given _ h)

@@ -10,7 +10,7 @@ use Rattle.x86_64_model.specs.Memory.{Words}
 use Rattle.x86_64_model.specs.PageMappings.{PageMapping, entry_path, map_call_of, map_calls, accepted}
 use Rattle.x86_64_model.specs.PathMap.{PathMap}
 use Rattle.x86_64_model.specs.Refusal.{Answer, Done}
-use Rattle.x86_64_model.specs.Standing.{StandsAt}
+use Rattle.x86_64_model.specs.Standing.{IsMappedIn}
 use Rattle.x86_64_model.proofs.Lemmas.Machines.Effects.{page_at_level, step_cases}
 use Rattle.x86_64_model.proofs.Lemmas.Machines.Fitting.{sound_of_fits}
 use Rattle.x86_64_model.proofs.Lemmas.Machines.Laws.{step_is_held}
@@ -29,7 +29,7 @@ answer_same a b e = cc
 
 -- a page stands in a path map
 abbrev pub StandsIn : (L : ℕ) → PathMap → PageMapping → Type 0
-StandsIn L paths x = StandsAt L x.level paths (entry_path L x) x.frame x.flags
+StandsIn L paths x = IsMappedIn L x.level paths (entry_path L x) x.frame x.flags
 
 module _ (m : Machine) (is : IsMachine m) (T : Words) (root : ℕ) (serves : ℕ → Bool) (s : State) (fits : FitsState m T root serves s) (x : PageMapping) (asks : AsksFor m.levels x) where
   abbrev after : AfterMap
@@ -48,8 +48,8 @@ module _ (m : Machine) (is : IsMachine m) (T : Words) (root : ℕ) (serves : ℕ
       (all_in s.pool (sound_of_fits m.levels m.window T root serves s fits).frames) asks)
 
   pub one_leaves : (step m s (map_call_of m.levels x)).reply ≡ accepted x → (level : ℕ) (page : List ℕ) (frame flags : ℕ)
-      → StandsAt m.levels level s.paths page frame flags → StandsAt m.levels level (step m s (map_call_of m.levels x)).state.paths page frame flags
-  one_leaves e level page frame flags stands = by_map (λ paths. StandsAt m.levels level paths page frame flags)
+      → IsMappedIn m.levels level s.paths page frame flags → IsMappedIn m.levels level (step m s (map_call_of m.levels x)).state.paths page frame flags
+  one_leaves e level page frame flags stands = by_map (λ paths. IsMappedIn m.levels level paths page frame flags)
       (λ done. standing_is_left m.levels level _ root s.paths s.pool (parent_part x.flags) m.added_flags (entry_path m.levels x) x.frame x.flags fits.valid.valid.holds (part_is_flags x.flags)
       (let at = asks.at_level in let low = asks.low in omega (arith, at, low)) page frame flags stands (inr (λ refused. let t = sym done ∙ refused in cc))) e
 
@@ -59,7 +59,7 @@ module _ (m : Machine) (is : IsMachine m) (root : ℕ) (serves : ℕ → Bool) w
 
   -- pages that stood before
   pub pages_stay : (xs : List PageMapping) (T : Words) (s : State) → FitsState m T root serves s → AllByRecursion (AsksFor m.levels) xs → replies_of m s (map_calls m.levels xs) ≡ map accepted xs
-      → (level : ℕ) (page : List ℕ) (frame flags : ℕ) → StandsAt m.levels level s.paths page frame flags → StandsAt m.levels level (end s xs) page frame flags
+      → (level : ℕ) (page : List ℕ) (frame flags : ℕ) → IsMappedIn m.levels level s.paths page frame flags → IsMappedIn m.levels level (end s xs) page frame flags
   pages_stay [] T s fits asks e level page frame flags stands = stands
   pages_stay (x ∷ xs) T s fits asks e level page frame flags stands =
       let held = step_is_held m is T root serves s (map_call_of m.levels x) (is_call m is T root serves s fits x asks.0) fits in

@@ -8,7 +8,7 @@ use Rattle.x86_64_model.specs.Entry.{IsParentFlags, present, used, address}
 use Rattle.x86_64_model.proofs.Lemmas.Maps.Mapped.{arrives_in_page}
 use Rattle.x86_64_model.specs.Machine.{AfterCall, do_call, after_map, after_change}
 use Rattle.x86_64_model.specs.MapRule.{map_call, parent_part, leaf_entry}
-use Rattle.x86_64_model.specs.private.MapperCalls.{IsMapped, IsChanged, after_unmap, after_update, after_set_flags}
+use Rattle.x86_64_model.specs.private.MapperCalls.{MapsPage, IsChanged, after_unmap, after_update, after_set_flags}
 use Rattle.x86_64_model.specs.Memory.{Memory}
 use Rattle.x86_64_model.specs.Mapper.{◌laid_in◌, Hierarchy, MayMap, Does, DoesMap, ArrivesIn, machine_of, state_of, named, paths, read_entry, SupplyFits, walk}
 use Rattle.x86_64_model.specs.PageRules.{AfterChange, refused_or, update_refusal, update_flags, set_flags}
@@ -35,7 +35,7 @@ module _ {Lent : Type 0} (h : Hierarchy Lent) (supply : List ℕ) where
     does_map_identity level frame given does = record { outcome = does.outcome; fits = does.fits; others = does.others; walks = does.walks; layout = does.layout; lent = does.lent }
 
   -- by the map rule
-  pub does_map : (q : List ℕ) (frame given more : ℕ) (answer : Answer) (n : Memory) (rest : List ℕ) → IsMapped h.layout h.memory supply q frame given more answer n rest
+  pub does_map : (q : List ℕ) (frame given more : ℕ) (answer : Answer) (n : Memory) (rest : List ℕ) → MapsPage h.layout h.memory supply q frame given more answer n rest
       → DoesMap h supply (MapToWithTableFlags q frame given more) answer (record h { memory = n }) rest
   unfolding do_call
   does_map q frame given more answer n rest mapped = record {
@@ -55,7 +55,7 @@ module _ {Lent : Type 0} (h : Hierarchy Lent) (supply : List ℕ) where
   answer_in other Cleaned = other
 
   pub is_mapped : (q : List ℕ) (frame given more : ℕ) (answer : Answer) (after : Hierarchy Lent) (rest : List ℕ) → DoesMap h supply (MapToWithTableFlags q frame given more) answer after rest
-      → IsMapped h.layout h.memory supply q frame given more answer after.memory rest
+      → MapsPage h.layout h.memory supply q frame given more answer after.memory rest
   unfolding do_call
   is_mapped q frame given more answer after rest does = record {
     outcome = subst (λ l. map_call h.layout.levels (paths h) supply more h.layout.added_flags q frame given ≡ record { paths = paths (l laid_in after.memory); supply = rest; answer = answer }) does.layout

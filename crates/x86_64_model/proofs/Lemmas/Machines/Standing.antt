@@ -5,11 +5,11 @@ use Rattle.x86_64_model.specs.Entry.{IsParentFlags, present, address, writable, 
 use Rattle.x86_64_model.specs.Layout.{Layout}
 use Rattle.x86_64_model.specs.Machine.{do_call}
 use Rattle.x86_64_model.specs.MapRule.{AfterMap, map_call, parent_part}
-use Rattle.x86_64_model.specs.Mapper.{◌laid_in◌, Hierarchy, Valid, MayMap, DoesMap, ArrivesIn, Stands, paths, path_of}
+use Rattle.x86_64_model.specs.Mapper.{◌laid_in◌, Hierarchy, Valid, MayMap, DoesMap, ArrivesIn, IsMappedAs, paths, path_of}
 use Rattle.x86_64_model.specs.Path.{path_at}
 use Rattle.x86_64_model.specs.Position.{span, page_path}
 use Rattle.x86_64_model.specs.Refusal.{Answer, Done, Refused, ParentEntryHugePage}
-use Rattle.x86_64_model.specs.Standing.{StandsAt}
+use Rattle.x86_64_model.specs.Standing.{IsMappedIn}
 use Rattle.x86_64_model.specs.Window.{begins_with}
 use Rattle.x86_64_model.proofs.Lemmas.Machines.Effects.{map_may, MapMay}
 use Rattle.x86_64_model.proofs.Lemmas.Machines.Owners.{is_mapped}
@@ -19,7 +19,7 @@ use Rattle.x86_64_model.proofs.Lemmas.Paths.Pages.{length_taken, front_of_page}
 
 -- the processor arrives in all of a page that stands, with just the rights that its flags have
 pub arrives_where_stands : {Lent : Type 0} (h : Hierarchy Lent) (level page frame given : ℕ) → Valid h → begins_with h.layout.window (path_of h level page) ≡ false
-    → page % span level ≡ 0 → Stands h level page frame given → ArrivesIn h (span level) page frame given
+    → page % span level ≡ 0 → IsMappedAs h level page frame given → ArrivesIn h (span level) page frame given
 arrives_where_stands h level page frame given valid outside multiple stands offset within =
     let asks = stands.asks in let long = length_taken page (h.layout.levels + 1 - level) h.layout.levels (let low = asks.low in omega (arith, low)) in
     let front = front_of_page h.layout.levels level page offset asks.low (let at = asks.at_level in let some = asks.nonempty in omega (arith, at, some)) multiple within in
@@ -43,14 +43,14 @@ module _ {Lent : Type 0} (h after : Hierarchy Lent) (supply rest : List ℕ) (le
   may_parts = map_may h.layout.levels h.layout.window (paths h) (path_of h level page) given (parent_part given) may.allowed
 
   -- what the rule leaves is what is there afterwards
-  to_after : (l p f g : ℕ) → StandsAt h.layout.levels l (map_call h.layout.levels (paths h) supply (parent_part given) h.layout.added_flags (path_of h level page) frame given).paths (path_of h l p) f g
-      → Stands after l p f g
+  to_after : (l p f g : ℕ) → IsMappedIn h.layout.levels l (map_call h.layout.levels (paths h) supply (parent_part given) h.layout.added_flags (path_of h level page) frame given).paths (path_of h l p) f g
+      → IsMappedAs after l p f g
   to_after l p f g stands =
-      subst (λ (layout : Layout). StandsAt layout.levels l (paths (layout laid_in after.memory)) (path_at layout.levels l p) f g) (sym does.layout)
-      (subst (λ (a : AfterMap). StandsAt h.layout.levels l a.paths (path_of h l p) f g) outcome stands)
+      subst (λ (layout : Layout). IsMappedIn layout.levels l (paths (layout laid_in after.memory)) (path_at layout.levels l p) f g) (sym does.layout)
+      (subst (λ (a : AfterMap). IsMappedIn h.layout.levels l a.paths (path_of h l p) f g) outcome stands)
 
   -- an accepted map with PRESENT makes its page stand
-  pub map_to_stands : level ≤ 3 → IsParentFlags h.layout.added_flags → address frame ≡ frame → frame % span level ≡ 0 → present given ≡ true → answer ≡ Done frame → Stands after level page frame given
+  pub map_to_stands : level ≤ 3 → IsParentFlags h.layout.added_flags → address frame ≡ frame → frame % span level ≡ 0 → present given ≡ true → answer ≡ Done frame → IsMappedAs after level page frame given
   map_to_stands high adds is_frame aligned is_present accepted = to_after level page frame given
       (accepted_stands h.layout.levels level _ h.layout.root (paths h) supply h.layout.added_flags (path_of h level page) frame given may.fits.valid.valid.holds adds
       (supply_frames h.layout h.memory supply may.fits)
@@ -58,7 +58,7 @@ module _ {Lent : Type 0} (h after : Hierarchy Lent) (supply rest : List ℕ) (le
       (ap (λ (a : AfterMap). a.answer) outcome ∙ accepted))
 
   -- any map leaves a page that stands, but where a larger page of this size or more refuses it
-  pub stands_after : (l p f g : ℕ) → (l ≤ level) ⊎ (answer ≢ Refused ParentEntryHugePage) → Stands h l p f g → Stands after l p f g
+  pub stands_after : (l p f g : ℕ) → (l ≤ level) ⊎ (answer ≢ Refused ParentEntryHugePage) → IsMappedAs h l p f g → IsMappedAs after l p f g
   stands_after l p f g spared stands = to_after l p f g
       (standing_is_left h.layout.levels l _ h.layout.root (paths h) supply (parent_part given) h.layout.added_flags (path_of h level page) frame given may.fits.valid.valid.holds may_parts.marks
       (omega (arith, long, low)) (path_of h l p) f g stands (by spared))
@@ -69,7 +69,7 @@ module _ {Lent : Type 0} (h after : Hierarchy Lent) (supply rest : List ℕ) (le
       by (inr not) = inr (λ is. not (sym (ap (λ (a : AfterMap). a.answer) outcome) ∙ is))
 
   -- a map of a page that shares a position with one that stands isn't accepted
-  pub stands_refuses : (l p f g : ℕ) → page % span level ≡ 0 → p % span l ≡ 0 → Stands h l p f g → (o o' : ℕ) → o < span level → o' < span l → page + o ≡ p + o' → answer ≢ Done frame
+  pub stands_refuses : (l p f g : ℕ) → page % span level ≡ 0 → p % span l ≡ 0 → IsMappedAs h l p f g → (o o' : ℕ) → o < span level → o' < span l → page + o ≡ p + o' → answer ≢ Done frame
   stands_refuses l p f g multiple its_multiple stands o o' within its_within same accepted =
       standing_refuses h.layout.levels l _ h.layout.root (paths h) supply (parent_part given) h.layout.added_flags (path_of h level page) frame given may.fits.valid.valid.holds
       (omega (arith, long, levels)) (omega (arith, long, low)) (path_of h l p) f g stands (page + o)

@@ -8,7 +8,7 @@ use Rattle.x86_64_model.specs.Window.{Window, begins_with}
 use Rattle.x86_64_model.specs.MapRule.{map_call}
 use Rattle.x86_64_model.specs.CleanUp.{clean_up, is_removed}
 use Rattle.x86_64_model.specs.Lists.{In}
-use Rattle.x86_64_model.specs.Pool.{IsOwn, TakesBack, given_back}
+use Rattle.x86_64_model.specs.Pool.{IsOwn, TakesBack, with_returned}
 use Rattle.x86_64_model.specs.Path.{IsPage}
 use Rattle.x86_64_model.specs.Call.{IsCall, Call}
 use Rattle.x86_64_model.specs.Machine.{State, step, state_after}
@@ -95,7 +95,7 @@ module _ (L : ℕ) (window : Option Window) (root : ℕ) (serves : ℕ → Bool)
       by (Some v) o a = entry-put_other s.paths (i ∷ q) w (v.index ∷ []) (not_first i v.index q o) ∙ a
 
   pub sound_clean : (take_back : List ℕ → ℕ → List ℕ) → TakesBack take_back → (low high : ℕ)
-      → IsSound L window root serves (record { paths = (clean_up L s.paths low high).paths; pool = given_back take_back s.pool (clean_up L s.paths low high).back })
+      → IsSound L window root serves (record { paths = (clean_up L s.paths low high).paths; pool = with_returned take_back s.pool (clean_up L s.paths low high).back })
   sound_clean take_back gives low high = let c = clean_conserves take_back gives L root s.paths sound.hierarchy.tree low high s.pool in let one = c.one_each sound.one_each in record {
     hierarchy = clean_hierarchy L root s.paths sound.hierarchy low high;
     aside = by window sound.aside;

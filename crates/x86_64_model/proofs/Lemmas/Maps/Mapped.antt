@@ -11,7 +11,7 @@ use Rattle.x86_64_model.specs.Layout.{Layout}
 use Rattle.x86_64_model.specs.Mapper.{◌laid_in◌, ArrivesIn, SupplyFits, paths, walk, words}
 use Rattle.x86_64_model.specs.Lists.{In}
 use Rattle.x86_64_model.specs.MapRule.{AfterMap, map_call, parent_part}
-use Rattle.x86_64_model.specs.private.MapperCalls.{IsMapped}
+use Rattle.x86_64_model.specs.private.MapperCalls.{MapsPage}
 use Rattle.x86_64_model.specs.Memory.{Memory}
 use Rattle.x86_64_model.specs.Path.{path_at}
 use Rattle.x86_64_model.specs.PathMap.{PathMap}
@@ -49,7 +49,7 @@ supply_frames l m supply ready = all_in supply (λ f i. record { aligned = eqb-t
 -- requested rights
 at_multiple : (l : Layout) (level k frame given : ℕ) (m : Memory) (supply : List ℕ) (n : Memory) (rest : List ℕ) → IsParentFlags l.added_flags
     → SupplyFits (l laid_in m) supply → Asks l.levels level (path_at l.levels level (k * span level)) frame given → begins_with l.window (path_at l.levels level (k * span level)) ≡ false
-    → IsMapped l m supply (path_at l.levels level (k * span level)) frame given (parent_part given) (Done frame) n rest
+    → MapsPage l m supply (path_at l.levels level (k * span level)) frame given (parent_part given) (Done frame) n rest
     → ArrivesIn (l laid_in n) (span level) (k * span level) frame given
 at_multiple l level k frame given m supply n rest adds ready asks outside mapped =
     map_to_arrives_in_page l.levels level l.window (words (l laid_in m)) (words (l laid_in n)) l.root (paths (l laid_in m)) supply l.added_flags k frame given
@@ -81,13 +81,13 @@ asks_for L level start frame given low high levels is_present no_address is_fram
 pub arrives_in_page : (l : Layout) (level start frame given : ℕ) → 1 ≤ level → level ≤ 3 → level ≤ l.levels → start % span level ≡ 0 → address frame ≡ frame → frame % span level ≡ 0
     → IsParentFlags l.added_flags → (m : Memory) (supply : List ℕ) (n : Memory) (rest : List ℕ) → SupplyFits (l laid_in m) supply
     → map_allowed l.levels l.window (paths (l laid_in m)) (path_at l.levels level start) given (parent_part given) ≡ true
-    → IsMapped l m supply (path_at l.levels level start) frame given (parent_part given) (Done frame) n rest → present given ≡ true
+    → MapsPage l m supply (path_at l.levels level start) frame given (parent_part given) (Done frame) n rest → present given ≡ true
     → ArrivesIn (l laid_in n) (span level) start frame given
 arrives_in_page l level start frame given low high levels multiple is_frame aligned adds m supply n rest ready allowed mapped is_present =
     let may = map_may l.levels l.window (paths (l laid_in m)) (path_at l.levels level start) given (parent_part given) allowed in
     let number : start / span level * span level ≡ start = mul_comm (start / span level) (span level) ∙ (let all = div-add-mod start (span level) in omega (arith, all, multiple)) in
     subst (λ s. Asks l.levels level (path_at l.levels level s) frame given → begins_with l.window (path_at l.levels level s) ≡ false
-    → IsMapped l m supply (path_at l.levels level s) frame given (parent_part given) (Done frame) n rest
+    → MapsPage l m supply (path_at l.levels level s) frame given (parent_part given) (Done frame) n rest
     → ArrivesIn (l laid_in n) (span level) s frame given)
     number (at_multiple l level (start / span level) frame given m supply n rest adds ready)
     (asks_for l.levels level start frame given low high levels is_present may.no_address_given is_frame aligned) may.outside mapped

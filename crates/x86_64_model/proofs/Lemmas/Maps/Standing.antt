@@ -11,7 +11,7 @@ use Rattle.x86_64_model.specs.Path.{parents, is_small}
 use Rattle.x86_64_model.specs.PathMap.{PathMap, entry, put}
 use Rattle.x86_64_model.specs.Position.{page_path}
 use Rattle.x86_64_model.specs.Refusal.{Done, Refused, ParentEntryHugePage}
-use Rattle.x86_64_model.specs.Standing.{IsParent, StandsAt}
+use Rattle.x86_64_model.specs.Standing.{IsParent, IsMappedIn}
 use Rattle.x86_64_model.proofs.Lemmas.Entries.Bits.{has_or, unused_zero, used_present}
 use Rattle.x86_64_model.proofs.Lemmas.Hierarchies.Changes.{zero_not_huge}
 use Rattle.x86_64_model.proofs.Lemmas.Hierarchies.Trees.{tree_of_holds}
@@ -47,7 +47,7 @@ standing_arrives L level window T root M q frame given valid outside stands =
     parents_lead L level window T root M (parent_part given) 0 q frame given (asks_map_to L level 0 q frame given no_flags stands.asks) outside valid stands.own_entry stands.below
 
 -- the entry of a page that stands is used, and huge above level one
-module _ (L level : ℕ) (M : PathMap) (page : List ℕ) (f flags : ℕ) (stands : StandsAt L level M page f flags) where
+module _ (L level : ℕ) (M : PathMap) (page : List ℕ) (f flags : ℕ) (stands : IsMappedIn L level M page f flags) where
   own_used : used (entry M page) ≡ true
   own_used = ap used stands.own_entry ∙ used_present _ (leaf_is L level (parent_part flags) 0 page f flags (asks_map_to L level 0 page f flags no_flags stands.asks) (is_small L page) refl).is_present
 

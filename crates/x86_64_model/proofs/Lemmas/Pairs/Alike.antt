@@ -10,7 +10,7 @@ use Rattle.x86_64_model.specs.Position.{page_path, lower_half}
 use Rattle.x86_64_model.specs.Translation.{translate, address_of}
 use Rattle.x86_64_model.specs.MapRule.{map_call, parent_part}
 use Rattle.x86_64_model.specs.PageRules.{AfterChange}
-use Rattle.x86_64_model.specs.Pool.{TakesBack, given_back}
+use Rattle.x86_64_model.specs.Pool.{TakesBack, with_returned}
 use Rattle.x86_64_model.specs.Call.{IsCall, Call, MapTo, MapToWithTableFlags, IdentityMap, Unmap, UpdateFlags, SetFlags, TranslatePage, Translate, TranslateAddress, CleanUp, NotAllowed, Answered, Position, Address}
 use Rattle.x86_64_model.specs.Machine.{State, AfterCall, only_reply, do_call, step, replies_of, state_after}
 use Rattle.x86_64_model.specs.Allowed.{none_absent, map_allowed, refuses, both_or_none, allowed}
@@ -111,7 +111,7 @@ module _ (L : ℕ) (v w : Option Window) (M N : PathMap) (alike : Alike L M N) w
     do_pair (TranslatePage q) is a b h = record { paths = alike; pools = refl; replies = ap Answered (sym (page_alike L (entry_at v M) (entry_at w N) M N alike q (page_read q is a b))) }
     do_pair (Translate p) is a b h = record { paths = alike; pools = refl; replies = ap Position (translate_same p a b) }
     do_pair (TranslateAddress p) is a b h = record { paths = alike; pools = refl; replies = ap (λ t. Address (address_of t)) (translate_same p a b) }
-    do_pair (CleanUp low high) is a b h = record { paths = clean_alike L root root' M N tree tree' alike low high; pools = ap (given_back take_back pool) (sym (back_same L root root' M N tree tree' alike low high)); replies = refl }
+    do_pair (CleanUp low high) is a b h = record { paths = clean_alike L root root' M N tree tree' alike low high; pools = ap (with_returned take_back pool) (sym (back_same L root root' M N tree tree' alike low high)); replies = refl }
 
     pub step_pair : (call : Call) → IsCall L call → names_index L v call ≡ false → names_index L w call ≡ false
         → AlikeResults L (step (machine L v added take_back) (record { paths = M; pool = pool }) call) (step (machine L w added' take_back) (record { paths = N; pool = pool }) call)

@@ -18,7 +18,7 @@ use Rattle.x86_64_model.specs.PathMap.{PathMap}
 use Rattle.x86_64_model.specs.Position.{span, page_path}
 use Rattle.x86_64_model.specs.Refusal.{Answer, Done}
 use Rattle.x86_64_model.specs.Window.{IsValidFor}
-use Rattle.x86_64_model.specs.Laws.Steps.{RunMapsKeepWalks, RunMapsArrive, asked_of}
+use Rattle.x86_64_model.specs.Laws.Steps.{RunMapsKeepWalks, RunMapsArrive, mapping_asked}
 use Rattle.x86_64_model.proofs.Lemmas.Machines.Effects.{map_may, step_cases}
 use Rattle.x86_64_model.proofs.Lemmas.Machines.Flushes.{take_all}
 use Rattle.x86_64_model.proofs.Lemmas.Machines.Laws.{run_is_held}
@@ -113,7 +113,7 @@ module _ (m : Machine) (is : IsMachine m) (s : State) (V U : Words) (root level 
       → IsValidFor m.levels m.window U root (map_call m.levels s.paths s.pool (parent_part t.1.1) m.added_flags t.0 t.1.0 t.1.1).paths → Arrived)
       (sym same) map_arrives
 
-  done_arrives : (call : Call) → allowed m.levels m.window s.paths call ≡ true → asked_of m.levels call ≡ Some (q, (frame, given)) → (do_call m s call).reply ≡ Answered (Done frame)
+  done_arrives : (call : Call) → allowed m.levels m.window s.paths call ≡ true → mapping_asked m.levels call ≡ Some (q, (frame, given)) → (do_call m s call).reply ≡ Answered (Done frame)
       → IsValidFor m.levels m.window V root s.paths → IsValidFor m.levels m.window U root (do_call m s call).state.paths → Arrived
   unfolding do_call
   done_arrives (MapTo r f g) h asked accepted = asked_arrives (r, (f, g)) (same_Some _ _ asked) h (answered accepted)
@@ -127,7 +127,7 @@ module _ (m : Machine) (is : IsMachine m) (s : State) (V U : Words) (root level 
   done_arrives (TranslateAddress t) h asked accepted = cc
   done_arrives (CleanUp low high) h asked accepted = cc
 
-  pub step_arrives : (call : Call) → asked_of m.levels call ≡ Some (q, (frame, given)) → (step m s call).reply ≡ Answered (Done frame)
+  pub step_arrives : (call : Call) → mapping_asked m.levels call ≡ Some (q, (frame, given)) → (step m s call).reply ≡ Answered (Done frame)
       → IsValidFor m.levels m.window V root s.paths → IsValidFor m.levels m.window U root (step m s call).state.paths → Arrived
   step_arrives call asked = step_cases m s call (λ after. after.reply ≡ Answered (Done frame) → IsValidFor m.levels m.window V root s.paths → IsValidFor m.levels m.window U root after.state.paths → Arrived)
       (λ h. done_arrives call h asked) (λ accepted. cc)

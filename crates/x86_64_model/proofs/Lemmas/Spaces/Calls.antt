@@ -14,7 +14,7 @@ use Rattle.x86_64_model.specs.Mapper.{◌laid_in◌, state_in, paths, words}
 use Rattle.x86_64_model.specs.Path.{IsPage, parents, path_at}
 use Rattle.x86_64_model.specs.PathMap.{PathMap, entry, put}
 use Rattle.x86_64_model.specs.Pool.{TakesBack}
-use Rattle.x86_64_model.specs.Spaces.{is_shared, Avoids, HasFlags, SparesRoot}
+use Rattle.x86_64_model.specs.Spaces.{is_shared, Avoids, HasFlags, LeavesRootEntry}
 use Rattle.x86_64_model.specs.Window.{Window}
 use Rattle.x86_64_model.proofs.Lemmas.Entries.Bits.{unused_absent}
 use Rattle.x86_64_model.proofs.Lemmas.CleanUps.Keys.{entry-cleaned}
@@ -167,7 +167,7 @@ module _ (shared : ℕ → Bool) (L : ℕ) (four : 3 < L) (window : Option Windo
   put_longer : (q : List ℕ) (w : ℕ) → IsPage L q → Kept (put s.paths q w)
   put_longer q w page = entry-put_other s.paths q w (i ∷ []) (λ e. let most = page.at_least in let x : 1 ≡ length q = ap length e in absurd (omega (arith, x, most, four)))
 
-  done_spares : (call : Call) → IsCall L call → allowed L window s.paths call ≡ true → SparesRoot L shared E call → Kept (do_call (machine L window added take_back) s call).state.paths
+  done_spares : (call : Call) → IsCall L call → allowed L window s.paths call ≡ true → LeavesRootEntry L shared E call → Kept (do_call (machine L window added take_back) s call).state.paths
   unfolding do_call
   done_spares (MapTo q frame given) is h spares = maps_spare q frame given (parent_part given) is (map_may L window s.paths q given _ h).parents spares
   done_spares (MapToWithTableFlags q frame given more) is h spares = maps_spare q frame given more is (map_may L window s.paths q given _ h).parents spares
@@ -186,12 +186,12 @@ module _ (shared : ℕ → Bool) (L : ℕ) (four : 3 < L) (window : Option Windo
   done_spares (TranslateAddress p) is h spares = refl
   done_spares (CleanUp low high) is h spares = clean_up_avoids shared L s.paths low high spares (i ∷ []) on
 
-  step_spares : (call : Call) → IsCall L call → SparesRoot L shared E call → Kept (step (machine L window added take_back) s call).state.paths
+  step_spares : (call : Call) → IsCall L call → LeavesRootEntry L shared E call → Kept (step (machine L window added take_back) s call).state.paths
   step_spares call is spares = step_cases (machine L window added take_back) s call (λ after. Kept after.state.paths) (λ h. done_spares call is h spares) refl
 
 run_spares : (shared : ℕ → Bool) (L : ℕ) → 3 < L → (window : Option Window) (root : ℕ) (serves : ℕ → Bool) (added : ℕ) → IsParentFlags added → (take_back : List ℕ → ℕ → List ℕ) → TakesBack take_back
     → (E : ℕ → ℕ) (i : ℕ) → shared i ≡ true
-    → (calls : List Call) → AllCalls L calls → AllByRecursion (SparesRoot L shared E) calls → (s : State) → IsSound L window root serves s → entry s.paths (i ∷ []) ≡ E i
+    → (calls : List Call) → AllCalls L calls → AllByRecursion (LeavesRootEntry L shared E) calls → (s : State) → IsSound L window root serves s → entry s.paths (i ∷ []) ≡ E i
     → entry (state_after (machine L window added take_back) s calls).paths (i ∷ []) ≡ E i
 run_spares shared L four window root serves added adds take_back gives E i on [] is spares s sound now = now
 run_spares shared L four window root serves added adds take_back gives E i on (call ∷ calls) is spares s sound now =

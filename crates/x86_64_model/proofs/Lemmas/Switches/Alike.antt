@@ -10,7 +10,7 @@ use Rattle.x86_64_model.specs.Mappings.{maps_page}
 use Rattle.x86_64_model.specs.Position.{span}
 use Rattle.x86_64_model.specs.Window.{Window, begins_with, entry_at}
 use Rattle.x86_64_model.specs.Spaces.{is_shared}
-use Rattle.x86_64_model.specs.Caches.{Way, Page}
+use Rattle.x86_64_model.specs.Caches.{PartialWalk, Page}
 use Rattle.x86_64_model.specs.Flushing.{Due, HasZeros}
 use Rattle.x86_64_model.proofs.Lemmas.Hierarchies.Changes.{unused_no_table}
 use Rattle.x86_64_model.proofs.Lemmas.Hierarchies.Trees.{IsTree, some_not_none}
@@ -60,7 +60,7 @@ alike_maps level e f a = ap (λ h. (level == 1) || (h && ((level == 2) || (level
 
 -- ---- a page with such entries on its path
 
-module _ (L : ℕ) (E F : List ℕ → ℕ) (w : Way) (same : (i : ℕ) (c : List ℕ) → begins (i ∷ c) w.path ≡ true → LeadAlike (E (i ∷ c)) (F (i ∷ c))) where
+module _ (L : ℕ) (E F : List ℕ → ℕ) (w : PartialWalk) (same : (i : ℕ) (c : List ℕ) → begins (i ∷ c) w.path ≡ true → LeadAlike (E (i ∷ c)) (F (i ∷ c))) where
   pub agrees_alike : AgreesPage L E w → AgreesPage L F w
   agrees_alike a = agrees_kept L 0 E F (Page w) a (λ i c b h. alike_kept _ _ (same i c b) h)
 
@@ -135,5 +135,5 @@ module _ (shared : ℕ → Bool) where
         (λ h. empty (j ∷ q) f (ap (table_of L (j ∷ q)) (sym (part_is M (j ∷ q) h)) ∙ t) (ap (table_of L (j ∷ q)) (sym (part_is N (j ∷ q) h)) ∙ n))
         (λ h. absurd (some_not_none f (sym t ∙ ap (table_of L (j ∷ q)) (part_none M (j ∷ q) h) ∙ unused_no_table L (j ∷ q)))) (cases_Bool (shared j))
 
-    pub part_written : (w : Way) → AgreesPage L (part M) w ⊎ StalePage L None due (part M) w → AgreesPage L (part N) w ⊎ StalePage L None due (part N) w
+    pub part_written : (w : PartialWalk) → AgreesPage L (part M) w ⊎ StalePage L None due (part M) w → AgreesPage L (part N) w ⊎ StalePage L None due (part N) w
     part_written w x = page_written L root None (part M) (part N) due pool T U part_below part_moves part_empty w x

@@ -6,7 +6,7 @@ use Rattle.x86_64_model.specs.Call.{Call}
 use Rattle.x86_64_model.specs.Flushing as flushing
 use Rattle.x86_64_model.specs.Flushing.{HasZeros, LosesNothing, MayWrite, after_event}
 use Rattle.x86_64_model.specs.Layout.{Layout}
-use Rattle.x86_64_model.specs.Laws.SwitchedSpaces.{space_in, between, CallsOn, call_events, CallsMaySwitch}
+use Rattle.x86_64_model.specs.Laws.SwitchedSpaces.{space_for, between, CallsOn, call_events, CallsMaySwitch}
 use Rattle.x86_64_model.specs.Machine.{IsMachine, State, step}
 use Rattle.x86_64_model.specs.Memory.{Memory, Words, Places, IsMapping, words_of}
 use Rattle.x86_64_model.specs.PathMap.{entry, table_of, table_at}
@@ -23,9 +23,9 @@ use Rattle.x86_64_model.proofs.Lemmas.Caches.Whole.{free_after, same_zeros, call
 use Rattle.x86_64_model.proofs.Lemmas.Switches.Layouts.{fits_like, alike_pair, held_in, stays_in, changes_alike}
 
 -- the spaces after a call are those of the layouts
-fused : (k : Kernel) (T U : Words) (layouts : List Layout) → map (with_words k U) (map (with_next (held_by k U)) (map (space_in k T) layouts)) ≡ map (space_in k U) layouts
+fused : (k : Kernel) (T U : Words) (layouts : List Layout) → map (with_words k U) (map (with_next (held_by k U)) (map (space_for k T) layouts)) ≡ map (space_for k U) layouts
 fused k T U [] = refl
-fused k T U (l ∷ layouts) = ap (λ more. space_in k U l ∷ more) (fused k T U layouts)
+fused k T U (l ∷ layouts) = ap (λ more. space_for k U l ∷ more) (fused k T U layouts)
 
 module _ (k : Kernel) (places : Places) (mapping : IsMapping places) (some : 0 < k.levels) (gives : TakesBack k.take_back) (sharing : (root other : ℕ) → ℕ → Bool) (m n : Memory) (pool rest : List ℕ) (layouts : List Layout) (one : Layout) (s : Switching)
     (call : Call) (loses : Bool) (reaches : ℕ → Bool) (everywhere : Bool) (c : CallsOn k places sharing m pool n rest layouts one s call loses reaches everywhere) where
@@ -36,7 +36,7 @@ module _ (k : Kernel) (places : Places) (mapping : IsMapping places) (some : 0 <
   U = words_of n places
 
   abbrev a : Space
-  a = space_in k T one
+  a = space_for k T one
 
   abbrev start : State
   start = record { paths = a.paths; pool = pool }
@@ -54,11 +54,11 @@ module _ (k : Kernel) (places : Places) (mapping : IsMapping places) (some : 0 <
   fits = fits_like k places mapping some sharing c.all_share m pool layouts c.are c.before one c.there
 
   -- the entries below indices that the call avoids stay
-  own_still : (shared : ℕ → Bool) → Avoids k.levels shared call → (q : List ℕ) → is_shared shared q ≡ true → entry (space_in k U one).paths q ≡ entry a.paths q
+  own_still : (shared : ℕ → Bool) → Avoids k.levels shared call → (q : List ℕ) → is_shared shared q ≡ true → entry (space_for k U one).paths q ≡ entry a.paths q
   own_still shared off q on = sym (ap (λ (st : State). entry st.paths q) c.steps)
       ∙ step_avoids shared k.levels one.window one.root one.added_flags k.take_back start (sound_of_fits k.levels one.window T one.root k.serves start fits).hierarchy q on call c.is_call off
 
-  still : (l : Layout) → In layouts l → reaches l.root ≡ false → (q : List ℕ) → entry (space_in k U l).paths q ≡ entry (space_in k T l).paths q
+  still : (l : Layout) → In layouts l → reaches l.root ≡ false → (q : List ℕ) → entry (space_for k U l).paths q ≡ entry (space_for k T l).paths q
   still l il off q = let u = c.unreached l il off in
       let stays = stays_in k places mapping some sharing c.all_share m pool layouts c.are c.before one c.there n rest c.keeps c.root_entries l il u.0 in ⊎_elim
       (λ on. stays.below_shared q on ∙ own_still (sharing one.root l.root) u.1 q on ∙ sym (alike_pair k places mapping some sharing c.all_share m pool layouts c.are c.before one l c.there il u.0 q on))
@@ -66,8 +66,8 @@ module _ (k : Kernel) (places : Places) (mapping : IsMapping places) (some : 0 <
 
   makes : MayMakeOn k now a call loses reaches everywhere (held_by k U)
   makes = record {
-    there = in_map (space_in k T) layouts one c.there;
-    done = λ b ib. let o = from_map (space_in k T) layouts b ib in subst (λ (b : Space). b.paths ≡ b.next) o.2 refl;
+    there = in_map (space_for k T) layouts one c.there;
+    done = λ b ib. let o = from_map (space_for k T) layouts b ib in subst (λ (b : Space). b.paths ≡ b.next) o.2 refl;
     fits = fits;
     adds = c.adds;
     is_call = c.is_call;
@@ -75,37 +75,37 @@ module _ (k : Kernel) (places : Places) (mapping : IsMapping places) (some : 0 <
     waits = c.waits;
     apart = c.apart;
     own = ap (λ (st : State). st.paths) (sym c.steps);
-    others = λ b ib q. let o = from_map (space_in k T) layouts b ib in
+    others = λ b ib q. let o = from_map (space_for k T) layouts b ib in
         subst (λ (b : Space). (entry (held_by k U b) q ≡ entry b.paths q) ⊎ ((entry b.paths q ≡ entry a.paths q) × (entry (held_by k U b) q ≡ entry (held_by k U a) q))) o.2
         (changes_alike k places mapping some sharing c.all_share m pool layouts c.are c.before one c.there n rest c.keeps c.root_entries o.0 o.1 q);
-    unreached = λ b ib. let o = from_map (space_in k T) layouts b ib in
+    unreached = λ b ib. let o = from_map (space_for k T) layouts b ib in
         subst (λ (b : Space). reaches b.root ≡ false → (q : List ℕ) → entry (held_by k U b) q ≡ entry b.paths q) o.2 (still o.0 o.1);
     avoids = c.avoids;
   }
 
   -- ---- the words after the call
 
-  later_held : AreHeld k U (map (space_in k U) layouts)
+  later_held : AreHeld k U (map (space_for k U) layouts)
   later_held = held_in k places mapping some sharing c.all_share n rest layouts
       (paired_spaces_stay sharing c.is_sharing layouts one c.there (subst IsMapping (sym (c.before.mapping one c.there)) mapping) (subst (λ L. 0 < L) (sym (c.before.same_levels one c.there)) some) k.serves m n pool rest c.are c.keeps c.root_entries) c.later
 
   -- a table that the call removes from its own space has only words 0
-  one_emptied : (q : List ℕ) (f : ℕ) → table_at k.levels one.root a.paths q ≡ Some f → table_at k.levels one.root (space_in k U one).paths q ≡ None → HasZeros U f
+  one_emptied : (q : List ℕ) (f : ℕ) → table_at k.levels one.root a.paths q ≡ Some f → table_at k.levels one.root (space_for k U one).paths q ≡ None → HasZeros U f
   one_emptied q f t z = may.empty q f t (ap (λ (st : State). table_at k.levels one.root st.paths q) c.steps ∙ z)
     where
       may : MayWrite (machine_at k a) one.root (after_event (machine_at k a) (record { state = start; paths = a.paths; words = T; cache = []; due = [] }) (flushing.Makes call true)) (step (machine_at k a) start call).state.paths U
       may = calls_may_happen (machine_at k a) is one.root k.serves (record { state = start; paths = a.paths; words = T; cache = []; due = [] }) fits call true
           (record { done = refl; is_call = c.is_call; kept = λ f q u. cc; waits = λ i. absurd i; apart = λ q r f i. absurd i }) U c.free
 
-  emptied : (l : Layout) → In layouts l → (q : List ℕ) (f : ℕ) → table_at k.levels l.root (space_in k T l).paths q ≡ Some f → table_at k.levels l.root (space_in k U l).paths q ≡ None → HasZeros U f
+  emptied : (l : Layout) → In layouts l → (q : List ℕ) (f : ℕ) → table_at k.levels l.root (space_for k T l).paths q ≡ Some f → table_at k.levels l.root (space_for k U l).paths q ≡ None → HasZeros U f
   emptied l il [] f t z = absurd (some_not_none l.root z)
   emptied l il (i ∷ q) f t z = ⊎_elim
       (λ same. absurd (some_not_none f (sym t ∙ ap (table_of k.levels (i ∷ q)) (sym same) ∙ z)))
       (λ x. one_emptied (i ∷ q) f (ap (table_of k.levels (i ∷ q)) (sym x.0) ∙ t) (ap (table_of k.levels (i ∷ q)) (sym x.1) ∙ z))
       (changes_alike k places mapping some sharing c.all_share m pool layouts c.are c.before one c.there n rest c.keeps c.root_entries l il (i ∷ q))
 
-  of_layout : (b : Space) → In called.spaces b → (l : Layout) × In layouts l × (with_next (held_by k U) (space_in k T l) ≡ b)
-  of_layout b ib = let o = from_map (with_next (held_by k U)) (map (space_in k T) layouts) b ib in let p = from_map (space_in k T) layouts o.0 o.1 in
+  of_layout : (b : Space) → In called.spaces b → (l : Layout) × In layouts l × (with_next (held_by k U) (space_for k T l) ≡ b)
+  of_layout b ib = let o = from_map (with_next (held_by k U)) (map (space_for k T) layouts) b ib in let p = from_map (space_for k T) layouts o.0 o.1 in
       (p.0, p.1, ap (with_next (held_by k U)) p.2 ∙ o.2)
 
   writes : MayWriteAll k called U
@@ -121,7 +121,7 @@ module _ (k : Kernel) (places : Places) (mapping : IsMapping places) (some : 0 <
   written = after_switch k called (Writes U)
 
   returns : AreDone written
-  returns b ib = let o = from_map (space_in k U) layouts b (subst (λ (spaces : List Space). In spaces b) (fused k T U layouts) ib) in subst (λ (b : Space). b.paths ≡ b.next) o.2 refl
+  returns b ib = let o = from_map (space_for k U) layouts b (subst (λ (spaces : List Space). In spaces b) (fused k T U layouts) ib) in subst (λ (b : Space). b.paths ≡ b.next) o.2 refl
 
   abbrev end : Switching
   end = after_switches k now (call_events k T U one call loses reaches everywhere)

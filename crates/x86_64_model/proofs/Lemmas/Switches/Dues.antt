@@ -10,7 +10,7 @@ use Rattle.x86_64_model.specs.Call.{Call, IsCall, MapTo, MapToWithTableFlags, Id
 use Rattle.x86_64_model.specs.Spaces.{is_shared, Avoids}
 use Rattle.x86_64_model.specs.Flushing as one
 use Rattle.x86_64_model.specs.Flushing.{Due, PageDue, TablesDue, WindowDue, BelowDue, if_accepted, if_allowed, if_window, below_due, page_due, flush_after, loosens}
-use Rattle.x86_64_model.specs.Caches.{Way, Cached, Table, Page, way_of}
+use Rattle.x86_64_model.specs.Caches.{PartialWalk, Cached, Table, Page, way_of}
 use Rattle.x86_64_model.specs.Tags.{Tag, Of, Global, TaggedFlush, Invlpg, InvpcidAddress, InvpcidContext, InvpcidAll, InvpcidAllButGlobal, is_current, is_of, is_left, is_settled}
 use Rattle.x86_64_model.specs.Switches.{Switching, is_held, is_concerned, pending, holder_with, due_with}
 use Rattle.x86_64_model.proofs.Lemmas.Lists.Members.{in_left, in_right, in_append, in_filter, from_filter, passes}
@@ -121,7 +121,7 @@ module _ (L current : ℕ) (window : Option Window) where
   and_false true = refl
   and_false false = refl
 
-  page_left : (f : TaggedFlush) (tag : Tag) (w : Way) (frame : ℕ) → is_left L current f tag (Page w) ≡ true → not (is_settled L current f tag (PageDue w.path frame)) ≡ true
+  page_left : (f : TaggedFlush) (tag : Tag) (w : PartialWalk) (frame : ℕ) → is_left L current f tag (Page w) ≡ true → not (is_settled L current f tag (PageDue w.path frame)) ≡ true
   page_left (Invlpg p) tag w frame h = by (is_current current tag) (one.settles L (one.Invlpg p) (PageDue w.path frame)) h
     where
       by : (b d : Bool) → cond b (not d) true ≡ true → not (b && d) ≡ true
@@ -133,7 +133,7 @@ module _ (L current : ℕ) (window : Option Window) where
   page_left InvpcidAllButGlobal (Of c) w frame h = cc
   page_left InvpcidAllButGlobal Global w frame h = refl
 
-  table_left : (f : TaggedFlush) (tag : Tag) (t : Way) → is_left L current f tag (Table t) ≡ true → not (is_settled L current f tag TablesDue) ≡ true
+  table_left : (f : TaggedFlush) (tag : Tag) (t : PartialWalk) → is_left L current f tag (Table t) ≡ true → not (is_settled L current f tag TablesDue) ≡ true
   table_left (Invlpg p) tag t h = by (is_current current tag) h
     where
       by : (b : Bool) → cond b false true ≡ true → not (b && true) ≡ true

@@ -7,7 +7,7 @@ use Rattle.x86_64_model.specs.Path.{begins}
 use Rattle.x86_64_model.specs.PathMap.{PathMap, entry}
 use Rattle.x86_64_model.specs.Window.{entry_at}
 use Rattle.x86_64_model.specs.Spaces.{is_shared}
-use Rattle.x86_64_model.specs.Caches.{Way, Cached, Page}
+use Rattle.x86_64_model.specs.Caches.{PartialWalk, Cached, Page}
 use Rattle.x86_64_model.specs.Flushing.{Due}
 use Rattle.x86_64_model.specs.Tags.{Tag, Of, Global, Tagged, TaggedFlush, is_left}
 use Rattle.x86_64_model.specs.Switches.{Kernel, Space, Switching, AreDone, pending, is_held, holder_with, due_with, Returns, Pools, Begins, Ends, Loads, Abandons, Flushes, after_switch}
@@ -108,7 +108,7 @@ module _ (k : Kernel) (s : Switching) (safe : IsSafe k s) where
       still q = ap (λ (M : PathMap). entry M q) (sym may.done)
 
       -- a global page is a page of the new space, too
-      beside : (w : Way) → is_shared k.shared w.path ≡ true → GlobalIn k s safe.current.0 w → GlobalIn k s a w
+      beside : (w : PartialWalk) → is_shared k.shared w.path ≡ true → GlobalIn k s safe.current.0 w → GlobalIn k s a w
       beside w on x = safe_alike k.levels (part k.shared safe.current.0.paths) (part k.shared a.paths) w same None (s.due Global) x
         where
           same : (i : ℕ) (c : List ℕ) → begins (i ∷ c) w.path ≡ true → LeadAlike (part k.shared safe.current.0.paths (i ∷ c)) (part k.shared a.paths (i ∷ c))

@@ -5,7 +5,7 @@ use Rattle.x86_64_model.specs.Lists.{In}
 use Rattle.x86_64_model.specs.Entry.{LeadAlike, present}
 use Rattle.x86_64_model.specs.Layout.{Layout}
 use Rattle.x86_64_model.specs.Laws.Spaces.{KeepsRootEntries, StaysSharing}
-use Rattle.x86_64_model.specs.Laws.SwitchedSpaces.{space_in, MaySwitchIn, AllShare, SpacesAreHeld, SpacesMayStart, NewSpacesMayBegin}
+use Rattle.x86_64_model.specs.Laws.SwitchedSpaces.{space_for, MaySwitchIn, AllShare, SpacesAreHeld, SpacesMayStart, NewSpacesMayBegin}
 use Rattle.x86_64_model.specs.Mapper.{◌laid_in◌, PoolFits}
 use Rattle.x86_64_model.specs.Mappings.{maps_page}
 use Rattle.x86_64_model.specs.Memory.{Memory, Words, Places, IsMapping, words_of}
@@ -41,28 +41,28 @@ module _ (k : Kernel) (places : Places) (mapping : IsMapping places) (some : 0 <
   shares_like a b ia ib n = subst₂ (λ (a b : Layout). Shares (sharing a.root b.root) a m pool b) (is_like a ia) (is_like b ib) (are.share a b ia ib n)
 
   -- two have the same entries below the indices that they share
-  pub alike_pair : (a b : Layout) → In layouts a → In layouts b → a.root ≢ b.root → (q : List ℕ) → is_shared (sharing a.root b.root) q ≡ true → entry (space_in k T b).paths q ≡ entry (space_in k T a).paths q
+  pub alike_pair : (a b : Layout) → In layouts a → In layouts b → a.root ≢ b.root → (q : List ℕ) → is_shared (sharing a.root b.root) q ≡ true → entry (space_for k T b).paths q ≡ entry (space_for k T a).paths q
   alike_pair a b ia ib n q on = shared_entries_are_the_same (sharing a.root b.root) (like k places a) (like k places b) mapping some k.serves m pool (fits_like a ia) (shares_like a b ia ib n) q on
 
   all_shared : (a b : ℕ) (q : List ℕ) → is_shared k.shared q ≡ true → is_shared (sharing a b) q ≡ true
   all_shared a b [] on = cc
   all_shared a b (i ∷ q) on = all a b i on
 
-  alike_in : (a b : Layout) → In layouts a → In layouts b → (q : List ℕ) → is_shared k.shared q ≡ true → entry (space_in k T b).paths q ≡ entry (space_in k T a).paths q
+  alike_in : (a b : Layout) → In layouts a → In layouts b → (q : List ℕ) → is_shared k.shared q ≡ true → entry (space_for k T b).paths q ≡ entry (space_for k T a).paths q
   alike_in a b ia ib q on = ⊎_elim
-      (λ e. ap (λ (l : Layout). entry (space_in k T l).paths q) (sym (are.own_roots a b ia ib e)))
+      (λ e. ap (λ (l : Layout). entry (space_for k T l).paths q) (sym (are.own_roots a b ia ib e)))
       (λ n. alike_pair a b ia ib n q (all_shared a.root b.root q on))
       (cases_eq a.root b.root)
 
-  pub held_in : AreHeld k T (map (space_in k T) layouts)
+  pub held_in : AreHeld k T (map (space_for k T) layouts)
   held_in = record {
-    valid = λ a i. let o = from_map (space_in k T) layouts a i in let fits = fits_like o.0 o.1 in subst (λ (a : Space). IsValidFor k.levels a.window T a.root a.paths) o.2 fits.valid;
-    alike = λ a b i j q on. let o = from_map (space_in k T) layouts a i in let p = from_map (space_in k T) layouts b j in
+    valid = λ a i. let o = from_map (space_for k T) layouts a i in let fits = fits_like o.0 o.1 in subst (λ (a : Space). IsValidFor k.levels a.window T a.root a.paths) o.2 fits.valid;
+    alike = λ a b i j q on. let o = from_map (space_for k T) layouts a i in let p = from_map (space_for k T) layouts b j in
         subst₂ (λ (a b : Space). LeadAlike (entry a.paths q) (entry b.paths q)) o.2 p.2 (alike_equal _ _ (alike_in o.0 p.0 o.1 p.1 q on));
-    globals = λ a i. let o = from_map (space_in k T) layouts a i in subst Globals o.2 (may.globals o.0 o.1);
-    windows = λ a i. let o = from_map (space_in k T) layouts a i in
+    globals = λ a i. let o = from_map (space_for k T) layouts a i in subst Globals o.2 (may.globals o.0 o.1);
+    windows = λ a i. let o = from_map (space_for k T) layouts a i in
         subst (λ (a : Space). (q : List ℕ) → begins_with a.window q ≡ true → is_shared k.shared q ≡ false) o.2 (may.windows o.0 o.1);
-    all_or_none = λ a b i j e. let o = from_map (space_in k T) layouts a i in let p = from_map (space_in k T) layouts b j in
+    all_or_none = λ a b i j e. let o = from_map (space_for k T) layouts a i in let p = from_map (space_for k T) layouts b j in
         sym (ap (λ (b : Space). b.window) p.2) ∙ may.all_or_none o.0 p.0 o.1 p.1 (ap (λ (a : Space). a.window) o.2 ∙ e);
   }
     where
@@ -83,10 +83,10 @@ module _ (k : Kernel) (places : Places) (mapping : IsMapping places) (some : 0 <
         (subst (λ (l : Layout). KeepsRootEntries (sharing one.root b.root) l m n) (is_like one ione) (roots b ib apart)) (shares_like one b ione ib apart)
 
     pub changes_alike : (b : Layout) → In layouts b → (q : List ℕ)
-        → (entry (space_in k U b).paths q ≡ entry (space_in k T b).paths q) ⊎ ((entry (space_in k T b).paths q ≡ entry (space_in k T one).paths q) × (entry (space_in k U b).paths q ≡ entry (space_in k U one).paths q))
+        → (entry (space_for k U b).paths q ≡ entry (space_for k T b).paths q) ⊎ ((entry (space_for k T b).paths q ≡ entry (space_for k T one).paths q) × (entry (space_for k U b).paths q ≡ entry (space_for k U one).paths q))
     changes_alike b ib q = ⊎_elim
         (λ e. let same : one ≡ b = are.own_roots one b ione ib e in
-        inr (ap (λ (l : Layout). entry (space_in k T l).paths q) (sym same), ap (λ (l : Layout). entry (space_in k U l).paths q) (sym same)))
+        inr (ap (λ (l : Layout). entry (space_for k T l).paths q) (sym same), ap (λ (l : Layout). entry (space_for k U l).paths q) (sym same)))
         (λ apart. let stays = stays_in b ib apart in ⊎_elim
         (λ on. inr (alike_pair one b ione ib apart q on, stays.below_shared q on))
         (λ off. inl (stays.elsewhere q off)) (cases_Bool (is_shared (sharing one.root b.root) q)))
@@ -98,9 +98,9 @@ spaces_are_held k places mapping some sharing all m pool layouts are may = held_
 pub spaces_may_start : SpacesMayStart
 spaces_may_start k places mapping some sharing all m pool layouts are may one ione pcid = record {
   held = held_in k places mapping some sharing all m pool layouts are may;
-  done = λ b ib. let o = from_map (space_in k (words_of m places)) layouts b ib in subst (λ (b : Space). b.paths ≡ b.next) o.2 refl;
-  space = space_in k (words_of m places) one;
-  there = in_map (space_in k (words_of m places)) layouts one ione;
+  done = λ b ib. let o = from_map (space_for k (words_of m places)) layouts b ib in subst (λ (b : Space). b.paths ≡ b.next) o.2 refl;
+  space = space_for k (words_of m places) one;
+  there = in_map (space_for k (words_of m places)) layouts one ione;
   is_root = refl;
   holds = ap (λ b. cond b (Some one.root) None) (eq-eqb pcid pcid refl);
   none_cached = refl;

@@ -12,7 +12,7 @@ use Rattle.x86_64_model.specs.Path.{level_of}
 use Rattle.x86_64_model.specs.Call.{Call}
 use Rattle.x86_64_model.specs.Machine.{Machine, IsMachine, State, step}
 use Rattle.x86_64_model.specs.Spaces.{is_shared}
-use Rattle.x86_64_model.specs.Caches.{Way, Cached}
+use Rattle.x86_64_model.specs.Caches.{PartialWalk, Cached}
 use Rattle.x86_64_model.specs.Flushing.{Due, BelowDue}
 use Rattle.x86_64_model.specs.Tags.{Of, Global, global}
 use Rattle.x86_64_model.specs.Switches.{Kernel, Space, AreHeld, Switching, machine_at, state_at, made_due, with_next, is_held, is_concerned, Makes, after_switch}
@@ -150,7 +150,7 @@ module _ (k : Kernel) (gives : TakesBack k.take_back) (s : Switching) (safe : Is
         subst (λ (b : Space). GlobalIn k later b g.0) o.2 (grown o.0 g.0 (g.3 o.0 o.1)),
   )
     where
-      grown : (b : Space) (w : Way) → GlobalIn k s b w → GlobalIn k later b w
+      grown : (b : Space) (w : PartialWalk) → GlobalIn k s b w → GlobalIn k later b w
       grown b w (inl y) = inl y
       grown b w (inr y) = inr (stale_more k.levels None (s.due Global) (later.due Global) (part k.shared b.paths) w (λ d i. in_right (cond everywhere new []) (s.due Global) d i) y)
 

@@ -7,7 +7,7 @@ use Rattle.x86_64_model.specs.Memory.{Words}
 use Rattle.x86_64_model.specs.PathMap.{PathMap, entry}
 use Rattle.x86_64_model.specs.Window.{Window, windowed, entry_at}
 use Rattle.x86_64_model.specs.Spaces.{is_shared}
-use Rattle.x86_64_model.specs.Caches.{Way, Cached, Table, Page}
+use Rattle.x86_64_model.specs.Caches.{PartialWalk, Cached, Table, Page}
 use Rattle.x86_64_model.specs.Flushing.{Due, PageDue, HasZeros}
 use Rattle.x86_64_model.specs.Tags.{Of, Global}
 use Rattle.x86_64_model.specs.Switches.{Kernel, Space, Switching, held_by, with_marks, Marks, after_switch}
@@ -87,7 +87,7 @@ module _ (k : Kernel) (s : Switching) (safe : IsSafe k s) (next : Space → Path
       (λ h. item_marked k.levels o.0.root o.0.window (s.due (Of c)) s.pool s.words U (entry_at o.0.window o.0.paths) (entry_at o.0.window (held_by k U o.0))
       (seen_alike o.0.window o.0.paths (held_by k U o.0) (may.now o.0 o.1)) may.keeps x (safe.items c x i o.0 o.1 h))
 
-  global_marked : (a : Space) → In s.spaces a → (w : Way) → is_shared k.shared w.path ≡ true → GlobalIn k s a w → GlobalIn k marked (with_marks k next U a) w
+  global_marked : (a : Space) → In s.spaces a → (w : PartialWalk) → is_shared k.shared w.path ≡ true → GlobalIn k s a w → GlobalIn k marked (with_marks k next U a) w
   global_marked a ia w on x = safe_alike k.levels (part k.shared a.paths) (part k.shared (held_by k U a)) w (λ i c b. let h = shared_front k.shared i c w.path b on in
       subst₂ LeadAlike (sym (part_is k.shared a.paths (i ∷ c) h)) (sym (part_is k.shared (held_by k U a) (i ∷ c) h)) (may.now a ia (i ∷ c))) None (s.due Global) x
 

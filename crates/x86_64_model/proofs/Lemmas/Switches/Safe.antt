@@ -10,7 +10,7 @@ use Rattle.x86_64_model.specs.PathMap.{entry}
 use Rattle.x86_64_model.specs.Mappings.{maps_page}
 use Rattle.x86_64_model.specs.Window.{Window, entry_at}
 use Rattle.x86_64_model.specs.Spaces.{is_shared}
-use Rattle.x86_64_model.specs.Caches.{Way, start, Cached, Table, Page, found, MayRead, MayAccess, walk}
+use Rattle.x86_64_model.specs.Caches.{PartialWalk, start, Cached, Table, Page, cached_item, MayRead, MayAccess, walk_with_rights}
 use Rattle.x86_64_model.specs.Flushing.{Due, PageDue, TablesDue, WindowDue, BelowDue, loosens}
 use Rattle.x86_64_model.specs.Laws.Caches.{WalksThere}
 use Rattle.x86_64_model.specs.Laws.Switches.{due_here}
@@ -40,12 +40,12 @@ tagged tag x = record { tag = tag; item = x }
 abbrev pub SafeIn : Kernel → Switching → Space → (c : ℕ) → Cached → Type 0
 SafeIn k s a c x = items.Safe k.levels a.root a.window (s.due (Of c)) s.pool s.words (entry_at a.window a.paths) x
 
-abbrev pub GlobalIn : Kernel → Switching → Space → Way → Type 0
+abbrev pub GlobalIn : Kernel → Switching → Space → PartialWalk → Type 0
 GlobalIn k s a w = AgreesPage k.levels (part k.shared a.paths) w ⊎ StalePage k.levels None (s.due Global) (part k.shared a.paths) w
 
 -- a global translation is a page below a shared index
 abbrev pub IsGlobal : Kernel → Switching → Cached → Type 0
-IsGlobal k s x = (w : Way) × (x ≡ Page w) × (is_shared k.shared w.path ≡ true) × ((a : Space) → In s.spaces a → GlobalIn k s a w)
+IsGlobal k s x = (w : PartialWalk) × (x ≡ Page w) × (is_shared k.shared w.path ≡ true) × ((a : Space) → In s.spaces a → GlobalIn k s a w)
 
 -- the invariant
 pub record IsSafe (k : Kernel) (s : Switching) : Type 0 where
@@ -60,12 +60,12 @@ pub record IsSafe (k : Kernel) (s : Switching) : Type 0 where
 
 -- ---- more is due
 
-pub stale_more : (L : ℕ) (window : Option Window) (due more : List Due) (E : List ℕ → ℕ) (w : Way) → ((d : Due) → In due d → In more d) → StalePage L window due E w → StalePage L window more E w
+pub stale_more : (L : ℕ) (window : Option Window) (due more : List Due) (E : List ℕ → ℕ) (w : PartialWalk) → ((d : Due) → In due d → In more d) → StalePage L window due E w → StalePage L window more E w
 stale_more L window due more E w grows (inl (f, inl d, e)) = inl (f, inl (grows _ d), e)
 stale_more L window due more E w grows (inl (f, inr d, e)) = inl (f, inr (grows _ d.0, d.1), e)
 stale_more L window due more E w grows (inr x) = inr ((x.0.0, grows _ x.0.1, x.0.2), x.1)
 
-stale_windowed : (L : ℕ) (window : Option Window) (due : List Due) (E : List ℕ → ℕ) (w : Way) → StalePage L None due E w → StalePage L window due E w
+stale_windowed : (L : ℕ) (window : Option Window) (due : List Due) (E : List ℕ → ℕ) (w : PartialWalk) → StalePage L None due E w → StalePage L window due E w
 stale_windowed L window due E w (inl (f, inl d, e)) = inl (f, inl d, e)
 stale_windowed L window due E w (inl (f, inr d, e)) = cc
 stale_windowed L window due E w (inr ((d, i, l), st)) = by d i l
@@ -92,12 +92,12 @@ module _ (k : Kernel) (levels : 0 < k.levels) (s : Switching) (safe : IsSafe k s
     r = reads k.levels s.words a.root a.paths a.window (safe.held.valid a ia)
 
     -- below shared indices they are those of any space's map
-    pub same_part : (b : Space) → In s.spaces b → (w : Way) → is_shared k.shared w.path ≡ true → (i : ℕ) (c : List ℕ) → begins (i ∷ c) w.path ≡ true → LeadAlike (E (i ∷ c)) (part k.shared b.paths (i ∷ c))
+    pub same_part : (b : Space) → In s.spaces b → (w : PartialWalk) → is_shared k.shared w.path ≡ true → (i : ℕ) (c : List ℕ) → begins (i ∷ c) w.path ≡ true → LeadAlike (E (i ∷ c)) (part k.shared b.paths (i ∷ c))
     same_part b ib w h i c on = let h' = shared_front k.shared i c w.path on h in
         subst₂ LeadAlike (sym (seen_outside a.window a.paths k.shared (safe.held.windows a ia) (i ∷ c) h')) (sym (part_is k.shared b.paths (i ∷ c) h')) (safe.held.alike a b ia ib (i ∷ c) h')
 
     -- and of its own map they are the same
-    same_own : (w : Way) → is_shared k.shared w.path ≡ true → (i : ℕ) (c : List ℕ) → begins (i ∷ c) w.path ≡ true → LeadAlike (part k.shared a.paths (i ∷ c)) (E (i ∷ c))
+    same_own : (w : PartialWalk) → is_shared k.shared w.path ≡ true → (i : ℕ) (c : List ℕ) → begins (i ∷ c) w.path ≡ true → LeadAlike (part k.shared a.paths (i ∷ c)) (E (i ∷ c))
     same_own w h i c on = let h' = shared_front k.shared i c w.path on h in
         alike_equal _ _ (seen_outside a.window a.paths k.shared (safe.held.windows a ia) (i ∷ c) h' ∙ sym (part_is k.shared a.paths (i ∷ c) h'))
 
@@ -127,36 +127,36 @@ module _ (k : Kernel) (levels : 0 < k.levels) (s : Switching) (safe : IsSafe k s
               inl (subst (λ x. SafeIn k s a s.pcid x) e (subst (λ d. SafeIn k s a d y) same (safe.items d y i a ia (ap s.holder same ∙ holds_here))))
           by Global y i cur e = inr (refl, subst (λ x. IsGlobal k s x) e (safe.globals y i))
 
-      pub table_safe : (t : Way) → MayRead s.root (usable s.pcid s.cache) t → SafeIn k s a s.pcid (Table t)
+      pub table_safe : (t : PartialWalk) → MayRead s.root (usable s.pcid s.cache) t → SafeIn k s a s.pcid (Table t)
       table_safe t (inl e) = inl (subst (λ t. AgreesTable k.levels a.root E t) (sym (e ∙ ap start (sym here))) (start_agrees k.levels a.root E levels))
       table_safe t (inr there) = let c = from_usable s.pcid s.cache (Table t) there in
           ⊎_elim (λ x. x) (λ g. let w = g.1.0 in absurd (let z : Table t ≡ Page w = g.1.1 in cc)) (current_safe c.0 (Table t) c.1 c.2 c.3)
 
       -- where an access goes
-      pub goes : (p : ℕ) (w : Way) → MayAccess k.levels s.root s.words (usable s.pcid s.cache) p w → WalksThere (walk k.levels s.words s.root p) w ⊎ StalePage k.levels a.window (due_here s) E w
+      pub goes : (p : ℕ) (w : PartialWalk) → MayAccess k.levels s.root s.words (usable s.pcid s.cache) p w → WalksThere (walk_with_rights k.levels s.words s.root p) w ⊎ StalePage k.levels a.window (due_here s) E w
       goes p w (inl (there, on)) = let c = from_usable s.pcid s.cache (Page w) there in ⊎_elim
           (λ x. mine p w (hit_goes k.levels a.root s.words E r levels a.window (s.due (Of s.pcid)) s.pool p w x on))
           (λ g. let v = g.1.0 in let same : w ≡ v = let z : Page w ≡ Page v = g.1.1 in cc in
-          let shared : is_shared k.shared w.path ≡ true = ap (λ (w : Way). is_shared k.shared w.path) same ∙ g.1.2 in
+          let shared : is_shared k.shared w.path ≡ true = ap (λ (w : PartialWalk). is_shared k.shared w.path) same ∙ g.1.2 in
           let x = safe_alike k.levels (part k.shared a.paths) E w (same_own w shared) None (s.due Global) (subst (λ w. GlobalIn k s a w) (sym same) (g.1.3 a ia)) in
           ⊎_elim (λ y. inl (at_root p w y)) (λ y. inr (stale_more k.levels a.window (s.due Global) (due_here s) E w (λ d i. in_right (s.due (Of s.pcid)) (s.due Global) d i) (stale_windowed k.levels a.window (s.due Global) E w y)))
           (hit_goes k.levels a.root s.words E r levels None (s.due Global) s.pool p w x on))
           (current_safe c.0 (Page w) c.1 c.2 c.3)
         where
-          at_root : (p : ℕ) (w : Way) → WalksThere (walk k.levels s.words a.root p) w → WalksThere (walk k.levels s.words s.root p) w
-          at_root p w x = subst (λ root. WalksThere (walk k.levels s.words root p) w) here x
+          at_root : (p : ℕ) (w : PartialWalk) → WalksThere (walk_with_rights k.levels s.words a.root p) w → WalksThere (walk_with_rights k.levels s.words s.root p) w
+          at_root p w x = subst (λ root. WalksThere (walk_with_rights k.levels s.words root p) w) here x
 
-          mine : (p : ℕ) (w : Way) → WalksThere (walk k.levels s.words a.root p) w ⊎ StalePage k.levels a.window (s.due (Of s.pcid)) E w → WalksThere (walk k.levels s.words s.root p) w ⊎ StalePage k.levels a.window (due_here s) E w
+          mine : (p : ℕ) (w : PartialWalk) → WalksThere (walk_with_rights k.levels s.words a.root p) w ⊎ StalePage k.levels a.window (s.due (Of s.pcid)) E w → WalksThere (walk_with_rights k.levels s.words s.root p) w ⊎ StalePage k.levels a.window (due_here s) E w
           mine p w x = ⊎_elim (λ y. inl (at_root p w y)) (λ y. inr (stale_more k.levels a.window (s.due (Of s.pcid)) (due_here s) E w (λ d i. in_left (s.due (Of s.pcid)) (s.due Global) d i) y)) x
       goes p w (inr (t, may, on, arrives)) = ⊎_elim
-          (λ y. inl (subst (λ root. WalksThere (walk k.levels s.words root p) w) here y))
+          (λ y. inl (subst (λ root. WalksThere (walk_with_rights k.levels s.words root p) w) here y))
           (λ y. inr (stale_more k.levels a.window (s.due (Of s.pcid)) (due_here s) E w (λ d i. in_left (s.due (Of s.pcid)) (s.due Global) d i) y))
           (walk_goes k.levels a.root s.words E r levels a.window (s.due (Of s.pcid)) s.pool p t w (table_safe t may) on arrives)
 
       -- ---- a global page that is found
 
       -- the entry of a page that is found
-      found_entry : (t : Way) (i : ℕ) (w : Way) → leads k.levels a.root E t.path ≡ Some t.frame → found k.levels s.words t i ≡ Some (Page w)
+      found_entry : (t : PartialWalk) (i : ℕ) (w : PartialWalk) → leads k.levels a.root E t.path ≡ Some t.frame → cached_item k.levels s.words t i ≡ Some (Page w)
           → (present (E w.path) ≡ true) × (maps_page (level_of k.levels w.path) (E w.path) ≡ true) × (E w.path ≡ word s.words t.frame i)
       found_entry t i w there is = let e = E (t.path ++ i ∷ []) in led_cases k.levels t i e (Page w) Fine
           (λ h m. (h, m, sym (word_below k.levels s.words a.root E r t.path t.frame i there))) (λ h m g. tt)
@@ -166,7 +166,7 @@ module _ (k : Kernel) (levels : 0 < k.levels) (s : Switching) (safe : IsSafe k s
           Fine (Table u) = Unit {0}
           Fine (Page v) = (present (E v.path) ≡ true) × (maps_page (level_of k.levels v.path) (E v.path) ≡ true) × (E v.path ≡ word s.words t.frame i)
 
-      pub global_found : (t : Way) (i : ℕ) (w : Way) → SafeIn k s a s.pcid (Table t) → found k.levels s.words t i ≡ Some (Page w) → global (word s.words t.frame i) ≡ true → IsGlobal k s (Page w)
+      pub global_found : (t : PartialWalk) (i : ℕ) (w : PartialWalk) → SafeIn k s a s.pcid (Table t) → cached_item k.levels s.words t i ≡ Some (Page w) → global (word s.words t.frame i) ≡ true → IsGlobal k s (Page w)
       global_found t i w safe_t is g = by safe_t
         where
           shared : leads k.levels a.root E t.path ≡ Some t.frame → is_shared k.shared w.path ≡ true
@@ -197,7 +197,7 @@ module _ (k : Kernel) (levels : 0 < k.levels) (s : Switching) (safe : IsSafe k s
     change_globals : (x : Cached) → In after (tagged Global x) → IsGlobal k s x
     change_globals x i = ⊎_elim (λ there. safe.globals x there) (λ y. by x y.0 y.1 y.2 y.3 y.4) (caches (tagged Global x) i)
       where
-        by : (x : Cached) (t : Way) (i : ℕ) → MayRead s.root (usable s.pcid s.cache) t → found k.levels s.words t i ≡ Some x → MayTag s.pcid (word s.words t.frame i) x Global → IsGlobal k s x
+        by : (x : Cached) (t : PartialWalk) (i : ℕ) → MayRead s.root (usable s.pcid s.cache) t → cached_item k.levels s.words t i ≡ Some x → MayTag s.pcid (word s.words t.frame i) x Global → IsGlobal k s x
         by (Table u) t i may is tag = let z : Global ≡ Of s.pcid = tag in cc
         by (Page w) t i may is (inl tag) = let z : Global ≡ Of s.pcid = tag in cc
         by (Page w) t i may is (inr g) = let a = safe.current in global_found a.0 a.1 a.2 t i w (table_safe a.0 a.1 a.2 t may) is g.1

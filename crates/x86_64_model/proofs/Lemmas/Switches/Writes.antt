@@ -5,7 +5,7 @@ use Rattle.x86_64_model.specs.Memory.{Words}
 use Rattle.x86_64_model.specs.PathMap.{PathMap, entry}
 use Rattle.x86_64_model.specs.Window.{entry_at, outside_window, IsValidFor}
 use Rattle.x86_64_model.specs.Spaces.{is_shared}
-use Rattle.x86_64_model.specs.Caches.{Way, Cached}
+use Rattle.x86_64_model.specs.Caches.{PartialWalk, Cached}
 use Rattle.x86_64_model.specs.Flushing.{Due}
 use Rattle.x86_64_model.specs.Tags.{Of, Global}
 use Rattle.x86_64_model.specs.Switches.{Kernel, Space, Switching, with_words, held_by, is_held, Writes, after_switch}
@@ -57,7 +57,7 @@ module _ (k : Kernel) (s : Switching) (safe : IsSafe k s) (U : Words) (may : May
         grows : (d : Due) → In (own s a.root) d → In (s.due (Of c)) d
         grows d i = own_due k.shared s safe.dues c a.root h d i
 
-    global_written : (w : Way) → GlobalIn k s a w → GlobalIn k (after_switch k s (Writes U)) (with_words k U a) w
+    global_written : (w : PartialWalk) → GlobalIn k s a w → GlobalIn k (after_switch k s (Writes U)) (with_words k U a) w
     global_written w x = part_written k.shared k.levels a.root a.paths (now a) (s.due Global) s.pool s.words U tree
         (λ q on. become_more k.levels None None (wide s) (s.due Global) s.pool q _ _ (λ d i. safe.dues.covers Global d i) (λ w v e. cc) (changed_shared q on))
         (may.empty a ia) w x

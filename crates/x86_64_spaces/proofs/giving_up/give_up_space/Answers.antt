@@ -7,7 +7,7 @@ use Rattle.x86_64_model.specs.Spaces.{AreSpaces}
 use Rattle.x86_64_model.proofs.Lemmas.Hierarchies.Memories.{covered}
 use Rattle.x86_64_model.proofs.Lemmas.Machines.Giving.{giving_from}
 use Rattle.x86_64_model.proofs.Lemmas.Tables.Exact.{inside_window}
-use Rattle.x86_64_spaces.specs.SpaceLayouts.{indices_of, layout_of, HasSharedAlone}
+use Rattle.x86_64_spaces.specs.SpaceLayouts.{indices_of, space_layout, HasSharedAlone}
 use Rattle.x86_64_spaces.proofs.Cleared.{spaces_now, owned_now}
 use Rattle.x86_64_spaces.proofs.NewRoot.{root_entries}
 use Rattle.x86_64_spaces.proofs.Stored.{stores, in_place}
@@ -35,7 +35,7 @@ frame_to_pointer-requires g c =
     let shared = indices_of c.args.shared in let space = c.args.space.now in let store = c.args.store.now in
     let m = g.T.TableMemory.tables c.args.memory.now in let places = g.P.PageTableFrameMapping.places c.args.mapping.now in
     let serves = g.F.FrameKeeper.serves store in let pool = g.F.FrameAllocator.supply store in
-    let gone = layout_of g.L.LevelCount.LEVELS places m space in
+    let gone = space_layout g.L.LevelCount.LEVELS places m space in
     covered m places space.root (inside_window gone.window space.root _ space.root (c.requires.fits.valid.valid.holds.in_memory [] space.root refl))
 
 pub table_at_mut-requires : goal.table_at_mut-requires
@@ -43,7 +43,7 @@ table_at_mut-requires g c =
     let shared = indices_of c.args.shared in let space = c.args.space.now in let store = c.args.store.now in
     let m = g.T.TableMemory.tables c.args.memory.now in let places = g.P.PageTableFrameMapping.places c.args.mapping.now in
     let serves = g.F.FrameKeeper.serves store in let pool = g.F.FrameAllocator.supply store in
-    let gone = layout_of g.L.LevelCount.LEVELS places m space in
+    let gone = space_layout g.L.LevelCount.LEVELS places m space in
     subst (λ k. IsSome (get m k)) (sym c.frame_to_pointer.ensures)
     (in_place m places space.root (inside_window gone.window space.root _ space.root (c.requires.fits.valid.valid.holds.in_memory [] space.root refl)))
 
@@ -52,7 +52,7 @@ returns-clause-given_up g c =
     let shared = indices_of c.args.shared in let space = c.args.space.now in let store = c.args.store.now in
     let m = g.T.TableMemory.tables c.args.memory.now in let places = g.P.PageTableFrameMapping.places c.args.mapping.now in
     let serves = g.F.FrameKeeper.serves store in let pool = g.F.FrameAllocator.supply store in
-    let gone = layout_of g.L.LevelCount.LEVELS places m space in
+    let gone = space_layout g.L.LevelCount.LEVELS places m space in
     let entries = root_entries g.L.LevelCount.LEVELS places m space serves pool c.requires.fits in
     let alone : HasSharedAlone shared gone m = λ i off. entries i ∙ c.if-not-maps_nothing.ensures.0 refl i off in
     let mapping = g.met.P.PageTableFrameMapping.is_mapping c.args.mapping.now in

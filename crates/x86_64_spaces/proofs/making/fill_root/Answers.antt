@@ -3,7 +3,7 @@ use Rattle.std.specs.FinMap.{insert}
 use Rattle.std.specs.Prelude.{slice_set}
 use Rattle.x86_64_model.specs.Memory.{word, words_of}
 use Rattle.x86_64_spaces.specs.SpaceLayouts.{indices_of}
-use Rattle.x86_64_spaces.specs.private.SpaceTables.{seen_by}
+use Rattle.x86_64_spaces.specs.private.SpaceTables.{words_without}
 use Rattle.x86_64_spaces.specs.private.Writes.{HasShared}
 use Rattle.x86_64_spaces.proofs.Stored.{none_shared, passed_over, one_shared, words_stay, seen_same}
 use Rattle.x86_64_spaces.proofs.making.fill_root.Goals as goal
@@ -12,7 +12,7 @@ use Rattle.x86_64_spaces.proofs.making.fill_root.Goals.{then-contains, else-cont
 pub loop-index-init : goal.loop-index-init
 loop-index-init g c =
     let m = g.T.TableMemory.tables c.args.memory.now in
-    let words = seen_by (words_of m (g.P.PageTableFrameMapping.places c.args.mapping.now)) c.args.template.now in (
+    let words = words_without (words_of m (g.P.PageTableFrameMapping.places c.args.mapping.now)) c.args.template.now in (
       none_shared (indices_of c.args.shared) (word words c.args.template.now.root) m c.args.place
           (g.T.TableMemory.tables (g.T.TableMemory.with_table c.args.memory.now c.args.place c.zero.new.self))
           (g.met.T.TableMemory.puts c.args.memory.now c.args.place c.zero.new.self c.requires.there ∙ ap (insert m c.args.place) c.zero.ensures),
@@ -23,7 +23,7 @@ pub loop-index-preserved : goal.loop-index-preserved
 loop-index-preserved g c =
     let shared = indices_of c.args.shared in let place = c.args.place in let template = c.args.template.now in
     let m = g.T.TableMemory.tables c.args.memory.now in let places = g.P.PageTableFrameMapping.places c.args.mapping.now in
-    let words = word (seen_by (words_of m places) template) template.root in
+    let words = word (words_without (words_of m places) template) template.root in
     let now = c.loop-index.memory in let n = g.T.TableMemory.tables now in let i = c.loop-index.index in
     let has = c.loop-index.invariant.0 in
     elim c.if-contains.branch [

@@ -5,7 +5,7 @@ use Rattle.x86_64_model.specs.Laws.Spaces.{IsNewRoot}
 use Rattle.x86_64_model.specs.Spaces.{AreSpaces}
 use Rattle.x86_64_model.proofs.Lemmas.Hierarchies.Memories.{covered}
 use Rattle.x86_64_model.proofs.Lemmas.Tables.Exact.{inside_window}
-use Rattle.x86_64_spaces.specs.SpaceLayouts.{indices_of, layout_of}
+use Rattle.x86_64_spaces.specs.SpaceLayouts.{indices_of, space_layout}
 use Rattle.x86_64_spaces.proofs.NewRoot.{taken, new_root, self_is}
 use Rattle.x86_64_spaces.proofs.making.new_space.Goals as goal
 
@@ -17,7 +17,7 @@ fill_root-requires-clause-apart g c e =
     let serves = g.F.FrameKeeper.serves store in let root = c.in_ok-root.root in
     let rest = drop 1 (g.F.FrameAllocator.supply store) in
     let all = taken (g.F.FrameAllocator.supply store) root (sym c.in_ok-root.ensures.first) in
-    let one = layout_of g.L.LevelCount.LEVELS places m template in
+    let one = space_layout g.L.LevelCount.LEVELS places m template in
     let fits = subst (λ (pool : List ℕ). PoolFits (one laid_in m) serves pool) all c.requires.fits in
     let there = inside_window one.window template.root _ template.root (fits.valid.valid.holds.in_memory [] template.root refl) in
     let same = mapping.distinct template.root root (covered m places template.root there) (covered m places root (fits.in_memory root (inl refl)))
@@ -32,10 +32,10 @@ returns-clause-made g c =
     let serves = g.F.FrameKeeper.serves store in let root = c.in_ok-root.root in
     let rest = drop 1 (g.F.FrameAllocator.supply store) in
     let all = taken (g.F.FrameAllocator.supply store) root (sym c.in_ok-root.ensures.first) in
-    let one = layout_of g.L.LevelCount.LEVELS places m template in
+    let one = space_layout g.L.LevelCount.LEVELS places m template in
     let fits = subst (λ (pool : List ℕ). PoolFits (one laid_in m) serves pool) all c.requires.fits in
     let n = g.T.TableMemory.tables c.name_itself.new.memory in
-    let new = layout_of g.L.LevelCount.LEVELS places n (record { root = root; recursive = c.args.recursive }) in
+    let new = space_layout g.L.LevelCount.LEVELS places n (record { root = root; recursive = c.args.recursive }) in
     let some = g.L.LevelCount.at_least_four in
     let written = c.name_itself.ensures.written c.fill_root.ensures.written.table c.fill_root.ensures.written.stored.here in
     let is_new : IsNewRoot shared one m n new =

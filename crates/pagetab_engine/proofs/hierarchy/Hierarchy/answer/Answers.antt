@@ -1,7 +1,7 @@
 use Rattle.std.proofs.Common.{◌≡◌, refl, sym, ap, ◌∙◌, subst₂}
 use Rattle.x86_64_model.specs.Position.{raw}
 use Rattle.x86_64_mappers.specs.Offsets.{OffsetFits}
-use Rattle.x86_64.specs.Calls.{asks}
+use Rattle.x86_64.specs.Calls.{to_call}
 use Rattle.pagetab_engine.specs.declared.arguments.Mode.TheVariants.{Direct, Offset, Recursive, Pair}
 use Rattle.pagetab_engine.proofs.OneArguments.{position, position_read}
 use Rattle.pagetab_engine.proofs.ByMode.{here, fits_in, kept_in, kept_in_pair, twin_in}
@@ -20,7 +20,7 @@ returns-in-Pair-clause-keeps g c =
     let done = c.answer_by_both.ensures in let levels = g.L.LevelCount.LEVELS in let before = c.args.self.now in let mode = Pair c.in-Pair.field-0 c.in-Pair.index in
     let known = here before levels c.requires.levels mode c.in-Pair.is in
     kept_in before levels c.requires.levels mode c.in-Pair.is _ refl tt (twin_in _ _ _ _ _ known done.twin)
-    (kept_in_pair _ levels before.frames c.answer_by_both.new.frames (asks g.P5.LevelFiveFlags.bits c.args.call) c.answer_by_both.result (fits_in before levels c.requires.levels mode c.in-Pair.is c.requires.fits.fits) done.answered done.unchanged)
+    (kept_in_pair _ levels before.frames c.answer_by_both.new.frames (to_call g.P5.LevelFiveFlags.bits c.args.call) c.answer_by_both.result (fits_in before levels c.requires.levels mode c.in-Pair.is c.requires.fits.fits) done.answered done.unchanged)
 
 pub returns-in-Offset-clause-keeps : goal.returns-in-Offset-clause-keeps
 returns-in-Offset-clause-keeps g c =

@@ -1,7 +1,7 @@
 use Rattle.std.proofs.Common.{◌≡◌, ◌↔◌, ◌∙◌, ◌⊎◌, ⊎_elim, ℕ, IsTrue, Bool, Result, sym, subst}
 use Rattle.std.specs.Result.{IfOk}
 use Rattle.x86_64_model.specs.Mapper.{◌laid_in◌}
-use Rattle.x86_64_model.specs.Store.{Fits}
+use Rattle.x86_64_model.specs.Store.{StoreFits}
 use Rattle.x86_64_addr.specs.declared.level_count.Levels.{Levels}
 use Rattle.x86_64.specs.Pairs.{pool_store}
 use Rattle.pagetab_engine.specs.Hierarchy.{image_layout}
@@ -12,9 +12,9 @@ use Rattle.pagetab_engine.proofs.hierarchy.Hierarchy.fits.Goals as goal
 use Rattle.pagetab_engine.proofs.hierarchy.Hierarchy.fits.Goals.{in-Recursive, in-Recursive-2}
 
 -- a test of the hierarchy of a mode tests the program's hierarchy if that is its mode
-in_mode : {E : Type 0} (result : Result Bool E) (frames : Frames) (mode is : Mode) → mode ≡ is → IfOk result (λ fits. IsTrue fits ↔ Fits (image_layout is frames.memory laid_in frames.memory) (pool_store frames.pool))
-    → IfOk result (λ fits. IsTrue fits ↔ Fits (image_layout mode frames.memory laid_in frames.memory) (pool_store frames.pool))
-in_mode result frames mode is same = subst (λ (mode : Mode). IfOk result (λ fits. IsTrue fits ↔ Fits (image_layout mode frames.memory laid_in frames.memory) (pool_store frames.pool))) (sym same)
+in_mode : {E : Type 0} (result : Result Bool E) (frames : Frames) (mode is : Mode) → mode ≡ is → IfOk result (λ fits. IsTrue fits ↔ StoreFits (image_layout is frames.memory laid_in frames.memory) (pool_store frames.pool))
+    → IfOk result (λ fits. IsTrue fits ↔ StoreFits (image_layout mode frames.memory laid_in frames.memory) (pool_store frames.pool))
+in_mode result frames mode is same = subst (λ (mode : Mode). IfOk result (λ fits. IsTrue fits ↔ StoreFits (image_layout mode frames.memory laid_in frames.memory) (pool_store frames.pool))) (sym same)
 
 pub returns-in-Direct : goal.returns-in-Direct
 returns-in-Direct c = in_mode _ c.args.self.now.frames _ _ c.in-Direct.is c.fits.ensures
@@ -24,8 +24,8 @@ returns-in-Offset c = in_mode _ c.args.self.now.frames _ _ c.in-Offset.is c.fits
 
 -- so does a test of the recursive mapper's, alone or in a pair
 recursive_in_mode : {E : Type 0} (result : Result Bool E) (frames : Frames) (mode : Mode) (levels a : Levels) (index b : ℕ) → levels ≡ a → index ≡ b → (mode ≡ Recursive a b) ⊎ (mode ≡ Pair a b)
-    → IfOk result (λ fits. IsTrue fits ↔ Fits (image_layout (Recursive levels index) frames.memory laid_in frames.memory) (pool_store frames.pool))
-    → IfOk result (λ fits. IsTrue fits ↔ Fits (image_layout mode frames.memory laid_in frames.memory) (pool_store frames.pool))
+    → IfOk result (λ fits. IsTrue fits ↔ StoreFits (image_layout (Recursive levels index) frames.memory laid_in frames.memory) (pool_store frames.pool))
+    → IfOk result (λ fits. IsTrue fits ↔ StoreFits (image_layout mode frames.memory laid_in frames.memory) (pool_store frames.pool))
 recursive_in_mode result frames mode levels a index b same also is told = ⊎_elim
     (λ is. in_mode result frames mode (Recursive levels index) (is ∙ sym (λ i. Recursive (same i) (also i))) told)
     (λ is. in_mode result frames mode (Pair levels index) (is ∙ sym (λ i. Pair (same i) (also i))) told) is

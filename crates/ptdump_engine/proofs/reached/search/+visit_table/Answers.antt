@@ -10,7 +10,7 @@ use Rattle.x86_64_mappings.specs.private.Targets.{asked_by, asked_on}
 use Rattle.x86_64_mappings.proofs.Tables.{asked_none, asked_table, by_nothing, by_page, by_table}
 use Rattle.x86_64_mappings.proofs.Visited.{next_start, start_inside, start_aligned, span_below, aligned_below, visited_more}
 use Rattle.ptdump_engine.specs.declared.reached.search.Found.{Found}
-use Rattle.ptdump_engine.specs.private.Reaching.{searched, sought, sought_in, Takes}
+use Rattle.ptdump_engine.specs.private.Reaching.{searched, sought, sought_in, TakesFound}
 use Rattle.ptdump_engine.proofs.Reaches.{takes_more, takes_nothing}
 use Rattle.ptdump_engine.proofs.reached.search.+visit_table.Goals as goal
 use Rattle.ptdump_engine.proofs.reached.search.+visit_table.Goals.{in-Page+in_ok-note_page-in-Page, in-Table+then-is_new+in_ok-visit_table-in-Table+in_ok-mark-in-Table, in-Table+else-is_new, in-Nothing}
@@ -20,7 +20,7 @@ returns-in_default g t c =
     let search = c.args.search.now in
     let table = c.args.table.now in
     let none : (searched search).words table.frame ≡ None = sym c.table_in.ensures ∙ ap option_copied c.in_default.is in
-    subst (Takes g.L.LevelCount.LEVELS search c.args.found.now c.args.found.now)
+    subst (TakesFound g.L.LevelCount.LEVELS search c.args.found.now c.args.found.now)
     (sym (ap (λ ms. sought search (map (placed table.start table.above) ms)) (asked_none (searched search) table.level table.frame none)))
     (takes_nothing g.L.LevelCount.LEVELS search c.args.found.now)
 
@@ -95,10 +95,10 @@ loop-entry-preserved g t c =
     let old = c.args.found.now in
     let between = c.loop-entry.found in
     let front = asked_on asked level s r (take i words) in
-    let so_far : Takes L search old between (sought search front) = c.loop-entry.invariant.taken in
+    let so_far : TakesFound L search old between (sought search front) = c.loop-entry.invariant.taken in
     let next = next_start s i (span level) in
-    let all : Found → List Mapping → Type 0 = λ new ms. Takes L search old new (sought search ms) in
-    let with : (new : Found) → (back : List Mapping) → asked_by asked level c.loop-entry.start r e ≡ back → Takes L search between new (sought search back)
+    let all : Found → List Mapping → Type 0 = λ new ms. TakesFound L search old new (sought search ms) in
+    let with : (new : Found) → (back : List Mapping) → asked_by asked level c.loop-entry.start r e ≡ back → TakesFound L search between new (sought search back)
     → all new (asked_on asked level s r (take (i + 1) words)) =
     λ new back is more. visited_more asked level s r words i less (all new) back (here ∙ is) (takes_more L search old between new front back so_far more) in
     record {
@@ -112,16 +112,16 @@ loop-entry-preserved g t c =
             let visit = w.below-below.result in
             let below = map (placed c.loop-entry.start (granted r e)) (asked_mappings asked (level - 1) w.in-Table.frame) in
             let same : sought_in search visit ≡ sought search below = ap (sought_in search) w.below-below.ensures ∙ ap (λ a. sought search (map (placed c.loop-entry.start a) (asked_mappings asked (level - 1) w.in-Table.frame))) w.below.ensures in
-            let more : Takes L search between w.mark.new.found (sought_in search visit) = λ ms after. w.in_ok-mark-in-Table.ensures ms (w.in_ok-visit_table-in-Table.ensures ms after) in
+            let more : TakesFound L search between w.mark.new.found (sought_in search visit) = λ ms after. w.in_ok-mark-in-Table.ensures ms (w.in_ok-visit_table-in-Table.ensures ms after) in
             subst (λ v. all v (asked_on asked level s r (take (i + 1) words))) (sym w.found-is)
-            (with w.mark.new.found below (by_table asked level c.loop-entry.start r e w.in-Table.frame w.in-Table.ensures.value) (subst (Takes L search between w.mark.new.found) same more))
+            (with w.mark.new.found below (by_table asked level c.loop-entry.start r e w.in-Table.frame w.in-Table.ensures.value) (subst (TakesFound L search between w.mark.new.found) same more))
         | in-Table+else-is_new w ↦
             let visit = w.below-below.result in
             let below = map (placed c.loop-entry.start (granted r e)) (asked_mappings asked (level - 1) w.in-Table.frame) in
             let same : sought_in search visit ≡ sought search below = ap (sought_in search) w.below-below.ensures ∙ ap (λ a. sought search (map (placed c.loop-entry.start a) (asked_mappings asked (level - 1) w.in-Table.frame))) w.below.ensures in
             subst (λ v. all v (asked_on asked level s r (take (i + 1) words))) (sym w.found-is)
             (with between below (by_table asked level c.loop-entry.start r e w.in-Table.frame w.in-Table.ensures.value)
-            (subst (Takes L search between between) same (w.is_new.ensures.old w.if-is_new.false)))
+            (subst (TakesFound L search between between) same (w.is_new.ensures.old w.if-is_new.false)))
         | in-Nothing w ↦
             subst (λ v. all v (asked_on asked level s r (take (i + 1) words))) (sym w.found-is)
             (with between [] (by_nothing asked level c.loop-entry.start r e w.in-Nothing.ensures.value) (takes_nothing L search between))
@@ -136,7 +136,7 @@ returns g t c =
     let there : (searched search).words table.frame ≡ Some words =
     sym c.table_in.ensures ∙ ap option_copied c.in-Some.is ∙ ap Some (sym c.as_slice-entries.ensures.words) in
     let size : length words ≡ 512 = ap length c.as_slice-entries.ensures.words ∙ c.as_slice-entries.ensures.size in
-    subst (λ ms. Takes g.L.LevelCount.LEVELS search c.args.found.now c.loop-entry.found (sought search ms))
+    subst (λ ms. TakesFound g.L.LevelCount.LEVELS search c.args.found.now c.loop-entry.found (sought search ms))
     (ap (asked_on (searched search) table.level table.start table.above) (take_all c.loop-entry.entry-index words c.loop-entry-test.false)
     ∙ sym (asked_table (searched search) table.level table.start table.above table.frame words c.requires.low there size))
     c.loop-entry.invariant.taken

@@ -3,7 +3,7 @@ use Rattle.std.specs.List.{list_any}
 use Rattle.std.specs.Map.{lookup}
 use Rattle.x86_64_mappings.specs.Wanted.{leads_to}
 use Rattle.x86_64_model.specs.Mappings.{every_right}
-use Rattle.ptdump_engine.specs.private.Reaching.{firsts_of, is_within, sought_in}
+use Rattle.ptdump_engine.specs.private.Reaching.{first_address_of_each, address_is_within, sought_in}
 use Rattle.ptdump_engine.proofs.FirstAddresses.{all_found, nothing_found, only_none}
 use Rattle.ptdump_engine.proofs.reached.search.first_addresses.Goals as goal
 
@@ -16,8 +16,8 @@ returns g c =
       firsts = c.in_ok-from_elem.ensures.items_if_clones_equal (only_none _ (λ x same. same)) ∙ nothing_found L sought.frames.now;
       visited = λ level frame low aligned is.
           absurd (let e : false ≡ true = ap (λ keys. list_any (nat_eq (frame + level)) keys) (sym c.new.ensures.empty) ∙ is in cc);
-      pages = λ start. subst (λ es. IfSome (lookup (nat_eq start) es) (λ size. (a : ℕ) → find (leads_to a) [] ≡ None → is_within start size a ≡ false)) (sym c.new-2.ensures.empty) tt;
+      pages = λ start. subst (λ es. IfSome (lookup (nat_eq start) es) (λ size. (a : ℕ) → find (leads_to a) [] ≡ None → address_is_within start size a ≡ false)) (sym c.new-2.ensures.empty) tt;
     }) in
     after.firsts
-    ∙ ap (λ level. firsts_of L sought.frames.now ([] ++ sought_in sought (record { frame = c.args.root; level = level; start = 0; above = every_right }))) c.LEVELS.ensures
+    ∙ ap (λ level. first_address_of_each L sought.frames.now ([] ++ sought_in sought (record { frame = c.args.root; level = level; start = 0; above = every_right }))) c.LEVELS.ensures
     ∙ all_found L sought c.args.root

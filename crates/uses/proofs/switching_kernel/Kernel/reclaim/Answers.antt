@@ -1,5 +1,5 @@
 use Rattle.std.proofs.Common.{arith, sym, ◌∙◌, refl, subst}
-use Rattle.uses.specs.SwitchingKernel.{IsMappedOnce, IsUnmapped, LessIsMapped}
+use Rattle.uses.specs.SwitchingKernel.{IsMappedOnce, FrameIsUnmapped, LessIsMapped}
 use Rattle.uses.proofs.PageUnmaps.{AreUnmapped, less_then, still_unmapped, one_more_unmapped}
 use Rattle.uses.proofs.switching_kernel.Kernel.reclaim.Goals as goal
 
@@ -22,7 +22,7 @@ loop-page-preserved g c =
     let processes = c.args.self.now.processes.items in
     let now = c.loop-page.invariant in
     let less : LessIsMapped processes (tables c.loop-page.self.memory) (tables c.unmap_page.new.self.memory) = rw now.same at c.unmap_page.ensures.less in
-    let gone : IsMappedOnce processes (tables c.loop-page.self.memory) c.in-Some.frame → IsUnmapped processes (tables c.unmap_page.new.self.memory) c.in-Some.frame
+    let gone : IsMappedOnce processes (tables c.loop-page.self.memory) c.in-Some.frame → FrameIsUnmapped processes (tables c.unmap_page.new.self.memory) c.in-Some.frame
     = rw now.same at (c.in-Some.ensures.unmapped c.in-Some.frame refl) in
     record {
       runs = c.unmap_page.ensures.runs;
@@ -38,6 +38,6 @@ returns-clause-unmapped g c = rw c.flush_late.ensures.flushed c.loop-page.invari
 
 pub returns-clause-unreached : goal.returns-clause-unreached
 returns-clause-unreached g c = λ frame i once.
-    let none : IsUnmapped c.flush_late.new.self.processes.items (g.T.TableMemory.tables c.flush_late.new.self.memory) frame
+    let none : FrameIsUnmapped c.flush_late.new.self.processes.items (g.T.TableMemory.tables c.flush_late.new.self.memory) frame
     = rw (c.flush_late.ensures.flushed, c.loop-page.invariant.same) (c.loop-page.invariant.freed frame i once) in
     c.flush_late.ensures.unreached frame none

@@ -1,7 +1,7 @@
 use Rattle.std.proofs.Common.{◌≡◌, ◌++◌, rules, sym, ◌∙◌, subst}
 use Rattle.x86_64_addr.specs.Levels.{IsLevelCount}
 use Rattle.x86_64_model.proofs.Lemmas.Machines.Giving.{giving_from}
-use Rattle.x86_64.specs.Calls.{asks}
+use Rattle.x86_64.specs.Calls.{to_call}
 use Rattle.x86_64.specs.Flushes.{items_told}
 use Rattle.x86_64.specs.Runs.{appended}
 use Rattle.x86_64.proofs.AskedCalls.{is_call}
@@ -20,7 +20,7 @@ returns-clause-flushed g c =
     let now = c.serve_all.new.replies.items in
     record {
       items = subst (λ n. c.serve_all.new.tokens.items ≡ c.args.recorder.now.items ++ items_told n (appended before now)) (sym levels) (search rules);
-      suffice = flushed (asks bits) h.layout (subst IsLevelCount (sym levels) g.L.LevelCount.known_levels)
+      suffice = flushed (to_call bits) h.layout (subst IsLevelCount (sym levels) g.L.LevelCount.known_levels)
           (is_call h.layout.levels (g.met.M.Tables.at_least_four mapper) bits (λ flags. levels ∙ g.met.P5.LevelFiveFlags.five flags))
           (g.M.Tables.added_flags mapper).adds g.F.FrameDeallocator.take_back (giving_from _ g.met.F.FrameDeallocator.take_back_rearranges)
           (g.F.FrameKeeper.serves c.args.frames.now) h.memory (g.F.FrameAllocator.supply c.args.frames.now) c.requires c.args.calls.now _ (g.F.FrameAllocator.supply c.serve_all.new.frames)

@@ -6,7 +6,7 @@ use Rattle.x86_64_model.specs.Position.{index}
 use Rattle.x86_64_model.specs.PageWalk.{read}
 use Rattle.x86_64_model.specs.Access.{bits_to_set, marked, set_bits, steps_from}
 use Rattle.x86_64_model.specs.Entry.{address}
-use Rattle.x86_64_access.specs.Accesses.{access_of, controls_of, kind_of}
+use Rattle.x86_64_access.specs.Accesses.{access_of, controls_of, access_kind}
 use Rattle.x86_64_access.proofs.Walked.{arrives_below, marks_page, marks_table, none_arrives, table_high}
 use Rattle.x86_64_access.proofs.memory_unit.Request.+mark_from.Goals as goal
 use Rattle.x86_64_access.proofs.memory_unit.Request.+mark_from.Goals.{then-not-maps_page, else-not-maps_page}
@@ -48,7 +48,7 @@ returns-clause-marks g t c =
     let e = c.index-entry.result.now in
     let is : Some e ≡ read words c.args.frame (index level c.args.position) = search rules in
     let places = g.P.PageTableFrameMapping.places c.args.mapping.now in
-    let kind = kind_of c.args.self.access.kind in
+    let kind = access_kind c.args.self.access.kind in
     let old = g.T.TableMemory.tables c.args.memory.now in
     let new = g.T.TableMemory.tables c.set_bits.new.memory in
     elim c.if-not-maps_page.branch [

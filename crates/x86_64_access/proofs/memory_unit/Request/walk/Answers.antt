@@ -1,5 +1,5 @@
 use Rattle.std.proofs.Common.{rules, ap, ◌≡◌, ◌≤◌, ◌-◌, ◌+◌, ◌∙◌, ◌==◌, ◌||◌, true, false, not, None, Some, sym, arith, bit_and, eq-eqb, ne_eqb}
-use Rattle.x86_64_model.specs.Access.{Arrives, allowed, ends_at, reads_on}
+use Rattle.x86_64_model.specs.Access.{Arrives, access_allowed, ends_at, reads_on}
 use Rattle.x86_64_model.specs.Entry.{huge}
 use Rattle.x86_64_model.proofs.Lemmas.Entries.Words.{address_aligned}
 use Rattle.x86_64_model.specs.Mappings.{maps_page}
@@ -77,7 +77,7 @@ returns-then-suffice g c =
     let enough : (bit_and c.below-rights.result.0 c.of-masks.result.asked == c.of-masks.result.needed) ≡ true = search rules in
     ap Arrives c.address_in_page.ensures
     ∙ on_arrival controls words c.args.position asked level c.loop-above.frame (rights_by c.loop-above.rights.0) e low is parts.0 parts.1 parts.2
-    (ap (allowed controls asked) (sym c.below-rights.ensures) ∙ sym (c.of-masks.ensures.rights c.below-rights.result.0) ∙ enough)
+    (ap (access_allowed controls asked) (sym c.below-rights.ensures) ∙ sym (c.of-masks.ensures.rights c.below-rights.result.0) ∙ enough)
     ∙ c.loop-above.invariant
 
 pub loop-above-preserved : goal.loop-above-preserved

@@ -1,7 +1,7 @@
 use Rattle.std.proofs.Common.{◌≡◌, None, Some, IfSome, Option, List, ℕ, true, ◌∙◌, ap, subst, sym}
 use Rattle.x86_64_dump.specs.Dump.{words_of_dump}
 use Rattle.x86_64_dump.specs.Opened.{holds, opened}
-use Rattle.x86_64_dump.specs.private.FrameNumbers.{AreHeld}
+use Rattle.x86_64_dump.specs.private.FrameNumbers.{HasAll}
 use Rattle.x86_64_dump.specs.Tables.{table_named}
 use Rattle.x86_64_dump.proofs.Held.{met_held}
 use Rattle.x86_64_dump.proofs.Listing.{named_more}
@@ -20,7 +20,7 @@ loop-word-preserved g c = record {
       ];
   held = λ old.
       let has = holds g.S.ByteSource.size c.args.dump.now in
-      let Held : List ℕ → Type 0 = AreHeld has in
+      let Held : List ℕ → Type 0 = HasAll has in
       let Has : Option ℕ → Type 0 = λ named. IfSome named (λ f. has f ≡ true) in
       elim c.match-table_named.branch [
         | in-Some+in_ok-insert w ↦ subst Held (sym (w.below-is ∙ w.in_ok-insert.ensures))

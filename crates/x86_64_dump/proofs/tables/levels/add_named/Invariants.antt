@@ -2,7 +2,7 @@ use Rattle.std.proofs.Common.{◌≡◌, take, filter_map}
 use Rattle.std.specs.List.{fold}
 use Rattle.x86_64_dump.specs.Dump.{words_of_dump}
 use Rattle.x86_64_dump.specs.Opened.{holds, opened}
-use Rattle.x86_64_dump.specs.private.FrameNumbers.{AreHeld}
+use Rattle.x86_64_dump.specs.private.FrameNumbers.{HasAll}
 use Rattle.x86_64_dump.specs.Tables.{table_named, met}
 use Rattle.x86_64_dump.proofs.tables.levels.add_named.Given as goal
 
@@ -11,5 +11,5 @@ abbrev pub invariant-loop-word : goal.invariant-loop-word
 invariant-loop-word g l = record {
   named : g.S.ByteSource.IsKnown →
       l.below ≡ fold met l.fn.below (filter_map (table_named (words_of_dump (opened g.S.ByteSource.bytes l.dump))) (take l.word-index l.words));
-  held : AreHeld (holds g.S.ByteSource.size l.dump) l.fn.below → AreHeld (holds g.S.ByteSource.size l.dump) l.below;
+  held : HasAll (holds g.S.ByteSource.size l.dump) l.fn.below → HasAll (holds g.S.ByteSource.size l.dump) l.below;
 }

@@ -1,7 +1,7 @@
 use Rattle.std.proofs.Common.{arith}
 use Rattle.x86_64_dump.specs.Dump.{words_of_dump}
 use Rattle.x86_64_dump.specs.Opened.{holds, opened}
-use Rattle.x86_64_dump.specs.Tables.{tables_from, if_there}
+use Rattle.x86_64_dump.specs.Tables.{tables_of_levels, if_there}
 use Rattle.x86_64_dump.proofs.Held.{more_held, turned_held}
 use Rattle.x86_64_dump.proofs.Listing.{level_more, all_levels}
 use Rattle.x86_64_dump.proofs.tables.levels.read_levels.Goals as goal
@@ -11,7 +11,7 @@ loop-preserved g c =
     let W = words_of_dump (opened g.S.ByteSource.bytes c.args.dump.now) in
     record {
       read = c.in_ok-below.ensures.read;
-      frames = λ known. level_more W c.loop.frames.items c.push.new.self.items c.loop.level c.in_ok-below.below c.deref.result.now c.args.levels c.loop.counter (tables_from c.args.levels W (if_there W c.args.root))
+      frames = λ known. level_more W c.loop.frames.items c.push.new.self.items c.loop.level c.in_ok-below.below c.deref.result.now c.args.levels c.loop.counter (tables_of_levels c.args.levels W (if_there W c.args.root))
           c.loop-test.true c.in_ok-push.ensures.items (c.loop.invariant.frames known) c.deref.ensures.value (c.in_ok-below.ensures.frames known);
       level = c.in_ok-below.ensures.held;
       above = more_held (holds g.S.ByteSource.size c.args.dump.now) c.loop.frames.items c.push.new.self.items c.loop.level c.in_ok-push.ensures.items c.loop.invariant.above c.loop.invariant.level;

@@ -6,7 +6,7 @@ use Rattle.std.proofs.lemmas.List.Filters.{dedup_is, All-dedup}
 use Rattle.std.proofs.lemmas.List.Sorted.{All-permutation, list_any-IsPermutation}
 use Rattle.std.proofs.lemmas.Map.Keys.{IsStrictlyIncreasing-dedup}
 use Rattle.x86_64_dump.specs.Tables.{is_among}
-use Rattle.x86_64_dump.specs.private.FrameNumbers.{has_number, AreNumbers}
+use Rattle.x86_64_dump.specs.private.FrameNumbers.{has_number, AreFrameNumbers}
 use Rattle.x86_64_dump.proofs.Places.{all_numbers, list_any-dedup}
 use Rattle.x86_64_dump.proofs.tables.loading.numbers_of.Goals as goal
 use Rattle.x86_64_dump.proofs.tables.loading.numbers_of.Goals.{After-dedup}
@@ -25,7 +25,7 @@ returns-clause-numbers c f is =
 
 pub returns-clause-below : goal.returns-clause-below
 returns-clause-below c =
-    let P : List ℕ → Type 0 = AreNumbers in
+    let P : List ℕ → Type 0 = AreFrameNumbers in
     subst P (sym (kept (goal.at.returns-clause-below c).After-dedup))
     (All-dedup (λ a b. a == b) (λ n. n * 4096 < 2 ^ 52) c.sort_unstable.new.self.items
     (All-permutation (λ n. n * 4096 < 2 ^ 52) c.loop-level.numbers.items c.sort_unstable.new.self.items c.sort_unstable.ensures.permutation c.loop-level.invariant.below))

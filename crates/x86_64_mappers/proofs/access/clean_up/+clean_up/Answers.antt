@@ -17,10 +17,10 @@ use Rattle.x86_64_mappers.proofs.CleanUp.NamedEntries.{not_before, unnamed_out, 
 use Rattle.x86_64_mappers.proofs.Memory.Words.{empty_words, words_empty}
 use Rattle.x86_64_mappers.proofs.CleanUp.Visited.{visited_reached, still_before}
 use Rattle.x86_64_mappers.specs.AccessLending.{table_in}
-use Rattle.x86_64_mappers.specs.private.CleaningUp.{span_end, IsPageRange, IsVisited, IsCleanedAt}
+use Rattle.x86_64_mappers.specs.private.CleaningUp.{last_position, IsPageRange, IsVisited, IsCleanedAt}
 use Rattle.x86_64_mappers.specs.Reached.{IsReached}
 use Rattle.x86_64_mappers.specs.private.Results.{walk_refusal}
-use Rattle.x86_64_mappers.specs.private.Stops.{names_table}
+use Rattle.x86_64_mappers.specs.private.Stops.{leads_to_table}
 use Rattle.x86_64_mappers.specs.private.Writes.{IsSet}
 use Rattle.x86_64_mappers.proofs.access.clean_up.+clean_up.Goals as goal
 
@@ -30,7 +30,7 @@ pub clean_up_entry-returns-then-is_recursive-clause-cleaned : goal.clean_up_entr
 clean_up_entry-returns-then-is_recursive-clause-cleaned g t c =
     let h = g.M.Tables.hierarchy c.args.mapper.now in
     let low = span_start h.layout.levels c.args.range.now.first.now in
-    let high = span_end h.layout.levels c.args.range.now.last.now in
+    let high = last_position h.layout.levels c.args.range.now.last.now in
     let q = c.args.path.now in
     let valid = c.requires.may.valid in
     record {
@@ -43,14 +43,14 @@ pub clean_up_entry-next_table-requires-clause-reached : goal.clean_up_entry-next
 clean_up_entry-next_table-requires-clause-reached g t c =
     let h = g.M.Tables.hierarchy c.args.mapper.now in
     let low = span_start h.layout.levels c.args.range.now.first.now in
-    let high = span_end h.layout.levels c.args.range.now.last.now in
+    let high = last_position h.layout.levels c.args.range.now.last.now in
     visited_reached h.layout h.memory low high c.args.path.now c.args.table c.requires.visited c.requires.may.valid
 
 pub clean_up_entry-returns-in_default-clause-cleaned : goal.clean_up_entry-returns-in_default-clause-cleaned
 clean_up_entry-returns-in_default-clause-cleaned g t c =
     let h = g.M.Tables.hierarchy c.args.mapper.now in
     let low = span_start h.layout.levels c.args.range.now.first.now in
-    let high = span_end h.layout.levels c.args.range.now.last.now in
+    let high = last_position h.layout.levels c.args.range.now.last.now in
     let q = c.args.path.now in
     let valid = c.requires.may.valid in
     record {
@@ -65,7 +65,7 @@ clean_up_entry-clean_up_table-requires g t c κs within =
     let h = g.M.Tables.hierarchy c.args.mapper.now in
     let first = c.args.range.now.first.now in
     let low = span_start h.layout.levels first in
-    let high = span_end h.layout.levels c.args.range.now.last.now in
+    let high = last_position h.layout.levels c.args.range.now.last.now in
     let q = c.args.path.now in
     let i = c.args.index in
     let below = c.in-Ok.below in
@@ -91,7 +91,7 @@ pub clean_up_entry-table-requires-clause-reached : goal.clean_up_entry-table-req
 clean_up_entry-table-requires-clause-reached g t c =
     let h = g.M.Tables.hierarchy c.args.mapper.now in
     let low = span_start h.layout.levels c.args.range.now.first.now in
-    let high = span_end h.layout.levels c.args.range.now.last.now in
+    let high = last_position h.layout.levels c.args.range.now.last.now in
     let q = c.args.path.now in
     let i = c.args.index in
     let f = c.args.table in
@@ -110,7 +110,7 @@ pub clean_up_entry-entry_mut-requires-clause-reached : goal.clean_up_entry-entry
 clean_up_entry-entry_mut-requires-clause-reached g t c =
     let h = g.M.Tables.hierarchy c.args.mapper.now in
     let low = span_start h.layout.levels c.args.range.now.first.now in
-    let high = span_end h.layout.levels c.args.range.now.last.now in
+    let high = last_position h.layout.levels c.args.range.now.last.now in
     let q = c.args.path.now in
     let i = c.args.index in
     let f = c.args.table in
@@ -129,7 +129,7 @@ pub clean_up_entry-deallocate_frame-requires-clause-served : goal.clean_up_entry
 clean_up_entry-deallocate_frame-requires-clause-served g t c =
     let h = g.M.Tables.hierarchy c.args.mapper.now in
     let low = span_start h.layout.levels c.args.range.now.first.now in
-    let high = span_end h.layout.levels c.args.range.now.last.now in
+    let high = last_position h.layout.levels c.args.range.now.last.now in
     let q = c.args.path.now in
     let i = c.args.index in
     let f = c.args.table in
@@ -150,7 +150,7 @@ pub clean_up_entry-deallocate_frame-requires-clause-not_held : goal.clean_up_ent
 clean_up_entry-deallocate_frame-requires-clause-not_held g t c =
     let h = g.M.Tables.hierarchy c.args.mapper.now in
     let low = span_start h.layout.levels c.args.range.now.first.now in
-    let high = span_end h.layout.levels c.args.range.now.last.now in
+    let high = last_position h.layout.levels c.args.range.now.last.now in
     let q = c.args.path.now in
     let i = c.args.index in
     let f = c.args.table in
@@ -171,7 +171,7 @@ pub clean_up_entry-returns-then-is_empty-clause-cleaned : goal.clean_up_entry-re
 clean_up_entry-returns-then-is_empty-clause-cleaned g t c =
     let h = g.M.Tables.hierarchy c.args.mapper.now in
     let low = span_start h.layout.levels c.args.range.now.first.now in
-    let high = span_end h.layout.levels c.args.range.now.last.now in
+    let high = last_position h.layout.levels c.args.range.now.last.now in
     let q = c.args.path.now in
     let i = c.args.index in
     let f = c.args.table in
@@ -199,7 +199,7 @@ pub clean_up_entry-returns-else-is_empty-clause-cleaned : goal.clean_up_entry-re
 clean_up_entry-returns-else-is_empty-clause-cleaned g t c =
     let h = g.M.Tables.hierarchy c.args.mapper.now in
     let low = span_start h.layout.levels c.args.range.now.first.now in
-    let high = span_end h.layout.levels c.args.range.now.last.now in
+    let high = last_position h.layout.levels c.args.range.now.last.now in
     let q = c.args.path.now in
     let i = c.args.index in
     let f = c.args.table in
@@ -225,14 +225,14 @@ pub clean_up_table-next_named-next-requires-clause-reached : goal.clean_up_table
 clean_up_table-next_named-next-requires-clause-reached g t c =
     let h = g.M.Tables.hierarchy c.args.mapper.now in
     let low = span_start h.layout.levels c.args.range.now.first.now in
-    let high = span_end h.layout.levels c.args.range.now.last.now in
+    let high = last_position h.layout.levels c.args.range.now.last.now in
     visited_reached h.layout h.memory low high c.args.path.now c.args.table c.requires.visited c.requires.may.valid
 
 pub clean_up_table-loop-next-init : goal.clean_up_table-loop-next-init
 clean_up_table-loop-next-init g t c =
     let h = g.M.Tables.hierarchy c.args.mapper.now in
     let low = span_start h.layout.levels c.args.range.now.first.now in
-    let high = span_end h.layout.levels c.args.range.now.last.now in
+    let high = last_position h.layout.levels c.args.range.now.last.now in
     let q = c.args.path.now in
     let v = c.requires.visited in
     let valid = c.requires.may.valid in
@@ -259,7 +259,7 @@ clean_up_table-clean_up_entry-requires g t c κs within =
     let first = c.args.range.now.first.now in
     let last = c.args.range.now.last.now in
     let low = span_start h.layout.levels first in
-    let high = span_end h.layout.levels last in
+    let high = last_position h.layout.levels last in
     let q = c.args.path.now in
     let i = c.loop-next.next in
     let f = c.args.table in
@@ -284,8 +284,8 @@ clean_up_table-clean_up_entry-requires g t c κs within =
               (
                 subst (λ (l : Layout). IsPageRange l.levels first last) (sym inv.layout) c.requires.range,
                 (
-                  subst (λ l. IsVisited l now.memory (span_start l.levels first) (span_end l.levels last) q f) (sym inv.layout) (still_before h.layout h.memory low high q f v i now.memory inv.cleaned.meant),
-                  subst₂ (λ (l : Layout) j. meets l.levels (span_start l.levels first) (span_end l.levels last) (q ++ j ∷ []) ≡ true) (sym inv.layout) (sym c.new-index.ensures) met,
+                  subst (λ l. IsVisited l now.memory (span_start l.levels first) (last_position l.levels last) q f) (sym inv.layout) (still_before h.layout h.memory low high q f v i now.memory inv.cleaned.meant),
+                  subst₂ (λ (l : Layout) j. meets l.levels (span_start l.levels first) (last_position l.levels last) (q ++ j ∷ []) ≡ true) (sym inv.layout) (sym c.new-index.ensures) met,
                 ),
               ),
             ),
@@ -301,7 +301,7 @@ clean_up_table-next_named-next-requires-in-loop-next-clause-reached g t c =
     let first = c.args.range.now.first.now in
     let last = c.args.range.now.last.now in
     let low = span_start h.layout.levels first in
-    let high = span_end h.layout.levels last in
+    let high = last_position h.layout.levels last in
     let q = c.args.path.now in
     let i = c.loop-next.next in
     let held = g.D.FrameDeallocator.held c.args.frame_deallocator.now in
@@ -313,7 +313,7 @@ clean_up_table-next_named-next-requires-in-loop-next-clause-reached g t c =
     let inv = c.loop-next.invariant in
     let v = c.requires.visited in
     let apart = (g.met.M.Tables.is_mapping mapper).distinct in
-    let at = subst₂ (λ (l : Layout) j. IsCleanedAt l g.D.FrameDeallocator.take_back n rest (span_start l.levels first) (span_end l.levels last) (q ++ j ∷ []) o left) inv.layout c.new-index.ensures done.ensures.cleaned.cleaned in
+    let at = subst₂ (λ (l : Layout) j. IsCleanedAt l g.D.FrameDeallocator.take_back n rest (span_start l.levels first) (last_position l.levels last) (q ++ j ∷ []) o left) inv.layout c.new-index.ensures done.ensures.cleaned.cleaned in
     let here = before_next h.layout g.D.FrameDeallocator.take_back h.memory c.requires.may.valid held low high q v.visits i apart n rest inv.cleaned o left at in
     subst (λ l. IsReached l o q c.args.table) (sym (done.ensures.layout ∙ inv.layout))
     (visited_reached h.layout o low high q c.args.table (still_before h.layout h.memory low high q c.args.table v (i + 1) o here.meant) here.valid)
@@ -325,7 +325,7 @@ clean_up_table-loop-next-preserved g t c =
     let first = c.args.range.now.first.now in
     let last = c.args.range.now.last.now in
     let low = span_start h.layout.levels first in
-    let high = span_end h.layout.levels last in
+    let high = last_position h.layout.levels last in
     let q = c.args.path.now in
     let i = c.loop-next.next in
     let held = g.D.FrameDeallocator.held c.args.frame_deallocator.now in
@@ -337,7 +337,7 @@ clean_up_table-loop-next-preserved g t c =
     let inv = c.loop-next.invariant in
     let v = c.requires.visited in
     let apart = (g.met.M.Tables.is_mapping mapper).distinct in
-    let at = subst₂ (λ (l : Layout) j. IsCleanedAt l g.D.FrameDeallocator.take_back n rest (span_start l.levels first) (span_end l.levels last) (q ++ j ∷ []) o left) inv.layout c.new-index.ensures done.ensures.cleaned.cleaned in
+    let at = subst₂ (λ (l : Layout) j. IsCleanedAt l g.D.FrameDeallocator.take_back n rest (span_start l.levels first) (last_position l.levels last) (q ++ j ∷ []) o left) inv.layout c.new-index.ensures done.ensures.cleaned.cleaned in
     let here = before_next h.layout g.D.FrameDeallocator.take_back h.memory c.requires.may.valid held low high q v.visits i apart n rest inv.cleaned o left at in
     let next = c.next_named-next-in-loop-next in
     let on = not_before (i + 1) c.index_in_table-last.result next.result next.ensures.from (omega (arith, c.loop-next-test.true)) in
@@ -345,7 +345,7 @@ clean_up_table-loop-next-preserved g t c =
     let layout = done.ensures.layout ∙ inv.layout in
     record {
       cleaned = passed_to h.layout g.D.FrameDeallocator.take_back h.memory c.requires.may.valid held low high q c.args.table v apart o left (i + 1) next.result on most
-          (subst (λ l. (k : ℕ) → i + 1 ≤ k → k < next.result → names_table (word (words (l laid_in o)) c.args.table k) ≡ false) layout next.ensures.passed) here;
+          (subst (λ l. (k : ℕ) → i + 1 ≤ k → k < next.result → leads_to_table (word (words (l laid_in o)) c.args.table k) ≡ false) layout next.ensures.passed) here;
       from = let was = inv.from c.loop-next-test.true in λ below. omega (arith, was, on);
       in_table = most;
       layout = layout;
@@ -364,7 +364,7 @@ pub clean_up_table-returns-after-loop-next-clause-cleaned : goal.clean_up_table-
 clean_up_table-returns-after-loop-next-clause-cleaned g t c =
     let h = g.M.Tables.hierarchy c.args.mapper.now in
     let low = span_start h.layout.levels c.args.range.now.first.now in
-    let high = span_end h.layout.levels c.args.range.now.last.now in
+    let high = last_position h.layout.levels c.args.range.now.last.now in
     let q = c.args.path.now in
     let i = c.loop-next.next in
     let v = c.requires.visited in
@@ -379,7 +379,7 @@ pub clean_up_table-returns-else-path-range-clause-cleaned : goal.clean_up_table-
 clean_up_table-returns-else-path-range-clause-cleaned g t c =
     let h = g.M.Tables.hierarchy c.args.mapper.now in
     let low = span_start h.layout.levels c.args.range.now.first.now in
-    let high = span_end h.layout.levels c.args.range.now.last.now in
+    let high = last_position h.layout.levels c.args.range.now.last.now in
     let q = c.args.path.now in
     record {
       below = level_one h.layout g.D.FrameDeallocator.take_back h.memory c.requires.may.valid (g.D.FrameDeallocator.held c.args.frame_deallocator.now) low high q

@@ -2,7 +2,7 @@ use Rattle.std.proofs.Common.{◌≡◌, ◌≤◌, ◌+◌, ◌-◌, ◌*◌, l
 use Rattle.x86_64_model.proofs.Lemmas.CleanUps.Below.{cleaned_before, back_before}
 use Rattle.x86_64_model.specs.Mapper.{paths}
 use Rattle.x86_64_model.specs.Path.{span_start}
-use Rattle.x86_64_mappers.specs.private.CleaningUp.{span_end, IsCleaned}
+use Rattle.x86_64_mappers.specs.private.CleaningUp.{last_position, IsCleaned}
 use Rattle.x86_64_mappers.proofs.access.clean_up.+clean_up.Given as goal
 
 -- each call of one by the other is at an entry, or at the table below it
@@ -19,7 +19,7 @@ invariant-clean_up_table-loop-next g l =
     let after = g.M.Tables.hierarchy l.mapper in
     let levels = before.layout.levels in
     let low = span_start levels l.range.first.now in
-    let high = span_end levels l.range.last.now in
+    let high = last_position levels l.range.last.now in
     record {
       cleaned : IsCleaned before.layout g.D.FrameDeallocator.take_back before.memory (g.D.FrameDeallocator.held l.fn.frame_deallocator) (cleaned_before levels (paths before) low high l.path l.next)
           (back_before levels (paths before) low high l.path l.next) after.memory (g.D.FrameDeallocator.held l.frame_deallocator);

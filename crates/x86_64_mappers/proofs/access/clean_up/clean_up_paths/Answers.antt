@@ -3,7 +3,7 @@ use Rattle.x86_64_model.specs.Mapper.{CleansUp}
 use Rattle.x86_64_model.specs.Path.{span_start}
 use Rattle.x86_64_mappers.proofs.CleanUp.CleanUpEnds.{ends_whole, ends_empty}
 use Rattle.x86_64_mappers.proofs.Entry.EntryEnds.{with_memory}
-use Rattle.x86_64_mappers.specs.private.CleaningUp.{span_end}
+use Rattle.x86_64_mappers.specs.private.CleaningUp.{last_position}
 use Rattle.x86_64_mappers.proofs.access.clean_up.clean_up_paths.Goals as goal
 
 pub returns-then-page_number : goal.returns-then-page_number
@@ -16,7 +16,7 @@ returns-then-page_number g c =
     let before : c.page_number.result < c.page_number-2.result = c.if-page_number.true in
     record {
       cleans = ends_empty h (g.M.Tables.added_flags mapper).adds c.requires.may.valid g.D.FrameDeallocator.take_back (g.D.FrameDeallocator.held c.args.frame_deallocator.now)
-          (span_start L c.args.first.now) (span_end L c.args.last.now) (omega (arith, first, last, before));
+          (span_start L c.args.first.now) (last_position L c.args.last.now) (omega (arith, first, last, before));
       serves = refl;
     }
 
@@ -25,7 +25,7 @@ returns g c =
     let mapper = c.args.mapper.now in
     let h = g.M.Tables.hierarchy mapper in
     let low = span_start h.layout.levels c.args.first.now in
-    let high = span_end h.layout.levels c.args.last.now in
+    let high = last_position h.layout.levels c.args.last.now in
     let held = g.D.FrameDeallocator.held c.args.frame_deallocator.now in
     let done = c.clean_up_table in
     let after = g.M.Tables.hierarchy done.new.mapper in

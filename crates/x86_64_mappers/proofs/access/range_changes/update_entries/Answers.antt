@@ -6,7 +6,7 @@ use Rattle.x86_64_tables.specs.PageTableFlags.{bits_of}
 use Rattle.x86_64_mappers.specs.RangeChanges.{frames_done}
 use Rattle.x86_64_mappers.specs.private.EntryCalls.{answer_said, word_said}
 use Rattle.x86_64_mappers.specs.private.PageCalls.{update_says}
-use Rattle.x86_64_mappers.specs.private.RangeChangeSteps.{count_unless, replies_said, with_words}
+use Rattle.x86_64_mappers.specs.private.RangeChangeSteps.{count_unless, replies_said, with_results}
 use Rattle.x86_64_mappers.proofs.Range.ChangedWords.{frames_append, length_words, replies_more, words_past}
 use Rattle.x86_64_mappers.proofs.access.range_changes.update_entries.Goals as goal
 
@@ -40,7 +40,7 @@ loop-k-preserved g c =
     let one = at_most_one (answer_said (says e)) in
     let counts : c.count_of-changed.result ≡ count_unless (refusal_of (answer_said (says e))) = c.count_of-changed.ensures ∙ ap count_unless (c.update_entry-updated.ensures.refusal ∙ ap (λ e. refusal_of (answer_said (says e))) at) in
     let told = Answered (answer_said (says e)) ∷ [] in record {
-      words = ap₂ (λ t w. set t (i + k) w) inv.words word ∙ sym (ap (with_words says i t) (add-one k));
+      words = ap₂ (λ t w. set t (i + k) w) inv.words word ∙ sym (ap (with_results says i t) (add-one k));
       changed = ap₂ (λ a b. a + b) inv.changed (counts ∙ counted (answer_said (says e)))
           ∙ sym (length-append (frames_done (replies_said says i t k)) (frames_done told))
           ∙ ap length (sym (frames_append (replies_said says i t k) told) ∙ ap frames_done (sym (replies_more says i t k)));

@@ -12,9 +12,9 @@ use Rattle.x86_64_model.proofs.Lemmas.Machines.Effects.{map_may}
 use Rattle.x86_64_model.proofs.Lemmas.Paths.Pages.{length_taken}
 use Rattle.x86_64_tables.specs.MapperAnswers.{map_refusal}
 use Rattle.x86_64_tables.specs.FlushRecorder.{FlushRange}
-use Rattle.x86_64_mappers.specs.Ranges.{StopsAt, range_of, page_at, frame_at, accepted}
+use Rattle.x86_64_mappers.specs.Ranges.{StopsAt, range_of, range_page, range_frame, accepted_maps}
 use Rattle.x86_64_mappers.specs.private.OpenWay.{WillBePresent}
-use Rattle.x86_64_mappers.specs.private.RangeSteps.{IsRun, IsPart}
+use Rattle.x86_64_mappers.specs.private.RangeSteps.{IsRangeRun, IsPart}
 use Rattle.x86_64_mappers.specs.private.Results.{create_refusal}
 use Rattle.x86_64_mappers.proofs.Map.OpenWays.{will_be_present}
 use Rattle.x86_64_mappers.proofs.Range.Parts.{IsSetUp, pages_mapped, page_full, way_refused}
@@ -99,25 +99,25 @@ returns-then-mapped-part-clause-maps g c =
     let after = g.M.Tables.hierarchy c.map_part.new.mapper in
     let rest = g.A.FrameAllocator.supply c.map_part.new.frame_allocator in
     let q = c.indices-indices.result.now in
-    let is_path : q ≡ path_at l.levels level (page_at r done) =
+    let is_path : q ≡ path_at l.levels level (range_page r done) =
     c.indices-indices.ensures ∙ c.path_of_page-path.ensures.path ∙ ap₂ (λ (l : Layout) p. path_at l.levels level p) inv.layout (c.page_after.ensures ∙ ap (λ z. c.args.page + done * z) g.S.PageSize.size) in
     let a = c.add-from.result in
-    let is_frame : a ≡ frame_at r done = c.add-from.ensures ∙ ap (λ z. c.args.frame + done * z) g.S.PageSize.size in
+    let is_frame : a ≡ range_frame r done = c.add-from.ensures ∙ ap (λ z. c.args.frame + done * z) g.S.PageSize.size in
     let count = c.min-part.result in
-    let long : length q ≡ l.levels + 1 - level = ap length is_path ∙ length_taken (page_at r done) (l.levels + 1 - level) l.levels (omega (arith, low)) in
+    let long : length q ≡ l.levels + 1 - level = ap length is_path ∙ length_taken (range_page r done) (l.levels + 1 - level) l.levels (omega (arith, low)) in
     let fits = part_fits q l.levels level c.index-indices-indices.result c.from-room.result (total - done) count long high levels c.index-indices-indices.is c.from-room.ensures.0 c.min-part.ensures c.from-room.ensures.1 in
     let inside = part_inside done total (512 - c.from-room.result) count c.parts-test.true c.min-part.ensures in
     let some = part_some done total c.from-room.result count c.parts-test.true c.from-room.ensures.1 c.min-part.ensures in
     let n = c.in-Ok.mapped in
     let part : IsPart l now left r.parent_flags (take (length q - 1) q) level (get_or q (length q - 1) 0) a r.flags count (Ok n) after.memory rest =
     subst (λ (l : Layout). IsPart l now left r.parent_flags (take (length q - 1) q) level (get_or q (length q - 1) 0) a r.flags count (Ok n) after.memory rest) inv.layout c.in-Ok.ensures.maps.part in
-    let frame : c.add.result ≡ frame_at r (done + n) = c.add.ensures ∙ ap (λ z. c.args.frame + (done + n) * z) g.S.PageSize.size in
+    let frame : c.add.result ≡ range_frame r (done + n) = c.add.ensures ∙ ap (λ z. c.args.frame + (done + n) * z) g.S.PageSize.size in
     let counted : c.new-mapped.result.count ≡ done + n = ap (λ (range : FlushRange). range.count) c.new-mapped.ensures in
     record {
       maps = subst (λ k. StopsAt h supply r total k (PageAlreadyMapped c.add.result) after rest) (sym counted) (
         few_left done n total (512 - c.from-room.result) count c.parts-test.true c.min-part.ensures c.if-mapped-part.true,
-        ends_run h supply r (done + n + 1) (accepted r (done + n) ++ Answered (Refused (PageAlreadyMapped c.add.result)) ∷ []) after rest (c.map_part.ensures.layout ∙ inv.layout) (c.map_part.ensures.lent ∙ inv.lent)
-            (subst (λ f. IsRun l m supply r (done + n + 1) (accepted r (done + n) ++ Answered (Refused (PageAlreadyMapped f)) ∷ []) after.memory rest) (sym frame)
+        ends_run h supply r (done + n + 1) (accepted_maps r (done + n) ++ Answered (Refused (PageAlreadyMapped c.add.result)) ∷ []) after rest (c.map_part.ensures.layout ∙ inv.layout) (c.map_part.ensures.lent ∙ inv.lent)
+            (subst (λ f. IsRangeRun l m supply r (done + n + 1) (accepted_maps r (done + n) ++ Answered (Refused (PageAlreadyMapped f)) ∷ []) after.memory rest) (sym frame)
             (page_full l m supply r total given done now left inv.run q is_path a is_frame count fits inside after.memory rest n c.if-mapped-part.true part)),
       );
       serves = c.map_part.ensures.maps.serves ∙ inv.serves;
@@ -146,12 +146,12 @@ parts-preserved g c =
     let after = g.M.Tables.hierarchy c.map_part.new.mapper in
     let rest = g.A.FrameAllocator.supply c.map_part.new.frame_allocator in
     let q = c.indices-indices.result.now in
-    let is_path : q ≡ path_at l.levels level (page_at r done) =
+    let is_path : q ≡ path_at l.levels level (range_page r done) =
     c.indices-indices.ensures ∙ c.path_of_page-path.ensures.path ∙ ap₂ (λ (l : Layout) p. path_at l.levels level p) inv.layout (c.page_after.ensures ∙ ap (λ z. c.args.page + done * z) g.S.PageSize.size) in
     let a = c.add-from.result in
-    let is_frame : a ≡ frame_at r done = c.add-from.ensures ∙ ap (λ z. c.args.frame + done * z) g.S.PageSize.size in
+    let is_frame : a ≡ range_frame r done = c.add-from.ensures ∙ ap (λ z. c.args.frame + done * z) g.S.PageSize.size in
     let count = c.min-part.result in
-    let long : length q ≡ l.levels + 1 - level = ap length is_path ∙ length_taken (page_at r done) (l.levels + 1 - level) l.levels (omega (arith, low)) in
+    let long : length q ≡ l.levels + 1 - level = ap length is_path ∙ length_taken (range_page r done) (l.levels + 1 - level) l.levels (omega (arith, low)) in
     let fits = part_fits q l.levels level c.index-indices-indices.result c.from-room.result (total - done) count long high levels c.index-indices-indices.is c.from-room.ensures.0 c.min-part.ensures c.from-room.ensures.1 in
     let inside = part_inside done total (512 - c.from-room.result) count c.parts-test.true c.min-part.ensures in
     let some = part_some done total c.from-room.result count c.parts-test.true c.from-room.ensures.1 c.min-part.ensures in
@@ -190,12 +190,12 @@ returns-in-Err-clause-maps g c =
     let after = g.M.Tables.hierarchy c.map_part.new.mapper in
     let rest = g.A.FrameAllocator.supply c.map_part.new.frame_allocator in
     let q = c.indices-indices.result.now in
-    let is_path : q ≡ path_at l.levels level (page_at r done) =
+    let is_path : q ≡ path_at l.levels level (range_page r done) =
     c.indices-indices.ensures ∙ c.path_of_page-path.ensures.path ∙ ap₂ (λ (l : Layout) p. path_at l.levels level p) inv.layout (c.page_after.ensures ∙ ap (λ z. c.args.page + done * z) g.S.PageSize.size) in
     let a = c.add-from.result in
-    let is_frame : a ≡ frame_at r done = c.add-from.ensures ∙ ap (λ z. c.args.frame + done * z) g.S.PageSize.size in
+    let is_frame : a ≡ range_frame r done = c.add-from.ensures ∙ ap (λ z. c.args.frame + done * z) g.S.PageSize.size in
     let count = c.min-part.result in
-    let long : length q ≡ l.levels + 1 - level = ap length is_path ∙ length_taken (page_at r done) (l.levels + 1 - level) l.levels (omega (arith, low)) in
+    let long : length q ≡ l.levels + 1 - level = ap length is_path ∙ length_taken (range_page r done) (l.levels + 1 - level) l.levels (omega (arith, low)) in
     let fits = part_fits q l.levels level c.index-indices-indices.result c.from-room.result (total - done) count long high levels c.index-indices-indices.is c.from-room.ensures.0 c.min-part.ensures c.from-room.ensures.1 in
     let inside = part_inside done total (512 - c.from-room.result) count c.parts-test.true c.min-part.ensures in
     let some = part_some done total c.from-room.result count c.parts-test.true c.from-room.ensures.1 c.min-part.ensures in
@@ -206,8 +206,8 @@ returns-in-Err-clause-maps g c =
     record {
       maps = subst (λ k. StopsAt h supply r total k (map_refusal c.into-why.result) after rest) (sym counted) (
         c.parts-test.true,
-        ends_run h supply r (done + 1) (accepted r done ++ Answered (Refused (map_refusal c.into-why.result)) ∷ []) after rest (c.map_part.ensures.layout ∙ inv.layout) (c.map_part.ensures.lent ∙ inv.lent)
-            (subst (λ w. IsRun l m supply r (done + 1) (accepted r done ++ Answered (Refused w) ∷ []) after.memory rest) (sym c.into-why.ensures)
+        ends_run h supply r (done + 1) (accepted_maps r done ++ Answered (Refused (map_refusal c.into-why.result)) ∷ []) after rest (c.map_part.ensures.layout ∙ inv.layout) (c.map_part.ensures.lent ∙ inv.lent)
+            (subst (λ w. IsRangeRun l m supply r (done + 1) (accepted_maps r done ++ Answered (Refused w) ∷ []) after.memory rest) (sym c.into-why.ensures)
             (way_refused l m supply r total given done now left inv.run q is_path a is_frame count fits inside after.memory rest why some part)),
       );
       serves = c.map_part.ensures.maps.serves ∙ inv.serves;
@@ -232,7 +232,7 @@ returns-clause-maps g c =
     let rest = g.A.FrameAllocator.supply c.parts.frame_allocator in
     let all : c.parts.done ≡ c.args.count = (let most = inv.within in let least = c.parts-test.false in omega (arith, most, least)) in
     record {
-      maps = ends_run h supply r c.args.count (accepted r c.args.count) after rest inv.layout inv.lent (subst (λ k. IsRun h.layout h.memory supply r k (accepted r k) after.memory rest) all inv.run);
+      maps = ends_run h supply r c.args.count (accepted_maps r c.args.count) after rest inv.layout inv.lent (subst (λ k. IsRangeRun h.layout h.memory supply r k (accepted_maps r k) after.memory rest) all inv.run);
       serves = inv.serves;
     }
 

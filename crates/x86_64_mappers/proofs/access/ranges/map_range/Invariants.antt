@@ -1,6 +1,6 @@
 use Rattle.std.proofs.Common.{◌≡◌, ◌≤◌, ◌-◌}
-use Rattle.x86_64_mappers.specs.Ranges.{range_of, accepted}
-use Rattle.x86_64_mappers.specs.private.RangeSteps.{IsRun}
+use Rattle.x86_64_mappers.specs.Ranges.{range_of, accepted_maps}
+use Rattle.x86_64_mappers.specs.private.RangeSteps.{IsRangeRun}
 use Rattle.x86_64_tables.specs.PageTableFlags.{bits_of}
 use Rattle.x86_64_mappers.proofs.access.ranges.map_range.Given as goal
 
@@ -11,7 +11,7 @@ invariant-parts g l =
     let now = g.M.Tables.hierarchy l.mapper in
     let run = range_of g.S.PageSize.LEVEL l.page l.frame (bits_of l.flags) (bits_of l.parent_flags) in
     record {
-      run : IsRun before.layout before.memory (g.A.FrameAllocator.supply l.fn.frame_allocator) run l.done (accepted run l.done) now.memory (g.A.FrameAllocator.supply l.frame_allocator);
+      run : IsRangeRun before.layout before.memory (g.A.FrameAllocator.supply l.fn.frame_allocator) run l.done (accepted_maps run l.done) now.memory (g.A.FrameAllocator.supply l.frame_allocator);
       within : l.done ≤ l.count;
       layout : now.layout ≡ before.layout;
       lent : now.lent ≡ before.lent;

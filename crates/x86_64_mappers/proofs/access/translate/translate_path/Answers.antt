@@ -7,11 +7,11 @@ use Rattle.x86_64_tables.specs.declared.mapper.TranslateError.{TranslateError}
 use Rattle.x86_64_mappers.specs.private.LeafFrames.{named_frame}
 use Rattle.x86_64_mappers.proofs.Entry.PageCallRules.{translate_stopped, translate_told}
 use Rattle.x86_64_mappers.proofs.Entry.PageCallRules.{answer_of}
-use Rattle.x86_64_mappers.specs.private.Results.{walk_refusal, translate_result}
+use Rattle.x86_64_mappers.specs.private.Results.{walk_refusal, translation_answer}
 use Rattle.x86_64_mappers.proofs.Way.Paths.{has_last_index, last_item, some_index_of, page_below_root}
 use Rattle.x86_64_mappers.proofs.access.translate.translate_path.Goals as goal
 
-same_answer : (r : Result ℕ TranslateError) → translate_answer r ≡ answer_of (translate_result r)
+same_answer : (r : Result ℕ TranslateError) → translate_answer r ≡ answer_of (translation_answer r)
 same_answer (Ok frame) = refl
 same_answer (Err why) = refl
 
@@ -35,4 +35,4 @@ returns g c =
     let table = c.in_ok-table.table in
     let read = c.entry.ensures.value ∙ ap (word (words (l laid_in m)) table) (last_item q c.index-path-last.result size c.index-path-last.is) in
     same_answer c.named_frame.result
-    ∙ sym (translate_told l m level q c.requires.levels (length q - 1) size table c.in_ok-table.ensures.found (translate_result c.named_frame.result) (c.named_frame.ensures ∙ ap (named_frame level) read))
+    ∙ sym (translate_told l m level q c.requires.levels (length q - 1) size table c.in_ok-table.ensures.found (translation_answer c.named_frame.result) (c.named_frame.ensures ∙ ap (named_frame level) read))

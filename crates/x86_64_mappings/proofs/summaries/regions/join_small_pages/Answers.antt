@@ -6,7 +6,7 @@ use Rattle.x86_64_model.specs.Entry.{present}
 use Rattle.x86_64_model.specs.Mappings.{granted}
 use Rattle.x86_64_model.specs.Position.{position_count}
 use Rattle.x86_64_mappings.specs.private.Joined.{Joins, region_between}
-use Rattle.x86_64_mappings.specs.private.Runs.{is_like}
+use Rattle.x86_64_mappings.specs.private.Runs.{has_page_bits}
 use Rattle.x86_64_mappings.specs.private.Targets.{asked_on}
 use Rattle.x86_64_mappings.proofs.Joined.{joins_none, joins_both, joins_region, joins_whole}
 use Rattle.x86_64_mappings.proofs.Runs.{AreAlike, run_some, run_within, run_alike, run_whole, run_nothing}
@@ -57,11 +57,11 @@ loop-index-preserved g c =
     let left : length rest ≡ length words - i = length-drop i words in
     let past = take_rest words i in
     let first : get_or rest 0 0 ≡ e = get_or-drop i words 0 0 ∙ ap (λ k. get_or words k 0) (let z : i + 0 ≡ i = omega arith in z) ∙ sym entry in
-    let found : n ≡ prefix_len (is_like (get_or rest 0 0)) rest = c.run_length-run.ensures ∙ ap (λ rest. prefix_len (is_like (get_or rest 0 0)) rest) past in
+    let found : n ≡ prefix_len (has_page_bits (get_or rest 0 0)) rest = c.run_length-run.ensures ∙ ap (λ rest. prefix_len (has_page_bits (get_or rest 0 0)) rest) past in
     let some = run_some rest (omega (arith, left, less)) in
     let within : i + n ≤ length words = run_within words i _ n less c.run_length-run.ensures in
     let many : length run ≡ n = length-take-le n rest (omega (arith, within, left)) in
-    let alike : AreAlike e run = subst (λ n. AreAlike e (take n rest)) (sym (found ∙ ap (λ e. prefix_len (is_like e) rest) first)) (run_alike e rest) in
+    let alike : AreAlike e run = subst (λ n. AreAlike e (take n rest)) (sym (found ∙ ap (λ e. prefix_len (has_page_bits e) rest) first)) (run_alike e rest) in
     let inside : i + n ≤ 512 = omega (arith, within, c.requires.size) in
     record {
       within = omega (arith, inside);

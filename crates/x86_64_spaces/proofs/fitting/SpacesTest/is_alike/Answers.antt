@@ -1,7 +1,7 @@
 use Rattle.std.proofs.Common.{◌≡◌, ◌-◌, suc, true, false, sym, ◌∙◌, subst, arith}
 use Rattle.x86_64_model.specs.Memory.{words_of}
 use Rattle.x86_64_model.specs.private.Tables.{NoneHuge}
-use Rattle.x86_64_spaces.specs.private.SpaceTables.{seen_by, grouped_at}
+use Rattle.x86_64_spaces.specs.private.SpaceTables.{words_without, grouped_at}
 use Rattle.x86_64_spaces.proofs.fitting.SpacesTest.is_alike.Goals as goal
 use Rattle.x86_64_spaces.proofs.fitting.SpacesTest.is_alike.Goals.{then-names_itself, else-names_itself}
 
@@ -16,7 +16,7 @@ returns-then-none_huge g c =
           let low = rw (c.test_at.ensures, c.space_at-root.ensures, w.levels_below.ensures) at w.none_huge.ensures.0 (sym w.value-is ∙ c.if-none_huge.true) in (
             λ same. record {
               self = (rw c.test_at.ensures at c.names_itself.ensures).0 w.if-names_itself.true;
-              none_huge = subst (λ n. NoneHuge n (seen_by words space) space.root) levels low;
+              none_huge = subst (λ n. NoneHuge n (words_without words space) space.root) levels low;
               alike = c.has_shared_words.ensures.0 same;
             },
             λ like. c.has_shared_words.ensures.1 like.alike,

@@ -1,7 +1,7 @@
 use Rattle.std.proofs.Common.{◌-◌, ◌+◌, Some, None, refl, sym, ap, ◌∙◌}
 use Rattle.x86_64_model.specs.Memory.{word, words_of}
 use Rattle.x86_64_model.specs.private.Marks.{mark_all}
-use Rattle.x86_64_spaces.specs.private.SpaceTables.{seen_by, grouped_at, owns}
+use Rattle.x86_64_spaces.specs.private.SpaceTables.{words_without, grouped_at, owns}
 use Rattle.x86_64_tables.specs.Views.{mark_slot}
 use Rattle.x86_64_tables.proofs.WordsSeen.{is_named, named_at, is_not_named}
 use Rattle.x86_64_spaces.proofs.Parts.{rest, rest_all, rest_named, rest_other, rest_passed, rest_done}
@@ -14,7 +14,7 @@ returns-then-not-mark_tables g c =
     let m = g.T.TableMemory.tables self.memory.now in let places = g.P.PageTableFrameMapping.places self.mapping.now in
     let slot = mark_slot m places s.space.root self.limit in
     let test = owns list s in
-    let words = seen_by (words_of m places) s.space in
+    let words = words_without (words_of m places) s.space in
     let w = word words s.space.root c.loop-index.index in
     let below = rw (c.test_at-test.ensures, c.space_at-root.ensures) at (sym c.in-Some.is ∙ c.table_below.ensures) in
     let marked = rw (c.test_at-test.ensures, c.levels_below-levels.ensures) at c.if-not-mark_tables.ensures in
@@ -29,7 +29,7 @@ loop-index-preserved g c =
     let m = g.T.TableMemory.tables self.memory.now in let places = g.P.PageTableFrameMapping.places self.mapping.now in
     let slot = mark_slot m places s.space.root self.limit in
     let test = owns list s in
-    let words = seen_by (words_of m places) s.space in
+    let words = words_without (words_of m places) s.space in
     let i = c.loop-index.index in
     let w = word words s.space.root i in
     c.loop-index.invariant ∙ elim c.if-owns.branch [
@@ -57,6 +57,6 @@ returns g c =
     let m = g.T.TableMemory.tables self.memory.now in let places = g.P.PageTableFrameMapping.places self.mapping.now in
     let slot = mark_slot m places s.space.root self.limit in
     let test = owns list s in
-    let words = seen_by (words_of m places) s.space in
+    let words = words_without (words_of m places) s.space in
     sym (ap (mark_all slot c.args.marks.now) (rest_all test ((g.L.LevelCount.LEVELS - 1) - 1) words s.space.root) ∙ c.loop-index.invariant
     ∙ rest_done test ((g.L.LevelCount.LEVELS - 1) - 1) words s.space.root slot c.loop-index.index c.loop-index.marks c.loop-index-test.false)

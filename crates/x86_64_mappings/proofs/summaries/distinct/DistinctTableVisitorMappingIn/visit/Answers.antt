@@ -1,6 +1,6 @@
 use Rattle.std.proofs.Common.{rules, arith, ◌≡◌, ◌∙◌, ◌∷◌, true, false, [], cond, refl, sym, ap, subst}
 use Rattle.std.specs.HashSet.{contains}
-use Rattle.x86_64_mappings.specs.private.Distinct.{kind_eq, kind_of, Takes}
+use Rattle.x86_64_mappings.specs.private.Distinct.{kind_eq, kind_of, TakesDistinct}
 use Rattle.x86_64_mappings.specs.declared.summaries.distinct.Kind.{Kind}
 use Rattle.x86_64_mappings.proofs.Distinct.{takes_one}
 use Rattle.x86_64_mappings.proofs.summaries.distinct.DistinctTableVisitorMappingIn.visit.Goals as goal
@@ -17,12 +17,12 @@ returns g c = λ visited.
     elim c.if-branch.branch [
       | then-branch+in_ok-visit w ↦
           let was : contains kind_eq old.memo.seen (kind_of m) ≡ false = search rules in
-          subst (λ v. Takes g.V.Visitor.Visits L visited old v (m ∷ [])) (sym w.self-is)
+          subst (λ v. TakesDistinct g.V.Visitor.Visits L visited old v (m ∷ [])) (sym w.self-is)
           (takes_one g.V.Visitor.Visits L visited old (record { visitor = record old.visitor { now = w.visit.new.self }; selection = old.selection; memo = record { seen = c.insert.new.self; known = old.memo.known } }) m refl refl refl seen
           (subst (λ b. g.V.Visitor.Visits old.visitor.now w.visit.new.self (cond b [] (m ∷ []))) (sym was) w.in_ok-visit.ensures))
       | else-branch w ↦
           let was : contains kind_eq old.memo.seen (kind_of m) ≡ true = search rules in
-          subst (λ v. Takes g.V.Visitor.Visits L visited old v (m ∷ [])) (sym w.self-is)
+          subst (λ v. TakesDistinct g.V.Visitor.Visits L visited old v (m ∷ [])) (sym w.self-is)
           (takes_one g.V.Visitor.Visits L visited old (record { visitor = old.visitor; selection = old.selection; memo = record { seen = c.insert.new.self; known = old.memo.known } }) m refl refl refl seen
           (subst (λ b. g.V.Visitor.Visits old.visitor.now old.visitor.now (cond b [] (m ∷ []))) (sym was) (g.met.V.Visitor.none old.visitor.now)))
     ]
