@@ -1,6 +1,6 @@
 //! The operations on one page of a workload, with a mapper of any number of levels.
 ghost use Rattle.std.specs.Prelude.{◌≡◌};
-ghost use Rattle.x86_64_model.specs.Mapper.{Valid, SupplyFits};
+ghost use Rattle.x86_64_model.specs.Hierarchy.{Valid, SupplyFits};
 
 use crate::workload::Workload;
 use bitflags::Flags;

@@ -1,6 +1,6 @@
 //! Maps, changes of flags and unmaps of contiguous pages, one page at a time and as a range.
 ghost use Rattle.std.specs.Prelude.{◌≡◌};
-ghost use Rattle.x86_64_model.specs.Mapper.{Valid, SupplyFits};
+ghost use Rattle.x86_64_model.specs.Hierarchy.{Valid, SupplyFits};
 ghost use Rattle.x86_64_bench.specs.Counting.{counted};
 
 use crate::page_calls::{flags, update_page};

@@ -3,7 +3,7 @@
 ghost use Rattle.std.specs.Prelude.{◌≡◌, ◌↔◌, IfOk, IsTrue};
 ghost use Rattle.x86_64_model.specs.Pool.{serves_below};
 ghost use Rattle.x86_64_model.specs.Memory.{identity_places};
-ghost use Rattle.x86_64_model.specs.Mapper.{◌laid_in◌, Valid, SupplyFits, MayCleanUp, PoolFits};
+ghost use Rattle.x86_64_model.specs.Hierarchy.{◌laid_in◌, Valid, SupplyFits, MayCleanUp, PoolFits};
 ghost use Rattle.x86_64_mappers.specs.Layouts.{direct_at};
 
 use crate::listing::list_all;

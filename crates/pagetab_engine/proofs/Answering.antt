@@ -2,7 +2,7 @@
 use Rattle.std.proofs.Common.{◌≡◌, ◌∙◌, ℕ, List, [], ◌∷◌, ◌++◌, Some, None, get_or, refl, sym, ap, subst, append-nil, arith}
 use Rattle.x86_64_model.specs.Layout.{Layout}
 use Rattle.x86_64_model.specs.Machine.{State}
-use Rattle.x86_64_model.specs.Mapper.{◌laid_in◌, Hierarchy}
+use Rattle.x86_64_model.specs.Hierarchy.{◌laid_in◌, Hierarchy}
 use Rattle.x86_64_model.specs.Memory.{Memory}
 use Rattle.x86_64_model.specs.Store.{Store, Keeps}
 use Rattle.x86_64.specs.Asked.{MapperCall, machine_call}

@@ -1,6 +1,6 @@
 -- The effect of a call of the mapper at an offset on the program's hierarchy.
 use Rattle.std.proofs.Common.{◌≡◌, ◌∙◌, ℕ, Some, refl, sym, ap, subst}
-use Rattle.x86_64_model.specs.Mapper.{◌laid_in◌, Hierarchy}
+use Rattle.x86_64_model.specs.Hierarchy.{◌laid_in◌, Hierarchy}
 use Rattle.x86_64_model.specs.Layout.{Layout}
 use Rattle.x86_64_model.specs.Machine.{Machine, State}
 use Rattle.x86_64_model.specs.Memory.{Memory}

@@ -3,8 +3,8 @@ use Rattle.std.proofs.Common.{◌≡◌, ℕ, List, [], ◌∷◌, get_or, false
 use Rattle.std.specs.Result.{IfOk, OnErr}
 use Rattle.x86_64_model.specs.Alike.{Alike}
 use Rattle.x86_64_model.specs.Layout.{Layout}
-use Rattle.x86_64_model.specs.Mapper as mapper
-use Rattle.x86_64_model.specs.Mapper.{◌laid_in◌, paths, PoolFits}
+use Rattle.x86_64_model.specs.Hierarchy as mapper
+use Rattle.x86_64_model.specs.Hierarchy.{◌laid_in◌, paths, PoolFits}
 use Rattle.x86_64_model.specs.Memory.{Memory, identity_places}
 use Rattle.x86_64_model.specs.Store.{Store, StoreFits, Keeps}
 use Rattle.x86_64_tables.specs.FramePool.{FreeFrames}

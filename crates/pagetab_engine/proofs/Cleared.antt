@@ -5,8 +5,8 @@ use Rattle.x86_64_model.proofs.Lemmas.Hierarchies.Held.{is_some-set}
 use Rattle.x86_64_model.proofs.Lemmas.Hierarchies.Memories.{words_of-insert, identity_distinct}
 use Rattle.x86_64_model.specs.Alike.{Alike}
 use Rattle.x86_64_model.specs.Entry.{address}
-use Rattle.x86_64_model.specs.Hierarchy.{IsValid, paths_of}
-use Rattle.x86_64_model.specs.Mapper.{◌laid_in◌, PoolFits, paths}
+use Rattle.x86_64_model.specs.Validity.{IsValid, paths_of}
+use Rattle.x86_64_model.specs.Hierarchy.{◌laid_in◌, PoolFits, paths}
 use Rattle.x86_64_model.specs.Memory.{Memory, Words, identity_places, words_of, set_word}
 use Rattle.x86_64_model.specs.PathMap.{PathMap, entry, table_at}
 use Rattle.x86_64_model.specs.Pool.{IsTable}

@@ -1,8 +1,8 @@
 -- What no command changes, and so no list of commands.
 use Rattle.std.proofs.Common.{◌≡◌, List, [], ℕ, refl, sym, ap, ◌∙◌, subst, subst₂}
 use Rattle.x86_64_model.specs.Layout.{Layout}
-use Rattle.x86_64_model.specs.Mapper as mapper
-use Rattle.x86_64_model.specs.Mapper.{◌laid_in◌, PoolFits}
+use Rattle.x86_64_model.specs.Hierarchy as mapper
+use Rattle.x86_64_model.specs.Hierarchy.{◌laid_in◌, PoolFits}
 use Rattle.x86_64_model.specs.Memory.{Memory, identity_places}
 use Rattle.x86_64_model.specs.Store.{Store, StoreFits, Keeps}
 use Rattle.x86_64.specs.Pairs.{pool_store}

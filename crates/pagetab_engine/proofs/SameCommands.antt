@@ -1,7 +1,7 @@
 -- A command has the same reply and effect on hierarchies that commands can't tell apart.
 use Rattle.std.proofs.Common.{◌≡◌, ◌*◌, ◌<◌, ◌%◌, ◌^◌, ℕ, cond, List, [], Option, Some, option_map, refl, sym, ap, ◌∙◌, subst, arith}
 use Rattle.x86_64_model.specs.Layout.{Layout}
-use Rattle.x86_64_model.specs.Mapper.{◌laid_in◌, paths}
+use Rattle.x86_64_model.specs.Hierarchy.{◌laid_in◌, paths}
 use Rattle.x86_64_model.specs.Machine.{State}
 use Rattle.x86_64_model.specs.Pool.{serves_below}
 use Rattle.x86_64_model.specs.Memory.{IsMapping, Memory, Places, Words, identity_places, words_of, word}

@@ -1,5 +1,5 @@
 -- What a call of a mapper does to a hierarchy and a store of frames.
-use Rattle.x86_64_model.specs.Mapper.{Hierarchy}
+use Rattle.x86_64_model.specs.Hierarchy.{Hierarchy}
 use Rattle.x86_64_model.specs.Store.{Store, Keeps}
 use Rattle.x86_64.specs.Asked.{MapperCall}
 use Rattle.x86_64.specs.Replies.{Reply}

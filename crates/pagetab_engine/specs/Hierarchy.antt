@@ -1,8 +1,8 @@
 -- The hierarchy that the program reads, or two with one image in a pair, as a machine.
 use Rattle.std.specs.Prelude.{◌≡◌, ℕ, ⊤, Bool, cond, false, List, [], Some}
 use Rattle.x86_64_model.specs.Layout.{Layout}
-use Rattle.x86_64_model.specs.Mapper as mapper
-use Rattle.x86_64_model.specs.Mapper.{◌laid_in◌}
+use Rattle.x86_64_model.specs.Hierarchy as mapper
+use Rattle.x86_64_model.specs.Hierarchy.{◌laid_in◌}
 use Rattle.x86_64_model.specs.Machine.{Machine, State}
 use Rattle.x86_64_model.specs.Memory.{Memory}
 use Rattle.x86_64_model.specs.Store.{StoreFits, Keeps}

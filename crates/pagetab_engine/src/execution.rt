@@ -1,6 +1,6 @@
 //! Execution of single calls by the mappers.
 ghost use Rattle.std.specs.Prelude.{◌≡◌, false, IfOk, OnErr};
-ghost use Rattle.x86_64_model.specs.Mapper.{◌laid_in◌};
+ghost use Rattle.x86_64_model.specs.Hierarchy.{◌laid_in◌};
 ghost use Rattle.x86_64_model.specs.Store.{StoreFits};
 ghost use Rattle.x86_64_mappers.specs.Offsets.{OffsetFits};
 ghost use Rattle.x86_64.specs.Calls.{to_call, names};

@@ -2,7 +2,7 @@
 //! place is the index of a table in memory).
 ghost use Rattle.std.specs.Prelude.{◌≡◌, ◌↔◌, [], ℕ, if◌then◌else◌, IsOk, IfOk, IfErr, OnOk, OnErr, IsTrue, Some, None, nat_lt, option_map};
 ghost use Rattle.std.specs.FinMap as map;
-ghost use Rattle.x86_64_model.specs.Mapper.{◌laid_in◌};
+ghost use Rattle.x86_64_model.specs.Hierarchy.{◌laid_in◌};
 ghost use Rattle.x86_64_model.specs.Memory.{words_of, identity_places};
 ghost use Rattle.x86_64_model.specs.PageWalk as model;
 ghost use Rattle.x86_64_model.specs.Store.{StoreFits};

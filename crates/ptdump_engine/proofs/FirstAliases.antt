@@ -16,8 +16,8 @@ use Rattle.x86_64_model.specs.Position.{position_count, raw}
 use Rattle.x86_64_model.specs.Regions.{same_rights}
 use Rattle.x86_64_model.proofs.Lemmas.Mappings.Regions.{same_rights_is}
 use Rattle.x86_64_tables.specs.Translations.{frame_size, frame_start}
-use Rattle.x86_64_tables.specs.declared.mapper.MappedFrame.{MappedFrame}
-use Rattle.x86_64_tables.specs.declared.mapper.MappedFrame.TheVariants.{Size4KiB, Size2MiB, Size1GiB}
+use Rattle.x86_64_tables.specs.declared.translation.MappedFrame.{MappedFrame}
+use Rattle.x86_64_tables.specs.declared.translation.MappedFrame.TheVariants.{Size4KiB, Size2MiB, Size1GiB}
 use Rattle.ptdump_engine.specs.Aliases.{alias_in, aliased, contains, is_alias, said_of_aliased, said_of_mapping}
 use Rattle.ptdump_engine.specs.declared.check.first_mappings.FirstMappings.{FirstMappings}
 use Rattle.ptdump_engine.specs.declared.check.first_mappings.Firsts.{Firsts}

@@ -7,7 +7,7 @@ use Rattle.x86_64_mappers.specs.Offsets.{OffsetFits, offset_places}
 use Rattle.x86_64_mappers.proofs.Memory.OffsetTables.{offset_fits}
 use Rattle.x86_64.proofs.Moved.{moved}
 use Rattle.x86_64.proofs.PlacesStay.{places_stay}
-use Rattle.x86_64_model.specs.Mapper.{◌laid_in◌, PoolFits}
+use Rattle.x86_64_model.specs.Hierarchy.{◌laid_in◌, PoolFits}
 use Rattle.x86_64_model.specs.Store.{KeepsPool}
 
 module _ (L root offset : ℕ) (serves : ℕ → Bool) (m : Memory) (free rest : List ℕ) (reached : OffsetFits L m offset) (fits : PoolFits (direct_at L identity_places root laid_in m) serves free)

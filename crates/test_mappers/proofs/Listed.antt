@@ -3,9 +3,9 @@ use Rattle.std.proofs.Common.{◌≡◌, inl, inr, ⊎_elim, ◌<◌, ◌+◌, �
 use Rattle.std.proofs.lemmas.Bool.{and_from, and_parts, and_right}
 use Rattle.std.specs.List.{All, cons_option, list_all, range_with_len}
 use Rattle.x86_64_model.specs.Entry.{has, present, no_execute, flags, address}
-use Rattle.x86_64_model.specs.Hierarchy.{paths_of}
+use Rattle.x86_64_model.specs.Validity.{paths_of}
 use Rattle.x86_64_model.specs.Laws.Mappings.{entries_along}
-use Rattle.x86_64_model.specs.Mapper.{◌laid_in◌, Valid}
+use Rattle.x86_64_model.specs.Hierarchy.{◌laid_in◌, Valid}
 use Rattle.x86_64_model.specs.Lists.{In}
 use Rattle.x86_64_model.specs.MapRule.{parent_part}
 use Rattle.x86_64_model.specs.Mappings.{Mapping, is_leaf, leaf_of, mapping_at, mapping_of, mappings_of}

@@ -6,7 +6,7 @@ ghost use Rattle.x86_64_model.specs.Memory.{identity_places, words_of};
 ghost use Rattle.x86_64_model.specs.PageWalk.{read};
 ghost use Rattle.x86_64_model.specs.Pool.{serves_below};
 ghost use Rattle.x86_64_tables.specs.LentMemory.{numbered};
-ghost use Rattle.x86_64_model.specs.Mapper.{◌laid_in◌, PoolFits};
+ghost use Rattle.x86_64_model.specs.Hierarchy.{◌laid_in◌, PoolFits};
 
 use crate::beside::empty_tables;
 use crate::prelude::*;

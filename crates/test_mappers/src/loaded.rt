@@ -4,7 +4,7 @@ ghost use Rattle.std.specs.List.{All};
 ghost use Rattle.x86_64_loader.specs.Segments.{IsAllowed, IsLoaded, Suffices, small_pages};
 ghost use Rattle.test_mappers.specs.Listed.{AreListed};
 ghost use Rattle.x86_64_mappers.specs.Layouts.{direct, owned};
-ghost use Rattle.x86_64_model.specs.Mapper.{◌laid_in◌, SupplyFits};
+ghost use Rattle.x86_64_model.specs.Hierarchy.{◌laid_in◌, SupplyFits};
 ghost use Rattle.x86_64_model.specs.Mappings.{mappings_of};
 ghost use Rattle.x86_64_model.specs.Memory.{identity_places, words_of};
 

@@ -2,7 +2,7 @@
 ghost use Rattle.std.specs.Prelude.{◌≤◌, ◌↔◌, length, IsTrue};
 ghost use Rattle.std.specs.List.{All, AllByRecursion};
 ghost use Rattle.x86_64_loader.specs.Segments.{Disjoint, IsAllowed, IsInside, IsLoaded, frames_for, small_pages};
-ghost use Rattle.x86_64_model.specs.Mapper.{SupplyFits, paths};
+ghost use Rattle.x86_64_model.specs.Hierarchy.{SupplyFits, paths};
 ghost use Rattle.x86_64_model.specs.PageMappings.{IsUnmapped, entry_path};
 
 use crate::prelude::*;

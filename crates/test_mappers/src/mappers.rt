@@ -2,7 +2,7 @@
 ghost use Rattle.std.specs.Prelude.{◌≡◌, ◌/◌};
 ghost use Rattle.std.specs.FinMap.{insert};
 ghost use Rattle.x86_64_tables.specs.PageTable.{zero_words};
-ghost use Rattle.x86_64_model.specs.Mapper.{◌laid_in◌, Valid};
+ghost use Rattle.x86_64_model.specs.Hierarchy.{◌laid_in◌, Valid};
 ghost use Rattle.x86_64_model.specs.Memory.{identity_places};
 ghost use Rattle.x86_64_mappers.specs.Layouts.{direct_at};
 ghost use Rattle.x86_64_mappers.specs.Recursive.{recursive_now_at};

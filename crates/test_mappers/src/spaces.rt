@@ -1,7 +1,7 @@
 //! Address spaces that share the upper half, with four and five levels of tables, and processes of a kernel.
 ghost use Rattle.std.specs.Prelude.{◌≡◌, true, None};
 ghost use Rattle.x86_64_mappers.specs.Layouts.{direct_at};
-ghost use Rattle.x86_64_model.specs.Mapper.{◌laid_in◌, PoolFits};
+ghost use Rattle.x86_64_model.specs.Hierarchy.{◌laid_in◌, PoolFits};
 ghost use Rattle.x86_64_model.specs.Memory.{identity_places};
 ghost use Rattle.x86_64_model.specs.Pool.{serves_below};
 

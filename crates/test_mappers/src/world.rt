@@ -1,7 +1,7 @@
 //! A memory with free frames, its words, and shorthands.
 ghost use Rattle.std.specs.Prelude.{◌↔◌, IfOk, IsTrue};
 ghost use Rattle.x86_64_mappers.specs.Layouts.{direct_at};
-ghost use Rattle.x86_64_model.specs.Mapper.{◌laid_in◌, PoolFits, SupplyFits, Valid};
+ghost use Rattle.x86_64_model.specs.Hierarchy.{◌laid_in◌, PoolFits, SupplyFits, Valid};
 ghost use Rattle.x86_64_model.specs.Memory.{identity_places};
 ghost use Rattle.x86_64_model.specs.Pool.{serves_below};
 

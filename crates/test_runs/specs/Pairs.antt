@@ -2,7 +2,7 @@
 -- index.
 use Rattle.std.specs.Prelude.{◌≡◌, ℕ}
 use Rattle.x86_64_model.specs.Alike.{Alike}
-use Rattle.x86_64_model.specs.Mapper.{◌laid_in◌, PoolFits, paths}
+use Rattle.x86_64_model.specs.Hierarchy.{◌laid_in◌, PoolFits, paths}
 use Rattle.x86_64_model.specs.Pool.{serves_below}
 use Rattle.x86_64_model.specs.Memory.{Memory, identity_places}
 use Rattle.x86_64_tables.specs.declared.frame_alloc.pool.FramePool.{FramePool}

@@ -5,7 +5,7 @@ ghost use Rattle.x86_64_model.specs.Memory.{identity_places};
 ghost use Rattle.x86_64_mappers.specs.Layouts.{direct, direct_at};
 ghost use Rattle.x86_64_mappers.specs.Offsets.{offset_places, OffsetFits};
 ghost use Rattle.x86_64_mappers.specs.Recursive.{recursive_now_at};
-ghost use Rattle.x86_64_model.specs.Mapper.{◌laid_in◌, PoolFits};
+ghost use Rattle.x86_64_model.specs.Hierarchy.{◌laid_in◌, PoolFits};
 
 use crate::prelude::*;
 

@@ -3,7 +3,7 @@
 ghost use Rattle.std.specs.Prelude.{◌≡◌, false, IsTrue};
 ghost use Rattle.std.specs.List.{AllByRecursion};
 ghost use Rattle.x86_64_model.specs.Alike.{Alike};
-ghost use Rattle.x86_64_model.specs.Mapper.{◌laid_in◌, paths};
+ghost use Rattle.x86_64_model.specs.Hierarchy.{◌laid_in◌, paths};
 ghost use Rattle.x86_64_model.specs.Memory.{identity_places};
 ghost use Rattle.x86_64_mappers.specs.Layouts.{direct_at};
 ghost use Rattle.x86_64_mappers.specs.Recursive.{recursive_now_at};

@@ -20,12 +20,13 @@ pub use x86_64_page::range::{Block, BlockRange, BlockRangeInclusive};
 pub use x86_64_tables::frame_alloc::{
     FrameAllocator, FrameDeallocator, FramePool, FrameStore, LentPool, OwnFrames, PoolRefusal,
 };
-pub use x86_64_tables::mapper::{FlushItem, FlushRecorder, MapperFlushIn, parent_flags};
 pub use x86_64_tables::page_table::{FrameError, PageTable, PageTableEntry, PageTableFlags};
+pub use x86_64_tables::page_tables::parent_flags;
 pub use x86_64_tables::phys_memory::{
     Active, ActiveMemory, FramePlace, IdentityMapping, LentMemory, PageTableFrameMapping,
     PhysMemory, PlacesRefusal, ShiftMapping, TableMemory,
 };
+pub use x86_64_tables::tokens::{FlushItem, FlushRecorder, MapperFlushIn};
 
 /// What tests need of the runtime: it aborts, and allocates memory.
 pub trait Test: Abort + AllocGlobal + Copy {}

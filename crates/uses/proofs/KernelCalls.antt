@@ -11,7 +11,7 @@ use Rattle.x86_64_model.specs.Laws.SwitchedSpaces.{space_for, started_in, MaySwi
 use Rattle.x86_64_model.specs.Layout.{Layout}
 use Rattle.x86_64_model.specs.Lists.{In}
 use Rattle.x86_64_model.specs.Machine.{State, step}
-use Rattle.x86_64_model.specs.Mapper.{◌laid_in◌, machine_of, state_in, paths}
+use Rattle.x86_64_model.specs.Hierarchy.{◌laid_in◌, machine_of, state_in, paths}
 use Rattle.x86_64_model.specs.Mappings.{maps_page}
 use Rattle.x86_64_model.specs.Memory.{Memory, identity_places, words_of}
 use Rattle.x86_64_model.specs.Path.{is_below, is_small, level_of, path_at}

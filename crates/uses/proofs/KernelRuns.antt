@@ -7,7 +7,7 @@ use Rattle.x86_64_model.specs.Laws.SwitchedSpaces.{between, space_for}
 use Rattle.x86_64_model.specs.Laws.Switches.{due_here}
 use Rattle.x86_64_model.specs.Layout.{Layout}
 use Rattle.x86_64_model.specs.Lists.{In}
-use Rattle.x86_64_model.specs.Mapper.{◌laid_in◌, paths}
+use Rattle.x86_64_model.specs.Hierarchy.{◌laid_in◌, paths}
 use Rattle.x86_64_model.specs.MaySwitch.{MaySwitch}
 use Rattle.x86_64_model.specs.Memory.{Memory, Words, identity_places, words_of}
 use Rattle.x86_64_model.specs.Store.{Store}

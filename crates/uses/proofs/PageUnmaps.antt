@@ -7,7 +7,7 @@ use Rattle.x86_64_model.specs.Call.{Answered, Call}
 use Rattle.x86_64_model.specs.Entry.{address, has, present}
 use Rattle.x86_64_model.specs.Lists.{In}
 use Rattle.x86_64_model.specs.Machine.{AfterCall, State, after_change, do_call, step}
-use Rattle.x86_64_model.specs.Mapper.{◌laid_in◌, machine_of, state_in, paths}
+use Rattle.x86_64_model.specs.Hierarchy.{◌laid_in◌, machine_of, state_in, paths}
 use Rattle.x86_64_model.specs.Memory.{Memory, identity_places}
 use Rattle.x86_64_model.specs.PageRules.{AfterChange, unmap, unmap_refusal}
 use Rattle.x86_64_model.specs.Path.{path_at}
@@ -25,7 +25,7 @@ use Rattle.x86_64.specs.Asked.{Of4KiB, Unmap}
 use Rattle.x86_64.specs.Replies.{Reply, reply_of, sized, unmap_error}
 use Rattle.x86_64.specs.declared.call_values.PageReply.TheVariants as page_reply
 use Rattle.x86_64.specs.declared.call_values.MapperReply.TheVariants as replies
-use Rattle.x86_64_tables.specs.declared.mapper.UnmapError.{UnmapError}
+use Rattle.x86_64_tables.specs.declared.errors.UnmapError.{UnmapError}
 use Rattle.x86_64.specs.Runs.{AfterStep, step_by}
 use Rattle.uses.specs.SpacesBeside.{OtherSpacesStay}
 use Rattle.uses.specs.SwitchingKernel.{MapsInto, IsMappedOnce, FrameIsUnmapped, LessIsMapped, space_of, process_spaces, unmapped_frame}

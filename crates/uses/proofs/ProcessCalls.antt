@@ -8,7 +8,7 @@ use Rattle.x86_64_model.specs.Laws.Spaces.{IsNewRoot, Led}
 use Rattle.x86_64_model.specs.Layout.{Layout}
 use Rattle.x86_64_model.specs.Lists.{In}
 use Rattle.x86_64_model.specs.Machine.{state_after}
-use Rattle.x86_64_model.specs.Mapper.{◌laid_in◌, machine_of, state_in, KeepsOutside, Owns, PoolFits, paths, words}
+use Rattle.x86_64_model.specs.Hierarchy.{◌laid_in◌, machine_of, state_in, KeepsOutside, Owns, PoolFits, paths, words}
 use Rattle.x86_64_model.specs.Memory.{Memory, words_of, identity_places}
 use Rattle.x86_64_model.specs.Path.{path_at, span_start, span_size}
 use Rattle.x86_64_model.specs.PathMap.{table_at}

@@ -6,7 +6,7 @@ use Rattle.x86_64_model.specs.Laws.Spaces.{KeepsBelow, Led, CallsKeepBelow, Call
 use Rattle.x86_64_model.specs.Laws.Steps.{AllCalls}
 use Rattle.x86_64_model.specs.Layout.{Layout}
 use Rattle.x86_64_model.specs.Lists.{In}
-use Rattle.x86_64_model.specs.Mapper.{◌laid_in◌, Hierarchy, PoolFits, paths}
+use Rattle.x86_64_model.specs.Hierarchy.{◌laid_in◌, Hierarchy, PoolFits, paths}
 use Rattle.x86_64_model.specs.Memory.{Memory, Places, IsMapping}
 use Rattle.x86_64_model.specs.PathMap.{entry}
 use Rattle.x86_64_model.specs.Pool.{TakesBack}

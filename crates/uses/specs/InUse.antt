@@ -1,7 +1,7 @@
 -- Hierarchies that a processor uses, which caches what it finds in them.
 use Rattle.std.specs.Prelude.{List, []}
 use Rattle.x86_64_model.specs.Caches.{Cached}
-use Rattle.x86_64_model.specs.Mapper.{Hierarchy, words}
+use Rattle.x86_64_model.specs.Hierarchy.{Hierarchy, words}
 use Rattle.x86_64_model.specs.Store.{Store, StoreFits}
 use Rattle.x86_64.specs.Processors.{IsReachable, AccessesGo, CachesOften}
 

@@ -2,7 +2,7 @@
 use Rattle.std.specs.Prelude.{◌≡◌, ◌++◌, ℕ, List, map, Some}
 use Rattle.x86_64_mappers.specs.Layouts.{owned, owned_at}
 use Rattle.x86_64_model.specs.Laws.Spaces.{Led}
-use Rattle.x86_64_model.specs.Mapper.{Hierarchy}
+use Rattle.x86_64_model.specs.Hierarchy.{Hierarchy}
 use Rattle.x86_64_model.specs.Memory.{Memory, Places, identity_places, set_word, words_of}
 use Rattle.x86_64_model.specs.Store.{Store}
 use Rattle.x86_64.specs.Asked.{MapperCall, calls_by}

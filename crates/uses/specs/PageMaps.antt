@@ -3,7 +3,7 @@ use Rattle.std.specs.Prelude.{◌≡◌, ℕ, Bool, true, List, ◌∷◌, [], R
 use Rattle.x86_64_mappers.specs.PageAnswers.{allows_call}
 use Rattle.x86_64_mappers.specs.Ranges.{MapRange, MayMapRange, range_of}
 use Rattle.x86_64_model.specs.Entry.{present}
-use Rattle.x86_64_model.specs.Mapper.{Hierarchy, ArrivesIn, Steps}
+use Rattle.x86_64_model.specs.Hierarchy.{Hierarchy, ArrivesIn, Steps}
 use Rattle.x86_64_model.specs.MapRule.{parent_part}
 use Rattle.x86_64_model.specs.PageCalls.{PageCall, MapTo, MapToWithTableFlags, Unmap, AnswersMap, asked}
 use Rattle.x86_64_model.specs.Refusal.{Answer, Done}

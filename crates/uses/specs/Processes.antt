@@ -4,7 +4,7 @@ use Rattle.x86_64_model.specs.Call.{Call, MapTo, Unmap, CleanUp}
 use Rattle.x86_64_model.specs.Laws.Spaces.{Led}
 use Rattle.x86_64_model.specs.Layout.{Layout}
 use Rattle.x86_64_model.specs.Lists.{In}
-use Rattle.x86_64_model.specs.Mapper.{◌laid_in◌, Hierarchy, Owns, paths}
+use Rattle.x86_64_model.specs.Hierarchy.{◌laid_in◌, Hierarchy, Owns, paths}
 use Rattle.x86_64_model.specs.Memory.{Memory}
 use Rattle.x86_64_model.specs.Path.{path_at}
 use Rattle.x86_64_model.specs.Position.{index}

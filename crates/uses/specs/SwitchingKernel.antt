@@ -9,7 +9,7 @@ use Rattle.x86_64_model.specs.Laws.Caches.{in_page}
 use Rattle.x86_64_model.specs.Laws.Globals.{GlobalsBelow, GlobalIsShared}
 use Rattle.x86_64_model.specs.Layout.{Layout}
 use Rattle.x86_64_model.specs.Lists.{In}
-use Rattle.x86_64_model.specs.Mapper.{◌laid_in◌, paths}
+use Rattle.x86_64_model.specs.Hierarchy.{◌laid_in◌, paths}
 use Rattle.x86_64_model.specs.Mappings.{maps_page}
 use Rattle.x86_64_model.specs.Entry.{present}
 use Rattle.x86_64_model.specs.Memory.{Memory, Words, identity_places, words_of}

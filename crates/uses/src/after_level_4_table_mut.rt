@@ -1,7 +1,7 @@
 //! Changes the root's table by hand.
 ghost use Rattle.std.specs.Prelude.{◌≡◌, None, IfOk};
 ghost use Rattle.uses.specs.Owned.{RootIsCleared, hierarchy};
-ghost use Rattle.x86_64_model.specs.Mapper.{Valid, translation};
+ghost use Rattle.x86_64_model.specs.Hierarchy.{Valid, translation};
 ghost use Rattle.x86_64_model.specs.Translation.{address_of};
 
 use std::alloc::{AllocError, Global};

@@ -2,7 +2,7 @@
 ghost use Rattle.std.specs.Prelude.{◌≡◌, false, IfOk};
 ghost use Rattle.uses.specs.PageMaps.{MappedArrives, MapsIfAllowed};
 ghost use Rattle.x86_64_mappers.specs.PageAnswers.{allows_call};
-ghost use Rattle.x86_64_model.specs.Mapper.{SupplyFits};
+ghost use Rattle.x86_64_model.specs.Hierarchy.{SupplyFits};
 ghost use Rattle.x86_64_model.specs.PageCalls.{MapTo};
 ghost use Rattle.x86_64_tables.specs.MapperAnswers.{map_answer};
 ghost use Rattle.x86_64_tables.specs.PageTableFlags.{bits_of};

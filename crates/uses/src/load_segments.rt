@@ -2,7 +2,7 @@
 ghost use Rattle.std.specs.Prelude.{◌≡◌, ◌↔◌, false, IfErr, IfOk, IsTrue};
 ghost use Rattle.std.specs.List.{All};
 ghost use Rattle.x86_64_loader.specs.Segments.{IsAllowed, IsLoaded, LoadIsRefused, small_pages};
-ghost use Rattle.x86_64_model.specs.Mapper.{SupplyFits};
+ghost use Rattle.x86_64_model.specs.Hierarchy.{SupplyFits};
 
 use x86_64::FramePool;
 use x86_64::structures::paging::mapper::MapperAllSizes;

@@ -2,7 +2,7 @@
 ghost use Rattle.std.specs.Prelude.{◌≡◌, ◌↔◌, false, IfErr, IfOk, IsTrue};
 ghost use Rattle.uses.specs.PageMaps.{MayMapBuffer, buffer_at};
 ghost use Rattle.x86_64_mappers.specs.Ranges.{MapsAll, StopsAt};
-ghost use Rattle.x86_64_model.specs.Mapper.{SupplyFits};
+ghost use Rattle.x86_64_model.specs.Hierarchy.{SupplyFits};
 ghost use Rattle.x86_64_tables.specs.MapperAnswers.{map_refusal};
 ghost use Rattle.x86_64_tables.specs.PageTableFlags.{bits_of};
 

@@ -3,7 +3,7 @@ ghost use Rattle.std.specs.Prelude.{◌≡◌, ◌≢◌, true, IfOk, Ok};
 ghost use Rattle.uses.specs.Owned.{hierarchy};
 ghost use Rattle.uses.specs.PageMaps.{MapsByFlags};
 ghost use Rattle.x86_64_mappers.specs.PageAnswers.{allows_call};
-ghost use Rattle.x86_64_model.specs.Mapper.{SupplyFits};
+ghost use Rattle.x86_64_model.specs.Hierarchy.{SupplyFits};
 ghost use Rattle.x86_64_model.specs.PageCalls.{MapTo};
 ghost use Rattle.x86_64_tables.specs.PageTableFlags.{bits_of};
 

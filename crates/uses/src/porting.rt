@@ -2,7 +2,7 @@
 ghost use Rattle.std.specs.Prelude.{◌≡◌, ◌↔◌, ◌<◌, ◌++◌, [], ◌∷◌, true, false, None, IfErr, IfOk, IfSome, IsSome, IsTrue};
 ghost use Rattle.uses.specs.PageMaps.{MapsIfAllowed};
 ghost use Rattle.x86_64_mappers.specs.PageAnswers.{allows_call};
-ghost use Rattle.x86_64_model.specs.Mapper.{CleansUp, MayCleanUp, SupplyFits, Valid, translation};
+ghost use Rattle.x86_64_model.specs.Hierarchy.{CleansUp, MayCleanUp, SupplyFits, Valid, translation};
 ghost use Rattle.x86_64_model.specs.PageCalls.{Answers, MapTo, Unmap};
 ghost use Rattle.x86_64_model.specs.Refusal.{Done, Refused};
 ghost use Rattle.x86_64_model.specs.Translation.{address_of};

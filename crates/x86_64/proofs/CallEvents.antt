@@ -3,7 +3,7 @@ use Rattle.std.proofs.Common.{◌≡◌, refl, sym, subst}
 use Rattle.x86_64_model.specs.Call.{Call, MapTo, MapToWithTableFlags, IdentityMap, Unmap, UpdateFlags, SetFlags, TranslatePage, Translate, TranslateAddress, CleanUp}
 use Rattle.x86_64_model.specs.Lists.{In}
 use Rattle.x86_64_model.specs.Machine.{Machine, State}
-use Rattle.x86_64_model.specs.Mapper.{◌laid_in◌, machine_of, state_in, words}
+use Rattle.x86_64_model.specs.Hierarchy.{◌laid_in◌, machine_of, state_in, words}
 use Rattle.x86_64_model.specs.Window.{IsValidFor}
 use Rattle.x86_64_model.specs.Laws.Caches.{freed_by}
 use Rattle.x86_64.specs.CallEvents.{RunCallsAreEvents}

@@ -6,7 +6,7 @@ use Rattle.x86_64_model.specs.Call as machine
 use Rattle.x86_64_model.specs.Flushing.{Due, PageDue, TablesDue, WindowDue, BelowDue, flush_after, if_accepted, if_allowed, if_window, below_due}
 use Rattle.x86_64_model.specs.Lists.{In}
 use Rattle.x86_64_model.specs.Machine.{step}
-use Rattle.x86_64_model.specs.Mapper.{machine_of, state_in}
+use Rattle.x86_64_model.specs.Hierarchy.{machine_of, state_in}
 use Rattle.x86_64_model.specs.Path.{begins, path_at, is_small}
 use Rattle.x86_64_model.specs.Position.{page_path}
 use Rattle.x86_64_model.specs.Refusal.{Done, Refused}

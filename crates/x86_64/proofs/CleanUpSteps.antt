@@ -4,7 +4,7 @@ use Rattle.x86_64_model.specs.Call as machine
 use Rattle.x86_64_model.specs.Entry.{IsParentFlags}
 use Rattle.x86_64_model.specs.Machine.{AfterCall, do_call, step}
 use Rattle.x86_64_model.specs.Memory.{IsMapping, word}
-use Rattle.x86_64_model.specs.Mapper.{◌laid_in◌, Hierarchy, PoolFits, MayCleanUp, CleansUp, freed_frames, SupplyFits, words}
+use Rattle.x86_64_model.specs.Hierarchy.{◌laid_in◌, Hierarchy, PoolFits, MayCleanUp, CleansUp, freed_frames, SupplyFits, words}
 use Rattle.x86_64_model.specs.Pool.{TakesBack, with_returned}
 use Rattle.x86_64_model.proofs.Lemmas.Machines.Fitting.{ready_of_fits, may_clean_up}
 use Rattle.x86_64_model.specs.Position.{position_count}

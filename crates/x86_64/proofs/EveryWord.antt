@@ -2,9 +2,9 @@
 use Rattle.std.proofs.Common.{◌≡◌, ⊎_elim, ℕ, ◌==◌, Bool, true, false, cond, List, [], ◌∷◌, ◌++◌, Option, Some, None, refl, sym, ap, ◌∙◌, subst, eqb-true}
 use Rattle.std.proofs.lemmas.Bool.{eqb-false}
 use Rattle.std.specs.FinMap.{get}
-use Rattle.x86_64_model.specs.Hierarchy.{entry_in}
+use Rattle.x86_64_model.specs.Validity.{entry_in}
 use Rattle.x86_64_model.specs.Layout.{Layout}
-use Rattle.x86_64_model.specs.Mapper.{◌laid_in◌, Owns, paths, words}
+use Rattle.x86_64_model.specs.Hierarchy.{◌laid_in◌, Owns, paths, words}
 use Rattle.x86_64_model.specs.Lists.{In}
 use Rattle.x86_64_model.specs.Memory.{Memory, Words, IsMapping, word, set_word}
 use Rattle.x86_64_model.specs.PathMap.{PathMap, entry, table_at}

@@ -5,7 +5,7 @@ use Rattle.x86_64_model.specs.Call as machine
 use Rattle.x86_64_model.specs.Entry.{IsParentFlags}
 use Rattle.x86_64_model.specs.Flush as flush
 use Rattle.x86_64_model.specs.Layout.{Layout}
-use Rattle.x86_64_model.specs.Mapper.{◌laid_in◌, PoolFits, words}
+use Rattle.x86_64_model.specs.Hierarchy.{◌laid_in◌, PoolFits, words}
 use Rattle.x86_64_model.specs.Machine.{Machine, State, step, state_after}
 use Rattle.x86_64_model.specs.Memory.{Memory}
 use Rattle.x86_64_model.specs.Path.{path_at}
@@ -16,11 +16,11 @@ use Rattle.x86_64_model.specs.Laws.Steps.{NoFlushItemCovers as NoItemCovers}
 use Rattle.x86_64_model.proofs.Lemmas.Machines.Flushes.{flushes_suffice}
 use Rattle.x86_64_addr.specs.Levels.{IsLevelCount}
 use Rattle.x86_64_tables.specs.FlushRecorder.{page_item}
-use Rattle.x86_64_tables.specs.declared.mapper.recorder.FlushItem.{FlushItem}
+use Rattle.x86_64_tables.specs.declared.tokens.recorder.FlushItem.{FlushItem}
 use Rattle.x86_64.specs.declared.call_values.PageReply.TheVariants as size_reply
 use Rattle.x86_64.specs.declared.call_values.MapperReply.TheVariants as reply
 use Rattle.x86_64.specs.Asked.{PageCall, MapTo, MapToWithTableFlags, IdentityMap, Unmap, UpdateFlags, SetFlags, TranslatePage, MapperCall, Of4KiB, Of2MiB, Of1GiB, Translate, TranslateAddr, CleanUp, CleanUpRange, page_call, machine_call, calls_by}
-use Rattle.x86_64_tables.specs.declared.mapper.TranslateResult.{TranslateResult}
+use Rattle.x86_64_tables.specs.declared.translation.TranslateResult.{TranslateResult}
 use Rattle.x86_64.specs.Flushes.{size_items, flush_items_of, items_told, level_of_size, item_of, NoFlushItemCovers, ItemsSuffice}
 use Rattle.x86_64.specs.private.Served.{items_where}
 use Rattle.x86_64.specs.Replies.{SizeReply, Reply, map_error, unmap_error, update_error, translate_error, sized, size_answer, translate_result, reply_of}

@@ -13,7 +13,7 @@ use Rattle.x86_64_model.specs.Window.{Window}
 use Rattle.x86_64_page.specs.declared.page.Size4KiB.{Size4KiB as Small}
 use Rattle.x86_64_page.specs.declared.page.Size2MiB.{Size2MiB as Large}
 use Rattle.x86_64_page.specs.declared.page.Size1GiB.{Size1GiB as Giant}
-use Rattle.x86_64_tables.specs.declared.mapper.TranslateResult.{TranslateResult}
+use Rattle.x86_64_tables.specs.declared.translation.TranslateResult.{TranslateResult}
 use Rattle.x86_64_mappers.proofs.Way.EntryPaths.{path_length}
 use Rattle.x86_64.specs.Asked.{PageCall, MapTo, MapToWithTableFlags, IdentityMap, Unmap, UpdateFlags, SetFlags, TranslatePage, MapperCall, Of4KiB, Of2MiB, Of1GiB, Translate, TranslateAddr, CleanUp, CleanUpRange, page_call, machine_call}
 use Rattle.x86_64.specs.FlushesDue.{told_of, rank, larger, flush_for, executed, settles_any, FlushesSettle, FlushesAreLeast}

@@ -6,7 +6,7 @@ use Rattle.x86_64_model.specs.Layout.{Layout}
 use Rattle.x86_64_model.specs.Pool.{TakesBack}
 use Rattle.x86_64_model.specs.Call.{Call, IsCall}
 use Rattle.x86_64_model.specs.Machine.{State, step}
-use Rattle.x86_64_model.specs.Mapper.{◌laid_in◌, Hierarchy, KeepsOthers, Owns, PoolFits, SupplyFits, paths, words}
+use Rattle.x86_64_model.specs.Hierarchy.{◌laid_in◌, Hierarchy, KeepsOthers, Owns, PoolFits, SupplyFits, paths, words}
 use Rattle.x86_64_model.specs.Store.{Store, StoreFits, Keeps, KeepsPool}
 use Rattle.x86_64_model.proofs.Lemmas.Maps.Frames.{Conserves}
 use Rattle.x86_64_model.proofs.Lemmas.Machines.States.{IsSound, step_sound, step_conserves}

@@ -1,8 +1,8 @@
 -- The result of a list of calls in a memory at an offset is the one with each frame at the place of its number.
 use Rattle.std.specs.Prelude.{◌≡◌, ◌↔◌, ℕ, Bool, List, None}
 use Rattle.std.proofs.Common.{sym, ap, ◌∙◌, subst}
-use Rattle.x86_64_model.specs.Hierarchy.{paths_of}
-use Rattle.x86_64_model.specs.Mapper.{◌laid_in◌, Owns, paths}
+use Rattle.x86_64_model.specs.Validity.{paths_of}
+use Rattle.x86_64_model.specs.Hierarchy.{◌laid_in◌, Owns, paths}
 use Rattle.x86_64_model.specs.Store.{KeepsPool}
 use Rattle.x86_64_model.specs.Memory.{Memory, Words, identity_places, word}
 use Rattle.x86_64_model.specs.PathMap.{PathMap}

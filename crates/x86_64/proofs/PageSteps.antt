@@ -14,17 +14,17 @@ use Rattle.x86_64_model.specs.Allowed.{allowed, refuses}
 use Rattle.x86_64_model.specs.Call as machine
 use Rattle.x86_64_model.specs.Call.{IsCall}
 use Rattle.x86_64_model.specs.Machine.{Machine, State, AfterCall, only_reply, do_call, step}
-use Rattle.x86_64_model.specs.Mapper.{◌laid_in◌, Hierarchy, Steps, Does, DoesMap, page_translation, KeepsOthers, Owns, PoolFits, SupplyFits, paths, words}
+use Rattle.x86_64_model.specs.Hierarchy.{◌laid_in◌, Hierarchy, Steps, Does, DoesMap, page_translation, KeepsOthers, Owns, PoolFits, SupplyFits, paths, words}
 use Rattle.x86_64_model.proofs.Lemmas.Machines.Effects.{page_at_level}
 use Rattle.x86_64_tables.specs.MapperAnswers.{map_answer, map_refusal, unmap_answer, refusal_of_unmap, flags_refusal, flags_answer, refusal_of_update, translate_answer, refusal_of_translate}
-use Rattle.x86_64_tables.specs.declared.mapper.MapToError.{MapToError}
-use Rattle.x86_64_tables.specs.declared.mapper.MapToError.TheVariants as map_to
-use Rattle.x86_64_tables.specs.declared.mapper.UnmapError.{UnmapError}
-use Rattle.x86_64_tables.specs.declared.mapper.UnmapError.TheVariants as unmap_to
-use Rattle.x86_64_tables.specs.declared.mapper.FlagUpdateError.{FlagUpdateError}
-use Rattle.x86_64_tables.specs.declared.mapper.FlagUpdateError.TheVariants as update_to
-use Rattle.x86_64_tables.specs.declared.mapper.TranslateError.{TranslateError}
-use Rattle.x86_64_tables.specs.declared.mapper.TranslateError.TheVariants as translate_to
+use Rattle.x86_64_tables.specs.declared.errors.MapToError.{MapToError}
+use Rattle.x86_64_tables.specs.declared.errors.MapToError.TheVariants as map_to
+use Rattle.x86_64_tables.specs.declared.errors.UnmapError.{UnmapError}
+use Rattle.x86_64_tables.specs.declared.errors.UnmapError.TheVariants as unmap_to
+use Rattle.x86_64_tables.specs.declared.errors.FlagUpdateError.{FlagUpdateError}
+use Rattle.x86_64_tables.specs.declared.errors.FlagUpdateError.TheVariants as update_to
+use Rattle.x86_64_tables.specs.declared.errors.TranslateError.{TranslateError}
+use Rattle.x86_64_tables.specs.declared.errors.TranslateError.TheVariants as translate_to
 use Rattle.x86_64.specs.Asked.{PageCall, MapTo, MapToWithTableFlags, IdentityMap, Unmap, UpdateFlags, SetFlags, TranslatePage, page_call}
 use Rattle.x86_64.specs.declared.call_values.PageReply.TheVariants as reply
 use Rattle.x86_64.specs.Replies.{SizeReply, map_error, unmap_error, update_error, translate_error, result_of, size_reply, size_answer, is_error, size_changes_nothing}

@@ -7,7 +7,7 @@ use Rattle.x86_64_model.specs.Laws.Pairs.{IsAdded, AlikeRuns, NoneNames as NoCal
 use Rattle.x86_64_model.specs.Laws.Steps.{AllCalls}
 use Rattle.x86_64_model.specs.Layout.{Layout}
 use Rattle.x86_64_model.specs.Machine.{Machine, State, step, replies_of, state_after}
-use Rattle.x86_64_model.specs.Mapper.{Hierarchy, paths, words}
+use Rattle.x86_64_model.specs.Hierarchy.{Hierarchy, paths, words}
 use Rattle.x86_64_model.specs.Pool.{TakesBack, serves_below}
 use Rattle.x86_64_tables.specs.FramePool.{FreeFrames}
 use Rattle.x86_64_model.proofs.Lemmas.Machines.Giving.{giving_from}

@@ -4,7 +4,7 @@ use Rattle.std.specs.Prelude.{◌≡◌, ◌≢◌, ℕ, Bool, true, false, cond
 use Rattle.std.specs.FinMap.{get}
 use Rattle.std.proofs.Common.{refl, sym, ap, ◌∙◌, subst}
 use Rattle.x86_64_model.specs.Layout.{Layout}
-use Rattle.x86_64_model.specs.Mapper.{◌laid_in◌, Owns, PoolFits, words}
+use Rattle.x86_64_model.specs.Hierarchy.{◌laid_in◌, Owns, PoolFits, words}
 use Rattle.x86_64_model.specs.Memory.{Memory}
 use Rattle.x86_64_model.proofs.Lemmas.Machines.Fitting.{own_there}
 use Rattle.x86_64.specs.PlacesStay.{PlacesStay, OffsetsFitStill}

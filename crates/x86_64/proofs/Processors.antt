@@ -9,7 +9,7 @@ use Rattle.x86_64_model.specs.Laws.Caches.{CachesInTurn, Happens}
 use Rattle.x86_64_model.specs.Laws.Steps.{FitsState}
 use Rattle.x86_64_model.specs.Lists.{In}
 use Rattle.x86_64_model.specs.Machine.{Machine, State, step}
-use Rattle.x86_64_model.specs.Mapper.{◌laid_in◌, machine_of, state_in, PoolFits, words}
+use Rattle.x86_64_model.specs.Hierarchy.{◌laid_in◌, machine_of, state_in, PoolFits, words}
 use Rattle.x86_64_model.specs.Memory.{Memory, Words}
 use Rattle.x86_64_model.specs.Path.{is_below}
 use Rattle.x86_64_model.proofs.Lemmas.Caches.Runs.{flushes_are_enough}

@@ -11,7 +11,7 @@ use Rattle.x86_64_model.specs.Refusal.{Done, Refused}
 use Rattle.x86_64_model.proofs.Lemmas.Machines.Effects.{page_at_level}
 use Rattle.x86_64_model.proofs.Lemmas.Machines.Laws.{flushes_are_enough}
 use Rattle.x86_64_tables.specs.FlushRecorder.{flush_range, page_item, page_items, range_items}
-use Rattle.x86_64_tables.specs.declared.mapper.recorder.FlushItem.TheVariants.{All}
+use Rattle.x86_64_tables.specs.declared.tokens.recorder.FlushItem.TheVariants.{All}
 use Rattle.x86_64.specs.Flushes.{NoFlushItemCovers, item_of, level_of_size}
 use Rattle.x86_64.specs.RangeFlushes.{AreChanges, RangeFlushesSuffice}
 

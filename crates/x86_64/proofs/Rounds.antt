@@ -7,9 +7,9 @@ use Rattle.std.specs.List.{AllByRecursion}
 use Rattle.x86_64_model.specs.Memory.{Memory}
 use Rattle.x86_64_model.specs.Layout.{Layout}
 use Rattle.x86_64_model.specs.Machine.{Machine, State, state_after}
-use Rattle.x86_64_model.specs.Mapper.{Hierarchy}
+use Rattle.x86_64_model.specs.Hierarchy.{Hierarchy}
 use Rattle.x86_64_model.specs.Store.{Store, KeepsPool}
-use Rattle.x86_64_tables.specs.declared.mapper.recorder.FlushItem.{FlushItem}
+use Rattle.x86_64_tables.specs.declared.tokens.recorder.FlushItem.{FlushItem}
 use Rattle.x86_64.specs.Flushes.{flush_items_of, items_told}
 use Rattle.x86_64.specs.private.Served.{recorded}
 use Rattle.x86_64.specs.Asked.{MapperCall, machine_call, calls_by}

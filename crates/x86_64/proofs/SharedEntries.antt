@@ -9,7 +9,7 @@ use Rattle.x86_64_model.specs.Call.{IsCall}
 use Rattle.x86_64_model.specs.CleanUp.{meets}
 use Rattle.x86_64_model.specs.Entry.{IsParentFlags}
 use Rattle.x86_64_model.specs.Laws.Spaces.{CallsKeepRootEntries, SpacesStay}
-use Rattle.x86_64_model.specs.Mapper.{Hierarchy}
+use Rattle.x86_64_model.specs.Hierarchy.{Hierarchy}
 use Rattle.x86_64_model.specs.Memory.{IsMapping, Words, word, set_word}
 use Rattle.x86_64_model.specs.Path.{AllBelow, path_at, span_size, span_start}
 use Rattle.x86_64_model.specs.Pool.{TakesBack}

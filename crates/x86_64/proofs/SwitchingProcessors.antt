@@ -8,7 +8,7 @@ use Rattle.x86_64_model.specs.Laws.SwitchedSpaces.{space_for, between, started_i
 use Rattle.x86_64_model.specs.Layout.{Layout}
 use Rattle.x86_64_model.specs.Lists.{In}
 use Rattle.x86_64_model.specs.Machine.{State, step}
-use Rattle.x86_64_model.specs.Mapper.{machine_of, state_in}
+use Rattle.x86_64_model.specs.Hierarchy.{machine_of, state_in}
 use Rattle.x86_64_model.specs.MaySwitch.{AllMaySwitch, after_switches}
 use Rattle.x86_64_model.specs.Memory.{Memory, Places, IsMapping, words_of}
 use Rattle.x86_64_model.specs.Path.{is_below}

@@ -6,14 +6,14 @@ use Rattle.x86_64_model.specs.Refusal as refusal
 use Rattle.x86_64_model.specs.Refusal.{Refusal, Done, Refused}
 use Rattle.x86_64_model.specs.Translation.{Translated, NotMapped as Nowhere, Mapped as At}
 use Rattle.x86_64_tables.specs.MapperAnswers.{map_refusal, refusal_of_unmap, refusal_of_update, refusal_of_translate}
-use Rattle.x86_64_tables.specs.declared.mapper.MapToError.{MapToError}
-use Rattle.x86_64_tables.specs.declared.mapper.UnmapError.{UnmapError}
-use Rattle.x86_64_tables.specs.declared.mapper.FlagUpdateError.{FlagUpdateError}
-use Rattle.x86_64_tables.specs.declared.mapper.TranslateError.{TranslateError}
-use Rattle.x86_64_tables.specs.declared.mapper.MappedFrame.{MappedFrame}
-use Rattle.x86_64_tables.specs.declared.mapper.MappedFrame.TheVariants.{Size4KiB, Size2MiB, Size1GiB}
-use Rattle.x86_64_tables.specs.declared.mapper.TranslateResult.{TranslateResult}
-use Rattle.x86_64_tables.specs.declared.mapper.TranslateResult.TheVariants.{Mapped, NotMapped, InvalidFrameAddress}
+use Rattle.x86_64_tables.specs.declared.errors.MapToError.{MapToError}
+use Rattle.x86_64_tables.specs.declared.errors.UnmapError.{UnmapError}
+use Rattle.x86_64_tables.specs.declared.errors.FlagUpdateError.{FlagUpdateError}
+use Rattle.x86_64_tables.specs.declared.errors.TranslateError.{TranslateError}
+use Rattle.x86_64_tables.specs.declared.translation.MappedFrame.{MappedFrame}
+use Rattle.x86_64_tables.specs.declared.translation.MappedFrame.TheVariants.{Size4KiB, Size2MiB, Size1GiB}
+use Rattle.x86_64_tables.specs.declared.translation.TranslateResult.{TranslateResult}
+use Rattle.x86_64_tables.specs.declared.translation.TranslateResult.TheVariants.{Mapped, NotMapped, InvalidFrameAddress}
 use Rattle.x86_64.specs.Asked.{PageCall, MapTo, MapToWithTableFlags, IdentityMap, UpdateFlags, SetFlags, TranslatePage, Unmap as UnmapPage, MapperCall, Of4KiB, Of2MiB, Of1GiB, Translate, TranslateAddr, CleanUp, CleanUpRange}
 use Rattle.x86_64.specs.declared.call_values.PageReply.TheVariants.{Map, Unmap, Update, TableFlags, Frame}
 use Rattle.x86_64.specs.declared.call_values.MapperReply.TheVariants as reply

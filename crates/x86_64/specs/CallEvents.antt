@@ -3,7 +3,7 @@ use Rattle.std.specs.Prelude.{◌≡◌, ℕ, Bool, List}
 use Rattle.x86_64_model.specs.Call.{Call}
 use Rattle.x86_64_model.specs.Layout.{Layout}
 use Rattle.x86_64_model.specs.Machine.{step}
-use Rattle.x86_64_model.specs.Mapper.{◌laid_in◌, machine_of, state_in, PoolFits, words}
+use Rattle.x86_64_model.specs.Hierarchy.{◌laid_in◌, machine_of, state_in, PoolFits, words}
 use Rattle.x86_64_model.specs.Memory.{Memory}
 use Rattle.x86_64_model.specs.Laws.Caches.{IsAfterCall}
 use Rattle.x86_64.specs.FreeFrames.{KeepsFree, back_by}

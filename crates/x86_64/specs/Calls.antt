@@ -1,6 +1,6 @@
 -- Rust calls as calls on numbers, for any number of levels, and the index of the highest level that they name.
 use Rattle.std.specs.Prelude.{ℕ, ◌+◌, nat_lt, Bool, cond, Option, Some, None}
-use Rattle.x86_64_model.specs.Mapper.{Hierarchy, path_of}
+use Rattle.x86_64_model.specs.Hierarchy.{Hierarchy, path_of}
 use Rattle.x86_64_model.specs.Position.{lower_half}
 use Rattle.x86_64_model.specs.Window.{begins_with}
 use Rattle.x86_64_tables.specs.PageTableFlags.{bits_of}

@@ -1,7 +1,7 @@
 -- Empty roots are address spaces that share nothing: no index of the highest level is a shared one.
 use Rattle.std.specs.Prelude.{◌≡◌, ◌<◌, ℕ, Bool, true, false, List, [], ◌∷◌}
 use Rattle.x86_64_model.specs.Layout.{Layout}
-use Rattle.x86_64_model.specs.Mapper.{◌laid_in◌, Owns, words}
+use Rattle.x86_64_model.specs.Hierarchy.{◌laid_in◌, Owns, words}
 use Rattle.x86_64_model.specs.Lists.{In}
 use Rattle.x86_64_model.specs.Memory.{Memory, word, identity_places}
 use Rattle.x86_64_model.specs.Spaces.{Shares, AreSpaces}

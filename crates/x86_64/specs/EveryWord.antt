@@ -1,7 +1,7 @@
 -- The result of a list of calls determines every word of the memory.
 use Rattle.std.specs.Prelude.{◌≡◌, ℕ, Bool, List}
 use Rattle.x86_64_model.specs.Layout.{Layout}
-use Rattle.x86_64_model.specs.Mapper.{◌laid_in◌, paths, words}
+use Rattle.x86_64_model.specs.Hierarchy.{◌laid_in◌, paths, words}
 use Rattle.x86_64_model.specs.Store.{KeepsPool}
 use Rattle.x86_64_model.specs.Memory.{Memory, Words, IsMapping, word}
 use Rattle.x86_64.specs.FreeFrames.{KeepsFree}

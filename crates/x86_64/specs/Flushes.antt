@@ -4,7 +4,7 @@ use Rattle.std.specs.List.{AllByRecursion}
 use Rattle.x86_64_model.specs.Arrivals.{KeepsArrival}
 use Rattle.x86_64_model.specs.Flush as flush
 use Rattle.x86_64_model.specs.Layout.{Layout}
-use Rattle.x86_64_model.specs.Mapper.{◌laid_in◌, Hierarchy, words}
+use Rattle.x86_64_model.specs.Hierarchy.{◌laid_in◌, Hierarchy, words}
 use Rattle.x86_64_model.specs.Machine.{State, state_after}
 use Rattle.x86_64_model.specs.Memory.{Words}
 use Rattle.x86_64_model.specs.PageWalk.{page_walk}
@@ -12,8 +12,8 @@ use Rattle.x86_64_model.specs.Path.{path_at}
 use Rattle.x86_64_model.specs.Position.{page_path}
 use Rattle.x86_64_model.specs.Store.{Store}
 use Rattle.x86_64_model.specs.Window.{begins_with, IsValidFor}
-use Rattle.x86_64_tables.specs.declared.mapper.recorder.FlushItem.{FlushItem}
-use Rattle.x86_64_tables.specs.declared.mapper.recorder.FlushItem.TheVariants.{Page, Page57, All}
+use Rattle.x86_64_tables.specs.declared.tokens.recorder.FlushItem.{FlushItem}
+use Rattle.x86_64_tables.specs.declared.tokens.recorder.FlushItem.TheVariants.{Page, Page57, All}
 use Rattle.x86_64_tables.specs.FlushRecorder.{page_item}
 use Rattle.x86_64.specs.Asked.{MapperCall, calls_by}
 use Rattle.x86_64.specs.Runs.{machine_of, state_with, appended}

@@ -20,7 +20,7 @@ pub mod SwitchingProcessors
 pub mod private
 pub use Rattle.x86_64_model.specs.Machine
 pub use Rattle.x86_64_model.specs.Layout
-pub use Rattle.x86_64_model.specs.Mapper
+pub use Rattle.x86_64_model.specs.Hierarchy
 pub use Rattle.x86_64_model.specs.Store
 pub use Rattle.x86_64_model.specs.Spaces
 pub use Rattle.x86_64_model.specs.Alike

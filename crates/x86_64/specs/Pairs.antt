@@ -2,7 +2,7 @@
 use Rattle.std.specs.Prelude.{◌≡◌, ℕ, ⊤, false, List, [], Option, Some, None, Vec, Result, IfOk}
 use Rattle.std.specs.List.{AllByRecursion}
 use Rattle.x86_64_model.specs.Alike.{Alike}
-use Rattle.x86_64_model.specs.Mapper.{Hierarchy, paths}
+use Rattle.x86_64_model.specs.Hierarchy.{Hierarchy, paths}
 use Rattle.x86_64_model.specs.Pool.{serves_below}
 pub use Rattle.x86_64_model.specs.Store.{put_first}
 use Rattle.x86_64_model.specs.Store.{Store, StoreFits, Keeps}

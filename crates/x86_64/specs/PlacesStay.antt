@@ -4,7 +4,7 @@ use Rattle.std.specs.FinMap.{get}
 use Rattle.x86_64_model.specs.Layout.{Layout}
 use Rattle.x86_64_model.specs.Memory.{Memory}
 use Rattle.x86_64_mappers.specs.Offsets.{OffsetFits}
-use Rattle.x86_64_model.specs.Mapper.{◌laid_in◌, PoolFits}
+use Rattle.x86_64_model.specs.Hierarchy.{◌laid_in◌, PoolFits}
 use Rattle.x86_64_model.specs.Store.{KeepsPool}
 
 -- If a pool fits a hierarchy, what calls on it keep is enough for the memory to have the same places as before.

@@ -10,7 +10,7 @@ use Rattle.x86_64_model.specs.Laws.Caches.{CachesInTurn, Happens, WalksThere}
 use Rattle.x86_64_model.specs.Laws.Steps.{FitsState}
 use Rattle.x86_64_model.specs.Lists.{In}
 use Rattle.x86_64_model.specs.Machine.{Machine, IsMachine, State, step}
-use Rattle.x86_64_model.specs.Mapper.{◌laid_in◌, machine_of, state_in, PoolFits, paths, words}
+use Rattle.x86_64_model.specs.Hierarchy.{◌laid_in◌, machine_of, state_in, PoolFits, paths, words}
 use Rattle.x86_64_model.specs.Memory.{Memory, Words}
 use Rattle.x86_64_model.specs.Path.{is_below}
 use Rattle.x86_64_model.specs.PathMap.{entry}

@@ -4,18 +4,18 @@ use Rattle.x86_64_model.specs.Call as machine
 use Rattle.x86_64_model.specs.Refusal as refusal
 use Rattle.x86_64_model.specs.Refusal.{Refusal, Answer, Done, Refused}
 use Rattle.x86_64_model.specs.Translation.{Translated, NotMapped as Nowhere, Mapped as At}
-use Rattle.x86_64_tables.specs.declared.mapper.MapToError.{MapToError}
-use Rattle.x86_64_tables.specs.declared.mapper.MapToError.TheVariants as map_to
-use Rattle.x86_64_tables.specs.declared.mapper.UnmapError.{UnmapError}
-use Rattle.x86_64_tables.specs.declared.mapper.UnmapError.TheVariants as unmap
-use Rattle.x86_64_tables.specs.declared.mapper.FlagUpdateError.{FlagUpdateError}
-use Rattle.x86_64_tables.specs.declared.mapper.FlagUpdateError.TheVariants as update
-use Rattle.x86_64_tables.specs.declared.mapper.TranslateError.{TranslateError}
-use Rattle.x86_64_tables.specs.declared.mapper.TranslateError.TheVariants as page_frame
-use Rattle.x86_64_tables.specs.declared.mapper.MappedFrame.{MappedFrame}
-use Rattle.x86_64_tables.specs.declared.mapper.MappedFrame.TheVariants.{Size4KiB, Size2MiB, Size1GiB}
-use Rattle.x86_64_tables.specs.declared.mapper.TranslateResult.{TranslateResult}
-use Rattle.x86_64_tables.specs.declared.mapper.TranslateResult.TheVariants.{Mapped, NotMapped}
+use Rattle.x86_64_tables.specs.declared.errors.MapToError.{MapToError}
+use Rattle.x86_64_tables.specs.declared.errors.MapToError.TheVariants as map_to
+use Rattle.x86_64_tables.specs.declared.errors.UnmapError.{UnmapError}
+use Rattle.x86_64_tables.specs.declared.errors.UnmapError.TheVariants as unmap
+use Rattle.x86_64_tables.specs.declared.errors.FlagUpdateError.{FlagUpdateError}
+use Rattle.x86_64_tables.specs.declared.errors.FlagUpdateError.TheVariants as update
+use Rattle.x86_64_tables.specs.declared.errors.TranslateError.{TranslateError}
+use Rattle.x86_64_tables.specs.declared.errors.TranslateError.TheVariants as page_frame
+use Rattle.x86_64_tables.specs.declared.translation.MappedFrame.{MappedFrame}
+use Rattle.x86_64_tables.specs.declared.translation.MappedFrame.TheVariants.{Size4KiB, Size2MiB, Size1GiB}
+use Rattle.x86_64_tables.specs.declared.translation.TranslateResult.{TranslateResult}
+use Rattle.x86_64_tables.specs.declared.translation.TranslateResult.TheVariants.{Mapped, NotMapped}
 use Rattle.x86_64_page.specs.declared.page.Size4KiB.{Size4KiB as Small}
 use Rattle.x86_64_page.specs.declared.page.Size2MiB.{Size2MiB as Large}
 use Rattle.x86_64_page.specs.declared.page.Size1GiB.{Size1GiB as Giant}

@@ -3,9 +3,9 @@ use Rattle.std.specs.Prelude.{◌≡◌, ℕ, true, List, [], ◌∷◌, ◌++�
 use Rattle.std.specs.List.{AllByRecursion}
 use Rattle.x86_64_model.specs.Memory.{Memory}
 use Rattle.x86_64_model.specs.Machine.{Machine, State, step, state_after}
-pub use Rattle.x86_64_model.specs.Mapper.{machine_of, state_in, PoolFits}
+pub use Rattle.x86_64_model.specs.Hierarchy.{machine_of, state_in, PoolFits}
 pub use Rattle.x86_64_model.specs.Store.{Keeps, KeepsPool}
-use Rattle.x86_64_model.specs.Mapper.{Hierarchy}
+use Rattle.x86_64_model.specs.Hierarchy.{Hierarchy}
 use Rattle.x86_64_model.specs.Store.{Store}
 use Rattle.x86_64.specs.Asked.{MapperCall, machine_call, calls_by}
 use Rattle.x86_64.specs.FreeFrames.{KeepsFree, back_by, all_back}

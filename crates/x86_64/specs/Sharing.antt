@@ -2,7 +2,7 @@
 use Rattle.std.specs.Prelude.{ℕ, Bool, List, [], ◌∷◌}
 use Rattle.x86_64_model.specs.Layout.{Layout}
 use Rattle.x86_64_model.specs.Lists.{In}
-use Rattle.x86_64_model.specs.Mapper.{Hierarchy, paths}
+use Rattle.x86_64_model.specs.Hierarchy.{Hierarchy, paths}
 use Rattle.x86_64_model.specs.PathMap.{entry}
 use Rattle.x86_64_model.specs.Spaces.{AreSpaces, LeavesRootEntry}
 use Rattle.x86_64_model.specs.Store.{Store}

@@ -12,10 +12,9 @@ use x86_64_addr::level_count::{FiveLevels, FourLevels, LevelCount};
 use x86_64_page::frame::PhysFrame;
 use x86_64_page::page::{PageIn, PageSize, Size1GiB, Size2MiB, Size4KiB};
 use x86_64_page::range::BlockRangeInclusive;
-use x86_64_tables::mapper::{
-    FlagUpdateError, MapToError, TranslateError, TranslateResult, UnmapError,
-};
+use x86_64_tables::errors::{FlagUpdateError, MapToError, TranslateError, UnmapError};
 use x86_64_tables::page_table::PageTableFlags;
+use x86_64_tables::translation::TranslateResult;
 
 /// The flags of an entry of level five in a call. With four levels there is no such entry, and so there are no such
 /// flags.

@@ -14,7 +14,7 @@ ghost use Rattle.x86_64.specs.SeveralProcessors.{EachIsFlushed, ProcessorsSeeThe
 ghost use Rattle.x86_64.specs.SwitchingProcessors.{ReachedFirst, ReachedByEvents, ReachedByCalls, ReachedByFlushes, ReachedByFlushedCalls, ReachedAccessesGo};
 ghost use Rattle.x86_64.specs.ToldReplies.{RepliesTell};
 
-use x86_64_tables::mapper::{FlushItem, MOST_PAGE_ITEMS};
+use x86_64_tables::tokens::{FlushItem, MOST_PAGE_ITEMS};
 
 /// A reply determines the machine's reply to the call, for any number of levels, except for the frame in the
 /// machine's reply to a map or to a change of flags.

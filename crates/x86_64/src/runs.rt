@@ -2,7 +2,7 @@
 ghost use Rattle.std.specs.Prelude.{◌≡◌, ◌+◌, ◌<◌, ◌≤◌, ◌++◌, ◌&&◌, ℕ, true, not, length, OnOk, OnErr, vec_len};
 ghost use Rattle.std.specs.Vec.{vec_capacity};
 ghost use Rattle.x86_64_model.specs.Entry.{huge, no_address};
-ghost use Rattle.x86_64_model.specs.Mapper.{Valid, allows};
+ghost use Rattle.x86_64_model.specs.Hierarchy.{Valid, allows};
 ghost use Rattle.x86_64_model.specs.PageCalls.{MayAsk, SetFlags, asked};
 ghost use Rattle.x86_64_model.specs.Store.{StoreFits, Keeps, store_of};
 ghost use Rattle.x86_64_tables.specs.PageTableFlags.{bits_of};
@@ -28,8 +28,8 @@ use x86_64_addr::level_count::LevelCount;
 use x86_64_mappers::calls::{self, TableAccess};
 use x86_64_page::page::{PageIn, PageSize, Size1GiB, Size2MiB, Size4KiB};
 use x86_64_tables::frame_alloc::FrameStore;
-use x86_64_tables::mapper::{TablesIn, parent_flags};
 use x86_64_tables::page_table::PageTableFlags;
+use x86_64_tables::page_tables::{TablesIn, parent_flags};
 
 /// Executes calls in order, and appends a reply for each. Also named `run_57`, for five levels.
 ///

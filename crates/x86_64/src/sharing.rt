@@ -1,7 +1,7 @@
 //! Calls on one of several address spaces, whose roots have the same entries at some indices.
 ghost use Rattle.std.specs.Prelude.{◌≡◌, ◌↔◌, ◌≤◌, ◌<◌, ◌+◌, ℕ, bit_or, true, false, [], ◌∷◌, IsTrue, OnErr, OnOk, IfOk};
 ghost use Rattle.x86_64_model.specs.CleanUp.{meets};
-ghost use Rattle.x86_64_model.specs.Mapper.{Valid, paths};
+ghost use Rattle.x86_64_model.specs.Hierarchy.{Valid, paths};
 ghost use Rattle.x86_64_model.specs.PathMap.{entry};
 ghost use Rattle.x86_64_model.specs.Position.{index};
 ghost use Rattle.x86_64_model.specs.Store.{StoreFits, Keeps, store_of};
@@ -23,8 +23,8 @@ use x86_64_page::page::{PageIn, PageSize, Size4KiB};
 use x86_64_page::range::BlockRangeInclusive;
 use x86_64_spaces::SharedIndices;
 use x86_64_tables::frame_alloc::FrameStore;
-use x86_64_tables::mapper::{TablesIn, parent_flags};
 use x86_64_tables::page_table::PageTableFlags;
+use x86_64_tables::page_tables::{TablesIn, parent_flags};
 
 /// Why a call on one of several address spaces isn't made: it might change an entry of the root that the others share.
 #[derive(Clone, Copy, Debug, PartialEq)]

@@ -6,7 +6,7 @@ use Rattle.x86_64_model.proofs.Lemmas.Hierarchies.Exists.{entry_paths_of, holds_
 use Rattle.x86_64_model.proofs.Lemmas.Hierarchies.Held.{is_some-set, word-set_frame, word-set_index}
 use Rattle.x86_64_model.proofs.Lemmas.Hierarchies.Unset.{is_some-unset, word_unset}
 use Rattle.x86_64_model.specs.Entry.{present, huge, used, address, names_table}
-use Rattle.x86_64_model.specs.Hierarchy.{IsValid, paths_of, read_at}
+use Rattle.x86_64_model.specs.Validity.{IsValid, paths_of, read_at}
 use Rattle.x86_64_model.specs.Memory.{Words, set_word, word}
 use Rattle.x86_64_model.specs.PathMap.{PathMap, entry, table_at, table_of}
 use Rattle.x86_64_model.specs.Window.{SelfEntry, Window, outside_window}

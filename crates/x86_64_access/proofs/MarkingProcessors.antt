@@ -5,7 +5,7 @@ use Rattle.x86_64_model.specs.Arrivals.{NoWorse}
 use Rattle.x86_64_model.specs.Caches.{Cached, Page, Table, PartialWalk, MayAccess, walk_with_rights, walked_in}
 use Rattle.x86_64_model.specs.Entry.{LeadAlike, present}
 use Rattle.x86_64_model.specs.Flushing.{BelowDue, Due, IsDone, PageDue, System, TablesDue, WindowDue, after_event, concerns, fresh, loosens}
-use Rattle.x86_64_model.specs.Hierarchy.{IsValid, paths_of}
+use Rattle.x86_64_model.specs.Validity.{IsValid, paths_of}
 use Rattle.x86_64_model.specs.Laws.Caches.{WalksThere}
 use Rattle.x86_64_model.specs.Laws.Steps.{FitsState}
 use Rattle.x86_64_model.specs.Lists.{In}

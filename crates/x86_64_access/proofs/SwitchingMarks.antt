@@ -2,11 +2,11 @@
 use Rattle.std.proofs.Common.{zero, suc, inl, inr, ⊎_elim, ◌≡◌, ◌≢◌, ◌<◌, ◌==◌, ◌&&◌, ◌||◌, ℕ, Bool, true, List, [], ◌∷◌, map, Some, None, Option, refl, sym, ap, subst, ◌∙◌, arith, eq-eqb}
 use Rattle.std.proofs.lemmas.Bool.{cases_eq}
 use Rattle.x86_64_model.specs.Entry.{LeadAlike}
-use Rattle.x86_64_model.specs.Hierarchy.{paths_of, read_at}
+use Rattle.x86_64_model.specs.Validity.{paths_of, read_at}
 use Rattle.x86_64_model.specs.Laws.SwitchedSpaces.{space_for, between, AllShare, MaySwitchIn}
 use Rattle.x86_64_model.specs.Layout.{Layout}
 use Rattle.x86_64_model.specs.Lists.{In}
-use Rattle.x86_64_model.specs.Mapper.{◌laid_in◌, PoolFits, paths}
+use Rattle.x86_64_model.specs.Hierarchy.{◌laid_in◌, PoolFits, paths}
 use Rattle.x86_64_model.specs.MaySwitch.{MayMarkAll}
 use Rattle.x86_64_model.specs.Memory.{Memory, Places, Words, IsMapping, word, words_of}
 use Rattle.x86_64_model.specs.Path.{level_of}

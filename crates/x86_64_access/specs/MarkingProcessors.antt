@@ -3,7 +3,7 @@ use Rattle.std.specs.Prelude.{◌≡◌, ◌≢◌, ◌⊎◌, ◌<◌, ℕ, Boo
 use Rattle.x86_64_model.specs.Arrivals.{KeepsArrival}
 use Rattle.x86_64_model.specs.Caches.{PartialWalk, MayAccess, MayRead, walk_with_rights, walked_in}
 use Rattle.x86_64_model.specs.Flushing.{Due, Event, HasZeros, IsDone, MayHappen, System, TablesDue, after_event, concerns, fresh}
-use Rattle.x86_64_model.specs.Hierarchy.{paths_of}
+use Rattle.x86_64_model.specs.Validity.{paths_of}
 use Rattle.x86_64_model.specs.Laws.Caches.{IsLetGo, IsStale, WalksThere}
 use Rattle.x86_64_model.specs.Laws.Steps.{FitsState}
 use Rattle.x86_64_model.specs.Lists.{In}

@@ -4,7 +4,7 @@ use Rattle.x86_64_model.specs.Entry.{present}
 use Rattle.x86_64_model.specs.Access.{Access, Controls, access, memory_after, steps_from}
 use Rattle.x86_64_model.specs.Caches.{Cached, Caches}
 use Rattle.x86_64_model.specs.Memory.{IsMapping, Memory, Places, Words, word, words_of}
-use Rattle.x86_64_model.specs.Hierarchy.{paths_of}
+use Rattle.x86_64_model.specs.Validity.{paths_of}
 use Rattle.x86_64_model.specs.PageWalk.{page_walk}
 use Rattle.x86_64_model.specs.PathMap.{entry}
 use Rattle.x86_64_model.specs.Pool.{Fits}

@@ -5,7 +5,7 @@ use Rattle.x86_64_model.specs.Call.{Call, IsCall, Answered, NotAllowed}
 use Rattle.x86_64_model.specs.Entry.{IsParentFlags}
 use Rattle.x86_64_model.specs.Layout.{Layout}
 use Rattle.x86_64_model.specs.Machine.{AfterCall, only_reply, do_call, step}
-use Rattle.x86_64_model.specs.Mapper.{Hierarchy, Does, PoolFits, Valid, allows, machine_of, state_in, SupplyFits}
+use Rattle.x86_64_model.specs.Hierarchy.{Hierarchy, Does, PoolFits, Valid, allows, machine_of, state_in, SupplyFits}
 use Rattle.x86_64_model.specs.Memory.{Memory}
 use Rattle.x86_64_model.specs.Path.{IsPage, path_at}
 use Rattle.x86_64_model.specs.Pool.{TakesBack}

@@ -6,7 +6,7 @@ use Rattle.x86_64_model.specs.Call.{Call}
 use Rattle.x86_64_model.specs.Entry.{IsParentFlags}
 use Rattle.x86_64_model.specs.Layout.{Layout}
 use Rattle.x86_64_model.specs.Machine.{AfterCall, Machine, State, only_reply, do_call, step}
-use Rattle.x86_64_model.specs.Mapper.{Hierarchy, CleansUp, DoesMap, allows, machine_of, state_in}
+use Rattle.x86_64_model.specs.Hierarchy.{Hierarchy, CleansUp, DoesMap, allows, machine_of, state_in}
 use Rattle.x86_64_model.specs.Memory.{IsMapping, Memory}
 use Rattle.x86_64_model.specs.PageCalls.{page_call}
 use Rattle.x86_64_model.specs.Pool.{TakesBack}
@@ -16,8 +16,8 @@ use Rattle.x86_64_page.specs.declared.page.Size4KiB.{Size4KiB as Small}
 use Rattle.x86_64_page.specs.declared.page.Size2MiB.{Size2MiB as Large}
 use Rattle.x86_64_page.specs.declared.page.Size1GiB.{Size1GiB as Giant}
 use Rattle.x86_64_tables.specs.MapperAnswers.{map_answer, map_refusal}
-use Rattle.x86_64_tables.specs.declared.mapper.MapToError.{MapToError}
-use Rattle.x86_64_tables.specs.declared.mapper.MapToError.TheVariants.{FrameAllocationFailed, ParentEntryHugePage, PageAlreadyMapped}
+use Rattle.x86_64_tables.specs.declared.errors.MapToError.{MapToError}
+use Rattle.x86_64_tables.specs.declared.errors.MapToError.TheVariants.{FrameAllocationFailed, ParentEntryHugePage, PageAlreadyMapped}
 use Rattle.x86_64.specs.Asked.{PageCall, MapperCall, MapToWithTableFlags, Of4KiB, Of2MiB, Of1GiB, CleanUpRange, machine_call}
 use Rattle.x86_64.specs.FreeFrames.{KeepsFree, back_by}
 use Rattle.x86_64.specs.Replies.{Reply, SizeReply, sized, reply_of, changes_nothing}

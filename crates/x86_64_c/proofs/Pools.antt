@@ -1,7 +1,7 @@
 -- What a step with a pool in an array that is lent does, stated of the array.
 use Rattle.std.proofs.Common.{◌≡◌, ℕ, Bool, true, List, [], refl, sym, ap, ◌∙◌, subst}
 use Rattle.std.specs.Borrow.{GName}
-use Rattle.x86_64_model.specs.Mapper.{PoolFits}
+use Rattle.x86_64_model.specs.Hierarchy.{PoolFits}
 use Rattle.x86_64_model.specs.Memory.{Memory}
 use Rattle.x86_64_model.specs.Store.{Store}
 use Rattle.x86_64_model.proofs.Lemmas.Hierarchies.Memories.{covered}

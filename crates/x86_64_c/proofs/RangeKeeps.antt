@@ -5,7 +5,7 @@ use Rattle.x86_64_model.specs.Call.{Call, IsCall}
 use Rattle.x86_64_model.specs.Entry.{IsParentFlags}
 use Rattle.x86_64_model.specs.Layout.{Layout}
 use Rattle.x86_64_model.specs.Machine.{State, state_after}
-use Rattle.x86_64_model.specs.Mapper.{◌laid_in◌, KeepsOthers, Owns, PoolFits, SupplyFits, machine_of, paths, state_in, words}
+use Rattle.x86_64_model.specs.Hierarchy.{◌laid_in◌, KeepsOthers, Owns, PoolFits, SupplyFits, machine_of, paths, state_in, words}
 use Rattle.x86_64_model.specs.Memory.{Memory}
 use Rattle.x86_64_model.specs.Store.{KeepsPool, put_first}
 use Rattle.x86_64_model.proofs.Lemmas.Machines.Fitting.{AllCalls, sound_of_fits, fits_of_sound, run_conserves}

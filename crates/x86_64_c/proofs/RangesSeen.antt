@@ -5,7 +5,7 @@ use Rattle.x86_64_model.specs.Call.{Call, Reply, NotAllowed, Answered, Position,
 use Rattle.x86_64_model.specs.Entry.{IsParentFlags}
 use Rattle.x86_64_model.specs.Layout.{Layout}
 use Rattle.x86_64_model.specs.Machine.{Machine, State, step, replies_of}
-use Rattle.x86_64_model.specs.Mapper.{Hierarchy, PoolFits, machine_of, state_in}
+use Rattle.x86_64_model.specs.Hierarchy.{Hierarchy, PoolFits, machine_of, state_in}
 use Rattle.x86_64_model.specs.Memory.{Memory, Places}
 use Rattle.x86_64_model.specs.Path.{IsPage, path_at}
 use Rattle.x86_64_model.specs.Position.{span, position_count}
@@ -18,7 +18,7 @@ use Rattle.x86_64_model.proofs.Lemmas.Paths.Pages.{span_pos}
 use Rattle.x86_64_mappers.specs.Layouts.{direct_at}
 use Rattle.x86_64_mappers.specs.RangeChanges.{DoesChanges, IsRange, frames_done, unmaps, updates}
 use Rattle.x86_64_mappers.specs.Ranges.{DoesMaps, IsNextMap, MapRange, MapsByResult, MapsEach, MayMapRange, StopsAt, accepted_maps, map_at, maps, range_page}
-use Rattle.x86_64_mappers.specs.declared.access.ranges.MapRangeErrorIn.{MapRangeErrorIn}
+use Rattle.x86_64_mappers.specs.declared.walk.map_range.MapRangeErrorIn.{MapRangeErrorIn}
 use Rattle.x86_64_tables.specs.FlushRecorder.{FlushRange, flush_range}
 use Rattle.x86_64_tables.specs.MapperAnswers.{map_refusal}
 use Rattle.x86_64_c.proofs.EntryChanges.{of}

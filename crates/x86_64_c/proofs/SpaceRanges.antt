@@ -7,7 +7,7 @@ use Rattle.x86_64_model.specs.Entry.{present}
 use Rattle.x86_64_model.specs.Laws.Spaces.{KeepsBelow, KeepsRootEntries, SpacesStay, SharedHalvesStay, CallsKeepBelow}
 use Rattle.x86_64_model.specs.Layout.{Layout}
 use Rattle.x86_64_model.specs.Lists.{In}
-use Rattle.x86_64_model.specs.Mapper.{Hierarchy, allows_map, path_of}
+use Rattle.x86_64_model.specs.Hierarchy.{Hierarchy, allows_map, path_of}
 use Rattle.x86_64_model.specs.Position.{position_count}
 use Rattle.x86_64_model.specs.Spaces.{Avoids}
 use Rattle.x86_64_model.specs.Store.{KeepsPool, put_first}

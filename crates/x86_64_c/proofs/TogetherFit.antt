@@ -8,7 +8,7 @@ use Rattle.x86_64_model.specs.Laws.Spaces.{KeepsRootEntries, SpacesStay, SharedH
 use Rattle.x86_64_model.specs.Layout.{Layout}
 use Rattle.x86_64_model.specs.Lists.{In, EachOnce}
 use Rattle.x86_64_model.specs.Memory.{Memory, Places}
-use Rattle.x86_64_model.specs.Mapper.{◌laid_in◌, paths}
+use Rattle.x86_64_model.specs.Hierarchy.{◌laid_in◌, paths}
 use Rattle.x86_64_model.specs.Spaces.{AreSpaces, Avoids}
 use Rattle.x86_64_model.specs.Store.{KeepsPool, put_first}
 use Rattle.x86_64_model.proofs.Lemmas.Lists.Members.{in_map, from_map}

@@ -3,7 +3,7 @@ use Rattle.std.specs.Prelude.{◌≡◌, ℕ, ◌==◌, ◌&&◌, nat_le, nat_lt
 use Rattle.std.specs.Option.{option_or}
 use Rattle.x86_64_model.specs.Access as model
 use Rattle.x86_64_model.specs.Access.{Access, Kind, Read, Write, Fetch, Arrives, Faults, NoMemory}
-use Rattle.x86_64_model.specs.Mapper.{Hierarchy, PoolFits, words}
+use Rattle.x86_64_model.specs.Hierarchy.{Hierarchy, PoolFits, words}
 use Rattle.x86_64_model.specs.Memory.{Memory}
 use Rattle.x86_64_c.specs.Given.{unless, bad_hierarchy, bad_address, position_of}
 use Rattle.x86_64_c.specs.Status as status

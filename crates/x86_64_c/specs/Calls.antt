@@ -3,7 +3,7 @@ use Rattle.std.specs.Prelude.{◌≡◌, ℕ, Bool, true, false, ◌&&◌, nat_l
 use Rattle.std.specs.Option.{option_or}
 use Rattle.x86_64_model.specs.Call as model
 use Rattle.x86_64_model.specs.Call.{Call}
-use Rattle.x86_64_model.specs.Mapper.{Hierarchy, Does, PoolFits, allows}
+use Rattle.x86_64_model.specs.Hierarchy.{Hierarchy, Does, PoolFits, allows}
 use Rattle.x86_64_model.specs.Refusal.{Refusal, PageNotMapped, ParentEntryHugePage, InvalidFrameAddress, PageAlreadyMapped, FrameAllocationFailed, Answer, Done, Refused}
 use Rattle.x86_64_tables.specs.MapperAnswers.{map_refusal, refusal_of_unmap, refusal_of_update, refusal_of_translate}
 use Rattle.x86_64.specs.Replies.{Reply, SizeReply}

@@ -2,7 +2,7 @@
 use Rattle.std.specs.Prelude.{◌≡◌, ℕ, nat_le, List, Option}
 use Rattle.std.specs.Option.{option_or}
 use Rattle.x86_64_model.specs.Access.{Step}
-use Rattle.x86_64_model.specs.Mapper.{Hierarchy, words}
+use Rattle.x86_64_model.specs.Hierarchy.{Hierarchy, words}
 use Rattle.x86_64_mappings.specs.WalkEntries as walk
 use Rattle.x86_64_mappings.specs.declared.walk_entries.WalkEnd.{WalkEnd}
 use Rattle.x86_64_mappings.specs.declared.walk_entries.WalkEnd.TheVariants.{Page, NotPresent, HugePage, NoTable}

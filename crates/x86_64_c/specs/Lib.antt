@@ -12,6 +12,6 @@ pub mod AddressSpaces
 pub mod Ranges
 pub mod Flushes
 pub mod private
-pub use Rattle.x86_64_model.specs.Mapper
+pub use Rattle.x86_64_model.specs.Hierarchy
 pub use Rattle.x86_64_model.specs.Translation
 pub use Rattle.x86_64_model.specs.Mappings

@@ -1,6 +1,6 @@
 -- What a listing of mappings writes.
 use Rattle.std.specs.Prelude.{◌≡◌, ℕ, List, [], ◌∷◌, ◌++◌, length, map, take, drop, Option, Some, None}
-use Rattle.x86_64_model.specs.Mapper.{Hierarchy, words}
+use Rattle.x86_64_model.specs.Hierarchy.{Hierarchy, words}
 use Rattle.x86_64_model.specs.Mappings as model
 use Rattle.x86_64_model.specs.Position.{raw}
 use Rattle.x86_64_c.specs.Given.{position_of}

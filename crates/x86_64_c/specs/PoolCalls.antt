@@ -1,7 +1,7 @@
 -- What calls that take frames from a pool or return frames to it do: maps and clean ups.
 use Rattle.std.specs.Prelude.{◌≡◌, ◌≤◌, ℕ, ◌+◌, true, ◌==◌, ◌&&◌, nat_le, cond, List, length, Option, Some, None}
 use Rattle.std.specs.Option.{option_or}
-use Rattle.x86_64_model.specs.Mapper.{Hierarchy}
+use Rattle.x86_64_model.specs.Hierarchy.{Hierarchy}
 use Rattle.x86_64_model.specs.Store.{Store, StoreFits, put_first, KeepsPool}
 use Rattle.x86_64_tables.specs.LentPool.{is_in, stacked}
 use Rattle.x86_64.specs.Asked as asked

@@ -3,7 +3,7 @@ use Rattle.std.specs.Prelude.{◌≡◌, ◌≤◌, ◌⊎◌, ℕ, ◌+◌, ◌
 use Rattle.std.specs.Option.{option_or}
 use Rattle.x86_64_model.specs.Call.{Call, Reply}
 use Rattle.x86_64_model.specs.Entry.{present, no_address}
-use Rattle.x86_64_model.specs.Mapper.{Hierarchy, PoolFits}
+use Rattle.x86_64_model.specs.Hierarchy.{Hierarchy, PoolFits}
 use Rattle.x86_64_model.specs.Position.{lower_half, position_count}
 use Rattle.x86_64_model.specs.Refusal.{Refusal}
 use Rattle.x86_64_model.specs.Store.{Store, KeepsPool}

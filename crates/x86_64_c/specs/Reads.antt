@@ -1,6 +1,6 @@
 -- What calls return that read at an address.
 use Rattle.std.specs.Prelude.{◌≡◌, ℕ, Option, Some, None, option_map}
-use Rattle.x86_64_model.specs.Mapper.{Hierarchy, translation, walk}
+use Rattle.x86_64_model.specs.Hierarchy.{Hierarchy, translation, walk}
 use Rattle.x86_64_model.specs.PageWalk as model
 use Rattle.x86_64_model.specs.Translation.{Translated, NotMapped, Mapped}
 use Rattle.x86_64_c.specs.Given.{position_of}

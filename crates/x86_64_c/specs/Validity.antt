@@ -1,6 +1,6 @@
 -- What the tests of a hierarchy and of a pool return.
 use Rattle.std.specs.Prelude.{◌≡◌, ◌↔◌, ◌⊎◌, ℕ, Bool, cond, List, length}
-use Rattle.x86_64_model.specs.Mapper.{Hierarchy, words}
+use Rattle.x86_64_model.specs.Hierarchy.{Hierarchy, words}
 use Rattle.x86_64_tables.specs.LentPool.{FitsRoom, stacked}
 use Rattle.x86_64_c.specs.Status as status
 

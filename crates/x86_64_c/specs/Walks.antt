@@ -1,6 +1,6 @@
 -- What a page walk tells with all rights.
 use Rattle.std.specs.Prelude.{ℕ, Bool, Option, option_map}
-use Rattle.x86_64_model.specs.Mapper.{Hierarchy, walk, words}
+use Rattle.x86_64_model.specs.Hierarchy.{Hierarchy, walk, words}
 use Rattle.x86_64_model.specs.Mappings.{Rights}
 use Rattle.x86_64_model.specs.PageWalk.{Walked}
 use Rattle.x86_64_mappings.specs.WalkEntries.{rights_in, steps_to}

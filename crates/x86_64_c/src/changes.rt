@@ -3,7 +3,7 @@ ghost use Rattle.std.specs.Prelude.{◌≡◌, ◌≤◌, ℕ, List, length, Opt
 ghost use Rattle.x86_64_c.specs.Calls as calls;
 ghost use Rattle.x86_64_c.specs.Given as given;
 ghost use Rattle.x86_64_model.specs.Call.{UpdateFlags, SetFlags};
-ghost use Rattle.x86_64_model.specs.Mapper.{Hierarchy, Valid, allows, path_of};
+ghost use Rattle.x86_64_model.specs.Hierarchy.{Hierarchy, Valid, allows, path_of};
 ghost use Rattle.x86_64_model.specs.Path.{path_at};
 ghost use Rattle.x86_64_model.specs.Refusal.{Refused};
 ghost use Rattle.x86_64_tables.specs.MapperAnswers.{unmap_answer, refusal_of_unmap, flags_answer};
@@ -60,7 +60,7 @@ pub struct OnPage<'a, C> {
 impl<'a, C: EntryChange> Operation for OnPage<'a, C> {
     ghost use Rattle.std.specs.Option.{option_or};
     ghost use Rattle.x86_64_c.specs.Given.{bad_page, path_of_page};
-    ghost use Rattle.x86_64_model.specs.Mapper.{Valid};
+    ghost use Rattle.x86_64_model.specs.Hierarchy.{Valid};
 
     type Out = C::Out;
 

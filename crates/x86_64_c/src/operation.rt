@@ -3,7 +3,7 @@ ghost use Rattle.std.specs.Prelude.{◌≡◌, ℕ, List, length, Option, Some, 
 ghost use Rattle.std.specs.FinMap.{len};
 ghost use Rattle.x86_64_c.specs.Given as given;
 ghost use Rattle.x86_64_c.specs.private.Operations as operations;
-ghost use Rattle.x86_64_model.specs.Mapper as mapper;
+ghost use Rattle.x86_64_model.specs.Hierarchy as mapper;
 
 use crate::given::{Hierarchy, Located, locate};
 use crate::status;

@@ -3,7 +3,7 @@ ghost use Rattle.std.specs.Prelude.{◌≡◌, ◌≤◌, ℕ, Bool, List, true,
 ghost use Rattle.std.specs.Borrow.{GName};
 ghost use Rattle.x86_64_c.specs.Given as given;
 ghost use Rattle.x86_64_c.specs.private.Pools as pools;
-ghost use Rattle.x86_64_model.specs.Mapper as mapper;
+ghost use Rattle.x86_64_model.specs.Hierarchy as mapper;
 ghost use Rattle.x86_64_model.specs.Store.{StoreFits, Store, store_of};
 ghost use Rattle.x86_64_tables.specs.LentPool.{is_in, served_by};
 

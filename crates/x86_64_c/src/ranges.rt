@@ -6,7 +6,7 @@ ghost use Rattle.x86_64_c.specs.PoolCalls.{loan};
 ghost use Rattle.x86_64_c.specs.Ranges as ranges;
 ghost use Rattle.x86_64_c.specs.private.Pools as pools;
 ghost use Rattle.x86_64_c.specs.private.RangeMaps as maps;
-ghost use Rattle.x86_64_model.specs.Mapper.{Valid};
+ghost use Rattle.x86_64_model.specs.Hierarchy.{Valid};
 ghost use Rattle.x86_64_model.specs.Position.{position_count, span};
 ghost use Rattle.x86_64_tables.specs.MapperAnswers.{map_refusal};
 ghost use Rattle.x86_64_tables.specs.PageTableFlags.{bits_of};
@@ -392,7 +392,7 @@ pub struct Unmapped {
 impl<'a> Operation for UnmapFrom<'a> {
     ghost use Rattle.x86_64_c.specs.Given.{level_of, position_of};
     ghost use Rattle.x86_64_c.specs.Ranges.{Unmaps, bad_pages, end_status};
-    ghost use Rattle.x86_64_model.specs.Mapper.{Valid};
+    ghost use Rattle.x86_64_model.specs.Hierarchy.{Valid};
 
     type Out = Unmapped;
 
@@ -513,7 +513,7 @@ impl<'a> Operation for UpdateFrom<'a> {
     ghost use Rattle.x86_64_c.specs.Given.{level_of, position_of};
     ghost use Rattle.x86_64_c.specs.Ranges.{bad_pages};
     ghost use Rattle.x86_64_c.specs.private.RangeMaps.{TellsUpdates};
-    ghost use Rattle.x86_64_model.specs.Mapper.{Valid};
+    ghost use Rattle.x86_64_model.specs.Hierarchy.{Valid};
     ghost use Rattle.x86_64_tables.specs.PageTableFlags.{bits_of};
 
     type Out = Option<u64>;

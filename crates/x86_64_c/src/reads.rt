@@ -2,7 +2,7 @@
 ghost use Rattle.std.specs.Prelude.{◌≡◌, ℕ, length, option_map, Some, None};
 ghost use Rattle.x86_64_c.specs.Given as given;
 ghost use Rattle.x86_64_c.specs.Reads as reads;
-ghost use Rattle.x86_64_model.specs.Mapper.{Valid};
+ghost use Rattle.x86_64_model.specs.Hierarchy.{Valid};
 
 use crate::given::{Hierarchy, Located, address_of};
 use crate::operation::{Operation, enter};
@@ -155,7 +155,7 @@ impl Operation for Translate {
     ghost use Rattle.std.specs.Prelude.{◌≡◌};
     ghost use Rattle.x86_64_c.specs.Given.{bad_address};
     ghost use Rattle.x86_64_c.specs.Reads.{translated_at};
-    ghost use Rattle.x86_64_model.specs.Mapper.{Valid};
+    ghost use Rattle.x86_64_model.specs.Hierarchy.{Valid};
 
     type Out = Option<Translation>;
 

@@ -2,7 +2,7 @@
 ghost use Rattle.std.specs.Prelude.{◌≡◌, ℕ, length, Some, None};
 ghost use Rattle.x86_64_c.specs.Given as given;
 ghost use Rattle.x86_64_c.specs.Validity as validity;
-ghost use Rattle.x86_64_model.specs.Mapper.{Valid};
+ghost use Rattle.x86_64_model.specs.Hierarchy.{Valid};
 
 use crate::given::{Hierarchy, Located};
 use crate::operation::{Operation, enter};
@@ -54,7 +54,7 @@ pub struct IsValid;
 impl Operation for IsValid {
     ghost use Rattle.std.specs.Prelude.{◌≡◌, ◌↔◌, IsTrue};
     ghost use Rattle.x86_64_c.specs.Given.{bad_marks};
-    ghost use Rattle.x86_64_model.specs.Mapper.{Valid};
+    ghost use Rattle.x86_64_model.specs.Hierarchy.{Valid};
 
     type Out = bool;
 

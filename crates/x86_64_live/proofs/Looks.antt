@@ -5,10 +5,10 @@ use Rattle.std.proofs.Math.Seq.{take-suc, drop-cons}
 use Rattle.std.specs.List.{list_any, AllByRecursion}
 use Rattle.x86_64_mappers.proofs.Translate.WalkedPart.{index_at}
 use Rattle.x86_64_model.specs.Entry.{used, huge, address}
-use Rattle.x86_64_model.specs.Hierarchy.{Holds, entry_in}
+use Rattle.x86_64_model.specs.Validity.{Holds, entry_in}
 use Rattle.x86_64_mappers.specs.Layouts.{direct_at}
 use Rattle.x86_64_live.specs.WouldAnswer.{WouldAnswer}
-use Rattle.x86_64_model.specs.Mapper.{◌laid_in◌, Hierarchy, Valid, paths, path_of, words}
+use Rattle.x86_64_model.specs.Hierarchy.{◌laid_in◌, Hierarchy, Valid, paths, path_of, words}
 use Rattle.x86_64_model.specs.MapRule.{AfterMap, map_rule}
 use Rattle.x86_64_model.specs.Memory.{Memory, Places, Words, word}
 use Rattle.x86_64_model.specs.Path.{parents, path_at}

@@ -9,12 +9,12 @@ use Rattle.x86_64_model.specs.Call.{Reply, Answered, NotAllowed, Position, Addre
 use Rattle.x86_64_model.specs.Layout.{Layout}
 use Rattle.x86_64_model.specs.Machine.{AfterCall, do_call}
 use Rattle.x86_64_model.specs.MapRule.{AfterMap}
-use Rattle.x86_64_model.specs.Mapper.{◌laid_in◌, Hierarchy, paths}
+use Rattle.x86_64_model.specs.Hierarchy.{◌laid_in◌, Hierarchy, paths}
 use Rattle.x86_64_model.specs.Memory.{Memory}
 use Rattle.x86_64_model.specs.PageCalls.{PageCall}
 use Rattle.x86_64_model.specs.Refusal.{Answer, Done}
 use Rattle.x86_64_tables.specs.MapperAnswers.{map_answer}
-use Rattle.x86_64_tables.specs.declared.mapper.MapToError.{MapToError}
+use Rattle.x86_64_tables.specs.declared.errors.MapToError.{MapToError}
 
 -- ---- the rule's outcome in the machine's
 

@@ -4,7 +4,7 @@ use Rattle.x86_64_live.specs.declared.map.PageMap.{PageMap}
 use Rattle.x86_64_mappers.specs.Supplies.{MapsFrom, Supply}
 use Rattle.x86_64_model.specs.Allowed.{refuses}
 use Rattle.x86_64_model.specs.MapRule.{AfterMap, map_call}
-use Rattle.x86_64_model.specs.Mapper.{Hierarchy, paths, path_of}
+use Rattle.x86_64_model.specs.Hierarchy.{Hierarchy, paths, path_of}
 use Rattle.x86_64_model.specs.PageCalls.{PageCall, MapToWithTableFlags}
 use Rattle.x86_64_model.specs.PathMap.{PathMap}
 use Rattle.x86_64_model.specs.Refusal.{Answer}

@@ -1,6 +1,6 @@
 -- What a map would answer, before anything is changed.
 use Rattle.std.specs.Prelude.{◌≡◌, ℕ, List, length}
-use Rattle.x86_64_model.specs.Mapper.{Hierarchy, paths, path_of}
+use Rattle.x86_64_model.specs.Hierarchy.{Hierarchy, paths, path_of}
 use Rattle.x86_64_model.specs.MapRule.{map_call}
 use Rattle.x86_64_model.specs.Refusal.{Answer}
 

@@ -2,7 +2,7 @@
 ghost use Rattle.std.specs.Prelude.{◌≡◌, ◌≤◌};
 ghost use Rattle.x86_64_mappers.specs.Layouts.{direct_at};
 ghost use Rattle.x86_64_live.specs.WouldAnswer.{WouldAnswer};
-ghost use Rattle.x86_64_model.specs.Mapper.{◌laid_in◌, Valid};
+ghost use Rattle.x86_64_model.specs.Hierarchy.{◌laid_in◌, Valid};
 ghost use Rattle.x86_64_model.specs.Memory.{word, words_of};
 ghost use Rattle.x86_64_model.specs.Position.{index};
 ghost use Rattle.x86_64_tables.specs.MapperAnswers.{map_answer};
@@ -10,7 +10,7 @@ ghost use Rattle.x86_64_tables.specs.MapperAnswers.{map_answer};
 use x86_64_addr::level_count::LevelCount;
 use x86_64_page::frame::PhysFrame;
 use x86_64_page::page::{PageIn, PageSize, Size4KiB};
-use x86_64_tables::mapper::MapToError;
+use x86_64_tables::errors::MapToError;
 use x86_64_tables::page_table::{PageTableEntry, PageTableFlags, has_flag};
 use x86_64_tables::phys_memory::{PageTableFrameMapping, TableMemory, table_in};
 

@@ -4,7 +4,7 @@ ghost use Rattle.x86_64_live.specs.MapsOrNothing.{MapsOrNothing, call_for};
 ghost use Rattle.x86_64_mappers.specs.Layouts.{direct_at};
 ghost use Rattle.x86_64_mappers.specs.PageAnswers.{allows_call};
 ghost use Rattle.x86_64_mappers.specs.Supplies.{supply_of};
-ghost use Rattle.x86_64_model.specs.Mapper.{◌laid_in◌, Valid};
+ghost use Rattle.x86_64_model.specs.Hierarchy.{◌laid_in◌, Valid};
 ghost use Rattle.x86_64_model.specs.PageCalls.{MayAskMap};
 ghost use Rattle.x86_64_tables.specs.MapperAnswers.{map_answer};
 
@@ -14,10 +14,11 @@ use x86_64_mappers::calls::{map_allowed, map_to_with_table_flags};
 use x86_64_mappers::mapped_page_table::MappedPageTableIn;
 use x86_64_page::frame::PhysFrame;
 use x86_64_page::page::{PageIn, PageSize, Size4KiB};
+use x86_64_tables::errors::MapToError;
 use x86_64_tables::frame_alloc::FrameAllocator;
-use x86_64_tables::mapper::{MapToError, MapperFlushIn};
 use x86_64_tables::page_table::PageTableFlags;
 use x86_64_tables::phys_memory::{PageTableFrameMapping, TableMemory};
+use x86_64_tables::tokens::MapperFlushIn;
 
 /// A map of a page to a frame.
 #[derive(Clone, Copy)]

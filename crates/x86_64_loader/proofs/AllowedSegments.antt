@@ -2,7 +2,7 @@
 use Rattle.std.proofs.Common.{◌≡◌, ◌<◌, ◌*◌, ◌+◌, ◌↔◌, true, refl, sym, ◌∙◌, subst}
 use Rattle.x86_64_model.specs.Entry.{present}
 use Rattle.x86_64_model.specs.MapRule.{parent_part}
-use Rattle.x86_64_model.specs.Mapper.{Hierarchy}
+use Rattle.x86_64_model.specs.Hierarchy.{Hierarchy}
 use Rattle.x86_64_model.specs.Position.{position_count}
 use Rattle.x86_64_model.proofs.Lemmas.Maps.Arrives.{part_has}
 use Rattle.x86_64_tables.specs.PageTableFlags.{bits_of}

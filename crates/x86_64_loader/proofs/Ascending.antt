@@ -4,7 +4,7 @@ use Rattle.std.proofs.Math.Nat.{add-mul-mod_self_right}
 use Rattle.std.proofs.lemmas.Bool.{ltb-true}
 use Rattle.std.specs.List.{AllByRecursion, range_with_len}
 use Rattle.x86_64_model.specs.Call.{MapTo}
-use Rattle.x86_64_model.specs.Mapper.{Hierarchy, allows, path_of}
+use Rattle.x86_64_model.specs.Hierarchy.{Hierarchy, allows, path_of}
 use Rattle.x86_64_model.specs.PageMappings.{PageMapping, AreApart, EachApart}
 use Rattle.x86_64_model.specs.Position.{span}
 use Rattle.x86_64_model.proofs.Lemmas.Lists.All.{all_mapped}

@@ -4,7 +4,7 @@ use Rattle.std.proofs.Math.Nat.{add-mul-mod_self_right, div-lt_iff_lt-mul, div-m
 use Rattle.x86_64_model.specs.Arrivals.{NoWorse}
 use Rattle.x86_64_model.specs.Entry.{writable, user}
 use Rattle.x86_64_model.specs.Layout.{Layout}
-use Rattle.x86_64_model.specs.Mapper.{Hierarchy, Valid, path_of, walk}
+use Rattle.x86_64_model.specs.Hierarchy.{Hierarchy, Valid, path_of, walk}
 use Rattle.x86_64_model.specs.PageWalk.{Walked}
 use Rattle.x86_64_model.specs.Path.{path_at}
 use Rattle.x86_64_model.specs.Position.{span}
@@ -12,7 +12,7 @@ use Rattle.x86_64_model.specs.Window.{begins_with}
 use Rattle.x86_64_model.proofs.Lemmas.Machines.Effects.{map_may}
 use Rattle.x86_64_model.proofs.Lemmas.Machines.Standing.{arrives_where_stands}
 use Rattle.x86_64_model.specs.MapRule.{parent_part}
-use Rattle.x86_64_model.specs.Mapper.{paths}
+use Rattle.x86_64_model.specs.Hierarchy.{paths}
 use Rattle.x86_64_mappers.specs.Supplies.{Supply}
 use Rattle.x86_64_loader.specs.private.Held.{IsHeld, PagesAreHeld}
 use Rattle.x86_64_loader.specs.Maps.{KeptWithSupply}

@@ -8,13 +8,13 @@ use Rattle.x86_64_model.specs.Layout.{Layout}
 use Rattle.x86_64_model.specs.Machine.{AfterCall, State, only_reply, do_call, step, replies_of, state_after}
 use Rattle.x86_64_model.specs.MapRule.{parent_part}
 use Rattle.x86_64_model.specs.Memory.{IsMapping}
-use Rattle.x86_64_model.specs.Mapper.{Hierarchy, DoesMap, MayMap, PoolFits, machine_of, state_of, path_of}
+use Rattle.x86_64_model.specs.Hierarchy.{Hierarchy, DoesMap, MayMap, PoolFits, machine_of, state_of, path_of}
 use Rattle.x86_64_model.specs.PageMappings.{PageMapping, accepted, map_calls, map_call_of}
 use Rattle.x86_64_model.specs.Pool.{TakesBack}
 use Rattle.x86_64_model.specs.Refusal.{Answer, Refusal, Refused}
 use Rattle.x86_64_model.proofs.Lemmas.Runs.Runs.{replies_append, state_append}
 use Rattle.x86_64_tables.specs.MapperAnswers.{map_answer}
-use Rattle.x86_64_tables.specs.declared.mapper.MapToError.{MapToError}
+use Rattle.x86_64_tables.specs.declared.errors.MapToError.{MapToError}
 use Rattle.x86_64_mappers.specs.Supplies.{Supply, DoesMapFrom}
 use Rattle.x86_64.specs.Asked as asked
 use Rattle.x86_64.specs.Pairs.{put_first}

@@ -7,13 +7,13 @@ use Rattle.x86_64_model.specs.Entry.{IsParentFlags, present}
 use Rattle.x86_64_model.specs.Layout.{Layout}
 use Rattle.x86_64_model.specs.MapRule.{parent_part}
 use Rattle.x86_64_model.specs.Memory.{IsMapping}
-use Rattle.x86_64_model.specs.Mapper.{Hierarchy, DoesMap, MayMap, SupplyFits, allows_map, path_of}
+use Rattle.x86_64_model.specs.Hierarchy.{Hierarchy, DoesMap, MayMap, SupplyFits, allows_map, path_of}
 use Rattle.x86_64_model.specs.Path.{path_at}
 use Rattle.x86_64_model.specs.Position.{position_count, span}
 use Rattle.x86_64_model.specs.Refusal.{Answer, Done, Refused}
 use Rattle.x86_64_model.proofs.Lemmas.Machines.Owners.{does_map_to}
 use Rattle.x86_64_tables.specs.MapperAnswers.{map_refusal}
-use Rattle.x86_64_tables.specs.declared.mapper.MapToError.{MapToError}
+use Rattle.x86_64_tables.specs.declared.errors.MapToError.{MapToError}
 use Rattle.x86_64_mappers.specs.Ranges.{MapRange, MapsAll, MayMapRange, MapsEach, StopsAt, accepted_maps, range_frame, map_at, range_of}
 use Rattle.x86_64_mappers.specs.Supplies.{Supply, DoesMapFrom}
 use Rattle.x86_64_mappers.proofs.Range.Runs.{accepted_more}

@@ -4,12 +4,12 @@ use Rattle.std.specs.Result.{IfOk}
 use Rattle.x86_64_model.specs.Call.{MapTo}
 use Rattle.x86_64_model.specs.Entry.{IsParentFlags, present}
 use Rattle.x86_64_model.specs.Memory.{IsMapping}
-use Rattle.x86_64_model.specs.Mapper.{Hierarchy, MayMap, IsMappedAs, path_of}
+use Rattle.x86_64_model.specs.Hierarchy.{Hierarchy, MayMap, IsMappedAs, path_of}
 use Rattle.x86_64_model.specs.Position.{span}
 use Rattle.x86_64_model.specs.Refusal.{Answer, Done, Refused, ParentEntryHugePage}
 use Rattle.x86_64_model.proofs.Lemmas.Machines.Standing.{map_to_stands, stands_after, stands_refuses}
 use Rattle.x86_64_tables.specs.MapperAnswers.{map_answer}
-use Rattle.x86_64_tables.specs.declared.mapper.MapToError.{MapToError}
+use Rattle.x86_64_tables.specs.declared.errors.MapToError.{MapToError}
 use Rattle.x86_64_mappers.specs.Supplies.{Supply, DoesMapFrom}
 use Rattle.x86_64_mappers.proofs.Map.MapArrivals.{frame_address, small_multiple}
 use Rattle.x86_64_loader.specs.Pages.{IsFree, LeavesSupply}

@@ -8,7 +8,7 @@ use Rattle.x86_64_model.specs.Call.{MapTo}
 use Rattle.x86_64_model.specs.Entry.{present}
 use Rattle.x86_64_model.specs.Layout.{Layout}
 use Rattle.x86_64_model.specs.MapRule.{parent_part}
-use Rattle.x86_64_model.specs.Mapper.{◌laid_in◌, Hierarchy, MayMap, IsMappedAs, paths, path_of, PoolFits}
+use Rattle.x86_64_model.specs.Hierarchy.{◌laid_in◌, Hierarchy, MayMap, IsMappedAs, paths, path_of, PoolFits}
 use Rattle.x86_64_model.specs.PageMappings.{PageMapping}
 use Rattle.x86_64_model.specs.PageWalk.{Walked}
 use Rattle.x86_64_model.specs.Path.{path_at}

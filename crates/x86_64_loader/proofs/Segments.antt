@@ -6,7 +6,7 @@ use Rattle.std.proofs.lemmas.List.{append-nil, take_more}
 use Rattle.std.proofs.lemmas.List.Concat.{flat_map-cons}
 use Rattle.std.proofs.lemmas.Option.{slice_get_read, get_or_from_slice_get}
 use Rattle.std.specs.List.{All}
-use Rattle.x86_64_model.specs.Mapper.{Hierarchy, Valid}
+use Rattle.x86_64_model.specs.Hierarchy.{Hierarchy, Valid}
 use Rattle.x86_64_model.specs.PageMappings.{PageMapping}
 use Rattle.x86_64_tables.specs.MapperAnswers.{map_refusal}
 use Rattle.x86_64_tables.specs.PageTableFlags.{bits_of}

@@ -1,7 +1,7 @@
 -- Parts of a segment, one after another.
 use Rattle.std.proofs.Common.{◌≡◌, ◌≤◌, ◌+◌, ◌++◌, ℕ, List, inl, inr, subst, arith}
 use Rattle.std.proofs.lemmas.Bool.{cases_lt}
-use Rattle.x86_64_model.specs.Mapper.{Hierarchy, IsMappedAs}
+use Rattle.x86_64_model.specs.Hierarchy.{Hierarchy, IsMappedAs}
 use Rattle.x86_64_model.specs.PageMappings.{PageMapping}
 use Rattle.x86_64_model.specs.Refusal.{Refusal}
 use Rattle.x86_64_tables.specs.PageTableFlags.{bits_of}

@@ -5,7 +5,7 @@ use Rattle.std.proofs.lemmas.Bool.{and_from, and_parts}
 use Rattle.x86_64_model.specs.Allowed.{map_allowed}
 use Rattle.x86_64_model.specs.Entry.{present, huge}
 use Rattle.x86_64_model.specs.MapRule.{parent_part}
-use Rattle.x86_64_model.specs.Mapper.{Hierarchy, IsMappedAs, paths}
+use Rattle.x86_64_model.specs.Hierarchy.{Hierarchy, IsMappedAs, paths}
 use Rattle.x86_64_model.specs.Path.{is_small, path_at}
 use Rattle.x86_64_model.specs.PathMap.{PathMap}
 use Rattle.x86_64_model.specs.Position.{span, page_path}

@@ -9,7 +9,7 @@ use Rattle.x86_64_model.specs.Entry.{IsParentFlags, present}
 use Rattle.x86_64_model.specs.Laws.PageMappings.{IsMappable}
 use Rattle.x86_64_model.specs.Lists.{In}
 use Rattle.x86_64_model.specs.Machine.{Machine, IsMachine}
-use Rattle.x86_64_model.specs.Mapper.{Hierarchy, SupplyFits, machine_of, paths, state_of, words}
+use Rattle.x86_64_model.specs.Hierarchy.{Hierarchy, SupplyFits, machine_of, paths, state_of, words}
 use Rattle.x86_64_model.specs.PageMappings.{PageMapping, AreApart, EachApart, IsUnmapped, accepted, entry_path}
 use Rattle.x86_64_model.specs.Path.{parents, path_at}
 use Rattle.x86_64_model.specs.Position.{position_count, span}

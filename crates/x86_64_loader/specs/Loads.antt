@@ -1,7 +1,7 @@
 -- The effect of a load of segments.
 use Rattle.std.specs.Prelude.{List, flat_map, Result, OnOk, IfErr, IsOk}
 use Rattle.std.specs.List.{All}
-use Rattle.x86_64_model.specs.Mapper.{Hierarchy}
+use Rattle.x86_64_model.specs.Hierarchy.{Hierarchy}
 use Rattle.x86_64_model.specs.PageMappings.{PageMapping}
 use Rattle.x86_64_mappers.specs.Supplies.{Supply}
 use Rattle.x86_64_loader.specs.Maps.{Accepts, KeptWithSupply}

@@ -4,7 +4,7 @@ use Rattle.std.specs.Prelude.{◌≡◌, ℕ, Bool, List, [], ◌∷◌, ◌++�
 use Rattle.x86_64_model.specs.Arrivals.{KeepsArrival}
 use Rattle.x86_64_model.specs.Call.{Reply, Answered}
 use Rattle.x86_64_model.specs.Machine.{replies_of, state_after}
-use Rattle.x86_64_model.specs.Mapper.{Hierarchy, PoolFits, SupplyFits, machine_of, state_of, walk}
+use Rattle.x86_64_model.specs.Hierarchy.{Hierarchy, PoolFits, SupplyFits, machine_of, state_of, walk}
 use Rattle.x86_64_model.specs.PageMappings.{PageMapping, accepted, map_calls}
 use Rattle.x86_64_model.specs.Refusal.{Refusal, Refused}
 use Rattle.x86_64_mappers.specs.Supplies.{Supply}

@@ -2,7 +2,7 @@
 -- mapped as `map_to` maps it.
 use Rattle.std.specs.Prelude.{◌≡◌, ◌+◌, ◌*◌, ◌^◌, ◌%◌, ◌<◌, ◌≤◌, ℕ, true}
 use Rattle.x86_64_model.specs.Call.{MapTo}
-use Rattle.x86_64_model.specs.Mapper.{Hierarchy, IsMappedAs, allows, path_of}
+use Rattle.x86_64_model.specs.Hierarchy.{Hierarchy, IsMappedAs, allows, path_of}
 use Rattle.x86_64_model.specs.Position.{span}
 use Rattle.x86_64_mappers.specs.Supplies.{Supply}
 use Rattle.x86_64_loader.specs.Maps.{KeptWithSupply}

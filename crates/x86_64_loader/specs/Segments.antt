@@ -3,7 +3,7 @@ use Rattle.std.specs.Prelude.{◌≡◌, ◌+◌, ◌-◌, ◌*◌, ◌/◌, ◌
 use Rattle.std.specs.List.{All, AllByRecursion, range_with_len, sum_by}
 use Rattle.x86_64_model.specs.Arrivals.{NoWorse}
 use Rattle.x86_64_model.specs.Entry.{present, writable, user}
-use Rattle.x86_64_model.specs.Mapper.{Hierarchy, ArrivesIn, IsMappedAs, paths, walk}
+use Rattle.x86_64_model.specs.Hierarchy.{Hierarchy, ArrivesIn, IsMappedAs, paths, walk}
 use Rattle.x86_64_model.specs.PageMappings.{PageMapping, IsUnmapped, entry_path}
 use Rattle.x86_64_model.specs.PageWalk.{Walked}
 use Rattle.x86_64_model.specs.Position.{span}

@@ -5,7 +5,7 @@ ghost use Rattle.x86_64_loader.specs.Loads.{LoadsSegments};
 ghost use Rattle.x86_64_loader.specs.Segments.{IsAllowed, large_pages, small_pages};
 ghost use Rattle.x86_64_loader.specs.private.Loads.{LoadsSegment, pages_by};
 ghost use Rattle.x86_64_mappers.specs.Supplies.{supply_of};
-ghost use Rattle.x86_64_model.specs.Mapper.{SupplyFits};
+ghost use Rattle.x86_64_model.specs.Hierarchy.{SupplyFits};
 
 use crate::pages::Stopped;
 use crate::parts::{map_part, pages_before_large};

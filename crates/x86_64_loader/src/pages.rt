@@ -4,7 +4,7 @@ ghost use Rattle.x86_64_loader.specs.private.Loads.{AreMapped, IsStopped};
 ghost use Rattle.x86_64_loader.specs.Pages.{MayBeMapped};
 ghost use Rattle.x86_64_mappers.specs.Supplies.{supply_of};
 ghost use Rattle.x86_64_model.specs.Entry.{present};
-ghost use Rattle.x86_64_model.specs.Mapper.{SupplyFits};
+ghost use Rattle.x86_64_model.specs.Hierarchy.{SupplyFits};
 ghost use Rattle.x86_64_tables.specs.MapperAnswers.{map_refusal};
 ghost use Rattle.x86_64_tables.specs.PageTableFlags.{bits_of};
 

@@ -3,7 +3,7 @@ ghost use Rattle.std.specs.Prelude.{◌≡◌, ◌+◌, ◌*◌, ◌%◌, ◌<�
 ghost use Rattle.x86_64_loader.specs.private.Loads.{LoadsPart};
 ghost use Rattle.x86_64_loader.specs.Segments.{IsAllowed, count_before, pages_of_part, size_of};
 ghost use Rattle.x86_64_mappers.specs.Supplies.{supply_of};
-ghost use Rattle.x86_64_model.specs.Mapper.{SupplyFits};
+ghost use Rattle.x86_64_model.specs.Hierarchy.{SupplyFits};
 ghost use Rattle.x86_64_tables.specs.MapperAnswers.{map_refusal};
 
 use crate::pages::{Stopped, map_pages};

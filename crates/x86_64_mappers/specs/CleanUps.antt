@@ -1,6 +1,6 @@
 -- Clean ups that return the frames of removed tables to a deallocator.
 use Rattle.std.specs.Prelude.{◌≡◌, ℕ, Bool, List}
-use Rattle.x86_64_model.specs.Mapper.{Hierarchy, MayCleanUp, CleansUp}
+use Rattle.x86_64_model.specs.Hierarchy.{Hierarchy, MayCleanUp, CleansUp}
 use Rattle.x86_64_model.specs.Store.{Store}
 
 -- What the ghost members of a `FrameDeallocator` say of its values.

@@ -2,7 +2,7 @@
 use Rattle.std.specs.Prelude.{◌↔◌, ℕ, Bool, List, Option, None, IsSome}
 use Rattle.x86_64_model.specs.Layout.{Layout}
 use Rattle.x86_64_model.specs.Memory.{Memory, Places, words_of}
-use Rattle.x86_64_model.specs.Mapper.{◌laid_in◌, Hierarchy, PoolFits, Valid, words}
+use Rattle.x86_64_model.specs.Hierarchy.{◌laid_in◌, Hierarchy, PoolFits, Valid, words}
 
 -- The layout of a mapper without a recursive index, with this number of levels, these places of frames and the root in this frame.
 -- A new table entry gets the parent flags alone.

@@ -14,5 +14,5 @@ pub mod Supplies
 pub mod Windows
 pub mod private
 pub use Rattle.x86_64_model.specs.Layout
-pub use Rattle.x86_64_model.specs.Mapper
+pub use Rattle.x86_64_model.specs.Hierarchy
 pub use Rattle.x86_64_model.specs.Memory

@@ -2,11 +2,11 @@
 use Rattle.std.specs.Prelude.{◌≡◌, ℕ, Bool, true, Result}
 use Rattle.x86_64_model.specs.Call.{Call}
 use Rattle.x86_64_model.specs.Entry.{present}
-use Rattle.x86_64_model.specs.Mapper.{Hierarchy, Does, ArrivesIn, allows, allows_map, named, page_translation, path_of}
+use Rattle.x86_64_model.specs.Hierarchy.{Hierarchy, Does, ArrivesIn, allows, allows_map, named, page_translation, path_of}
 use Rattle.x86_64_model.specs.PageCalls.{PageCall, asked}
 use Rattle.x86_64_model.specs.Refusal.{Answer}
 use Rattle.x86_64_tables.specs.MapperAnswers.{flags_answer}
-use Rattle.x86_64_tables.specs.declared.mapper.FlagUpdateError.{FlagUpdateError}
+use Rattle.x86_64_tables.specs.declared.errors.FlagUpdateError.{FlagUpdateError}
 
 -- Whether the hierarchy allows a call on a page of a level: the call's own condition holds.
 abbrev pub allows_call : {Lent : Type 0} → Hierarchy Lent → (level : ℕ) → PageCall → Bool

@@ -5,13 +5,13 @@ use Rattle.x86_64_model.specs.Arrivals.{Arrives}
 use Rattle.x86_64_model.specs.Call.{Call, MapToWithTableFlags, Reply, Answered}
 use Rattle.x86_64_model.specs.Lists.{In}
 use Rattle.x86_64_model.specs.Machine.{replies_of, state_after}
-use Rattle.x86_64_model.specs.Mapper.{Hierarchy, SupplyFits, MayMap, DoesMap, Owns, KeepsOthers, allows_map, machine_of, state_of, path_of, walk}
+use Rattle.x86_64_model.specs.Hierarchy.{Hierarchy, SupplyFits, MayMap, DoesMap, Owns, KeepsOthers, allows_map, machine_of, state_of, path_of, walk}
 use Rattle.x86_64_model.specs.Path.{path_at}
 use Rattle.x86_64_model.specs.Position.{span, position_count}
 use Rattle.x86_64_model.specs.Refusal.{Refusal, Answer, Done, Refused}
 use Rattle.x86_64_tables.specs.MapperAnswers.{map_refusal}
 use Rattle.x86_64_mappers.specs.Supplies.{Supply}
-use Rattle.x86_64_mappers.specs.declared.access.ranges.MapRangeErrorIn.{MapRangeErrorIn}
+use Rattle.x86_64_mappers.specs.declared.walk.map_range.MapRangeErrorIn.{MapRangeErrorIn}
 
 -- A range of pages of a level that are mapped to frames: the position of the first page (an address counted without the
 -- non-canonical gap), the address of the first frame, and the flags and parent flags of each map.

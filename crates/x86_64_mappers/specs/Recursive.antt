@@ -3,7 +3,7 @@ use Rattle.std.specs.Prelude.{ℕ, List, Some, bit_or, unwrap_or}
 use Rattle.std.specs.Borrow.{Lends, MutBor, Fml, RattleType}
 use Rattle.x86_64_model.specs.Layout.{Layout}
 use Rattle.x86_64_model.specs.Memory.{Memory, Words, identity_places, words_of}
-use Rattle.x86_64_model.specs.Mapper.{◌laid_in◌, Hierarchy, Valid}
+use Rattle.x86_64_model.specs.Hierarchy.{◌laid_in◌, Hierarchy, Valid}
 use Rattle.x86_64_model.specs.Window.{Window}
 use Rattle.x86_64_tables.specs.ActiveMemory.{memory_of, cr3_of, walked_frame}
 use Rattle.x86_64_tables.specs.SelfEntries.{window_at}

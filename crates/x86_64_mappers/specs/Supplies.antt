@@ -1,7 +1,7 @@
 -- Allocators as single values, and maps that take the frames of new tables from them.
 use Rattle.std.specs.Prelude.{◌≡◌, ℕ, Bool, List}
 use Rattle.x86_64_model.specs.Call.{Call}
-use Rattle.x86_64_model.specs.Mapper.{Hierarchy, DoesMap}
+use Rattle.x86_64_model.specs.Hierarchy.{Hierarchy, DoesMap}
 use Rattle.x86_64_model.specs.PageCalls.{PageCall, asked}
 use Rattle.x86_64_model.specs.Refusal.{Answer}
 

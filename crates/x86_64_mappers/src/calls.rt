@@ -2,7 +2,7 @@
 //! [`Translate`](crate::mapper::Translate) and [`CleanUp`](crate::mapper::CleanUp), and those of five levels, call
 //! these. Their documentation says more about each call.
 ghost use Rattle.std.specs.Prelude.{◌≡◌, ◌<◌, ◌≤◌, ◌-◌, IfOk};
-ghost use Rattle.x86_64_model.specs.Mapper.{Valid};
+ghost use Rattle.x86_64_model.specs.Hierarchy.{Valid};
 ghost use Rattle.x86_64_model.specs.Position.{lower_half, position_count};
 ghost use Rattle.x86_64_model.specs.PageCalls.{MayAsk, MayAskMap, Answers, MapTo, MapToWithTableFlags, IdentityMap, Unmap, UpdateFlags, SetFlags};
 ghost use Rattle.x86_64_mappers.specs.CleanUps.{deallocator_store, MayCleanUpInto, CleansUpInto};
@@ -11,25 +11,24 @@ ghost use Rattle.x86_64_mappers.specs.Supplies.{MapsFrom, supply_of};
 ghost use Rattle.x86_64_tables.specs.MapperAnswers.{map_answer, unmap_answer, translate_answer};
 ghost use Rattle.x86_64_tables.specs.PageTableFlags.{bits_of};
 
-pub use crate::access::TableAccess;
-use crate::access::clean_up::all_pages;
-pub use crate::access::clean_up::clean_up_range;
-pub use crate::access::condition::{map_range_allowed, range_allowed};
-use crate::access::path::path_of_page;
-pub use crate::access::range_changes::{FrameSink, unmap_range, update_flags_range};
-pub use crate::access::ranges::{MapRangeError, MapRangeError57, MapRangeErrorIn, map_range};
-pub use crate::access::translate::{translate, translate_addr};
-use crate::access::{change, condition, map, translate as translations};
+pub use crate::walk::TableAccess;
+pub use crate::walk::change_range::{FrameSink, unmap_range, update_flags_range};
+use crate::walk::clean_up::all_pages;
+pub use crate::walk::clean_up::clean_up_range;
+pub use crate::walk::condition::{map_range_allowed, range_allowed};
+pub use crate::walk::map_range::{MapRangeError, MapRangeError57, MapRangeErrorIn, map_range};
+use crate::walk::path::path_of_page;
+pub use crate::walk::translate::{translate, translate_addr};
+use crate::walk::{change, condition, map, translate as translations};
 use x86_64_addr::addr::VirtAddrIn;
 use x86_64_addr::level_count::LevelCount;
 use x86_64_page::frame::PhysFrame;
 use x86_64_page::page::{PageIn, PageSize, Size4KiB};
+use x86_64_tables::errors::{FlagUpdateError, MapToError, TranslateError, UnmapError};
 use x86_64_tables::frame_alloc::{FrameAllocator, FrameDeallocator};
-use x86_64_tables::mapper::{
-    FlagUpdateError, MapToError, MapperFlushAll, MapperFlushIn, TablesIn, TranslateError,
-    UnmapError, parent_flags,
-};
 use x86_64_tables::page_table::PageTableFlags;
+use x86_64_tables::page_tables::{TablesIn, parent_flags};
+use x86_64_tables::tokens::{MapperFlushAll, MapperFlushIn};
 
 /// Maps a page to a frame with these flags, and adds the parent flags to the entries above it. Missing tables are
 /// created in frames of the allocator.

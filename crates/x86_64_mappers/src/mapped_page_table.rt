@@ -1,10 +1,10 @@
 //! The mapper that finds page tables by a frame mapping.
 ghost use Rattle.std.specs.Prelude.{◌≡◌, ◌<◌, ◌↔◌, Some, IfOk, OnErr, IsTrue};
 ghost use Rattle.std.specs.FinMap.{len};
-ghost use Rattle.x86_64_model.specs.Mapper.{◌laid_in◌, Valid};
+ghost use Rattle.x86_64_model.specs.Hierarchy.{◌laid_in◌, Valid};
 ghost use Rattle.x86_64_mappers.specs.Layouts.{direct_at, root_table, HasRoot};
 
-use crate::access::TableAccess;
+use crate::walk::TableAccess;
 use bitflags::Flags;
 use std::alloc::{AllocError, Global};
 use std::marker::{Model, PhantomData};
@@ -13,8 +13,8 @@ use x86_64_addr::index::PageTableIndex;
 use x86_64_addr::level_count::{FiveLevels, FourLevels, LevelCount};
 use x86_64_page::frame::PhysFrame;
 use x86_64_page::page::{PageSize, Size4KiB};
-use x86_64_tables::mapper::{Tables, TablesIn};
 use x86_64_tables::page_table::{PageTable, PageTableFlags};
+use x86_64_tables::page_tables::{Tables, TablesIn};
 use x86_64_tables::phys_memory::{
     FramePlace, PageTableFrameMapping, PhysMemory, TableMemory, is_valid_hierarchy,
     is_valid_hierarchy_57,

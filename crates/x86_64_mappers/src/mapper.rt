@@ -1,6 +1,6 @@
 //! Translates addresses and maps pages, over any mapper's access to its tables.
 ghost use Rattle.std.specs.Prelude.{◌≡◌, ◌<◌, ◌^◌, ◌↔◌, true, List, Some, option_map, fold, length, IsTrue, IfOk, IfErr};
-ghost use Rattle.x86_64_model.specs.Mapper.{Valid, walk, translation};
+ghost use Rattle.x86_64_model.specs.Hierarchy.{Valid, walk, translation};
 ghost use Rattle.x86_64_model.specs.Translation.{address_of};
 ghost use Rattle.x86_64_tables.specs.PageTableFlags.{bits_of};
 
@@ -18,12 +18,12 @@ pub use translate57::Translate57;
 use x86_64_addr::addr::{PhysAddr, VirtAddr};
 use x86_64_page::frame::PhysFrame;
 use x86_64_page::page::{Page, PageSize, Size1GiB, Size2MiB, Size4KiB};
+use x86_64_tables::errors::{FlagUpdateError, MapToError, TranslateError, UnmapError};
 use x86_64_tables::frame_alloc::FrameAllocator;
-use x86_64_tables::mapper::{
-    FlagUpdateError, MapToError, MapperFlush, MapperFlushAll, MapperFlushRange, PageTables,
-    TranslateError, TranslateResult, UnmapError,
-};
 use x86_64_tables::page_table::PageTableFlags;
+use x86_64_tables::page_tables::PageTables;
+use x86_64_tables::tokens::{MapperFlush, MapperFlushAll, MapperFlushRange};
+use x86_64_tables::translation::TranslateResult;
 
 /// Translates virtual addresses.
 pub trait Translate: TableAccess + PageTables {
@@ -68,7 +68,7 @@ impl<M: TableAccess + PageTables> Translate for M {}
 pub trait Mapper<S: PageSize>: TableAccess + PageTables {
     ghost use Rattle.x86_64_model.specs.Call.{Reply};
     ghost use Rattle.x86_64_model.specs.Entry.{no_address, present};
-    ghost use Rattle.x86_64_model.specs.Mapper.{SupplyFits};
+    ghost use Rattle.x86_64_model.specs.Hierarchy.{SupplyFits};
     ghost use Rattle.x86_64_model.specs.PageCalls.{MayAsk, MayAskMap, Answers, MapTo, MapToWithTableFlags, IdentityMap, Unmap, UpdateFlags, SetFlags};
     ghost use Rattle.x86_64_mappers.specs.RangeChanges.{IsRange, frames_done, UnmapsEach, UpdatesEach};
     ghost use Rattle.x86_64_mappers.specs.Ranges.{MayMapRange, range_of, MapsRange};

@@ -1,6 +1,6 @@
 //! The mapper for a memory that is mapped as a whole into the virtual address space, at an offset.
 ghost use Rattle.std.specs.Prelude.{◌≡◌, ◌↔◌, IsTrue};
-ghost use Rattle.x86_64_model.specs.Mapper.{◌laid_in◌, Valid};
+ghost use Rattle.x86_64_model.specs.Hierarchy.{◌laid_in◌, Valid};
 ghost use Rattle.x86_64_model.specs.Memory.{identity_places};
 ghost use Rattle.x86_64_mappers.specs.Layouts.{direct_at};
 ghost use Rattle.x86_64_mappers.specs.Offsets.{offset_places, OffsetFits};
@@ -13,7 +13,7 @@ use x86_64_addr::addr::VirtAddrIn;
 use x86_64_addr::level_count::{FiveLevels, FourLevels, LevelCount};
 use x86_64_page::frame::PhysFrame;
 use x86_64_page::page::Size4KiB;
-use x86_64_tables::mapper::Tables;
+use x86_64_tables::page_tables::Tables;
 use x86_64_tables::phys_memory::{PhysMemory, TableMemory};
 
 /// A mapper for a hierarchy of any number of levels of page tables, in a memory that is mapped as a whole into the

@@ -3,7 +3,7 @@
 ghost use Rattle.std.specs.Prelude.{◌≡◌, Some, bit_or};
 ghost use Rattle.std.specs.Borrow.{sem};
 ghost use Rattle.x86_64_model.specs.Memory.{word};
-ghost use Rattle.x86_64_model.specs.Mapper.{Valid};
+ghost use Rattle.x86_64_model.specs.Hierarchy.{Valid};
 ghost use Rattle.x86_64_tables.specs.PageTableFlags.{bits_of};
 ghost use Rattle.x86_64_mappers.specs.InvalidPageTables.{is_root_window};
 ghost use Rattle.x86_64_mappers.specs.Layouts.{root_table};
@@ -14,7 +14,7 @@ mod made;
 mod walked_tables;
 mod windows;
 
-use crate::access::TableAccess;
+use crate::walk::TableAccess;
 use bitflags::Flags;
 use made::made;
 use std::fmt::{Display, Formatter, Result as FmtResult, Write};
@@ -30,8 +30,8 @@ use x86_64_addr::index::PageTableIndex;
 use x86_64_addr::level_count::{FiveLevels, FourLevels, LevelCount};
 use x86_64_page::frame::PhysFrame;
 use x86_64_page::page::{PageSize, Size4KiB};
-use x86_64_tables::mapper::{Tables, TablesIn};
 use x86_64_tables::page_table::{PageTable, PageTableFlags};
+use x86_64_tables::page_tables::{Tables, TablesIn};
 use x86_64_tables::phys_memory::{Active, PhysMemory};
 
 /// The reason why no recursive mapper was created.

@@ -3,8 +3,8 @@ use Rattle.std.specs.Prelude.{◌≡◌, ℕ, ◌==◌, if◌then◌else◌, ref
 use Rattle.x86_64_model.specs.Mappings.{Mapping, Rights}
 use Rattle.x86_64_tables.specs.PageTableFlags.{bits_of}
 use Rattle.x86_64_tables.specs.Translations.{frame_start, frame_size}
-use Rattle.x86_64_tables.specs.declared.mapper.MappedFrame.{MappedFrame}
-use Rattle.x86_64_tables.specs.declared.mapper.MappedFrame.TheVariants.{Size4KiB, Size2MiB, Size1GiB}
+use Rattle.x86_64_tables.specs.declared.translation.MappedFrame.{MappedFrame}
+use Rattle.x86_64_tables.specs.declared.translation.MappedFrame.TheVariants.{Size4KiB, Size2MiB, Size1GiB}
 use Rattle.x86_64_tables.specs.declared.page_table.flags.PageTableFlags.{PageTableFlags}
 
 -- The mapping that starts at position `start` (the number of an address counted without the non-canonical gap) and maps the whole

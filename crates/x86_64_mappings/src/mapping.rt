@@ -14,8 +14,8 @@ use std::marker::Model;
 use x86_64_addr::addr::VirtAddrIn;
 use x86_64_addr::level_count::{FiveLevels, FourLevels, LevelCount};
 use x86_64_page::frame::PhysFrame;
-use x86_64_tables::mapper::MappedFrame;
 use x86_64_tables::page_table::{PageTableEntry, PageTableFlags, Rights};
+use x86_64_tables::translation::MappedFrame;
 
 /// What a leaf maps, with `L::LEVELS` levels of page tables: the addresses from `start` on, for as many bytes as the frame
 /// has, are mapped to the frame.

@@ -1,40 +1,194 @@
--- What it means that words hold a path map from a root, and that this is a valid hierarchy of L levels.
-use Rattle.std.specs.Prelude.{fold, ◌<◌, zero, suc, ◌≡◌, ℕ, false, cond, List, [], ◌∷◌, ◌++◌, Option, Some, None, IsSome}
-use Rattle.std.specs.FinMap.{empty}
-use Rattle.x86_64_model.specs.Entry.{huge, address, names_table}
-use Rattle.x86_64_model.specs.Path.{level_of, paths_below}
-use Rattle.x86_64_model.specs.PathMap.{PathMap, entry, put, HasUsedAlone, table_at}
-use Rattle.x86_64_model.specs.Memory.{Words, word}
+-- The conditions and effects of a mapper's calls, over one record: the hierarchy that the mapper owns for a while.
+use Rattle.std.specs.Prelude.{◌≢◌, ◌≡◌, ◌<◌, ◌+◌, ℕ, Bool, true, List, ◌∷◌, Some, Option}
+use Rattle.x86_64_model.specs.Allowed.{allowed, map_allowed, refuses}
+use Rattle.x86_64_model.specs.Arrivals.{Arrives}
+use Rattle.x86_64_model.specs.Call.{Call, UpdateFlags, SetFlags, CleanUp, Answered, Cleaned, parent_flags_of}
+use Rattle.x86_64_model.specs.CleanUp.{clean_up}
+use Rattle.x86_64_model.specs.Entry.{writable, user, address}
+use Rattle.x86_64_model.specs.Lists.{In}
+use Rattle.x86_64_model.specs.Machine.{Machine, State, do_call}
+use Rattle.x86_64_model.specs.Memory.{Memory, Words, word, Places, words_of}
+use Rattle.x86_64_model.specs.PageRules.{translate_page}
+use Rattle.x86_64_model.specs.PageWalk.{Walked, page_walk}
+use Rattle.x86_64_model.specs.Path.{front_at, path_at}
+use Rattle.x86_64_model.specs.PathMap.{PathMap, table_at}
+use Rattle.x86_64_model.specs.Pool.{IsOwn, IsTable, Fits, TakesBack, with_returned}
+use Rattle.x86_64_model.specs.Refusal.{Answer}
+use Rattle.x86_64_model.specs.Standing.{IsMappedIn}
+use Rattle.x86_64_model.specs.Translation.{Translated, translate}
+use Rattle.x86_64_model.specs.Validity.{paths_of}
+use Rattle.x86_64_model.specs.Layout.{Layout}
+use Rattle.std.specs.FinMap.{get}
+use Rattle.x86_64_model.specs.Window.{outside_window, entry_at, IsValidFor}
 
--- The word at an index of the table in a frame, 0 if there is no frame.
-abbrev pub entry_in : Words → (frame : Option ℕ) → (i : ℕ) → ℕ
-entry_in tables None i = 0
-entry_in tables (Some frame) i = word tables frame i
+-- A hierarchy that a mapper owns for a while: its fixed layout, the current memory, and what was lent to the mapper, which is the
+-- memory and what finds frames in it.
+pub record Hierarchy (Lent : Type 0) : Type 0 where
+  pub layout : Layout
+  pub memory : Memory
+  pub lent : Lent
 
--- The words hold the path map from the root: each entry is the word at its index in the table that its path without the last index
--- leads to. The path map stores only used entries, and each table that it leads to is in memory.
-pub record Holds (L : ℕ) (tables : Words) (root : ℕ) (paths : PathMap) : Type 0 where
-  pub entries : (q : List ℕ) (i : ℕ) → entry paths (q ++ i ∷ []) ≡ entry_in tables (table_at L root paths q) i
-  pub nothing_above : entry paths [] ≡ 0
-  pub used_alone : HasUsedAlone paths
-  pub in_memory : (q : List ℕ) (f : ℕ) → table_at L root paths q ≡ Some f → IsSome (tables f)
+-- The hierarchy that a layout has in a memory, with nothing lent.
+infix 50 ◌laid_in◌
+abbrev pub ◌laid_in◌ : Layout → Memory → Hierarchy (Unit {0})
+layout laid_in memory = record { layout = layout; memory = memory; lent = tt }
 
--- The words hold the path map as a valid hierarchy of L levels: each table, including the root, has a frame of its own, only the
--- root may be in frame 0, and no entry above level three has HUGE_PAGE.
-pub record IsValid (L : ℕ) (tables : Words) (root : ℕ) (paths : PathMap) : Type 0 where
-  pub holds : Holds L tables root paths
-  pub own_frames : (p q : List ℕ) (f : ℕ) → table_at L root paths p ≡ Some f → table_at L root paths q ≡ Some f → p ≡ q
-  pub not_zero : (i : ℕ) (q : List ℕ) → table_at L root paths (i ∷ q) ≡ Some 0 → ⊥
-  pub none_huge : (q : List ℕ) → 3 < level_of L q → huge (entry paths q) ≡ false
+-- ---- what it means now
 
--- The word at a path from a frame's table of level n down. It is 0 if the path is empty or longer than n, or if a word before its
--- end names no table.
-abbrev pub read_at : (n : ℕ) → Words → (frame : ℕ) → List ℕ → ℕ
-read_at zero tables frame q = 0
-read_at (suc n) tables frame [] = 0
-read_at (suc n) tables frame (i ∷ []) = word tables frame i
-read_at (suc n) tables frame (i ∷ j ∷ q) = cond (names_table (word tables frame i)) (read_at n tables (address (word tables frame i)) (j ∷ q)) 0
+-- The table in each frame of a hierarchy's memory, None if the frame isn't covered or isn't in the memory.
+abbrev pub words : {Lent : Type 0} → Hierarchy Lent → Words
+words h = words_of h.memory h.layout.places
 
--- The path map of L levels that words hold from a root, if they hold one.
-unfoldable pub paths_of : (L : ℕ) → Words → (root : ℕ) → PathMap
-paths_of L tables root = fold (λ m q. put m q (read_at L tables root q)) empty (paths_below L [])
+-- The path map that the words of a hierarchy hold, with the root's word at the recursive index left out.
+abbrev pub paths : {Lent : Type 0} → Hierarchy Lent → PathMap
+paths h = paths_of h.layout.levels (outside_window h.layout.window h.layout.root (words h)) h.layout.root
+
+-- The entry of a hierarchy that is read at a path, through the recursive index if there is one.
+abbrev pub read_entry : {Lent : Type 0} → Hierarchy Lent → List ℕ → ℕ
+read_entry h q = entry_at h.layout.window (paths h) q
+
+-- The result of the processor's page walk in a hierarchy at a position (the number of an address counted without the non-canonical
+-- gap).
+abbrev pub walk : {Lent : Type 0} → Hierarchy Lent → (position : ℕ) → Option Walked
+walk h p = page_walk h.layout.levels (words h) h.layout.root p
+
+-- The answer of `translate` in a hierarchy at a position (the number of an address counted without the non-canonical gap).
+abbrev pub translation : {Lent : Type 0} → Hierarchy Lent → (position : ℕ) → Translated
+translation h p = translate h.layout.levels (read_entry h) p
+
+-- The path of the entry of a level, in a hierarchy, at a position (the number of an address counted without the non-canonical gap).
+abbrev pub path_of : {Lent : Type 0} → Hierarchy Lent → (level position : ℕ) → List ℕ
+path_of h level p = path_at h.layout.levels level p
+
+-- The answer of `translate_page` in a hierarchy for the page at a path.
+abbrev pub page_translation : {Lent : Type 0} → Hierarchy Lent → (page : List ℕ) → Answer
+page_translation h q = translate_page h.layout.levels (read_entry h) q
+
+-- The hierarchy is valid, including the self-entry if there is a recursive index.
+abbrev pub Valid : {Lent : Type 0} → Hierarchy Lent → Type 0
+Valid h = IsValidFor h.layout.levels h.layout.window (words h) h.layout.root (paths h)
+
+-- The hierarchy is valid, and a pool of free frames fits it: they are distinct, in the memory, and neither frame 0 nor in use as
+-- tables, and the pool serves them and the frame of each table but the root.
+abbrev pub PoolFits : {Lent : Type 0} → Hierarchy Lent → (serves : ℕ → Bool) → (pool : List ℕ) → Type 0
+PoolFits h serves pool = Fits h.layout.levels h.layout.window (words h) h.layout.root (paths h) serves pool
+
+-- The hierarchy is valid, and a supply (the frames to hand out, in order) fits it, whatever serves them: they are distinct, in the
+-- memory, and neither frame 0 nor in use as tables.
+abbrev pub SupplyFits : {Lent : Type 0} → Hierarchy Lent → (supply : List ℕ) → Type 0
+SupplyFits h supply = PoolFits h (λ f. true) supply
+
+-- The frame holds the root or another table of the hierarchy, or is in the supply.
+abbrev pub Owns : {Lent : Type 0} → Hierarchy Lent → (supply : List ℕ) → (frame : ℕ) → Type 0
+Owns h supply f = IsOwn h.layout.levels h.layout.root (paths h) supply f
+
+-- From the memory m to the memory n, every place where none of these frames lies keeps its words.
+abbrev pub KeepsOutside : Places → (frames : ℕ → Type 0) → Memory → Memory → Type 0
+KeepsOutside places frames m n = (k : ℕ) → ((f : ℕ) → frames f → places.place f ≢ k) → get n k ≡ get m k
+
+-- From a hierarchy to the one after it, only words in these frames change.
+abbrev pub KeepsOthers : {Lent : Type 0} → (frames : ℕ → Type 0) → (h after : Hierarchy Lent) → Type 0
+KeepsOthers frames h after = KeepsOutside h.layout.places frames h.memory after.memory
+
+-- ---- what a call asks for
+
+-- Whether a call is allowed in a hierarchy.
+abbrev pub allows : {Lent : Type 0} → Hierarchy Lent → Call → Bool
+allows h call = allowed h.layout.levels h.layout.window (paths h) call
+
+-- Whether the page at a path may be mapped in a hierarchy with these flags and parent flags, to any frame.
+abbrev pub allows_map : {Lent : Type 0} → Hierarchy Lent → (page : List ℕ) → (flags parent_flags : ℕ) → Bool
+allows_map h q given parent_flags = map_allowed h.layout.levels h.layout.window (paths h) q given parent_flags
+
+-- The call may be made: the hierarchy is valid, and the call is allowed.
+pub record MayCall {Lent : Type 0} (h : Hierarchy Lent) (call : Call) : Type 0 where
+  pub valid : Valid h
+  pub allowed : allows h call ≡ true
+
+-- The map may be made: the hierarchy is valid, the supply (the frames to hand out, in order) fits it, and the call is allowed.
+pub record MayMap {Lent : Type 0} (h : Hierarchy Lent) (supply : List ℕ) (call : Call) : Type 0 where
+  pub fits : SupplyFits h supply
+  pub allowed : allows h call ≡ true
+
+-- ---- what it leaves
+
+-- The machine of a layout, with a pool that puts a returned frame where `take_back` says.
+abbrev pub machine_of : Layout → (take_back : List ℕ → ℕ → List ℕ) → Machine
+machine_of layout take_back = record { levels = layout.levels; window = layout.window; added_flags = layout.added_flags; take_back = take_back }
+
+-- The machine's state: the path map that the memory's words hold in the layout, and the free frames.
+abbrev pub state_in : Layout → Memory → (pool : List ℕ) → State
+state_in layout memory pool = record { paths = paths (layout laid_in memory); pool = pool }
+
+-- The machine's state that a hierarchy is: the path map that its words hold, and the free frames.
+abbrev pub state_of : {Lent : Type 0} → Hierarchy Lent → (pool : List ℕ) → State
+state_of h pool = state_in h.layout h.memory pool
+
+-- The call, if it is allowed, leads the machine from this hierarchy and pool to those after it, with this answer, wherever the pool
+-- puts returned frames.
+abbrev pub Steps : {Lent : Type 0} → (h : Hierarchy Lent) → (pool : List ℕ) → Call → Answer → (after : Hierarchy Lent) → (rest : List ℕ) → Type 0
+Steps h pool call answer after rest =
+    (take_back : List ℕ → ℕ → List ℕ) → do_call (machine_of h.layout take_back) (state_of h pool) call ≡ record { state = state_of after rest; reply = Answered answer }
+
+-- The effect of a call that takes no frames. Its outcome is the machine's, the hierarchy is valid again, and a supply that fitted
+-- still fits. Only words in the root and the tables change, and a refused call changes none.
+pub record Does {Lent : Type 0} (h : Hierarchy Lent) (call : Call) (answer : Answer) (after : Hierarchy Lent) : Type 0 where
+  pub outcome : (pool : List ℕ) → Steps h pool call answer after pool
+  pub valid : Valid after
+  pub fits : (supply : List ℕ) → SupplyFits h supply → SupplyFits after supply
+  pub others : KeepsOthers (IsTable h.layout.levels h.layout.root (paths h)) h after
+  pub refused : refuses answer ≡ true → after.memory ≡ h.memory
+  pub layout : after.layout ≡ h.layout
+  pub lent : after.lent ≡ h.lent
+
+-- The effect of a map, after which the rest of the supply is left. Its outcome is the machine's, the rest fits the hierarchy, and
+-- only words in the root, the tables and the taken frames change. Each page walk that arrived still arrives at the same address,
+-- loses no right, and gains only rights that the parent flags grant.
+pub record DoesMap {Lent : Type 0} (h : Hierarchy Lent) (supply : List ℕ) (call : Call) (answer : Answer) (after : Hierarchy Lent) (rest : List ℕ) : Type 0 where
+  pub outcome : Steps h supply call answer after rest
+  pub fits : SupplyFits after rest
+  pub others : KeepsOthers (λ f. Owns h supply f × (In rest f → ⊥)) h after
+  pub walks : (more : ℕ) → parent_flags_of call ≡ Some more → (p : ℕ) → Arrives more (walk h p) (walk after p)
+  pub layout : after.layout ≡ h.layout
+  pub lent : after.lent ≡ h.lent
+
+-- The frame that is named by the entry whose flags the call changes, 0 for a call that changes no flags.
+abbrev pub named : {Lent : Type 0} → Hierarchy Lent → Call → ℕ
+named h (UpdateFlags q given) = address (read_entry h q)
+named h (SetFlags level q given) = address (read_entry h (front_at h.layout.levels level q))
+named h call = 0
+
+-- The page walk at each offset of the page of this size (in bytes) that starts at a position arrives at the frame's start plus the
+-- offset, with exactly the rights to write and of user mode that the flags have.
+abbrev pub ArrivesIn : {Lent : Type 0} → Hierarchy Lent → (size page frame flags : ℕ) → Type 0
+ArrivesIn h size page frame given =
+    (offset : ℕ) → offset < size → walk h (page + offset) ≡ Some (record { address = frame + offset; write = writable given; user = user given })
+
+-- The page of a level that starts at a position is mapped to the frame as a `map_to` with these flags maps it.
+abbrev pub IsMappedAs : {Lent : Type 0} → Hierarchy Lent → (level page frame flags : ℕ) → Type 0
+IsMappedAs h level page frame given = IsMappedIn h.layout.levels level (paths h) (path_of h level page) frame given
+
+-- ---- clean ups
+
+-- The frames that a clean up of the positions from low to high frees, in order.
+abbrev pub freed_frames : {Lent : Type 0} → Hierarchy Lent → (low high : ℕ) → List ℕ
+freed_frames h low high = (clean_up h.layout.levels (paths h) low high).back
+
+-- The clean up may be made: the hierarchy is valid, and the frame of each table but the root is served by the pool and not held in
+-- it.
+pub record MayCleanUp {Lent : Type 0} (h : Hierarchy Lent) (serves : ℕ → Bool) (held : List ℕ) : Type 0 where
+  pub valid : Valid h
+  pub serves_tables : (i : ℕ) (q : List ℕ) (f : ℕ) → table_at h.layout.levels h.layout.root (paths h) (i ∷ q) ≡ Some f → serves f ≡ true
+  pub none_held : (i : ℕ) (q : List ℕ) (f : ℕ) → table_at h.layout.levels h.layout.root (paths h) (i ∷ q) ≡ Some f → In held f → ⊥
+
+-- The effect of a clean up, after which each freed frame is held where `take_back` puts it. Its outcome is the machine's, the
+-- hierarchy is valid again, and a supply that fitted still fits with the freed frames added. The freed frames have only words 0,
+-- and only words in the root and the tables change.
+pub record CleansUp {Lent : Type 0} (h : Hierarchy Lent) (take_back : List ℕ → ℕ → List ℕ) (held : List ℕ) (low high : ℕ) (after : Hierarchy Lent) (rest : List ℕ) : Type 0 where
+  pub outcome : do_call (machine_of h.layout take_back) (state_of h held) (CleanUp low high) ≡ record { state = state_of after rest; reply = Cleaned }
+  pub valid : Valid after
+  pub fits : (take_back : List ℕ → ℕ → List ℕ) → TakesBack take_back → (supply : List ℕ) → SupplyFits h supply → SupplyFits after (with_returned take_back supply (freed_frames h low high))
+  pub empty : (f : ℕ) → In (freed_frames h low high) f → (i : ℕ) → word (words after) f i ≡ 0
+  pub others : KeepsOthers (IsTable h.layout.levels h.layout.root (paths h)) h after
+  pub layout : after.layout ≡ h.layout
+  pub lent : after.lent ≡ h.lent

@@ -7,7 +7,7 @@ pub mod Entry
 pub mod Path
 pub mod PathMap
 pub mod Memory
-pub mod Hierarchy
+pub mod Validity
 pub mod Window
 pub mod PageWalk
 pub mod Mappings
@@ -29,7 +29,7 @@ pub mod Caches
 pub mod Flushing
 pub mod Alike
 pub mod Layout
-pub mod Mapper
+pub mod Hierarchy
 pub mod Conserved
 pub mod Store
 pub mod PageCalls

@@ -4,7 +4,7 @@
 use Rattle.std.specs.Prelude.{ℕ, List, [], ◌∷◌, bit_and, bit_or}
 use Rattle.x86_64_model.specs.Laws.EntriesInPlace.{IsInPlace, MayReplace, with_word}
 use Rattle.x86_64_model.specs.Layout.{Layout}
-use Rattle.x86_64_model.specs.Mapper.{◌laid_in◌, paths, words}
+use Rattle.x86_64_model.specs.Hierarchy.{◌laid_in◌, paths, words}
 use Rattle.x86_64_model.specs.Memory.{Memory, word}
 use Rattle.x86_64_model.specs.PathMap.{PathMap, entry, put}
 

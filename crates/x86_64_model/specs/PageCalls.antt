@@ -2,7 +2,7 @@
 use Rattle.std.specs.Prelude.{ℕ, List}
 use Rattle.x86_64_model.specs.Call as call
 use Rattle.x86_64_model.specs.Call.{Call}
-use Rattle.x86_64_model.specs.Mapper.{Hierarchy, MayCall, MayMap, Does, DoesMap}
+use Rattle.x86_64_model.specs.Hierarchy.{Hierarchy, MayCall, MayMap, Does, DoesMap}
 use Rattle.x86_64_model.specs.Path.{path_at}
 use Rattle.x86_64_model.specs.Refusal.{Answer}
 

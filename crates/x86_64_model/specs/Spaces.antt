@@ -3,7 +3,7 @@
 use Rattle.std.specs.Prelude.{◌≡◌, ◌≢◌, ◌<◌, ℕ, Bool, true, false, List, [], ◌∷◌, Some, bit_or}
 use Rattle.x86_64_model.specs.Call.{Call, MapTo, MapToWithTableFlags, IdentityMap, Unmap, UpdateFlags, SetFlags, TranslatePage, Translate, TranslateAddress, CleanUp}
 use Rattle.x86_64_model.specs.CleanUp.{meets}
-use Rattle.x86_64_model.specs.Mapper.{◌laid_in◌, Owns, PoolFits, Valid, paths}
+use Rattle.x86_64_model.specs.Hierarchy.{◌laid_in◌, Owns, PoolFits, Valid, paths}
 use Rattle.x86_64_model.specs.Layout.{Layout}
 use Rattle.x86_64_model.specs.Lists.{In}
 use Rattle.x86_64_model.specs.MapRule.{parent_part}

@@ -1,6 +1,6 @@
 -- A store of frames: it hands frames out for new tables, and takes the frames of tables back that are gone.
 use Rattle.std.specs.Prelude.{◌↔◌, ◌≡◌, ℕ, Bool, List, ◌∷◌}
-use Rattle.x86_64_model.specs.Mapper.{◌laid_in◌, Hierarchy, PoolFits, Owns, KeepsOthers}
+use Rattle.x86_64_model.specs.Hierarchy.{◌laid_in◌, Hierarchy, PoolFits, Owns, KeepsOthers}
 use Rattle.x86_64_model.specs.Layout.{Layout}
 use Rattle.x86_64_model.specs.Memory.{Memory}
 

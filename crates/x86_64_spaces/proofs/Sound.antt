@@ -4,13 +4,13 @@ use Rattle.std.specs.List.{flat_map}
 use Rattle.std.proofs.lemmas.Bool.{cases_Bool, cases_eq}
 use Rattle.std.proofs.lemmas.Option.{same_Some}
 use Rattle.x86_64_model.specs.Entry.{address, names_table}
-use Rattle.x86_64_model.specs.Mapper.{◌laid_in◌, PoolFits, paths}
+use Rattle.x86_64_model.specs.Hierarchy.{◌laid_in◌, PoolFits, paths}
 use Rattle.x86_64_model.specs.Layout.{Layout}
 use Rattle.x86_64_model.specs.Lists.{In, EachOnce}
 use Rattle.x86_64_model.specs.Memory.{Memory, Places, Words, IsMapping, word, word_in, words_of}
 use Rattle.x86_64_model.specs.Path.{indices}
 use Rattle.x86_64_model.specs.PathMap.{entry, table_at}
-use Rattle.x86_64_model.specs.Hierarchy.{paths_of}
+use Rattle.x86_64_model.specs.Validity.{paths_of}
 use Rattle.x86_64_model.specs.Pool.{serves_below}
 use Rattle.x86_64_model.specs.Spaces.{is_shared, Shares, ArePaired}
 use Rattle.x86_64_model.specs.Window.{outside_window}

@@ -1,7 +1,7 @@
 -- The layouts of address spaces stay, since their roots keep their self-entries.
 use Rattle.std.proofs.Common.{◌≡◌, inl, inr, ℕ, Bool, List, [], ◌∷◌, map, Some, None, Option, refl, ap, ap₂}
 use Rattle.x86_64_model.specs.Layout.{Layout}
-use Rattle.x86_64_model.specs.Mapper.{◌laid_in◌, PoolFits, Valid}
+use Rattle.x86_64_model.specs.Hierarchy.{◌laid_in◌, PoolFits, Valid}
 use Rattle.x86_64_model.specs.Lists.{In}
 use Rattle.x86_64_model.specs.Memory.{Memory, Places, words_of}
 use Rattle.x86_64_model.specs.Window.{Window, SelfEntry}

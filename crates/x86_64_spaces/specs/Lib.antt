@@ -5,7 +5,7 @@ pub mod SpaceCalls
 pub mod SpaceLaws
 pub mod private
 pub use Rattle.x86_64_model.specs.Spaces
-pub use Rattle.x86_64_model.specs.Mapper
+pub use Rattle.x86_64_model.specs.Hierarchy
 pub use Rattle.x86_64_model.specs.Layout
 pub use Rattle.x86_64_model.specs.Lists
 pub use Rattle.x86_64_model.specs.Memory

@@ -3,7 +3,7 @@ use Rattle.std.specs.Prelude.{◌≡◌, ◌≢◌, ℕ, Bool, true, List, [], �
 use Rattle.x86_64_model.specs.Laws.Spaces.{IsNewRoot}
 use Rattle.x86_64_model.specs.Layout.{Layout}
 use Rattle.x86_64_model.specs.Lists.{In}
-use Rattle.x86_64_model.specs.Mapper.{◌laid_in◌, Hierarchy, paths, KeepsOthers, Owns}
+use Rattle.x86_64_model.specs.Hierarchy.{◌laid_in◌, Hierarchy, paths, KeepsOthers, Owns}
 use Rattle.x86_64_model.specs.Memory.{Memory, word, words_of}
 use Rattle.x86_64_model.specs.PathMap.{entry}
 use Rattle.x86_64_model.specs.Spaces.{AreSpaces}

@@ -1,7 +1,7 @@
 -- Address spaces in a memory, by their roots and recursive indices.
 use Rattle.std.specs.Prelude.{◌≡◌, ℕ, ◌&&◌, nat_le, nat_lt, Bool, false, List, [], ◌∷◌, Option, Some, None, map}
 use Rattle.x86_64_model.specs.Layout.{Layout}
-use Rattle.x86_64_model.specs.Mapper.{◌laid_in◌, Hierarchy, paths}
+use Rattle.x86_64_model.specs.Hierarchy.{◌laid_in◌, Hierarchy, paths}
 use Rattle.x86_64_model.specs.Memory.{Memory, Places, words_of}
 use Rattle.x86_64_model.specs.PathMap.{entry}
 use Rattle.x86_64_spaces.specs.declared.space.SharedIndices.{SharedIndices}

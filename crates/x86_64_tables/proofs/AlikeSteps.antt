@@ -2,7 +2,7 @@
 use Rattle.std.proofs.Common.{◌≡◌, ◌⊎◌, ◌↔◌, inl, inr, ⊎_elim, ◌<◌, ◌≤◌, ◌-◌, ℕ, zero, suc, Bool, true, false, cond, List, [], ◌∷◌, length, Option, Some, None, refl, sym, ap, ◌∙◌, subst, arith}
 use Rattle.x86_64_model.specs.Alike.{Alike, AlikeTables, without_writable}
 use Rattle.x86_64_model.specs.Entry.{address, names_table}
-use Rattle.x86_64_model.specs.Hierarchy.{read_at, paths_of}
+use Rattle.x86_64_model.specs.Validity.{read_at, paths_of}
 use Rattle.x86_64_model.specs.Memory.{Words, word}
 use Rattle.x86_64_model.specs.PathMap.{entry}
 use Rattle.x86_64_model.specs.private.Tables.{without_word}

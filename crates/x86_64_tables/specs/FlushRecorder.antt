@@ -1,8 +1,8 @@
 -- A recorder of flushes: the items so far, in order, and the number of further items that allocate no memory.
 use Rattle.std.specs.Prelude.{◌==◌, ◌+◌, ◌*◌, ℕ, List, [], ◌∷◌, if◌then◌else◌, map, nat_lt}
 use Rattle.std.specs.List.{range_with_len}
-use Rattle.x86_64_tables.specs.declared.mapper.recorder.FlushItem.{FlushItem}
-use Rattle.x86_64_tables.specs.declared.mapper.recorder.FlushItem.TheVariants.{Page, Page57, All}
+use Rattle.x86_64_tables.specs.declared.tokens.recorder.FlushItem.{FlushItem}
+use Rattle.x86_64_tables.specs.declared.tokens.recorder.FlushItem.TheVariants.{Page, Page57, All}
 
 -- What a flush recorder holds: the items so far, in order, and its room, the number of further items that it records without
 -- allocating memory.

@@ -21,7 +21,7 @@ pub mod FlushRecorder
 pub mod private
 pub use Rattle.x86_64_model.specs.Entry
 pub use Rattle.x86_64_model.specs.Memory
-pub use Rattle.x86_64_model.specs.Hierarchy
+pub use Rattle.x86_64_model.specs.Validity
 pub use Rattle.x86_64_model.specs.Alike
 pub use Rattle.x86_64_model.specs.Pool
 pub use Rattle.x86_64_model.specs.PageWalk

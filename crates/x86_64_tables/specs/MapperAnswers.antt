@@ -2,14 +2,14 @@
 use Rattle.std.specs.Prelude.{ℕ, Option, Some, None, Result, Ok, Err}
 use Rattle.x86_64_model.specs.Refusal as refusal
 use Rattle.x86_64_model.specs.Refusal.{Refusal, Answer, Done, Refused, answer_unless}
-use Rattle.x86_64_tables.specs.declared.mapper.MapToError.{MapToError}
-use Rattle.x86_64_tables.specs.declared.mapper.MapToError.TheVariants as map_to
-use Rattle.x86_64_tables.specs.declared.mapper.UnmapError.{UnmapError}
-use Rattle.x86_64_tables.specs.declared.mapper.UnmapError.TheVariants as unmap
-use Rattle.x86_64_tables.specs.declared.mapper.FlagUpdateError.{FlagUpdateError}
-use Rattle.x86_64_tables.specs.declared.mapper.FlagUpdateError.TheVariants as update
-use Rattle.x86_64_tables.specs.declared.mapper.TranslateError.{TranslateError}
-use Rattle.x86_64_tables.specs.declared.mapper.TranslateError.TheVariants as translate
+use Rattle.x86_64_tables.specs.declared.errors.MapToError.{MapToError}
+use Rattle.x86_64_tables.specs.declared.errors.MapToError.TheVariants as map_to
+use Rattle.x86_64_tables.specs.declared.errors.UnmapError.{UnmapError}
+use Rattle.x86_64_tables.specs.declared.errors.UnmapError.TheVariants as unmap
+use Rattle.x86_64_tables.specs.declared.errors.FlagUpdateError.{FlagUpdateError}
+use Rattle.x86_64_tables.specs.declared.errors.FlagUpdateError.TheVariants as update
+use Rattle.x86_64_tables.specs.declared.errors.TranslateError.{TranslateError}
+use Rattle.x86_64_tables.specs.declared.errors.TranslateError.TheVariants as translate
 
 -- The model's refusal for an error of a call that maps a page.
 abbrev pub map_refusal : {S : Type 0} → MapToError S → Refusal

@@ -1,7 +1,7 @@
 -- The path map that a comparison of two hierarchies reads from each.
 use Rattle.std.specs.Prelude.{◌≡◌, ◌⊎◌, ◌<◌, suc, ℕ, List, length, Bool, true, false, Option, is_some}
 use Rattle.x86_64_model.specs.Alike.{AlikeTables}
-use Rattle.x86_64_model.specs.Hierarchy.{read_at, paths_of}
+use Rattle.x86_64_model.specs.Validity.{read_at, paths_of}
 use Rattle.x86_64_model.specs.Memory.{Memory, Places, Words, identity_places, words_of}
 use Rattle.x86_64_model.specs.PathMap.{PathMap}
 use Rattle.x86_64_model.specs.Window.{outside_window}

@@ -1,6 +1,6 @@
 -- What the tests of hierarchies decide of the words below a root.
 use Rattle.std.specs.Prelude.{ℕ, Option, Some, None}
-use Rattle.x86_64_model.specs.Hierarchy.{IsValid, paths_of}
+use Rattle.x86_64_model.specs.Validity.{IsValid, paths_of}
 use Rattle.x86_64_model.specs.Memory.{Words}
 use Rattle.x86_64_model.specs.Pool.{Fits, serves_below}
 use Rattle.x86_64_model.specs.Window.{IsValidFor, outside_window}

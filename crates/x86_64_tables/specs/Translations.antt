@@ -2,10 +2,10 @@
 use Rattle.std.specs.Prelude.{◌+◌, ◌^◌, ◌<◌, ℕ, Option, Some, None, option_and_then}
 use Rattle.x86_64_model.specs.Translation.{Translated, NotMapped as Nowhere, Mapped as At, present_to}
 use Rattle.x86_64_tables.specs.PageTableFlags.{bits_of}
-use Rattle.x86_64_tables.specs.declared.mapper.MappedFrame.{MappedFrame}
-use Rattle.x86_64_tables.specs.declared.mapper.MappedFrame.TheVariants.{Size4KiB, Size2MiB, Size1GiB}
-use Rattle.x86_64_tables.specs.declared.mapper.TranslateResult.{TranslateResult}
-use Rattle.x86_64_tables.specs.declared.mapper.TranslateResult.TheVariants.{Mapped, NotMapped, InvalidFrameAddress}
+use Rattle.x86_64_tables.specs.declared.translation.MappedFrame.{MappedFrame}
+use Rattle.x86_64_tables.specs.declared.translation.MappedFrame.TheVariants.{Size4KiB, Size2MiB, Size1GiB}
+use Rattle.x86_64_tables.specs.declared.translation.TranslateResult.{TranslateResult}
+use Rattle.x86_64_tables.specs.declared.translation.TranslateResult.TheVariants.{Mapped, NotMapped, InvalidFrameAddress}
 
 -- The start address of the frame to which a page is mapped.
 abbrev pub frame_start : MappedFrame → ℕ

@@ -11,9 +11,9 @@ use x86_64_addr::addr::{PhysAddr, VirtAddrIn};
 use x86_64_addr::level_count::LevelCount;
 use x86_64_mappings::{MappingIn, Selection, Visitor, visit_distinct_mappings};
 use x86_64_page::frame::PhysFrame;
-use x86_64_tables::mapper::MappedFrame;
 use x86_64_tables::page_table::Rights;
 use x86_64_tables::phys_memory::{IdentityMapping, PhysMemory};
+use x86_64_tables::translation::MappedFrame;
 
 /// The first mappings of each frame, in order of their starts.
 #[derive(Drop)]

@@ -1,6 +1,6 @@
 //! Each method of a mapper of five levels of tables, by functions over any mapper, and a list with recorded flushes.
 ghost use Rattle.std.specs.Prelude.{◌≡◌};
-ghost use Rattle.x86_64_model.specs.Mapper.{PoolFits, SupplyFits, Valid};
+ghost use Rattle.x86_64_model.specs.Hierarchy.{PoolFits, SupplyFits, Valid};
 ghost use Rattle.x86_64_model.specs.Pool.{serves_below};
 
 use super::mapped;

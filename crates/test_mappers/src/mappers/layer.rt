@@ -2,7 +2,7 @@
 ghost use Rattle.std.specs.Prelude.{◌≡◌};
 ghost use Rattle.x86_64_model.specs.Call.{Unmap};
 ghost use Rattle.x86_64_model.specs.Memory.{identity_places};
-ghost use Rattle.x86_64_model.specs.Mapper.{◌laid_in◌, MayCall, Does, path_of, PoolFits, Valid};
+ghost use Rattle.x86_64_model.specs.Hierarchy.{◌laid_in◌, MayCall, Does, path_of, PoolFits, Valid};
 ghost use Rattle.x86_64_model.specs.Pool.{serves_below};
 ghost use Rattle.x86_64_mappers.specs.Layouts.{direct, owned};
 ghost use Rattle.x86_64_tables.specs.MapperAnswers.{frame_answer};

@@ -3,7 +3,7 @@ ghost use Rattle.x86_64_model.specs.Pool.{serves_below};
 ghost use Rattle.x86_64_model.specs.Memory.{identity_places};
 ghost use Rattle.x86_64_mappers.specs.Layouts.{direct_at};
 ghost use Rattle.x86_64_mappers.specs.Offsets.{OffsetFits};
-ghost use Rattle.x86_64_model.specs.Mapper.{◌laid_in◌, PoolFits};
+ghost use Rattle.x86_64_model.specs.Hierarchy.{◌laid_in◌, PoolFits};
 
 use crate::prelude::*;
 use x86_64_mappers::calls::translate_addr;

@@ -1,6 +1,6 @@
 //! The mapper that reaches tables through the root's entry for itself: for which tables it isn't created.
 ghost use Rattle.std.specs.Prelude.{◌≡◌, ◌↔◌, None, Some, IfOk, IfErr, IsTrue};
-ghost use Rattle.x86_64_model.specs.Mapper.{◌laid_in◌, Valid};
+ghost use Rattle.x86_64_model.specs.Hierarchy.{◌laid_in◌, Valid};
 ghost use Rattle.x86_64_model.specs.Position.{index};
 ghost use Rattle.x86_64_mappers.specs.InvalidPageTables.{refuses_at};
 ghost use Rattle.x86_64_mappers.specs.Recursive.{recursive_now_at};

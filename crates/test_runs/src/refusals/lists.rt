@@ -1,6 +1,6 @@
 //! Lists of calls with each mapper, with four levels of page tables and with five.
 ghost use Rattle.x86_64_model.specs.Pool.{serves_below};
-ghost use Rattle.x86_64_model.specs.Mapper.{PoolFits};
+ghost use Rattle.x86_64_model.specs.Hierarchy.{PoolFits};
 
 use super::hoard_past;
 use crate::prelude::*;

@@ -2,7 +2,7 @@
 use super::hoard_past;
 use crate::prelude::*;
 use x86_64::VirtAddr57;
-use x86_64_tables::mapper::MapperFlushIn;
+use x86_64_tables::tokens::MapperFlushIn;
 
 /// The number of items of a recorder. It is so large that further items need a new block.
 const ITEM_COUNT: usize = 4096;

@@ -1,7 +1,7 @@
 //! Calls of a mapper's methods, each if its condition holds, with the tokens flushed.
 ghost use Rattle.std.specs.Prelude.{◌≡◌, ◌<◌, ◌^◌, IfSome};
 ghost use Rattle.x86_64_model.specs.Call.{Unmap};
-ghost use Rattle.x86_64_model.specs.Mapper.{Valid, MayCall, PoolFits, SupplyFits, path_of};
+ghost use Rattle.x86_64_model.specs.Hierarchy.{Valid, MayCall, PoolFits, SupplyFits, path_of};
 ghost use Rattle.x86_64_model.specs.Pool.{serves_below};
 
 use super::{Exchange, State};

@@ -2,11 +2,11 @@
 use Rattle.std.specs.Prelude.{◌≡◌, ◌≤◌, ◌+◌, ℕ, Bool, true, false, List, [], Option, Some, None, Result}
 use Rattle.std.proofs.Common.{arith}
 use Rattle.x86_64_model.specs.Machine.{Machine, State, step}
-use Rattle.x86_64_model.specs.Mapper.{Hierarchy}
+use Rattle.x86_64_model.specs.Hierarchy.{Hierarchy}
 use Rattle.x86_64_model.specs.Store.{Store}
 use Rattle.x86_64_mappers.specs.PageAnswers.{AnswersFlags}
-use Rattle.x86_64_tables.specs.declared.mapper.FlagUpdateError.{FlagUpdateError}
-use Rattle.x86_64_tables.specs.declared.mapper.recorder.FlushItem.{FlushItem}
+use Rattle.x86_64_tables.specs.declared.errors.FlagUpdateError.{FlagUpdateError}
+use Rattle.x86_64_tables.specs.declared.tokens.recorder.FlushItem.{FlushItem}
 use Rattle.std.specs.declared.convert.Infallible.{Infallible}
 use Rattle.x86_64.specs.Asked.{PageCall, page_call}
 use Rattle.x86_64.specs.declared.call_values.PageReply.TheVariants.{TableFlags}

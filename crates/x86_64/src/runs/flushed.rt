@@ -13,7 +13,8 @@ use std::cmp::max;
 use x86_64_addr::level_count::LevelCount;
 use x86_64_mappers::calls::TableAccess;
 use x86_64_tables::frame_alloc::FrameStore;
-use x86_64_tables::mapper::{FlushRecorder, TablesIn};
+use x86_64_tables::page_tables::TablesIn;
+use x86_64_tables::tokens::FlushRecorder;
 
 /// Executes calls in order as [`run`](super::run) does, and flushes the token of each accepted call into a recorder,
 /// in order. Also named `run_flushed_57`, for five levels.

@@ -10,7 +10,7 @@ use std::alloc::{AllocError, Global};
 use x86_64_addr::level_count::LevelCount;
 use x86_64_mappers::calls::TableAccess;
 use x86_64_tables::frame_alloc::FramePool;
-use x86_64_tables::mapper::TablesIn;
+use x86_64_tables::page_tables::TablesIn;
 
 /// Executes calls in order with two mappers, and returns the list of replies, which is the same for both. Each mapper
 /// and its pool are left as [`run`](super::run) leaves them.

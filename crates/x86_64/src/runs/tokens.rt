@@ -1,6 +1,6 @@
 //! What happens to the tokens of calls: they are ignored, or flushed into a recorder.
 ghost use Rattle.std.specs.Prelude.{◌≡◌, ◌+◌, ◌++◌, [], ◌∷◌, ℕ, Bool, List};
-ghost use Rattle.x86_64_tables.specs.declared.mapper.recorder.FlushItem.{FlushItem as Item};
+ghost use Rattle.x86_64_tables.specs.declared.tokens.recorder.FlushItem.{FlushItem as Item};
 ghost use Rattle.x86_64_tables.specs.FlushRecorder.{page_item};
 ghost use Rattle.x86_64_tables.specs.MapperAnswers.{flags_refusal};
 ghost use Rattle.x86_64.specs.Flushes.{items_of_page, unmapped_items, every_item};
@@ -9,9 +9,8 @@ ghost use Rattle.x86_64.specs.private.Served.{recorded};
 use x86_64_addr::level_count::LevelCount;
 use x86_64_page::frame::PhysFrame;
 use x86_64_page::page::{PageIn, PageSize};
-use x86_64_tables::mapper::{
-    FlagUpdateError, FlushItem, FlushRecorder, MapperFlushAll, MapperFlushIn, UnmapError,
-};
+use x86_64_tables::errors::{FlagUpdateError, UnmapError};
+use x86_64_tables::tokens::{FlushItem, FlushRecorder, MapperFlushAll, MapperFlushIn};
 
 /// A consumer of the tokens of accepted calls.
 pub trait Tokens {

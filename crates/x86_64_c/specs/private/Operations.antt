@@ -1,7 +1,7 @@
 -- How an operation on a hierarchy in the caller's tables is entered.
 use Rattle.std.specs.Prelude.{◌≡◌, ℕ, List, length, Option, None}
 use Rattle.std.specs.Option.{option_or}
-use Rattle.x86_64_model.specs.Mapper.{Hierarchy}
+use Rattle.x86_64_model.specs.Hierarchy.{Hierarchy}
 use Rattle.x86_64_c.specs.Given.{bad_hierarchy, hierarchy_in}
 use Rattle.x86_64_c.specs.declared.given.Hierarchy.{Hierarchy as Given}
 

@@ -1,6 +1,6 @@
 -- How a pool in an array that the caller lends is used.
 use Rattle.std.specs.Prelude.{◌≡◌, ◌≤◌, ℕ, Bool, List, length}
-use Rattle.x86_64_model.specs.Mapper.{Hierarchy}
+use Rattle.x86_64_model.specs.Hierarchy.{Hierarchy}
 use Rattle.x86_64_model.specs.Store.{Store, StoreFits, put_first}
 use Rattle.x86_64_c.specs.PoolCalls.{pool_in}
 

@@ -1,7 +1,7 @@
 -- What operations on ranges tell.
 use Rattle.std.specs.Prelude.{◌≡◌, ℕ, Bool, true, false, List, Option, Some, None}
 use Rattle.x86_64_model.specs.Entry.{no_address}
-use Rattle.x86_64_model.specs.Mapper.{Hierarchy}
+use Rattle.x86_64_model.specs.Hierarchy.{Hierarchy}
 use Rattle.x86_64_model.specs.Store.{Store}
 use Rattle.x86_64_mappers.specs.Ranges.{MapRange}
 use Rattle.x86_64_c.specs.Ranges.{Maps, MayMap, Updates}

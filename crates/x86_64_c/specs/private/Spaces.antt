@@ -1,6 +1,6 @@
 -- What is left of a pool after a space is made or given up.
 use Rattle.std.specs.Prelude.{◌≡◌, ℕ, Bool, true, false, List, Option, Some, None, Result, Ok, Err}
-use Rattle.x86_64_model.specs.Mapper.{Hierarchy}
+use Rattle.x86_64_model.specs.Hierarchy.{Hierarchy}
 use Rattle.x86_64_spaces.specs.declared.giving_up.GiveUpError.{GiveUpError}
 use Rattle.x86_64_spaces.specs.SpaceCalls.{TakesFirst, IsMade, IsGivenUp, IsReason}
 use Rattle.x86_64_c.specs.AddressSpaces.{space_at}

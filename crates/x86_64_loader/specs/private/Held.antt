@@ -1,6 +1,6 @@
 -- Held positions: those of pages that stand (are mapped as `map_to` maps them) and map them where they should.
 use Rattle.std.specs.Prelude.{◌≡◌, ◌+◌, ◌%◌, ◌<◌, ◌≤◌, ℕ, false}
-use Rattle.x86_64_model.specs.Mapper.{Hierarchy, IsMappedAs, path_of}
+use Rattle.x86_64_model.specs.Hierarchy.{Hierarchy, IsMappedAs, path_of}
 use Rattle.x86_64_model.specs.Position.{span}
 use Rattle.x86_64_model.specs.Window.{begins_with}
 

@@ -11,7 +11,7 @@ use Rattle.x86_64_model.specs.Entry.{IsParentFlags}
 use Rattle.x86_64_model.specs.Lists.{In}
 use Rattle.x86_64_model.specs.Machine.{AfterCall, State, do_call}
 use Rattle.x86_64_model.specs.Memory.{Memory}
-use Rattle.x86_64_model.specs.Mapper.{Hierarchy, Valid, CleansUp, words, paths, state_of}
+use Rattle.x86_64_model.specs.Hierarchy.{Hierarchy, Valid, CleansUp, words, paths, state_of}
 use Rattle.x86_64_model.specs.PathMap.{PathMap}
 use Rattle.x86_64_model.specs.Pool.{Fits, with_returned}
 use Rattle.x86_64_model.specs.Window.{IsValidFor}

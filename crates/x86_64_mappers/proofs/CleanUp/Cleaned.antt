@@ -11,7 +11,7 @@ use Rattle.x86_64_model.specs.Entry.{used}
 use Rattle.x86_64_model.specs.Layout.{Layout}
 use Rattle.x86_64_model.specs.Lists.{In}
 use Rattle.x86_64_model.specs.Memory.{Memory, Distinct, Words, word, word_in, set_word}
-use Rattle.x86_64_model.specs.Mapper.{◌laid_in◌, Hierarchy, MayCleanUp, Valid, paths, words}
+use Rattle.x86_64_model.specs.Hierarchy.{◌laid_in◌, Hierarchy, MayCleanUp, Valid, paths, words}
 use Rattle.x86_64_model.specs.PathMap.{PathMap, entry, put, table_at}
 use Rattle.x86_64_model.specs.Pool.{IsTable, TakesBack, with_returned}
 use Rattle.x86_64_model.specs.Window.{Window, IsValidFor, begins_with}

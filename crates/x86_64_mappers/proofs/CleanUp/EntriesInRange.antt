@@ -8,9 +8,9 @@ use Rattle.x86_64_model.proofs.Lemmas.Machines.Writes.{word_is_entry}
 use Rattle.x86_64_model.proofs.Lemmas.Walks.Walked.{one_more}
 use Rattle.x86_64_model.specs.CleanUp.{in_range, meets}
 use Rattle.x86_64_model.specs.Entry.{present, huge, address}
-use Rattle.x86_64_model.specs.Hierarchy.{IsValid}
+use Rattle.x86_64_model.specs.Validity.{IsValid}
 use Rattle.x86_64_model.specs.Layout.{Layout}
-use Rattle.x86_64_model.specs.Mapper.{◌laid_in◌, Valid, paths, words}
+use Rattle.x86_64_model.specs.Hierarchy.{◌laid_in◌, Valid, paths, words}
 use Rattle.x86_64_model.specs.Memory.{Memory, word}
 use Rattle.x86_64_model.specs.PathMap.{entry}
 use Rattle.x86_64_model.specs.Refusal.{Refusal, PageNotMapped, ParentEntryHugePage}

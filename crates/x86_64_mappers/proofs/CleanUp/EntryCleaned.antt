@@ -12,7 +12,7 @@ use Rattle.x86_64_model.proofs.Lemmas.Paths.Puts.{no_end}
 use Rattle.x86_64_model.specs.CleanUp.{in_range}
 use Rattle.x86_64_model.specs.Entry.{used, address}
 use Rattle.x86_64_model.specs.Layout.{Layout}
-use Rattle.x86_64_model.specs.Mapper.{◌laid_in◌, Valid, paths, words}
+use Rattle.x86_64_model.specs.Hierarchy.{◌laid_in◌, Valid, paths, words}
 use Rattle.x86_64_model.specs.Memory.{Memory, Distinct, Words, word}
 use Rattle.x86_64_model.specs.PathMap.{PathMap, entry, put}
 use Rattle.x86_64_mappers.proofs.CleanUp.Cleaned.{cleaned_nothing, cleaned_then, cleaned_removed, outside_more}

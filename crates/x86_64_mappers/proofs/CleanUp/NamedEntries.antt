@@ -5,7 +5,7 @@ use Rattle.x86_64_model.proofs.Lemmas.CleanUps.Below.{cleaned_before, back_befor
 use Rattle.x86_64_model.specs.CleanUp.{in_range}
 use Rattle.x86_64_model.specs.Entry.{present, huge, address}
 use Rattle.x86_64_model.specs.Layout.{Layout}
-use Rattle.x86_64_model.specs.Mapper.{◌laid_in◌, Valid, paths, words}
+use Rattle.x86_64_model.specs.Hierarchy.{◌laid_in◌, Valid, paths, words}
 use Rattle.x86_64_model.specs.Memory.{Memory, Distinct, Words, word}
 use Rattle.x86_64_model.specs.Refusal.{Refusal, PageNotMapped, ParentEntryHugePage}
 use Rattle.x86_64_model.specs.Window.{begins_with}

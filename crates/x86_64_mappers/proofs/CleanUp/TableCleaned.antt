@@ -9,7 +9,7 @@ use Rattle.x86_64_model.proofs.Lemmas.CleanUps.Visits.{visits_meets}
 use Rattle.x86_64_model.proofs.Lemmas.Hierarchies.Trees.{IsTree, tree_of_holds}
 use Rattle.x86_64_model.specs.CleanUp.{in_range, meets}
 use Rattle.x86_64_model.specs.Layout.{Layout}
-use Rattle.x86_64_model.specs.Mapper.{◌laid_in◌, Valid, paths}
+use Rattle.x86_64_model.specs.Hierarchy.{◌laid_in◌, Valid, paths}
 use Rattle.x86_64_model.specs.Memory.{Memory, Distinct}
 use Rattle.x86_64_model.specs.Path.{AllBelow, span_start}
 use Rattle.x86_64_model.specs.PathMap.{PathMap}

@@ -17,7 +17,7 @@ use Rattle.x86_64_model.proofs.Lemmas.Walks.Walked.{names, one_more}
 use Rattle.x86_64_model.specs.CleanUp.{in_range}
 use Rattle.x86_64_model.specs.Entry.{present, address}
 use Rattle.x86_64_model.specs.Layout.{Layout}
-use Rattle.x86_64_model.specs.Mapper.{◌laid_in◌, Valid, paths}
+use Rattle.x86_64_model.specs.Hierarchy.{◌laid_in◌, Valid, paths}
 use Rattle.x86_64_model.specs.Memory.{Memory}
 use Rattle.x86_64_model.specs.Path.{AllBelow, is_below, parents}
 use Rattle.x86_64_model.specs.PathMap.{PathMap, entry, table_at}

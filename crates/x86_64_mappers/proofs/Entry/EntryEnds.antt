@@ -4,7 +4,7 @@ use Rattle.x86_64_model.proofs.Lemmas.Machines.Owners.{does_unmap, does_update, 
 use Rattle.x86_64_model.specs.Allowed.{refuses}
 use Rattle.x86_64_model.specs.Call.{Unmap, UpdateFlags, SetFlags}
 use Rattle.x86_64_model.specs.private.MapperCalls.{after_unmap, after_update, after_set_flags}
-use Rattle.x86_64_model.specs.Mapper.{Hierarchy, Does, named}
+use Rattle.x86_64_model.specs.Hierarchy.{Hierarchy, Does, named}
 use Rattle.x86_64_model.specs.Refusal.{Refusal, Answer, Done, Refused, refusal_of, answer_unless}
 use Rattle.x86_64_mappers.proofs.Entry.EntryRules.{Ends, IfRefused}
 

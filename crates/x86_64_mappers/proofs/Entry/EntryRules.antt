@@ -1,7 +1,7 @@
 -- Calls on one entry. Each is proved in three steps: find the entry's table, compute the entry's new word, write it.
 use Rattle.std.proofs.Common.{◌≡◌, ◌<◌, ◌+◌, ℕ, false, List, [], ◌∷◌, ◌++◌, length, take, get_or, Option, Some, None, Result, Ok, Err, refl, sym, ap, ◌∙◌, subst}
 use Rattle.x86_64_model.specs.Layout.{Layout}
-use Rattle.x86_64_model.specs.Mapper.{◌laid_in◌, Valid, paths, read_entry, words}
+use Rattle.x86_64_model.specs.Hierarchy.{◌laid_in◌, Valid, paths, read_entry, words}
 use Rattle.x86_64_model.proofs.Lemmas.Machines.Changes.{IsChange}
 use Rattle.x86_64_model.proofs.Lemmas.Maps.Arrives.{first_alone, entry_outside}
 use Rattle.x86_64_model.specs.private.MapperCalls.{IsChanged}

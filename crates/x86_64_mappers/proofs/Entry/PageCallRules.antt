@@ -5,7 +5,7 @@ use Rattle.x86_64_model.specs.Allowed.{allowed}
 use Rattle.x86_64_model.specs.Call.{Unmap, UpdateFlags}
 use Rattle.x86_64_model.specs.Entry.{present, used, huge, address}
 use Rattle.x86_64_model.specs.Layout.{Layout}
-use Rattle.x86_64_model.specs.Mapper.{◌laid_in◌, page_translation, paths, read_entry, words}
+use Rattle.x86_64_model.specs.Hierarchy.{◌laid_in◌, page_translation, paths, read_entry, words}
 use Rattle.x86_64_model.proofs.Lemmas.Entries.Bits.{used_present}
 use Rattle.x86_64_model.proofs.Lemmas.Entries.Words.{address_aligned}
 use Rattle.x86_64_model.proofs.Lemmas.Hierarchies.Changes.{unused_no_table}

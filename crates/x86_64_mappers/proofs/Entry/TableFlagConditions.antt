@@ -5,7 +5,7 @@ use Rattle.x86_64_model.specs.Allowed.{allowed, refuses, both_or_none}
 use Rattle.x86_64_model.specs.Call.{SetFlags}
 use Rattle.x86_64_model.specs.Entry.{used, huge, address, no_address}
 use Rattle.x86_64_model.specs.Layout.{Layout}
-use Rattle.x86_64_model.specs.Mapper.{◌laid_in◌, read_entry, words}
+use Rattle.x86_64_model.specs.Hierarchy.{◌laid_in◌, read_entry, words}
 use Rattle.x86_64_model.specs.Memory.{Memory, word}
 use Rattle.x86_64_model.specs.PageRules.{AfterChange, refused_or, set_flags}
 use Rattle.x86_64_model.specs.Path.{level_of, front_at}

@@ -5,7 +5,7 @@ use Rattle.x86_64_model.specs.Allowed.{allowed, both_or_none}
 use Rattle.x86_64_model.specs.Call.{SetFlags}
 use Rattle.x86_64_model.specs.Entry.{used, huge, address, names_table, no_address}
 use Rattle.x86_64_model.specs.Layout.{Layout}
-use Rattle.x86_64_model.specs.Mapper.{◌laid_in◌, Valid, paths, read_entry, words}
+use Rattle.x86_64_model.specs.Hierarchy.{◌laid_in◌, Valid, paths, read_entry, words}
 use Rattle.x86_64_model.proofs.Lemmas.Machines.Changes.{IsChange, at_front, begins_take, set_huge, set_same_table}
 use Rattle.x86_64_model.proofs.Lemmas.Walks.Agrees.{named}
 use Rattle.x86_64_model.specs.private.MapperCalls.{after_set_flags}

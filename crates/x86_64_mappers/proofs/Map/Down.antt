@@ -4,7 +4,7 @@ use Rattle.std.proofs.lemmas.List.{map-id, length-append, length-take}
 use Rattle.std.proofs.Math.Seq.{take-suc, drop-cons}
 use Rattle.x86_64_model.specs.Entry.{IsParentFlags}
 use Rattle.x86_64_model.specs.Layout.{Layout}
-use Rattle.x86_64_model.specs.Mapper.{◌laid_in◌, paths}
+use Rattle.x86_64_model.specs.Hierarchy.{◌laid_in◌, paths}
 use Rattle.x86_64_model.specs.MapRule.{map_rule}
 use Rattle.x86_64_model.specs.Memory.{Memory, Distinct}
 use Rattle.x86_64_model.specs.Path.{parents}

@@ -15,7 +15,7 @@ use Rattle.x86_64_model.proofs.Lemmas.Walks.Walked.{read_there}
 use Rattle.x86_64_model.specs.Memory.{Memory, Places, Distinct, Words, word}
 use Rattle.x86_64_model.specs.PageWalk.{read}
 use Rattle.x86_64_tables.specs.PageTable.{zero_words}
-use Rattle.x86_64_model.specs.Mapper.{◌laid_in◌, Hierarchy, words}
+use Rattle.x86_64_model.specs.Hierarchy.{◌laid_in◌, Hierarchy, words}
 use Rattle.x86_64_mappers.specs.AccessLending.{with_zeros}
 use Rattle.x86_64_mappers.specs.Reached.{IsReached}
 use Rattle.x86_64_mappers.specs.private.Linked.{Beside, IsClearedFirst, MayLink, NotOnWay}

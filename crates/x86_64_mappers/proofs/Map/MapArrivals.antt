@@ -3,14 +3,14 @@ use Rattle.std.proofs.Common.{zero, suc, ◌≡◌, ◌<◌, ◌≤◌, ◌%◌,
 use Rattle.std.specs.Result.{IfOk}
 use Rattle.x86_64_model.specs.Entry.{IsParentFlags, present, address}
 use Rattle.x86_64_model.specs.MapRule.{parent_part}
-use Rattle.x86_64_model.specs.Mapper.{Hierarchy, MayMap, DoesMap, ArrivesIn, path_of}
+use Rattle.x86_64_model.specs.Hierarchy.{Hierarchy, MayMap, DoesMap, ArrivesIn, path_of}
 use Rattle.x86_64_model.specs.Call.{MapTo, MapToWithTableFlags}
 use Rattle.x86_64_model.specs.Refusal.{Done}
 use Rattle.x86_64_model.specs.Position.{span}
 use Rattle.x86_64_model.proofs.Lemmas.Entries.Bits.{address_is}
 use Rattle.x86_64_model.proofs.Lemmas.Machines.Owners.{map_arrives as model_arrives}
 use Rattle.x86_64_tables.specs.MapperAnswers.{map_answer}
-use Rattle.x86_64_tables.specs.declared.mapper.MapToError.{MapToError}
+use Rattle.x86_64_tables.specs.declared.errors.MapToError.{MapToError}
 
 -- a frame's start has address bits alone
 pub frame_address : (frame : ℕ) → frame < 2 ^ 52 → frame % 4096 ≡ 0 → address frame ≡ frame

@@ -5,7 +5,7 @@ use Rattle.x86_64_model.proofs.Lemmas.Machines.Owners.{does_map}
 use Rattle.x86_64_model.specs.Allowed.{map_allowed}
 use Rattle.x86_64_model.specs.Call.{MapToWithTableFlags}
 use Rattle.x86_64_model.specs.private.MapperCalls.{MapsPage}
-use Rattle.x86_64_model.specs.Mapper.{Hierarchy, MayMap, DoesMap, paths}
+use Rattle.x86_64_model.specs.Hierarchy.{Hierarchy, MayMap, DoesMap, paths}
 use Rattle.x86_64_model.specs.Refusal.{Answer}
 use Rattle.x86_64_mappers.proofs.Entry.EntryEnds.{with_memory}
 

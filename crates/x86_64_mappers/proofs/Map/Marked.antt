@@ -2,9 +2,9 @@
 use Rattle.std.proofs.Common.{⊎_elim, ◌≡◌, ◌<◌, ℕ, true, false, not, ◌&&◌, cond, nat_lt, List, [], ◌∷◌, ◌++◌, length, map, Some, None, bit_or, sym, ap, ap₂, ◌∙◌, subst, arith, lt-ltb, append_assoc}
 use Rattle.std.proofs.lemmas.Nat.{or_comm}
 use Rattle.x86_64_model.specs.Entry.{IsParentFlags, used, present, huge, address}
-use Rattle.x86_64_model.specs.Hierarchy.{IsValid}
+use Rattle.x86_64_model.specs.Validity.{IsValid}
 use Rattle.x86_64_model.specs.Layout.{Layout}
-use Rattle.x86_64_model.specs.Mapper.{◌laid_in◌, SupplyFits, paths, words}
+use Rattle.x86_64_model.specs.Hierarchy.{◌laid_in◌, SupplyFits, paths, words}
 use Rattle.x86_64_model.proofs.Lemmas.Hierarchies.Changes.{parents_descend, map_again}
 use Rattle.x86_64_model.proofs.Lemmas.Hierarchies.Held.{table_at_last}
 use Rattle.x86_64_model.proofs.Lemmas.Hierarchies.Marks.{marked_valid}

@@ -3,9 +3,9 @@ use Rattle.std.proofs.Common.{⊎_elim, ◌≡◌, ◌≢◌, inl, inr, ◌<◌,
 use Rattle.std.specs.FinMap.{get}
 use Rattle.x86_64_model.specs.Conserved.{IsFrame, Conserves}
 use Rattle.x86_64_model.specs.Entry.{IsParentFlags, used, huge, address}
-use Rattle.x86_64_model.specs.Hierarchy.{IsValid}
+use Rattle.x86_64_model.specs.Validity.{IsValid}
 use Rattle.x86_64_model.specs.Layout.{Layout}
-use Rattle.x86_64_model.specs.Mapper.{◌laid_in◌, SupplyFits, paths, words}
+use Rattle.x86_64_model.specs.Hierarchy.{◌laid_in◌, SupplyFits, paths, words}
 use Rattle.x86_64_model.proofs.Lemmas.Entries.Bits.{has_or, only_flags, unused_absent, unused_zero}
 use Rattle.x86_64_model.proofs.Lemmas.Hierarchies.Changes.{zero_not_huge}
 use Rattle.x86_64_model.proofs.Lemmas.Hierarchies.Held.{table_at_last}

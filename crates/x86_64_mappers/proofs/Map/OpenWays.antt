@@ -7,9 +7,9 @@ use Rattle.std.proofs.Math.Seq.{take-suc, take-append_seam}
 use Rattle.x86_64_model.specs.Allowed.{none_absent, parents_present}
 use Rattle.x86_64_model.specs.Arrivals.{leads}
 use Rattle.x86_64_model.specs.Entry.{IsParentFlags, used, present, huge, names_table}
-use Rattle.x86_64_model.specs.Hierarchy.{entry_in}
+use Rattle.x86_64_model.specs.Validity.{entry_in}
 use Rattle.x86_64_model.specs.Layout.{Layout}
-use Rattle.x86_64_model.specs.Mapper.{◌laid_in◌, SupplyFits, Valid, paths, words}
+use Rattle.x86_64_model.specs.Hierarchy.{◌laid_in◌, SupplyFits, Valid, paths, words}
 use Rattle.x86_64_model.proofs.Lemmas.Entries.Bits.{unused_absent}
 use Rattle.x86_64_model.proofs.Lemmas.Hierarchies.Held.{table_at_last}
 use Rattle.x86_64_model.proofs.Lemmas.Hierarchies.Trees.{Names, table_of_gives, plain_table}

@@ -2,7 +2,7 @@
 use Rattle.std.specs.Prelude.{ℕ, List}
 use Rattle.std.proofs.Common.{refl, ◌∙◌}
 use Rattle.x86_64_model.specs.Layout.{Layout}
-use Rattle.x86_64_model.specs.Mapper.{◌laid_in◌, SupplyFits}
+use Rattle.x86_64_model.specs.Hierarchy.{◌laid_in◌, SupplyFits}
 use Rattle.x86_64_model.specs.Memory.{Memory}
 use Rattle.x86_64_mappers.specs.private.MapSteps.{KeepsOwned}
 

@@ -5,7 +5,7 @@ use Rattle.x86_64_model.specs.Layout.{Layout}
 use Rattle.x86_64_model.proofs.Lemmas.Maps.Leaves.{none_at_leaf}
 use Rattle.x86_64_model.proofs.Lemmas.Maps.Mapped.{walks_after}
 use Rattle.x86_64_model.specs.MapRule.{leaf_entry}
-use Rattle.x86_64_model.specs.Mapper.{◌laid_in◌, SupplyFits}
+use Rattle.x86_64_model.specs.Hierarchy.{◌laid_in◌, SupplyFits}
 use Rattle.x86_64_model.specs.private.MapperCalls.{MapsPage}
 use Rattle.x86_64_model.specs.Memory.{Memory, Distinct}
 use Rattle.x86_64_model.specs.Refusal.{Refusal, Answer, Refused}

@@ -2,7 +2,7 @@
 use Rattle.std.specs.Prelude.{◌≡◌, ◌⊎◌, ◌<◌, ℕ, true, false, List, [], ◌∷◌, ◌++◌, Some, None, Result, Ok, Err}
 use Rattle.x86_64_model.specs.Entry.{present, huge}
 use Rattle.x86_64_model.specs.Layout.{Layout}
-use Rattle.x86_64_model.specs.Mapper.{◌laid_in◌, paths}
+use Rattle.x86_64_model.specs.Hierarchy.{◌laid_in◌, paths}
 use Rattle.x86_64_model.specs.MapRule.{map_rule}
 use Rattle.x86_64_model.specs.Memory.{Memory}
 use Rattle.x86_64_model.specs.Path.{parents, level_of}

@@ -4,7 +4,7 @@ use Rattle.std.proofs.lemmas.Bool.{cases_eq}
 use Rattle.std.proofs.lemmas.List.{set-get_or}
 use Rattle.std.specs.FinMap.{get, insert}
 use Rattle.x86_64_model.specs.Layout.{Layout}
-use Rattle.x86_64_model.specs.Mapper.{◌laid_in◌, words}
+use Rattle.x86_64_model.specs.Hierarchy.{◌laid_in◌, words}
 use Rattle.x86_64_model.proofs.Lemmas.Hierarchies.Held.{is_some-set}
 use Rattle.x86_64_model.proofs.Lemmas.Hierarchies.Memories.{outside_set, words_of-insert, covered}
 use Rattle.x86_64_model.specs.Memory.{Memory, Places, Distinct, words_of, word, word_in, set_word}

@@ -2,7 +2,7 @@
 use Rattle.std.proofs.Common.{◌≡◌, ◌<◌, ℕ, true, List, [], ◌∷◌, ◌++◌, Some, sym, ap, ◌∙◌, subst}
 use Rattle.std.proofs.lemmas.List.{same_from_push}
 use Rattle.x86_64_model.specs.Layout.{Layout}
-use Rattle.x86_64_model.specs.Mapper.{◌laid_in◌, KeepsOthers, SupplyFits, Valid, paths, words}
+use Rattle.x86_64_model.specs.Hierarchy.{◌laid_in◌, KeepsOthers, SupplyFits, Valid, paths, words}
 use Rattle.x86_64_model.proofs.Lemmas.Hierarchies.Exists.{held_is_paths_of}
 use Rattle.x86_64_model.proofs.Lemmas.Machines.Changes.{IsChange}
 use Rattle.x86_64_model.proofs.Lemmas.Machines.Fitting.{sound_of_fits, fits_of_sound}

@@ -5,8 +5,8 @@ use Rattle.std.specs.FinMap.{get}
 use Rattle.std.proofs.Common.{arith, refl, sym, ap, ap₂, ◌∙◌, subst, inl, inr, eqb-true, lt-ltb, le-leb, ltb-true, leb-true}
 use Rattle.std.proofs.lemmas.Bool.{and_parts}
 use Rattle.x86_64_model.specs.Entry.{is_frame}
-use Rattle.x86_64_model.specs.Hierarchy.{paths_of}
-use Rattle.x86_64_model.specs.Mapper.{◌laid_in◌, Valid, paths}
+use Rattle.x86_64_model.specs.Validity.{paths_of}
+use Rattle.x86_64_model.specs.Hierarchy.{◌laid_in◌, Valid, paths}
 use Rattle.x86_64_model.proofs.Lemmas.Entries.Words.{address_aligned}
 use Rattle.x86_64_model.specs.Memory.{Memory, Words, identity_places, words_of}
 use Rattle.x86_64_model.specs.Pool.{Fits}

@@ -3,7 +3,7 @@ use Rattle.std.proofs.Common.{◌≡◌, ⊎_elim, ℕ, ◌==◌, Bool, true, fa
 use Rattle.std.proofs.lemmas.Bool.{cases_eq}
 use Rattle.std.proofs.lemmas.List.{length-set}
 use Rattle.x86_64_model.specs.Layout.{Layout}
-use Rattle.x86_64_model.specs.Mapper.{◌laid_in◌, words}
+use Rattle.x86_64_model.specs.Hierarchy.{◌laid_in◌, words}
 use Rattle.x86_64_model.proofs.Lemmas.Hierarchies.Held.{word-set_frame, word-set_index, is_some-set}
 use Rattle.x86_64_model.specs.Memory.{Memory, Words, word, set_word}
 use Rattle.x86_64_model.specs.Window.{Window, outside_window, SelfEntry}

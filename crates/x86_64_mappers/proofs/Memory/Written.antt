@@ -2,9 +2,9 @@
 use Rattle.std.proofs.Common.{◌≡◌, ◌≢◌, inr, ◌<◌, ℕ, false, List, [], ◌∷◌, ◌++◌, None, Some, IsSome, refl, sym, ap, ◌∙◌, subst, arith}
 use Rattle.x86_64_model.specs.Conserved.{Conserves}
 use Rattle.x86_64_model.specs.Entry.{used, huge}
-use Rattle.x86_64_model.specs.Hierarchy.{entry_in, IsValid}
+use Rattle.x86_64_model.specs.Validity.{entry_in, IsValid}
 use Rattle.x86_64_model.specs.Layout.{Layout}
-use Rattle.x86_64_model.specs.Mapper.{◌laid_in◌, KeepsOthers, SupplyFits, paths, words}
+use Rattle.x86_64_model.specs.Hierarchy.{◌laid_in◌, KeepsOthers, SupplyFits, paths, words}
 use Rattle.x86_64_model.proofs.Lemmas.Entries.Bits.{unused_zero}
 use Rattle.x86_64_model.proofs.Lemmas.Hierarchies.Changes.{unused_no_table, may_be_leaf}
 use Rattle.x86_64_model.proofs.Lemmas.Hierarchies.Exists.{held_is_paths_of}

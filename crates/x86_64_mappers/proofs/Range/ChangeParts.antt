@@ -8,7 +8,7 @@ use Rattle.std.specs.List.{range_with_len}
 use Rattle.x86_64_model.specs.Allowed.{allowed}
 use Rattle.x86_64_model.specs.Call.{Call, Reply, Answered}
 use Rattle.x86_64_model.specs.Layout.{Layout}
-use Rattle.x86_64_model.specs.Mapper.{◌laid_in◌, Valid, paths, read_entry, words}
+use Rattle.x86_64_model.specs.Hierarchy.{◌laid_in◌, Valid, paths, read_entry, words}
 use Rattle.x86_64_model.specs.Memory.{Memory, Distinct, word, words_of}
 use Rattle.x86_64_model.specs.PageRules.{AfterChange, refused_or}
 use Rattle.x86_64_model.specs.Path.{path_at}

@@ -2,7 +2,7 @@
 use Rattle.std.proofs.Common.{◌≤◌, ℕ, refl}
 use Rattle.x86_64_model.specs.Call.{Unmap, UpdateFlags}
 use Rattle.x86_64_model.specs.Layout.{Layout}
-use Rattle.x86_64_model.specs.Mapper.{◌laid_in◌, paths}
+use Rattle.x86_64_model.specs.Hierarchy.{◌laid_in◌, paths}
 use Rattle.x86_64_model.specs.Machine.{do_call}
 use Rattle.x86_64_model.specs.private.MapperCalls.{after_unmap, after_update}
 use Rattle.x86_64_mappers.specs.private.PageCalls.{unmap_says, update_says}

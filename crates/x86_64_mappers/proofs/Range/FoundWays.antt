@@ -3,7 +3,7 @@ use Rattle.std.proofs.Common.{◌≡◌, ◌≢◌, ⊎_elim, ◌<◌, ℕ, fals
 use Rattle.std.proofs.lemmas.Bool.{cases_eq}
 use Rattle.std.proofs.lemmas.List.{same_from_push}
 use Rattle.x86_64_model.specs.Layout.{Layout}
-use Rattle.x86_64_model.specs.Mapper.{◌laid_in◌, paths, read_entry, words}
+use Rattle.x86_64_model.specs.Hierarchy.{◌laid_in◌, paths, read_entry, words}
 use Rattle.x86_64_model.specs.Memory.{Memory, Words, Distinct, word, set_word}
 use Rattle.x86_64_model.specs.Path.{parents}
 use Rattle.x86_64_model.specs.PathMap.{PathMap, entry, put, table_of}

@@ -3,7 +3,7 @@ use Rattle.std.proofs.Common.{◌≡◌, ◌||◌, ℕ, Bool, true, false, not, 
 use Rattle.x86_64_model.specs.Allowed.{none_absent, parents_present}
 use Rattle.x86_64_model.specs.Entry.{IsParentFlags, present, huge}
 use Rattle.x86_64_model.specs.Layout.{Layout}
-use Rattle.x86_64_model.specs.Mapper.{◌laid_in◌, SupplyFits, paths}
+use Rattle.x86_64_model.specs.Hierarchy.{◌laid_in◌, SupplyFits, paths}
 use Rattle.x86_64_model.specs.MapRule.{AfterMap}
 use Rattle.x86_64_model.specs.Memory.{Memory}
 use Rattle.x86_64_model.specs.Path.{parents}

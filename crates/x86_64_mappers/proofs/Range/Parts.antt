@@ -5,7 +5,7 @@ use Rattle.x86_64_model.specs.Allowed.{map_allowed}
 use Rattle.x86_64_model.specs.Call.{Reply, Answered}
 use Rattle.x86_64_model.specs.Entry.{IsParentFlags}
 use Rattle.x86_64_model.specs.Layout.{Layout}
-use Rattle.x86_64_model.specs.Mapper.{◌laid_in◌, paths}
+use Rattle.x86_64_model.specs.Hierarchy.{◌laid_in◌, paths}
 use Rattle.x86_64_model.specs.MapRule.{leaf_entry}
 use Rattle.x86_64_model.specs.Memory.{Memory, Distinct}
 use Rattle.x86_64_model.specs.Path.{path_at}

@@ -9,7 +9,7 @@ use Rattle.x86_64_model.specs.Entry.{IsParentFlags}
 use Rattle.x86_64_model.specs.Layout.{Layout}
 use Rattle.x86_64_model.specs.Machine.{AfterCall, State, do_call, after_map, step, only_reply, replies_of, state_after}
 use Rattle.x86_64_model.specs.MapRule.{leaf_entry}
-use Rattle.x86_64_model.specs.Mapper.{◌laid_in◌, Hierarchy, machine_of, state_in, paths, walk}
+use Rattle.x86_64_model.specs.Hierarchy.{◌laid_in◌, Hierarchy, machine_of, state_in, paths, walk}
 use Rattle.x86_64_model.specs.Memory.{Memory}
 use Rattle.x86_64_model.specs.PageWalk.{Walked}
 use Rattle.x86_64_model.specs.Path.{path_at}

@@ -6,7 +6,7 @@ use Rattle.std.proofs.lemmas.Bool.{and_parts, not-true}
 use Rattle.std.specs.List.{AllByRecursion}
 use Rattle.x86_64_model.specs.Entry.{IsParentFlags, has, used}
 use Rattle.x86_64_model.specs.Layout.{Layout}
-use Rattle.x86_64_model.specs.Mapper.{◌laid_in◌, SupplyFits, paths, words}
+use Rattle.x86_64_model.specs.Hierarchy.{◌laid_in◌, SupplyFits, paths, words}
 use Rattle.x86_64_model.specs.MapRule.{AfterMap, map_rule}
 use Rattle.x86_64_model.specs.Memory.{Memory, Distinct, word}
 use Rattle.x86_64_model.specs.Path.{parents}

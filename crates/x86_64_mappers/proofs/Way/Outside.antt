@@ -8,7 +8,7 @@ use Rattle.x86_64_model.proofs.Lemmas.Pairs.AlikeRules.{same_stop}
 use Rattle.x86_64_model.proofs.Lemmas.Maps.Arrives.{parents_outside}
 use Rattle.x86_64_model.specs.Memory.{Memory}
 use Rattle.x86_64_model.specs.Layout.{Layout}
-use Rattle.x86_64_model.specs.Mapper.{◌laid_in◌, Valid, paths}
+use Rattle.x86_64_model.specs.Hierarchy.{◌laid_in◌, Valid, paths}
 use Rattle.x86_64_model.specs.Path.{parents}
 use Rattle.x86_64_model.specs.PathMap.{PathMap, entry, table_at}
 use Rattle.x86_64_model.specs.Refusal.{first_stop}

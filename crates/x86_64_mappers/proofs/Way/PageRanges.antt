@@ -5,7 +5,7 @@ use Rattle.std.proofs.lemmas.Bool.{and_from, and_parts, cases_lt, ltb-true, true
 use Rattle.std.proofs.lemmas.Nat.{div-add-mod', pow-add}
 use Rattle.x86_64_model.specs.Allowed.{parents_present}
 use Rattle.x86_64_model.specs.Entry.{present}
-use Rattle.x86_64_model.specs.Mapper.{Hierarchy, path_of, paths}
+use Rattle.x86_64_model.specs.Hierarchy.{Hierarchy, path_of, paths}
 use Rattle.x86_64_model.specs.Path.{is_small, path_at}
 use Rattle.x86_64_model.specs.PathMap.{PathMap}
 use Rattle.x86_64_model.specs.Position.{index, position_count, span}

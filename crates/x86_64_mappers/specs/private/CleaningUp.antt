@@ -5,7 +5,7 @@ use Rattle.x86_64_model.specs.CleanUp.{in_range, meets}
 use Rattle.x86_64_model.specs.Entry.{address}
 use Rattle.x86_64_model.specs.Layout.{Layout}
 use Rattle.x86_64_model.specs.Lists.{In}
-use Rattle.x86_64_model.specs.Mapper.{◌laid_in◌, Hierarchy, KeepsOthers, Valid, paths, words}
+use Rattle.x86_64_model.specs.Hierarchy.{◌laid_in◌, Hierarchy, KeepsOthers, Valid, paths, words}
 use Rattle.x86_64_model.specs.Memory.{Memory, word}
 use Rattle.x86_64_model.specs.Path.{AllBelow, span_start}
 use Rattle.x86_64_model.specs.PathMap.{PathMap, entry, put, table_at}

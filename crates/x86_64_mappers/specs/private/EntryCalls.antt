@@ -1,7 +1,7 @@
 -- A call on one entry: its new word and the answer, decided by its old word, and the memory afterwards.
 use Rattle.std.specs.Prelude.{◌≡◌, ◌<◌, ◌-◌, ℕ, List, length, take, get_or, Result, Ok, Err}
 use Rattle.x86_64_model.specs.Layout.{Layout}
-use Rattle.x86_64_model.specs.Mapper.{◌laid_in◌, words}
+use Rattle.x86_64_model.specs.Hierarchy.{◌laid_in◌, words}
 use Rattle.x86_64_model.specs.Memory.{Memory}
 use Rattle.x86_64_model.specs.Refusal.{Refusal, Answer, Done, Refused}
 use Rattle.x86_64_model.specs.Memory as memory

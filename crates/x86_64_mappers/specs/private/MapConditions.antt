@@ -2,7 +2,7 @@
 use Rattle.std.specs.Prelude.{◌≡◌, ◌≤◌, ◌%◌, ℕ, ◌&&◌, ◌||◌, Bool, true, false, not, List, find, Result, Ok, Err}
 use Rattle.x86_64_model.specs.Allowed.{none_absent}
 use Rattle.x86_64_model.specs.Entry.{present, huge, no_address}
-use Rattle.x86_64_model.specs.Mapper.{Hierarchy, path_of}
+use Rattle.x86_64_model.specs.Hierarchy.{Hierarchy, path_of}
 use Rattle.x86_64_model.specs.Path.{parents}
 use Rattle.x86_64_model.specs.PathMap.{PathMap, entry}
 use Rattle.x86_64_model.specs.Position.{span}

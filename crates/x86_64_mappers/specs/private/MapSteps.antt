@@ -2,7 +2,7 @@
 -- left to do.
 use Rattle.std.specs.Prelude.{◌≡◌, ℕ, List, [], ◌∷◌, ◌++◌, map, Some, Result, Ok, Err}
 use Rattle.x86_64_model.specs.Layout.{Layout}
-use Rattle.x86_64_model.specs.Mapper.{◌laid_in◌, KeepsOthers, Owns, SupplyFits, paths}
+use Rattle.x86_64_model.specs.Hierarchy.{◌laid_in◌, KeepsOthers, Owns, SupplyFits, paths}
 use Rattle.x86_64_model.specs.Lists.{In}
 use Rattle.x86_64_model.specs.private.MapperCalls.{Uses}
 use Rattle.x86_64_model.specs.Memory.{Memory}

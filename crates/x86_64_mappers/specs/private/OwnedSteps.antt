@@ -1,7 +1,7 @@
 -- The steps of a mapper's calls, as relations on hierarchies: the record of layout, memory and loan that a mapper owns for a
 -- while.
 use Rattle.std.specs.Prelude.{◌≡◌, ℕ, List, Result}
-use Rattle.x86_64_model.specs.Mapper.{Hierarchy}
+use Rattle.x86_64_model.specs.Hierarchy.{Hierarchy}
 use Rattle.x86_64_model.specs.Refusal.{Refusal, Answer}
 use Rattle.x86_64_mappers.specs.Supplies.{Supply}
 use Rattle.x86_64_mappers.specs.private.EntryCalls.{IsChangedAt}

@@ -7,7 +7,7 @@ use Rattle.x86_64_model.specs.Call.{Reply}
 use Rattle.x86_64_model.specs.Entry.{used}
 use Rattle.x86_64_model.specs.Layout.{Layout}
 use Rattle.x86_64_model.specs.Machine.{replies_of, state_after}
-use Rattle.x86_64_model.specs.Mapper.{◌laid_in◌, Hierarchy, machine_of, state_in, paths, walk}
+use Rattle.x86_64_model.specs.Hierarchy.{◌laid_in◌, Hierarchy, machine_of, state_in, paths, walk}
 use Rattle.x86_64_model.specs.Memory.{Memory, Places, words_of}
 use Rattle.x86_64_model.specs.Position.{span}
 use Rattle.x86_64_model.specs.Refusal.{Refusal}

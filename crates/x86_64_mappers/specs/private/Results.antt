@@ -3,12 +3,12 @@ use Rattle.std.specs.Prelude.{Result, Ok, Err}
 use Rattle.x86_64_model.specs.Refusal.{Refusal}
 use Rattle.x86_64_model.specs.Refusal as refusal
 use Rattle.x86_64_tables.specs.MapperAnswers.{refusal_of_unmap, refusal_of_translate}
-use Rattle.x86_64_tables.specs.declared.mapper.UnmapError.{UnmapError}
-use Rattle.x86_64_tables.specs.declared.mapper.TranslateError.{TranslateError}
-use Rattle.x86_64_mappers.specs.declared.access.find.PageTableWalkError.{PageTableWalkError}
-use Rattle.x86_64_mappers.specs.declared.access.map.PageTableCreateError.{PageTableCreateError}
-use Rattle.x86_64_mappers.specs.declared.access.map.PageTableCreateError.TheVariants.{MappedToHugePage, FrameAllocationFailed}
-use Rattle.x86_64_mappers.specs.declared.access.find.PageTableWalkError.TheVariants as walk
+use Rattle.x86_64_tables.specs.declared.errors.UnmapError.{UnmapError}
+use Rattle.x86_64_tables.specs.declared.errors.TranslateError.{TranslateError}
+use Rattle.x86_64_mappers.specs.declared.walk.parents.PageTableWalkError.{PageTableWalkError}
+use Rattle.x86_64_mappers.specs.declared.walk.map.PageTableCreateError.{PageTableCreateError}
+use Rattle.x86_64_mappers.specs.declared.walk.map.PageTableCreateError.TheVariants.{MappedToHugePage, FrameAllocationFailed}
+use Rattle.x86_64_mappers.specs.declared.walk.parents.PageTableWalkError.TheVariants as walk
 
 -- The refusal for the Rust error of a step of a map that goes down to a table and creates it if it is missing.
 abbrev pub create_refusal : PageTableCreateError → Refusal

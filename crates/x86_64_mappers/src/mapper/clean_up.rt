@@ -4,7 +4,7 @@ ghost use Rattle.std.specs.Prelude.{◌≡◌, ◌+◌};
 use crate::calls::{self, TableAccess};
 use x86_64_page::page::{PageRangeInclusive, Size4KiB};
 use x86_64_tables::frame_alloc::FrameDeallocator;
-use x86_64_tables::mapper::PageTables;
+use x86_64_tables::page_tables::PageTables;
 
 /// Removes empty tables, and returns their frames to a deallocator.
 ///

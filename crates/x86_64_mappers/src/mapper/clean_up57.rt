@@ -5,7 +5,7 @@ use crate::calls::{self, TableAccess};
 use x86_64_addr::addr::VirtAddr57;
 use x86_64_page::page::{Page57, PageRangeInclusive57, Size4KiB};
 use x86_64_tables::frame_alloc::FrameDeallocator;
-use x86_64_tables::mapper::PageTables57;
+use x86_64_tables::page_tables::PageTables57;
 
 /// Removes empty tables of a hierarchy of five levels, and returns their frames to a deallocator.
 ///

@@ -1,17 +1,16 @@
 //! Maps pages of 57-bit virtual addresses.
 ghost use Rattle.std.specs.Prelude.{◌≡◌, ◌<◌, ◌↔◌, true, List, fold, length, IsTrue, IfOk, IfErr};
-ghost use Rattle.x86_64_model.specs.Mapper.{Valid};
+ghost use Rattle.x86_64_model.specs.Hierarchy.{Valid};
 ghost use Rattle.x86_64_tables.specs.PageTableFlags.{bits_of};
 
 use crate::calls::{self, FrameSink, MapRangeError57, TableAccess};
 use x86_64_page::frame::PhysFrame;
 use x86_64_page::page::{Page57, PageSize, Size1GiB, Size2MiB, Size4KiB};
+use x86_64_tables::errors::{FlagUpdateError, MapToError, TranslateError, UnmapError};
 use x86_64_tables::frame_alloc::FrameAllocator;
-use x86_64_tables::mapper::{
-    FlagUpdateError, MapToError, MapperFlush57, MapperFlushAll, MapperFlushRange57, PageTables57,
-    TranslateError, UnmapError,
-};
 use x86_64_tables::page_table::PageTableFlags;
+use x86_64_tables::page_tables::PageTables57;
+use x86_64_tables::tokens::{MapperFlush57, MapperFlushAll, MapperFlushRange57};
 
 /// Maps and unmaps pages of one size in the 57-bit address space, and changes the flags of the entries on their paths.
 ///
@@ -20,7 +19,7 @@ use x86_64_tables::page_table::PageTableFlags;
 pub trait Mapper57<S: PageSize>: TableAccess + PageTables57 {
     ghost use Rattle.x86_64_model.specs.Call.{Reply};
     ghost use Rattle.x86_64_model.specs.Entry.{no_address, present};
-    ghost use Rattle.x86_64_model.specs.Mapper.{SupplyFits};
+    ghost use Rattle.x86_64_model.specs.Hierarchy.{SupplyFits};
     ghost use Rattle.x86_64_model.specs.PageCalls.{MayAsk, MayAskMap, Answers, MapTo, MapToWithTableFlags, IdentityMap, Unmap, UpdateFlags, SetFlags};
     ghost use Rattle.x86_64_mappers.specs.RangeChanges.{IsRange, frames_done, UnmapsEach, UpdatesEach};
     ghost use Rattle.x86_64_mappers.specs.Ranges.{MayMapRange, range_of, MapsRange};

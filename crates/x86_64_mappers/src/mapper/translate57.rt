@@ -1,11 +1,12 @@
 //! Translates 57-bit virtual addresses.
 ghost use Rattle.std.specs.Prelude.{◌≡◌, Some, option_map};
-ghost use Rattle.x86_64_model.specs.Mapper.{Valid, walk, translation};
+ghost use Rattle.x86_64_model.specs.Hierarchy.{Valid, walk, translation};
 ghost use Rattle.x86_64_model.specs.Translation.{address_of};
 
 use crate::calls::{self, TableAccess};
 use x86_64_addr::addr::{PhysAddr, VirtAddr57};
-use x86_64_tables::mapper::{PageTables57, TranslateResult};
+use x86_64_tables::page_tables::PageTables57;
+use x86_64_tables::translation::TranslateResult;
 
 /// Translates 57-bit virtual addresses.
 pub trait Translate57: TableAccess + PageTables57 {

@@ -8,7 +8,7 @@ ghost use Rattle.x86_64_model.specs.Path.{path_at};
 ghost use Rattle.x86_64_model.specs.Position.{page_path, position_count};
 ghost use Rattle.x86_64_mappers.specs.Windows.{ShowsTable};
 
-use crate::access::path::EntryPath;
+use crate::walk::path::EntryPath;
 use x86_64_addr::addr::VirtAddrIn;
 use x86_64_addr::index::PageTableIndex;
 use x86_64_addr::level_count::LevelCount;

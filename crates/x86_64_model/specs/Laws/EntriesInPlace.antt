@@ -4,7 +4,7 @@ use Rattle.std.specs.Prelude.{◌≡◌, ◌⊎◌, ◌<◌, ◌≤◌, ℕ, Boo
 use Rattle.std.specs.FinMap.{get, insert}
 use Rattle.x86_64_model.specs.Entry.{present, writable, user, huge, address, used, names_table}
 use Rattle.x86_64_model.specs.Layout.{Layout}
-use Rattle.x86_64_model.specs.Mapper.{◌laid_in◌, PoolFits, paths, walk, words}
+use Rattle.x86_64_model.specs.Hierarchy.{◌laid_in◌, PoolFits, paths, walk, words}
 use Rattle.x86_64_model.specs.Memory.{Memory, IsMapping, word}
 use Rattle.x86_64_model.specs.Path.{level_of, begins}
 use Rattle.x86_64_model.specs.PathMap.{entry, put, table_at}

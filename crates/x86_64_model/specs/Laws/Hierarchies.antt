@@ -5,7 +5,7 @@ use Rattle.x86_64_model.specs.Entry.{huge}
 use Rattle.x86_64_model.specs.Path.{level_of}
 use Rattle.x86_64_model.specs.PathMap.{PathMap, entry, put, table_of, table_at}
 use Rattle.x86_64_model.specs.Memory.{Words, word, set_word}
-use Rattle.x86_64_model.specs.Hierarchy.{entry_in, Holds, IsValid, paths_of}
+use Rattle.x86_64_model.specs.Validity.{entry_in, Holds, IsValid, paths_of}
 
 -- Words hold at most one path map from a root.
 abbrev pub OnePathMap : Type 0

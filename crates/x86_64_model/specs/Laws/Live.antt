@@ -6,7 +6,7 @@ use Rattle.x86_64_model.specs.Laws.EntriesInPlace.{IsInPlace, MayReplace}
 use Rattle.x86_64_model.specs.Layout.{Layout}
 use Rattle.x86_64_model.specs.Lists.{In}
 use Rattle.x86_64_model.specs.Live.{Happening, Marks, Placed, after_happenings, learned, after_all_placed, AllMayTakePlace, words_learned}
-use Rattle.x86_64_model.specs.Mapper.{◌laid_in◌, Owns, PoolFits, paths, words}
+use Rattle.x86_64_model.specs.Hierarchy.{◌laid_in◌, Owns, PoolFits, paths, words}
 use Rattle.x86_64_model.specs.Memory.{Memory, Words, IsMapping, word}
 use Rattle.x86_64_model.specs.PathMap.{PathMap, entry, put, table_at}
 use Rattle.x86_64_model.specs.Store.{KeepsPool}

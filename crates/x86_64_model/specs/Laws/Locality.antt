@@ -9,7 +9,7 @@ use Rattle.x86_64_model.specs.Laws.Spaces.{KeepsRootEntries}
 use Rattle.x86_64_model.specs.Layout.{Layout}
 use Rattle.x86_64_model.specs.Lists.{In}
 use Rattle.x86_64_model.specs.Machine.{step}
-use Rattle.x86_64_model.specs.Mapper.{◌laid_in◌, machine_of, state_in, Owns, PoolFits, paths, walk, words}
+use Rattle.x86_64_model.specs.Hierarchy.{◌laid_in◌, machine_of, state_in, Owns, PoolFits, paths, walk, words}
 use Rattle.x86_64_model.specs.Memory.{Memory, Words, IsMapping, word}
 use Rattle.x86_64_model.specs.Pool.{TakesBack}
 use Rattle.x86_64_model.specs.Spaces.{Shares, AreSpaces, Avoids}

@@ -7,7 +7,7 @@ use Rattle.x86_64_model.specs.Entry.{IsParentFlags, has, used, writable, user, a
 use Rattle.x86_64_model.specs.Path.{parents, path_at}
 use Rattle.x86_64_model.specs.PathMap.{PathMap, entry}
 use Rattle.x86_64_model.specs.Memory.{Words}
-use Rattle.x86_64_model.specs.Hierarchy.{Holds}
+use Rattle.x86_64_model.specs.Validity.{Holds}
 use Rattle.x86_64_model.specs.Window.{Window, begins_with, IsValidFor}
 use Rattle.x86_64_model.specs.PageWalk.{page_walk}
 use Rattle.x86_64_model.specs.Refusal.{Refusal, Done, Refused}

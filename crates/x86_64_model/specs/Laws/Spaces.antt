@@ -9,7 +9,7 @@ use Rattle.x86_64_model.specs.Laws.Steps.{AllCalls}
 use Rattle.x86_64_model.specs.Layout.{Layout}
 use Rattle.x86_64_model.specs.Lists.{In}
 use Rattle.x86_64_model.specs.Machine.{state_after}
-use Rattle.x86_64_model.specs.Mapper.{◌laid_in◌, machine_of, state_in, KeepsOthers, Owns, PoolFits, Valid, paths, walk, words}
+use Rattle.x86_64_model.specs.Hierarchy.{◌laid_in◌, machine_of, state_in, KeepsOthers, Owns, PoolFits, Valid, paths, walk, words}
 use Rattle.x86_64_model.specs.Memory.{Memory, IsMapping, word}
 use Rattle.x86_64_model.specs.Path.{is_below}
 use Rattle.x86_64_model.specs.PathMap.{PathMap, entry}

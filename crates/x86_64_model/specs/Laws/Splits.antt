@@ -7,7 +7,7 @@ use Rattle.x86_64_model.specs.Caches as caches
 use Rattle.x86_64_model.specs.Entry.{present, writable, user, huge, no_execute, address, is_frame, names_table, has, flags}
 use Rattle.x86_64_model.specs.Laws.EntriesInPlace.{IsInPlace, with_word}
 use Rattle.x86_64_model.specs.Layout.{Layout}
-use Rattle.x86_64_model.specs.Mapper.{◌laid_in◌, PoolFits, paths, words}
+use Rattle.x86_64_model.specs.Hierarchy.{◌laid_in◌, PoolFits, paths, words}
 use Rattle.x86_64_model.specs.Mappings.{Rights, maps_page}
 use Rattle.x86_64_model.specs.Memory.{Memory, Words, IsMapping}
 use Rattle.x86_64_model.specs.PageWalk.{page_start, page_walk}

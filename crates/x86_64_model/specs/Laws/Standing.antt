@@ -5,7 +5,7 @@ use Rattle.std.specs.List.{AllByRecursion}
 use Rattle.x86_64_model.specs.Arrivals.{Asks}
 use Rattle.x86_64_model.specs.Conserved.{IsFrame}
 use Rattle.x86_64_model.specs.Entry.{IsParentFlags, writable, user}
-use Rattle.x86_64_model.specs.Hierarchy.{Holds}
+use Rattle.x86_64_model.specs.Validity.{Holds}
 use Rattle.x86_64_model.specs.MapRule.{map_call, parent_part}
 use Rattle.x86_64_model.specs.Memory.{Words}
 use Rattle.x86_64_model.specs.PageWalk.{page_walk}

@@ -4,7 +4,7 @@ use Rattle.x86_64_model.specs.Lists.{In}
 use Rattle.x86_64_model.specs.Call.{Call, IsCall, parent_flags_of}
 use Rattle.x86_64_model.specs.Entry.{IsParentFlags, used, present}
 use Rattle.x86_64_model.specs.Flushing.{PageDue, TablesDue, LosesNothing, mapped_by}
-use Rattle.x86_64_model.specs.Hierarchy.{paths_of}
+use Rattle.x86_64_model.specs.Validity.{paths_of}
 use Rattle.x86_64_model.specs.Layout.{Layout}
 use Rattle.x86_64_model.specs.Machine.{step}
 use Rattle.x86_64_model.specs.Mappings.{maps_page}

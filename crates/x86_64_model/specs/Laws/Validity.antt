@@ -3,7 +3,7 @@ use Rattle.std.specs.Prelude.{◌≡◌, ◌↔◌, ◌^◌, ◌<◌, ℕ, suc, 
 use Rattle.std.specs.FinMap.{keys}
 use Rattle.x86_64_model.specs.PathMap.{PathMap}
 use Rattle.x86_64_model.specs.Memory.{Words, OnlyFrames, Memory, Places, IsMapping, Distinct, words_of}
-use Rattle.x86_64_model.specs.Hierarchy.{IsValid, paths_of}
+use Rattle.x86_64_model.specs.Validity.{IsValid, paths_of}
 use Rattle.x86_64_model.specs.Window.{Window, outside_window, SelfEntry}
 use Rattle.x86_64_model.specs.Pool.{Fits}
 use Rattle.x86_64_model.specs.private.Tables.{tables_from, NoneHuge, SoundTables}

@@ -4,7 +4,7 @@ use Rattle.std.specs.FinMap.{empty, insert}
 use Rattle.std.specs.Ordering.{nat_cmp}
 use Rattle.x86_64_model.specs.PathMap.{PathMap, put}
 use Rattle.x86_64_model.specs.Memory.{Words, Memory, words_of, identity_places}
-use Rattle.x86_64_model.specs.Hierarchy.{IsValid}
+use Rattle.x86_64_model.specs.Validity.{IsValid}
 use Rattle.x86_64_model.specs.Window.{Window, entry_at}
 use Rattle.x86_64_model.specs.PageWalk.{page_walk}
 use Rattle.x86_64_model.specs.Translation.{translate, Mapped}

@@ -9,7 +9,7 @@ use Rattle.x86_64_model.specs.MapRule.{map_call}
 use Rattle.x86_64_model.specs.PageRules.{AfterChange, unmap, update_flags, set_flags}
 use Rattle.x86_64_model.specs.Arrivals.{Arrives}
 use Rattle.x86_64_model.specs.Layout.{Layout}
-use Rattle.x86_64_model.specs.Mapper.{◌laid_in◌, KeepsOthers, Owns, SupplyFits, Valid, paths, read_entry, walk}
+use Rattle.x86_64_model.specs.Hierarchy.{◌laid_in◌, KeepsOthers, Owns, SupplyFits, Valid, paths, read_entry, walk}
 
 -- The frame holds the root or another table, or was taken from the supply (the frames to hand out, in order), of which the rest
 -- is left.

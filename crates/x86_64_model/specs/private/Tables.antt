@@ -5,7 +5,7 @@ use Rattle.std.specs.List.{flat_map}
 use Rattle.x86_64_model.specs.Entry.{huge, address, names_table}
 use Rattle.x86_64_model.specs.Path.{indices}
 use Rattle.x86_64_model.specs.Memory.{Words, word, set_word}
-use Rattle.x86_64_model.specs.Hierarchy.{read_at}
+use Rattle.x86_64_model.specs.Validity.{read_at}
 use Rattle.x86_64_model.specs.Lists.{In, EachOnce}
 
 -- The table in a frame and all tables below it, through n levels, each before those below it.

@@ -1,6 +1,6 @@
 use Rattle.std.proofs.Common.{◌∙◌, ℕ, refl, sym, ap, rules}
 use Rattle.x86_64_model.specs.Layout.{Layout}
-use Rattle.x86_64_model.specs.Mapper.{◌laid_in◌}
+use Rattle.x86_64_model.specs.Hierarchy.{◌laid_in◌}
 use Rattle.x86_64_model.specs.Memory.{Memory}
 use Rattle.x86_64_model.specs.Store.{StoreFits}
 use Rattle.x86_64_mappers.specs.Layouts.{direct_at}

@@ -1,5 +1,5 @@
 use Rattle.std.proofs.Common.{rules, ◌≡◌, ◌∙◌, ℕ, [], ◌∷◌, length, sym, ap, subst, subst₂, arith}
-use Rattle.x86_64_model.specs.Mapper.{◌laid_in◌, Valid}
+use Rattle.x86_64_model.specs.Hierarchy.{◌laid_in◌, Valid}
 use Rattle.x86_64_model.specs.Memory.{Memory, identity_places}
 use Rattle.x86_64_tables.specs.ActiveMemory.{memory_of}
 use Rattle.x86_64_mappers.specs.Layouts.{direct_at}

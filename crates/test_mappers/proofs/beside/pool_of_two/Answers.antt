@@ -6,8 +6,8 @@ use Rattle.x86_64_mappers.specs.Layouts.{direct}
 use Rattle.x86_64_model.specs.Entry.{is_frame}
 use Rattle.x86_64_model.specs.Laws.Spaces.{OneIsASpace}
 use Rattle.x86_64_model.specs.Layout.{Layout}
-use Rattle.x86_64_model.specs.Mapper.{◌laid_in◌, Owns, PoolFits}
-use Rattle.x86_64_model.specs.Hierarchy.{paths_of}
+use Rattle.x86_64_model.specs.Hierarchy.{◌laid_in◌, Owns, PoolFits}
+use Rattle.x86_64_model.specs.Validity.{paths_of}
 use Rattle.x86_64_model.specs.Pool.{serves_below}
 use Rattle.x86_64_model.specs.Memory.{Memory, word, word_in, words_of, identity_places}
 use Rattle.x86_64_model.specs.Pool.{Fits}

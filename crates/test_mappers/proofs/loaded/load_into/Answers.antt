@@ -4,7 +4,7 @@ use Rattle.x86_64_loader.specs.Segments.{IsAllowed, IsLoaded, Suffices, small_pa
 use Rattle.x86_64_loader.specs.declared.segment.Segment.{Segment}
 use Rattle.x86_64_model.specs.Layout.{Layout}
 use Rattle.x86_64_model.specs.Memory.{Memory}
-use Rattle.x86_64_model.specs.Mapper.{Hierarchy}
+use Rattle.x86_64_model.specs.Hierarchy.{Hierarchy}
 use Rattle.test_mappers.proofs.loaded.load_into.Goals as goal
 
 abbrev over : Layout → Memory → Hierarchy (Unit {0})

@@ -1,7 +1,7 @@
 //! Tests of alike hierarchies, whose path maps are equal except for `WRITABLE` of table entries.
 ghost use Rattle.std.specs.Prelude.{◌≡◌, ◌↔◌, IsTrue, Some, None};
 ghost use Rattle.x86_64_model.specs.Alike.{Alike};
-ghost use Rattle.x86_64_model.specs.Hierarchy.{paths_of};
+ghost use Rattle.x86_64_model.specs.Validity.{paths_of};
 ghost use Rattle.x86_64_model.specs.Memory.{identity_places, words_of};
 ghost use Rattle.x86_64_model.specs.Window.{outside_window};
 ghost use Rattle.x86_64_tables.specs.SelfEntries.{window_at};

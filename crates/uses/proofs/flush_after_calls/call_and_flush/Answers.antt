@@ -1,6 +1,6 @@
 use Rattle.std.proofs.Common.{◌≡◌, true, [], option_map, unwrap_or, sym, subst}
 use Rattle.x86_64_model.specs.Call.{IsCall}
-use Rattle.x86_64_model.specs.Mapper.{◌laid_in◌, PoolFits}
+use Rattle.x86_64_model.specs.Hierarchy.{◌laid_in◌, PoolFits}
 use Rattle.x86_64_model.specs.Window.{Window}
 use Rattle.x86_64.specs.Asked.{machine_call}
 use Rattle.x86_64.specs.Calls.{to_call, page_of_call}

@@ -3,7 +3,7 @@ use Rattle.std.proofs.lemmas.List.{drop_all}
 use Rattle.std.proofs.lemmas.Result.{on_err_weaker}
 use Rattle.x86_64_mappers.specs.Layouts.{direct}
 use Rattle.x86_64_model.specs.Call.{Call}
-use Rattle.x86_64_model.specs.Mapper.{◌laid_in◌, PoolFits}
+use Rattle.x86_64_model.specs.Hierarchy.{◌laid_in◌, PoolFits}
 use Rattle.x86_64_model.specs.Memory.{Memory, identity_places}
 use Rattle.x86_64_model.specs.Pool.{serves_below}
 use Rattle.uses.specs.Processes.{ending}

@@ -1,7 +1,7 @@
 use Rattle.std.proofs.Common.{cond, [], ◌∷◌, ap, lt-ltb}
 use Rattle.std.proofs.lemmas.Bool.{le-ltb}
 use Rattle.x86_64_tables.specs.FlushRecorder.{page_items}
-use Rattle.x86_64_tables.specs.declared.mapper.recorder.FlushItem.TheVariants.{All}
+use Rattle.x86_64_tables.specs.declared.tokens.recorder.FlushItem.TheVariants.{All}
 use Rattle.x86_64.proofs.laws.ranges_of_up_to_32_pages_are_flushed_by_page.Goals as goal
 
 pub returns-clause-each : goal.returns-clause-each

@@ -1,6 +1,6 @@
 use Rattle.std.proofs.Common.{◌-◌, ap, sym, subst}
 use Rattle.x86_64_model.specs.Call as machine
-use Rattle.x86_64_model.specs.Mapper.{freed_frames}
+use Rattle.x86_64_model.specs.Hierarchy.{freed_frames}
 use Rattle.x86_64_model.specs.Position.{position_count}
 use Rattle.x86_64_model.proofs.Lemmas.Machines.Giving.{giving_from}
 use Rattle.x86_64.specs.Calls.{to_call, size_asks}

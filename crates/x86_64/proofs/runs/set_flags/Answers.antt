@@ -1,5 +1,5 @@
 use Rattle.std.proofs.Common.{refl, sym, subst}
-use Rattle.x86_64_model.specs.Mapper.{Does, named}
+use Rattle.x86_64_model.specs.Hierarchy.{Does, named}
 use Rattle.x86_64_model.specs.PageCalls.{SetFlags, asked}
 use Rattle.x86_64_model.specs.Refusal.{Done, answer_unless}
 use Rattle.x86_64_tables.specs.PageTableFlags.{bits_of}

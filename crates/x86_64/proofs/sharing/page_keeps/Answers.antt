@@ -1,5 +1,5 @@
 use Rattle.std.proofs.Common.{◌≡◌, ◌↔◌, ◌<◌, ◌≤◌, ◌∙◌, ℕ, Bool, bit_or, true, IsTrue, sym, ap, subst}
-use Rattle.x86_64_model.specs.Mapper.{Hierarchy, path_of}
+use Rattle.x86_64_model.specs.Hierarchy.{Hierarchy, path_of}
 use Rattle.x86_64_model.specs.Position.{index}
 use Rattle.x86_64_model.specs.Spaces.{is_shared, HasFlags}
 use Rattle.x86_64.specs.Sharing.{root_entries}

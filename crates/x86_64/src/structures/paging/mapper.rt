@@ -14,9 +14,11 @@ pub use x86_64_mappers::offset_page_table::{
 pub use x86_64_mappers::recursive_page_table::{
     InvalidPageTable, RecursivePageTable, RecursivePageTable57, RecursivePageTableIn,
 };
-pub use x86_64_tables::mapper::{
-    FlagUpdateError, MapToError, MappedFrame, MapperFlush, MapperFlush57, MapperFlushAll,
-    MapperFlushIn, MapperFlushRange, MapperFlushRange57, MapperFlushRangeIn, PageTables,
-    PageTables57, Tables, TablesIn, TranslateError, TranslateResult, UnmapError,
-};
+pub use x86_64_tables::errors::{FlagUpdateError, MapToError, TranslateError, UnmapError};
+pub use x86_64_tables::page_tables::{PageTables, PageTables57, Tables, TablesIn};
 pub use x86_64_tables::phys_memory::PageTableFrameMapping;
+pub use x86_64_tables::tokens::{
+    MapperFlush, MapperFlush57, MapperFlushAll, MapperFlushIn, MapperFlushRange,
+    MapperFlushRange57, MapperFlushRangeIn,
+};
+pub use x86_64_tables::translation::{MappedFrame, TranslateResult};

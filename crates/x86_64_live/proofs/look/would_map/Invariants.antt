@@ -1,6 +1,6 @@
 use Rattle.x86_64_live.proofs.Looks.{LooksAt}
 use Rattle.x86_64_mappers.specs.Layouts.{direct_at}
-use Rattle.x86_64_model.specs.Mapper.{◌laid_in◌}
+use Rattle.x86_64_model.specs.Hierarchy.{◌laid_in◌}
 use Rattle.x86_64_live.proofs.look.would_map.Given as goal
 
 abbrev pub invariant-loop-above : goal.invariant-loop-above

@@ -1,5 +1,5 @@
 use Rattle.std.proofs.Common.{subst₂}
-use Rattle.x86_64_model.specs.Mapper.{CleansUp}
+use Rattle.x86_64_model.specs.Hierarchy.{CleansUp}
 use Rattle.x86_64_mappers.proofs.CleanUp.AllPages.{to_the_last}
 use Rattle.x86_64_mappers.proofs.calls.clean_up.Goals as goal
 

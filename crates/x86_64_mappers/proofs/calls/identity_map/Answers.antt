@@ -1,7 +1,7 @@
 use Rattle.std.proofs.Common.{IfOk, ◌≡◌, ◌%◌, inl, ap, ◌∙◌, subst, sym}
 use Rattle.x86_64_model.specs.Call.{MapTo}
 use Rattle.x86_64_model.proofs.Lemmas.Machines.Owners.{does_map_identity}
-use Rattle.x86_64_model.specs.Mapper.{MayMap, DoesMap, path_of}
+use Rattle.x86_64_model.specs.Hierarchy.{MayMap, DoesMap, path_of}
 use Rattle.x86_64_model.specs.Position.{IsCanonical, position_count}
 use Rattle.x86_64_tables.specs.MapperAnswers.{map_answer}
 use Rattle.x86_64_tables.specs.PageTableFlags.{bits_of}

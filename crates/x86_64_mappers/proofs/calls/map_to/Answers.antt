@@ -1,7 +1,7 @@
 use Rattle.std.proofs.Common.{ℕ, rules, subst, sym}
 use Rattle.x86_64_model.specs.Call.{MapToWithTableFlags}
 use Rattle.x86_64_model.proofs.Lemmas.Machines.Owners.{may_map_to, does_map_to}
-use Rattle.x86_64_model.specs.Mapper.{MayMap, DoesMap, path_of}
+use Rattle.x86_64_model.specs.Hierarchy.{MayMap, DoesMap, path_of}
 use Rattle.x86_64_tables.specs.MapperAnswers.{map_answer}
 use Rattle.x86_64_tables.specs.PageTableFlags.{bits_of}
 use Rattle.x86_64_mappers.proofs.Map.MapArrivals.{map_arrives}

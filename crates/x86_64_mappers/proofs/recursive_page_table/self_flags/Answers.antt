@@ -1,7 +1,7 @@
 use Rattle.std.proofs.Common.{◌≡◌, ℕ, [], sym, ap, ap₂, ◌∙◌, slice_index, bit_or}
 use Rattle.std.specs.Option.{option_copied}
 use Rattle.x86_64_model.specs.Entry.{address}
-use Rattle.x86_64_model.specs.Mapper.{◌laid_in◌, Valid}
+use Rattle.x86_64_model.specs.Hierarchy.{◌laid_in◌, Valid}
 use Rattle.x86_64_model.specs.Memory.{Memory, identity_places, words_of}
 use Rattle.x86_64_model.proofs.Lemmas.Entries.Bits.{whole}
 use Rattle.x86_64_tables.specs.ActiveMemory.{walked_table}

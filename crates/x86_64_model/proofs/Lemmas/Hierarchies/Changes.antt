@@ -6,7 +6,7 @@ use Rattle.x86_64_model.specs.Entry.{has, used, huge, address, names_table}
 use Rattle.x86_64_model.specs.Memory.{Words, word}
 use Rattle.x86_64_model.specs.PathMap.{PathMap, table_of, table_at, entry}
 use Rattle.x86_64_model.specs.Path.{parents, level_of}
-use Rattle.x86_64_model.specs.Hierarchy.{entry_in, Holds, IsValid}
+use Rattle.x86_64_model.specs.Validity.{entry_in, Holds, IsValid}
 use Rattle.x86_64_model.specs.Laws.Hierarchies.{MayBecome}
 use Rattle.x86_64_model.proofs.Lemmas.Paths.Puts.{append_longer}
 use Rattle.x86_64_model.proofs.Lemmas.Maps.Down.{Descends}

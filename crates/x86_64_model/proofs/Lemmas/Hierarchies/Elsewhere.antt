@@ -2,7 +2,7 @@
 use Rattle.std.proofs.Common.{◌≡◌, ℕ, ◌==◌, List, set, [], Some, None, Option, IsSome, option_map, cond, nat_lt, refl, sym, ap, ◌∙◌, subst}
 use Rattle.x86_64_model.specs.Memory.{Words, word, word_in, set_word}
 use Rattle.x86_64_model.specs.PathMap.{PathMap, table_at}
-use Rattle.x86_64_model.specs.Hierarchy.{entry_in, IsValid}
+use Rattle.x86_64_model.specs.Validity.{entry_in, IsValid}
 use Rattle.x86_64_model.specs.Window.{Window, IsValidFor, outside_window}
 
 pub valid_elsewhere : (L : ℕ) (T U : Words) (root : ℕ) (M : PathMap) → ((q : List ℕ) (f : ℕ) → table_at L root M q ≡ Some f → U f ≡ T f) → IsValid L T root M → IsValid L U root M

@@ -5,7 +5,7 @@ use Rattle.std.specs.FinMap.{empty}
 use Rattle.x86_64_model.specs.Entry.{has, huge}
 use Rattle.x86_64_model.specs.Memory.{Words, word}
 use Rattle.x86_64_model.specs.PathMap.{entry, table_of, table_at}
-use Rattle.x86_64_model.specs.Hierarchy.{entry_in, IsValid}
+use Rattle.x86_64_model.specs.Validity.{entry_in, IsValid}
 use Rattle.x86_64_model.proofs.Lemmas.Paths.Puts.{entry-empty, used_alone-empty}
 use Rattle.x86_64_model.proofs.Lemmas.Hierarchies.Changes.{unused_no_table}
 

@@ -5,7 +5,7 @@ use Rattle.std.proofs.lemmas.Bool.{cases_lt}
 use Rattle.x86_64_model.specs.Entry.{huge, address, names_table}
 use Rattle.x86_64_model.specs.Memory.{Words, word}
 use Rattle.x86_64_model.specs.PathMap.{PathMap, entry, put, HasUsedAlone, table_of, table_at}
-use Rattle.x86_64_model.specs.Hierarchy.{entry_in, Holds, read_at, paths_of}
+use Rattle.x86_64_model.specs.Validity.{entry_in, Holds, read_at, paths_of}
 use Rattle.x86_64_model.specs.Lists.{In}
 use Rattle.x86_64_model.specs.Path.{AllBelow, paths_below, indices}
 use Rattle.x86_64_model.proofs.Lemmas.Lists.Members.{in_left, in_right, in_flat_map, in_indices}

@@ -7,7 +7,7 @@ use Rattle.x86_64_model.specs.Laws.Hierarchies.{MayBecome}
 use Rattle.x86_64_model.specs.Memory.{Words, word, word_in, set_word}
 use Rattle.x86_64_model.specs.PathMap.{PathMap, entry, put, HasUsedAlone, table_of, table_at}
 use Rattle.x86_64_model.specs.Path.{level_of}
-use Rattle.x86_64_model.specs.Hierarchy.{entry_in, Holds, IsValid}
+use Rattle.x86_64_model.specs.Validity.{entry_in, Holds, IsValid}
 use Rattle.x86_64_model.proofs.Lemmas.Paths.Puts.{cases_path, entry-put_same, entry-put_other, used_alone-put, same_paths, by_last, append_longer, no_end}
 
 -- the table at a path depends on its own entry alone

@@ -4,7 +4,7 @@ use Rattle.x86_64_model.proofs.Lemmas.Hierarchies.Elsewhere.{valid_elsewhere}
 use Rattle.x86_64_model.specs.Entry.{IsParentFlags, used, huge}
 use Rattle.x86_64_model.specs.Memory.{Words, word, set_word}
 use Rattle.x86_64_model.specs.PathMap.{PathMap, entry, put, table_of, table_at}
-use Rattle.x86_64_model.specs.Hierarchy.{entry_in, IsValid}
+use Rattle.x86_64_model.specs.Validity.{entry_in, IsValid}
 use Rattle.x86_64_model.proofs.Lemmas.Hierarchies.Held.{valid_after, table_at_last}
 use Rattle.x86_64_model.proofs.Lemmas.Hierarchies.Changes.{may_be_marked, may_be_table}
 use Rattle.x86_64_model.proofs.Lemmas.Maps.Frames.{table_of_marked}

@@ -6,7 +6,7 @@ use Rattle.x86_64_model.specs.Entry.{used, huge, address, names_table}
 use Rattle.x86_64_model.specs.Memory.{Words}
 use Rattle.x86_64_model.specs.PathMap.{PathMap, entry, HasUsedAlone, table_of, table_at}
 use Rattle.x86_64_model.specs.Path.{level_of, parents, AllBelow}
-use Rattle.x86_64_model.specs.Hierarchy.{entry_in, Holds, IsValid}
+use Rattle.x86_64_model.specs.Validity.{entry_in, Holds, IsValid}
 use Rattle.x86_64_model.proofs.Lemmas.Entries.Bits.{unused_zero}
 use Rattle.x86_64_model.proofs.Lemmas.Paths.Begins.{all_below_more}
 use Rattle.x86_64_model.proofs.Lemmas.Paths.Puts.{by_last}

@@ -4,7 +4,7 @@ use Rattle.x86_64_model.specs.Call.{Call, Reply, IsCall}
 use Rattle.x86_64_model.specs.Laws.Locality.{SameTable, SameOwned, IsTheSame, Leads, AreTwoSpaces, SpacesStayApart, OthersStayApart}
 use Rattle.x86_64_model.specs.Layout.{Layout}
 use Rattle.x86_64_model.specs.Lists.{In}
-use Rattle.x86_64_model.specs.Mapper.{◌laid_in◌, Owns, paths, words}
+use Rattle.x86_64_model.specs.Hierarchy.{◌laid_in◌, Owns, paths, words}
 use Rattle.x86_64_model.specs.Memory.{Memory, Places, words_of, IsMapping}
 use Rattle.x86_64_model.specs.PathMap.{entry, table_of, table_at}
 use Rattle.x86_64_model.specs.Pool.{IsOwn, TakesBack}

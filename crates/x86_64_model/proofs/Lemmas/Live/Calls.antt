@@ -2,13 +2,13 @@
 use Rattle.std.proofs.Common.{◌≡◌, ◌⊎◌, inl, inr, ⊎_elim, ◌<◌, ℕ, Bool, List, [], ◌∷◌, ◌++◌, Some, None, Option, sym, ap, ap₂, ◌∙◌, subst}
 use Rattle.std.proofs.lemmas.Bool.{cases_eq}
 use Rattle.x86_64_model.specs.Call.{Call, Reply}
-use Rattle.x86_64_model.specs.Hierarchy.{entry_in}
+use Rattle.x86_64_model.specs.Validity.{entry_in}
 use Rattle.x86_64_model.specs.Laws.Caches.{freed_by, IsAfterCall}
 use Rattle.x86_64_model.specs.Laws.Locality.{SameOwned, Leads, CallsAreLocal}
 use Rattle.x86_64_model.specs.Layout.{Layout}
 use Rattle.x86_64_model.specs.Lists.{In}
 use Rattle.x86_64_model.specs.Machine.{AfterCall, step}
-use Rattle.x86_64_model.specs.Mapper.{◌laid_in◌, machine_of, state_in, PoolFits, paths, words}
+use Rattle.x86_64_model.specs.Hierarchy.{◌laid_in◌, machine_of, state_in, PoolFits, paths, words}
 use Rattle.x86_64_model.specs.Memory.{Memory, Words, word}
 use Rattle.x86_64_model.specs.PathMap.{PathMap, entry, table_at}
 use Rattle.x86_64_model.specs.Window.{Window, IsValidFor, outside_window}

@@ -4,7 +4,7 @@ use Rattle.std.specs.FinMap.{get, insert, get-insert}
 use Rattle.std.specs.Cmp.{nat_cmp_total}
 use Rattle.x86_64_model.specs.Laws.EntriesInPlace.{IsInPlace, with_word, MayReplace, OneChanged, EntriesMayChange, EntriesStayInPlace}
 use Rattle.x86_64_model.specs.Layout.{Layout}
-use Rattle.x86_64_model.specs.Mapper.{◌laid_in◌, Owns, PoolFits, paths, walk, words}
+use Rattle.x86_64_model.specs.Hierarchy.{◌laid_in◌, Owns, PoolFits, paths, walk, words}
 use Rattle.x86_64_model.specs.Memory.{Memory, Words, IsMapping, word, words_of, set_word}
 use Rattle.x86_64_model.specs.PathMap.{PathMap, entry, put, table_at}
 use Rattle.x86_64_model.specs.Pool.{Fits}

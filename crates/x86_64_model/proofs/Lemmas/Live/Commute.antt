@@ -2,10 +2,10 @@
 use Rattle.std.proofs.Common.{◌≡◌, ◌⊎◌, inl, inr, ⊎_elim, ◌<◌, ℕ, zero, suc, Bool, true, false, cond, List, None, Option, IsSome, refl, sym, ◌∙◌, subst, arith}
 use Rattle.std.specs.FinMap.{get}
 use Rattle.x86_64_model.specs.Call.{Call, Reply}
-use Rattle.x86_64_model.specs.Hierarchy.{paths_of}
+use Rattle.x86_64_model.specs.Validity.{paths_of}
 use Rattle.x86_64_model.specs.Laws.Locality.{SameTable, SameOwned, IsTheSame, Leads, LeavesShared, AreTwo, SameEnds, CallsCommute}
 use Rattle.x86_64_model.specs.Layout.{Layout}
-use Rattle.x86_64_model.specs.Mapper.{◌laid_in◌, state_in, Owns, PoolFits, words}
+use Rattle.x86_64_model.specs.Hierarchy.{◌laid_in◌, state_in, Owns, PoolFits, words}
 use Rattle.x86_64_model.specs.Memory.{Memory, Words, Places, IsMapping, words_of}
 use Rattle.x86_64_model.specs.Pool.{IsOwn}
 use Rattle.x86_64_model.specs.Store.{KeepsPool}

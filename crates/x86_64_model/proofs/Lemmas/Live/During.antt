@@ -5,7 +5,7 @@ use Rattle.x86_64_model.specs.Laws.EntriesInPlace.{IsInPlace, MayReplace, OneCha
 use Rattle.x86_64_model.specs.Laws.Live.{ExchangesDuringCalls}
 use Rattle.x86_64_model.specs.Laws.Locality.{SameOwned, IsTheSame}
 use Rattle.x86_64_model.specs.Layout.{Layout}
-use Rattle.x86_64_model.specs.Mapper.{◌laid_in◌, Owns, PoolFits, paths, words}
+use Rattle.x86_64_model.specs.Hierarchy.{◌laid_in◌, Owns, PoolFits, paths, words}
 use Rattle.x86_64_model.specs.Memory.{Memory, Words, IsMapping, word, set_word}
 use Rattle.x86_64_model.specs.PathMap.{entry, put}
 use Rattle.x86_64_model.specs.Store.{KeepsPool}

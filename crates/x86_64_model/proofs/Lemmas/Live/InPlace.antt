@@ -2,7 +2,7 @@
 -- none as before.
 use Rattle.std.proofs.Common.{◌≡◌, ◌≢◌, inl, inr, ⊎_elim, ◌<◌, ℕ, ◌==◌, ◌&&◌, not, Bool, true, false, cond, List, [], ◌∷◌, ◌++◌, length, set, length-set, option_map, Some, None, Option, nat_lt, refl, sym, ap, ap₂, ◌∙◌, subst, arith, eq-eqb}
 use Rattle.x86_64_model.specs.Entry.{huge, address, names_table}
-use Rattle.x86_64_model.specs.Hierarchy.{IsValid}
+use Rattle.x86_64_model.specs.Validity.{IsValid}
 use Rattle.x86_64_model.specs.Laws.EntriesInPlace.{NamesNoTable, NameOneTable, MayReplace}
 use Rattle.x86_64_model.specs.Laws.Hierarchies.{MayBecome}
 use Rattle.x86_64_model.specs.Memory.{Words, word, set_word}

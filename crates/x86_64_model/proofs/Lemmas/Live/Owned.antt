@@ -1,10 +1,10 @@
 -- A hierarchy, and the calls on it, depend on the tables in its own frames alone.
 use Rattle.std.proofs.Common.{◌≡◌, inl, inr, ⊎_elim, ◌<◌, ℕ, Bool, List, [], Some, None, Option, IsSome, refl, sym, ap, ap₂, ◌∙◌, subst}
 use Rattle.std.proofs.lemmas.Bool.{cases_eq}
-use Rattle.x86_64_model.specs.Hierarchy.{entry_in, Holds, paths_of}
+use Rattle.x86_64_model.specs.Validity.{entry_in, Holds, paths_of}
 use Rattle.x86_64_model.specs.Laws.Locality.{SameTable, HierarchiesAreLocal}
 use Rattle.x86_64_model.specs.Machine.{step}
-use Rattle.x86_64_model.specs.Mapper.{◌laid_in◌, machine_of, paths, words}
+use Rattle.x86_64_model.specs.Hierarchy.{◌laid_in◌, machine_of, paths, words}
 use Rattle.x86_64_model.specs.Memory.{Words, word, set_word}
 use Rattle.x86_64_model.specs.PathMap.{PathMap, entry, table_at}
 use Rattle.x86_64_model.specs.Pool.{IsOwn, Fits}

@@ -6,7 +6,7 @@ use Rattle.x86_64_model.specs.Laws.EntriesInPlace.{OneChanged, with_word}
 use Rattle.x86_64_model.specs.Laws.Live.{IsLiveAfter, LiveTablesFit, MarksMayReplace}
 use Rattle.x86_64_model.specs.Layout.{Layout}
 use Rattle.x86_64_model.specs.Live.{Happening, Marks, Exchanges, Placed, changed_path, next_word, after_happening, after_happenings, learned, with_learned, words_learned, after_placed, after_all_placed, AllMayTakePlace}
-use Rattle.x86_64_model.specs.Mapper.{◌laid_in◌, PoolFits, paths, words}
+use Rattle.x86_64_model.specs.Hierarchy.{◌laid_in◌, PoolFits, paths, words}
 use Rattle.x86_64_model.specs.Memory.{Memory, IsMapping, word}
 use Rattle.x86_64_model.specs.Path.{level_of}
 use Rattle.x86_64_model.specs.PathMap.{PathMap, entry}

@@ -5,7 +5,7 @@ use Rattle.x86_64_model.specs.Laws.Locality.{PoolsStayApart}
 use Rattle.x86_64_model.specs.Laws.Spaces.{StaysSharing, KeepsRootEntries}
 use Rattle.x86_64_model.specs.Layout.{Layout}
 use Rattle.x86_64_model.specs.Lists.{In}
-use Rattle.x86_64_model.specs.Mapper.{◌laid_in◌, Owns, PoolFits, paths, words}
+use Rattle.x86_64_model.specs.Hierarchy.{◌laid_in◌, Owns, PoolFits, paths, words}
 use Rattle.x86_64_model.specs.Memory.{Memory, Places, IsMapping, words_of}
 use Rattle.x86_64_model.specs.PathMap.{entry, table_of, table_at}
 use Rattle.x86_64_model.specs.Pool.{IsTable}

@@ -5,7 +5,7 @@ use Rattle.std.proofs.lemmas.Bool.{cases_eq}
 use Rattle.std.proofs.lemmas.List.{same_from_push}
 use Rattle.std.proofs.lemmas.Option.{none-some, same_Some}
 use Rattle.x86_64_model.specs.Entry.{huge}
-use Rattle.x86_64_model.specs.Hierarchy.{entry_in, IsValid, paths_of}
+use Rattle.x86_64_model.specs.Validity.{entry_in, IsValid, paths_of}
 use Rattle.x86_64_model.specs.Memory.{Words, word}
 use Rattle.x86_64_model.specs.Path.{level_of}
 use Rattle.x86_64_model.specs.PathMap.{PathMap, entry, table_of, table_at}

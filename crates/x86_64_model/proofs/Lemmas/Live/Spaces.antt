@@ -3,11 +3,11 @@ use Rattle.std.proofs.Common.{◌≡◌, ◌≢◌, inl, inr, ⊎_elim, ℕ, Boo
 use Rattle.std.proofs.lemmas.Bool.{cases_Bool}
 use Rattle.x86_64_model.specs.Call.{Call, Reply, IsCall}
 use Rattle.x86_64_model.specs.Entry.{IsParentFlags}
-use Rattle.x86_64_model.specs.Hierarchy.{entry_in}
+use Rattle.x86_64_model.specs.Validity.{entry_in}
 use Rattle.x86_64_model.specs.Laws.Locality.{SameTable, Leads, AreTwoSpaces, CallsOnSpacesCommute}
 use Rattle.x86_64_model.specs.Layout.{Layout}
 use Rattle.x86_64_model.specs.Machine.{AfterCall}
-use Rattle.x86_64_model.specs.Mapper.{◌laid_in◌, Owns, PoolFits, paths, words}
+use Rattle.x86_64_model.specs.Hierarchy.{◌laid_in◌, Owns, PoolFits, paths, words}
 use Rattle.x86_64_model.specs.Memory.{Memory, Places, Words, word, words_of}
 use Rattle.x86_64_model.specs.PathMap.{PathMap, entry, table_of, table_at}
 use Rattle.x86_64_model.specs.Pool.{TakesBack}

@@ -8,7 +8,7 @@ use Rattle.x86_64_model.specs.Entry.{huge}
 use Rattle.x86_64_model.specs.Laws.EntriesInPlace.{IsInPlace}
 use Rattle.x86_64_model.specs.Laws.Splits.{IsInParts, split_memory}
 use Rattle.x86_64_model.specs.Layout.{Layout}
-use Rattle.x86_64_model.specs.Mapper.{◌laid_in◌, PoolFits, paths, words}
+use Rattle.x86_64_model.specs.Hierarchy.{◌laid_in◌, PoolFits, paths, words}
 use Rattle.x86_64_model.specs.Mappings.{maps_page}
 use Rattle.x86_64_model.specs.Memory.{Memory, Words, IsMapping, word, word_in, set_word}
 use Rattle.x86_64_model.specs.Path.{level_of}

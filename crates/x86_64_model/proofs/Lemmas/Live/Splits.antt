@@ -7,7 +7,7 @@ use Rattle.x86_64_model.specs.Laws.EntriesInPlace.{IsInPlace}
 use Rattle.x86_64_model.specs.Laws.Splits.{arrival_at, IsInParts, split_memory, HasParts, PagesMayBeSplit}
 use Rattle.x86_64_model.specs.Layout.{Layout}
 use Rattle.x86_64_model.specs.Lists.{In}
-use Rattle.x86_64_model.specs.Mapper.{◌laid_in◌, Owns, PoolFits, paths, words}
+use Rattle.x86_64_model.specs.Hierarchy.{◌laid_in◌, Owns, PoolFits, paths, words}
 use Rattle.x86_64_model.specs.Mappings.{every_right}
 use Rattle.x86_64_model.specs.Memory.{Memory, Words, IsMapping, word, set_word}
 use Rattle.x86_64_model.specs.PathMap.{PathMap, entry, table_of, table_at}

@@ -5,7 +5,7 @@ use Rattle.std.proofs.lemmas.Bool.{cases_Bool, cases_eq, cases_lt, eqb-false}
 use Rattle.std.proofs.lemmas.List.{get_or_past, get_or-set_same}
 use Rattle.std.proofs.lemmas.Option.{none-some, same_Some}
 use Rattle.x86_64_model.specs.Laws.Locality.{TurnsAreAlone, CallsInTurn}
-use Rattle.x86_64_model.specs.Mapper.{◌laid_in◌, paths, words}
+use Rattle.x86_64_model.specs.Hierarchy.{◌laid_in◌, paths, words}
 use Rattle.x86_64_model.specs.Memory.{Words, word, word_in, set_word}
 use Rattle.x86_64_model.specs.Turns.{Touch, Reads, Writes, Exchanges, touched_frame, index_of, Sees, after_touch, Turn, AllSee, after_turns, turns_of, IsRead, KeepsApart}
 use Rattle.x86_64_model.proofs.Lemmas.Hierarchies.Held.{word-set_frame, word-set_index, is_some-set}

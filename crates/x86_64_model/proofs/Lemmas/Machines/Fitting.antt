@@ -4,10 +4,10 @@ use Rattle.std.proofs.lemmas.Option.{same_Some}
 use Rattle.x86_64_model.specs.Entry.{IsParentFlags, address}
 use Rattle.x86_64_model.specs.Layout.{Layout}
 use Rattle.x86_64_model.specs.Memory.{Memory, Words}
-use Rattle.x86_64_model.specs.Mapper.{◌laid_in◌, Hierarchy, PoolFits, MayCleanUp, SupplyFits}
+use Rattle.x86_64_model.specs.Hierarchy.{◌laid_in◌, Hierarchy, PoolFits, MayCleanUp, SupplyFits}
 use Rattle.x86_64_model.specs.PathMap.{table_at}
 use Rattle.x86_64_model.specs.Window.{Window, outside_window, IsValidFor}
-use Rattle.x86_64_model.specs.Hierarchy.{IsValid}
+use Rattle.x86_64_model.specs.Validity.{IsValid}
 use Rattle.x86_64_model.specs.Lists.{In}
 use Rattle.x86_64_model.specs.Pool.{IsOwn, TakesBack, Fits}
 use Rattle.x86_64_model.specs.Call.{IsCall, Call}

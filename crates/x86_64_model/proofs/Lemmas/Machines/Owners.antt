@@ -10,7 +10,7 @@ use Rattle.x86_64_model.specs.Machine.{AfterCall, do_call, after_map, after_chan
 use Rattle.x86_64_model.specs.MapRule.{map_call, parent_part, leaf_entry}
 use Rattle.x86_64_model.specs.private.MapperCalls.{MapsPage, IsChanged, after_unmap, after_update, after_set_flags}
 use Rattle.x86_64_model.specs.Memory.{Memory}
-use Rattle.x86_64_model.specs.Mapper.{◌laid_in◌, Hierarchy, MayMap, Does, DoesMap, ArrivesIn, machine_of, state_of, named, paths, read_entry, SupplyFits, walk}
+use Rattle.x86_64_model.specs.Hierarchy.{◌laid_in◌, Hierarchy, MayMap, Does, DoesMap, ArrivesIn, machine_of, state_of, named, paths, read_entry, SupplyFits, walk}
 use Rattle.x86_64_model.specs.PageRules.{AfterChange, refused_or, update_refusal, update_flags, set_flags}
 use Rattle.x86_64_model.specs.Path.{level_of, front_at, path_at}
 use Rattle.x86_64_model.specs.PathMap.{PathMap, put}

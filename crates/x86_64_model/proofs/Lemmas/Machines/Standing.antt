@@ -5,7 +5,7 @@ use Rattle.x86_64_model.specs.Entry.{IsParentFlags, present, address, writable, 
 use Rattle.x86_64_model.specs.Layout.{Layout}
 use Rattle.x86_64_model.specs.Machine.{do_call}
 use Rattle.x86_64_model.specs.MapRule.{AfterMap, map_call, parent_part}
-use Rattle.x86_64_model.specs.Mapper.{◌laid_in◌, Hierarchy, Valid, MayMap, DoesMap, ArrivesIn, IsMappedAs, paths, path_of}
+use Rattle.x86_64_model.specs.Hierarchy.{◌laid_in◌, Hierarchy, Valid, MayMap, DoesMap, ArrivesIn, IsMappedAs, paths, path_of}
 use Rattle.x86_64_model.specs.Path.{path_at}
 use Rattle.x86_64_model.specs.Position.{span, page_path}
 use Rattle.x86_64_model.specs.Refusal.{Answer, Done, Refused, ParentEntryHugePage}

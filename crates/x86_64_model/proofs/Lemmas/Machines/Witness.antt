@@ -6,7 +6,7 @@ use Rattle.std.proofs.lemmas.List.FromFn.{length-map-range_with_len, get_or-map-
 use Rattle.x86_64_model.specs.Entry.{IsParentFlags, used, present, huge, address}
 use Rattle.x86_64_model.specs.Memory.{Words, word, word_in, set_word}
 use Rattle.x86_64_model.specs.PathMap.{PathMap, entry, table_at}
-use Rattle.x86_64_model.specs.Hierarchy.{entry_in, IsValid}
+use Rattle.x86_64_model.specs.Validity.{entry_in, IsValid}
 use Rattle.x86_64_model.specs.Path.{indices, paths_below}
 use Rattle.x86_64_model.specs.Window.{Window, IsValidFor}
 use Rattle.x86_64_model.specs.Pool.{IsOwn, IsTable, TakesBack, Fits}

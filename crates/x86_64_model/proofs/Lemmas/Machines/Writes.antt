@@ -5,7 +5,7 @@ use Rattle.std.proofs.lemmas.List.{get_or_past}
 use Rattle.x86_64_model.specs.Entry.{used, address, no_address}
 use Rattle.x86_64_model.specs.Memory.{Words, word, word_in, set_word}
 use Rattle.x86_64_model.specs.PathMap.{PathMap, entry, put, table_of, table_at}
-use Rattle.x86_64_model.specs.Hierarchy.{entry_in, Holds, IsValid}
+use Rattle.x86_64_model.specs.Validity.{entry_in, Holds, IsValid}
 use Rattle.x86_64_model.specs.Window.{entry_at, Window, IsValidFor, SelfEntry, begins_with, outside_window}
 use Rattle.x86_64_model.specs.Laws.Hierarchies.{MayBecome}
 use Rattle.x86_64_model.specs.Refusal.{Refusal, Refused, Done}

@@ -8,7 +8,7 @@ use Rattle.x86_64_model.specs.Conserved.{IsFrame}
 use Rattle.x86_64_model.specs.Entry.{IsParentFlags, present, address}
 use Rattle.x86_64_model.specs.Laws.Maps.{IsMapOf}
 use Rattle.x86_64_model.specs.Layout.{Layout}
-use Rattle.x86_64_model.specs.Mapper.{◌laid_in◌, ArrivesIn, SupplyFits, paths, walk, words}
+use Rattle.x86_64_model.specs.Hierarchy.{◌laid_in◌, ArrivesIn, SupplyFits, paths, walk, words}
 use Rattle.x86_64_model.specs.Lists.{In}
 use Rattle.x86_64_model.specs.MapRule.{AfterMap, map_call, parent_part}
 use Rattle.x86_64_model.specs.private.MapperCalls.{MapsPage}

@@ -10,7 +10,7 @@ use Rattle.x86_64_model.specs.Laws.Spaces.{CallsKeepBelow, CallsKeepRootEntries,
 use Rattle.x86_64_model.specs.Laws.Steps.{AllCalls}
 use Rattle.x86_64_model.specs.Machine.{State, do_call, step, state_after}
 use Rattle.x86_64_model.specs.MapRule.{map_call, leaf_entry, parent_part}
-use Rattle.x86_64_model.specs.Mapper.{◌laid_in◌, state_in, paths, words}
+use Rattle.x86_64_model.specs.Hierarchy.{◌laid_in◌, state_in, paths, words}
 use Rattle.x86_64_model.specs.Path.{IsPage, parents, path_at}
 use Rattle.x86_64_model.specs.PathMap.{PathMap, entry, put}
 use Rattle.x86_64_model.specs.Pool.{TakesBack}

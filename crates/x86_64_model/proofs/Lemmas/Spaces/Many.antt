@@ -1,7 +1,7 @@
 -- Many address spaces, beside calls on one of them.
 use Rattle.std.proofs.Common.{◌≡◌, ◌≢◌, inl, inr, ⊎_elim, ◌<◌, ℕ, Bool, true, false, List, [], ◌∷◌, Some, sym, ap, ap₂, ◌∙◌, subst}
 use Rattle.std.proofs.lemmas.Bool.{cases_Bool, cases_eq}
-use Rattle.x86_64_model.specs.Mapper.{◌laid_in◌, PoolFits, paths}
+use Rattle.x86_64_model.specs.Hierarchy.{◌laid_in◌, PoolFits, paths}
 use Rattle.x86_64_model.specs.Store.{KeepsPool}
 use Rattle.x86_64_model.specs.Laws.Spaces.{KeepsRootEntries, StaysSharing, OneIsASpace, SpacesStay}
 use Rattle.x86_64_model.specs.Layout.{Layout}

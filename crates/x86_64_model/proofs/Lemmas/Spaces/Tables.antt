@@ -2,8 +2,8 @@
 use Rattle.std.proofs.Common.{◌≡◌, ◌≢◌, ◌⊎◌, inl, inr, ⊎_elim, ◌<◌, ◌↔◌, ℕ, Bool, true, false, cond, List, [], ◌∷◌, ◌++◌, Some, None, Option, IsSome, refl, sym, ap, ◌∙◌, subst}
 use Rattle.std.proofs.lemmas.Bool.{cases_Bool}
 use Rattle.x86_64_model.specs.Entry.{huge}
-use Rattle.x86_64_model.specs.Hierarchy.{entry_in, IsValid, paths_of}
-use Rattle.x86_64_model.specs.Mapper.{◌laid_in◌, PoolFits, paths, words}
+use Rattle.x86_64_model.specs.Validity.{entry_in, IsValid, paths_of}
+use Rattle.x86_64_model.specs.Hierarchy.{◌laid_in◌, PoolFits, paths, words}
 use Rattle.x86_64_model.specs.Store.{KeepsPool}
 use Rattle.x86_64_model.specs.Layout.{Layout}
 use Rattle.x86_64_model.specs.Laws.Spaces.{KeepsRootEntries, StaysSharing, SharedEntriesAreTheSame, SharedTablesStay, SharedHalvesStay}

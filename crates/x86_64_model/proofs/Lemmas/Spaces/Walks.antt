@@ -2,7 +2,7 @@
 use Rattle.std.proofs.Common.{◌≡◌, ℕ, Bool, true, false, List, [], ◌∷◌, ◌++◌, refl, sym, ap, ◌∙◌}
 use Rattle.x86_64_model.specs.Laws.Spaces.{SharedWalksAreTheSame, WalksStay}
 use Rattle.x86_64_model.specs.Layout.{Layout}
-use Rattle.x86_64_model.specs.Mapper.{◌laid_in◌, Valid, paths, walk, words}
+use Rattle.x86_64_model.specs.Hierarchy.{◌laid_in◌, Valid, paths, walk, words}
 use Rattle.x86_64_model.specs.Memory.{Memory}
 use Rattle.x86_64_model.specs.PathMap.{entry}
 use Rattle.x86_64_model.specs.Position.{page_path}

@@ -6,7 +6,7 @@ use Rattle.x86_64_model.specs.Entry.{LeadAlike, present}
 use Rattle.x86_64_model.specs.Layout.{Layout}
 use Rattle.x86_64_model.specs.Laws.Spaces.{KeepsRootEntries, StaysSharing}
 use Rattle.x86_64_model.specs.Laws.SwitchedSpaces.{space_for, MaySwitchIn, AllShare, SpacesAreHeld, SpacesMayStart, NewSpacesMayBegin}
-use Rattle.x86_64_model.specs.Mapper.{◌laid_in◌, PoolFits}
+use Rattle.x86_64_model.specs.Hierarchy.{◌laid_in◌, PoolFits}
 use Rattle.x86_64_model.specs.Mappings.{maps_page}
 use Rattle.x86_64_model.specs.Memory.{Memory, Words, Places, IsMapping, words_of}
 use Rattle.x86_64_model.specs.Path.{level_of}

@@ -2,11 +2,11 @@
 use Rattle.std.proofs.Common.{◌≡◌, ◌≢◌, inl, inr, ◌<◌, ◌==◌, ℕ, Bool, true, not, cond, List, [], ◌∷◌, filter, map, Some, refl, sym, ap, ◌∙◌, subst, eq-eqb, ne_eqb}
 use Rattle.x86_64_model.specs.Lists.{In}
 use Rattle.x86_64_model.specs.Flushing.{TablesDue}
-use Rattle.x86_64_model.specs.Hierarchy.{paths_of}
+use Rattle.x86_64_model.specs.Validity.{paths_of}
 use Rattle.x86_64_model.specs.Layout.{Layout}
 use Rattle.x86_64_model.specs.Laws.Spaces.{IsNewRoot}
 use Rattle.x86_64_model.specs.Laws.SwitchedSpaces.{space_for, MaySwitchIn, between, new_events, NewSpacesMaySwitch, end_events, GivenUpMaySwitch}
-use Rattle.x86_64_model.specs.Mapper.{◌laid_in◌, paths}
+use Rattle.x86_64_model.specs.Hierarchy.{◌laid_in◌, paths}
 use Rattle.x86_64_model.specs.Memory.{Memory, Words, Places, IsMapping, words_of}
 use Rattle.x86_64_model.specs.PathMap.{PathMap, entry, table_at}
 use Rattle.x86_64_model.specs.Pool.{TakesBack}

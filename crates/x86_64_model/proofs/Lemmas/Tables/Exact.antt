@@ -3,7 +3,7 @@ use Rattle.std.proofs.Common.{◌≡◌, ◌≢◌, ◌⊎◌, inl, inr, ⊎_eli
 use Rattle.x86_64_model.specs.Entry.{huge}
 use Rattle.x86_64_model.specs.Memory.{Words, OnlyFrames}
 use Rattle.x86_64_model.specs.PathMap.{PathMap, table_at}
-use Rattle.x86_64_model.specs.Hierarchy.{IsValid, paths_of}
+use Rattle.x86_64_model.specs.Validity.{IsValid, paths_of}
 use Rattle.x86_64_model.specs.Window.{Window, outside_window, SelfEntry}
 use Rattle.x86_64_model.specs.Lists.{In, EachOnce}
 use Rattle.x86_64_model.specs.Pool.{IsTable, Fits}

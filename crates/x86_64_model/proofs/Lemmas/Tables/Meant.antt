@@ -4,7 +4,7 @@ use Rattle.std.proofs.lemmas.Bool.{cases_lt}
 use Rattle.x86_64_model.specs.Entry.{address}
 use Rattle.x86_64_model.specs.Memory.{Words, OnlyFrames}
 use Rattle.x86_64_model.specs.PathMap.{PathMap, entry}
-use Rattle.x86_64_model.specs.Hierarchy.{IsValid, paths_of}
+use Rattle.x86_64_model.specs.Validity.{IsValid, paths_of}
 use Rattle.x86_64_model.specs.Window.{Window, outside_window, SelfEntry}
 use Rattle.x86_64_model.specs.Pool.{Fits}
 use Rattle.x86_64_model.proofs.Lemmas.Entries.Bits.{same_frame, is_frame_address}

@@ -7,7 +7,7 @@ use Rattle.x86_64_model.specs.Entry.{huge, address, names_table}
 use Rattle.x86_64_model.specs.Memory.{Words, word}
 use Rattle.x86_64_model.specs.Path.{indices}
 use Rattle.x86_64_model.specs.PathMap.{table_of, table_at}
-use Rattle.x86_64_model.specs.Hierarchy.{read_at, paths_of}
+use Rattle.x86_64_model.specs.Validity.{read_at, paths_of}
 use Rattle.x86_64_model.specs.Lists.{In, EachOnce}
 use Rattle.x86_64_model.proofs.Lemmas.Hierarchies.Changes.{unused_no_table, zero_not_used}
 use Rattle.x86_64_model.proofs.Lemmas.Maps.Down.{nat_lt-suc}

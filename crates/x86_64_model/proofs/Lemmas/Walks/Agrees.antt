@@ -5,7 +5,7 @@ use Rattle.x86_64_model.specs.Entry.{used, present, huge, address, flags, names_
 use Rattle.x86_64_model.specs.Memory.{Words, word, set_word}
 use Rattle.x86_64_model.specs.PathMap.{PathMap, entry, table_of}
 use Rattle.x86_64_model.specs.Path.{level_of}
-use Rattle.x86_64_model.specs.Hierarchy.{entry_in, Holds, IsValid}
+use Rattle.x86_64_model.specs.Validity.{entry_in, Holds, IsValid}
 use Rattle.x86_64_model.specs.Window.{Window, windowed, entry_at, IsSelfEntry, IsValidFor}
 use Rattle.x86_64_model.proofs.Lemmas.Hierarchies.Held.{word-set_frame, word-set_index}
 use Rattle.x86_64_model.proofs.Lemmas.Hierarchies.Unset.{is_some-unset}

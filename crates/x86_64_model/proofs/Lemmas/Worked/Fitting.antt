@@ -6,7 +6,7 @@ use Rattle.std.specs.FinMap.{empty}
 use Rattle.x86_64_model.specs.Entry.{has, address, is_frame}
 use Rattle.x86_64_model.specs.Memory.{Words, word}
 use Rattle.x86_64_model.specs.Window.{Window}
-use Rattle.x86_64_model.specs.Hierarchy.{IsValid}
+use Rattle.x86_64_model.specs.Validity.{IsValid}
 use Rattle.x86_64_model.specs.Lists.{In}
 use Rattle.x86_64_model.specs.Pool.{IsTable, Fits}
 use Rattle.x86_64_model.specs.Laws.Worked.{nothing_mapped, four_frames, self_window, SomeWordsFit, SomePoolFits}

@@ -13,7 +13,7 @@ use Rattle.x86_64_model.specs.Position.{index}
 use Rattle.x86_64_model.specs.Translation.{translate, translate_on, Mapped as IsMapped}
 use Rattle.x86_64_model.specs.PageWalk.{walk_on, page_walk}
 use Rattle.x86_64_model.specs.Window.{entry_at}
-use Rattle.x86_64_model.specs.Hierarchy.{IsValid}
+use Rattle.x86_64_model.specs.Validity.{IsValid}
 use Rattle.x86_64_model.specs.Laws.Worked.{nothing_mapped, three_frames, small_mapped, small_memory, large_mapped, shared_table_image, SmallMap, PageWithoutPresent, LargeMap}
 use Rattle.x86_64_model.proofs.Lemmas.Paths.Puts.{entry-put, entry-empty}
 

@@ -1,7 +1,7 @@
 use Rattle.std.proofs.Common.{◌≡◌, ◌≢◌, inl, ap, sym, ◌∙◌, subst, refl, List, ℕ, Some, IsSome, arith}
 use Rattle.std.proofs.Common.{cond, None, [], true, false}
 use Rattle.std.specs.FinMap.{get}
-use Rattle.x86_64_model.specs.Mapper.{◌laid_in◌, KeepsOutside, Owns}
+use Rattle.x86_64_model.specs.Hierarchy.{◌laid_in◌, KeepsOutside, Owns}
 use Rattle.x86_64_model.specs.Memory.{words_of}
 use Rattle.x86_64_model.specs.Spaces.{AreSpaces}
 use Rattle.x86_64_model.proofs.Lemmas.Hierarchies.Memories.{covered}

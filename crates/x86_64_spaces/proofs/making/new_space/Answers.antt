@@ -1,6 +1,6 @@
 use Rattle.std.proofs.Common.{inl, ap, sym, ◌∙◌, subst, refl, List, ℕ, Some, [], ◌∷◌, arith}
 use Rattle.std.specs.Prelude.{drop}
-use Rattle.x86_64_model.specs.Mapper.{◌laid_in◌, PoolFits}
+use Rattle.x86_64_model.specs.Hierarchy.{◌laid_in◌, PoolFits}
 use Rattle.x86_64_model.specs.Laws.Spaces.{IsNewRoot}
 use Rattle.x86_64_model.specs.Spaces.{AreSpaces}
 use Rattle.x86_64_model.proofs.Lemmas.Hierarchies.Memories.{covered}

@@ -1,6 +1,6 @@
 use Rattle.std.proofs.Common.{◌≡◌, ◌↔◌, ◌∙◌, ◌⊎◌, ⊎_elim, ℕ, IsTrue, Bool, Result, sym, subst}
 use Rattle.std.specs.Result.{IfOk}
-use Rattle.x86_64_model.specs.Mapper.{◌laid_in◌}
+use Rattle.x86_64_model.specs.Hierarchy.{◌laid_in◌}
 use Rattle.x86_64_model.specs.Store.{StoreFits}
 use Rattle.x86_64_addr.specs.declared.level_count.Levels.{Levels}
 use Rattle.x86_64.specs.Pairs.{pool_store}

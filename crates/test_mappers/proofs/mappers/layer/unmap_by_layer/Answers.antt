@@ -1,6 +1,6 @@
 use Rattle.std.proofs.Common.{rules, subst₂, ap}
 use Rattle.x86_64_model.specs.Call.{Unmap}
-use Rattle.x86_64_model.specs.Mapper.{Hierarchy, Does, path_of}
+use Rattle.x86_64_model.specs.Hierarchy.{Hierarchy, Does, path_of}
 use Rattle.x86_64_tables.specs.MapperAnswers.{frame_answer}
 use Rattle.test_mappers.proofs.mappers.layer.unmap_by_layer.Goals as goal
 

@@ -2,7 +2,7 @@ use Rattle.std.proofs.Common.{◌≡◌, refl, rules, subst}
 use Rattle.x86_64_model.specs.Call.{Call}
 use Rattle.x86_64_model.specs.Layout.{Layout}
 use Rattle.x86_64_model.specs.Memory.{Memory}
-use Rattle.x86_64_model.specs.Mapper.{◌laid_in◌, Hierarchy, Does}
+use Rattle.x86_64_model.specs.Hierarchy.{◌laid_in◌, Hierarchy, Does}
 use Rattle.x86_64_model.specs.Refusal.{Answer}
 use Rattle.test_mappers.proofs.mappers.layer.unmap_counted.Goals as goal
 

@@ -1,6 +1,6 @@
 use Rattle.std.proofs.Common.{◌+◌, sym, subst₂, rules}
 use Rattle.x86_64_model.proofs.Lemmas.Machines.Giving.{giving_from}
-use Rattle.x86_64_model.specs.Mapper.{PoolFits}
+use Rattle.x86_64_model.specs.Hierarchy.{PoolFits}
 use Rattle.x86_64_mappers.specs.Layouts.{direct_at}
 use Rattle.x86_64_tables.specs.Shifted.{shifted_is_mapping}
 use Rattle.x86_64.proofs.CleanUpSteps.{held_may_clean_up}

@@ -1,5 +1,5 @@
 use Rattle.std.proofs.Common.{sym, ap, ◌∙◌, subst₂}
-use Rattle.x86_64_model.specs.Mapper.{◌laid_in◌, Valid}
+use Rattle.x86_64_model.specs.Hierarchy.{◌laid_in◌, Valid}
 use Rattle.x86_64_mappers.specs.Layouts.{direct_at}
 use Rattle.x86_64_mappers.specs.Offsets.{offset_places}
 use Rattle.x86_64_mappers.proofs.Memory.OffsetTables.{offset_valid}

@@ -1,0 +1,20 @@
+use Rattle.std.proofs.Common.{◌≡◌, ◌≤◌, ◌-◌, fold, List}
+use Rattle.x86_64_model.specs.Call.{Reply}
+use Rattle.x86_64_mappers.specs.RangeChanges.{frames_done, unmaps}
+use Rattle.x86_64_mappers.specs.private.RangeChangeSteps.{IsChangeRun}
+use Rattle.x86_64_mappers.proofs.walk.change_range.unmap_range.Given as goal
+
+-- the pages so far are done
+abbrev pub invariant-parts : goal.invariant-parts
+invariant-parts g l =
+    let before = g.M.Tables.hierarchy l.fn.mapper in
+    let now = g.M.Tables.hierarchy l.mapper in
+    record {
+      run : (answers : List Reply) × IsChangeRun before.layout before.memory (unmaps before.layout.levels g.S.PageSize.LEVEL l.page l.done) answers now.memory × (l.sink ≡ fold g.K.FrameSink.with_frame l.fn.sink (frames_done answers));
+      within : l.done ≤ l.count;
+      layout : now.layout ≡ before.layout;
+      lent : now.lent ≡ before.lent;
+    }
+
+abbrev pub decreases-parts : goal.decreases-parts
+decreases-parts g l = l.count - l.done
