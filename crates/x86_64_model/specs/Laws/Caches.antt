@@ -42,7 +42,7 @@ WalksAreCached = (L : ℕ) (T : Words) (root p : ℕ) (w : PartialWalk) → walk
 
 -- The page walk leads to this page, by the same path and to the same frame, with at least its rights.
 abbrev pub WalksThere : Option PartialWalk → (page : PartialWalk) → Type 0
-WalksThere walk_with_rights w = (v : PartialWalk) × (walk_with_rights ≡ Some v) × (v.path ≡ w.path) × (v.frame ≡ w.frame) × AtMost w.rights v.rights
+WalksThere found w = (v : PartialWalk) × (found ≡ Some v) × (v.path ≡ w.path) × (v.frame ≡ w.frame) × AtMost w.rights v.rights
 
 -- From a state and words, with empty caches and nothing due, these events may happen in order, and lead to this system: calls,
 -- exchanges, writes of words in memory, flushes, and changes of the caches.

@@ -28,21 +28,21 @@ arrived E p (suc n) c r = let e = E (c ++ index (suc n) p ∷ []) in by_word (su
 
 module _ (L : ℕ) (T : Words) (root : ℕ) (E : List ℕ → ℕ) (is : Reads L T root E) (p : ℕ) where
   -- what a word leads to
-  at_word : (n : ℕ) (t : PartialWalk) (i e : ℕ) (walk_with_rights : PartialWalk → Option PartialWalk) (next : Option Arrival)
+  at_word : (n : ℕ) (t : PartialWalk) (i e : ℕ) (walk_on : PartialWalk → Option PartialWalk) (next : Option Arrival)
       → level_of L (t.path ++ i ∷ []) ≡ suc n
       → (present e ≡ true → huge e ≡ false → maps_page (suc n) e ≡ false
-      → option_map (arrival_of_way L p) (walk_with_rights (over t i e (address e))) ≡ next)
-      → option_map (arrival_of_way L p) (option_and_then (then_on walk_with_rights) (item_over L t i e))
+      → option_map (arrival_of_way L p) (walk_on (over t i e (address e))) ≡ next)
+      → option_map (arrival_of_way L p) (option_and_then (then_on walk_on) (item_over L t i e))
       ≡ by_word (suc n) p t.rights e next
-  at_word n t i e walk_with_rights next level on =
+  at_word n t i e walk_on next level on =
       ap (λ k. option_map (arrival_of_way L p)
-      (option_and_then (then_on walk_with_rights) (cond (present e)
+      (option_and_then (then_on walk_on) (cond (present e)
       (cond (maps_page k e) (Some (Page (over t i e (page_start k e))))
       (cond (huge e) None (Some (Table (over t i e (address e)))))) None))) level
       ∙ by (present e) (maps_page (suc n) e) (huge e) refl refl refl
     where
       by : (a b c : Bool) → present e ≡ a → maps_page (suc n) e ≡ b → huge e ≡ c
-          → option_map (arrival_of_way L p) (option_and_then (then_on walk_with_rights)
+          → option_map (arrival_of_way L p) (option_and_then (then_on walk_on)
           (cond a (cond b (Some (Page (over t i e (page_start (suc n) e))))
           (cond c None (Some (Table (over t i e (address e)))))) None))
           ≡ cond a (cond b
