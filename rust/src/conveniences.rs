@@ -15,8 +15,9 @@ use crate::pages::page::{AddressNotAligned, PageIn, PageSize};
 use crate::sharing::SharedEntry;
 use crate::spaces::GiveUpError;
 use crate::support::AllocError;
-use crate::tables::mapper::{FlagUpdateError, MapToError, MapperFlushAll, TranslateError, UnmapError};
+use crate::tables::errors::{FlagUpdateError, MapToError, TranslateError, UnmapError};
 use crate::tables::page_table::{FrameError, PageTableFlags};
+use crate::tables::tokens::MapperFlushAll;
 use core::error::Error;
 use core::fmt;
 

@@ -5,7 +5,7 @@
 use crate::addresses::addr::VirtAddr;
 use crate::addresses::level_count::LevelCount;
 use crate::pages::page::PageSize;
-use crate::tables::mapper::{MapperFlushAll, MapperFlushIn, MapperFlushRangeIn, MOST_PAGE_ITEMS};
+use crate::tables::tokens::{MapperFlushAll, MapperFlushIn, MapperFlushRangeIn, MOST_PAGE_ITEMS};
 use core::arch::asm;
 
 /// Flushes of the TLB of this processor, and the numbers (PCIDs) under which it caches. Each other processor that uses a root which a call
@@ -174,7 +174,7 @@ impl<S: PageSize, L: LevelCount> MapperFlushRangeIn<S, L> {
             tlb::flush_all();
         } else {
             for k in 0..self.count() {
-                invlpg(crate::tables::mapper::page_after(self.page(), k).start_address().as_u64());
+                invlpg(crate::tables::tokens::page_after(self.page(), k).start_address().as_u64());
             }
         }
         self.ignore();

@@ -76,11 +76,11 @@ TESTS = Rules(
         "calls::set_table_flags": [
             "debug_assert!(@crate::is_outside_window(mapper, page) && 2 <= level && level <= L::LEVELS && !flags.has_address_bits());",
         ],
-        "ranges::map_range": [
+        "map_range::map_range": [
             "debug_assert!(@crate::mappers::calls::map_range_allowed::<S, L, M>(mapper, page, count, frame, flags, parent_flags));",
         ],
-        "range_changes::unmap_range": ["debug_assert!(@crate::mappers::calls::range_allowed(mapper, page, count));"],
-        "range_changes::update_flags_range": [
+        "change_range::unmap_range": ["debug_assert!(@crate::mappers::calls::range_allowed(mapper, page, count));"],
+        "change_range::update_flags_range": [
             "debug_assert!(@crate::mappers::calls::range_allowed(mapper, page, count) && !flags.has_address_bits());",
         ],
         "loader::load": ["debug_assert!(@crate::loader::segments_allowed(mapper, segments));"],

@@ -128,9 +128,11 @@ class Functions(Tokens):
             return False
         if not self.generic and not re.search(r"<(?!\'\w+>)", self.plain(function.fn, function.opening)):
             return True
-        if self.path.name in rules.INLINE_GENERIC:
-            rules.INLINE_GENERIC.apply(self.path.name)
-        return self.path.name in rules.INLINE_GENERIC
+        for name in (self.path.name, "/".join(self.path.parts[-2:])):
+            if name in rules.INLINE_GENERIC:
+                rules.INLINE_GENERIC.apply(name)
+                return True
+        return False
 
     def clauses(self, i):
         """Cuts the clauses of a function, and returns the token behind them, and the clauses on one line each."""

@@ -46,11 +46,11 @@ CONST = Rules({"PageTable::new"})
 # Functions with a twin that tests nothing, which proved code calls in their place: `new` of types, and methods.
 UNTESTED = Rules({"PhysAddr", "VirtAddrIn", "PageTableIndex", "PageOffset"})
 UNTESTED_METHODS = Rules({"set_addr", "set_frame"})
-# The most tokens of a function with `#[inline]`, and the files whose functions with type parameters get it, too.
+# The most tokens of a function with `#[inline]`, and the files whose functions with type parameters get it, too (with their folder, if others are named so).
 MOST_INLINE = 60
 INLINE_GENERIC = Rules(
     f"{name}.rt"
-    for name in ("access", "calls", "change", "find", "leaf", "map", "mapped_page_table", "mapper", "mapper57", "page", "path")
+    for name in ("calls", "change", "leaf", "map", "mapped_page_table", "mapper", "mapper57", "page", "parents", "path", "src/walk")
 )
 # Functions that the compiler keeps apart, since calls rarely need them. With this one in the loop over the levels, a map's loop is too long
 # to be unrolled, and then the indices are written to memory and read again.

@@ -7,11 +7,11 @@ use crate::mappers::calls::{FrameSink, MapRangeErrorIn};
 use crate::pages::frame::PhysFrame;
 use crate::pages::page::{PageIn, PageSize, Size1GiB, Size2MiB, Size4KiB};
 use crate::pages::range::BlockRangeInclusive;
-use crate::tables::mapper::{
-    parent_flags, FlagUpdateError, MapToError, MapperFlushAll, MapperFlushIn, MapperFlushRangeIn, TranslateError, TranslateResult,
-    UnmapError,
-};
+use crate::tables::errors::{FlagUpdateError, MapToError, TranslateError, UnmapError};
 use crate::tables::page_table::PageTableFlags;
+use crate::tables::page_tables::parent_flags;
+use crate::tables::tokens::{MapperFlushAll, MapperFlushIn, MapperFlushRangeIn};
+use crate::tables::translation::TranslateResult;
 
 /// Translates virtual addresses.
 pub trait Translate<L: LevelCount = FourLevels> {

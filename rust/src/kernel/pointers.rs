@@ -11,12 +11,12 @@ use crate::pages::frame::PhysFrame;
 use crate::pages::page::{PageIn, PageSize, Size4KiB};
 use crate::pages::range::BlockRangeInclusive;
 use crate::spaces::{self, GiveUpError, SharedIndices, Space};
-use crate::tables::mapper::{
-    FlagUpdateError, MapToError, MapperFlushAll, MapperFlushIn, MapperFlushRangeIn, Tables, TablesIn, TranslateError,
-    TranslateResult, UnmapError,
-};
+use crate::tables::errors::{FlagUpdateError, MapToError, TranslateError, UnmapError};
 use crate::tables::page_table::{PageTable, PageTableFlags};
+use crate::tables::page_tables::{Tables, TablesIn};
 use crate::tables::phys_memory::{FramePlace, IdentityMapping, TableMemory};
+use crate::tables::tokens::{MapperFlushAll, MapperFlushIn, MapperFlushRangeIn};
+use crate::tables::translation::TranslateResult;
 use core::arch::asm;
 use core::fmt;
 use core::marker::PhantomData;

@@ -12,10 +12,10 @@ use crate::pages::frame::PhysFrame;
 use crate::pages::page::{PageIn, PageSize, Size4KiB};
 use crate::pages::range::BlockRangeInclusive;
 use crate::registers::control::Cr3;
-use crate::tables::mapper::{
-    FlagUpdateError, MapToError, MapperFlushAll, MapperFlushIn, MapperFlushRangeIn, TranslateError, TranslateResult, UnmapError,
-};
+use crate::tables::errors::{FlagUpdateError, MapToError, TranslateError, UnmapError};
 use crate::tables::page_table::{PageTable, PageTableFlags};
+use crate::tables::tokens::{MapperFlushAll, MapperFlushIn, MapperFlushRangeIn};
+use crate::tables::translation::TranslateResult;
 use core::arch::asm;
 use core::fmt;
 use core::marker::PhantomData;

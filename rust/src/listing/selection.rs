@@ -4,7 +4,10 @@ use crate::addresses::addr::VirtAddrIn;
 use crate::addresses::level_count::LevelCount;
 use crate::tables::page_table::Rights;
 
-/// Which mappings or regions are selected: those that reach into the addresses from one to another, and have at least some rights.
+/// Which mappings or regions are selected: those that reach into the addresses from one to another, both included, and have at
+/// least some rights.
+///
+/// Of an address only the bits count that the levels of page tables translate: the low 48 with four levels, and 57 with five.
 #[derive(Clone, Copy)]
 pub struct Selection {
     /// The first of the addresses. If `None`, it is the first of all.
@@ -58,7 +61,7 @@ fn is_to<L: LevelCount>(to: Option<u64>, position: u64) -> bool {
     }
 }
 
-/// Returns true if rights include others.
+/// Returns true if rights include all others: each of write, user and execute that the others have.
 ///
 /// # Proved
 ///

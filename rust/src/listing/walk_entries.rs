@@ -38,7 +38,7 @@ pub enum WalkEnd {
     NotPresent,
     /// The entry has `HUGE_PAGE` above level three, where it maps no page.
     HugePage,
-    /// The table that the entry names isn't in the memory, or the root isn't, and no entry is read.
+    /// The table that the entry names isn't in the memory, or the root's table isn't, so that no entry is read.
     NoTable,
 }
 
@@ -60,6 +60,8 @@ pub struct EntriesRead {
 /// [`page_walk`](crate::tables::phys_memory::page_walk). The array keeps what it holds behind the entries that are written.
 ///
 /// Requires that there is room for `L::LEVELS` entries. [`MOST_LEVELS`] are always enough.
+///
+/// Intel SDM vol. 3A, "4-Level Paging and 5-Level Paging"; AMD APM vol. 2, "Long-Mode Page Translation".
 ///
 /// # Panics
 ///
@@ -106,10 +108,11 @@ fn read_from<T: TableMemory, P: PageTableFrameMapping>(
             return EntriesRead { count, rights, end: WalkEnd::NoTable };
         };
         let index = index_of(position, level);
-        let entry = &table[index];
-        rights = rights.below(entry);
+        // A copy, since a processor, or a caller who exchanges entries, may change the word meanwhile.
+        let entry = PageTableEntry::from_word(table[index].word());
+        rights = rights.below(&entry);
         entries[count] = WalkEntry { level, table: frame.start_address().as_u64(), index: index as u64, word: entry.word() };
-        if let Some(end) = end_at(level, entry) {
+        if let Some(end) = end_at(level, &entry) {
             return EntriesRead { count: count + 1, rights, end };
         }
         frame = PhysFrame::from_start_address_unchecked(entry.addr());

@@ -3,7 +3,7 @@
 use crate::addresses::level_count::LevelCount;
 use crate::pages::frame::PhysFrame;
 use crate::pages::page::{PageIn, PageSize, Size4KiB};
-use crate::tables::mapper::MapToError;
+use crate::tables::errors::MapToError;
 use crate::tables::page_table::{has_flag, PageTableEntry, PageTableFlags};
 use crate::tables::phys_memory::{table_in, PageTableFrameMapping, TableMemory};
 

@@ -49,7 +49,7 @@ use crate::structures::paging::{FrameAllocator, Size2MiB, Size4KiB};
 /// ```text
 /// requires fits { SupplyFits (M.hierarchy mapper.old) (A.supply frames.old) }
 /// requires allowed { All (IsAllowed (M.hierarchy mapper.old)) segments.now }
-/// ensures { Loads small_pages (M.hierarchy mapper.old) (supply_of A.FrameAllocator frames.old) segments.now result (M.hierarchy mapper.new) (supply_of A.FrameAllocator frames.new) }
+/// ensures { LoadsSegments small_pages (M.hierarchy mapper.old) (supply_of A.FrameAllocator frames.old) segments.now result (M.hierarchy mapper.new) (supply_of A.FrameAllocator frames.new) }
 /// ```
 pub fn load<M: MapperAllSizes, A: FrameAllocator<Size4KiB> + ?Sized>(
     mapper: &mut M,
@@ -80,7 +80,7 @@ pub fn load<M: MapperAllSizes, A: FrameAllocator<Size4KiB> + ?Sized>(
 /// ```text
 /// requires fits { SupplyFits (M.hierarchy mapper.old) (A.supply frames.old) }
 /// requires allowed { All (IsAllowed (M.hierarchy mapper.old)) segments.now }
-/// ensures { Loads large_pages (M.hierarchy mapper.old) (supply_of A.FrameAllocator frames.old) segments.now result (M.hierarchy mapper.new) (supply_of A.FrameAllocator frames.new) }
+/// ensures { LoadsSegments large_pages (M.hierarchy mapper.old) (supply_of A.FrameAllocator frames.old) segments.now result (M.hierarchy mapper.new) (supply_of A.FrameAllocator frames.new) }
 /// ```
 pub fn load_large<M: MapperAllSizes, A: FrameAllocator<Size4KiB> + ?Sized>(
     mapper: &mut M,

@@ -4,12 +4,12 @@ use crate::addresses::addr::{VirtAddr, VirtAddr57};
 use crate::addresses::index::PageTableIndex;
 use crate::addresses::level_count::{FiveLevels, FourLevels, LevelCount};
 use crate::bitflags::Flags;
-use crate::mappers::access::TableAccess;
+use crate::mappers::walk::TableAccess;
 use crate::pages::frame::PhysFrame;
 use crate::pages::page::{PageSize, Size4KiB};
 use crate::support::AllocError;
-use crate::tables::mapper::{Tables, TablesIn};
 use crate::tables::page_table::{PageTable, PageTableFlags};
+use crate::tables::page_tables::{Tables, TablesIn};
 use crate::tables::phys_memory::{
     is_valid_hierarchy, is_valid_hierarchy_57, FramePlace, PageTableFrameMapping, PhysMemory, TableMemory,
 };
@@ -48,20 +48,23 @@ impl<P: PageTableFrameMapping> PageTableFrameMapping for GivenMapping<P> {
     }
 }
 
-/// A mapper for a hierarchy of any number of levels of page tables.
+/// A mapper for a hierarchy of any number of levels of page tables, which finds them by a frame mapping that the caller
+/// gives.
 pub type MappedPageTableIn<'a, P, L, T = PhysMemory> = Direct<'a, GivenMapping<P>, L, T>;
 
-/// A mapper for a hierarchy of four levels of page tables.
+/// A [`MappedPageTableIn`] with four levels of page tables.
 pub type MappedPageTable<'a, P, T = PhysMemory> = MappedPageTableIn<'a, P, FourLevels, T>;
 
-/// A mapper for a hierarchy of five levels of page tables.
+/// A [`MappedPageTableIn`] with five levels of page tables.
 pub type MappedPageTable57<'a, P, T = PhysMemory> = MappedPageTableIn<'a, P, FiveLevels, T>;
 
 impl<'a, P: PageTableFrameMapping, L: LevelCount, T: TableMemory> Direct<'a, P, L, T> {
     /// Creates a mapper for the hierarchy with this root, in a memory whose frames lie where the mapping says.
     ///
     /// Requires that the hierarchy is valid, which
-    /// [`is_valid_hierarchy`](crate::tables::phys_memory::is_valid_hierarchy) tests with the same mapping.
+    /// [`is_valid_hierarchy`](crate::tables::phys_memory::is_valid_hierarchy), or
+    /// [`is_valid_hierarchy_57`](crate::tables::phys_memory::is_valid_hierarchy_57) for five levels, tests with the
+    /// same mapping.
     #[inline]
     pub(crate) fn over(memory: &'a mut T, root: PhysFrame<Size4KiB>, mapping: P) -> Self {
         Direct { memory, root, mapping, levels: PhantomData }
@@ -78,7 +81,9 @@ impl<'a, P: PageTableFrameMapping, L: LevelCount, T: TableMemory> Direct<'a, Giv
     /// Creates a mapper for the hierarchy with this root, in a memory whose frames lie where the mapping says.
     ///
     /// Requires that the hierarchy is valid, which
-    /// [`is_valid_hierarchy`](crate::tables::phys_memory::is_valid_hierarchy) tests with the same mapping.
+    /// [`is_valid_hierarchy`](crate::tables::phys_memory::is_valid_hierarchy), or
+    /// [`is_valid_hierarchy_57`](crate::tables::phys_memory::is_valid_hierarchy_57) for five levels, tests with the
+    /// same mapping.
     ///
     /// # Proved
     ///
@@ -120,7 +125,11 @@ impl<'a, P: PageTableFrameMapping, T: TableMemory> Direct<'a, P, FourLevels, T> 
         self.table(&[], self.root)
     }
 
-    /// Lends the table of level four, to be changed.
+    /// Lends the table of level four, to be changed. When the loan ends, the table has the words that were written to
+    /// it.
+    ///
+    /// Other calls of the mapper require a valid hierarchy, and [`is_valid`](Self::is_valid) tests whether it is one
+    /// after the changes.
     ///
     /// # Proved
     ///
@@ -165,7 +174,11 @@ impl<'a, P: PageTableFrameMapping, T: TableMemory> Direct<'a, P, FiveLevels, T> 
         self.table(&[], self.root)
     }
 
-    /// Lends the table of level five, to be changed.
+    /// Lends the table of level five, to be changed. When the loan ends, the table has the words that were written to
+    /// it.
+    ///
+    /// Other calls of the mapper require a valid hierarchy, and [`is_valid`](Self::is_valid) tests whether it is one
+    /// after the changes.
     ///
     /// # Proved
     ///

@@ -9,11 +9,11 @@ use crate::addresses::addr::VirtAddrIn;
 use crate::addresses::index::PageTableIndex;
 use crate::addresses::level_count::{FiveLevels, FourLevels, LevelCount};
 use crate::bitflags::Flags;
-use crate::mappers::access::TableAccess;
+use crate::mappers::walk::TableAccess;
 use crate::pages::frame::PhysFrame;
 use crate::pages::page::{PageSize, Size4KiB};
-use crate::tables::mapper::{Tables, TablesIn};
 use crate::tables::page_table::{PageTable, PageTableFlags};
+use crate::tables::page_tables::{Tables, TablesIn};
 use crate::tables::phys_memory::{Active, PhysMemory};
 use core::fmt::Display;
 use core::marker::PhantomData;
@@ -60,13 +60,13 @@ pub struct Recursive<A, L> {
     levels: PhantomData<L>,
 }
 
-/// A mapper for an active memory with any number of levels of page tables.
+/// A [`Recursive`] mapper for an active memory with any number of levels of page tables.
 pub type RecursivePageTableIn<'a, L, T = PhysMemory> = Recursive<Active<'a, L, T>, L>;
 
-/// A mapper for an active memory with four levels of page tables.
+/// A [`Recursive`] mapper for an active memory with four levels of page tables.
 pub type RecursivePageTable<'a, T = PhysMemory> = RecursivePageTableIn<'a, FourLevels, T>;
 
-/// A mapper for an active memory with five levels of page tables.
+/// A [`Recursive`] mapper for an active memory with five levels of page tables.
 pub type RecursivePageTable57<'a, T = PhysMemory> = RecursivePageTableIn<'a, FiveLevels, T>;
 
 impl<'a, L: LevelCount> RecursivePageTableIn<'a, L> {
@@ -84,12 +84,12 @@ impl<'a, L: LevelCount> RecursivePageTableIn<'a, L> {
     /// # Proved
     ///
     /// ```text
-    /// requires { refuses L.LEVELS active table virt ≡ None → ValidThrough L.LEVELS (memory_of active) (cr3_of active) (index L.LEVELS virt) }
+    /// requires { invalid_table L.LEVELS active table virt ≡ None → ValidThrough L.LEVELS (memory_of active) (cr3_of active) (index L.LEVELS virt) }
     /// ensures* unchanged { sem 𝓛 (RestsUnlessMade active.entry result) }
     /// ensures active { IfOk result (λ mapper. active_in mapper ≡ active.entry) }
     /// ensures layout { IfOk result (λ mapper. (⟦<Self as Tables>⟧.hierarchy mapper).layout ≡ layout_through L.LEVELS active.entry (index L.LEVELS virt)) }
-    /// ensures made { IsOk result ↔ (refuses L.LEVELS active.entry table virt ≡ None) }
-    /// ensures refused { IfErr result (λ why. refuses L.LEVELS active.entry table virt ≡ Some why) }
+    /// ensures made { IsOk result ↔ (invalid_table L.LEVELS active.entry table virt ≡ None) }
+    /// ensures refused { IfErr result (λ why. invalid_table L.LEVELS active.entry table virt ≡ Some why) }
     /// ```
     pub fn new(active: Active<'a, L>, table: PhysFrame<Size4KiB>, virt: VirtAddrIn<L>) -> Result<Self, InvalidPageTable> {
         let refusal = Self::refusal(&active, table, virt);
@@ -102,6 +102,10 @@ impl<'a, L: LevelCount> RecursivePageTableIn<'a, L> {
 
 impl<A: WalkedTables<L>, L: LevelCount> Recursive<A, L> {
     /// Returns the reason why no mapper is created for a table at an address, or `None` if one is.
+    ///
+    /// The reason is `NotRecursive` if the address isn't that of a root's window, and otherwise `NotActive` if the
+    /// table isn't the one at which page walks start, or its entry at the index lacks `PRESENT`, has `HUGE_PAGE` or
+    /// doesn't name the table.
     ///
     /// # Proved
     ///
@@ -119,10 +123,10 @@ impl<A: WalkedTables<L>, L: LevelCount> Recursive<A, L> {
         None
     }
 
-    /// Creates a mapper with a recursive index for the hierarchy whose root is in the frame at which page walks
-    /// start.
+    /// Creates a mapper with a recursive index for the hierarchy whose root is in the frame at which page walks start.
     ///
-    /// Requires that the hierarchy is valid for the index.
+    /// Requires that the hierarchy is valid for the index, and that the root's entry at the index is present, lacks
+    /// `HUGE_PAGE` and names the root.
     ///
     /// # Proved
     ///
@@ -173,9 +177,10 @@ impl<A: WalkedTables<FourLevels>> Recursive<A, FourLevels> {
         self.root_window()
     }
 
-    /// Lends the table of level four through its window, to be changed.
+    /// Lends the table of level four through its window, to be changed. When the loan ends, the table has the words
+    /// that were written to it.
     ///
-    /// Requires that the hierarchy is valid.
+    /// Requires that the hierarchy is valid. Other calls of the mapper require that it is valid after the changes.
     ///
     /// # Proved
     ///
@@ -204,9 +209,10 @@ impl<A: WalkedTables<FiveLevels>> Recursive<A, FiveLevels> {
         self.root_window()
     }
 
-    /// Lends the table of level five through its window, to be changed.
+    /// Lends the table of level five through its window, to be changed. When the loan ends, the table has the words
+    /// that were written to it.
     ///
-    /// Requires that the hierarchy is valid.
+    /// Requires that the hierarchy is valid. Other calls of the mapper require that it is valid after the changes.
     ///
     /// # Proved
     ///

@@ -220,7 +220,7 @@ impl<S: PageSize, L: LevelCount> PageIn<S, L> {
         S::SIZE
     }
 
-    /// Returns the index of level four.
+    /// Returns the index of level four: bits 39 to 47 of the start address.
     ///
     /// # Proved
     ///
@@ -232,7 +232,7 @@ impl<S: PageSize, L: LevelCount> PageIn<S, L> {
         self.start_address.p4_index()
     }
 
-    /// Returns the index of level three.
+    /// Returns the index of level three: bits 30 to 38 of the start address.
     ///
     /// # Proved
     ///
@@ -244,7 +244,7 @@ impl<S: PageSize, L: LevelCount> PageIn<S, L> {
         self.start_address.p3_index()
     }
 
-    /// Returns the index of a level.
+    /// Returns the index of a level: the nine bits of the start address from bit 9 * `level` + 3 on.
     ///
     /// Requires that the level is from one to the number of levels.
     ///
@@ -296,7 +296,7 @@ impl<S: PageSize> Page57<S> {
         self.start_address.page_table_index(level)
     }
 
-    /// Returns the index of level five.
+    /// Returns the index of level five: bits 48 to 56 of the start address.
     ///
     /// # Proved
     ///
@@ -310,7 +310,7 @@ impl<S: PageSize> Page57<S> {
 }
 
 impl<S: NotGiantPageSize, L: LevelCount> PageIn<S, L> {
-    /// Returns the index of level two.
+    /// Returns the index of level two: bits 21 to 29 of the start address.
     ///
     /// # Proved
     ///
@@ -324,7 +324,7 @@ impl<S: NotGiantPageSize, L: LevelCount> PageIn<S, L> {
 }
 
 impl<L: LevelCount> PageIn<Size4KiB, L> {
-    /// Returns the index of level one.
+    /// Returns the index of level one: bits 12 to 20 of the start address.
     ///
     /// # Proved
     ///

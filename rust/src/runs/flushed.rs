@@ -8,7 +8,8 @@ use crate::call_values::{CallIn, LevelFiveFlags, ReplyIn};
 use crate::mappers::calls::TableAccess;
 use crate::support::AllocError;
 use crate::tables::frame_alloc::FrameStore;
-use crate::tables::mapper::{FlushRecorder, TablesIn};
+use crate::tables::page_tables::TablesIn;
+use crate::tables::tokens::FlushRecorder;
 use core::cmp::max;
 
 /// Executes calls in order as [`run`](super::run) does, and flushes the token of each accepted call into a recorder,
@@ -25,12 +26,12 @@ use core::cmp::max;
 /// # Proved
 ///
 /// ```text
-/// requires { Fits (M.hierarchy mapper.old) (store_of F.FrameStore frames.old) }
-/// ensures ran { OnOk result (Ran (asks P5.bits) (M.hierarchy mapper.old) (store_of F.FrameStore frames.old) calls.now replies.old.items replies.new.items (M.hierarchy mapper.new) (F.supply frames.new)) }
-/// ensures flushed { OnOk result ( Flushed (asks P5.bits) (M.hierarchy mapper.old) (store_of F.FrameStore frames.old) calls.now replies.old.items replies.new.items recorder.old.items recorder.new.items (M.hierarchy mapper.new)) }
+/// requires { StoreFits (M.hierarchy mapper.old) (store_of F.FrameStore frames.old) }
+/// ensures ran { OnOk result (Ran (to_call P5.bits) (M.hierarchy mapper.old) (store_of F.FrameStore frames.old) calls.now replies.old.items replies.new.items (M.hierarchy mapper.new) (F.supply frames.new)) }
+/// ensures flushed { OnOk result ( Flushed (to_call P5.bits) (M.hierarchy mapper.old) (store_of F.FrameStore frames.old) calls.now replies.old.items replies.new.items recorder.old.items recorder.new.items (M.hierarchy mapper.new)) }
 /// ensures unchanged { OnErr result ((replies.new ≡ replies.old) × (recorder.new ≡ recorder.old) × (mapper.new ≡ mapper.old) × (frames.new ≡ frames.old)) }
 /// ensures needs_room { OnErr result ((vec_capacity replies.old < vec_len replies.old + length calls.now) ⊎ (recorder.old.room < length calls.now)) }
-/// ensures keeps { Kept (M.hierarchy mapper.old) (store_of F.FrameStore frames.old) (M.hierarchy mapper.new) (store_of F.FrameStore frames.new) }
+/// ensures keeps { Keeps (M.hierarchy mapper.old) (store_of F.FrameStore frames.old) (M.hierarchy mapper.new) (store_of F.FrameStore frames.new) }
 /// ```
 pub fn run_flushed<L: LevelCount, P5: LevelFiveFlags<L>, M: TableAccess + TablesIn<L> + ?Sized, F: FrameStore + ?Sized>(
     mapper: &mut M,

@@ -119,7 +119,8 @@ pub fn spaces_fit_by_marks<L: LevelCount, T: TableMemory, P: PageTableFrameMappi
     list_fits::<L, _, _, _>(memory, mapping, &spaces, frames, capacity, marks)
 }
 
-/// Returns what [`spaces_fit_by_marks`] returns for the spaces without a recursive index whose roots have these addresses.
+/// Returns what [`spaces_fit_by_marks`] returns for the spaces without a recursive index whose roots have these addresses. The
+/// answer is false if an address is no multiple of 4096 below 2^52.
 ///
 /// Requires that there are as many marks as places. They may be set or not. The test ends for any words and any addresses.
 ///

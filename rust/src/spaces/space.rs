@@ -20,7 +20,7 @@ impl SharedIndices {
     /// The upper half of the address space, the half that kernels use.
     pub const UPPER_HALF: SharedIndices = SharedIndices { from: 256, to: 512 };
 
-    /// Returns true if an index is shared.
+    /// Returns true if an index of the highest level is shared.
     ///
     /// # Proved
     ///
@@ -38,14 +38,14 @@ impl SharedIndices {
 pub struct Space {
     /// The root's frame.
     pub root: PhysFrame<Size4KiB>,
-    /// The recursive index.
+    /// The index at which the root's entry names the root, if there is one.
     pub recursive: Option<PageTableIndex>,
 }
 
 /// A range of indices of the highest level, and the group in which a root is there.
 #[derive(Clone, Copy, Debug, PartialEq)]
 pub struct GroupIndices {
-    /// The indices.
+    /// The indices, from `from` up to, but not including, `to`.
     pub indices: SharedIndices,
     /// The number of the group, which has no other meaning.
     pub group: u64,

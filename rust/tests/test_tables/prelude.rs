@@ -16,12 +16,13 @@ pub use x86_64_paging::support::AllocError;
 pub use x86_64_paging::tables::frame_alloc::{
     FrameAllocator, FrameDeallocator, FramePool, FrameStore, LentPool, OwnFrames, PoolRefusal,
 };
-pub use x86_64_paging::tables::mapper::{parent_flags, FlushItem, FlushRecorder, MapperFlushIn};
 pub use x86_64_paging::tables::page_table::{FrameError, PageTable, PageTableEntry, PageTableFlags};
+pub use x86_64_paging::tables::page_tables::parent_flags;
 pub use x86_64_paging::tables::phys_memory::{
     Active, ActiveMemory, FramePlace, IdentityMapping, LentMemory, PageTableFrameMapping, PhysMemory, PlacesRefusal, ShiftMapping,
     TableMemory,
 };
+pub use x86_64_paging::tables::tokens::{FlushItem, FlushRecorder, MapperFlushIn};
 
 /// Aborts unless two values are equal.
 pub fn assert_equal<T: PartialEq + Debug>(found: T, wanted: T) {

@@ -28,8 +28,10 @@ pub trait WalkedTables<L: LevelCount> {
     /// ```
     fn self_entry(&self, index: PageTableIndex) -> bool;
 
-    /// Returns the table at which the page walk of a position arrives. A position is an address counted without the
-    /// gap between the halves.
+    /// Returns the table at which the page walk of a position arrives, if there is one. A position is an address
+    /// counted without the gap between the halves.
+    ///
+    /// Requires that the position is one of the address space.
     ///
     /// # Proved
     ///
@@ -39,7 +41,9 @@ pub trait WalkedTables<L: LevelCount> {
     /// ```
     fn table(&self, position: u64) -> Option<&PageTable>;
 
-    /// Lends the table at which the page walk of a position arrives.
+    /// Lends the table at which the page walk of a position arrives, if there is one.
+    ///
+    /// Requires that the position is one of the address space.
     ///
     /// # Proved
     ///

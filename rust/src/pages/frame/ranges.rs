@@ -30,7 +30,7 @@ impl<S: PageSize> Block for PhysFrame<S> {
 }
 
 impl<S: PageSize> PhysFrame<S> {
-    /// Returns the frames from `start` up to but excluding `end`.
+    /// Returns the frames from `start` up to but excluding `end`. The range is empty unless `start` lies before `end`.
     ///
     /// # Proved
     ///
@@ -42,7 +42,7 @@ impl<S: PageSize> PhysFrame<S> {
         PhysFrameRange { start, end }
     }
 
-    /// Returns the frames from `start` up to and including `end`.
+    /// Returns the frames from `start` up to and including `end`. The range is empty if `start` lies after `end`.
     ///
     /// # Proved
     ///

@@ -33,7 +33,8 @@ impl<S: PageSize, L: LevelCount> Block for PageIn<S, L> {
 }
 
 impl<S: PageSize> Page<S> {
-    /// Returns the pages from `start` up to but excluding `end`.
+    /// Returns the pages from `start` up to but excluding `end`. The range continues after the gap in the middle of the address
+    /// space, and is empty unless `start` lies before `end`.
     ///
     /// # Proved
     ///
@@ -47,7 +48,8 @@ impl<S: PageSize> Page<S> {
 }
 
 impl<S: PageSize, L: LevelCount> PageIn<S, L> {
-    /// Returns the pages from `start` up to and including `end`.
+    /// Returns the pages from `start` up to and including `end`. The range continues after the gap in the middle of the address
+    /// space, and is empty if `start` lies after `end`.
     ///
     /// # Proved
     ///

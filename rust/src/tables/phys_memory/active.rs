@@ -60,7 +60,7 @@ impl<'a, L: LevelCount, T: TableMemory> Active<'a, L, T> {
     /// # Proved
     ///
     /// ```text
-    /// ensures { result ≡ has_self_entry (words_in T.tables self.now) (cr3_of self.now) index }
+    /// ensures { result ≡ has_self_entry (active_words T.tables self.now) (cr3_of self.now) index }
     /// ```
     pub fn self_entry(&self, index: PageTableIndex) -> bool {
         has_self_entry(self.memory, &IdentityMapping, self.cr3(), index)
@@ -72,7 +72,7 @@ impl<'a, L: LevelCount, T: TableMemory> Active<'a, L, T> {
     /// # Proved
     ///
     /// ```text
-    /// ensures { option_copied result ≡ walked_table L.LEVELS (words_in T.tables self.now) (cr3_of self.now) addr }
+    /// ensures { option_copied result ≡ walked_table L.LEVELS (active_words T.tables self.now) (cr3_of self.now) addr }
     /// ```
     pub fn table(&self, addr: VirtAddrIn<L>) -> Option<&PageTable> {
         let frame = self.arrive(addr)?;
@@ -86,7 +86,7 @@ impl<'a, L: LevelCount, T: TableMemory> Active<'a, L, T> {
     ///
     /// ```text
     /// ensures* writes_back { sem 𝓛 (LendsWalked L.row T.row ⟦<T as TableMemory>⟧ L.LEVELS self.entry addr result) }
-    /// ensures value { option_copied_mut result ≡ walked_table L.LEVELS (words_in T.tables self.old) (cr3_of self.old) addr }
+    /// ensures value { option_copied_mut result ≡ walked_table L.LEVELS (active_words T.tables self.old) (cr3_of self.old) addr }
     /// ```
     pub fn table_mut(&mut self, addr: VirtAddrIn<L>) -> Option<&mut PageTable> {
         match self.arrive(addr) {

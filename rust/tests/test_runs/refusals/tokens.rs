@@ -1,7 +1,7 @@
 //! TLB flushes.
 use super::hoard_past;
 use crate::prelude::*;
-use x86_64_paging::tables::mapper::MapperFlushIn;
+use x86_64_paging::tables::tokens::MapperFlushIn;
 use x86_64_paging::VirtAddr57;
 
 /// The number of items of a recorder. It is so large that further items need a new block.

@@ -1,21 +1,21 @@
 //! Access to tables by the paths that lead to them, which all mappers have in common.
 
 pub mod change;
+pub mod change_range;
 pub mod clean_up;
 pub mod condition;
-pub mod find;
 pub mod leaf;
 pub mod map;
+pub mod map_range;
+pub mod parents;
 pub mod path;
-pub mod range_changes;
-pub mod ranges;
 pub mod translate;
 
 use crate::addresses::index::PageTableIndex;
 use crate::pages::frame::PhysFrame;
 use crate::pages::page::Size4KiB;
-use crate::tables::mapper::Tables;
 use crate::tables::page_table::{PageTable, PageTableEntry, PageTableFlags};
+use crate::tables::page_tables::Tables;
 
 /// Access to the tables of a hierarchy. Each table is named by the path that leads to it and by its frame, and a
 /// mapper uses whichever it needs.
@@ -42,10 +42,13 @@ pub trait TableAccess: Tables {
 
     /// Returns the table in the frame that a path leads to.
     ///
+    /// Requires that the path leads to the table in this frame, through present entries that name tables, and that it
+    /// has fewer indices than there are levels.
+    ///
     /// # Proved
     ///
     /// ```text
-    /// requires reached { Reaches (Self.hierarchy self.now) path.now frame }
+    /// requires reached { PathReaches (Self.hierarchy self.now) path.now frame }
     /// requires short { length path.now < (Self.hierarchy self.now).layout.levels }
     /// ensures { words (Self.hierarchy self.now) frame ≡ Some result.now }
     /// ```
@@ -53,18 +56,23 @@ pub trait TableAccess: Tables {
 
     /// Lends the table in the frame that a path leads to.
     ///
+    /// Requires that the path leads to the table in this frame, through present entries that name tables, and that it
+    /// has fewer indices than there are levels.
+    ///
     /// # Proved
     ///
     /// ```text
-    /// requires reached { Reaches (Self.hierarchy self.old) path.now frame }
+    /// requires reached { PathReaches (Self.hierarchy self.old) path.now frame }
     /// requires short { length path.now < (Self.hierarchy self.old).layout.levels }
     /// ensures* lends { sem 𝓛 (LendsTableBy Self.row self.entry result (Self.with_table self.old frame)) }
     /// ensures value { words (Self.hierarchy self.old) frame ≡ Some result.now }
     /// ```
     fn table_mut(&mut self, path: &[PageTableIndex], frame: PhysFrame<Size4KiB>) -> &mut PageTable;
 
-    /// Clears the table in a frame and returns true, if the mapper reaches tables that no entry names. Otherwise returns
-    /// false, and changes nothing.
+    /// Clears the table in a frame and returns true, if the mapper reaches tables that no entry names. Otherwise
+    /// returns false, and changes nothing.
+    ///
+    /// Requires that the frame's table is in the memory.
     ///
     /// # Proved
     ///

@@ -71,7 +71,7 @@ impl<S: PageSize, L: LevelCount> MapperFlushIn<S, L> {
         Ok(())
     }
 
-    /// Consumes the token without a flush.
+    /// Consumes the token without a flush. The TLB may keep the mapping that the page had before.
     pub fn ignore(self) {
         let MapperFlushIn { page: _ } = self;
     }
@@ -104,9 +104,9 @@ pub type MapperFlushRange<S = Size4KiB> = MapperFlushRangeIn<S, FourLevels>;
 pub type MapperFlushRange57<S = Size4KiB> = MapperFlushRangeIn<S, FiveLevels>;
 
 impl<S: PageSize, L: LevelCount> MapperFlushRangeIn<S, L> {
-    /// Creates a token for a number of pages, from a page on.
+    /// Creates a token for `count` pages, from a page on. The range continues after the gap in the middle of the address space.
     ///
-    /// Requires that all of these pages exist.
+    /// Requires that none of these pages lies past the end of the address space.
     ///
     /// # Panics
     ///
@@ -176,7 +176,7 @@ impl<S: PageSize, L: LevelCount> MapperFlushRangeIn<S, L> {
         Ok(())
     }
 
-    /// Consumes the token without a flush.
+    /// Consumes the token without a flush. The TLB may keep the mappings that the pages had before.
     pub fn ignore(self) {
         let MapperFlushRangeIn { page: _, count: _ } = self;
     }
@@ -229,7 +229,7 @@ impl MapperFlushAll {
         Ok(())
     }
 
-    /// Consumes the token without a flush.
+    /// Consumes the token without a flush. The TLB may keep stale mappings of any pages.
     #[inline]
     pub fn ignore(self) {
         let MapperFlushAll(_) = self;
@@ -262,7 +262,9 @@ fn record_each<S: PageSize, L: LevelCount>(page: PageIn<S, L>, count: u64, recor
     }
 }
 
-/// Returns the page this number of pages after a page. Requires that it exists.
+/// Returns the page `count` pages after a page. Steps continue after the gap in the middle of the address space.
+///
+/// Requires that the page doesn't lie past the end of the address space. Check this with [`PageIn::forward_checked`].
 ///
 /// # Proved
 ///
