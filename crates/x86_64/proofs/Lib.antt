@@ -12,6 +12,7 @@ pub mod Moved
 pub mod PlacesStay
 pub mod CallEvents
 pub mod FlushesTold
+pub mod Exchanged
 pub mod CallsFlushed
 pub mod Processors
 pub mod OneEntry

@@ -1,10 +1,10 @@
 -- What a kernel executes after a call: the least flush that settles all that the model makes due.
-use Rattle.std.specs.Prelude.{◌≡◌, ◌≤◌, ℕ, nat_lt, Bool, true, false, cond, List, [], ◌∷◌, Option, Some, None, option_map}
+use Rattle.std.specs.Prelude.{◌≡◌, ◌≤◌, ℕ, nat_lt, Bool, true, false, cond, List, [], ◌∷◌, length, Option, Some, None, option_map}
 use Rattle.x86_64_model.specs.Call as machine
 use Rattle.x86_64_model.specs.Flushing as kernel
-use Rattle.x86_64_model.specs.Flushing.{Due, PageDue, TablesDue, WindowDue, BelowDue, Invlpg, LoadCr3, FlushAll, flush_after}
+use Rattle.x86_64_model.specs.Flushing.{Due, PageDue, TablesDue, WindowDue, BelowDue, Invlpg, LoadCr3, FlushAll, flush_after, due_between}
 use Rattle.x86_64_model.specs.Lists.{In}
-use Rattle.x86_64_model.specs.Path.{begins}
+use Rattle.x86_64_model.specs.Path.{begins, level_of}
 use Rattle.x86_64_model.specs.Position.{page_path}
 use Rattle.x86_64_model.specs.Window.{Window}
 use Rattle.x86_64.specs.Asked.{MapperCall, machine_call}
@@ -40,6 +40,13 @@ flush_for (d ∷ due) = larger (told_of d) (flush_for due)
 abbrev pub TellsFlush : (L : ℕ) → MapperCall → Reply → (recursive_index : Option ℕ) → (loses : Bool) → (answer : Flush) → Type 0
 TellsFlush L call reply index loses answer = (window : Option Window) (r : machine.Reply) → option_map (λ (w : Window). w.index) window ≡ index → reply_of call r ≡ Some reply
     → answer ≡ flush_for (cond loses (flush_after L window (machine_call L call) r) [])
+
+-- The answer is the flush for all that is due after the word of an entry of this level was exchanged for another one, with or without
+-- a recursive index, however many levels there are.
+abbrev pub TellsFlushBetween : (level old new : ℕ) → (recursive_index : Option ℕ) → (answer : Flush) → Type 0
+TellsFlushBetween level old new index answer =
+    (L : ℕ) (window : Option Window) (q : List ℕ) → length q ≤ L → level_of L q ≡ level → option_map (λ (w : Window). w.index) window ≡ index
+    → answer ≡ flush_for (due_between L window q old new)
 
 -- ---- flushes as the processor sees them
 
