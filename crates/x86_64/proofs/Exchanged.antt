@@ -1,5 +1,5 @@
 -- What has to be flushed after an exchange is told by both words.
-use Rattle.std.proofs.Common.{◌≤◌, nat_lt, cond, List, [], ◌∷◌, length, Option, Some, None, ◌≡◌, ◌*◌, ◌==◌, ◌&&◌, ◌||◌, ℕ, Bool, true, false, not, refl, sym, ap, ◌∙◌, true≢false, eq-eqb, arith, bit_and, ⊎_elim}
+use Rattle.std.proofs.Common.{◌≤◌, nat_lt, cond, List, [], ◌∷◌, length, Option, Some, None, option_map, ◌≡◌, ◌*◌, ◌==◌, ◌&&◌, ◌||◌, ℕ, Bool, true, false, not, refl, sym, ap, ◌∙◌, true≢false, eq-eqb, arith, bit_and, ⊎_elim}
 use Rattle.std.specs.Int.{bit_at}
 use Rattle.std.specs.Option.{is_some}
 use Rattle.std.proofs.lemmas.Bool.{and_parts, and_from, not-false, cases_Bool}
@@ -10,6 +10,7 @@ use Rattle.x86_64_model.specs.Path.{level_of}
 use Rattle.x86_64_model.specs.Window.{Window}
 use Rattle.x86_64_model.proofs.Lemmas.Entries.Bits.{used_present}
 use Rattle.x86_64_model.proofs.Lemmas.Caches.Exchanged.{told_nothing}
+use Rattle.x86_64.proofs.FlushesTold.{is_some_index}
 use Rattle.x86_64.specs.FlushesDue.{flush_for}
 use Rattle.x86_64.specs.declared.flushing.Flush.{Flush}
 use Rattle.x86_64.specs.declared.flushing.Flush.TheVariants.{Nothing, Page, Everything}
@@ -107,3 +108,21 @@ flush_told L window q level e f short at lost same = ⊎_elim
     by : (lost : Bool) → present e ≡ true → flush_for (cond lost (due_lost L window q e) []) ≡ cond lost (flush_lost window level e) Nothing
     by true here = lost_is L window q level e short at (used_present e here)
     by false here = refl
+
+-- the same by what a function learns
+pub flush_is : (L : ℕ) (window : Option Window) (q : List ℕ) (level e f : ℕ) → length q ≤ L → level_of L q ≡ level
+    → (index : Option ℕ) → option_map (λ (w : Window). w.index) window ≡ index → (lost : Bool) → (present e ≡ true → lost ≡ loses_between e f)
+    → (p h s : Bool) → p ≡ present e → h ≡ huge e → s ≡ is_some index
+    → flush_for (due_between L window q e f) ≡ cond (p && lost) (cond (nat_lt 1 level && (not h || s)) Everything Page) Nothing
+flush_is L window q level e f short at index with_index lost same p h s p_is h_is s_is =
+    rw (p_is, h_is, s_is ∙ is_some_index window index with_index) (flush_told L window q level e f short at lost same)
+
+pub nothing_due : (p lost : Bool) (flush : Flush) → (not p || not lost) ≡ true → cond (p && lost) flush Nothing ≡ Nothing
+nothing_due true true flush h = absurd (true≢false (sym h))
+nothing_due true false flush h = refl
+nothing_due false lost flush h = refl
+
+pub something_due : (p lost : Bool) (flush : Flush) → (not p || not lost) ≡ false → cond (p && lost) flush Nothing ≡ flush
+something_due true true flush h = refl
+something_due true false flush h = absurd (true≢false h)
+something_due false lost flush h = absurd (true≢false h)
