@@ -74,7 +74,7 @@
  * all calls but x64_access, as long as the root's shared entries stay what they are. What changes
  * one in one root must not happen, or the caller has to do the same in all roots:
  *
- *   x64_map, x64_map_range
+ *   x64_map, x64_map_as_mapper, x64_map_range
  *                        if the shared entry is 0, or lacks one of the parent flags
  *   x64_clean_up         over addresses below a shared entry, if all tables there are empty
  *   x64_set_table_flags  at the highest level
@@ -107,9 +107,10 @@
  *   x64_clean_up              X64_OK            tables: any INVLPG, or a load of CR3 with bit 63
  *                                               clear. If EFER.TCE is set (AMD), INVLPG isn't
  *                                               enough
- *   x64_map, x64_map_range    any               nothing; but everything, global pages too, if the
- *                                               parent flags have X64_NO_EXECUTE, unless the status
- *                                               is X64_NOT_ALLOWED or an X64_BAD_ status
+ *   x64_map                   X64_OK            nothing; but everything, global pages too, if the
+ *                                               parent flags have X64_NO_EXECUTE
+ *   x64_map_as_mapper,        any               the same, unless the status is X64_NOT_ALLOWED or an
+ *   x64_map_range                               X64_BAD_ status
  *   x64_new_space             any               nothing
  *   x64_give_up_space         any               nothing; but before the call no processor uses the
  *                                               root, and no PCID holds it (see below)
@@ -131,9 +132,9 @@
  *               Nor is a right gone before the flush.
  *   a page      until a smaller page is mapped there: one INVLPG drops all of a large page only as
  *               long as no smaller one is there.
- *   tables      until the next x64_map, x64_map_range or x64_new_space with this pool, on whatever
- *               root, and until the caller takes a free frame. A freed table may become another
- *               table or a root, which the processor would walk as the old one.
+ *   tables      until the next map (x64_map, x64_map_as_mapper, x64_map_range) or x64_new_space with
+ *               this pool, on whatever root, and until the caller takes a free frame. A freed table
+ *               may become another table or a root, which the processor would walk as the old one.
  *
  * x64_clean_up may put the frames of tables into an array of its own, which is passed as its pool
  * and has room for all tables below the root (x64_pool_fits). Then maps with another pool take none
@@ -211,8 +212,8 @@
  * 4. Words of entries that name no table may be exchanged beside all of these calls, and beside
  *    each other, as long as no call touches the same word and no table on the way is freed between
  *    finding a word and exchanging it. x86_64_paging_live.h has the functions, and says more.
- *    x64_map, x64_unmap and x64_update_flags touch the entry of their page and those above it;
- *    ranges touch those of all their pages; x64_clean_up touches all entries in its range, and
+ *    x64_map, x64_map_as_mapper, x64_unmap and x64_update_flags touch the entry of their page and
+ *    those above it; ranges touch those of all their pages; x64_clean_up touches all entries in its range, and
  *    x64_give_up_space those of the root, and both free tables.
  * 5. Processors mark entries at any moment. What they set is lost only by calls that read an entry
  *    and then write it: x64_unmap, x64_update_flags, their ranges, x64_set_table_flags, maps that
@@ -314,7 +315,7 @@ enum {
 
 /* The calls after which something may have to be flushed. */
 enum {
-    X64_CALL_MAP = 0,             /* x64_map, x64_map_range */
+    X64_CALL_MAP = 0,             /* x64_map, x64_map_as_mapper, x64_map_range */
     X64_CALL_UNMAP = 1,           /* x64_unmap, x64_unmap_range */
     X64_CALL_UPDATE_FLAGS = 2,    /* x64_update_flags, x64_update_flags_range */
     X64_CALL_SET_TABLE_FLAGS = 3, /* x64_set_table_flags */
@@ -625,29 +626,25 @@ uint32_t x64_access(const x64_hierarchy *hierarchy, x64_table *tables, size_t ta
                     x64_outcome *outcome);
 
 /*
- * Maps a page to a frame. From the root down, request->parent_flags are added to each entry above
- * the page. An entry that was 0 then also names a new table: the last free frame of the pool, which
- * is cleared, and *free_count decreases by one.
+ * Maps a page to a frame, or changes nothing: unless it returns X64_OK, the tables, the pool and
+ * *free_count are as before. It looks at the tables first. From the root down, request->parent_flags
+ * are added to each entry above the page. An entry that was 0 then also names a new table: the last
+ * free frame of the pool, which is cleared, and *free_count decreases by one.
  *
  * Condition: the pool fits the hierarchy (x64_pool_fits).
  *
- * Returns X64_OK or one of these:
+ * Returns X64_OK or one of these; then nothing has changed:
  *   X64_NOT_ALLOWED              if the flags or the parent flags have any of the bits 12 to 51; if
  *                                the parent flags have X64_HUGE_PAGE, or the flags of a page of
  *                                4 KiB have it; or if the parent flags lack X64_PRESENT and an
- *                                entry above the page would be without it. Nothing has changed
- *   X64_FRAME_ALLOCATION_FAILED  if a table is missing and the pool is empty
+ *                                entry above the page would be without it
  *   X64_PARENT_ENTRY_HUGE_PAGE   if an entry above the page has X64_HUGE_PAGE
+ *   X64_FRAME_ALLOCATION_FAILED  if more tables are missing than frames are free
  *   X64_PAGE_ALREADY_MAPPED      if the page's entry isn't 0
  *   X64_BAD_ARRAY                if *free_count > capacity
  *   X64_BAD_PAGE, X64_BAD_FRAME
  *
- * With X64_FRAME_ALLOCATION_FAILED, X64_PARENT_ENTRY_HUGE_PAGE and X64_PAGE_ALREADY_MAPPED the
- * page's entry hasn't changed, but parent flags may have been added to entries above it, and new
- * tables may have been made. With X64_PARENT_ENTRY_HUGE_PAGE the entry of the larger page got the
- * parent flags, too, so that page may have more rights than before. New tables are part of the
- * hierarchy, and x64_clean_up frees them if they are empty. If the parent flags have
- * X64_USER_ACCESSIBLE, see SMEP and SMAP above.
+ * If the parent flags have X64_USER_ACCESSIBLE, see SMEP and SMAP above.
  */
 X64_NODISCARD
 uint32_t x64_map(const x64_hierarchy *hierarchy, x64_table *tables, size_t table_count,
@@ -655,9 +652,28 @@ uint32_t x64_map(const x64_hierarchy *hierarchy, x64_table *tables, size_t table
                  const x64_map_request *request);
 
 /*
+ * Maps a page to a frame as map_to_with_table_flags of the Rust crate x86_64 does, and the program
+ * pagetab: it returns what x64_map returns, and leaves the same if that is X64_OK, X64_NOT_ALLOWED or
+ * an X64_BAD_ status. But it changes entries on its way down, so entries above a page that it refuses
+ * may have changed. Use it to end with the same words as one of these after any calls.
+ *
+ * Condition: the pool fits the hierarchy (x64_pool_fits).
+ *
+ * Returns what x64_map returns. With X64_FRAME_ALLOCATION_FAILED, X64_PARENT_ENTRY_HUGE_PAGE and
+ * X64_PAGE_ALREADY_MAPPED the page's entry hasn't changed, but parent flags may have been added to
+ * entries above it, and new tables may have been made. With X64_PARENT_ENTRY_HUGE_PAGE the entry of
+ * the larger page got the parent flags, too, so that page may have more rights than before. New
+ * tables are part of the hierarchy, and x64_clean_up frees them if they are empty.
+ */
+X64_NODISCARD
+uint32_t x64_map_as_mapper(const x64_hierarchy *hierarchy, x64_table *tables, size_t table_count,
+                           uint64_t *pool, size_t capacity, size_t *free_count,
+                           const x64_map_request *request);
+
+/*
  * Maps `count` pages of one size, from request->page on, to as many frames, from request->frame on,
- * in order. Does what x64_map of each page in turn would do, up to the first one that is refused,
- * but looks up each table only once. Writes to *done how many pages it mapped.
+ * in order. Does what x64_map_as_mapper of each page in turn would do, up to the first one that is
+ * refused, but looks up each table only once. Writes to *done how many pages it mapped.
  *
  * Condition: the pool fits the hierarchy (x64_pool_fits).
  *
@@ -665,9 +681,10 @@ uint32_t x64_map(const x64_hierarchy *hierarchy, x64_table *tables, size_t table
  *   X64_NOT_ALLOWED              if the parent flags lack X64_PRESENT; or, unless count is 0, if
  *                                x64_map of a page wouldn't be allowed. Nothing has changed
  *   X64_FRAME_ALLOCATION_FAILED, X64_PARENT_ENTRY_HUGE_PAGE, X64_PAGE_ALREADY_MAPPED
- *                                if x64_map refused the next page so. *done is written: so many
- *                                pages are mapped. The next one left what a refused x64_map leaves,
- *                                and no page after it was looked at
+ *                                if x64_map_as_mapper refused the next page so. *done is written: so
+ *                                many pages are mapped. The next one left what a refused
+ *                                x64_map_as_mapper leaves: entries above it may have got the parent
+ *                                flags, and tables may be new. No page after it was looked at
  *   X64_BAD_ARRAY                if *free_count > capacity
  *   X64_BAD_PAGE                 also if the pages don't end in the half of the address space in
  *                                which they start
@@ -799,7 +816,8 @@ uint32_t x64_clean_up(const x64_hierarchy *hierarchy, x64_table *tables, size_t 
  * It is proved that this is the least flush that settles all that the model makes due after a call
  * (flush_after in crates/x86_64_model/specs/Flushing.antt), and of the model that such flushes are
  * enough (see there). For a range X64_FLUSH_PAGE settles what each page makes due, by an INVLPG for
- * each.
+ * each. The model's map is x64_map_as_mapper: after a refused x64_map nothing has to be flushed,
+ * whatever this returns.
  *
  * A caller who knows more may flush less. Nothing has to be flushed after a map if x64_entries
  * reads the same entries above the page before the call and after it; nor after x64_update_flags if
@@ -1024,6 +1042,16 @@ static inline uint32_t x64_space_map(x64_space *space, uint64_t page, uint64_t s
     x64_map_request request = x64_map_request_of(page, size, frame, flags);
     return x64_map(&hierarchy, space->tables, space->table_count, space->pool, space->capacity,
                    &space->free_count, &request);
+}
+
+/* x64_map_as_mapper, with the parent flags of x64_map_request_of */
+X64_NODISCARD
+static inline uint32_t x64_space_map_as_mapper(x64_space *space, uint64_t page, uint64_t size,
+                                               uint64_t frame, uint64_t flags) {
+    x64_hierarchy hierarchy = x64_space_hierarchy(space);
+    x64_map_request request = x64_map_request_of(page, size, frame, flags);
+    return x64_map_as_mapper(&hierarchy, space->tables, space->table_count, space->pool,
+                             space->capacity, &space->free_count, &request);
 }
 
 /* x64_map_range, with the parent flags of x64_map_request_of */

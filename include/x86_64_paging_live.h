@@ -27,9 +27,9 @@
  * x64_join_page may free a table of this space, or below an entry that it shares, at the same time
  * or between the two. Other calls on this space may run meanwhile if they touch other entries:
  * x64_map, x64_unmap and x64_update_flags touch the entry of their page and those above it, ranges
- * touch those of all their pages. x64_map_whole, x64_split_page and x64_join_page are calls
- * themselves: they run one at a time with other calls on this space and with its pool, as x64_map
- * does. See WHAT MAY RUN AT THE SAME TIME in x86_64_paging.h.
+ * touch those of all their pages. x64_split_page and x64_join_page are calls themselves: they run
+ * one at a time with other calls on this space and with its pool, as x64_map does. See WHAT MAY RUN
+ * AT THE SAME TIME in x86_64_paging.h.
  *
  * WHAT TO FLUSH
  *
@@ -464,72 +464,6 @@ static inline uint32_t x64_take_range(const x64_space *space, uint64_t first, ui
         at = end + 1;
     }
     return X64_OK;
-}
-
-/*
- * MAPPING WITHOUT LEAVING ANYTHING
- */
-
-/* Returns whether x64_map looks at the tables for a request, and doesn't refuse an argument or the
- * flags before. */
-static inline bool x64_looks_at_tables(const x64_space *space, const x64_map_request *request) {
-    uint64_t level = x64_level_of(request->page.size), levels = space->levels;
-    return level != 0 && (levels == 4 || levels == 5) &&
-           request->page.start % request->page.size == 0 &&
-           x64_is_canonical(levels, request->page.start) && (space->root & ~X64_ADDRESS) == 0 &&
-           request->frame >> 52 == 0 && request->frame % request->page.size == 0 &&
-           space->free_count <= space->capacity &&
-           ((request->flags | request->parent_flags) & X64_ADDRESS) == 0 &&
-           !(request->parent_flags & X64_HUGE_PAGE) &&
-           (level > 1 || !(request->flags & X64_HUGE_PAGE));
-}
-
-/* Returns why x64_map would refuse a request after a look at the tables, or X64_OK, also for what
- * it refuses before it changes anything: X64_NOT_ALLOWED. */
-static inline uint32_t x64_map_refusal(const x64_space *space, const x64_map_request *request) {
-    const uint64_t own = x64_level_of(request->page.size), page = request->page.start;
-    const bool adds_present = (request->parent_flags & X64_PRESENT) != 0;
-    uint64_t frame = space->root;
-    bool is_present = true; /* all entries above that are there have X64_PRESENT */
-    for (uint64_t level = space->levels; level >= own; level--) {
-        uint64_t number = frame / 4096 - space->first;
-        if (number >= space->table_count)
-            return X64_OK; /* the root isn't there, as x64_map tells, or nothing is valid */
-        uint64_t word = __atomic_load_n(&space->tables[number].words[page >> (3 + 9 * level) & 511],
-                                        __ATOMIC_ACQUIRE);
-        if (level == own)
-            return word != 0 && (is_present || adds_present) ? X64_PAGE_ALREADY_MAPPED : X64_OK;
-        if (word == 0)
-            return space->free_count < level - own && adds_present ? X64_FRAME_ALLOCATION_FAILED
-                                                                   : X64_OK;
-        is_present = is_present && (word & X64_PRESENT);
-        if (word & X64_HUGE_PAGE)
-            return is_present || adds_present ? X64_PARENT_ENTRY_HUGE_PAGE : X64_OK;
-        frame = word & X64_ADDRESS;
-    }
-    return X64_OK;
-}
-
-/*
- * Does what x64_map does, but looks first: it returns the same status, and unless that is X64_OK,
- * nothing has changed, and nothing has to be flushed. A refused x64_map may leave new tables and
- * parent flags, also in the entry of a larger page, which may have more rights then.
- *
- * What X64_OK means is proved, since it is x64_map that maps. The look before it is tested: its
- * status beside that of x64_map, and that a refusal changes no word.
- *
- * Condition: that of x64_map. No other call on this space or with this pool runs meanwhile.
- */
-X64_NODISCARD
-static inline uint32_t x64_map_whole(x64_space *space, const x64_map_request *request) {
-    x64_hierarchy hierarchy = x64_space_hierarchy(space);
-    uint32_t status = X64_OK;
-    if (x64_looks_at_tables(space, request))
-        status = x64_map_refusal(space, request);
-    if (status != X64_OK)
-        return status;
-    return x64_map(&hierarchy, space->tables, space->table_count, space->pool, space->capacity,
-                   &space->free_count, request);
 }
 
 /*

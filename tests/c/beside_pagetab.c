@@ -5,7 +5,8 @@
  *     beside_pagetab output LEVELS SEED CALLS    makes the same calls by the library, and prints what pagetab has to print
  *
  * LEVELS is 4 or 5. The memory has 64 tables, from frame 0 on, and the root is in the frame 0x1000. At the end every word is shown.
- * A range is made page by page, as pagetab does it, and by one call on a copy of the tables and the pool, which must end the same.
+ * Maps are those of x64_map_as_mapper, which also leaves what pagetab leaves after a refused one. A range is made page by page, as pagetab
+ * does it, and by one call on a copy of the tables and the pool, which must end the same.
  */
 #include <inttypes.h>
 #include <stdio.h>
@@ -131,7 +132,7 @@ static uint32_t map(x64_map_request request) {
                request.page.start, request.frame, request.flags, request.parent_flags);
         return X64_OK;
     }
-    uint32_t status = x64_map(&hierarchy, tables, TABLES, pool, TABLES, &free_count, &request);
+    uint32_t status = x64_map_as_mapper(&hierarchy, tables, TABLES, pool, TABLES, &free_count, &request);
     if (status == X64_PAGE_ALREADY_MAPPED)
         printf("page already mapped 0x%" PRIx64 "\n", request.frame);
     else

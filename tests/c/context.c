@@ -84,6 +84,9 @@ static void try_maps(void) {
          x64_map(&hierarchy, TABLES_OF(b), POOL_OF(b), &free_count, &small));
     SAME(X64_PAGE_ALREADY_MAPPED, x64_space_map(&space, 0x1000, X64_SIZE_4KIB, 0x5000, USUAL),
          x64_map(&hierarchy, TABLES_OF(b), POOL_OF(b), &free_count, &small));
+    x64_map_request refused = request(0x1000, X64_SIZE_4KIB, 0x5000, USUAL | X64_USER_ACCESSIBLE, USUAL | X64_USER_ACCESSIBLE);
+    SAME(X64_PAGE_ALREADY_MAPPED, x64_space_map_as_mapper(&space, 0x1000, X64_SIZE_4KIB, 0x5000, USUAL | X64_USER_ACCESSIBLE),
+         x64_map_as_mapper(&hierarchy, TABLES_OF(b), POOL_OF(b), &free_count, &refused));
     x64_map_request large = request(0x200000, X64_SIZE_2MIB, 0x400000, USUAL | X64_USER_ACCESSIBLE, USUAL | X64_USER_ACCESSIBLE);
     SAME(X64_OK, x64_space_map(&space, 0x200000, X64_SIZE_2MIB, 0x400000, USUAL | X64_USER_ACCESSIBLE),
          x64_map(&hierarchy, TABLES_OF(b), POOL_OF(b), &free_count, &large));

@@ -7,7 +7,7 @@
 
 #include "x86_64_paging.h"
 
-/* Does what x64_map does. */
+/* Does what x64_map_as_mapper does. */
 uint32_t floor_map(const x64_hierarchy *hierarchy, x64_table *tables, size_t table_count, uint64_t *pool, size_t capacity,
     size_t *free_count, const x64_map_request *request);
 

@@ -553,6 +553,8 @@ static void call(enum rule rule) {
         if ((are_tables_due && rule != MAPS_BEFORE_TABLES) || (is_large_due && rule != SMALL_BEFORE_LARGE))
             settle(rule);
         status = map(page, size, some_flags() & ~X64_ACCESSED, parent_flags);
+        if (status != X64_OK)
+            return; /* nothing has changed */
     } else if (kind == X64_CALL_UNMAP) {
         status = x64_space_unmap(&space, page, size, &frame);
     } else if (kind == X64_CALL_UPDATE_FLAGS) {

@@ -1,6 +1,6 @@
 /*
  * Tests of x86_64_paging_live.h by one thread: each status of each function; which words may stand where, beside x64_pool_fits; splits and
- * joins beside x64_walk; maps beside x64_map; accesses beside x64_access. It is C and C++.
+ * joins beside x64_walk; x64_map beside x64_map_as_mapper; accesses beside x64_access. It is C and C++.
  *
  *     live OPERATIONS     how many accesses, with 4 levels and with 5; there are fewer of the other calls
  */
@@ -74,10 +74,6 @@ static void try_faulty(uint64_t levels) {
         CHECK(x64_split_page(&space, LARGE, X64_SIZE_2MIB) == status);
         CHECK(x64_join_page(&space, HEAP, X64_SIZE_2MIB, 0x87, &frame) == status);
         CHECK(x64_access_live(&hierarchy, tables, TABLES, &controls, &access, &scratch, &arrival) == found);
-        x64_map_request request = x64_map_request_of(HEAP, X64_SIZE_4KIB, 0, USUAL);
-        CHECK(fault == NO_WAY || x64_map_whole(&space, &request) == status);
-        space.free_count = 0;
-        CHECK(fault == NO_WAY || x64_map_whole(&space, &request) == status);
         CHECK(memcmp(copies, tables, sizeof tables) == 0 && memcmp(&scratch, &zeros, sizeof scratch) == 0);
     }
     start(levels);
@@ -414,7 +410,8 @@ static void try_splits(uint64_t levels, size_t rounds) {
         request.flags |= (below(8) ? X64_PRESENT : 0) | (below(2) ? X64_NO_EXECUTE : 0) | below(2048) << 52;
         request.parent_flags = USUAL;
         start(levels);
-        CHECK(x64_map_whole(&space, &request) == X64_OK);
+        x64_hierarchy hierarchy = x64_space_hierarchy(&space);
+        CHECK(x64_map(&hierarchy, tables, TABLES, pool, TABLES, &space.free_count, &request) == X64_OK);
         uint64_t word = request.frame | request.flags | X64_HUGE_PAGE | (below(2) ? 0x1000 : 0);
         CHECK(x64_exchange_page(&space, page, size, word, &old) == X64_OK && (old | 0x1000) == (word | 0x1000));
         try_split(page, size, word);
@@ -465,7 +462,7 @@ static void hide_one(uint64_t address) {
         CHECK(x64_change_entry(&space, &entries[below(read)], ~X64_PRESENT, 0, &old) == X64_OK);
 }
 
-/* Makes maps at random, and the same by x64_map in a copy. What is refused must change nothing. */
+/* Makes maps at random by x64_map, and the same by x64_map_as_mapper in a copy. What x64_map refuses must change nothing. */
 static void try_maps(uint64_t levels, size_t rounds) {
     static const uint32_t seen[] = {X64_OK, X64_NOT_ALLOWED, X64_FRAME_ALLOCATION_FAILED, X64_PARENT_ENTRY_HUGE_PAGE, X64_PAGE_ALREADY_MAPPED,
                                     X64_BAD_ARRAY, X64_BAD_PAGE, X64_BAD_FRAME};
@@ -483,8 +480,8 @@ static void try_maps(uint64_t levels, size_t rounds) {
         memcpy(before, tables, sizeof tables);
         memcpy(copies, tables, sizeof tables);
         space.free_count = free_count;
-        uint32_t told = x64_map(&hierarchy, copies, TABLES, pool, TABLES, &free_count, &request);
-        uint32_t found = x64_map_whole(&space, &request);
+        uint32_t told = x64_map_as_mapper(&hierarchy, copies, TABLES, pool, TABLES, &free_count, &request);
+        uint32_t found = x64_map(&hierarchy, tables, TABLES, pool, TABLES, &space.free_count, &request);
         CHECK(found == told);
         counts[found]++;
         if (found == X64_OK) {
@@ -500,8 +497,8 @@ static void try_maps(uint64_t levels, size_t rounds) {
     CHECK(fits());
     for (size_t k = 0; rounds >= 1000 && k < sizeof seen / sizeof seen[0]; k++)
         CHECK(counts[seen[k]] > 0);
-    printf("%" PRIu64 " levels: %zu maps as by x64_map, %zu done, %zu not allowed, %zu without a frame, %zu below a larger page, %zu where a page is; "
-           "x64_map left something after %zu refusals\n",
+    printf("%" PRIu64 " levels: %zu maps with the status of x64_map_as_mapper, %zu done, %zu not allowed, %zu without a frame, %zu below a larger "
+           "page, %zu where a page is; x64_map_as_mapper left something after %zu refusals\n",
            levels, rounds, counts[X64_OK], counts[X64_NOT_ALLOWED], counts[X64_FRAME_ALLOCATION_FAILED], counts[X64_PARENT_ENTRY_HUGE_PAGE],
            counts[X64_PAGE_ALREADY_MAPPED], left);
 }

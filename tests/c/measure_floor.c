@@ -154,8 +154,9 @@ static uint32_t unmap_nothing(const x64_hierarchy *hierarchy, x64_table *tables,
 }
 
 static const x64_calls kinds[] = {
-    {"library", x64_map, x64_unmap},
+    {"library", x64_map_as_mapper, x64_unmap},
     {"by hand", floor_map, floor_unmap},
+    {"x64_map", x64_map, x64_unmap},
     {"nothing", map_nothing, unmap_nothing},
 };
 

@@ -139,7 +139,7 @@ static void map(size_t space, uint64_t page) {
     x64_hierarchy h = hierarchy(space);
     x64_map_request request = {.page = {.start = address(page), .size = X64_SIZE_4KIB}, .frame = below(1 << 20) * 4096,
         .flags = some_flags(), .parent_flags = parent_flags};
-    wants("map", x64_map(&h, tables, TABLES, pool, TABLES, &free_count, &request),
+    wants("map", x64_map_as_mapper(&h, tables, TABLES, pool, TABLES, &free_count, &request),
           model_map(space, page, request.frame | request.flags));
 }
 

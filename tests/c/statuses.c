@@ -134,6 +134,7 @@ enum function {
     SPACES_FIT,
     ACCESS,
     MAP,
+    MAP_AS_MAPPER,
     UNMAP,
     UPDATE_FLAGS,
     SET_TABLE_FLAGS,
@@ -147,10 +148,10 @@ enum function {
 };
 
 static const char *const names[FUNCTIONS] = {
-    "x64_page_walk",   "x64_walk",               "x64_entries",  "x64_translate", "x64_mappings",      "x64_is_valid",
-    "x64_pool_fits",   "x64_spaces_fit",         "x64_access",   "x64_map",       "x64_unmap",         "x64_update_flags",
-    "x64_set_table_flags", "x64_map_range",      "x64_unmap_range", "x64_update_flags_range", "x64_clean_up", "x64_new_space",
-    "x64_give_up_space",
+    "x64_page_walk",    "x64_walk",            "x64_entries",   "x64_translate",   "x64_mappings",           "x64_is_valid",
+    "x64_pool_fits",    "x64_spaces_fit",      "x64_access",    "x64_map",         "x64_map_as_mapper",      "x64_unmap",
+    "x64_update_flags", "x64_set_table_flags", "x64_map_range", "x64_unmap_range", "x64_update_flags_range", "x64_clean_up",
+    "x64_new_space",    "x64_give_up_space",
 };
 
 /* Returns the arguments that rows change. */
@@ -224,6 +225,8 @@ static uint32_t call(enum function function, const struct arguments *a) {
         return x64_access(h, tables, n, &controls, &access, &world.outcome);
     case MAP:
         return x64_map(h, tables, n, pool, a->capacity, &world.free_count, &request);
+    case MAP_AS_MAPPER:
+        return x64_map_as_mapper(h, tables, n, pool, a->capacity, &world.free_count, &request);
     case UNMAP:
         return x64_unmap(h, tables, n, &page, &world.frame);
     case UPDATE_FLAGS:
@@ -568,6 +571,7 @@ static const struct row access_rows[] = {
     WRITES("canonical with five levels", X64_PAGE_FAULT, OUT(0, 0, 4, 0), SET(address, NOT_CANONICAL_4), SET(only, 5)),
 };
 
+/* Maps that x64_map and x64_map_as_mapper do, or refuse and leave all as it was. */
 static const struct row map[] = {
     CHANGES("4 KiB", X64_OK, 1, USUAL),
     CHANGES("2 MiB", X64_OK, 1, SET(start, 0xa00000), SET(size, X64_SIZE_2MIB), SET(frame, 0x800000)),
@@ -587,10 +591,7 @@ static const struct row map[] = {
     ROW("a parent would still lack PRESENT", X64_NOT_ALLOWED, SET(start, 0x800000), SET(parent_flags, 0x2)),
     ROW("not allowed before no frame", X64_NOT_ALLOWED, SET(start, MISSING), SET(parent_flags, 0), SET(free_count, 0)),
     ROW("no free frame", X64_FRAME_ALLOCATION_FAILED, SET(start, MISSING), SET(free_count, 0)),
-    {"one free frame of three", X64_FRAME_ALLOCATION_FAILED, {SET(start, MISSING), SET(free_count, 1)}, 1 + 512, 0, 1, {0}},
     ROW("below 2 MiB", X64_PARENT_ENTRY_HUGE_PAGE, SET(start, 0x200000)),
-    {"below 2 MiB, and parents get USER_ACCESSIBLE", X64_PARENT_ENTRY_HUGE_PAGE, {SET(start, 0x200000),
-        SET(parent_flags, 0x7)}, 2, 1, 0, {0}},
     ROW("2 MiB below 1 GiB", X64_PARENT_ENTRY_HUGE_PAGE, SET(start, 0x40000000), SET(size, X64_SIZE_2MIB), SET(frame, 0)),
     ROW("mapped", X64_PAGE_ALREADY_MAPPED, SET(start, 0x1000)),
     ROW("used without PRESENT", X64_PAGE_ALREADY_MAPPED, SET(start, 0x2000)),
@@ -603,6 +604,23 @@ static const struct row map[] = {
     ROW("a frame that is no multiple of 2 MiB", X64_BAD_FRAME, SET(start, 0xa00000), SET(size, X64_SIZE_2MIB)),
     ROW("a frame from 2^52 on", X64_BAD_FRAME, SET(frame, UINT64_C(1) << 52)),
     ROW("a bad frame before bad flags", X64_BAD_FRAME, SET(frame, 1), SET(flags, 0x1000)),
+};
+
+/* Maps that are refused, of which x64_map leaves nothing. */
+static const struct row refused_map[] = {
+    ROW("one free frame of three", X64_FRAME_ALLOCATION_FAILED, SET(start, MISSING), SET(free_count, 1)),
+    ROW("two free frames of three", X64_FRAME_ALLOCATION_FAILED, SET(start, MISSING), SET(free_count, 2)),
+    ROW("below 2 MiB, and parents lack USER_ACCESSIBLE", X64_PARENT_ENTRY_HUGE_PAGE, SET(start, 0x200000), SET(parent_flags, 0x7)),
+    ROW("mapped, and parents lack USER_ACCESSIBLE", X64_PAGE_ALREADY_MAPPED, SET(start, 0x1000), SET(parent_flags, 0x7)),
+};
+
+/* The same, of which x64_map_as_mapper leaves tables and parent flags. */
+static const struct row refused_map_as_mapper[] = {
+    {"one free frame of three", X64_FRAME_ALLOCATION_FAILED, {SET(start, MISSING), SET(free_count, 1)}, 1 + 512, 0, 1, {0}},
+    {"two free frames of three", X64_FRAME_ALLOCATION_FAILED, {SET(start, MISSING), SET(free_count, 2)}, 1 + 2 * 512, 0, 2, {0}},
+    {"below 2 MiB, and parents get USER_ACCESSIBLE", X64_PARENT_ENTRY_HUGE_PAGE, {SET(start, 0x200000),
+        SET(parent_flags, 0x7)}, 2, 1, 0, {0}},
+    {"mapped, and parents get USER_ACCESSIBLE", X64_PAGE_ALREADY_MAPPED, {SET(start, 0x1000), SET(parent_flags, 0x7)}, 2, 1, 0, {0}},
 };
 
 /* Bad pages of every function that takes one. */
@@ -1132,6 +1150,9 @@ int main(void) {
     TRY(SPACES_FIT, spaces_fit);
     TRY(ACCESS, access_rows);
     TRY(MAP, map);
+    TRY(MAP, refused_map);
+    TRY(MAP_AS_MAPPER, map);
+    TRY(MAP_AS_MAPPER, refused_map_as_mapper);
     TRY(UNMAP, unmap);
     TRY(UPDATE_FLAGS, update_flags);
     TRY(SET_TABLE_FLAGS, set_table_flags);
@@ -1153,6 +1174,8 @@ int main(void) {
         [ACCESS] = {X64_PAGE_FAULT, X64_NO_TABLE, X64_BAD_ACCESS, X64_BAD_ADDRESS},
         [MAP] = {X64_NOT_ALLOWED, X64_FRAME_ALLOCATION_FAILED, X64_PARENT_ENTRY_HUGE_PAGE, X64_PAGE_ALREADY_MAPPED,
                  X64_BAD_ARRAY, X64_BAD_PAGE, X64_BAD_FRAME},
+        [MAP_AS_MAPPER] = {X64_NOT_ALLOWED, X64_FRAME_ALLOCATION_FAILED, X64_PARENT_ENTRY_HUGE_PAGE, X64_PAGE_ALREADY_MAPPED,
+                           X64_BAD_ARRAY, X64_BAD_PAGE, X64_BAD_FRAME},
         [UNMAP] = {X64_PARENT_ENTRY_HUGE_PAGE, X64_PAGE_NOT_MAPPED, X64_INVALID_FRAME_ADDRESS, X64_BAD_PAGE},
         [UPDATE_FLAGS] = {X64_NOT_ALLOWED, X64_PARENT_ENTRY_HUGE_PAGE, X64_PAGE_NOT_MAPPED, X64_BAD_PAGE},
         [SET_TABLE_FLAGS] = {X64_NOT_ALLOWED, X64_PARENT_ENTRY_HUGE_PAGE, X64_PAGE_NOT_MAPPED, X64_BAD_PAGE},

@@ -4,6 +4,7 @@ pub mod Marked
 pub mod PoolSteps
 pub mod Pools
 pub mod Executed
+pub mod OrNothing
 pub mod SpaceArguments
 pub mod TogetherFit
 pub mod SpaceResults

@@ -35,7 +35,7 @@ use Rattle.x86_64_c.specs.Status.{ok, not_allowed}
 use Rattle.x86_64_c.proofs.EntryChanges.{of}
 
 -- what holds for each of the three levels
-by_level : (P : ℕ → Type 0) → P 1 → P 2 → P 3 → (level : ℕ) → 1 ≤ level → level ≤ 3 → P level
+pub by_level : (P : ℕ → Type 0) → P 1 → P 2 → P 3 → (level : ℕ) → 1 ≤ level → level ≤ 3 → P level
 by_level P one two three zero low high = absurd (omega (arith, low))
 by_level P one two three (suc zero) low high = one
 by_level P one two three (suc (suc zero)) low high = two

@@ -7,7 +7,7 @@ use Rattle.x86_64_c.specs.Ranges.{Maps, MapsWith, bad_map_range, range_asked}
 use Rattle.x86_64_c.specs.declared.given.Hierarchy.{Hierarchy as Given}
 use Rattle.x86_64_c.specs.declared.given.MapRequest.{MapRequest}
 use Rattle.x86_64_c.specs.declared.ranges.Mapped.{Mapped}
-use Rattle.x86_64_c.specs.private.RangeMaps.{MapsRange, untold}
+use Rattle.x86_64_c.specs.private.RangeMaps.{MapsRange, is_without_number}
 use Rattle.x86_64_c.proofs.Arguments.{kept}
 
 module _ (own : List ℕ) (h : Given) (ts us : List (List ℕ)) (array left : List ℕ) (free : ℕ) (request : MapRequest) (count was : ℕ) where
@@ -18,7 +18,7 @@ module _ (own : List ℕ) (h : Given) (ts us : List (List ℕ)) (array left : Li
     bad = λ why is. absurd (let e : None ≡ Some why = sym good ∙ is in cc);
     refused = λ _ none.
         let refused = did.0.does.0 none in
-        let stay = did.1 (ap untold refused.1) in
+        let stay = did.1 (ap is_without_number refused.1) in
         let same : loan us left number ≡ loan ts array free = ap (λ ts. loan ts left number) (kept ts us stay.0) ∙ ap (λ a. loan ts a number) stay.1 ∙ ap (loan ts array) stay.2 in
         (refused.0, same, told ∙ ap (λ o. unwrap_or o was) refused.1);
     maps = λ _ may.

@@ -1,5 +1,6 @@
 -- Address spaces in the caller's tables: the test that they fit together, and calls on one of them.
-use Rattle.std.proofs.Common.{◌≡◌, ◌<◌, ⊎_elim, ◌↔◌, ℕ, Bool, true, List, [], ◌∷◌, length, IsTrue, Option, Some, None, refl, sym, ap, ◌∙◌, subst, arith}
+use Rattle.std.proofs.Common.{◌≡◌, ◌<◌, ◌⊎◌, inl, inr, ⊎_elim, ◌↔◌, ℕ, Bool, true, List, [], ◌∷◌, length, IsTrue, Option, Some, None, refl, sym, ap, ◌∙◌, subst, arith}
+use Rattle.std.proofs.lemmas.Bool.Decides.{eqb_tells}
 use Rattle.std.proofs.lemmas.List.{map-id}
 use Rattle.std.proofs.lemmas.Simd.{map-map}
 use Rattle.std.specs.Option.{option_or}
@@ -20,12 +21,13 @@ use Rattle.x86_64_spaces.specs.SpaceLayouts.{indices_of, space_layout, layouts_o
 use Rattle.x86_64_tables.specs.LentMemory.{numbered}
 use Rattle.x86_64_tables.specs.LentPool.{is_in, stacked}
 use Rattle.x86_64_tables.specs.Shifted.{shifted_places, shifted_is_mapping}
-use Rattle.x86_64_c.specs.AddressSpaces.{layout_given, layouts_given, shared_in, space_at, FitTogether, SpacesFit, EachMayBeUsed, RequestsKeepSpaces, ChangesKeepSpaces, OthersStay, RequestsKeepOthers}
+use Rattle.x86_64_c.specs.AddressSpaces.{layout_given, layouts_given, shared_in, space_at, FitTogether, SpacesFit, EachMayBeUsed, RequestsKeepSpaces, RequestsOrNothingKeepSpaces, ChangesKeepSpaces, OthersStay, RequestsKeepOthers, RequestsOrNothingKeepOthers}
 use Rattle.x86_64.specs.Asked.{machine_call}
 use Rattle.x86_64.specs.Replies.{Reply}
 use Rattle.x86_64.specs.Runs.{AfterStep}
 use Rattle.x86_64_c.specs.Given.{bad_hierarchy}
-use Rattle.x86_64_c.specs.PoolCalls.{Loan, loan, Executes, bad_call, Request}
+use Rattle.x86_64_c.specs.PoolCalls.{Loan, loan, Executes, ExecutesOrNothing, bad_call, Request}
+use Rattle.x86_64_c.specs.Status.{ok}
 use Rattle.x86_64_c.specs.Validity.{test_status, TellsWhether}
 use Rattle.x86_64_c.specs.declared.given.Hierarchy.{Hierarchy as Given}
 use Rattle.x86_64_c.proofs.Arguments.{four_or_five}
@@ -155,3 +157,18 @@ module _ (stay : SpacesStay) (halves : SharedHalvesStay) (below : CallsKeepBelow
 pub requests_keep_others : SpacesStay → SharedHalvesStay → CallsKeepBelow → RequestsKeepOthers
 requests_keep_others stay halves below own shared spaces lent after fit h member request status done is_call avoids =
     kept_others stay halves below own shared spaces h member lent after fit request status done is_call avoids (bad_call h lent request) refl
+
+-- ---- requests that were executed or changed nothing
+
+either : (own : List ℕ) (h : Given) (lent after : Loan) (request : Request) (status : ℕ) → ExecutesOrNothing own h lent request status after → Executes own h lent request status after ⊎ (after ≡ lent)
+either own h lent after request status did = elim (eqb_tells status ok) [ inl is ↦ inl (did.done is.1) | inr other ↦ inr (did.refused other.1) ]
+
+pub requests_or_nothing_keep_spaces : SpacesStay → RequestsOrNothingKeepSpaces
+requests_or_nothing_keep_spaces stay own shared spaces lent after fit h member request status did entries =
+    ⊎_elim (λ done. requests_keep_spaces stay own shared spaces lent after fit h member request status done entries)
+    (λ same. subst (FitTogether own shared spaces) (sym same) fit) (either own h lent after request status did)
+
+pub requests_or_nothing_keep_others : SpacesStay → SharedHalvesStay → CallsKeepBelow → RequestsOrNothingKeepOthers
+requests_or_nothing_keep_others stay halves below own shared spaces lent after fit h member request status did is_call avoids =
+    ⊎_elim (λ done. requests_keep_others stay halves below own shared spaces lent after fit h member request status done is_call avoids)
+    (λ same. (subst (FitTogether own shared spaces) (sym same) fit, λ other i apart. ap (λ (l : Loan). paths (other laid_in numbered l.tables)) same)) (either own h lent after request status did)

@@ -23,7 +23,7 @@ use Rattle.x86_64_tables.specs.Shifted.{shifted_places}
 use Rattle.x86_64.specs.Asked.{machine_call}
 use Rattle.x86_64_c.specs.Calls.{Changes}
 use Rattle.x86_64_c.specs.Given.{unless, bad_hierarchy, hierarchy_in}
-use Rattle.x86_64_c.specs.PoolCalls.{Loan, loan, Request, MayExecute, Executes, bad_lent, bad_pool, pool_in}
+use Rattle.x86_64_c.specs.PoolCalls.{Loan, loan, Request, MayExecute, Executes, ExecutesOrNothing, bad_lent, bad_pool, pool_in}
 pub use Rattle.x86_64_c.specs.PoolCalls.{HasPool}
 use Rattle.x86_64_c.specs.Ranges as range
 use Rattle.x86_64_c.specs.Ranges.{MapsWith, MayMapWith, range_asked}
@@ -33,7 +33,7 @@ use Rattle.x86_64_c.specs.declared.given.MapRequest.{MapRequest}
 
 -- ---- which spaces
 
--- Whether an index of the highest level is shared, where those from the first one up to, but not including, the end are.
+-- Whether an index of the highest level is shared, if those from the first one up to, but not including, the end are.
 abbrev pub shared_in : (from to : ℕ) → (index : ℕ) → Bool
 shared_in from to = indices_of (record { from = from; to = to })
 
@@ -41,7 +41,7 @@ shared_in from to = indices_of (record { from = from; to = to })
 abbrev pub layout_given : Given → Layout
 layout_given h = direct_at h.levels (shifted_places h.first) h.root
 
--- The layouts of hierarchies with these roots.
+-- The layouts of hierarchies with these roots in the caller's tables.
 abbrev pub layouts_given : (first levels : ℕ) → (roots : List ℕ) → List Layout
 layouts_given first levels roots = map (λ root. direct_at levels (shifted_places first) root) roots
 
@@ -51,7 +51,7 @@ space_at root = record { root = root; recursive = None }
 
 -- ---- what is wrong with arguments
 
--- What is wrong with shared indices, from the first one to the end.
+-- What is wrong with shared indices, which are those from the first one up to, but not including, the end.
 abbrev pub bad_indices : (from to : ℕ) → Option ℕ
 bad_indices from to = unless (nat_le from to && nat_le to 512) status.bad_indices
 
@@ -60,7 +60,7 @@ abbrev pub bad_test : (levels from to : ℕ) → Loan → (marks : ℕ) → Opti
 bad_test levels from to lent marks = option_or (unless ((levels == 4) || (levels == 5)) status.bad_levels)
     (option_or (unless (nat_le lent.free (length lent.array) && nat_le (length lent.tables) marks) status.bad_array) (bad_indices from to))
 
--- What is wrong with the arguments of a call that makes a space.
+-- What is wrong with any of the arguments of a call that makes a space: the template, what the caller lends, or the shared indices.
 abbrev pub bad_new : Given → Loan → (from to : ℕ) → Option ℕ
 bad_new h lent from to = bad_lent h lent (bad_indices from to)
 
@@ -68,18 +68,20 @@ bad_new h lent from to = bad_lent h lent (bad_indices from to)
 abbrev pub wrong_gone : (root free capacity from to : ℕ) → Option ℕ
 wrong_gone root free capacity from to = option_or (unless (nat_lt 0 root) status.bad_root) (bad_pool free capacity (bad_indices from to))
 
--- What is wrong with any of its arguments.
+-- What is wrong with any of the arguments of a call that gives up a space: the hierarchy, its root, the pool, or the shared
+-- indices.
 abbrev pub bad_gone : Given → Loan → (from to : ℕ) → Option ℕ
 bad_gone h lent from to = option_or (bad_hierarchy h (length lent.tables)) (wrong_gone h.root lent.free (length lent.array) from to)
 
 -- ---- spaces that fit together
 
--- Address spaces with one pool that fits each. The array has room for all frames that the pool may ever hold, which are its own.
+-- Hierarchies with these layouts are address spaces with one pool that fits each, and the array has room for all frames that the
+-- pool may ever hold, which are its own.
 pub record FitTogether (own : List ℕ) (shared : ℕ → Bool) (spaces : List Layout) (lent : Loan) : Type 0 where
   pub room : length own ≤ length lent.array
   pub are_spaces : AreSpaces shared (numbered lent.tables) (is_in own) (stacked lent.array lent.free) spaces
 
--- The roots are distinct, and their hierarchies fit together with a pool that may take back the roots, too.
+-- The roots are distinct, and their hierarchies are address spaces that fit together with a pool that may take back the roots, too.
 pub record SpacesFit (shared : ℕ → Bool) (first levels : ℕ) (roots : List ℕ) (lent : Loan) : Type 0 where
   pub each_once : EachOnce roots
   pub own : List ℕ
@@ -132,58 +134,81 @@ pub record GivesUpSpace (own : List ℕ) (gone : Given) (lent : Loan) (from to r
 
 -- ---- calls on one of them
 
--- Any request may be made on each of some spaces that fit together, also one to map a range, and each may be a template.
+-- If some address spaces fit together, any request may be made on each of them, also one to map a range, and each may be the
+-- template of a new one.
 abbrev pub EachMayBeUsed : Type 0
 EachMayBeUsed = (own : List ℕ) (shared : ℕ → Bool) (spaces : List Layout) (lent : Loan) → FitTogether own shared spaces lent
     → (h : Given) → In spaces (layout_given h)
     → ((request : Request) → MayExecute own h lent request) × ((request : MapRequest) (count : ℕ) → MayMapWith own h lent request count)
     × ((wrong : Option ℕ) → HasPool own h lent wrong)
 
--- After a request on one of them, they fit together again, if its root's entries at the shared indices are as before.
+-- After a request on one of some address spaces that fit together, they fit together again, if the entries of its root at the
+-- shared indices are as before.
 abbrev pub RequestsKeepSpaces : Type 0
 RequestsKeepSpaces = (own : List ℕ) (shared : ℕ → Bool) (spaces : List Layout) (lent after : Loan) → FitTogether own shared spaces lent
     → (h : Given) → In spaces (layout_given h) → (request : Request) (status : ℕ) → Executes own h lent request status after
     → KeepsRootEntries shared (layout_given h) (numbered lent.tables) (numbered after.tables) → FitTogether own shared spaces after
 
--- So do they after a call that changes one entry.
+-- After a request on one of some address spaces that fit together, which was executed or changed nothing, they fit together again,
+-- if the entries of its root at the shared indices are as before.
+abbrev pub RequestsOrNothingKeepSpaces : Type 0
+RequestsOrNothingKeepSpaces = (own : List ℕ) (shared : ℕ → Bool) (spaces : List Layout) (lent after : Loan) → FitTogether own shared spaces lent
+    → (h : Given) → In spaces (layout_given h) → (request : Request) (status : ℕ) → ExecutesOrNothing own h lent request status after
+    → KeepsRootEntries shared (layout_given h) (numbered lent.tables) (numbered after.tables) → FitTogether own shared spaces after
+
+-- After a call that changes one entry of one of some address spaces that fit together, they fit together again, if the entries of
+-- its root at the shared indices are as before.
 abbrev pub ChangesKeepSpaces : Type 0
 ChangesKeepSpaces = (own : List ℕ) (shared : ℕ → Bool) (spaces : List Layout) (tables now : List (List ℕ)) (array : List ℕ) (free : ℕ)
     → FitTogether own shared spaces (loan tables array free) → (h : Given) → 0 < h.levels → In spaces (layout_given h) → (call : Call) (answer : Answer) (status : ℕ)
     → Changes (hierarchy_in h tables) call answer (hierarchy_in h now) status
     → KeepsRootEntries shared (layout_given h) (numbered tables) (numbered now) → FitTogether own shared spaces (loan now array free)
 
--- So do they after a range of maps.
+-- After a map of a range in one of some address spaces that fit together, they fit together again, if the entries of its root at
+-- the shared indices are as before.
 abbrev pub RangeMapsKeepSpaces : Type 0
 RangeMapsKeepSpaces = (own : List ℕ) (shared : ℕ → Bool) (spaces : List Layout) (lent after : Loan) → FitTogether own shared spaces lent
     → (h : Given) → In spaces (layout_given h) → (request : MapRequest) (count was status done : ℕ) → MapsWith own h lent request count was status after done
     → KeepsRootEntries shared (layout_given h) (numbered lent.tables) (numbered after.tables) → FitTogether own shared spaces after
 
--- So do they after a range of unmaps or of changes of flags.
+-- After unmaps or changes of flags of a range in one of some address spaces that fit together, they fit together again, if the
+-- entries of its root at the shared indices are as before.
 abbrev pub RangeChangesKeepSpaces : Type 0
 RangeChangesKeepSpaces = (own : List ℕ) (shared : ℕ → Bool) (spaces : List Layout) (tables now : List (List ℕ)) (array : List ℕ) (free : ℕ)
     → FitTogether own shared spaces (loan tables array free) → (h : Given) → 0 < h.levels → In spaces (layout_given h) → (calls : List Call) (replies : List Reply)
     → range.Changes (hierarchy_in h tables) calls replies (hierarchy_in h now)
     → KeepsRootEntries shared (layout_given h) (numbered tables) (numbered now) → FitTogether own shared spaces (loan now array free)
 
--- The spaces with another root than this one keep their path maps.
+-- The path maps of all spaces but the one with this root are the same before and after.
 abbrev pub OthersStay : (spaces : List Layout) → (root : ℕ) → (before after : Memory) → Type 0
 OthersStay spaces root m n = (other : Layout) → In spaces other → root ≢ other.root → paths (other laid_in n) ≡ paths (other laid_in m)
 
--- A request that touches nothing below a shared index may be made without this condition, and the others keep their path maps.
+-- After a request on one of some address spaces that fit together, which touches nothing below a shared index, they fit together
+-- again, and the others keep their path maps.
 abbrev pub RequestsKeepOthers : Type 0
 RequestsKeepOthers = (own : List ℕ) (shared : ℕ → Bool) (spaces : List Layout) (lent after : Loan) → FitTogether own shared spaces lent
     → (h : Given) → In spaces (layout_given h) → (request : Request) (status : ℕ) → Executes own h lent request status after
     → IsCall h.levels (machine_call h.levels (request.call h.levels)) → Avoids h.levels shared (machine_call h.levels (request.call h.levels))
     → FitTogether own shared spaces after × OthersStay spaces h.root (numbered lent.tables) (numbered after.tables)
 
--- Likewise for a range of maps.
+-- After a request on one of some address spaces that fit together, which touches nothing below a shared index and was executed or
+-- changed nothing, they fit together again, and the others keep their path maps.
+abbrev pub RequestsOrNothingKeepOthers : Type 0
+RequestsOrNothingKeepOthers = (own : List ℕ) (shared : ℕ → Bool) (spaces : List Layout) (lent after : Loan) → FitTogether own shared spaces lent
+    → (h : Given) → In spaces (layout_given h) → (request : Request) (status : ℕ) → ExecutesOrNothing own h lent request status after
+    → IsCall h.levels (machine_call h.levels (request.call h.levels)) → Avoids h.levels shared (machine_call h.levels (request.call h.levels))
+    → FitTogether own shared spaces after × OthersStay spaces h.root (numbered lent.tables) (numbered after.tables)
+
+-- After a map of a range in one of some address spaces that fit together, which touches nothing below a shared index, they fit
+-- together again, and the others keep their path maps.
 abbrev pub RangeMapsKeepOthers : Type 0
 RangeMapsKeepOthers = (own : List ℕ) (shared : ℕ → Bool) (spaces : List Layout) (lent after : Loan) → FitTogether own shared spaces lent
     → (h : Given) → In spaces (layout_given h) → (request : MapRequest) (count was status done : ℕ) → MapsWith own h lent request count was status after done
     → ((k : ℕ) → k < count → Avoids h.levels shared (map_at h.levels (range_asked h.levels request) k))
     → FitTogether own shared spaces after × OthersStay spaces h.root (numbered lent.tables) (numbered after.tables)
 
--- Likewise for a range of unmaps or of changes of flags.
+-- After unmaps or changes of flags of a range in one of some address spaces that fit together, which touch nothing below a shared
+-- index, they fit together again, and the others keep their path maps.
 abbrev pub RangeChangesKeepOthers : Type 0
 RangeChangesKeepOthers = (own : List ℕ) (shared : ℕ → Bool) (spaces : List Layout) (tables now : List (List ℕ)) (array : List ℕ) (free : ℕ)
     → FitTogether own shared spaces (loan tables array free) → (h : Given) → 0 < h.levels → In spaces (layout_given h) → (calls : List Call) (replies : List Reply)

@@ -17,7 +17,7 @@ use Rattle.x86_64_c.specs.declared.given.Page.{Page}
 
 -- ---- statuses
 
--- The status of a refusal.
+-- The status that says why a call is refused.
 abbrev pub refusal_status : Refusal → ℕ
 refusal_status PageNotMapped = status.page_not_mapped
 refusal_status ParentEntryHugePage = status.parent_entry_huge_page
@@ -25,12 +25,12 @@ refusal_status (InvalidFrameAddress address) = status.invalid_frame_address
 refusal_status (PageAlreadyMapped frame) = status.page_already_mapped
 refusal_status FrameAllocationFailed = status.frame_allocation_failed
 
--- The status of an answer.
+-- The status of the machine's answer to a call: OK, or the one that says why the call is refused.
 abbrev pub answer_status : Answer → ℕ
 answer_status (Done frame) = status.ok
 answer_status (Refused why) = refusal_status why
 
--- The status of a result that an error refuses so.
+-- The status of a call's result: OK, or that of the refusal for which its error stands.
 abbrev pub result_status : {X E : Type 0} → (E → Refusal) → Result X E → ℕ
 result_status refusal (Ok x) = status.ok
 result_status refusal (Err why) = refusal_status (refusal why)
@@ -43,7 +43,7 @@ page_status (Update updated) = result_status refusal_of_update updated
 page_status (TableFlags done) = result_status refusal_of_update done
 page_status (Frame frame) = result_status refusal_of_translate frame
 
--- The status of a reply.
+-- The status of a mapper's reply to any call.
 abbrev pub reply_status : Reply → ℕ
 reply_status (Of4KiB reply) = page_status reply
 reply_status (Of2MiB reply) = page_status reply
@@ -55,7 +55,7 @@ reply_status NotAllowed = status.not_allowed
 
 -- ---- changes of one entry
 
--- What is wrong with a hierarchy and a page.
+-- What is wrong with a hierarchy in an array of so many tables, or else with a page.
 abbrev pub bad_on_page : Given → (count : ℕ) → Page → Option ℕ
 bad_on_page h count page = option_or (bad_hierarchy h count) (bad_page h.levels page)
 
@@ -63,7 +63,8 @@ bad_on_page h count page = option_or (bad_hierarchy h count) (bad_page h.levels 
 abbrev pub is_table_level : (L level : ℕ) → Bool
 is_table_level L level = nat_le 2 level && nat_le level L
 
--- What is wrong with a hierarchy, a level and a page.
+-- What is wrong with a hierarchy in an array of so many tables, or else with a level of entries that name tables, or else with a
+-- page.
 abbrev pub bad_on_table : Given → (count level : ℕ) → Page → Option ℕ
 bad_on_table h count level page = option_or (bad_hierarchy h count)
     (option_or (unless (is_table_level h.levels level) status.bad_levels) (bad_page h.levels page))
@@ -80,7 +81,8 @@ abbrev pub MayChange : (h : Hierarchy (Unit {0})) (call : Call) (after : Hierarc
 MayChange h call after s = (allows h call ≡ false → (s ≡ status.not_allowed) × (after ≡ h))
     × (allows h call ≡ true → (answer : Answer) × Changes h call answer after s)
 
--- The address that the answer to an unmap names: that of the frame that the page was mapped to, or of an invalid frame.
+-- The address that the answer to an unmap names: that of the frame that the page was mapped to, or the one in its entry that is no
+-- multiple of its size.
 abbrev pub told_by : Answer → Option ℕ
 told_by (Done frame) = Some frame
 told_by (Refused PageNotMapped) = None
@@ -89,10 +91,12 @@ told_by (Refused (InvalidFrameAddress address)) = Some address
 told_by (Refused (PageAlreadyMapped frame)) = None
 told_by (Refused FrameAllocationFailed) = None
 
--- The page with this path was unmapped, or an unmap of it was refused, and this address was told.
+-- The page with this path was unmapped, or an unmap of it was refused, and this is the address that the answer names, if it names
+-- one.
 abbrev pub TellsUnmap : (h : Hierarchy (Unit {0})) (page : List ℕ) (after : Hierarchy (Unit {0})) (status : ℕ) (address : Option ℕ) → Type 0
 TellsUnmap h page after s address = (answer : Answer) × Changes h (model.Unmap page) answer after s × (address ≡ told_by answer)
 
--- The page with this path was unmapped, or an unmap of it was refused, and the frame was written.
+-- The page with this path was unmapped, or an unmap of it was refused. The address that the answer names was written, or nothing if
+-- it names none.
 abbrev pub Unmaps : (h : Hierarchy (Unit {0})) (page : List ℕ) (after : Hierarchy (Unit {0})) (status before frame : ℕ) → Type 0
 Unmaps h page after s before frame = (answer : Answer) × Changes h (model.Unmap page) answer after s × (frame ≡ unwrap_or (told_by answer) before)

@@ -8,7 +8,7 @@ use Rattle.x86_64.specs.FlushesDue.{rank, flush_for}
 use Rattle.x86_64_c.specs.Calls.{answer_status}
 use Rattle.x86_64_c.specs.Status as status
 
--- The kind of a call of the model, as callers number it, None if they can't make it.
+-- The number that callers in C have for the kind of a call of the model, or `None` if they can't make it.
 abbrev pub kind_of : Call → Option ℕ
 kind_of (MapTo q frame given) = None
 kind_of (MapToWithTableFlags q frame given parent_flags) = Some 0
@@ -29,43 +29,47 @@ status_of (Position t) = status.ok
 status_of (Address a) = status.ok
 status_of Cleaned = status.ok
 
--- A call of this kind, and with these parent flags if it is a map.
+-- A call of the model is of this kind, and has these parent flags if it is a map.
 pub record IsAsked (kind parent_flags : ℕ) (call : Call) : Type 0 where
   pub kind_is : kind_of call ≡ Some kind
   pub flags_are : unwrap_or (parent_flags_of call) parent_flags ≡ parent_flags
 
--- The number of the least flush that settles all that is due after a call with this reply: 0 nothing, 1 tables, 2 the page,
--- 3 everything. Hierarchies have no recursive index here.
+-- The number of the least flush that settles all that is due after a call with this reply, with L levels and no recursive index: 0
+-- nothing, 1 tables, 2 the page, 3 everything.
 abbrev pub flush_number : (L : ℕ) → Call → Reply → ℕ
 flush_number L call reply = rank (flush_for (flush_after L None call reply))
 
--- The answer is that flush, after each such call to which the machine's reply has this status.
+-- The answer is the number of the least flush that settles all that is due after each call of this kind, with these parent flags,
+-- to which the machine's reply has this status.
 abbrev pub TellsFlush : (kind parent_flags status answer : ℕ) → Type 0
 TellsFlush kind more s answer = (m : Machine) (state : State) (call : Call) → IsAsked kind more call
     → status_of (step m state call).reply ≡ s → answer ≡ flush_number m.levels call (step m state call).reply
 
--- Whether a call on a range with this status has made calls on pages.
+-- Whether a call of this kind on a range has made calls on pages if it returned this status.
 abbrev pub is_made : (kind status : ℕ) → Bool
 is_made kind s = (s == status.ok) || ((s == status.more) || ((kind == 0) && (nat_lt s status.bad_levels && not (s == status.not_allowed))))
 
--- The answer is no less than what is due after each call on a page of a range, whatever its reply was.
+-- If a call of this kind on a range has made calls on pages, the answer is no less than the number of the flush that is due after
+-- each of these, whatever its reply was.
 abbrev pub TellsFlushes : (kind parent_flags status answer : ℕ) → Type 0
 TellsFlushes kind more s answer = is_made kind s ≡ true → (L : ℕ) (call : Call) (reply : Reply) → IsAsked kind more call → flush_number L call reply ≤ answer
 
 -- ---- the rule
 
--- After a map everything, if its parent flags take the right to execute.
+-- The number of the flush after a map: 3, everything, if its parent flags have NO_EXECUTE, and otherwise 0, nothing.
 abbrev pub after_map : (parent_flags : ℕ) → ℕ
 after_map more = cond (no_execute more) 3 0
 
--- This flush after a call that was done, also if it was done for some pages of a range.
+-- The number of a flush after a call that was done, also if it was done for some pages of a range, and otherwise 0, nothing.
 abbrev pub if_done : (status flush : ℕ) → ℕ
 if_done s flush = cond ((s == status.ok) || (s == status.more)) flush 0
 
--- The flush by the kind of a call, if it was allowed and no argument was wrong.
+-- The number of the flush after a call of this kind that was allowed, with this status, and for a map with these parent flags.
 abbrev pub by_kind : (kind parent_flags status : ℕ) → ℕ
 by_kind kind more s = cond (kind == 0) (after_map more) (cond ((kind == 1) || (kind == 2)) (if_done s 2)
     (cond (kind == 3) (if_done s 3) (cond (kind == 4) 1 3)))
 
+-- The number of the flush after a call of this kind with this status, and for a map with these parent flags: nothing if it was not
+-- allowed or an argument was wrong.
 abbrev pub flush_by : (kind parent_flags status : ℕ) → ℕ
 flush_by kind more s = cond ((s == status.not_allowed) || nat_le status.bad_levels s) 0 (by_kind kind more s)

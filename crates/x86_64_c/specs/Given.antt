@@ -27,7 +27,7 @@ places_of located = shifted_places located.mapping.first
 abbrev pub at : (levels : ℕ) → Located → Memory → mapper.Hierarchy (Unit {0})
 at levels located memory = owned_at levels (places_of located) located.root memory tt
 
--- The status if a test fails.
+-- This status if a test fails, and otherwise none.
 abbrev pub unless : (test : Bool) → (status : ℕ) → Option ℕ
 unless test s = cond test None (Some s)
 
@@ -39,7 +39,7 @@ starts_frame size f = nat_lt f (2 ^ 52) && (f % size == 0)
 abbrev pub has_table : (first count frame : ℕ) → Bool
 has_table first count f = starts_frame 4096 f && (nat_le first (f / 4096) && nat_lt (f / 4096 - first) count)
 
--- What is wrong with a hierarchy in an array of tables, if anything is.
+-- What is wrong with a hierarchy in an array of so many tables: its number of levels, or else its root.
 abbrev pub bad_hierarchy : Hierarchy → (count : ℕ) → Option ℕ
 bad_hierarchy h count =
     option_or (unless ((h.levels == 4) || (h.levels == 5)) status.bad_levels) (unless (has_table h.first count h.root) status.bad_root)
@@ -52,7 +52,8 @@ is_canonical L n = nat_lt n (lower_half L) || nat_le (2 ^ 64 - lower_half L) n
 abbrev pub bad_address : (L address : ℕ) → Option ℕ
 bad_address L a = unless (is_canonical L a) status.bad_address
 
--- What is wrong with the arguments of a call that reads at an address.
+-- What is wrong with the hierarchy in an array of so many tables, or else with the virtual address, of a call that reads at an
+-- address.
 abbrev pub bad_read : Hierarchy → (count address : ℕ) → Option ℕ
 bad_read h count a = option_or (bad_hierarchy h count) (bad_address h.levels a)
 
@@ -60,15 +61,17 @@ bad_read h count a = option_or (bad_hierarchy h count) (bad_address h.levels a)
 abbrev pub bad_marks : (tables marks : ℕ) → Option ℕ
 bad_marks n marks = unless (nat_le n marks) status.bad_array
 
--- What is wrong with the arguments of a test of validity.
+-- What is wrong with a hierarchy in an array of so many tables, or else with the number of marks, of a test of validity.
 abbrev pub bad_test : Hierarchy → (count marks : ℕ) → Option ℕ
 bad_test h count marks = option_or (bad_hierarchy h count) (bad_marks count marks)
 
--- What is wrong with a number of free frames in an array, and with the marks of a test.
+-- What is wrong with a number of free frames in an array with so many entries, or with the number of marks of a test over so many
+-- tables.
 abbrev pub bad_room : (free capacity tables marks : ℕ) → Option ℕ
 bad_room free capacity n marks = unless (nat_le free capacity && nat_le n marks) status.bad_array
 
--- What is wrong with the arguments of a test of a pool.
+-- What is wrong with the arguments of a test of a pool: the hierarchy in an array of so many tables, or else the room for free
+-- frames and marks.
 abbrev pub bad_fit : Hierarchy → (count capacity free marks : ℕ) → Option ℕ
 bad_fit h count capacity free marks = option_or (bad_hierarchy h count) (bad_room free capacity count marks)
 
@@ -78,7 +81,7 @@ position_of L a = a % position_count L
 
 -- ---- pages
 
--- Whether pages have this size.
+-- Whether pages have this size in bytes: 4KiB, 2MiB or 1GiB.
 abbrev pub is_size : (size : ℕ) → Bool
 is_size size = (size == 0x1000) || (size == 0x20_0000) || (size == 0x4000_0000)
 
@@ -86,30 +89,31 @@ is_size size = (size == 0x1000) || (size == 0x20_0000) || (size == 0x4000_0000)
 abbrev pub starts_page : (L size start : ℕ) → Bool
 starts_page L size start = is_canonical L start && (position_of L start % size == 0)
 
--- What is wrong with a page.
+-- What is wrong with a page with L levels: its size, or its start.
 abbrev pub bad_page : (L : ℕ) → Page → Option ℕ
 bad_page L page = unless (is_size page.size && starts_page L page.size page.start) status.bad_page
 
--- The level of the entries that map pages of a size.
+-- The level of the entries that map pages of a size: one for 4KiB, two for 2MiB, and three for 1GiB.
 abbrev pub level_of : (size : ℕ) → ℕ
 level_of size = cond (size == 0x1000) 1 (cond (size == 0x20_0000) 2 3)
 
--- The path of a page.
+-- The path from the root to the entry of a page, with L levels.
 abbrev pub path_of_page : (L : ℕ) → Page → List ℕ
 path_of_page L page = path_at L (level_of page.size) (position_of L page.start)
 
--- The level of the entries that map a page, and the position of its start.
+-- The level of the entry that maps a page: one for 4KiB, two for 2MiB, and three for 1GiB.
 abbrev pub any_level : {L : Type 0} → AnyPage L → ℕ
 any_level (Of4KiB p) = 1
 any_level (Of2MiB p) = 2
 any_level (Of1GiB p) = 3
 
+-- The position of the start of a page of any size.
 abbrev pub any_position : {L : Type 0} → AnyPage L → ℕ
 any_position (Of4KiB p) = p
 any_position (Of2MiB p) = p
 any_position (Of1GiB p) = p
 
--- The level and the position are those of the page.
+-- An entry of this level maps pages of the size of a page, and this is the position of its start.
 pub record IsPageOf (L : ℕ) (page : Page) (level position : ℕ) : Type 0 where
   pub level_is : level ≡ level_of page.size
   pub position_is : position ≡ position_of L page.start

@@ -7,11 +7,11 @@ use Rattle.x86_64_c.specs.Given.{position_of}
 use Rattle.x86_64_c.specs.Status as status
 use Rattle.x86_64_c.specs.declared.listing.Mapping.{Mapping}
 
--- All that is mapped from an address on, in order.
+-- All mappings below the root of a hierarchy whose last address is not below an address, in order.
 abbrev pub mappings_at : Hierarchy (Unit {0}) → (address : ℕ) → List model.Mapping
 mappings_at h a = model.mappings_from (position_of h.layout.levels a) (model.mappings_of h.layout.levels (words h) h.layout.root)
 
--- A mapping as it is written: it starts at an address, not at a position.
+-- A mapping as it is written for C: it starts at an address, not at a position.
 abbrev pub written : (L : ℕ) → model.Mapping → Mapping
 written L m = record {
   start = raw L m.start;
@@ -23,21 +23,23 @@ written L m = record {
   execute = m.rights.execute;
 }
 
--- The address of the first of some mappings, if there is one.
+-- The address of the first of some mappings with L levels, if there is one.
 abbrev pub next_of : (L : ℕ) → List model.Mapping → Option ℕ
 next_of L [] = None
 next_of L (m ∷ ms) = Some (raw L m.start)
 
--- The status after the array is filled, and where to go on, by the address of the next mapping.
-abbrev pub TellsNext : (more : Option ℕ) → (status before next : ℕ) → Type 0
-TellsNext None s before next = (s ≡ status.ok) × (next ≡ before)
-TellsNext (Some start) s before next = (s ≡ status.more) × (next ≡ start)
+-- If there are no more mappings, the status is OK, and nothing is written. Otherwise the status is MORE, and the address of the
+-- next mapping is written.
+abbrev pub WritesNext : (more : Option ℕ) → (status before next : ℕ) → Type 0
+WritesNext None s before next = (s ≡ status.ok) × (next ≡ before)
+WritesNext (Some start) s before next = (s ≡ status.more) × (next ≡ start)
 
 -- The array gets as many of all mappings as it has room for, from its start on, and keeps what it holds behind them.
-pub record Fills (all : List model.Mapping) (L : ℕ) (before after : List Mapping) (count : ℕ) : Type 0 where
+pub record WritesMappings (all : List model.Mapping) (L : ℕ) (before after : List Mapping) (count : ℕ) : Type 0 where
   pub number : count ≡ length (take (length before) all)
   pub array : after ≡ map (written L) (take (length before) all) ++ drop count before
 
--- So many mappings are listed, and the status says whether these are all.
+-- As many mappings as the array has room for are written, with their number. The status says whether these are all, and if not, the
+-- address of the next one is written.
 abbrev pub Lists : (all : List model.Mapping) (L : ℕ) (before : List Mapping) (status : ℕ) (after : List Mapping) (count was next : ℕ) → Type 0
-Lists all L before s after count was next = Fills all L before after count × TellsNext (next_of L (drop (length before) all)) s was next
+Lists all L before s after count was next = WritesMappings all L before after count × WritesNext (next_of L (drop (length before) all)) s was next

@@ -1,5 +1,5 @@
 -- What calls that take frames from a pool or return frames to it do: maps and clean ups.
-use Rattle.std.specs.Prelude.{◌≡◌, ◌≤◌, ℕ, ◌+◌, true, ◌==◌, ◌&&◌, nat_le, cond, List, length, Option, Some, None}
+use Rattle.std.specs.Prelude.{◌≡◌, ◌≢◌, ◌≤◌, ℕ, ◌+◌, true, ◌==◌, ◌&&◌, nat_le, cond, List, length, Option, Some, None, option_map}
 use Rattle.std.specs.Option.{option_or}
 use Rattle.x86_64_model.specs.Hierarchy.{Hierarchy}
 use Rattle.x86_64_model.specs.Store.{Store, StoreFits, put_first, KeepsPool}
@@ -7,45 +7,47 @@ use Rattle.x86_64_tables.specs.LentPool.{is_in, stacked}
 use Rattle.x86_64.specs.Asked as asked
 use Rattle.x86_64.specs.Asked.{MapperCall, PageCall}
 use Rattle.x86_64.specs.Replies.{Reply, changes_nothing}
-use Rattle.x86_64.specs.Runs.{LeavesFree, Stepped}
+use Rattle.x86_64.specs.Runs.{LeavesFree, Stepped, machine_with, state_with, step_by}
 use Rattle.x86_64_c.specs.Calls.{reply_status}
 use Rattle.x86_64_c.specs.Given.{unless, bad_hierarchy, bad_page, bad_frame, hierarchy_in, level_of, starts_page, position_of}
 use Rattle.x86_64_c.specs.Status as status
+use Rattle.x86_64_c.specs.Status.{ok}
 use Rattle.x86_64_c.specs.declared.given.Hierarchy.{Hierarchy as Given}
 use Rattle.x86_64_c.specs.declared.given.MapRequest.{MapRequest}
 
 -- ---- what a caller asks for
 
--- A request: the call with a number of levels, and what is wrong with the arguments that say which call it is.
+-- A request of a caller: the call with a number of levels, and what is wrong with the arguments that say which call it is.
 pub record Request : Type 0 where
   pub call : (L : ℕ) → MapperCall
   pub wrong : (L : ℕ) → Option ℕ
 
--- What is wrong with a request to map a page with L levels.
+-- What is wrong with a request to map a page, with L levels: the page, or else the frame.
 abbrev pub bad_map : (L : ℕ) → MapRequest → Option ℕ
 bad_map L request = option_or (bad_page L request.page) (bad_frame request.page.size request.frame)
 
--- The call on a page that an entry of the level maps.
+-- The call on a page that an entry of the level maps: level one for 4KiB, two for 2MiB, and three for 1GiB.
 abbrev pub on_page : (level : ℕ) → PageCall → MapperCall
 on_page level call = cond (level == 1) (asked.Of4KiB call) (cond (level == 2) (asked.Of2MiB call) (asked.Of1GiB call))
 
--- The call of a request to map a page.
+-- The call of a mapper, with L levels, that a request to map a page asks for.
 abbrev pub map_call : (L : ℕ) → MapRequest → MapperCall
 map_call L request =
     on_page (level_of request.page.size) (asked.MapToWithTableFlags (position_of L request.page.start) request.frame request.flags request.parent_flags)
 
--- What is wrong with the first and the last 4KiB page of a range.
+-- What is wrong with the first or the last 4KiB page of a range, with L levels.
 abbrev pub bad_range : (L first last : ℕ) → Option ℕ
 bad_range L first last = unless (starts_page L 4096 first && starts_page L 4096 last) status.bad_page
 
--- The clean up of the pages from the first to the last.
+-- The clean up of the 4KiB pages from the first to the last, inclusive, with L levels.
 abbrev pub clean_up_call : (L first last : ℕ) → MapperCall
 clean_up_call L first last = asked.CleanUpRange (position_of L first) (position_of L last + 0xfff)
 
--- The requests to map a page, and to clean up the pages from the first to the last.
+-- The request to map a page.
 abbrev pub to_map : MapRequest → Request
 to_map request = record { call = λ L. map_call L request; wrong = λ L. bad_map L request }
 
+-- The request to clean up the 4KiB pages from the first to the last, inclusive.
 abbrev pub to_clean_up : (first last : ℕ) → Request
 to_clean_up first last = record { call = λ L. clean_up_call L first last; wrong = λ L. bad_range L first last }
 
@@ -57,7 +59,7 @@ pub record Loan : Type 0 where
   pub array : List ℕ
   pub free : ℕ
 
--- These tables, this array and this number.
+-- What a caller lends: these tables, this array, and this number of free frames in it.
 abbrev pub loan : (tables : List (List ℕ)) → (array : List ℕ) → (free : ℕ) → Loan
 loan tables array free = record { tables = tables; array = array; free = free }
 
@@ -65,11 +67,12 @@ loan tables array free = record { tables = tables; array = array; free = free }
 abbrev pub bad_pool : (free capacity : ℕ) → (other : Option ℕ) → Option ℕ
 bad_pool free capacity other = option_or (unless (nat_le free capacity) status.bad_array) other
 
--- What is wrong with a hierarchy, with what a caller lends, or else with a call's other arguments.
+-- What is wrong with a hierarchy in the tables that a caller lends, or else with the number of free frames, or else with a call's
+-- other arguments.
 abbrev pub bad_lent : Given → Loan → (other : Option ℕ) → Option ℕ
 bad_lent h lent other = option_or (bad_hierarchy h (length lent.tables)) (bad_pool lent.free (length lent.array) other)
 
--- What is wrong with any of the arguments.
+-- What is wrong with any of the arguments of a request.
 abbrev pub bad_call : Given → Loan → Request → Option ℕ
 bad_call h lent request = bad_lent h lent (request.wrong h.levels)
 
@@ -111,3 +114,23 @@ pub record Executes (own : List ℕ) (h : Given) (lent : Loan) (request : Reques
   -- The array is as long as before, and the free frames are in it if they were before.
   pub room : length after.array ≡ length lent.array
   pub in_array : lent.free ≤ length lent.array → after.free ≤ length after.array
+
+-- ---- calls that change nothing if they are refused
+
+-- The status of the machine's reply to a call, or `None` if a mapper never replies so.
+abbrev pub machine_status : (h : Hierarchy (Unit {0})) → (pool : Store) → MapperCall → Option ℕ
+machine_status h pool call = option_map reply_status (step_by (machine_with h pool) (state_with h pool) call).reply
+
+-- The status that a request has when it is executed: what is wrong with an argument, or the status of the machine's reply.
+abbrev pub status_of : (own : List ℕ) (h : Given) (lent : Loan) (request : Request) → Option ℕ
+status_of own h lent request =
+    option_or (bad_call h lent request) (machine_status (hierarchy_in h lent.tables) (pool_in own lent.array lent.free) (request.call h.levels))
+
+-- A request was executed, or it was refused and changed nothing.
+pub record ExecutesOrNothing (own : List ℕ) (h : Given) (lent : Loan) (request : Request) (status : ℕ) (after : Loan) : Type 0 where
+  -- The status is the one that it has when it is executed.
+  pub status_is : Some status ≡ status_of own h lent request
+  -- If this is OK, it was executed.
+  pub done : status ≡ ok → Executes own h lent request status after
+  -- Otherwise the tables, the array and the number of free frames are as before.
+  pub refused : status ≢ ok → after ≡ lent

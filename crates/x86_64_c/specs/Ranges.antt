@@ -23,7 +23,7 @@ use Rattle.x86_64_tables.specs.PageTableFlags.{bits_of}
 
 -- ---- what is wrong with a range
 
--- The end of the half of the address space in which a position lies.
+-- The end of the half of the address space in which a position lies, as a position.
 abbrev pub half_end : (L position : ℕ) → ℕ
 half_end L p = cond (nat_lt p (lower_half L)) (lower_half L) (position_count L)
 
@@ -32,33 +32,33 @@ abbrev pub bad_pages : (L : ℕ) → Page → (count : ℕ) → Option ℕ
 bad_pages L page count = option_or (bad_page L page)
     (unless (nat_le (count * page.size) (half_end L (position_of L page.start) - position_of L page.start)) status.bad_page)
 
--- What is wrong with as many frames, from a frame on: the frame, or that they don't end below 2^52 or there.
+-- What is wrong with a number of frames of a size, from a frame on: the frame, or that they don't end at 2^52 or below.
 abbrev pub bad_frames : (size frame count : ℕ) → Option ℕ
 bad_frames size frame count = option_or (bad_frame size frame) (unless (nat_le (count * size) (2 ^ 52 - frame)) status.bad_frame)
 
--- What is wrong with a hierarchy and a range.
+-- What is wrong with a hierarchy in an array of so many tables, or else with a number of pages, from a page on.
 abbrev pub bad_range : Given → (tables : ℕ) → Page → (count : ℕ) → Option ℕ
 bad_range h n page count = option_or (bad_hierarchy h n) (bad_pages h.levels page count)
 
--- What is wrong with the pages and frames of a map.
+-- What is wrong with the pages of a map of a range, or else with its frames.
 abbrev pub bad_maps : (L : ℕ) → MapRequest → (count : ℕ) → Option ℕ
 bad_maps L request count = option_or (bad_pages L request.page count) (bad_frames request.page.size request.frame count)
 
--- What is wrong with any of its arguments.
+-- What is wrong with any of the arguments of a map of a range.
 abbrev pub bad_map_range : Given → Loan → MapRequest → (count : ℕ) → Option ℕ
 bad_map_range h lent request count = bad_lent h lent (bad_maps h.levels request count)
 
 -- ---- maps
 
--- The range that a request asks for.
+-- The range of pages, frames and flags that a request to map pages asks for, with L levels.
 abbrev pub range_asked : (L : ℕ) → MapRequest → MapRange
 range_asked L request = range_of (level_of request.page.size) (position_of L request.page.start) request.frame request.flags request.parent_flags
 
--- The range of a map of pages of a level.
+-- The range of pages, frames and flags of a map of pages that entries of a level map.
 abbrev pub range_at : {S L : Type 0} → (level : ℕ) → RangeMap S L → MapRange
 range_at level map = range_of level map.page map.frame (bits_of map.flags) (bits_of map.parent_flags)
 
--- The parent flags have PRESENT, and each of so many pages may be mapped.
+-- The parent flags have PRESENT, and each of so many pages of a range may be mapped.
 abbrev pub MayMap : Hierarchy (Unit {0}) → MapRange → (count : ℕ) → Type 0
 MayMap h r count = (present r.parent_flags ≡ true) × MayMapRange h r count
 

@@ -8,31 +8,32 @@ use Rattle.x86_64_c.specs.Status as status
 use Rattle.x86_64_c.specs.declared.reads.Translation.{Translation}
 use Rattle.x86_64_c.specs.declared.reads.Walked.{Walked}
 
--- Where the page walk of an address arrives.
+-- Where the page walk of a virtual address arrives, with the rights to write and of users.
 abbrev pub walk_to : Hierarchy (Unit {0}) → (address : ℕ) → Option model.Walked
 walk_to h a = walk h (position_of h.layout.levels a)
 
--- An arrival as it is written.
+-- An arrival of a page walk as it is written for C: the physical address, and the rights to write and of users.
 abbrev pub arrival : model.Walked → Walked
 arrival w = record { address = w.address; write = w.write; user = w.user }
 
--- Where the page walk arrives, as it is written.
+-- Where the page walk of a virtual address arrives, as it is written for C.
 abbrev pub walked_to : Hierarchy (Unit {0}) → (address : ℕ) → Option Walked
 walked_to h a = option_map arrival (walk_to h a)
 
--- What an address is mapped to.
+-- What a virtual address is mapped to, as the mapper translates it: also by an entry of level one without PRESENT.
 abbrev pub translation_of : Hierarchy (Unit {0}) → (address : ℕ) → Translated
 translation_of h a = translation h (position_of h.layout.levels a)
 
--- What it is mapped to, as it is written.
+-- A translation as it is written for C, or none if the address is not mapped.
 abbrev pub written : Translated → Option Translation
 written NotMapped = None
 written (Mapped size frame offset flags) = Some (record { frame = frame; size = size; offset = offset; flags = flags })
 
+-- What a virtual address is mapped to, as it is written for C.
 abbrev pub translated_at : Hierarchy (Unit {0}) → (address : ℕ) → Option Translation
 translated_at h a = written (translation_of h a)
 
--- What was found is written, and the status says whether anything was.
-abbrev pub Tells : {X : Type 0} → Option X → (status : ℕ) → (before after : X) → Type 0
-Tells None s before after = (s ≡ status.not_mapped) × (after ≡ before)
-Tells (Some found) s before after = (s ≡ status.ok) × (after ≡ found)
+-- If something was found, it was written, and the status is OK. Otherwise nothing was written, and the status is NOT_MAPPED.
+abbrev pub WritesIfFound : {X : Type 0} → Option X → (status : ℕ) → (before after : X) → Type 0
+WritesIfFound None s before after = (s ≡ status.not_mapped) × (after ≡ before)
+WritesIfFound (Some found) s before after = (s ≡ status.ok) × (after ≡ found)

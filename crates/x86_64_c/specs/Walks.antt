@@ -7,22 +7,22 @@ use Rattle.x86_64_mappings.specs.WalkEntries.{rights_in, steps_to}
 use Rattle.x86_64_c.specs.Given.{position_of}
 use Rattle.x86_64_c.specs.declared.walk.WalkResult.{WalkResult}
 
--- Whether no entry that the walk to a position reads has NO_EXECUTE.
+-- Whether no entry that the page walk to a position reads has NO_EXECUTE.
 abbrev pub may_execute : Hierarchy (Unit {0}) → (position : ℕ) → Bool
 may_execute h p = (rights_in (steps_to h.layout.levels (words h) h.layout.root p)).execute
 
--- An arrival at an address with these rights, as it is written.
+-- An arrival of a page walk at an address with these rights, as it is written for C.
 abbrev pub written : (address : ℕ) → Rights → WalkResult
 written address r = record { address = address; write = r.write; user = r.user; execute = r.execute }
 
--- An arrival of the page walk as it is written, with the right to execute.
+-- An arrival of a page walk as it is written for C, with this right to execute.
 abbrev pub arrival : (execute : Bool) → Walked → WalkResult
 arrival x w = record { address = w.address; write = w.write; user = w.user; execute = x }
 
--- Where the page walk of a position arrives, with its rights and the right to execute.
+-- Where the page walk of a position arrives, with all rights, as it is written for C.
 abbrev pub walked_at : Hierarchy (Unit {0}) → (position : ℕ) → Option WalkResult
 walked_at h p = option_map (arrival (may_execute h p)) (walk h p)
 
--- Where that of an address arrives.
+-- Where the page walk of a virtual address arrives, with all rights, as it is written for C.
 abbrev pub walked_to : Hierarchy (Unit {0}) → (address : ℕ) → Option WalkResult
 walked_to h a = walked_at h (position_of h.layout.levels a)

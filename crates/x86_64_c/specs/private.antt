@@ -1,3 +1,4 @@
+pub mod OrNothing
 pub mod Operations
 pub mod PoolLaws
 pub mod Pools

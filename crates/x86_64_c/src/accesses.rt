@@ -84,7 +84,7 @@ pub extern "C" fn x64_access(
     ensures bad { (status : ℕ) → accesses.bad_call hierarchy.now (length tables.old) controls.now request.now
         ≡ Some status → (result ≡ status) × (tables.new ≡ tables.old) × (outcome.new ≡ outcome.old) }
     ensures told { accesses.bad_call hierarchy.now (length tables.old) controls.now request.now ≡ None
-        → accesses.Tells (accesses.outcome_of (given.hierarchy_in hierarchy.now tables.old) controls.now
+        → accesses.WritesOutcome (accesses.outcome_of (given.hierarchy_in hierarchy.now tables.old) controls.now
         request.now) result outcome.new }
     ensures marks { accesses.bad_call hierarchy.now (length tables.old) controls.now request.now ≡ None
         → numbered tables.new ≡ accesses.memory_after (given.hierarchy_in hierarchy.now tables.old)

@@ -240,6 +240,7 @@ impl<L: LevelCount> PoolStep<L> for MakeRoot {
         memory: &mut T,
         located: Located,
         frames: &mut F,
+        _free_count: usize,
     ) -> Option<PhysFrame<Size4KiB>> {
         let template = space_of(located);
         new_space::<L, _, _, _>(
@@ -377,6 +378,7 @@ impl<L: LevelCount> PoolStep<L> for GiveUpRoot {
         memory: &mut T,
         located: Located,
         frames: &mut F,
+        _free_count: usize,
     ) -> Result<(), GiveUpError> {
         let space = space_of(located);
         give_up_space::<L, _, _, _>(memory, &located.mapping, &space, self.shared, frames)
@@ -403,10 +405,12 @@ fn space_of(located: Located) -> Space
 pub fn calls_keep_spaces()
     ensures used { spaces.EachMayBeUsed }
     ensures requests { spaces.RequestsKeepSpaces }
+    ensures requests_or_nothing { spaces.RequestsOrNothingKeepSpaces }
     ensures changes { spaces.ChangesKeepSpaces }
     ensures maps { spaces.RangeMapsKeepSpaces }
     ensures range_changes { spaces.RangeChangesKeepSpaces }
     ensures others { spaces.RequestsKeepOthers }
+    ensures others_or_nothing { spaces.RequestsOrNothingKeepOthers }
     ensures others_of_maps { spaces.RangeMapsKeepOthers }
     ensures others_of_changes { spaces.RangeChangesKeepOthers }
 {

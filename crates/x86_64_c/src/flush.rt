@@ -7,7 +7,7 @@ use crate::status;
 /// The flag `NO_EXECUTE`.
 const NO_EXECUTE: u64 = 0x8000_0000_0000_0000;
 
-/// `x64_map` and `x64_map_range`.
+/// `x64_map`, `x64_map_as_mapper` and `x64_map_range`.
 pub const CALL_MAP: u32 = 0;
 
 /// `x64_unmap` and `x64_unmap_range`.
@@ -38,7 +38,8 @@ pub const FLUSH_EVERYTHING: u32 = 3;
 ///
 /// It is the least flush that settles all that the model makes due after a call to which its machine replies with this status; for a
 /// range it settles what is due after each of its calls. That such flushes are enough is proved of the model, by its law
-/// `flushes_after_calls_are_enough`. For a kind that there isn't, it is everything.
+/// `flushes_after_calls_are_enough`. For a kind that there isn't, it is everything. The model's map is `x64_map_as_mapper`: after a refused
+/// `x64_map` nothing is due.
 #[unsafe(no_mangle)]
 pub extern "C" fn x64_flush_after(call: u32, parent_flags: u64, status: u32) -> u32
     ensures rule { result ≡ flushes.flush_by call parent_flags status }

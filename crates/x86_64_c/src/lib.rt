@@ -11,6 +11,7 @@ mod entries;
 mod flush;
 mod given;
 mod listing;
+mod maps;
 mod operation;
 mod pool;
 mod ranges;

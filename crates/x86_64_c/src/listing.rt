@@ -102,7 +102,7 @@ pub struct Listed {
 impl Operation for Listing {
     ghost use Rattle.std.specs.Prelude.{◌≡◌, drop, length};
     ghost use Rattle.x86_64_c.specs.Given.{bad_address};
-    ghost use Rattle.x86_64_c.specs.Listing.{Fills, mappings_at, next_of};
+    ghost use Rattle.x86_64_c.specs.Listing.{WritesMappings, mappings_at, next_of};
 
     type Out = Listed;
 
@@ -113,7 +113,7 @@ impl Operation for Listing {
     ghost may = { λ new h array. Unit {0} };
 
     ghost does = { λ new h array after left listed. let all = mappings_at h new.from in (after.memory ≡ h.memory)
-        × Fills all h.layout.levels array left listed.count
+        × WritesMappings all h.layout.levels array left listed.count
         × (listed.next ≡ next_of h.layout.levels (drop (length array) all)) };
 
     fn execute<L: LevelCount, T: TableMemory>(

@@ -25,16 +25,18 @@ pub trait PoolStep<L: LevelCount> {
     ghost does: { Self → (before : mapper.Hierarchy (Unit {0})) → (store : Store)
         → (after : mapper.Hierarchy (Unit {0})) → (rest : Store) → (out : Self.Out) → Type 0 };
 
-    /// Takes the step.
+    /// Takes the step. The store has `free_count` free frames.
     fn take<T: TableMemory, F: FrameStore>(
         &self,
         memory: &mut T,
         located: Located,
         frames: &mut F,
+        free_count: usize,
     ) -> Self::Out
         requires fits { StoreFits (given.at L.LEVELS located (T.tables memory.old))
             (store_of F.FrameStore frames.old) }
         requires root { gives_root self.now ≡ true → F.serves frames.old located.root ≡ true }
+        requires count { length (F.supply frames.old) ≡ free_count }
         ensures does { does self.now (given.at L.LEVELS located (T.tables memory.old))
             (store_of F.FrameStore frames.old) (given.at L.LEVELS located (T.tables memory.new))
             (store_of F.FrameStore frames.new) result }
@@ -91,7 +93,7 @@ pub fn with_pool<L: LevelCount, T: TableMemory, S: PoolStep<L>>(
 {
     let mut left = free_count;
     let mut frames = LentPool::new(array, &mut left, once_more(own));
-    let out = step.take(memory, located, &mut frames);
+    let out = step.take(memory, located, &mut frames, free_count);
     drop(frames);
     Stepped {
         out,

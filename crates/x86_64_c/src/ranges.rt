@@ -85,8 +85,8 @@ fn first_frame<S: PageSize>(start: u64, count: u64) -> Result<PhysFrame<S>, u32>
 
 // ---- maps
 
-/// Maps a number of pages, from the page of a request on, to as many frames, from its frame on: each in turn as `x64_map` does, up to
-/// the first one that is refused. Writes how many were mapped.
+/// Maps a number of pages, from the page of a request on, to as many frames, from its frame on: each in turn as `x64_map_as_mapper` does,
+/// up to the first one that is refused. Writes how many were mapped.
 ///
 /// Requires what `x64_map` requires, and it holds again afterwards. Returns `OK`, the status of the refused map, `NOT_ALLOWED` if the
 /// parent flags lack `PRESENT` or a page may not be mapped so, or what is wrong with an argument. With `NOT_ALLOWED` or a wrong argument
@@ -234,13 +234,13 @@ impl<S: PageSize, L: LevelCount> PoolStep<L> for RangeMap<S, L> {
     ghost use Rattle.std.specs.Prelude.{false};
     ghost use Rattle.x86_64_c.specs.Ranges.{range_at};
     ghost use Rattle.x86_64_c.specs.private.PoolLaws.{own_tells};
-    ghost use Rattle.x86_64_c.specs.private.RangeMaps.{TellsMaps, untold};
+    ghost use Rattle.x86_64_c.specs.private.RangeMaps.{TellsMaps, is_without_number};
 
     type Out = Mapped;
 
     ghost gives_root = { λ _. false };
 
-    ghost refused = { λ mapped. untold mapped.done };
+    ghost refused = { λ mapped. is_without_number mapped.done };
 
     ghost does = { λ map h pool after rest mapped.
         TellsMaps h pool (range_at S.LEVEL map) map.count after rest mapped };
@@ -250,6 +250,7 @@ impl<S: PageSize, L: LevelCount> PoolStep<L> for RangeMap<S, L> {
         memory: &mut T,
         located: Located,
         frames: &mut F,
+        _free_count: usize,
     ) -> Mapped {
         let mut mapper = MappedPageTableIn::<_, L, T>::new(memory, located.root, located.mapping);
         let RangeMap {

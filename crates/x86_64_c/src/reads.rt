@@ -1,4 +1,4 @@
-//! Calls that read at an address: the page walk, and the translation.
+//! Calls that read at an address: page walk and translation.
 ghost use Rattle.std.specs.Prelude.{◌≡◌, ℕ, length, option_map, Some, None};
 ghost use Rattle.x86_64_c.specs.Given as given;
 ghost use Rattle.x86_64_c.specs.Reads as reads;
@@ -40,7 +40,7 @@ pub struct Translation {
 
 /// Writes what was found, and returns the status that says whether anything was.
 pub fn tell<X: Drop>(found: Option<X>, place: &mut X) -> u32
-    ensures { reads.Tells found result place.old place.new }
+    ensures { reads.WritesIfFound found result place.old place.new }
 {
     match found {
         Some(found) => {
@@ -67,7 +67,7 @@ pub extern "C" fn x64_page_walk(
     ensures bad { (status : ℕ) → given.bad_read hierarchy.now (length tables.old) address ≡ Some status
         → (result ≡ status) × (walked.new ≡ walked.old) }
     ensures told { given.bad_read hierarchy.now (length tables.old) address ≡ None
-        → reads.Tells (reads.walked_to (given.hierarchy_in hierarchy.now tables.old) address)
+        → reads.WritesIfFound (reads.walked_to (given.hierarchy_in hierarchy.now tables.old) address)
         result walked.old walked.new }
     ensures tables { tables.new ≡ tables.old }
 {
@@ -135,7 +135,7 @@ pub extern "C" fn x64_translate(
     ensures bad { (status : ℕ) → given.bad_read hierarchy.now (length tables.old) address ≡ Some status
         → (result ≡ status) × (translation.new ≡ translation.old) }
     ensures told { given.bad_read hierarchy.now (length tables.old) address ≡ None
-        → reads.Tells (reads.translated_at (given.hierarchy_in hierarchy.now tables.old) address)
+        → reads.WritesIfFound (reads.translated_at (given.hierarchy_in hierarchy.now tables.old) address)
         result translation.old translation.new }
     ensures tables { tables.new ≡ tables.old }
 {

@@ -1,4 +1,4 @@
-//! Calls that take frames from a pool or return frames to it: maps and clean ups.
+//! Maps as mappers make them, and clean ups.
 ghost use Rattle.std.specs.Prelude.{◌≡◌, ◌≤◌, ◌+◌, ℕ, List, length, None, Some, IfOk, IfErr, OnErr};
 ghost use Rattle.std.specs.FinMap.{len};
 ghost use Rattle.x86_64_c.specs.Calls.{result_status};
@@ -24,12 +24,12 @@ use x86_64::{FrameStore, LevelCount, OwnFrames, TableMemory};
 
 /// Maps a page, as the mapper's `map_to_with_table_flags` does. The frames of tables that are missing come from the pool.
 ///
-/// The pool is a stack of addresses of free frames: the last of the first `free_count` entries is taken first. Requires that the
-/// hierarchy is valid, and that the pool fits it with room, which `x64_pool_fits` tests; both hold again afterwards. Returns `OK`,
-/// `NOT_ALLOWED`, `FRAME_ALLOCATION_FAILED`, `PARENT_ENTRY_HUGE_PAGE`, `PAGE_ALREADY_MAPPED`, or what is wrong with an argument. If an
-/// argument is wrong, or the call isn't allowed, nothing changes.
+/// Requires what `x64_map` requires, and returns what it returns. Both hold again afterwards: the hierarchy is valid, and the pool fits
+/// it with room. If an argument is wrong, or the call isn't allowed, nothing changes. With `FRAME_ALLOCATION_FAILED`,
+/// `PARENT_ENTRY_HUGE_PAGE` and `PAGE_ALREADY_MAPPED` the entries above the page may have got the parent flags, and new tables may have
+/// been made.
 #[unsafe(no_mangle)]
-pub extern "C" fn x64_map(
+pub extern "C" fn x64_map_as_mapper(
     hierarchy: &Hierarchy,
     tables: &mut [PageTable],
     pool: &mut [u64],
@@ -167,6 +167,7 @@ impl<S: PageSize, L: LevelCount> PoolStep<L> for MapTo<S, L> {
         memory: &mut T,
         located: Located,
         frames: &mut F,
+        _free_count: usize,
     ) -> u32 {
         let mut mapper = MappedPageTableIn::<_, L, T>::new(memory, located.root, located.mapping);
         if !mapper_calls::map_allowed(&mapper, self.page, self.flags, self.parent_flags) {
@@ -188,7 +189,7 @@ impl<S: PageSize, L: LevelCount> PoolStep<L> for MapTo<S, L> {
 }
 
 /// Returns the status of a map.
-fn mapped_status<S: PageSize, L: LevelCount>(
+pub fn mapped_status<S: PageSize, L: LevelCount>(
     mapped: Result<MapperFlushIn<S, L>, MapToError<S>>,
 ) -> u32
     ensures { result ≡ result_status map_refusal mapped }
@@ -311,6 +312,7 @@ impl<L: LevelCount> PoolStep<L> for PagesTo<L> {
         memory: &mut T,
         located: Located,
         frames: &mut F,
+        _free_count: usize,
     ) -> u32 {
         let mut mapper = MappedPageTableIn::<_, L, T>::new(memory, located.root, located.mapping);
         mapper_calls::clean_up_range(

@@ -1,7 +1,7 @@
 //! The page walk with all rights.
 ghost use Rattle.std.specs.Prelude.{◌≡◌, ◌≤◌, ◌+◌, ◌%◌, ℕ, length, Some, None};
 ghost use Rattle.x86_64_c.specs.Given as given;
-ghost use Rattle.x86_64_c.specs.Reads.{Tells};
+ghost use Rattle.x86_64_c.specs.Reads.{WritesIfFound};
 ghost use Rattle.x86_64_c.specs.Walks as walks;
 ghost use Rattle.x86_64_model.specs.PageWalk.{page_start};
 ghost use Rattle.x86_64_model.specs.Position.{span as span_of};
@@ -59,7 +59,7 @@ pub extern "C" fn x64_walk(
     ensures bad { (status : ℕ) → given.bad_read hierarchy.now (length tables.old) address ≡ Some status
         → (result ≡ status) × (walked.new ≡ walked.old) }
     ensures told { given.bad_read hierarchy.now (length tables.old) address ≡ None
-        → Tells (walks.walked_to (given.hierarchy_in hierarchy.now tables.old) address)
+        → WritesIfFound (walks.walked_to (given.hierarchy_in hierarchy.now tables.old) address)
         result walked.old walked.new }
     ensures tables { tables.new ≡ tables.old }
 {

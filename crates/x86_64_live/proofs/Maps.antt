@@ -62,7 +62,7 @@ no_error frame (Err why) P is = let t = is in cc
 
 module _ {Lent : Type 0} (h : Hierarchy Lent) (l : Layout) (m : Memory) (layout : h.layout ≡ l) (memory : h.memory ≡ m) where
   -- what the mapper did, of the words alone
-  in_words : (after : Hierarchy Lent) (n : Memory) → after.memory ≡ n → (supply rest : Supply) (level : ℕ) (call : PageCall) (answer : Answer)
+  pub in_words : (after : Hierarchy Lent) (n : Memory) → after.memory ≡ n → (supply rest : Supply) (level : ℕ) (call : PageCall) (answer : Answer)
       → MapsFrom h supply level call answer after rest → MapsFrom (l laid_in m) supply level call answer (l laid_in n) rest
   in_words after n left supply rest level call answer maps =
       subst (λ l. MapsFrom (l laid_in m) supply level call answer (l laid_in n) rest) layout

@@ -16,6 +16,7 @@ use Rattle.x86_64_c.specs.AddressSpaces.{space_at}
 use Rattle.x86_64_c.specs.PoolCalls.{Runs}
 use Rattle.x86_64_c.specs.Ranges.{Maps}
 use Rattle.x86_64_c.specs.declared.ranges.Mapped.{Mapped}
+use Rattle.x86_64_c.specs.private.OrNothing.{RunsIfOk}
 use Rattle.x86_64_c.specs.private.Pools.{stack}
 use Rattle.x86_64_c.specs.private.RangeMaps.{TellsMaps}
 
@@ -30,6 +31,13 @@ module _ (own : List ℕ) (array count : GName) {serves : ℕ → Bool} (same : 
     serves = refl;
     unchanged = runs.unchanged;
     free = runs.free;
+  }
+
+  pub own_runs_if_ok : (h after : Hierarchy (Unit {0})) (pool rest : List ℕ) (call : MapperCall) (status : ℕ)
+      → RunsIfOk h (stack serves pool) call after (stack serves rest) status → RunsIfOk h (stack (is_in own) pool) call after (stack (is_in own) rest) status
+  own_runs_if_ok h after pool rest call status runs = record {
+    status_is = runs.status_is;
+    done = λ fine. own_runs h after pool rest call status (runs.done fine);
   }
 
   pub own_maps : (h after : Hierarchy (Unit {0})) (pool rest : List ℕ) (r : MapRange) (number status done : ℕ)

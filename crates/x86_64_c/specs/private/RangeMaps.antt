@@ -9,22 +9,25 @@ use Rattle.x86_64_c.specs.Status.{ok, not_allowed}
 use Rattle.x86_64_c.specs.declared.ranges.Mapped.{Mapped}
 use Rattle.x86_64_c.specs.private.Pools.{Leaves}
 
--- Whether no number is told.
-abbrev pub untold : Option ℕ → Bool
-untold None = true
-untold (Some n) = false
+-- Whether there is no number.
+abbrev pub is_without_number : Option ℕ → Bool
+is_without_number None = true
+is_without_number (Some n) = false
 
--- Maps of a range are refused as not allowed, or they are allowed and made, and the number of mapped pages is told.
+-- Maps of so many pages of a range are refused as not allowed, without a number, or they are allowed and made, and the number of
+-- mapped pages is told.
 abbrev pub TellsMaps : (h : Hierarchy (Unit {0})) (pool : Store) (r : MapRange) (count : ℕ) (after : Hierarchy (Unit {0})) (rest : Store) → Mapped → Type 0
 TellsMaps h pool r count after rest mapped = ((MayMap h r count → ⊥) → (mapped.status ≡ not_allowed) × (mapped.done ≡ None))
     × (MayMap h r count → (n : ℕ) × (mapped.done ≡ Some n) × Maps h pool r count after rest mapped.status n)
 
--- They are made with the pool in an array. If no number is told, nothing changed.
+-- So many pages of a range are mapped with the pool in an array, or the maps are refused. If no number of mapped pages is told, no
+-- table, no entry of the array and not the number of free frames changed.
 abbrev pub MapsRange : (own : List ℕ) (r : MapRange) (count : ℕ) (h : Hierarchy (Unit {0})) (array : List ℕ) (free : ℕ) (after : Hierarchy (Unit {0})) (left : List ℕ) (number : ℕ) → Mapped → Type 0
 MapsRange own r count h array free after left number mapped = Leaves own array free left number (λ pool rest. TellsMaps h pool r count after rest mapped)
-    × (untold mapped.done ≡ true → (after.memory ≡ h.memory) × (left ≡ array) × (number ≡ free))
+    × (is_without_number mapped.done ≡ true → (after.memory ≡ h.memory) × (left ≡ array) × (number ≡ free))
 
--- Changes of flags are refused as not allowed and change nothing, or they are allowed and made, and the number of changed entries is told.
+-- Changes of flags of so many pages are refused as not allowed and change nothing, or they are allowed and made, and the number of
+-- changed entries is told.
 abbrev pub TellsUpdates : (h : Hierarchy (Unit {0})) (level page flags count : ℕ) (after : Hierarchy (Unit {0})) → Option ℕ → Type 0
 TellsUpdates h level page given count after changed = (no_address given ≡ false → (changed ≡ None) × (after ≡ h))
     × (no_address given ≡ true → (n : ℕ) × (changed ≡ Some n) × Updates h level page given count after ok n)

@@ -6,7 +6,7 @@ use Rattle.x86_64_spaces.specs.SpaceCalls.{TakesFirst, IsMade, IsGivenUp, IsReas
 use Rattle.x86_64_c.specs.AddressSpaces.{space_at}
 use Rattle.x86_64_c.specs.private.Pools.{Leaves}
 
--- Whether a call failed.
+-- Whether a result is an error.
 abbrev pub failed : {X E : Type 0} → Result X E → Bool
 failed (Ok x) = false
 failed (Err e) = true

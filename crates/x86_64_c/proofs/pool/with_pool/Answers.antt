@@ -1,7 +1,7 @@
-use Rattle.std.proofs.Common.{sym, ◌∙◌, rules}
+use Rattle.std.proofs.Common.{sym, ap, ◌∙◌, length, rules}
 use Rattle.x86_64_tables.specs.LentPool.{stacked}
 use Rattle.x86_64_tables.proofs.LentPools.{fits_served}
-use Rattle.x86_64_tables.proofs.Stacks.{same_array, same_count}
+use Rattle.x86_64_tables.proofs.Stacks.{length-stacked, same_array, same_count}
 use Rattle.x86_64_c.specs.Given.{at}
 use Rattle.x86_64_c.proofs.Pools.{lent_step, serves_root}
 use Rattle.x86_64_c.proofs.pool.with_pool.Goals as goal
@@ -14,6 +14,9 @@ pub take-out-requires-clause-root : goal.take-out-requires-clause-root
 take-out-requires-clause-root g c = λ gives.
     serves_root c.once_more.result.frames _ _ _ c.new-frames.ensures.serves g.L.LevelCount.LEVELS c.args.located (g.T.TableMemory.tables c.args.memory.now) (stacked c.args.array.now c.args.free_count)
     (rw c.once_more.ensures c.requires.fits.1) (rw c.once_more.ensures (c.requires.root gives))
+
+pub take-out-requires-clause-count : goal.take-out-requires-clause-count
+take-out-requires-clause-count g c = ap length c.new-frames.ensures.supply ∙ length-stacked c.args.array.now c.args.free_count c.requires.in_array
 
 pub returns-clause-does : goal.returns-clause-does
 returns-clause-does g c =
