@@ -93,8 +93,8 @@
  * A processor caches what its page walks find: pages in the TLB, and tables on the way to them. It
  * reads ahead whatever it can reach, at any moment, and forgets when it likes. The library executes
  * no privileged instruction, so the caller flushes. What a call makes due depends on its status,
- * and x64_flush_after returns it. After an exchange of a word x64_flush_between does
- * (x86_64_paging_live.h).
+ * and x64_flush_after returns it. After an exchange of a word (x86_64_paging_live.h)
+ * x64_flush_between does.
  *
  *   call                      status            due
  *   x64_unmap                 X64_OK            the page: INVLPG of an address in it
@@ -272,8 +272,8 @@ extern "C" {
 /*
  * STATUSES
  *
- * Every function but x64_flush_after returns one of these. It writes its out parameters only if it
- * returns X64_OK, unless its description says otherwise.
+ * Every function but x64_flush_after and x64_flush_between returns one of these. It writes its out
+ * parameters only if it returns X64_OK, unless its description says otherwise.
  *
  * X64_BAD_LEVELS and the statuses after it say that an argument is wrong; nothing has changed.
  * Arguments are checked before anything else: first the levels and the root of the hierarchy, then
@@ -828,6 +828,31 @@ uint32_t x64_clean_up(const x64_hierarchy *hierarchy, x64_table *tables, size_t 
  */
 X64_NODISCARD
 uint32_t x64_flush_after(uint32_t call, uint64_t parent_flags, uint32_t status);
+
+/*
+ * Returns what has to be flushed after the word of an entry of a level, which was `old`, was
+ * exchanged for `word` by one atomic instruction (x86_64_paging_live.h has such exchanges):
+ * X64_FLUSH_NOTHING, X64_FLUSH_PAGE (INVLPG of an address in the page), or X64_FLUSH_EVERYTHING if
+ * the entry names a table. Level 1 is that of tables whose entries map pages of 4 KiB. TABLES THAT A
+ * PROCESSOR USES says which processors flush, and when.
+ *
+ * It is nothing if `old` lacks X64_PRESENT, since a processor caches no such entry. Else it is
+ * nothing if the address, X64_HUGE_PAGE and the bits 3, 4, 8 and 59 to 62 stay, none of PRESENT,
+ * WRITABLE, USER_ACCESSIBLE, ACCESSED and DIRTY goes, and neither NO_EXECUTE nor USER_ACCESSIBLE
+ * comes: a page that becomes a user's takes rights from ring 0 under SMEP and SMAP.
+ *
+ * It is proved that this is the least flush that settles all that the model makes due after the
+ * exchange (due_between in crates/x86_64_model/specs/Flushing.antt), and of the model that such
+ * flushes are enough, on one processor with one root (exchanges_may_happen,
+ * flushes_after_calls_are_enough). There an entry that isn't 0 and lacks X64_PRESENT isn't exchanged
+ * while everything is due for an entry above it.
+ *
+ * After "nothing" a processor may still fault once by what it cached: the handler finds that the
+ * entry allows the access, and returns. Who clears ACCESSED only to learn which pages are in use
+ * may leave the flush out: a processor may then use the page without setting it again.
+ */
+X64_NODISCARD
+uint32_t x64_flush_between(uint64_t level, uint64_t old, uint64_t word);
 
 /*
  * Makes one more address space. The last free frame of the pool becomes its root: it gets the

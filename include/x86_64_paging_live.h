@@ -56,10 +56,16 @@
  *   pages_may_be_split, pages_have_parts, pages_may_be_joined
  *                        see x64_split_page and x64_join_page
  *
+ *   exchanges_may_happen, flushes_after_calls_are_enough
+ *                        if each exchange is followed by the flush that x64_flush_between returns,
+ *                        each access goes with the page walk, with no right more. The law speaks
+ *                        of one root and one processor. An entry that isn't 0 and lacks
+ *                        X64_PRESENT isn't exchanged while everything is due for an entry above it
+ *
  * Not proved, but tested (tests/c/live.c, tests/c/live_threads.c, examples/kernel): that the lines
  * below do what these laws speak of, that the compiler makes one locked instruction of each
- * exchange, that a find may run beside calls, and what x64_flush_between returns. The model says
- * nothing of flushes after exchanges, splits and joins: there this file goes by the manuals.
+ * exchange, and that a find may run beside calls. The model says nothing of flushes after splits
+ * and joins: there this file goes by the manuals.
  */
 #ifndef X86_64_PAGING_LIVE_H
 #define X86_64_PAGING_LIVE_H
@@ -132,33 +138,6 @@ static inline bool x64_may_replace(uint64_t level, uint64_t old, uint64_t word) 
         return x64_names_no_table(level, word);
     return x64_names_table(level, old) && !(word & X64_HUGE_PAGE) &&
            ((old ^ word) & X64_ADDRESS) == 0;
-}
-
-/*
- * Returns what has to be flushed after an entry of a level, which was `old`, became `word`:
- * X64_FLUSH_NOTHING, X64_FLUSH_PAGE (INVLPG of an address in the page), or X64_FLUSH_EVERYTHING if
- * the entry names a table. TABLES THAT A PROCESSOR USES in x86_64_paging.h says which processors
- * flush, and when.
- *
- * It is nothing if `old` lacks X64_PRESENT, since a processor caches no such entry. Else it is
- * nothing if the bits of X64_KIND stay, none of PRESENT, WRITABLE, USER_ACCESSIBLE, ACCESSED and
- * DIRTY goes, and neither NO_EXECUTE nor USER_ACCESSIBLE comes: a page that becomes a user's takes
- * rights from ring 0 under SMEP and SMAP. But for that last condition this is LosesNothing in
- * crates/x86_64_model/specs/Flushing.antt, by which the laws of flushes say that a call needs none.
- * That it is so for exchanges is taken from the manuals, and tested on QEMU's processor.
- *
- * After "nothing" a processor may still fault once by what it cached: the handler finds that the
- * entry allows the access, and returns. Who clears ACCESSED only to learn which pages are in use
- * may leave the flush out: a processor may then use the page without setting it again.
- */
-static inline uint32_t x64_flush_between(uint64_t level, uint64_t old, uint64_t word) {
-    const uint64_t keep =
-        X64_PRESENT | X64_WRITABLE | X64_USER_ACCESSIBLE | X64_ACCESSED | X64_DIRTY;
-    const uint64_t come = X64_NO_EXECUTE | X64_USER_ACCESSIBLE;
-    if (!(old & X64_PRESENT) ||
-        (((old ^ word) & X64_KIND) | (old & ~word & keep) | (word & ~old & come)) == 0)
-        return X64_FLUSH_NOTHING;
-    return x64_names_table(level, old) ? X64_FLUSH_EVERYTHING : X64_FLUSH_PAGE;
 }
 
 /* Returns where the word of an entry stands, or null if its table isn't in the array. */

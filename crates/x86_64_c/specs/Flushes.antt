@@ -1,9 +1,10 @@
--- What has to be flushed after a call, by its kind and its status.
-use Rattle.std.specs.Prelude.{◌≡◌, ◌≤◌, ℕ, ◌==◌, ◌&&◌, ◌||◌, not, nat_lt, nat_le, Bool, true, cond, Option, Some, None, unwrap_or}
+-- What has to be flushed after a call, by its kind and its status, and after an exchange of an entry's word, by both words.
+use Rattle.std.specs.Prelude.{◌≡◌, ◌≤◌, ℕ, ◌==◌, ◌&&◌, ◌||◌, not, nat_lt, nat_le, Bool, true, cond, List, length, Option, Some, None, unwrap_or}
 use Rattle.x86_64_model.specs.Call.{Call, MapTo, MapToWithTableFlags, IdentityMap, Unmap, UpdateFlags, SetFlags, TranslatePage, Translate, TranslateAddress, CleanUp, Reply, NotAllowed, Answered, Position, Address, Cleaned, parent_flags_of}
 use Rattle.x86_64_model.specs.Entry.{no_execute}
-use Rattle.x86_64_model.specs.Flushing.{flush_after}
+use Rattle.x86_64_model.specs.Flushing.{flush_after, due_between}
 use Rattle.x86_64_model.specs.Machine.{Machine, State, step}
+use Rattle.x86_64_model.specs.Path.{level_of as level_at}
 use Rattle.x86_64.specs.FlushesDue.{rank, flush_for}
 use Rattle.x86_64_c.specs.Calls.{answer_status}
 use Rattle.x86_64_c.specs.Status as status
@@ -53,6 +54,12 @@ is_made kind s = (s == status.ok) || ((s == status.more) || ((kind == 0) && (nat
 -- each of these, whatever its reply was.
 abbrev pub TellsFlushes : (kind parent_flags status answer : ℕ) → Type 0
 TellsFlushes kind more s answer = is_made kind s ≡ true → (L : ℕ) (call : Call) (reply : Reply) → IsAsked kind more call → flush_number L call reply ≤ answer
+
+-- The answer is the number of the least flush that settles all that is due after the word of an entry of this level was exchanged for
+-- another one, with any number of levels and no recursive index: 0 nothing, 1 tables, 2 the page, 3 everything.
+abbrev pub TellsExchange : (level old new answer : ℕ) → Type 0
+TellsExchange level old new answer =
+    (L : ℕ) (q : List ℕ) → length q ≤ L → level_at L q ≡ level → answer ≡ rank (flush_for (due_between L None q old new))
 
 -- ---- the rule
 

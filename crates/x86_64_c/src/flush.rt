@@ -1,8 +1,11 @@
-//! What has to be flushed after a call.
+//! What has to be flushed after a call, and after an exchange of an entry's word.
 ghost use Rattle.std.specs.Prelude.{◌≡◌};
+ghost use Rattle.x86_64.specs.FlushesDue.{rank};
 ghost use Rattle.x86_64_c.specs.Flushes as flushes;
 
 use crate::status;
+use x86_64::flushing::{Flush, flush_between};
+use x86_64::structures::paging::page_table::PageTableEntry;
 
 /// The flag `NO_EXECUTE`.
 const NO_EXECUTE: u64 = 0x8000_0000_0000_0000;
@@ -85,5 +88,34 @@ fn if_done(status: u32, flush: u32) -> u32
         flush
     } else {
         FLUSH_NOTHING
+    }
+}
+
+/// Returns what has to be flushed after the word of an entry of a level was exchanged for another one by one atomic instruction. Level
+/// one is that of tables whose entries map 4KiB pages.
+///
+/// It is the least flush that settles all that the model makes due after the exchange, without a recursive index. That such flushes are
+/// enough is proved of the model, by its laws `exchanges_may_happen` and `flushes_after_calls_are_enough`.
+#[unsafe(no_mangle)]
+pub extern "C" fn x64_flush_between(level: u64, old: u64, word: u64) -> u32
+    ensures { flushes.TellsExchange level old word result }
+{
+    number_of(flush_between(
+        level,
+        &PageTableEntry::from_word(old),
+        &PageTableEntry::from_word(word),
+        None,
+    ))
+}
+
+/// Returns the number of a flush.
+fn number_of(flush: Flush) -> u32
+    ensures { result ≡ rank flush }
+{
+    match flush {
+        Flush::Nothing => FLUSH_NOTHING,
+        Flush::Tables => FLUSH_TABLES,
+        Flush::Page => FLUSH_PAGE,
+        Flush::Everything => FLUSH_EVERYTHING,
     }
 }
