@@ -40,8 +40,8 @@ nothing_lost : (e f : ℕ) → present e ≡ true → LosesNothing e f → impli
 unfolding has
 nothing_lost e f here kept users = ap not (
     and_from _ _ (and_from _ _ (and_from _ _ (and_from _ _ (and_from _ _ (and_from _ _ (and_from _ _ (and_from _ _ (and_from _ _
-      (kept.is_present here) (eq-eqb _ _ kept.same_address)) (eq-eqb _ _ (same_bit e f kept.same_huge))) (eq-eqb _ _ kept.same_kind))
-      (implied _ _ kept.accessed)) (implied _ _ kept.dirty)) (implied _ _ kept.write)) (implied _ _ kept.user)) (implied_not _ _ kept.execute)) users)
+    (kept.is_present here) (eq-eqb _ _ kept.same_address)) (eq-eqb _ _ (same_bit e f kept.same_huge))) (eq-eqb _ _ kept.same_kind))
+    (implied _ _ kept.accessed)) (implied _ _ kept.dirty)) (implied _ _ kept.write)) (implied _ _ kept.user)) (implied_not _ _ kept.execute)) users)
 
 no_user : (a b : Bool) → implies a b ≡ true → (a && not b) ≡ false
 no_user true true h = refl
@@ -101,7 +101,7 @@ pub flush_told : (L : ℕ) (window : Option Window) (q : List ℕ) (level e f : 
     → flush_for (due_between L window q e f) ≡ cond (present e && lost) (cond (nat_lt 1 level && (not (huge e) || is_some window)) Everything Page) Nothing
 flush_told L window q level e f short at lost same = ⊎_elim
     (λ here. ap (λ b. flush_for (cond b (due_lost L window q e) [])) (ap (λ p. p && loses_between e f) here ∙ sym (same here)) ∙ by lost here
-        ∙ ap (λ p. cond (p && lost) (flush_lost window level e) Nothing) (sym here))
+    ∙ ap (λ p. cond (p && lost) (flush_lost window level e) Nothing) (sym here))
     (λ gone. ap (λ p. flush_for (cond (p && loses_between e f) (due_lost L window q e) [])) gone ∙ ap (λ p. cond (p && lost) (flush_lost window level e) Nothing) (sym gone))
     (cases_Bool (present e))
   where
