@@ -12,7 +12,7 @@ use Rattle.x86_64.specs.Asked as asked
 use Rattle.x86_64.specs.declared.call_values.MapperReply.TheVariants as reply
 use Rattle.x86_64.specs.FreeFrames.{KeepsFree}
 use Rattle.x86_64.specs.Replies.{reply_of}
-use Rattle.x86_64.specs.Runs.{machine_of, state_in, step_by, Kept}
+use Rattle.x86_64.specs.Runs.{machine_of, state_in, step_by, Keeps}
 use Rattle.x86_64.proofs.FreeFrames.{clean_up_keeps_free}
 use Rattle.x86_64.proofs.Keeping.{keeps_step}
 
@@ -42,7 +42,7 @@ module _ {Lent : Type 0} (h : Hierarchy Lent) (serves : ℕ → Bool) (pool held
     all_back = sym (ap (λ (x : AfterCall). x.state.pool) cleans.outcome)
 
     pub kept_cleaned : IsParentFlags h.layout.added_flags → TakesBack take_back → (serves_after : ℕ → Bool) → serves_after ≡ serves
-        → Kept h (record { frames = pool; serves = serves; take_back = take_back }) after (record { frames = rest; serves = serves_after; take_back = take_back })
+        → Keeps h (record { frames = pool; serves = serves; take_back = take_back }) after (record { frames = rest; serves = serves_after; take_back = take_back })
     kept_cleaned adds gives serves_after same_served =
         let ready : SupplyFits (h.layout laid_in after.memory) held_now = subst (λ l. SupplyFits (l laid_in after.memory) held_now) cleans.layout (cleans.fits take_back gives pool (ready_of_fits h.layout h.memory serves pool fits)) in
         record {

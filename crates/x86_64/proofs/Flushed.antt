@@ -12,7 +12,7 @@ use Rattle.x86_64_model.specs.Path.{path_at}
 use Rattle.x86_64_model.specs.Pool.{TakesBack}
 use Rattle.x86_64_model.specs.Refusal.{Refusal, Done, Refused}
 use Rattle.x86_64_model.specs.Window.{IsValidFor}
-use Rattle.x86_64_model.specs.Laws.Steps.{NoFlushItemCovers as NoItemCovers}
+use Rattle.x86_64_model.specs.Laws.Steps.{NoneCovers as NoItemCovers}
 use Rattle.x86_64_model.proofs.Lemmas.Machines.Flushes.{flushes_suffice}
 use Rattle.x86_64_addr.specs.Levels.{IsLevelCount}
 use Rattle.x86_64_tables.specs.FlushRecorder.{page_item}

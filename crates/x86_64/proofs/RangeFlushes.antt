@@ -3,7 +3,7 @@ use Rattle.std.proofs.Common.{zero, suc, ◌≡◌, ◌⊎◌, inl, inr, ◌<◌
 use Rattle.std.specs.List.{AllByRecursion, range_with_len}
 use Rattle.x86_64_model.specs.Call.{Call, Unmap, UpdateFlags, Reply, NotAllowed, Answered, Position, Address, Cleaned, IsCall}
 use Rattle.x86_64_model.specs.Flush.{Item, OnePage, all_items, covers, if_done, items_of}
-use Rattle.x86_64_model.specs.Laws.Steps.{AllCalls, NoFlushItemCovers as NoneOf}
+use Rattle.x86_64_model.specs.Laws.Steps.{AllCalls, NoneCovers as NoneOf}
 use Rattle.x86_64_model.specs.Machine.{Machine, State, step}
 use Rattle.x86_64_model.specs.Path.{path_at}
 use Rattle.x86_64_model.specs.Position.{span}

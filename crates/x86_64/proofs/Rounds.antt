@@ -14,7 +14,7 @@ use Rattle.x86_64.specs.Flushes.{flush_items_of, items_told}
 use Rattle.x86_64.specs.private.Served.{recorded}
 use Rattle.x86_64.specs.Asked.{MapperCall, machine_call, calls_by}
 use Rattle.x86_64.specs.FreeFrames.{KeepsFree, back_by, all_back}
-use Rattle.x86_64.specs.Runs.{machine_of, state_in, Kept, AfterStep, step_by, replies_to, appended, UnchangedIfRefused}
+use Rattle.x86_64.specs.Runs.{machine_of, state_in, Keeps, AfterStep, step_by, replies_to, appended, UnchangedIfRefused}
 use Rattle.x86_64.specs.Replies.{Reply, changes_nothing}
 use Rattle.x86_64.proofs.Keeping.{keeps_then}
 
@@ -123,7 +123,7 @@ module _ (k l : Layout) (same : l ≡ k) (take_back : List ℕ → ℕ → List 
   pub free_at : (call : MapperCall) → KeepsFree l n rest (back_by (machine_of l take_back) (state_in l n rest) (machine_call l.levels call)) o last → KeepsFree k n rest (back_by (machine_of k take_back) (state_in k n rest) (machine_call k.levels call)) o last
   free_at call = subst (λ l. KeepsFree l n rest (back_by (machine_of l take_back) (state_in l n rest) (machine_call l.levels call)) o last) same
 
-pub kept_then : {Lent : Type 0} (h now after : Hierarchy Lent) (store left last : Store) → Kept h store now left → Kept now left after last → Kept h store after last
+pub kept_then : {Lent : Type 0} (h now after : Hierarchy Lent) (store left last : Store) → Keeps h store now left → Keeps now left after last → Keeps h store after last
 kept_then h now after store left last one next = record {
   keeps = keeps_then h.layout store.serves h.memory now.memory after.memory store.frames left.frames last.frames one.keeps
       (subst (λ serves. KeepsPool h.layout serves now.memory left.frames after.memory last.frames) one.serves (subst (λ l. KeepsPool l left.serves now.memory left.frames after.memory last.frames) one.layout next.keeps));

@@ -6,7 +6,7 @@ use Rattle.x86_64.specs.Calls.{to_call}
 use Rattle.x86_64.specs.Flushes.{items_told}
 use Rattle.x86_64.specs.FreeFrames.{all_back}
 use Rattle.x86_64.specs.private.Served.{recorded}
-use Rattle.x86_64.specs.Runs.{machine_of, state_in, Kept, replies_to, appended, UnchangedIfRefused}
+use Rattle.x86_64.specs.Runs.{machine_of, state_in, Keeps, replies_to, appended, UnchangedIfRefused}
 use Rattle.x86_64.proofs.FreeFrames.{FreeSoFar}
 use Rattle.x86_64.proofs.runs.serve_all.Given as goal
 
@@ -24,7 +24,7 @@ invariant-loop-call g l =
       free : FreeSoFar layout (g.M.Tables.hierarchy l.fn.mapper).memory (g.F.FrameAllocator.supply l.fn.frames) (all_back machine start (calls_by (to_call g.P5.LevelFiveFlags.bits) layout.levels l.calls))
           (all_back machine now (calls_by (to_call g.P5.LevelFiveFlags.bits) layout.levels (drop l.call-index l.calls))) (g.M.Tables.hierarchy l.mapper).memory (g.F.FrameAllocator.supply l.frames);
       room : vec_len l.replies + (length l.calls - l.call-index) ≤ vec_capacity l.replies;
-      keeps : Kept (g.M.Tables.hierarchy l.fn.mapper) (record { frames = g.F.FrameAllocator.supply l.fn.frames; serves = g.F.FrameKeeper.serves l.fn.frames; take_back = g.F.FrameDeallocator.take_back })
+      keeps : Keeps (g.M.Tables.hierarchy l.fn.mapper) (record { frames = g.F.FrameAllocator.supply l.fn.frames; serves = g.F.FrameKeeper.serves l.fn.frames; take_back = g.F.FrameDeallocator.take_back })
           (g.M.Tables.hierarchy l.mapper) (record { frames = g.F.FrameAllocator.supply l.frames; serves = g.F.FrameKeeper.serves l.frames; take_back = g.F.FrameDeallocator.take_back });
       items : g.K.Tokens.items l.tokens ≡ g.K.Tokens.items l.fn.tokens ++ recorded g.K.Tokens.records (items_told g.L.LevelCount.LEVELS (appended l.fn.replies.items l.replies.items));
       tokens : g.K.Tokens.has_room l.tokens (length l.calls - l.call-index);
