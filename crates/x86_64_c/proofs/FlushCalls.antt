@@ -14,15 +14,15 @@ use Rattle.x86_64_model.specs.Window.{entry_at}
 use Rattle.x86_64_model.proofs.Lemmas.Machines.Effects.{step_cases}
 use Rattle.x86_64.specs.FlushesDue.{rank, flush_for}
 use Rattle.x86_64_c.specs.Calls.{answer_status}
-use Rattle.x86_64_c.specs.Flushes.{IsAsked, TellsFlush, TellsFlushes, after_map, flush_by, flush_number, is_made, status_of}
+use Rattle.x86_64_c.specs.Flushes.{IsAsked, TellsFlushNumber, TellsFlushes, flush_after_map, flush_by, flush_number, is_made, reply_number}
 
 -- ---- by the reply
 
 -- what the rule says by a reply, and what is due
 abbrev Agrees : (kind parent_flags L : ℕ) → Call → Reply → Type 0
-Agrees kind more L call reply = flush_by kind more (status_of reply) ≡ flush_number L call reply
+Agrees kind more L call reply = flush_by kind more (reply_number reply) ≡ flush_number L call reply
 
-of_map : (more : ℕ) (answer : Answer) → flush_by 0 more (answer_status answer) ≡ after_map more
+of_map : (more : ℕ) (answer : Answer) → flush_by 0 more (answer_status answer) ≡ flush_after_map more
 of_map more (Done frame) = refl
 of_map more (Refused PageNotMapped) = refl
 of_map more (Refused ParentEntryHugePage) = refl
@@ -106,14 +106,14 @@ by_call m s (Translate p) kind more asked = cc
 by_call m s (TranslateAddress p) kind more asked = cc
 by_call m s (CleanUp low high) kind more asked = subst (λ k. Agrees k more m.levels (CleanUp low high) (step m s (CleanUp low high)).reply) (some_is 4 kind asked.kind_is) refl
 
-pub tells_flush : (kind more s answer : ℕ) → answer ≡ flush_by kind more s → TellsFlush kind more s answer
+pub tells_flush : (kind more s answer : ℕ) → answer ≡ flush_by kind more s → TellsFlushNumber kind more s answer
 tells_flush kind more s answer is m state call asked said = is ∙ ap (flush_by kind more) (sym said) ∙ by_call m state call kind more asked
 
 -- ---- ranges
 
 -- what the rule says for a range of which calls were made
 most : (kind more : ℕ) → ℕ
-most kind more = cond (kind == 0) (after_map more) (cond ((kind == 1) || (kind == 2)) 2 (cond (kind == 3) 3 (cond (kind == 4) 1 3)))
+most kind more = cond (kind == 0) (flush_after_map more) (cond ((kind == 1) || (kind == 2)) 2 (cond (kind == 3) 3 (cond (kind == 4) 1 3)))
 
 made : (kind more s : ℕ) → is_made kind s ≡ true → flush_by kind more s ≡ most kind more
 unfolding most
@@ -138,7 +138,7 @@ unfolding most
 due_most L (MapTo q frame given) reply kind more asked = cc
 due_most L (MapToWithTableFlags q frame given flags) reply kind more asked =
     subst (λ k. flush_number L (MapToWithTableFlags q frame given flags) reply ≤ most k more) (some_is 0 kind asked.kind_is)
-    (subst (λ f. flush_number L (MapToWithTableFlags q frame given flags) reply ≤ after_map f) asked.flags_are (by (no_execute flags) (take 1 q) reply))
+    (subst (λ f. flush_number L (MapToWithTableFlags q frame given flags) reply ≤ flush_after_map f) asked.flags_are (by (no_execute flags) (take 1 q) reply))
   where
     by : (b : Bool) (path : List ℕ) (r : Reply) → rank (flush_for (if_allowed r (cond b (BelowDue path ∷ []) []))) ≤ cond b 3 0
     by true path NotAllowed = omega arith

@@ -32,7 +32,7 @@ use Rattle.x86_64.specs.declared.call_values.MapperReply.TheVariants as reply
 use Rattle.x86_64.specs.declared.call_values.PageReply.TheVariants.{Map}
 use Rattle.x86_64_c.specs.Calls.{refusal_status, reply_status, result_status}
 use Rattle.x86_64_c.specs.Given.{hierarchy_in}
-use Rattle.x86_64_c.specs.PoolCalls.{ExecutesOrNothing, Loan, Request, Runs, bad_call, loan, machine_status, on_page, pool_in}
+use Rattle.x86_64_c.specs.PoolCalls.{ExecutesOrNothing, Loan, Request, RunsCall, wrong_pool_call, loan, machine_status, on_page, pool_in}
 use Rattle.x86_64_c.specs.Status.{ok}
 use Rattle.x86_64_c.specs.declared.given.Hierarchy.{Hierarchy as Given}
 use Rattle.x86_64_c.specs.private.OrNothing.{RunsIfOk, RunsOrNothing, is_refusal}
@@ -44,7 +44,7 @@ use Rattle.x86_64_c.proofs.PoolSteps.{by_level, mapped}
 -- ---- statuses
 
 -- a call that was executed returned the status of the machine's reply
-pub if_ok : (h : Hierarchy (Unit {0})) (pool : Store) (call : MapperCall) (after : Hierarchy (Unit {0})) (rest : Store) (status : ℕ) → Runs h pool call after rest status → RunsIfOk h pool call after rest status
+pub if_ok : (h : Hierarchy (Unit {0})) (pool : Store) (call : MapperCall) (after : Hierarchy (Unit {0})) (rest : Store) (status : ℕ) → RunsCall h pool call after rest status → RunsIfOk h pool call after rest status
 if_ok h pool call after rest status runs = record {
   status_is = ap Some runs.status_is ∙ sym (ap (λ (a : AfterStep Reply). option_map reply_status a.reply) runs.step);
   done = λ fine. runs;
@@ -142,7 +142,7 @@ module _ {S L : Type 0} (l : Layout) (store : Store) (m : Memory) (map : PageMap
       MapsOrNothing (of l k) (record { frames = store.frames; serves = store.serves }) level map (map_answer map.frame r) (of l n) (record { frames = rest.frames; serves = rest.serves })
 
   runs_if_ok : {E : Type 0} (r : Result ℕ (MapToError E)) → IfOk r (λ flush. flush ≡ map.page) → status ≡ result_status map_refusal r → (level : ℕ) → 1 ≤ level → level ≤ 3
-      → MapsFrom m level r → Allowed level → status ≡ ok → Runs (of l m) store (on_page level (call_for map)) (of l n) rest status
+      → MapsFrom m level r → Allowed level → status ≡ ok → RunsCall (of l m) store (on_page level (call_for map)) (of l n) rest status
   runs_if_ok (Ok flush) same told level low high maps may fine =
       let done = maps.done refl in
       mapped l store m map.page map.frame given more rest done.serves n status some adds gives mapping fits (Ok flush) same told level low high done.map may
@@ -163,7 +163,7 @@ module _ {S L : Type 0} (l : Layout) (store : Store) (m : Memory) (map : PageMap
 
 module _ (own : List ℕ) (h : Given) (ts us : List (List ℕ)) (array left : List ℕ) (free : ℕ) (request : Request) where
   -- a call with right arguments that was executed, or changed nothing, did so with what the caller lent
-  pub executes_or_nothing : (number status : ℕ) → bad_call h (loan ts array free) request ≡ None
+  pub executes_or_nothing : (number status : ℕ) → wrong_pool_call h (loan ts array free) request ≡ None
       → RunsOrNothing own (hierarchy_in h ts) array free (request.call h.levels) (hierarchy_in h us) left number status
       → ExecutesOrNothing own h (loan ts array free) request status (loan us left number)
   executes_or_nothing number status good runs = record {
@@ -175,7 +175,7 @@ module _ (own : List ℕ) (h : Given) (ts us : List (List ℕ)) (array left : Li
   }
 
   -- one with a wrong argument is refused and changes nothing
-  pub refuses_and_stays : (why : ℕ) → bad_call h (loan ts array free) request ≡ Some why → us ≡ ts → left ≡ array
+  pub refuses_and_stays : (why : ℕ) → wrong_pool_call h (loan ts array free) request ≡ Some why → us ≡ ts → left ≡ array
       → ExecutesOrNothing own h (loan ts array free) request why (loan us left free)
   refuses_and_stays why wrong tables same = record {
     status_is = sym (ap (λ o. option_or o (machine_status (hierarchy_in h ts) (pool_in own array free) (request.call h.levels))) wrong);

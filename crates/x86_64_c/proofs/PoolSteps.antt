@@ -30,7 +30,7 @@ use Rattle.x86_64.proofs.FreeFrames.{nothing_keeps_free}
 use Rattle.x86_64.proofs.Keeping.{keeps_nothing}
 use Rattle.x86_64.proofs.PageSteps.{Start, Serves, map_with_flags_served}
 use Rattle.x86_64_c.specs.Calls.{reply_status, result_status}
-use Rattle.x86_64_c.specs.PoolCalls.{Runs, on_page}
+use Rattle.x86_64_c.specs.PoolCalls.{RunsCall, on_page}
 use Rattle.x86_64_c.specs.Status.{ok, not_allowed}
 use Rattle.x86_64_c.proofs.EntryChanges.{of}
 
@@ -112,7 +112,7 @@ module _ (l : Layout) (store : Store) (m : Memory) (page frame given more : ℕ)
 
   -- a map that isn't allowed
   refused_on : (level : ℕ) (on : MapperCall) → machine_call l.levels on ≡ call level → reply_of on machine.NotAllowed ≡ Some reply.NotAllowed → back_by the_machine before (machine_call l.levels on) ≡ []
-      → StoreFits (of l m) store → allows (of l m) (call level) ≡ false → Runs (of l m) store on (of l m) store not_allowed
+      → StoreFits (of l m) store → allows (of l m) (call level) ≡ false → RunsCall (of l m) store on (of l m) store not_allowed
   refused_on level on is replies none fits refuses = record {
     reply = reply.NotAllowed;
     step = ap (λ c. replied_to on (step the_machine before c)) is
@@ -125,10 +125,10 @@ module _ (l : Layout) (store : Store) (m : Memory) (page frame given more : ℕ)
     free = subst (λ back. KeepsFree l m store.frames back m store.frames) (sym none) (nothing_keeps_free l m store.frames);
   }
 
-  pub refused : StoreFits (of l m) store → (level : ℕ) → 1 ≤ level → level ≤ 3 → allows (of l m) (call level) ≡ false → (n : Memory) → n ≡ m → Runs (of l m) store (on_page level map) (of l n) store not_allowed
+  pub refused : StoreFits (of l m) store → (level : ℕ) → 1 ≤ level → level ≤ 3 → allows (of l m) (call level) ≡ false → (n : Memory) → n ≡ m → RunsCall (of l m) store (on_page level map) (of l n) store not_allowed
   refused fits level low high refuses n same =
-      subst (λ n. Runs (of l m) store (on_page level map) (of l n) store not_allowed) (sym same)
-      (by_level (λ k. allows (of l m) (call k) ≡ false → Runs (of l m) store (on_page k map) (of l m) store not_allowed)
+      subst (λ n. RunsCall (of l m) store (on_page level map) (of l n) store not_allowed) (sym same)
+      (by_level (λ k. allows (of l m) (call k) ≡ false → RunsCall (of l m) store (on_page k map) (of l m) store not_allowed)
       (refused_on 1 (Of4KiB map) refl refl refl fits) (refused_on 2 (Of2MiB map) refl refl refl fits) (refused_on 3 (Of1GiB map) refl refl refl fits) level low high refuses)
 
   -- what a call on pages of a size replies
@@ -141,7 +141,7 @@ module _ (l : Layout) (store : Store) (m : Memory) (page frame given more : ℕ)
         → step_by the_machine before on ≡ wrapped wrap (size_step the_machine level before map) → back_by the_machine before (machine_call l.levels on) ≡ []
         → ((r : Result ℕ (MapToError R)) → reply_status (wrap (Map r)) ≡ result_status map_refusal r) → ((r : Result ℕ (MapToError R)) → changes_nothing (wrap (Map r)) ≡ false)
         → (r : Result ℕ (MapToError S)) → IfOk r (λ flush. flush ≡ page) → status ≡ result_status map_refusal r
-        → DoesMap (of l m) store.frames (call level) (map_answer frame r) (of l n) rest.frames → allows (of l m) (call level) ≡ true → Runs (of l m) store on (of l n) rest status
+        → DoesMap (of l m) store.frames (call level) (map_answer frame r) (of l n) rest.frames → allows (of l m) (call level) ≡ true → RunsCall (of l m) store on (of l n) rest status
     mapped_on R level low high on wrap stepped none tells changes r same told does may =
         let start : Start l store.take_back store.serves m store.frames level = record { at_least_four = some; adds = adds; gives = gives; mapping = mapping; fits = fits; low = low; high = high } in
         let other : Result ℕ (MapToError R) = resized R r in
@@ -159,9 +159,9 @@ module _ (l : Layout) (store : Store) (m : Memory) (page frame given more : ℕ)
         }
 
     pub mapped : {S : Type 0} (r : Result ℕ (MapToError S)) → IfOk r (λ flush. flush ≡ page) → status ≡ result_status map_refusal r → (level : ℕ) → 1 ≤ level → level ≤ 3
-        → DoesMap (of l m) store.frames (call level) (map_answer frame r) (of l n) rest.frames → allows (of l m) (call level) ≡ true → Runs (of l m) store (on_page level map) (of l n) rest status
+        → DoesMap (of l m) store.frames (call level) (map_answer frame r) (of l n) rest.frames → allows (of l m) (call level) ≡ true → RunsCall (of l m) store (on_page level map) (of l n) rest status
     mapped r same told =
-        by_level (λ k. DoesMap (of l m) store.frames (call k) (map_answer frame r) (of l n) rest.frames → allows (of l m) (call k) ≡ true → Runs (of l m) store (on_page k map) (of l n) rest status)
+        by_level (λ k. DoesMap (of l m) store.frames (call k) (map_answer frame r) (of l n) rest.frames → allows (of l m) (call k) ≡ true → RunsCall (of l m) store (on_page k map) (of l n) rest status)
         (mapped_on Small 1 (lit≤ tt) (lit≤ tt) (Of4KiB map) reply.Of4KiB refl refl (λ r. refl) (λ r. refl) r same told)
         (mapped_on Large 2 (lit≤ tt) (lit≤ tt) (Of2MiB map) reply.Of2MiB refl refl (λ r. refl) (λ r. refl) r same told)
         (mapped_on Giant 3 (lit≤ tt) (lit≤ tt) (Of1GiB map) reply.Of1GiB refl refl (λ r. refl) (λ r. refl) r same told)
@@ -190,7 +190,7 @@ clean_up_did h after l m n layout memory gone take_back held low high left clean
 
 -- a clean up of a pool whose free frames are those that it holds
 pub cleaned : (l : Layout) (store rest : Store) → rest.serves ≡ store.serves → (m n : Memory) (low high : ℕ) (held left : List ℕ) → store.frames ≡ held → rest.frames ≡ left → IsParentFlags l.added_flags → TakesBack store.take_back
-    → IsMapping l.places → StoreFits (of l m) store → CleansUp (of l m) store.take_back held low high (of l n) left → Runs (of l m) store (CleanUpRange low high) (of l n) rest ok
+    → IsMapping l.places → StoreFits (of l m) store → CleansUp (of l m) store.take_back held low high (of l n) left → RunsCall (of l m) store (CleanUpRange low high) (of l n) rest ok
 cleaned l store rest same_serves m n low high held left same last adds gives mapping fits cleans =
     let the_machine = machine_of l store.take_back in
     let one : step the_machine (state_in l m store.frames) (machine.CleanUp low high) ≡ record { state = state_in l n rest.frames; reply = machine.Cleaned } =

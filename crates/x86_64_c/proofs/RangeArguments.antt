@@ -5,7 +5,7 @@ use Rattle.std.proofs.Math.Nat.{mul-le-mul_right, add-mul}
 use Rattle.std.proofs.lemmas.Bool.{cases_lt, lt-ltb, le-ltb}
 use Rattle.x86_64_model.specs.Position.{lower_half, position_count, span}
 use Rattle.x86_64_mappers.specs.Ranges.{range_of}
-use Rattle.x86_64_c.specs.Given.{IsPageOf, bad_page, level_of, position_of}
+use Rattle.x86_64_c.specs.Given.{IsPageOf, wrong_page, level_of_page_size, position_of}
 use Rattle.x86_64_c.specs.Ranges.{half_end, bad_frames, bad_maps, bad_pages, range_asked}
 use Rattle.x86_64_c.specs.declared.given.MapRequest.{MapRequest}
 use Rattle.x86_64_c.specs.declared.given.Page.{Page}
@@ -31,11 +31,11 @@ ends L known p inside = let low = half_within L known in elim (cases_lt p (lower
 ]
 
 -- the size of a page is that of its level
-pub size_is : (L : ℕ) (page : Page) → bad_page L page ≡ None → page.size ≡ span (level_of page.size)
+pub size_is : (L : ℕ) (page : Page) → wrong_page L page ≡ None → page.size ≡ span (level_of_page_size page.size)
 size_is L page good = search rules
 
 -- so pages end there if they end in the half of the first one
-pub ends_there : (L : ℕ) → (L ≡ 4) ⊎ (L ≡ 5) → (page : Page) (level position count : ℕ) → bad_page L page ≡ None → IsPageOf L page level position
+pub ends_there : (L : ℕ) → (L ≡ 4) ⊎ (L ≡ 5) → (page : Page) (level position count : ℕ) → wrong_page L page ≡ None → IsPageOf L page level position
     → count * page.size ≤ half_end L (position_of L page.start) - position_of L page.start → position + count * span level ≤ position_count L
 ends_there L known page level position count good is fits =
     let p = position_of L page.start in

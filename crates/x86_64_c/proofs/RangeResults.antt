@@ -7,12 +7,12 @@ use Rattle.x86_64_c.specs.Ranges.{Maps, MapsWith, bad_map_range, range_asked}
 use Rattle.x86_64_c.specs.declared.given.Hierarchy.{Hierarchy as Given}
 use Rattle.x86_64_c.specs.declared.given.MapRequest.{MapRequest}
 use Rattle.x86_64_c.specs.declared.ranges.Mapped.{Mapped}
-use Rattle.x86_64_c.specs.private.RangeMaps.{MapsRange, is_without_number}
+use Rattle.x86_64_c.specs.private.RangeMaps.{MapsInPool, is_without_number}
 use Rattle.x86_64_c.proofs.Arguments.{kept}
 
 module _ (own : List ℕ) (h : Given) (ts us : List (List ℕ)) (array left : List ℕ) (free : ℕ) (request : MapRequest) (count was : ℕ) where
   pub maps_with : (number : ℕ) (mapped : Mapped) (done : ℕ) → bad_map_range h (loan ts array free) request count ≡ None
-      → MapsRange own (range_asked h.levels request) count (hierarchy_in h ts) array free (hierarchy_in h us) left number mapped → done ≡ unwrap_or mapped.done was
+      → MapsInPool own (range_asked h.levels request) count (hierarchy_in h ts) array free (hierarchy_in h us) left number mapped → done ≡ unwrap_or mapped.done was
       → MapsWith own h (loan ts array free) request count was mapped.status (loan us left number) done
   maps_with number mapped done good did told = record {
     bad = λ why is. absurd (let e : None ≡ Some why = sym good ∙ is in cc);

@@ -25,8 +25,8 @@ use Rattle.x86_64_c.proofs.EntryChanges.{of}
 use Rattle.x86_64_c.proofs.RangeArguments.{page_before}
 use Rattle.x86_64_c.proofs.RangeKeeps.{keeps_calls, are_calls}
 use Rattle.x86_64_c.specs.Calls.{result_status}
-use Rattle.x86_64_c.specs.Given.{IsPageOf, level_of, position_of}
-use Rattle.x86_64_c.specs.Ranges.{Changes, Maps, Unmaps}
+use Rattle.x86_64_c.specs.Given.{IsPageOf, level_of_page_size, position_of}
+use Rattle.x86_64_c.specs.Ranges.{ChangesRange, Maps, UnmapsRange}
 use Rattle.x86_64_c.specs.private.RangeMaps.{TellsUpdates}
 use Rattle.x86_64_c.specs.declared.given.Page.{Page}
 
@@ -80,7 +80,7 @@ seen_changes h after calls replies does = record {
 }
 
 pub changes_each : {Lent : Type 0} (h after : Hierarchy Lent) (l : Layout) (m n : Memory) → h.layout ≡ l → h.memory ≡ m → after.memory ≡ n → IsParentFlags l.added_flags
-    → (calls : (L : ℕ) → List Call) (replies : List Reply) → AllCalls l.levels (calls l.levels) → DoesChanges h (calls h.layout.levels) replies after → Changes (of l m) (calls l.levels) replies (of l n)
+    → (calls : (L : ℕ) → List Call) (replies : List Reply) → AllCalls l.levels (calls l.levels) → DoesChanges h (calls h.layout.levels) replies after → ChangesRange (of l m) (calls l.levels) replies (of l n)
 changes_each h after l m n layout memory left adds calls replies are does =
     let did = subst (λ l. DoesChanges (of l m) (calls l.levels) replies (of l n)) layout
     (subst (λ m. DoesChanges (of h.layout m) (calls h.layout.levels) replies (of h.layout n)) memory
@@ -201,11 +201,11 @@ mapped h after l m n layout memory left adds pool rest r are fits page count (Er
 
 module _ {L level position : ℕ} {page : Page} (is : IsPageOf L page level position) {h after : Hierarchy (Unit {0})} {count : ℕ} where
   pub unmaps_given : {array frames : List ℕ} {status frame_count done : ℕ}
-      → Unmaps h level position count array after status frames frame_count done
-      → Unmaps h (level_of page.size) (position_of L page.start) count array after status frames frame_count done
+      → UnmapsRange h level position count array after status frames frame_count done
+      → UnmapsRange h (level_of_page_size page.size) (position_of L page.start) count array after status frames frame_count done
   unmaps_given {array} {frames} {status} {frame_count} {done} =
-      subst₂ (λ v p. Unmaps h v p count array after status frames frame_count done) is.level_is is.position_is
+      subst₂ (λ v p. UnmapsRange h v p count array after status frames frame_count done) is.level_is is.position_is
 
   pub updates_given : {flags : ℕ} {changed : Option ℕ} → TellsUpdates h level position flags count after changed
-      → TellsUpdates h (level_of page.size) (position_of L page.start) flags count after changed
+      → TellsUpdates h (level_of_page_size page.size) (position_of L page.start) flags count after changed
   updates_given {flags} {changed} = subst₂ (λ v p. TellsUpdates h v p flags count after changed) is.level_is is.position_is

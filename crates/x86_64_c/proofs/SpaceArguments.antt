@@ -2,7 +2,7 @@
 use Rattle.std.proofs.Common.{◌≡◌, inl, inr, ◌≤◌, ◌↔◌, ℕ, ◌==◌, ◌||◌, ◌&&◌, nat_le, Bool, true, false, List, length, Some, None, IsTrue, Option, refl, sym, ap, ap₂, subst₂, ◌∙◌, le-leb, arith}
 use Rattle.std.specs.Option.{option_or}
 use Rattle.std.proofs.lemmas.Bool.{leb-true}
-use Rattle.x86_64_c.specs.AddressSpaces.{bad_indices, bad_test, bad_new, bad_gone, MakesSpace, GivesUpSpace}
+use Rattle.x86_64_c.specs.AddressSpaces.{wrong_indices, wrong_spaces_test, bad_new, bad_gone, MakesSpace, GivesUpSpace}
 use Rattle.x86_64_c.specs.Given.{bad_hierarchy, unless}
 use Rattle.x86_64_c.specs.PoolCalls.{Loan, bad_pool, loan}
 use Rattle.x86_64_c.specs.Status as status
@@ -22,10 +22,10 @@ tells false s is means same = record {
 
 -- ---- arguments that are right
 
-pub good_test : (levels from to : ℕ) (lent : Loan) (marks : ℕ) → ((levels == 4) || (levels == 5)) ≡ true → lent.free ≤ length lent.array → length lent.tables ≤ marks → bad_indices from to ≡ None → bad_test levels from to lent marks ≡ None
+pub good_test : (levels from to : ℕ) (lent : Loan) (marks : ℕ) → ((levels == 4) || (levels == 5)) ≡ true → lent.free ≤ length lent.array → length lent.tables ≤ marks → wrong_indices from to ≡ None → wrong_spaces_test levels from to lent marks ≡ None
 good_test levels from to lent marks four_or_five within enough right =
-    ap (λ b. option_or (unless b status.bad_levels) (option_or (unless (nat_le lent.free (length lent.array) && nat_le (length lent.tables) marks) status.bad_array) (bad_indices from to))) four_or_five
-    ∙ ap₂ (λ b c. option_or (unless (b && c) status.bad_array) (bad_indices from to)) (le-leb _ _ within) (le-leb _ _ enough) ∙ right
+    ap (λ b. option_or (unless b status.bad_levels) (option_or (unless (nat_le lent.free (length lent.array) && nat_le (length lent.tables) marks) status.bad_array) (wrong_indices from to))) four_or_five
+    ∙ ap₂ (λ b c. option_or (unless (b && c) status.bad_array) (wrong_indices from to)) (le-leb _ _ within) (le-leb _ _ enough) ∙ right
 
 -- nothing is wrong with any of several arguments if nothing is with the first, and with the others
 none_both : {X : Type 0} (a b : Option X) → option_or a b ≡ None → (a ≡ None) × (b ≡ None)
@@ -41,7 +41,7 @@ pub within : (free capacity : ℕ) (other : Option ℕ) → bad_pool free capaci
 within free capacity other none = leb-true free capacity (unless_none (nat_le free capacity) status.bad_array (none_both (unless (nat_le free capacity) status.bad_array) other none).0)
 
 pub within_new : (h : Hierarchy) (lent : Loan) (from to : ℕ) → bad_new h lent from to ≡ None → lent.free ≤ length lent.array
-within_new h lent from to none = within lent.free (length lent.array) (bad_indices from to) (none_both (bad_hierarchy h (length lent.tables)) _ none).1
+within_new h lent from to none = within lent.free (length lent.array) (wrong_indices from to) (none_both (bad_hierarchy h (length lent.tables)) _ none).1
 
 -- ---- calls that are refused for an argument
 

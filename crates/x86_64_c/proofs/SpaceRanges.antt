@@ -20,9 +20,9 @@ use Rattle.x86_64_c.proofs.EntryChanges.{gives, plain}
 use Rattle.x86_64_c.proofs.RangesSeen.{maps_are}
 use Rattle.x86_64_c.proofs.TogetherFit.{has_levels, kept, none_first}
 use Rattle.x86_64_c.specs.AddressSpaces.{FitTogether, OthersStay, RangeChangesKeepOthers, RangeChangesKeepSpaces, RangeMapsKeepOthers, RangeMapsKeepSpaces, layout_given}
-use Rattle.x86_64_c.specs.Given.{bad_hierarchy, hierarchy_in, level_of}
+use Rattle.x86_64_c.specs.Given.{bad_hierarchy, hierarchy_in, level_of_page_size}
 use Rattle.x86_64_c.specs.PoolCalls.{Loan, loan, pool_in}
-use Rattle.x86_64_c.specs.Ranges.{Maps, MapsWith, MayMap, bad_map_range, range_asked}
+use Rattle.x86_64_c.specs.Ranges.{Maps, MapsWith, MayMapPages, bad_map_range, range_asked}
 use Rattle.x86_64_c.specs.declared.given.Hierarchy.{Hierarchy as Given}
 use Rattle.x86_64_c.specs.declared.given.MapRequest.{MapRequest}
 
@@ -57,7 +57,7 @@ is_less m n = by (nat_lt m n) refl
     by true is = inl (ltb-true m n is)
     by false is = inr (λ less. let not = ltb-false m n is in omega (arith, less, not))
 
-may_map : (h : Hierarchy (Unit {0})) (r : MapRange) (count : ℕ) → MayMap h r count ⊎ (MayMap h r count → ⊥)
+may_map : (h : Hierarchy (Unit {0})) (r : MapRange) (count : ℕ) → MayMapPages h r count ⊎ (MayMapPages h r count → ⊥)
 may_map h r count = ⊎_elim
     (λ here. ⊎_elim
     (λ pages. ⊎_elim
@@ -80,7 +80,7 @@ avoid_each P call a zero each = tt
 avoid_each P call a (suc n) each = (each a (omega arith), avoid_each P call (a + 1) n (λ k less. each k (omega (arith, less))))
 
 -- the level of a page's size
-low_level : (size : ℕ) → 1 ≤ level_of size
+low_level : (size : ℕ) → 1 ≤ level_of_page_size size
 low_level size = by (size == 0x1000) (size == 0x20_0000)
   where
     by : (b c : Bool) → 1 ≤ cond b 1 (cond c 2 3)
@@ -88,7 +88,7 @@ low_level size = by (size == 0x1000) (size == 0x20_0000)
     by false true = omega arith
     by false false = omega arith
 
-high_level : (size : ℕ) → level_of size ≤ 3
+high_level : (size : ℕ) → level_of_page_size size ≤ 3
 high_level size = by (size == 0x1000) (size == 0x20_0000)
   where
     by : (b c : Bool) → cond b 1 (cond c 2 3) ≤ 3
@@ -183,6 +183,6 @@ range_maps_keep_others stay halves below own shared spaces lent after fit h memb
             others stay halves below own shared spaces h member lent after fit some maps.room did.keeps
             (below shared one plain put_first gives (is_in own) (numbered lent.tables) (numbered after.tables) (stacked lent.array lent.free) (stacked after.array after.free)
             (maps_of h.levels r n)
-            (maps_are h.levels (level_of request.page.size) (low_level request.page.size) (high_level request.page.size) levels r refl n)
+            (maps_are h.levels (level_of_page_size request.page.size) (low_level request.page.size) (high_level request.page.size) levels r refl n)
             (fit.are_spaces.fits one member) (sym (does.state put_first))
             (avoid_each (Avoids h.levels shared) (map_at h.levels r) 0 n (λ k less. avoid k (omega (arith, less, within)))))

@@ -26,7 +26,7 @@ use Rattle.x86_64.specs.Asked.{machine_call}
 use Rattle.x86_64.specs.Replies.{Reply}
 use Rattle.x86_64.specs.Runs.{AfterStep}
 use Rattle.x86_64_c.specs.Given.{bad_hierarchy}
-use Rattle.x86_64_c.specs.PoolCalls.{Loan, loan, Executes, ExecutesOrNothing, bad_call, Request}
+use Rattle.x86_64_c.specs.PoolCalls.{Loan, loan, Executes, ExecutesOrNothing, wrong_pool_call, Request}
 use Rattle.x86_64_c.specs.Status.{ok}
 use Rattle.x86_64_c.specs.Validity.{test_status, TellsWhether}
 use Rattle.x86_64_c.specs.declared.given.Hierarchy.{Hierarchy as Given}
@@ -117,14 +117,14 @@ module _ (stay : SpacesStay) (own : List ℕ) (shared : ℕ → Bool) (spaces : 
   }
 
   executed : (lent after : Loan) → FitTogether own shared spaces lent → (request : Request) (status : ℕ) → Executes own h lent request status after
-      → KeepsRootEntries shared (layout_given h) (numbered lent.tables) (numbered after.tables) → (wrong : Option ℕ) → bad_call h lent request ≡ wrong → FitTogether own shared spaces after
+      → KeepsRootEntries shared (layout_given h) (numbered lent.tables) (numbered after.tables) → (wrong : Option ℕ) → wrong_pool_call h lent request ≡ wrong → FitTogether own shared spaces after
   executed lent after fit request status done entries None good =
       let right = none_first (bad_hierarchy h (length lent.tables)) _ good in
       kept lent after fit (has_levels h (length lent.tables) right) done.room (done.runs good).keeps entries
   executed lent after fit request status done entries (Some why) wrong = subst (FitTogether own shared spaces) (sym (done.bad why wrong).1) fit
 
 pub requests_keep_spaces : SpacesStay → RequestsKeepSpaces
-requests_keep_spaces stay own shared spaces lent after fit h member request status done entries = executed stay own shared spaces h member lent after fit request status done entries (bad_call h lent request) refl
+requests_keep_spaces stay own shared spaces lent after fit h member request status done entries = executed stay own shared spaces h member lent after fit request status done entries (wrong_pool_call h lent request) refl
 
 pub changes_keep_spaces : SpacesStay → ChangesKeepSpaces
 changes_keep_spaces stay own shared spaces tables now array free fit h some member call answer status done entries =
@@ -136,7 +136,7 @@ changes_keep_spaces stay own shared spaces tables now array free fit h some memb
 module _ (stay : SpacesStay) (halves : SharedHalvesStay) (below : CallsKeepBelow) (own : List ℕ) (shared : ℕ → Bool) (spaces : List Layout) (h : Given) (member : In spaces (layout_given h))
     (lent after : Loan) (fit : FitTogether own shared spaces lent) (request : Request) (status : ℕ) (done : Executes own h lent request status after)
     (is_call : IsCall h.levels (machine_call h.levels (request.call h.levels))) (avoids : Avoids h.levels shared (machine_call h.levels (request.call h.levels))) where
-  kept_others : (wrong : Option ℕ) → bad_call h lent request ≡ wrong → FitTogether own shared spaces after × OthersStay spaces h.root (numbered lent.tables) (numbered after.tables)
+  kept_others : (wrong : Option ℕ) → wrong_pool_call h lent request ≡ wrong → FitTogether own shared spaces after × OthersStay spaces h.root (numbered lent.tables) (numbered after.tables)
   kept_others None good =
       let one = layout_given h in
       let right = none_first (bad_hierarchy h (length lent.tables)) _ good in
@@ -156,7 +156,7 @@ module _ (stay : SpacesStay) (halves : SharedHalvesStay) (below : CallsKeepBelow
 
 pub requests_keep_others : SpacesStay → SharedHalvesStay → CallsKeepBelow → RequestsKeepOthers
 requests_keep_others stay halves below own shared spaces lent after fit h member request status done is_call avoids =
-    kept_others stay halves below own shared spaces h member lent after fit request status done is_call avoids (bad_call h lent request) refl
+    kept_others stay halves below own shared spaces h member lent after fit request status done is_call avoids (wrong_pool_call h lent request) refl
 
 -- ---- requests that were executed or changed nothing
 

@@ -19,7 +19,7 @@ use Rattle.x86_64_mappings.specs.WalkEntries.{no_limits, steps_to, rights_in, en
 use Rattle.x86_64_mappings.specs.declared.walk_entries.WalkEnd.TheVariants.{Page, NotPresent, HugePage, NoTable}
 use Rattle.x86_64_mappings.specs.declared.walk_entries.WalkEntry.{WalkEntry}
 use Rattle.x86_64_mappings.proofs.StepsRead.{step, reads_by, words_in}
-use Rattle.x86_64_c.specs.Walks.{arrival, written as as_told}
+use Rattle.x86_64_c.specs.Walks.{result_of_walk, result_written as as_told}
 
 -- the arrival at the last word, with the rights of all
 abbrev pub arrival_by : (p : ℕ) → Rights → Option Step → Option Walked
@@ -200,9 +200,9 @@ tells_page L T root p before after count d writes is =
 -- so that is what is told, with the offset of an equal position
 pub tells : (L : ℕ) (T : Words) (root p q level word to : ℕ) (r : Rights) → TellsPage L T root p level word
     → r ≡ rights_in (steps_to L T root p) → q ≡ p → to ≡ page_start level word + q % span level
-    → Some (as_told to r) ≡ option_map (arrival (rights_in (steps_to L T root p)).execute) (page_walk L T root p)
+    → Some (as_told to r) ≡ option_map (result_of_walk (rights_in (steps_to L T root p)).execute) (page_walk L T root p)
 tells L T root p q level word to r page rights same at =
     let all = rights_in (steps_to L T root p) in
     ap (λ (k : Rights). Some (as_told to k)) rights
     ∙ ap (λ n. Some (as_told n all)) (at ∙ ap (λ x. page_start level word + x % span level) same)
-    ∙ sym (ap (option_map (arrival all.execute)) page.arrives)
+    ∙ sym (ap (option_map (result_of_walk all.execute)) page.arrives)

@@ -5,7 +5,7 @@ use Rattle.x86_64_model.specs.Access as model
 use Rattle.x86_64_model.specs.Access.{Access, Kind, Read, Write, Fetch, Arrives, Faults, NoMemory}
 use Rattle.x86_64_model.specs.Hierarchy.{Hierarchy, PoolFits, words}
 use Rattle.x86_64_model.specs.Memory.{Memory}
-use Rattle.x86_64_c.specs.Given.{unless, bad_hierarchy, bad_address, position_of}
+use Rattle.x86_64_c.specs.Given.{unless, bad_hierarchy, wrong_address, position_of}
 use Rattle.x86_64_c.specs.Status as status
 use Rattle.x86_64_c.specs.declared.accesses.AccessRequest.{AccessRequest}
 use Rattle.x86_64_c.specs.declared.accesses.Controls.{Controls}
@@ -15,16 +15,16 @@ use Rattle.x86_64_c.specs.declared.given.Hierarchy.{Hierarchy as Given}
 -- ---- what is asked
 
 -- The kind of an access for its number: 0 a read, 1 a write, 2 a fetch.
-abbrev pub kind_of : (number : ℕ) → Kind
-kind_of number = cond (number == 0) Read (cond (number == 1) Write Fetch)
+abbrev pub access_kind_of : (number : ℕ) → Kind
+access_kind_of number = cond (number == 0) Read (cond (number == 1) Write Fetch)
 
 -- The access that a request is about: its kind, and whether user code makes it.
-abbrev pub access_of : AccessRequest → Access
-access_of request = record { kind = kind_of request.kind; user = request.user }
+abbrev pub access_asked : AccessRequest → Access
+access_asked request = record { kind = access_kind_of request.kind; user = request.user }
 
 -- What a processor is set to, as the caller describes it.
-abbrev pub controls_of : Controls → model.Controls
-controls_of c = record {
+abbrev pub given_controls : Controls → model.Controls
+given_controls c = record {
   write_protect = c.write_protect;
   no_execute = c.no_execute;
   smep = c.smep;
@@ -34,26 +34,26 @@ controls_of c = record {
 }
 
 -- What is wrong with the kind of an access, or with the number of bits of physical addresses.
-abbrev pub bad_access : Controls → AccessRequest → Option ℕ
-bad_access c request = unless (nat_lt request.kind 3 && (nat_le 32 c.physical_bits && nat_le c.physical_bits 52)) status.bad_access
+abbrev pub wrong_access : Controls → AccessRequest → Option ℕ
+wrong_access c request = unless (nat_lt request.kind 3 && (nat_le 32 c.physical_bits && nat_le c.physical_bits 52)) status.bad_access
 
 -- What is wrong with the kind of an access or the bits of physical addresses, or else with the virtual address, with L levels.
-abbrev pub wrong : (L : ℕ) → Controls → AccessRequest → Option ℕ
-wrong L c request = option_or (bad_access c request) (bad_address L request.address)
+abbrev pub wrong_access_request : (L : ℕ) → Controls → AccessRequest → Option ℕ
+wrong_access_request L c request = option_or (wrong_access c request) (wrong_address L request.address)
 
 -- What is wrong with any of the arguments of an access: the hierarchy in an array of so many tables, or else the request.
-abbrev pub bad_call : Given → (count : ℕ) → Controls → AccessRequest → Option ℕ
-bad_call h count c request = option_or (bad_hierarchy h count) (wrong h.levels c request)
+abbrev pub wrong_access_call : Given → (count : ℕ) → Controls → AccessRequest → Option ℕ
+wrong_access_call h count c request = option_or (bad_hierarchy h count) (wrong_access_request h.levels c request)
 
 -- ---- what comes of it
 
 -- What comes of an access at a position: a processor with these controls arrives, faults, or misses a table.
 abbrev pub outcome_at : Hierarchy (Unit {0}) → Controls → (position : ℕ) → Access → model.Outcome
-outcome_at h c p a = model.access h.layout.levels (controls_of c) (words h) h.layout.root p a
+outcome_at h c p a = model.access h.layout.levels (given_controls c) (words h) h.layout.root p a
 
 -- The memory after an access at a position: with the marks ACCESSED and DIRTY that the processor leaves, if these are asked for.
 abbrev pub memory_at : Hierarchy (Unit {0}) → Controls → (position : ℕ) → Access → (mark : Bool) → Memory
-memory_at h c p a mark = let steps = model.steps_from (controls_of c) (words h) p h.layout.levels h.layout.root in
+memory_at h c p a mark = let steps = model.steps_from (given_controls c) (words h) p h.layout.levels h.layout.root in
     cond mark (model.memory_after h.layout.places a.kind steps (outcome_at h c p a) h.memory) h.memory
 
 -- The status of what comes of an access.
@@ -63,22 +63,22 @@ outcome_status (Faults code level) = status.page_fault
 outcome_status (NoMemory frame) = status.no_table
 
 -- What comes of an access, as it is written for C.
-abbrev pub written : model.Outcome → Outcome
-written (Arrives address) = record { address = address; code = 0; level = 0 }
-written (Faults code level) = record { address = 0; code = code; level = level }
-written (NoMemory frame) = record { address = frame; code = 0; level = 0 }
+abbrev pub outcome_written : model.Outcome → Outcome
+outcome_written (Arrives address) = record { address = address; code = 0; level = 0 }
+outcome_written (Faults code level) = record { address = 0; code = code; level = level }
+outcome_written (NoMemory frame) = record { address = frame; code = 0; level = 0 }
 
 -- What comes of the access that a request asks for.
-abbrev pub outcome_of : Hierarchy (Unit {0}) → Controls → AccessRequest → model.Outcome
-outcome_of h c request = outcome_at h c (position_of h.layout.levels request.address) (access_of request)
+abbrev pub access_outcome : Hierarchy (Unit {0}) → Controls → AccessRequest → model.Outcome
+access_outcome h c request = outcome_at h c (position_of h.layout.levels request.address) (access_asked request)
 
 -- The memory after the access that a request asks for: with the marks of the processor, if the request asks for these.
-abbrev pub memory_after : Hierarchy (Unit {0}) → Controls → AccessRequest → Memory
-memory_after h c request = memory_at h c (position_of h.layout.levels request.address) (access_of request) request.mark
+abbrev pub memory_accessed : Hierarchy (Unit {0}) → Controls → AccessRequest → Memory
+memory_accessed h c request = memory_at h c (position_of h.layout.levels request.address) (access_asked request) request.mark
 
 -- What came of an access was written, and the status is that of it.
 abbrev pub WritesOutcome : model.Outcome → (status : ℕ) → (after : Outcome) → Type 0
-WritesOutcome outcome s after = (s ≡ outcome_status outcome) × (after ≡ written outcome)
+WritesOutcome outcome s after = (s ≡ outcome_status outcome) × (after ≡ outcome_written outcome)
 
 -- Each pool that fitted the hierarchy before fits it afterwards. So if it was valid, it still is: the empty pool fits.
 abbrev pub StillFits : (before after : Hierarchy (Unit {0})) → Type 0

@@ -52,21 +52,21 @@ space_at root = record { root = root; recursive = None }
 -- ---- what is wrong with arguments
 
 -- What is wrong with shared indices, which are those from the first one up to, but not including, the end.
-abbrev pub bad_indices : (from to : ℕ) → Option ℕ
-bad_indices from to = unless (nat_le from to && nat_le to 512) status.bad_indices
+abbrev pub wrong_indices : (from to : ℕ) → Option ℕ
+wrong_indices from to = unless (nat_le from to && nat_le to 512) status.bad_indices
 
 -- What is wrong with the arguments of a test of address spaces. It needs a mark for each table.
-abbrev pub bad_test : (levels from to : ℕ) → Loan → (marks : ℕ) → Option ℕ
-bad_test levels from to lent marks = option_or (unless ((levels == 4) || (levels == 5)) status.bad_levels)
-    (option_or (unless (nat_le lent.free (length lent.array) && nat_le (length lent.tables) marks) status.bad_array) (bad_indices from to))
+abbrev pub wrong_spaces_test : (levels from to : ℕ) → Loan → (marks : ℕ) → Option ℕ
+wrong_spaces_test levels from to lent marks = option_or (unless ((levels == 4) || (levels == 5)) status.bad_levels)
+    (option_or (unless (nat_le lent.free (length lent.array) && nat_le (length lent.tables) marks) status.bad_array) (wrong_indices from to))
 
 -- What is wrong with any of the arguments of a call that makes a space: the template, what the caller lends, or the shared indices.
 abbrev pub bad_new : Given → Loan → (from to : ℕ) → Option ℕ
-bad_new h lent from to = bad_lent h lent (bad_indices from to)
+bad_new h lent from to = bad_lent h lent (wrong_indices from to)
 
 -- What is wrong with a root, a pool and shared indices of a call that gives up a space. No pool takes frame 0.
 abbrev pub wrong_gone : (root free capacity from to : ℕ) → Option ℕ
-wrong_gone root free capacity from to = option_or (unless (nat_lt 0 root) status.bad_root) (bad_pool free capacity (bad_indices from to))
+wrong_gone root free capacity from to = option_or (unless (nat_lt 0 root) status.bad_root) (bad_pool free capacity (wrong_indices from to))
 
 -- What is wrong with any of the arguments of a call that gives up a space: the hierarchy, its root, the pool, or the shared
 -- indices.
@@ -176,7 +176,7 @@ RangeMapsKeepSpaces = (own : List ℕ) (shared : ℕ → Bool) (spaces : List La
 abbrev pub RangeChangesKeepSpaces : Type 0
 RangeChangesKeepSpaces = (own : List ℕ) (shared : ℕ → Bool) (spaces : List Layout) (tables now : List (List ℕ)) (array : List ℕ) (free : ℕ)
     → FitTogether own shared spaces (loan tables array free) → (h : Given) → 0 < h.levels → In spaces (layout_given h) → (calls : List Call) (replies : List Reply)
-    → range.Changes (hierarchy_in h tables) calls replies (hierarchy_in h now)
+    → range.ChangesRange (hierarchy_in h tables) calls replies (hierarchy_in h now)
     → KeepsRootEntries shared (layout_given h) (numbered tables) (numbered now) → FitTogether own shared spaces (loan now array free)
 
 -- The path maps of all spaces but the one with this root are the same before and after.
@@ -212,5 +212,5 @@ RangeMapsKeepOthers = (own : List ℕ) (shared : ℕ → Bool) (spaces : List La
 abbrev pub RangeChangesKeepOthers : Type 0
 RangeChangesKeepOthers = (own : List ℕ) (shared : ℕ → Bool) (spaces : List Layout) (tables now : List (List ℕ)) (array : List ℕ) (free : ℕ)
     → FitTogether own shared spaces (loan tables array free) → (h : Given) → 0 < h.levels → In spaces (layout_given h) → (calls : List Call) (replies : List Reply)
-    → range.Changes (hierarchy_in h tables) calls replies (hierarchy_in h now) → AllCalls h.levels calls → AllByRecursion (Avoids h.levels shared) calls
+    → range.ChangesRange (hierarchy_in h tables) calls replies (hierarchy_in h now) → AllCalls h.levels calls → AllByRecursion (Avoids h.levels shared) calls
     → FitTogether own shared spaces (loan now array free) × OthersStay spaces h.root (numbered tables) (numbered now)

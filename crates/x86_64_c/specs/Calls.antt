@@ -10,7 +10,7 @@ use Rattle.x86_64.specs.Replies.{Reply, SizeReply}
 use Rattle.x86_64_model.specs.Store.{KeepsPool}
 use Rattle.x86_64.specs.declared.call_values.MapperReply.TheVariants.{Of4KiB, Of2MiB, Of1GiB, Translate, Address, Cleaned, NotAllowed}
 use Rattle.x86_64.specs.declared.call_values.PageReply.TheVariants.{Map, Unmap, Update, TableFlags, Frame}
-use Rattle.x86_64_c.specs.Given.{unless, bad_hierarchy, bad_page}
+use Rattle.x86_64_c.specs.Given.{unless, bad_hierarchy, wrong_page}
 use Rattle.x86_64_c.specs.Status as status
 use Rattle.x86_64_c.specs.declared.given.Hierarchy.{Hierarchy as Given}
 use Rattle.x86_64_c.specs.declared.given.Page.{Page}
@@ -57,7 +57,7 @@ reply_status NotAllowed = status.not_allowed
 
 -- What is wrong with a hierarchy in an array of so many tables, or else with a page.
 abbrev pub bad_on_page : Given → (count : ℕ) → Page → Option ℕ
-bad_on_page h count page = option_or (bad_hierarchy h count) (bad_page h.levels page)
+bad_on_page h count page = option_or (bad_hierarchy h count) (wrong_page h.levels page)
 
 -- Whether entries of a level name tables, with L levels.
 abbrev pub is_table_level : (L level : ℕ) → Bool
@@ -67,7 +67,7 @@ is_table_level L level = nat_le 2 level && nat_le level L
 -- page.
 abbrev pub bad_on_table : Given → (count level : ℕ) → Page → Option ℕ
 bad_on_table h count level page = option_or (bad_hierarchy h count)
-    (option_or (unless (is_table_level h.levels level) status.bad_levels) (bad_page h.levels page))
+    (option_or (unless (is_table_level h.levels level) status.bad_levels) (wrong_page h.levels page))
 
 -- An allowed call on one entry was answered so, as the crate's calls are, with this status. A pool that fitted the hierarchy still
 -- fits it.

@@ -10,29 +10,29 @@ use Rattle.x86_64_c.specs.Calls.{answer_status}
 use Rattle.x86_64_c.specs.Status as status
 
 -- The number that callers in C have for the kind of a call of the model, or `None` if they can't make it.
-abbrev pub kind_of : Call → Option ℕ
-kind_of (MapTo q frame given) = None
-kind_of (MapToWithTableFlags q frame given parent_flags) = Some 0
-kind_of (IdentityMap level frame given) = None
-kind_of (Unmap q) = Some 1
-kind_of (UpdateFlags q given) = Some 2
-kind_of (SetFlags level q given) = Some 3
-kind_of (TranslatePage q) = None
-kind_of (Translate p) = None
-kind_of (TranslateAddress p) = None
-kind_of (CleanUp low high) = Some 4
+abbrev pub call_kind : Call → Option ℕ
+call_kind (MapTo q frame given) = None
+call_kind (MapToWithTableFlags q frame given parent_flags) = Some 0
+call_kind (IdentityMap level frame given) = None
+call_kind (Unmap q) = Some 1
+call_kind (UpdateFlags q given) = Some 2
+call_kind (SetFlags level q given) = Some 3
+call_kind (TranslatePage q) = None
+call_kind (Translate p) = None
+call_kind (TranslateAddress p) = None
+call_kind (CleanUp low high) = Some 4
 
 -- The status of a reply of the model's machine.
-abbrev pub status_of : Reply → ℕ
-status_of NotAllowed = status.not_allowed
-status_of (Answered answer) = answer_status answer
-status_of (Position t) = status.ok
-status_of (Address a) = status.ok
-status_of Cleaned = status.ok
+abbrev pub reply_number : Reply → ℕ
+reply_number NotAllowed = status.not_allowed
+reply_number (Answered answer) = answer_status answer
+reply_number (Position t) = status.ok
+reply_number (Address a) = status.ok
+reply_number Cleaned = status.ok
 
 -- A call of the model is of this kind, and has these parent flags if it is a map.
 pub record IsAsked (kind parent_flags : ℕ) (call : Call) : Type 0 where
-  pub kind_is : kind_of call ≡ Some kind
+  pub kind_is : call_kind call ≡ Some kind
   pub flags_are : unwrap_or (parent_flags_of call) parent_flags ≡ parent_flags
 
 -- The number of the least flush that settles all that is due after a call with this reply, with L levels and no recursive index: 0
@@ -42,9 +42,9 @@ flush_number L call reply = rank (flush_for (flush_after L None call reply))
 
 -- The answer is the number of the least flush that settles all that is due after each call of this kind, with these parent flags,
 -- to which the machine's reply has this status.
-abbrev pub TellsFlush : (kind parent_flags status answer : ℕ) → Type 0
-TellsFlush kind more s answer = (m : Machine) (state : State) (call : Call) → IsAsked kind more call
-    → status_of (step m state call).reply ≡ s → answer ≡ flush_number m.levels call (step m state call).reply
+abbrev pub TellsFlushNumber : (kind parent_flags status answer : ℕ) → Type 0
+TellsFlushNumber kind more s answer = (m : Machine) (state : State) (call : Call) → IsAsked kind more call
+    → reply_number (step m state call).reply ≡ s → answer ≡ flush_number m.levels call (step m state call).reply
 
 -- Whether a call of this kind on a range has made calls on pages if it returned this status.
 abbrev pub is_made : (kind status : ℕ) → Bool
@@ -64,17 +64,17 @@ TellsExchange level old new answer =
 -- ---- the rule
 
 -- The number of the flush after a map: 3, everything, if its parent flags have NO_EXECUTE, and otherwise 0, nothing.
-abbrev pub after_map : (parent_flags : ℕ) → ℕ
-after_map more = cond (no_execute more) 3 0
+abbrev pub flush_after_map : (parent_flags : ℕ) → ℕ
+flush_after_map more = cond (no_execute more) 3 0
 
 -- The number of a flush after a call that was done, also if it was done for some pages of a range, and otherwise 0, nothing.
-abbrev pub if_done : (status flush : ℕ) → ℕ
-if_done s flush = cond ((s == status.ok) || (s == status.more)) flush 0
+abbrev pub if_status_done : (status flush : ℕ) → ℕ
+if_status_done s flush = cond ((s == status.ok) || (s == status.more)) flush 0
 
 -- The number of the flush after a call of this kind that was allowed, with this status, and for a map with these parent flags.
 abbrev pub by_kind : (kind parent_flags status : ℕ) → ℕ
-by_kind kind more s = cond (kind == 0) (after_map more) (cond ((kind == 1) || (kind == 2)) (if_done s 2)
-    (cond (kind == 3) (if_done s 3) (cond (kind == 4) 1 3)))
+by_kind kind more s = cond (kind == 0) (flush_after_map more) (cond ((kind == 1) || (kind == 2)) (if_status_done s 2)
+    (cond (kind == 3) (if_status_done s 3) (cond (kind == 4) 1 3)))
 
 -- The number of the flush after a call of this kind with this status, and for a map with these parent flags: nothing if it was not
 -- allowed or an argument was wrong.

@@ -49,21 +49,21 @@ abbrev pub is_canonical : (L value : ℕ) → Bool
 is_canonical L n = nat_lt n (lower_half L) || nat_le (2 ^ 64 - lower_half L) n
 
 -- What is wrong with a virtual address.
-abbrev pub bad_address : (L address : ℕ) → Option ℕ
-bad_address L a = unless (is_canonical L a) status.bad_address
+abbrev pub wrong_address : (L address : ℕ) → Option ℕ
+wrong_address L a = unless (is_canonical L a) status.bad_address
 
 -- What is wrong with the hierarchy in an array of so many tables, or else with the virtual address, of a call that reads at an
 -- address.
 abbrev pub bad_read : Hierarchy → (count address : ℕ) → Option ℕ
-bad_read h count a = option_or (bad_hierarchy h count) (bad_address h.levels a)
+bad_read h count a = option_or (bad_hierarchy h count) (wrong_address h.levels a)
 
 -- What is wrong with the number of marks of a test. It needs one for each table.
 abbrev pub bad_marks : (tables marks : ℕ) → Option ℕ
 bad_marks n marks = unless (nat_le n marks) status.bad_array
 
 -- What is wrong with a hierarchy in an array of so many tables, or else with the number of marks, of a test of validity.
-abbrev pub bad_test : Hierarchy → (count marks : ℕ) → Option ℕ
-bad_test h count marks = option_or (bad_hierarchy h count) (bad_marks count marks)
+abbrev pub wrong_test : Hierarchy → (count marks : ℕ) → Option ℕ
+wrong_test h count marks = option_or (bad_hierarchy h count) (bad_marks count marks)
 
 -- What is wrong with a number of free frames in an array with so many entries, or with the number of marks of a test over so many
 -- tables.
@@ -90,16 +90,16 @@ abbrev pub starts_page : (L size start : ℕ) → Bool
 starts_page L size start = is_canonical L start && (position_of L start % size == 0)
 
 -- What is wrong with a page with L levels: its size, or its start.
-abbrev pub bad_page : (L : ℕ) → Page → Option ℕ
-bad_page L page = unless (is_size page.size && starts_page L page.size page.start) status.bad_page
+abbrev pub wrong_page : (L : ℕ) → Page → Option ℕ
+wrong_page L page = unless (is_size page.size && starts_page L page.size page.start) status.bad_page
 
 -- The level of the entries that map pages of a size: one for 4KiB, two for 2MiB, and three for 1GiB.
-abbrev pub level_of : (size : ℕ) → ℕ
-level_of size = cond (size == 0x1000) 1 (cond (size == 0x20_0000) 2 3)
+abbrev pub level_of_page_size : (size : ℕ) → ℕ
+level_of_page_size size = cond (size == 0x1000) 1 (cond (size == 0x20_0000) 2 3)
 
 -- The path from the root to the entry of a page, with L levels.
 abbrev pub path_of_page : (L : ℕ) → Page → List ℕ
-path_of_page L page = path_at L (level_of page.size) (position_of L page.start)
+path_of_page L page = path_at L (level_of_page_size page.size) (position_of L page.start)
 
 -- The level of the entry that maps a page: one for 4KiB, two for 2MiB, and three for 1GiB.
 abbrev pub any_level : {L : Type 0} → AnyPage L → ℕ
@@ -115,9 +115,9 @@ any_position (Of1GiB p) = p
 
 -- An entry of this level maps pages of the size of a page, and this is the position of its start.
 pub record IsPageOf (L : ℕ) (page : Page) (level position : ℕ) : Type 0 where
-  pub level_is : level ≡ level_of page.size
+  pub level_is : level ≡ level_of_page_size page.size
   pub position_is : position ≡ position_of L page.start
 
 -- What is wrong with the address of a frame of a size.
-abbrev pub bad_frame : (size frame : ℕ) → Option ℕ
-bad_frame size frame = unless (starts_frame size frame) status.bad_frame
+abbrev pub wrong_frame : (size frame : ℕ) → Option ℕ
+wrong_frame size frame = unless (starts_frame size frame) status.bad_frame

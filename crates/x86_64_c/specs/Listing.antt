@@ -8,12 +8,12 @@ use Rattle.x86_64_c.specs.Status as status
 use Rattle.x86_64_c.specs.declared.listing.Mapping.{Mapping}
 
 -- All mappings below the root of a hierarchy whose last address is not below an address, in order.
-abbrev pub mappings_at : Hierarchy (Unit {0}) → (address : ℕ) → List model.Mapping
-mappings_at h a = model.mappings_from (position_of h.layout.levels a) (model.mappings_of h.layout.levels (words h) h.layout.root)
+abbrev pub mappings_from_address : Hierarchy (Unit {0}) → (address : ℕ) → List model.Mapping
+mappings_from_address h a = model.mappings_from (position_of h.layout.levels a) (model.mappings_of h.layout.levels (words h) h.layout.root)
 
 -- A mapping as it is written for C: it starts at an address, not at a position.
-abbrev pub written : (L : ℕ) → model.Mapping → Mapping
-written L m = record {
+abbrev pub mapping_written : (L : ℕ) → model.Mapping → Mapping
+mapping_written L m = record {
   start = raw L m.start;
   size = m.size;
   frame = m.frame;
@@ -37,7 +37,7 @@ WritesNext (Some start) s before next = (s ≡ status.more) × (next ≡ start)
 -- The array gets as many of all mappings as it has room for, from its start on, and keeps what it holds behind them.
 pub record WritesMappings (all : List model.Mapping) (L : ℕ) (before after : List Mapping) (count : ℕ) : Type 0 where
   pub number : count ≡ length (take (length before) all)
-  pub array : after ≡ map (written L) (take (length before) all) ++ drop count before
+  pub array : after ≡ map (mapping_written L) (take (length before) all) ++ drop count before
 
 -- As many mappings as the array has room for are written, with their number. The status says whether these are all, and if not, the
 -- address of the next one is written.

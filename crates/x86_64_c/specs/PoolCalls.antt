@@ -9,7 +9,7 @@ use Rattle.x86_64.specs.Asked.{MapperCall, PageCall}
 use Rattle.x86_64.specs.Replies.{Reply, changes_nothing}
 use Rattle.x86_64.specs.Runs.{LeavesFree, Stepped, machine_with, state_with, step_by}
 use Rattle.x86_64_c.specs.Calls.{reply_status}
-use Rattle.x86_64_c.specs.Given.{unless, bad_hierarchy, bad_page, bad_frame, hierarchy_in, level_of, starts_page, position_of}
+use Rattle.x86_64_c.specs.Given.{unless, bad_hierarchy, wrong_page, wrong_frame, hierarchy_in, level_of_page_size, starts_page, position_of}
 use Rattle.x86_64_c.specs.Status as status
 use Rattle.x86_64_c.specs.Status.{ok}
 use Rattle.x86_64_c.specs.declared.given.Hierarchy.{Hierarchy as Given}
@@ -24,20 +24,20 @@ pub record Request : Type 0 where
 
 -- What is wrong with a request to map a page, with L levels: the page, or else the frame.
 abbrev pub bad_map : (L : ℕ) → MapRequest → Option ℕ
-bad_map L request = option_or (bad_page L request.page) (bad_frame request.page.size request.frame)
+bad_map L request = option_or (wrong_page L request.page) (wrong_frame request.page.size request.frame)
 
 -- The call on a page that an entry of the level maps: level one for 4KiB, two for 2MiB, and three for 1GiB.
 abbrev pub on_page : (level : ℕ) → PageCall → MapperCall
 on_page level call = cond (level == 1) (asked.Of4KiB call) (cond (level == 2) (asked.Of2MiB call) (asked.Of1GiB call))
 
 -- The call of a mapper, with L levels, that a request to map a page asks for.
-abbrev pub map_call : (L : ℕ) → MapRequest → MapperCall
-map_call L request =
-    on_page (level_of request.page.size) (asked.MapToWithTableFlags (position_of L request.page.start) request.frame request.flags request.parent_flags)
+abbrev pub map_asked : (L : ℕ) → MapRequest → MapperCall
+map_asked L request =
+    on_page (level_of_page_size request.page.size) (asked.MapToWithTableFlags (position_of L request.page.start) request.frame request.flags request.parent_flags)
 
 -- What is wrong with the first or the last 4KiB page of a range, with L levels.
-abbrev pub bad_range : (L first last : ℕ) → Option ℕ
-bad_range L first last = unless (starts_page L 4096 first && starts_page L 4096 last) status.bad_page
+abbrev pub wrong_range : (L first last : ℕ) → Option ℕ
+wrong_range L first last = unless (starts_page L 4096 first && starts_page L 4096 last) status.bad_page
 
 -- The clean up of the 4KiB pages from the first to the last, inclusive, with L levels.
 abbrev pub clean_up_call : (L first last : ℕ) → MapperCall
@@ -45,11 +45,11 @@ clean_up_call L first last = asked.CleanUpRange (position_of L first) (position_
 
 -- The request to map a page.
 abbrev pub to_map : MapRequest → Request
-to_map request = record { call = λ L. map_call L request; wrong = λ L. bad_map L request }
+to_map request = record { call = λ L. map_asked L request; wrong = λ L. bad_map L request }
 
 -- The request to clean up the 4KiB pages from the first to the last, inclusive.
 abbrev pub to_clean_up : (first last : ℕ) → Request
-to_clean_up first last = record { call = λ L. clean_up_call L first last; wrong = λ L. bad_range L first last }
+to_clean_up first last = record { call = λ L. clean_up_call L first last; wrong = λ L. wrong_range L first last }
 
 -- ---- what a caller lends
 
@@ -73,8 +73,8 @@ abbrev pub bad_lent : Given → Loan → (other : Option ℕ) → Option ℕ
 bad_lent h lent other = option_or (bad_hierarchy h (length lent.tables)) (bad_pool lent.free (length lent.array) other)
 
 -- What is wrong with any of the arguments of a request.
-abbrev pub bad_call : Given → Loan → Request → Option ℕ
-bad_call h lent request = bad_lent h lent (request.wrong h.levels)
+abbrev pub wrong_pool_call : Given → Loan → Request → Option ℕ
+wrong_pool_call h lent request = bad_lent h lent (request.wrong h.levels)
 
 -- ---- what a call does
 
@@ -84,7 +84,7 @@ pool_in own entries count = record { frames = stacked entries count; serves = is
 
 -- A call was executed as the machine does it, with the status of the reply. The hierarchy is valid again, and the rest of the pool
 -- fits it. The pool serves the same frames. If the reply says that nothing changed, no word did. Free frames keep their words, except those that came back.
-pub record Runs (h : Hierarchy (Unit {0})) (pool : Store) (call : MapperCall) (after : Hierarchy (Unit {0})) (rest : Store) (status : ℕ) : Type 0 where
+pub record RunsCall (h : Hierarchy (Unit {0})) (pool : Store) (call : MapperCall) (after : Hierarchy (Unit {0})) (rest : Store) (status : ℕ) : Type 0 where
   pub reply : Reply
   pub step : Stepped h pool call reply after rest.frames
   pub status_is : status ≡ reply_status reply
@@ -102,15 +102,15 @@ pub record HasPool (own : List ℕ) (h : Given) (lent : Loan) (wrong : Option �
 
 -- A request may be made, with a pool that has these frames as its own.
 abbrev pub MayExecute : (own : List ℕ) (h : Given) (lent : Loan) (request : Request) → Type 0
-MayExecute own h lent request = HasPool own h lent (bad_call h lent request)
+MayExecute own h lent request = HasPool own h lent (wrong_pool_call h lent request)
 
 -- A request returned this status, and left this of what the caller lent.
 pub record Executes (own : List ℕ) (h : Given) (lent : Loan) (request : Request) (status : ℕ) (after : Loan) : Type 0 where
   -- If an argument is wrong, the status says what, and nothing changes.
-  pub bad : (why : ℕ) → bad_call h lent request ≡ Some why → (status ≡ why) × (after ≡ lent)
+  pub bad : (why : ℕ) → wrong_pool_call h lent request ≡ Some why → (status ≡ why) × (after ≡ lent)
   -- Otherwise the call is executed.
-  pub runs : bad_call h lent request ≡ None
-      → Runs (hierarchy_in h lent.tables) (pool_in own lent.array lent.free) (request.call h.levels) (hierarchy_in h after.tables) (pool_in own after.array after.free) status
+  pub runs : wrong_pool_call h lent request ≡ None
+      → RunsCall (hierarchy_in h lent.tables) (pool_in own lent.array lent.free) (request.call h.levels) (hierarchy_in h after.tables) (pool_in own after.array after.free) status
   -- The array is as long as before, and the free frames are in it if they were before.
   pub room : length after.array ≡ length lent.array
   pub in_array : lent.free ≤ length lent.array → after.free ≤ length after.array
@@ -122,14 +122,14 @@ abbrev pub machine_status : (h : Hierarchy (Unit {0})) → (pool : Store) → Ma
 machine_status h pool call = option_map reply_status (step_by (machine_with h pool) (state_with h pool) call).reply
 
 -- The status that a request has when it is executed: what is wrong with an argument, or the status of the machine's reply.
-abbrev pub status_of : (own : List ℕ) (h : Given) (lent : Loan) (request : Request) → Option ℕ
-status_of own h lent request =
-    option_or (bad_call h lent request) (machine_status (hierarchy_in h lent.tables) (pool_in own lent.array lent.free) (request.call h.levels))
+abbrev pub request_status : (own : List ℕ) (h : Given) (lent : Loan) (request : Request) → Option ℕ
+request_status own h lent request =
+    option_or (wrong_pool_call h lent request) (machine_status (hierarchy_in h lent.tables) (pool_in own lent.array lent.free) (request.call h.levels))
 
 -- A request was executed, or it was refused and changed nothing.
 pub record ExecutesOrNothing (own : List ℕ) (h : Given) (lent : Loan) (request : Request) (status : ℕ) (after : Loan) : Type 0 where
   -- The status is the one that it has when it is executed.
-  pub status_is : Some status ≡ status_of own h lent request
+  pub status_is : Some status ≡ request_status own h lent request
   -- If this is OK, it was executed.
   pub done : status ≡ ok → Executes own h lent request status after
   -- Otherwise the tables, the array and the number of free frames are as before.

@@ -10,7 +10,7 @@ use Rattle.x86_64_model.specs.Store.{Store, KeepsPool}
 use Rattle.x86_64_mappers.specs.RangeChanges.{DoesChanges, frames_done, unmaps, updates}
 use Rattle.x86_64_mappers.specs.Ranges.{MapRange, MayMapRange, MapsAll, StopsAt, range_of}
 use Rattle.x86_64_c.specs.Calls.{refusal_status}
-use Rattle.x86_64_c.specs.Given.{unless, bad_hierarchy, bad_page, bad_frame, hierarchy_in, level_of, position_of}
+use Rattle.x86_64_c.specs.Given.{unless, bad_hierarchy, wrong_page, wrong_frame, hierarchy_in, level_of_page_size, position_of}
 use Rattle.x86_64_c.specs.PoolCalls.{HasPool, Loan, bad_lent, pool_in}
 use Rattle.x86_64_c.specs.Status as status
 use Rattle.x86_64_c.specs.Status.{ok, more, not_allowed}
@@ -29,16 +29,16 @@ half_end L p = cond (nat_lt p (lower_half L)) (lower_half L) (position_count L)
 
 -- What is wrong with a number of pages, from a page on: the page, or that they don't end in its half of the address space.
 abbrev pub bad_pages : (L : ℕ) → Page → (count : ℕ) → Option ℕ
-bad_pages L page count = option_or (bad_page L page)
+bad_pages L page count = option_or (wrong_page L page)
     (unless (nat_le (count * page.size) (half_end L (position_of L page.start) - position_of L page.start)) status.bad_page)
 
 -- What is wrong with a number of frames of a size, from a frame on: the frame, or that they don't end at 2^52 or below.
 abbrev pub bad_frames : (size frame count : ℕ) → Option ℕ
-bad_frames size frame count = option_or (bad_frame size frame) (unless (nat_le (count * size) (2 ^ 52 - frame)) status.bad_frame)
+bad_frames size frame count = option_or (wrong_frame size frame) (unless (nat_le (count * size) (2 ^ 52 - frame)) status.bad_frame)
 
 -- What is wrong with a hierarchy in an array of so many tables, or else with a number of pages, from a page on.
-abbrev pub bad_range : Given → (tables : ℕ) → Page → (count : ℕ) → Option ℕ
-bad_range h n page count = option_or (bad_hierarchy h n) (bad_pages h.levels page count)
+abbrev pub wrong_page_range : Given → (tables : ℕ) → Page → (count : ℕ) → Option ℕ
+wrong_page_range h n page count = option_or (bad_hierarchy h n) (bad_pages h.levels page count)
 
 -- What is wrong with the pages of a map of a range, or else with its frames.
 abbrev pub bad_maps : (L : ℕ) → MapRequest → (count : ℕ) → Option ℕ
@@ -52,15 +52,15 @@ bad_map_range h lent request count = bad_lent h lent (bad_maps h.levels request 
 
 -- The range of pages, frames and flags that a request to map pages asks for, with L levels.
 abbrev pub range_asked : (L : ℕ) → MapRequest → MapRange
-range_asked L request = range_of (level_of request.page.size) (position_of L request.page.start) request.frame request.flags request.parent_flags
+range_asked L request = range_of (level_of_page_size request.page.size) (position_of L request.page.start) request.frame request.flags request.parent_flags
 
 -- The range of pages, frames and flags of a map of pages that entries of a level map.
-abbrev pub range_at : {S L : Type 0} → (level : ℕ) → RangeMap S L → MapRange
-range_at level map = range_of level map.page map.frame (bits_of map.flags) (bits_of map.parent_flags)
+abbrev pub range_of_request : {S L : Type 0} → (level : ℕ) → RangeMap S L → MapRange
+range_of_request level map = range_of level map.page map.frame (bits_of map.flags) (bits_of map.parent_flags)
 
 -- The parent flags have PRESENT, and each of so many pages of a range may be mapped.
-abbrev pub MayMap : Hierarchy (Unit {0}) → MapRange → (count : ℕ) → Type 0
-MayMap h r count = (present r.parent_flags ≡ true) × MayMapRange h r count
+abbrev pub MayMapPages : Hierarchy (Unit {0}) → MapRange → (count : ℕ) → Type 0
+MayMapPages h r count = (present r.parent_flags ≡ true) × MayMapRange h r count
 
 -- Pages were mapped one after another, with this status: all of them, or so many, and the map of the next one was refused. The
 -- rest of the pool fits.
@@ -78,10 +78,10 @@ pub record MapsWith (own : List ℕ) (h : Given) (lent : Loan) (request : MapReq
   -- If an argument is wrong, the status says what, and nothing changes.
   pub bad : (why : ℕ) → bad_map_range h lent request count ≡ Some why → (status ≡ why) × (after ≡ lent) × (done ≡ was)
   -- Otherwise, nothing changes either if the maps aren't allowed.
-  pub refused : bad_map_range h lent request count ≡ None → (MayMap (hierarchy_in h lent.tables) (range_asked h.levels request) count → ⊥)
+  pub refused : bad_map_range h lent request count ≡ None → (MayMapPages (hierarchy_in h lent.tables) (range_asked h.levels request) count → ⊥)
       → (status ≡ not_allowed) × (after ≡ lent) × (done ≡ was)
   -- If they are, the pages are mapped.
-  pub maps : bad_map_range h lent request count ≡ None → MayMap (hierarchy_in h lent.tables) (range_asked h.levels request) count
+  pub maps : bad_map_range h lent request count ≡ None → MayMapPages (hierarchy_in h lent.tables) (range_asked h.levels request) count
       → Maps (hierarchy_in h lent.tables) (pool_in own lent.array lent.free) (range_asked h.levels request) count (hierarchy_in h after.tables) (pool_in own after.array after.free) status done
   -- The array is as long as before, and the free frames are in it if they were before.
   pub room : length after.array ≡ length lent.array
@@ -90,7 +90,7 @@ pub record MapsWith (own : List ℕ) (h : Given) (lent : Loan) (request : MapReq
 -- ---- unmaps and changes of flags
 
 -- Calls that each change at most one entry were made one after another, with these replies. A pool that fitted still fits.
-pub record Changes (h : Hierarchy (Unit {0})) (calls : List Call) (replies : List Reply) (after : Hierarchy (Unit {0})) : Type 0 where
+pub record ChangesRange (h : Hierarchy (Unit {0})) (calls : List Call) (replies : List Reply) (after : Hierarchy (Unit {0})) : Type 0 where
   pub does : DoesChanges h calls replies after
   pub keeps : (serves : ℕ → Bool) (pool : List ℕ) → PoolFits h serves pool → KeepsPool h.layout serves h.memory pool after.memory pool
 
@@ -100,10 +100,10 @@ end_status done count = cond (done == count) ok more
 
 -- Of a number of pages of a level, from a page on, as many were unmapped one after another as an array has entries. Those whose unmap is
 -- refused are passed over. The array begins with the frames of the others, and keeps what it holds behind them.
-pub record Unmaps (h : Hierarchy (Unit {0})) (level page count : ℕ) (array : List ℕ) (after : Hierarchy (Unit {0})) (status : ℕ) (frames : List ℕ) (frame_count done : ℕ) : Type 0 where
+pub record UnmapsRange (h : Hierarchy (Unit {0})) (level page count : ℕ) (array : List ℕ) (after : Hierarchy (Unit {0})) (status : ℕ) (frames : List ℕ) (frame_count done : ℕ) : Type 0 where
   pub replies : List Reply
   pub most : done ≡ min count (length array)
-  pub changes : Changes h (unmaps h.layout.levels level page done) replies after
+  pub changes : ChangesRange h (unmaps h.layout.levels level page done) replies after
   pub taken : frames ≡ frames_done replies ++ drop (length (frames_done replies)) array
   pub number : frame_count ≡ length (frames_done replies)
   pub status_is : status ≡ end_status done count
@@ -112,7 +112,7 @@ pub record Unmaps (h : Hierarchy (Unit {0})) (level page count : ℕ) (array : L
 -- the number of the others was written.
 pub record Updates (h : Hierarchy (Unit {0})) (level page flags count : ℕ) (after : Hierarchy (Unit {0})) (status changed : ℕ) : Type 0 where
   pub replies : List Reply
-  pub changes : Changes h (updates h.layout.levels level page flags count) replies after
+  pub changes : ChangesRange h (updates h.layout.levels level page flags count) replies after
   pub number : changed ≡ length (frames_done replies)
   pub status_is : status ≡ ok
 

@@ -13,25 +13,25 @@ abbrev pub walk_to : Hierarchy (Unit {0}) → (address : ℕ) → Option model.W
 walk_to h a = walk h (position_of h.layout.levels a)
 
 -- An arrival of a page walk as it is written for C: the physical address, and the rights to write and of users.
-abbrev pub arrival : model.Walked → Walked
-arrival w = record { address = w.address; write = w.write; user = w.user }
+abbrev pub walked_out : model.Walked → Walked
+walked_out w = record { address = w.address; write = w.write; user = w.user }
 
 -- Where the page walk of a virtual address arrives, as it is written for C.
 abbrev pub walked_to : Hierarchy (Unit {0}) → (address : ℕ) → Option Walked
-walked_to h a = option_map arrival (walk_to h a)
+walked_to h a = option_map walked_out (walk_to h a)
 
 -- What a virtual address is mapped to, as the mapper translates it: also by an entry of level one without PRESENT.
-abbrev pub translation_of : Hierarchy (Unit {0}) → (address : ℕ) → Translated
-translation_of h a = translation h (position_of h.layout.levels a)
+abbrev pub translation_here : Hierarchy (Unit {0}) → (address : ℕ) → Translated
+translation_here h a = translation h (position_of h.layout.levels a)
 
 -- A translation as it is written for C, or none if the address is not mapped.
-abbrev pub written : Translated → Option Translation
-written NotMapped = None
-written (Mapped size frame offset flags) = Some (record { frame = frame; size = size; offset = offset; flags = flags })
+abbrev pub translation_written : Translated → Option Translation
+translation_written NotMapped = None
+translation_written (Mapped size frame offset flags) = Some (record { frame = frame; size = size; offset = offset; flags = flags })
 
 -- What a virtual address is mapped to, as it is written for C.
 abbrev pub translated_at : Hierarchy (Unit {0}) → (address : ℕ) → Option Translation
-translated_at h a = written (translation_of h a)
+translated_at h a = translation_written (translation_here h a)
 
 -- If something was found, it was written, and the status is OK. Otherwise nothing was written, and the status is NOT_MAPPED.
 abbrev pub WritesIfFound : {X : Type 0} → Option X → (status : ℕ) → (before after : X) → Type 0

@@ -12,17 +12,17 @@ abbrev pub may_execute : Hierarchy (Unit {0}) → (position : ℕ) → Bool
 may_execute h p = (rights_in (steps_to h.layout.levels (words h) h.layout.root p)).execute
 
 -- An arrival of a page walk at an address with these rights, as it is written for C.
-abbrev pub written : (address : ℕ) → Rights → WalkResult
-written address r = record { address = address; write = r.write; user = r.user; execute = r.execute }
+abbrev pub result_written : (address : ℕ) → Rights → WalkResult
+result_written address r = record { address = address; write = r.write; user = r.user; execute = r.execute }
 
 -- An arrival of a page walk as it is written for C, with this right to execute.
-abbrev pub arrival : (execute : Bool) → Walked → WalkResult
-arrival x w = record { address = w.address; write = w.write; user = w.user; execute = x }
+abbrev pub result_of_walk : (execute : Bool) → Walked → WalkResult
+result_of_walk x w = record { address = w.address; write = w.write; user = w.user; execute = x }
 
 -- Where the page walk of a position arrives, with all rights, as it is written for C.
 abbrev pub walked_at : Hierarchy (Unit {0}) → (position : ℕ) → Option WalkResult
-walked_at h p = option_map (arrival (may_execute h p)) (walk h p)
+walked_at h p = option_map (result_of_walk (may_execute h p)) (walk h p)
 
 -- Where the page walk of a virtual address arrives, with all rights, as it is written for C.
-abbrev pub walked_to : Hierarchy (Unit {0}) → (address : ℕ) → Option WalkResult
-walked_to h a = walked_at h (position_of h.layout.levels a)
+abbrev pub result_walked : Hierarchy (Unit {0}) → (address : ℕ) → Option WalkResult
+result_walked h a = walked_at h (position_of h.layout.levels a)

@@ -81,13 +81,13 @@ pub extern "C" fn x64_access(
     request: &AccessRequest,
     outcome: &mut Outcome,
 ) -> u32
-    ensures bad { (status : ℕ) → accesses.bad_call hierarchy.now (length tables.old) controls.now request.now
+    ensures bad { (status : ℕ) → accesses.wrong_access_call hierarchy.now (length tables.old) controls.now request.now
         ≡ Some status → (result ≡ status) × (tables.new ≡ tables.old) × (outcome.new ≡ outcome.old) }
-    ensures told { accesses.bad_call hierarchy.now (length tables.old) controls.now request.now ≡ None
-        → accesses.WritesOutcome (accesses.outcome_of (given.hierarchy_in hierarchy.now tables.old) controls.now
+    ensures told { accesses.wrong_access_call hierarchy.now (length tables.old) controls.now request.now ≡ None
+        → accesses.WritesOutcome (accesses.access_outcome (given.hierarchy_in hierarchy.now tables.old) controls.now
         request.now) result outcome.new }
-    ensures marks { accesses.bad_call hierarchy.now (length tables.old) controls.now request.now ≡ None
-        → numbered tables.new ≡ accesses.memory_after (given.hierarchy_in hierarchy.now tables.old)
+    ensures marks { accesses.wrong_access_call hierarchy.now (length tables.old) controls.now request.now ≡ None
+        → numbered tables.new ≡ accesses.memory_accessed (given.hierarchy_in hierarchy.now tables.old)
         controls.now request.now }
     ensures keeps { accesses.StillFits (given.hierarchy_in hierarchy.now tables.old)
         (given.hierarchy_in hierarchy.now tables.new) }
@@ -108,19 +108,19 @@ pub struct Asked<'a> {
 impl<'a> Operation for Asked<'a> {
     ghost use Rattle.std.specs.Prelude.{◌≡◌};
     ghost use Rattle.x86_64_access.specs.Accesses as memory_unit;
-    ghost use Rattle.x86_64_c.specs.Accesses.{StillFits, memory_after, outcome_of, wrong};
+    ghost use Rattle.x86_64_c.specs.Accesses.{StillFits, memory_accessed, access_outcome, wrong_access_request};
 
     type Out = Result<PhysAddr, Fault>;
 
     type Entry = u64;
 
-    ghost wrong = { λ asked levels tables room. wrong levels asked.controls.now asked.request.now };
+    ghost wrong = { λ asked levels tables room. wrong_access_request levels asked.controls.now asked.request.now };
 
     ghost may = { λ asked h array. Unit {0} };
 
     ghost does = { λ asked h array after left came.
-        (memory_unit.outcome_of came ≡ outcome_of h asked.controls.now asked.request.now)
-        × (after.memory ≡ memory_after h asked.controls.now asked.request.now) × StillFits h after };
+        (memory_unit.outcome_of came ≡ access_outcome h asked.controls.now asked.request.now)
+        × (after.memory ≡ memory_accessed h asked.controls.now asked.request.now) × StillFits h after };
 
     fn execute<L: LevelCount, T: TableMemory>(
         &self,
@@ -145,9 +145,9 @@ impl<'a> Operation for Asked<'a> {
 
 /// Returns the access of a request to a processor, if its kind and the number of physical bits are right.
 fn access_of(controls: &Controls, request: &AccessRequest) -> Option<Access>
-    ensures some { IfSome result (λ access. memory_unit.access_of access ≡ accesses.access_of request.now) }
-    ensures good { IfSome result (λ _. accesses.bad_access controls.now request.now ≡ None) }
-    ensures bad { IfNone result (accesses.bad_access controls.now request.now
+    ensures some { IfSome result (λ access. memory_unit.access_of access ≡ accesses.access_asked request.now) }
+    ensures good { IfSome result (λ _. accesses.wrong_access controls.now request.now ≡ None) }
+    ensures bad { IfNone result (accesses.wrong_access controls.now request.now
         ≡ Some statuses.bad_access) }
 {
     if controls.physical_bits < 32 || 52 < controls.physical_bits {
@@ -210,7 +210,7 @@ fn access_at<L: LevelCount, T: TableMemory>(
 
 /// Returns the controls of a processor.
 fn controls_of(controls: &Controls) -> x86_64_access::Controls
-    ensures { memory_unit.controls_of result ≡ accesses.controls_of controls.now }
+    ensures { memory_unit.controls_of result ≡ accesses.given_controls controls.now }
 {
     x86_64_access::Controls {
         write_protect: controls.write_protect,
@@ -225,7 +225,7 @@ fn controls_of(controls: &Controls) -> x86_64_access::Controls
 /// Writes what came of an access, and returns the status.
 fn tell(came: Result<PhysAddr, Fault>, outcome: &mut Outcome) -> u32
     ensures status { result ≡ accesses.outcome_status (memory_unit.outcome_of came) }
-    ensures outcome { outcome.new ≡ accesses.written (memory_unit.outcome_of came) }
+    ensures outcome { outcome.new ≡ accesses.outcome_written (memory_unit.outcome_of came) }
 {
     match came {
         Ok(address) => {
@@ -243,7 +243,7 @@ fn tell(came: Result<PhysAddr, Fault>, outcome: &mut Outcome) -> u32
 /// Writes why an access didn't arrive, and returns the status.
 fn tell_fault(fault: Fault, outcome: &mut Outcome) -> u32
     ensures status { result ≡ accesses.outcome_status (memory_unit.fault_of fault) }
-    ensures outcome { outcome.new ≡ accesses.written (memory_unit.fault_of fault) }
+    ensures outcome { outcome.new ≡ accesses.outcome_written (memory_unit.fault_of fault) }
 {
     match fault {
         Fault::PageFault { code, level } => {

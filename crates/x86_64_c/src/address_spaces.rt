@@ -40,10 +40,10 @@ pub extern "C" fn x64_spaces_fit(
     free_count: usize,
     marks: &mut [bool],
 ) -> u32
-    ensures bad { (status : ℕ) → spaces.bad_test levels shared_from shared_to
+    ensures bad { (status : ℕ) → spaces.wrong_spaces_test levels shared_from shared_to
         (calls.loan tables.old pool.now free_count) (length marks.old) ≡ Some status
         → (result ≡ status) × (marks.new ≡ marks.old) }
-    ensures fit { spaces.bad_test levels shared_from shared_to (calls.loan tables.old pool.now free_count)
+    ensures fit { spaces.wrong_spaces_test levels shared_from shared_to (calls.loan tables.old pool.now free_count)
         (length marks.old) ≡ None → validity.TellsWhether (spaces.SpacesFit
         (spaces.shared_in shared_from shared_to) first levels roots.now
         (calls.loan tables.old pool.now free_count)) result }
@@ -79,8 +79,8 @@ pub extern "C" fn x64_spaces_fit(
 /// one is above 511.
 fn shared_indices(from: u64, to: u64) -> Result<SharedIndices, u32>
     ensures shared { IfOk result (λ shared. shared ≡ record { from = from; to = to }) }
-    ensures good { IfOk result (λ _. spaces.bad_indices from to ≡ None) }
-    ensures bad { IfErr result (λ status. spaces.bad_indices from to ≡ Some status) }
+    ensures good { IfOk result (λ _. spaces.wrong_indices from to ≡ None) }
+    ensures bad { IfErr result (λ status. spaces.wrong_indices from to ≡ Some status) }
 {
     if to < from || 512 < to {
         return Err(status::BAD_INDICES);
@@ -175,7 +175,7 @@ pub struct NewSpace {
 }
 
 impl Operation for NewSpace {
-    ghost use Rattle.x86_64_c.specs.AddressSpaces.{bad_indices, shared_in};
+    ghost use Rattle.x86_64_c.specs.AddressSpaces.{wrong_indices, shared_in};
     ghost use Rattle.x86_64_c.specs.PoolCalls.{bad_pool};
     ghost use Rattle.x86_64_c.specs.private.Pools.{FitsIn};
     ghost use Rattle.x86_64_c.specs.private.Spaces.{MakesRoot};
@@ -185,7 +185,7 @@ impl Operation for NewSpace {
     type Entry = u64;
 
     ghost wrong = { λ new levels tables room.
-        bad_pool new.free_count room (bad_indices new.shared_from new.shared_to) };
+        bad_pool new.free_count room (wrong_indices new.shared_from new.shared_to) };
 
     ghost may = { λ new h array. FitsIn new.own.frames h array new.free_count };
 

@@ -59,7 +59,7 @@ pub struct OnPage<'a, C> {
 
 impl<'a, C: EntryChange> Operation for OnPage<'a, C> {
     ghost use Rattle.std.specs.Option.{option_or};
-    ghost use Rattle.x86_64_c.specs.Given.{bad_page, path_of_page};
+    ghost use Rattle.x86_64_c.specs.Given.{wrong_page, path_of_page};
     ghost use Rattle.x86_64_model.specs.Hierarchy.{Valid};
 
     type Out = C::Out;
@@ -67,7 +67,7 @@ impl<'a, C: EntryChange> Operation for OnPage<'a, C> {
     type Entry = u64;
 
     ghost wrong = { λ on levels tables room.
-        option_or (C.wrong on.change.now levels) (bad_page levels on.page.now) };
+        option_or (C.wrong on.change.now levels) (wrong_page levels on.page.now) };
 
     ghost may = { λ on h array. Valid h };
 

@@ -24,10 +24,10 @@ pub extern "C" fn x64_entries(
     count: &mut usize,
 ) -> u32
     ensures bad { (status : ℕ) →
-        steps.bad_call hierarchy.now (length tables.old) (length entries.old) address ≡ Some status →
+        steps.wrong_entries_call hierarchy.now (length tables.old) (length entries.old) address ≡ Some status →
         (result ≡ status) × (entries.new ≡ entries.old) × (count.new ≡ count.old) }
-    ensures writes { steps.bad_call hierarchy.now (length tables.old) (length entries.old) address ≡ None
-        → steps.Writes (steps.steps_to (given.hierarchy_in hierarchy.now tables.old) address)
+    ensures writes { steps.wrong_entries_call hierarchy.now (length tables.old) (length entries.old) address ≡ None
+        → steps.WritesEntries (steps.steps_walked (given.hierarchy_in hierarchy.now tables.old) address)
         entries.old result entries.new count.new }
     ensures tables { tables.new ≡ tables.old }
 {
@@ -48,18 +48,18 @@ pub struct EntriesTo {
 
 impl Operation for EntriesTo {
     ghost use Rattle.std.specs.Prelude.{◌≡◌};
-    ghost use Rattle.x86_64_c.specs.Entries.{Writes, status_of, steps_to, wrong};
+    ghost use Rattle.x86_64_c.specs.Entries.{WritesEntries, walk_end_status, steps_walked, wrong_walk};
 
     type Out = EntriesRead;
 
     type Entry = WalkEntry;
 
-    ghost wrong = { λ to levels tables room. wrong levels room to.address };
+    ghost wrong = { λ to levels tables room. wrong_walk levels room to.address };
 
     ghost may = { λ to h array. Unit {0} };
 
     ghost does = { λ to h array after left read.
-        (after.memory ≡ h.memory) × Writes (steps_to h to.address) array (status_of read.end) left read.count };
+        (after.memory ≡ h.memory) × WritesEntries (steps_walked h to.address) array (walk_end_status read.end) left read.count };
 
     fn execute<L: LevelCount, T: TableMemory>(
         &self,

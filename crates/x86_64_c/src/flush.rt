@@ -46,7 +46,7 @@ pub const FLUSH_EVERYTHING: u32 = 3;
 #[unsafe(no_mangle)]
 pub extern "C" fn x64_flush_after(call: u32, parent_flags: u64, status: u32) -> u32
     ensures rule { result ≡ flushes.flush_by call parent_flags status }
-    ensures call { flushes.TellsFlush call parent_flags status result }
+    ensures call { flushes.TellsFlushNumber call parent_flags status result }
     ensures each { flushes.TellsFlushes call parent_flags status result }
 {
     flush_by(call, parent_flags, status)
@@ -71,7 +71,7 @@ fn flush_by(call: u32, parent_flags: u64, status: u32) -> u32
 /// Returns what has to be flushed after a map with these parent flags: everything, if they take the right to execute.
 #[tactic(auto, unfolding(x86_64_model::specs::Entry::has))]
 fn after_map(parent_flags: u64) -> u32
-    ensures { result ≡ flushes.after_map parent_flags }
+    ensures { result ≡ flushes.flush_after_map parent_flags }
 {
     if parent_flags & NO_EXECUTE == NO_EXECUTE {
         FLUSH_EVERYTHING
@@ -82,7 +82,7 @@ fn after_map(parent_flags: u64) -> u32
 
 /// Returns this flush after a call that was done, or that changed some pages of a range, and otherwise nothing.
 fn if_done(status: u32, flush: u32) -> u32
-    ensures { result ≡ flushes.if_done status flush }
+    ensures { result ≡ flushes.if_status_done status flush }
 {
     if status == status::OK || status == status::MORE {
         flush

@@ -84,8 +84,8 @@ pub fn frame_at<S: PageSize>(start: u64) -> Result<PhysFrame<S>, u32>
     ensures frame { IfOk result (λ frame. frame ≡ start) }
     ensures there { IfOk result (λ _. given.starts_frame S.SIZE start ≡ true) }
     ensures none { IfErr result (λ status. given.starts_frame S.SIZE start ≡ false) }
-    ensures good { IfOk result (λ _. given.bad_frame S.SIZE start ≡ None) }
-    ensures bad { IfErr result (λ status. given.bad_frame S.SIZE start ≡ Some status) }
+    ensures good { IfOk result (λ _. given.wrong_frame S.SIZE start ≡ None) }
+    ensures bad { IfErr result (λ status. given.wrong_frame S.SIZE start ≡ Some status) }
 {
     let address = match PhysAddr::try_new(start) {
         Ok(address) => address,
@@ -100,8 +100,8 @@ pub fn frame_at<S: PageSize>(start: u64) -> Result<PhysFrame<S>, u32>
 /// Returns the address with a raw value, if it is canonical with `L` levels of tables.
 pub fn address_of<L: LevelCount>(address: u64) -> Result<VirtAddrIn<L>, u32>
     ensures position { IfOk result (λ canonical. canonical ≡ given.position_of L.LEVELS address) }
-    ensures good { IfOk result (λ _. given.bad_address L.LEVELS address ≡ None) }
-    ensures bad { IfErr result (λ status. given.bad_address L.LEVELS address ≡ Some status) }
+    ensures good { IfOk result (λ _. given.wrong_address L.LEVELS address ≡ None) }
+    ensures bad { IfErr result (λ status. given.wrong_address L.LEVELS address ≡ Some status) }
 {
     match VirtAddrIn::checked_new(address) {
         Some(canonical) => Ok(canonical),
@@ -113,8 +113,8 @@ pub fn address_of<L: LevelCount>(address: u64) -> Result<VirtAddrIn<L>, u32>
 pub fn page_of<L: LevelCount>(page: &Page) -> Result<AnyPage<L>, u32>
     ensures page { IfOk result (λ any.
         given.IsPageOf L.LEVELS page.now (given.any_level any) (given.any_position any)) }
-    ensures good { IfOk result (λ _. given.bad_page L.LEVELS page.now ≡ None) }
-    ensures bad { IfErr result (λ status. given.bad_page L.LEVELS page.now ≡ Some status) }
+    ensures good { IfOk result (λ _. given.wrong_page L.LEVELS page.now ≡ None) }
+    ensures bad { IfErr result (λ status. given.wrong_page L.LEVELS page.now ≡ Some status) }
 {
     Ok(match page.size {
         Size4KiB::SIZE => AnyPage::Of4KiB(page_at(page.start)?),

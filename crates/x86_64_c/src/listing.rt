@@ -34,7 +34,7 @@ pub struct Mapping {
 impl Mapping {
     /// Creates the mapping that is written for one of the library's.
     fn of<L: LevelCount>(mapping: MappingIn<L>) -> Mapping
-        ensures { result ≡ listing.written L.LEVELS mapping }
+        ensures { result ≡ listing.mapping_written L.LEVELS mapping }
     {
         Mapping {
             start: mapping.start.as_u64(),
@@ -66,7 +66,7 @@ pub extern "C" fn x64_mappings(
         → (result ≡ status) × (mappings.new ≡ mappings.old)
         × (count.new ≡ count.old) × (next.new ≡ next.old) }
     ensures lists { given.bad_read hierarchy.now (length tables.old) from ≡ None
-        → listing.Lists (listing.mappings_at (given.hierarchy_in hierarchy.now tables.old) from)
+        → listing.Lists (listing.mappings_from_address (given.hierarchy_in hierarchy.now tables.old) from)
         hierarchy.now.levels mappings.old result mappings.new count.new next.old next.new }
     ensures tables { tables.new ≡ tables.old }
 {
@@ -101,18 +101,18 @@ pub struct Listed {
 
 impl Operation for Listing {
     ghost use Rattle.std.specs.Prelude.{◌≡◌, drop, length};
-    ghost use Rattle.x86_64_c.specs.Given.{bad_address};
-    ghost use Rattle.x86_64_c.specs.Listing.{WritesMappings, mappings_at, next_of};
+    ghost use Rattle.x86_64_c.specs.Given.{wrong_address};
+    ghost use Rattle.x86_64_c.specs.Listing.{WritesMappings, mappings_from_address, next_of};
 
     type Out = Listed;
 
     type Entry = Mapping;
 
-    ghost wrong = { λ new levels tables room. bad_address levels new.from };
+    ghost wrong = { λ new levels tables room. wrong_address levels new.from };
 
     ghost may = { λ new h array. Unit {0} };
 
-    ghost does = { λ new h array after left listed. let all = mappings_at h new.from in (after.memory ≡ h.memory)
+    ghost does = { λ new h array after left listed. let all = mappings_from_address h new.from in (after.memory ≡ h.memory)
         × WritesMappings all h.layout.levels array left listed.count
         × (listed.next ≡ next_of h.layout.levels (drop (length array) all)) };
 
@@ -141,7 +141,7 @@ fn fill<L: LevelCount, T: TableMemory, P: PageTableFrameMapping>(
     ensures count { result ≡ length (take (length mappings.old) coming.old) }
     ensures rest { coming.new ≡ drop (length mappings.old) coming.old }
     ensures array { mappings.new
-        ≡ map (listing.written L.LEVELS) (take (length mappings.old) coming.old) ++ drop result mappings.old }
+        ≡ map (listing.mapping_written L.LEVELS) (take (length mappings.old) coming.old) ++ drop result mappings.old }
 {
     for n in 0..mappings.len() {
         match coming.next() {

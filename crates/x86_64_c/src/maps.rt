@@ -63,7 +63,7 @@ pub struct WholeMap<'a> {
 
 impl<'a> Operation for WholeMap<'a> {
     ghost use Rattle.std.specs.Prelude.{length};
-    ghost use Rattle.x86_64_c.specs.PoolCalls.{bad_map, bad_pool, map_call};
+    ghost use Rattle.x86_64_c.specs.PoolCalls.{bad_map, bad_pool, map_asked};
     ghost use Rattle.x86_64_c.specs.private.OrNothing.{RunsOrNothing};
     ghost use Rattle.x86_64_c.specs.private.Pools.{FitsIn};
 
@@ -76,7 +76,7 @@ impl<'a> Operation for WholeMap<'a> {
     ghost may = { λ map h array. FitsIn map.own.frames h array map.free_count };
 
     ghost does = { λ map h array after left mapped. RunsOrNothing map.own.frames h array map.free_count
-        (map_call h.layout.levels map.request.now) after left mapped.free_count mapped.out };
+        (map_asked h.layout.levels map.request.now) after left mapped.free_count mapped.out };
 
     fn execute<L: LevelCount, T: TableMemory>(
         &self,
@@ -106,7 +106,7 @@ impl<'a> WholeMap<'a> {
         array: &mut [u64],
     ) -> Result<Stepped<u32>, u32>
         requires in_array { self.now.free_count ≤ length array.old }
-        requires page { given.bad_page L.LEVELS self.now.request.now.page ≡ None }
+        requires page { given.wrong_page L.LEVELS self.now.request.now.page ≡ None }
         requires is_page { given.IsPageOf L.LEVELS self.now.request.now.page S.LEVEL page }
         requires fits { calls.bad_map L.LEVELS self.now.request.now ≡ None
             → pools.FitsIn self.now.own.frames (given.at L.LEVELS located (T.tables memory.old)) array.old
@@ -117,7 +117,7 @@ impl<'a> WholeMap<'a> {
         ensures good { IfOk result (λ _. calls.bad_map L.LEVELS self.now.request.now ≡ None) }
         ensures does { IfOk result (λ mapped. RunsOrNothing self.now.own.frames
             (given.at L.LEVELS located (T.tables memory.old)) array.old self.now.free_count
-            (calls.map_call L.LEVELS self.now.request.now)
+            (calls.map_asked L.LEVELS self.now.request.now)
             (given.at L.LEVELS located (T.tables memory.new)) array.new mapped.free_count mapped.out) }
         ensures lent { T.lent memory.new ≡ T.lent memory.old }
     {

@@ -59,10 +59,10 @@ pub fn enter<O: Operation>(
 ) -> Result<O::Out, u32>
     requires { operations.MayEnter (O.wrong operation.now) (O.may operation.now) hierarchy.now tables.old
         array.old }
-    ensures bad { IfErr result (λ status. operations.bad_call (O.wrong operation.now) hierarchy.now
+    ensures bad { IfErr result (λ status. operations.wrong_call (O.wrong operation.now) hierarchy.now
         (length tables.old) (length array.old) ≡ Some status) }
     ensures unchanged { OnErr result ((tables.new ≡ tables.old) × (array.new ≡ array.old)) }
-    ensures good { IfOk result (λ _. operations.bad_call (O.wrong operation.now) hierarchy.now
+    ensures good { IfOk result (λ _. operations.wrong_call (O.wrong operation.now) hierarchy.now
         (length tables.old) (length array.old) ≡ None) }
     ensures does { IfOk result (λ out. O.does operation.now
         (given.hierarchy_in hierarchy.now tables.old) array.old
@@ -86,10 +86,10 @@ fn enter_in<L: LevelCount, O: Operation>(
     requires levels { hierarchy.now.levels ≡ L.LEVELS }
     requires may { operations.MayEnter (O.wrong operation.now) (O.may operation.now) hierarchy.now
         tables.old array.old }
-    ensures bad { IfErr result (λ status. operations.bad_call (O.wrong operation.now) hierarchy.now
+    ensures bad { IfErr result (λ status. operations.wrong_call (O.wrong operation.now) hierarchy.now
         (length tables.old) (length array.old) ≡ Some status) }
     ensures unchanged { OnErr result ((tables.new ≡ tables.old) × (array.new ≡ array.old)) }
-    ensures good { IfOk result (λ _. operations.bad_call (O.wrong operation.now) hierarchy.now
+    ensures good { IfOk result (λ _. operations.wrong_call (O.wrong operation.now) hierarchy.now
         (length tables.old) (length array.old) ≡ None) }
     ensures does { IfOk result (λ out. O.does operation.now
         (given.hierarchy_in hierarchy.now tables.old) array.old

@@ -147,7 +147,7 @@ impl<'a> Operation for MapFrom<'a> {
     ghost use Rattle.x86_64_c.specs.PoolCalls.{bad_pool};
     ghost use Rattle.x86_64_c.specs.Ranges.{bad_maps, range_asked};
     ghost use Rattle.x86_64_c.specs.private.Pools.{FitsIn};
-    ghost use Rattle.x86_64_c.specs.private.RangeMaps.{MapsRange};
+    ghost use Rattle.x86_64_c.specs.private.RangeMaps.{MapsInPool};
 
     type Out = Stepped<Mapped>;
 
@@ -158,7 +158,7 @@ impl<'a> Operation for MapFrom<'a> {
 
     ghost may = { λ map h array. FitsIn map.own.frames h array map.free_count };
 
-    ghost does = { λ map h array after left mapped. MapsRange map.own.frames
+    ghost does = { λ map h array after left mapped. MapsInPool map.own.frames
         (range_asked h.layout.levels map.request.now) map.count h array map.free_count after left
         mapped.free_count mapped.out };
 
@@ -202,7 +202,7 @@ impl<'a> MapFrom<'a> {
             × (array.new ≡ array.old)) }
         ensures good { IfOk result (λ _.
             ranges.bad_maps L.LEVELS self.now.request.now self.now.count ≡ None) }
-        ensures does { IfOk result (λ mapped. maps.MapsRange self.now.own.frames
+        ensures does { IfOk result (λ mapped. maps.MapsInPool self.now.own.frames
             (ranges.range_asked L.LEVELS self.now.request.now) self.now.count
             (given.at L.LEVELS located (T.tables memory.old)) array.old self.now.free_count
             (given.at L.LEVELS located (T.tables memory.new)) array.new mapped.free_count mapped.out) }
@@ -232,7 +232,7 @@ pub struct RangeMap<S: PageSize, L: LevelCount> {
 
 impl<S: PageSize, L: LevelCount> PoolStep<L> for RangeMap<S, L> {
     ghost use Rattle.std.specs.Prelude.{false};
-    ghost use Rattle.x86_64_c.specs.Ranges.{range_at};
+    ghost use Rattle.x86_64_c.specs.Ranges.{range_of_request};
     ghost use Rattle.x86_64_c.specs.private.PoolLaws.{own_tells};
     ghost use Rattle.x86_64_c.specs.private.RangeMaps.{TellsMaps, is_without_number};
 
@@ -243,7 +243,7 @@ impl<S: PageSize, L: LevelCount> PoolStep<L> for RangeMap<S, L> {
     ghost refused = { λ mapped. is_without_number mapped.done };
 
     ghost does = { λ map h pool after rest mapped.
-        TellsMaps h pool (range_at S.LEVEL map) map.count after rest mapped };
+        TellsMaps h pool (range_of_request S.LEVEL map) map.count after rest mapped };
 
     fn take<T: TableMemory, F: FrameStore>(
         &self,
@@ -354,13 +354,13 @@ pub extern "C" fn x64_unmap_range(
     frame_count: &mut usize,
     done: &mut u64,
 ) -> u32
-    requires { ranges.bad_range hierarchy.now (length tables.old) first.now count ≡ None
+    requires { ranges.wrong_page_range hierarchy.now (length tables.old) first.now count ≡ None
         → Valid (given.hierarchy_in hierarchy.now tables.old) }
-    ensures bad { (status : ℕ) → ranges.bad_range hierarchy.now (length tables.old) first.now count
+    ensures bad { (status : ℕ) → ranges.wrong_page_range hierarchy.now (length tables.old) first.now count
         ≡ Some status → (result ≡ status) × (tables.new ≡ tables.old) × (frames.new ≡ frames.old)
         × (frame_count.new ≡ frame_count.old) × (done.new ≡ done.old) }
-    ensures unmaps { ranges.bad_range hierarchy.now (length tables.old) first.now count ≡ None
-        → ranges.Unmaps (given.hierarchy_in hierarchy.now tables.old) (given.level_of first.now.size)
+    ensures unmaps { ranges.wrong_page_range hierarchy.now (length tables.old) first.now count ≡ None
+        → ranges.UnmapsRange (given.hierarchy_in hierarchy.now tables.old) (given.level_of_page_size first.now.size)
         (given.position_of hierarchy.now.levels first.now.start) count frames.old
         (given.hierarchy_in hierarchy.now tables.new) result frames.new frame_count.new done.new }
 {
@@ -391,8 +391,8 @@ pub struct Unmapped {
 }
 
 impl<'a> Operation for UnmapFrom<'a> {
-    ghost use Rattle.x86_64_c.specs.Given.{level_of, position_of};
-    ghost use Rattle.x86_64_c.specs.Ranges.{Unmaps, bad_pages, end_status};
+    ghost use Rattle.x86_64_c.specs.Given.{level_of_page_size, position_of};
+    ghost use Rattle.x86_64_c.specs.Ranges.{UnmapsRange, bad_pages, end_status};
     ghost use Rattle.x86_64_model.specs.Hierarchy.{Valid};
 
     type Out = Unmapped;
@@ -403,7 +403,7 @@ impl<'a> Operation for UnmapFrom<'a> {
 
     ghost may = { λ from h array. Valid h };
 
-    ghost does = { λ from h array after left unmapped. Unmaps h (level_of from.first.now.size)
+    ghost does = { λ from h array after left unmapped. UnmapsRange h (level_of_page_size from.first.now.size)
         (position_of h.layout.levels from.first.now.start) from.count array after
         (end_status unmapped.done from.count) left unmapped.frame_count unmapped.done };
 
@@ -432,7 +432,7 @@ fn unmap_pages<S: PageSize, L: LevelCount, T: TableMemory>(
 ) -> Unmapped
     requires valid { Valid (given.at L.LEVELS located (T.tables memory.old)) }
     requires there { page + count * span S.LEVEL ≤ position_count L.LEVELS }
-    ensures unmaps { ranges.Unmaps (given.at L.LEVELS located (T.tables memory.old)) S.LEVEL page count
+    ensures unmaps { ranges.UnmapsRange (given.at L.LEVELS located (T.tables memory.old)) S.LEVEL page count
         frames.old (given.at L.LEVELS located (T.tables memory.new)) (ranges.end_status result.done count)
         frames.new result.frame_count result.done }
     ensures lent { T.lent memory.new ≡ T.lent memory.old }
@@ -474,12 +474,12 @@ pub extern "C" fn x64_update_flags_range(
     flags: u64,
     changed: &mut u64,
 ) -> u32
-    requires { ranges.bad_range hierarchy.now (length tables.old) first.now count ≡ None
+    requires { ranges.wrong_page_range hierarchy.now (length tables.old) first.now count ≡ None
         → Valid (given.hierarchy_in hierarchy.now tables.old) }
-    ensures bad { (status : ℕ) → ranges.bad_range hierarchy.now (length tables.old) first.now count
+    ensures bad { (status : ℕ) → ranges.wrong_page_range hierarchy.now (length tables.old) first.now count
         ≡ Some status → (result ≡ status) × (tables.new ≡ tables.old) × (changed.new ≡ changed.old) }
-    ensures updates { ranges.bad_range hierarchy.now (length tables.old) first.now count ≡ None
-        → ranges.MayUpdate (given.hierarchy_in hierarchy.now tables.old) (given.level_of first.now.size)
+    ensures updates { ranges.wrong_page_range hierarchy.now (length tables.old) first.now count ≡ None
+        → ranges.MayUpdate (given.hierarchy_in hierarchy.now tables.old) (given.level_of_page_size first.now.size)
         (given.position_of hierarchy.now.levels first.now.start) flags count changed.old
         (given.hierarchy_in hierarchy.now tables.new) result changed.new }
 {
@@ -511,7 +511,7 @@ pub struct UpdateFrom<'a> {
 }
 
 impl<'a> Operation for UpdateFrom<'a> {
-    ghost use Rattle.x86_64_c.specs.Given.{level_of, position_of};
+    ghost use Rattle.x86_64_c.specs.Given.{level_of_page_size, position_of};
     ghost use Rattle.x86_64_c.specs.Ranges.{bad_pages};
     ghost use Rattle.x86_64_c.specs.private.RangeMaps.{TellsUpdates};
     ghost use Rattle.x86_64_model.specs.Hierarchy.{Valid};
@@ -525,7 +525,7 @@ impl<'a> Operation for UpdateFrom<'a> {
 
     ghost may = { λ from h array. Valid h };
 
-    ghost does = { λ from h array after left changed. TellsUpdates h (level_of from.first.now.size)
+    ghost does = { λ from h array after left changed. TellsUpdates h (level_of_page_size from.first.now.size)
         (position_of h.layout.levels from.first.now.start) (bits_of from.flags) from.count after changed };
 
     fn execute<L: LevelCount, T: TableMemory>(

@@ -85,14 +85,14 @@ pub struct PageWalk {
 
 impl Operation for PageWalk {
     ghost use Rattle.std.specs.Prelude.{◌≡◌};
-    ghost use Rattle.x86_64_c.specs.Given.{bad_address};
+    ghost use Rattle.x86_64_c.specs.Given.{wrong_address};
     ghost use Rattle.x86_64_c.specs.Reads.{walked_to};
 
     type Out = Option<Walked>;
 
     type Entry = u64;
 
-    ghost wrong = { λ walk levels tables room. bad_address levels walk.address };
+    ghost wrong = { λ walk levels tables room. wrong_address levels walk.address };
 
     ghost may = { λ walk h array. Unit {0} };
 
@@ -153,7 +153,7 @@ pub struct Translate {
 
 impl Operation for Translate {
     ghost use Rattle.std.specs.Prelude.{◌≡◌};
-    ghost use Rattle.x86_64_c.specs.Given.{bad_address};
+    ghost use Rattle.x86_64_c.specs.Given.{wrong_address};
     ghost use Rattle.x86_64_c.specs.Reads.{translated_at};
     ghost use Rattle.x86_64_model.specs.Hierarchy.{Valid};
 
@@ -161,7 +161,7 @@ impl Operation for Translate {
 
     type Entry = u64;
 
-    ghost wrong = { λ translate levels tables room. bad_address levels translate.address };
+    ghost wrong = { λ translate levels tables room. wrong_address levels translate.address };
 
     ghost may = { λ translate h array. Valid h };
 

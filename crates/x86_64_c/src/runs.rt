@@ -66,7 +66,7 @@ pub struct Map<'a> {
 
 impl<'a> Operation for Map<'a> {
     ghost use Rattle.std.specs.Prelude.{length};
-    ghost use Rattle.x86_64_c.specs.PoolCalls.{Runs, bad_map, bad_pool, map_call};
+    ghost use Rattle.x86_64_c.specs.PoolCalls.{RunsCall, bad_map, bad_pool, map_asked};
     ghost use Rattle.x86_64_c.specs.private.Pools.{FitsIn, Leaves};
 
     type Out = Stepped<u32>;
@@ -79,7 +79,7 @@ impl<'a> Operation for Map<'a> {
 
     ghost does = { λ map h array after left mapped.
         Leaves map.own.frames array map.free_count left mapped.free_count
-        (λ pool rest. Runs h pool (map_call h.layout.levels map.request.now) after rest mapped.out) };
+        (λ pool rest. RunsCall h pool (map_asked h.layout.levels map.request.now) after rest mapped.out) };
 
     fn execute<L: LevelCount, T: TableMemory>(
         &self,
@@ -109,7 +109,7 @@ impl<'a> Map<'a> {
         array: &mut [u64],
     ) -> Result<Stepped<u32>, u32>
         requires in_array { self.now.free_count ≤ length array.old }
-        requires page { given.bad_page L.LEVELS self.now.request.now.page ≡ None }
+        requires page { given.wrong_page L.LEVELS self.now.request.now.page ≡ None }
         requires is_page { given.IsPageOf L.LEVELS self.now.request.now.page S.LEVEL page }
         requires fits { calls.bad_map L.LEVELS self.now.request.now ≡ None
             → pools.FitsIn self.now.own.frames (given.at L.LEVELS located (T.tables memory.old)) array.old
@@ -119,9 +119,9 @@ impl<'a> Map<'a> {
             × (array.new ≡ array.old)) }
         ensures good { IfOk result (λ _. calls.bad_map L.LEVELS self.now.request.now ≡ None) }
         ensures does { IfOk result (λ mapped. pools.Leaves self.now.own.frames array.old self.now.free_count
-            array.new mapped.free_count (λ pool rest. calls.Runs
+            array.new mapped.free_count (λ pool rest. calls.RunsCall
             (given.at L.LEVELS located (T.tables memory.old)) pool
-            (calls.map_call L.LEVELS self.now.request.now)
+            (calls.map_asked L.LEVELS self.now.request.now)
             (given.at L.LEVELS located (T.tables memory.new)) rest mapped.out)) }
         ensures lent { T.lent memory.new ≡ T.lent memory.old }
     {
@@ -148,7 +148,7 @@ pub struct MapTo<S: PageSize, L: LevelCount> {
 impl<S: PageSize, L: LevelCount> PoolStep<L> for MapTo<S, L> {
     ghost use Rattle.std.specs.Prelude.{false};
     ghost use Rattle.x86_64.specs.Asked.{MapToWithTableFlags};
-    ghost use Rattle.x86_64_c.specs.PoolCalls.{Runs, on_page};
+    ghost use Rattle.x86_64_c.specs.PoolCalls.{RunsCall, on_page};
     ghost use Rattle.x86_64_c.specs.private.PoolLaws.{own_runs};
     ghost use Rattle.x86_64_tables.specs.PageTableFlags.{bits_of};
 
@@ -158,7 +158,7 @@ impl<S: PageSize, L: LevelCount> PoolStep<L> for MapTo<S, L> {
 
     ghost refused = { λ _. false };
 
-    ghost does = { λ map h pool after rest status. Runs h pool (on_page S.LEVEL
+    ghost does = { λ map h pool after rest status. RunsCall h pool (on_page S.LEVEL
         (MapToWithTableFlags map.page map.frame (bits_of map.flags) (bits_of map.parent_flags)))
         after rest status };
 
@@ -252,7 +252,7 @@ pub struct CleanUp {
 }
 
 impl Operation for CleanUp {
-    ghost use Rattle.x86_64_c.specs.PoolCalls.{Runs, bad_pool, bad_range, clean_up_call};
+    ghost use Rattle.x86_64_c.specs.PoolCalls.{RunsCall, bad_pool, wrong_range, clean_up_call};
     ghost use Rattle.x86_64_c.specs.private.Pools.{FitsIn, Leaves};
 
     type Out = Stepped<u32>;
@@ -260,13 +260,13 @@ impl Operation for CleanUp {
     type Entry = u64;
 
     ghost wrong = { λ new levels tables room.
-        bad_pool new.free_count room (bad_range levels new.first_page new.last_page) };
+        bad_pool new.free_count room (wrong_range levels new.first_page new.last_page) };
 
     ghost may = { λ new h array. FitsIn new.own.frames h array new.free_count };
 
     ghost does = { λ new h array after left cleaned.
         Leaves new.own.frames array new.free_count left cleaned.free_count (λ pool rest.
-        Runs h pool (clean_up_call h.layout.levels new.first_page new.last_page) after rest cleaned.out) };
+        RunsCall h pool (clean_up_call h.layout.levels new.first_page new.last_page) after rest cleaned.out) };
 
     fn execute<L: LevelCount, T: TableMemory>(
         &self,
@@ -295,7 +295,7 @@ pub struct PagesTo<L: LevelCount> {
 impl<L: LevelCount> PoolStep<L> for PagesTo<L> {
     ghost use Rattle.std.specs.Prelude.{◌+◌, false};
     ghost use Rattle.x86_64.specs.Asked.{CleanUpRange};
-    ghost use Rattle.x86_64_c.specs.PoolCalls.{Runs};
+    ghost use Rattle.x86_64_c.specs.PoolCalls.{RunsCall};
     ghost use Rattle.x86_64_c.specs.private.PoolLaws.{own_runs};
 
     type Out = u32;
@@ -305,7 +305,7 @@ impl<L: LevelCount> PoolStep<L> for PagesTo<L> {
     ghost refused = { λ _. false };
 
     ghost does = { λ pages h pool after rest status.
-        Runs h pool (CleanUpRange pages.first (pages.last + 0xfff)) after rest status };
+        RunsCall h pool (CleanUpRange pages.first (pages.last + 0xfff)) after rest status };
 
     fn take<T: TableMemory, F: FrameStore>(
         &self,

@@ -1,7 +1,7 @@
 //! The statuses that calls return.
 ghost use Rattle.std.specs.Prelude.{◌≡◌};
 ghost use Rattle.x86_64_c.specs.Calls as calls;
-ghost use Rattle.x86_64_c.specs.Entries.{status_of};
+ghost use Rattle.x86_64_c.specs.Entries.{walk_end_status};
 ghost use Rattle.x86_64_tables.specs.MapperAnswers.{map_refusal, refusal_of_update};
 
 use x86_64::structures::paging::PageSize;
@@ -96,7 +96,7 @@ pub fn map_status<S: PageSize>(error: MapToError<S>) -> u32
 
 /// Returns the status that says why a walk ends.
 pub fn walk_status(end: WalkEnd) -> u32
-    ensures { result ≡ status_of end }
+    ensures { result ≡ walk_end_status end }
 {
     match end {
         WalkEnd::Page => OK,

@@ -35,9 +35,9 @@ pub extern "C" fn x64_is_valid(
     marks: &mut [bool],
 ) -> u32
     ensures bad { (status : ℕ) →
-        given.bad_test hierarchy.now (length tables.old) (length marks.old) ≡ Some status →
+        given.wrong_test hierarchy.now (length tables.old) (length marks.old) ≡ Some status →
         (result ≡ status) × (marks.new ≡ marks.old) }
-    ensures valid { given.bad_test hierarchy.now (length tables.old) (length marks.old) ≡ None
+    ensures valid { given.wrong_test hierarchy.now (length tables.old) (length marks.old) ≡ None
         → validity.TellsWhether (Valid (given.hierarchy_in hierarchy.now tables.old)) result }
     ensures tables { tables.new ≡ tables.old }
 {

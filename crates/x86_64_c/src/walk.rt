@@ -34,7 +34,7 @@ pub struct WalkResult {
 impl WalkResult {
     /// Creates the result of a walk that arrives at an address with these rights.
     fn of(address: u64, rights: Rights) -> WalkResult
-        ensures { result ≡ walks.written address rights }
+        ensures { result ≡ walks.result_written address rights }
     {
         WalkResult {
             address,
@@ -59,7 +59,7 @@ pub extern "C" fn x64_walk(
     ensures bad { (status : ℕ) → given.bad_read hierarchy.now (length tables.old) address ≡ Some status
         → (result ≡ status) × (walked.new ≡ walked.old) }
     ensures told { given.bad_read hierarchy.now (length tables.old) address ≡ None
-        → WritesIfFound (walks.walked_to (given.hierarchy_in hierarchy.now tables.old) address)
+        → WritesIfFound (walks.result_walked (given.hierarchy_in hierarchy.now tables.old) address)
         result walked.old walked.new }
     ensures tables { tables.new ≡ tables.old }
 {
@@ -77,18 +77,18 @@ pub struct Walk {
 
 impl Operation for Walk {
     ghost use Rattle.std.specs.Prelude.{◌≡◌};
-    ghost use Rattle.x86_64_c.specs.Given.{bad_address};
-    ghost use Rattle.x86_64_c.specs.Walks.{walked_to};
+    ghost use Rattle.x86_64_c.specs.Given.{wrong_address};
+    ghost use Rattle.x86_64_c.specs.Walks.{result_walked};
 
     type Out = Option<WalkResult>;
 
     type Entry = u64;
 
-    ghost wrong = { λ walk levels tables room. bad_address levels walk.address };
+    ghost wrong = { λ walk levels tables room. wrong_address levels walk.address };
 
     ghost may = { λ walk h array. Unit {0} };
 
-    ghost does = { λ walk h array after left found. (after.memory ≡ h.memory) × (found ≡ walked_to h walk.address) };
+    ghost does = { λ walk h array after left found. (after.memory ≡ h.memory) × (found ≡ result_walked h walk.address) };
 
     fn execute<L: LevelCount, T: TableMemory>(
         &self,

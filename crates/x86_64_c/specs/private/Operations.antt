@@ -7,10 +7,10 @@ use Rattle.x86_64_c.specs.declared.given.Hierarchy.{Hierarchy as Given}
 
 -- What is wrong with a hierarchy in an array of so many tables, or else with an operation's own arguments, by its rule for the
 -- numbers of levels, of tables and of entries of its array.
-abbrev pub bad_call : (wrong : (levels tables room : ℕ) → Option ℕ) → Given → (tables room : ℕ) → Option ℕ
-bad_call wrong h n room = option_or (bad_hierarchy h n) (wrong h.levels n room)
+abbrev pub wrong_call : (wrong : (levels tables room : ℕ) → Option ℕ) → Given → (tables room : ℕ) → Option ℕ
+wrong_call wrong h n room = option_or (bad_hierarchy h n) (wrong h.levels n room)
 
 -- An operation may be entered: if no argument is wrong, its condition on the hierarchy and the array holds.
 abbrev pub MayEnter : {E : Type 0} → (wrong : (levels tables room : ℕ) → Option ℕ) → (may : Hierarchy (Unit {0}) → List E → Type 0) → Given
     → (tables : List (List ℕ)) → (array : List E) → Type 0
-MayEnter wrong may h tables array = bad_call wrong h (length tables) (length array) ≡ None → may (hierarchy_in h tables) array
+MayEnter wrong may h tables array = wrong_call wrong h (length tables) (length array) ≡ None → may (hierarchy_in h tables) array

@@ -3,7 +3,7 @@ use Rattle.std.specs.Prelude.{◌≡◌, ℕ, ◌==◌, not, Bool, true, List, S
 use Rattle.x86_64_model.specs.Hierarchy.{Hierarchy}
 use Rattle.x86_64_model.specs.Store.{Store}
 use Rattle.x86_64.specs.Asked.{MapperCall}
-use Rattle.x86_64_c.specs.PoolCalls.{Runs, machine_status}
+use Rattle.x86_64_c.specs.PoolCalls.{RunsCall, machine_status}
 use Rattle.x86_64_c.specs.Status.{ok}
 use Rattle.x86_64_c.specs.private.Pools.{Leaves}
 
@@ -14,7 +14,7 @@ is_refusal s = not (s == ok)
 -- The status is that of the machine's reply to a call. If it is OK, the call was executed as the machine does it.
 pub record RunsIfOk (h : Hierarchy (Unit {0})) (pool : Store) (call : MapperCall) (after : Hierarchy (Unit {0})) (rest : Store) (status : ℕ) : Type 0 where
   pub status_is : Some status ≡ machine_status h pool call
-  pub done : status ≡ ok → Runs h pool call after rest status
+  pub done : status ≡ ok → RunsCall h pool call after rest status
 
 -- A call with the pool in an array returned the status of the machine's reply. If it is OK, the call was executed as the machine does
 -- it. Otherwise no table and no entry of the array changed, and as many frames are free as before.

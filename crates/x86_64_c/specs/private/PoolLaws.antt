@@ -13,7 +13,7 @@ use Rattle.x86_64_tables.specs.LentPool.{is_in, served_by}
 use Rattle.x86_64_tables.proofs.LentPools.{fits_own, fits_served}
 use Rattle.x86_64.specs.Asked.{MapperCall}
 use Rattle.x86_64_c.specs.AddressSpaces.{space_at}
-use Rattle.x86_64_c.specs.PoolCalls.{Runs}
+use Rattle.x86_64_c.specs.PoolCalls.{RunsCall}
 use Rattle.x86_64_c.specs.Ranges.{Maps}
 use Rattle.x86_64_c.specs.declared.ranges.Mapped.{Mapped}
 use Rattle.x86_64_c.specs.private.OrNothing.{RunsIfOk}
@@ -22,7 +22,7 @@ use Rattle.x86_64_c.specs.private.RangeMaps.{TellsMaps}
 
 module _ (own : List ℕ) (array count : GName) {serves : ℕ → Bool} (same : serves ≡ served_by own array count) where
   pub own_runs : (h after : Hierarchy (Unit {0})) (pool rest : List ℕ) (call : MapperCall) (status : ℕ)
-      → Runs h (stack serves pool) call after (stack serves rest) status → Runs h (stack (is_in own) pool) call after (stack (is_in own) rest) status
+      → RunsCall h (stack serves pool) call after (stack serves rest) status → RunsCall h (stack (is_in own) pool) call after (stack (is_in own) rest) status
   own_runs h after pool rest call status runs = record {
     reply = runs.reply;
     step = runs.step;

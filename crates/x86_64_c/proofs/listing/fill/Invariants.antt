@@ -6,4 +6,4 @@ use Rattle.x86_64_c.proofs.listing.fill.Given as goal
 abbrev pub invariant-loop-n : goal.invariant-loop-n
 invariant-loop-n g l =
     (l.n ≤ length l.initial.coming) × (l.coming ≡ drop l.n l.initial.coming)
-    × (l.mappings ≡ map (listing.written g.L.LevelCount.LEVELS) (take l.n l.initial.coming) ++ drop l.n l.initial.mappings)
+    × (l.mappings ≡ map (listing.mapping_written g.L.LevelCount.LEVELS) (take l.n l.initial.coming) ++ drop l.n l.initial.mappings)

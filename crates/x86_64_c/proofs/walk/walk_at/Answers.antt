@@ -2,7 +2,7 @@ use Rattle.std.proofs.Common.{arith, ◌≡◌, option_map, sym, ap, ◌∙◌, 
 use Rattle.x86_64_model.specs.Memory.{words_of}
 use Rattle.x86_64_mappings.specs.declared.walk_entries.WalkEnd.TheVariants.{Page}
 use Rattle.x86_64_c.specs.Given.{at, places_of}
-use Rattle.x86_64_c.specs.Walks.{arrival, may_execute}
+use Rattle.x86_64_c.specs.Walks.{result_of_walk, may_execute}
 use Rattle.x86_64_c.proofs.WalkBySteps.{last_within, some_written, tells, tells_nowhere, tells_page}
 use Rattle.x86_64_c.proofs.walk.walk_at.Goals as goal
 
@@ -12,7 +12,7 @@ returns-then-ne g c =
     let other : c.read_entries-count.result.end ≡ Page → ⊥ = search rules in
     let nowhere = tells_nowhere g.L.LevelCount.LEVELS words c.args.located.root c.args.address (λ is. other (c.read_entries-count.ensures.end ∙ is)) in
     let hierarchy = at g.L.LevelCount.LEVELS c.args.located (g.T.TableMemory.tables c.args.memory.now) in
-    sym (ap (option_map (arrival (may_execute hierarchy c.args.address))) nowhere)
+    sym (ap (option_map (result_of_walk (may_execute hierarchy c.args.address))) nowhere)
 
 pub address_in-requires-clause-low : goal.address_in-requires-clause-low
 address_in-requires-clause-low g c =

@@ -1,7 +1,7 @@
 use Rattle.std.proofs.Common.{true≢false, sym, ◌∙◌, refl, rules}
 use Rattle.x86_64_mappers.specs.Layouts.{direct_at}
 use Rattle.x86_64_c.specs.Given.{places_of}
-use Rattle.x86_64_c.specs.Ranges.{range_at}
+use Rattle.x86_64_c.specs.Ranges.{range_of_request}
 use Rattle.x86_64_c.proofs.EntryChanges.{plain, supply_over}
 use Rattle.x86_64_c.proofs.RangesSeen.{mapped, maps_are, range_over, range_seen}
 use Rattle.x86_64_c.proofs.ranges.RangeMapPoolStep.take.Goals as goal
@@ -10,7 +10,7 @@ pub returns-clause-does : goal.returns-clause-does
 returns-clause-does g c =
     let L = g.L.LevelCount.LEVELS in
     let map = c.args.self.now in
-    let range = range_at g.S.PageSize.LEVEL map in (
+    let range = range_of_request g.S.PageSize.LEVEL map in (
       λ refused.
           let may = c.map_range_allowed.ensures.0 c.if-not-map_range_allowed.false in
           absurd (refused (may.0, range_seen _ _ _ c.new-mapper.ensures.layout c.new-mapper.ensures.memory _ _ may.1)),
