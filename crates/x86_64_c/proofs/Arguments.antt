@@ -3,8 +3,8 @@ use Rattle.std.proofs.Common.{◌≡◌, ◌⊎◌, ⊎_elim, ℕ, None, List, l
 use Rattle.std.specs.FinMap.{len}
 use Rattle.x86_64_tables.specs.LentMemory.{numbered, tables_in_order}
 use Rattle.x86_64_tables.proofs.NumberedTables.{in_order-numbered, len-numbered}
-use Rattle.x86_64_c.specs.Given.{bad_hierarchy}
-use Rattle.x86_64_c.specs.declared.given.Hierarchy.{Hierarchy}
+use Rattle.x86_64_c.specs.Arguments.{bad_hierarchy}
+use Rattle.x86_64_c.specs.declared.arguments.Hierarchy.{Hierarchy}
 
 -- a right hierarchy has four or five levels
 pub four_or_five : (h : Hierarchy) (n : ℕ) → bad_hierarchy h n ≡ None → (h.levels ≡ 4) ⊎ (h.levels ≡ 5)

@@ -3,11 +3,11 @@ use Rattle.std.proofs.Common.{◌≡◌, ℕ, true, false, List, Some, None, ref
 use Rattle.std.specs.Option.{option_or}
 use Rattle.x86_64_model.specs.Position.{span}
 use Rattle.x86_64.specs.Asked.{MapToWithTableFlags}
-use Rattle.x86_64_c.specs.Given.{IsPageOf, wrong_frame, wrong_page, hierarchy_in, starts_frame, unless}
+use Rattle.x86_64_c.specs.Arguments.{IsPageOf, wrong_frame, wrong_page, hierarchy_in, starts_frame, unless}
 use Rattle.x86_64_c.specs.PoolCalls.{Executes, Loan, Request, RunsCall, wrong_pool_call, bad_map, loan, map_asked, on_page}
 use Rattle.x86_64_c.specs.Status as status
-use Rattle.x86_64_c.specs.declared.given.Hierarchy.{Hierarchy as Given}
-use Rattle.x86_64_c.specs.declared.given.MapRequest.{MapRequest}
+use Rattle.x86_64_c.specs.declared.arguments.Hierarchy.{Hierarchy as Given}
+use Rattle.x86_64_c.specs.declared.arguments.MapRequest.{MapRequest}
 use Rattle.x86_64_c.specs.private.Pools.{Leaves}
 use Rattle.x86_64_c.proofs.RangeArguments.{size_is}
 

@@ -5,9 +5,9 @@ use Rattle.x86_64_model.specs.Memory.{Memory, words_of}
 use Rattle.x86_64_tables.specs.Shifted.{shifted_is_mapping}
 use Rattle.x86_64_access.specs.Marks.{AccessesLeaveMarks, FitsStay}
 use Rattle.x86_64_c.specs.Accesses.{StillFits, given_controls, memory_at}
-use Rattle.x86_64_c.specs.Given.{at, places_of}
+use Rattle.x86_64_c.specs.Arguments.{at, places_of}
 use Rattle.x86_64_c.specs.declared.accesses.Controls.{Controls}
-use Rattle.x86_64_c.specs.declared.given.Located.{Located}
+use Rattle.x86_64_c.specs.declared.arguments.Located.{Located}
 
 module _ (leave : AccessesLeaveMarks) (stay : FitsStay) (L : ℕ) (some : 0 < L) (located : Located) (m : Memory) (c : Controls) (p : ℕ) (a : Access) where
   marked : (mark : Bool) → StillFits (at L located m) (at L located (memory_at (at L located m) c p a mark))

@@ -31,10 +31,10 @@ use Rattle.x86_64.specs.Runs.{AfterStep}
 use Rattle.x86_64.specs.declared.call_values.MapperReply.TheVariants as reply
 use Rattle.x86_64.specs.declared.call_values.PageReply.TheVariants.{Map}
 use Rattle.x86_64_c.specs.Calls.{refusal_status, reply_status, result_status}
-use Rattle.x86_64_c.specs.Given.{hierarchy_in}
+use Rattle.x86_64_c.specs.Arguments.{hierarchy_in}
 use Rattle.x86_64_c.specs.PoolCalls.{ExecutesOrNothing, Loan, Request, RunsCall, wrong_pool_call, loan, machine_status, on_page, pool_in}
 use Rattle.x86_64_c.specs.Status.{ok}
-use Rattle.x86_64_c.specs.declared.given.Hierarchy.{Hierarchy as Given}
+use Rattle.x86_64_c.specs.declared.arguments.Hierarchy.{Hierarchy as Given}
 use Rattle.x86_64_c.specs.private.OrNothing.{RunsIfOk, RunsOrNothing, is_refusal}
 use Rattle.x86_64_c.proofs.Arguments.{kept}
 use Rattle.x86_64_c.proofs.EntryChanges.{of}

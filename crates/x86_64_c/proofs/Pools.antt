@@ -8,8 +8,8 @@ use Rattle.x86_64_model.proofs.Lemmas.Hierarchies.Memories.{covered}
 use Rattle.x86_64_tables.specs.LentPool.{is_in, served_by}
 use Rattle.x86_64_tables.specs.Shifted.{shifted_is_mapping}
 use Rattle.x86_64_tables.specs.private.PoolLaws.{served_frame}
-use Rattle.x86_64_c.specs.Given.{at, places_of}
-use Rattle.x86_64_c.specs.declared.given.Located.{Located}
+use Rattle.x86_64_c.specs.Arguments.{at, places_of}
+use Rattle.x86_64_c.specs.declared.arguments.Located.{Located}
 use Rattle.x86_64_c.specs.private.Pools.{stack}
 
 -- a pool serves the root if this is one of its own frames

@@ -5,10 +5,10 @@ use Rattle.std.proofs.Math.Nat.{mul-le-mul_right, add-mul}
 use Rattle.std.proofs.lemmas.Bool.{cases_lt, lt-ltb, le-ltb}
 use Rattle.x86_64_model.specs.Position.{lower_half, position_count, span}
 use Rattle.x86_64_mappers.specs.Ranges.{range_of}
-use Rattle.x86_64_c.specs.Given.{IsPageOf, wrong_page, level_of_page_size, position_of}
+use Rattle.x86_64_c.specs.Arguments.{IsPageOf, wrong_page, level_of_page_size, position_of}
 use Rattle.x86_64_c.specs.Ranges.{half_end, bad_frames, bad_maps, bad_pages, range_asked}
-use Rattle.x86_64_c.specs.declared.given.MapRequest.{MapRequest}
-use Rattle.x86_64_c.specs.declared.given.Page.{Page}
+use Rattle.x86_64_c.specs.declared.arguments.MapRequest.{MapRequest}
+use Rattle.x86_64_c.specs.declared.arguments.Page.{Page}
 
 -- each of a number of pages starts before the end of them all
 pub page_before : (p count k size end : ℕ) → 0 < size → k < count → p + count * size ≤ end → p + k * size < end

@@ -1,11 +1,11 @@
 -- What a call to map a range returns and leaves, once the operation in the caller's tables and pool is done.
 use Rattle.std.proofs.Common.{◌≡◌, ℕ, true, List, Some, None, unwrap_or, refl, sym, ap, ◌∙◌, subst}
 use Rattle.x86_64_tables.specs.LentMemory.{numbered}
-use Rattle.x86_64_c.specs.Given.{hierarchy_in}
+use Rattle.x86_64_c.specs.Arguments.{hierarchy_in}
 use Rattle.x86_64_c.specs.PoolCalls.{Loan, loan, pool_in}
 use Rattle.x86_64_c.specs.Ranges.{Maps, MapsWith, bad_map_range, range_asked}
-use Rattle.x86_64_c.specs.declared.given.Hierarchy.{Hierarchy as Given}
-use Rattle.x86_64_c.specs.declared.given.MapRequest.{MapRequest}
+use Rattle.x86_64_c.specs.declared.arguments.Hierarchy.{Hierarchy as Given}
+use Rattle.x86_64_c.specs.declared.arguments.MapRequest.{MapRequest}
 use Rattle.x86_64_c.specs.declared.ranges.Mapped.{Mapped}
 use Rattle.x86_64_c.specs.private.RangeMaps.{MapsInPool, is_without_number}
 use Rattle.x86_64_c.proofs.Arguments.{kept}

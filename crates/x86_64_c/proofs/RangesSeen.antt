@@ -25,10 +25,10 @@ use Rattle.x86_64_c.proofs.EntryChanges.{of}
 use Rattle.x86_64_c.proofs.RangeArguments.{page_before}
 use Rattle.x86_64_c.proofs.RangeKeeps.{keeps_calls, are_calls}
 use Rattle.x86_64_c.specs.Calls.{result_status}
-use Rattle.x86_64_c.specs.Given.{IsPageOf, level_of_page_size, position_of}
+use Rattle.x86_64_c.specs.Arguments.{IsPageOf, level_of_page_size, position_of}
 use Rattle.x86_64_c.specs.Ranges.{ChangesRange, Maps, UnmapsRange}
 use Rattle.x86_64_c.specs.private.RangeMaps.{TellsUpdates}
-use Rattle.x86_64_c.specs.declared.given.Page.{Page}
+use Rattle.x86_64_c.specs.declared.arguments.Page.{Page}
 
 -- ---- the calls on a range
 

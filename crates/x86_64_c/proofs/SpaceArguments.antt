@@ -3,11 +3,11 @@ use Rattle.std.proofs.Common.{◌≡◌, inl, inr, ◌≤◌, ◌↔◌, ℕ, �
 use Rattle.std.specs.Option.{option_or}
 use Rattle.std.proofs.lemmas.Bool.{leb-true}
 use Rattle.x86_64_c.specs.AddressSpaces.{wrong_indices, wrong_spaces_test, bad_new, bad_gone, MakesSpace, GivesUpSpace}
-use Rattle.x86_64_c.specs.Given.{bad_hierarchy, unless}
+use Rattle.x86_64_c.specs.Arguments.{bad_hierarchy, unless}
 use Rattle.x86_64_c.specs.PoolCalls.{Loan, bad_pool, loan}
 use Rattle.x86_64_c.specs.Status as status
 use Rattle.x86_64_c.specs.Validity.{test_status, TellsWhether}
-use Rattle.x86_64_c.specs.declared.given.Hierarchy.{Hierarchy}
+use Rattle.x86_64_c.specs.declared.arguments.Hierarchy.{Hierarchy}
 
 -- what a test tells of one fact it tells of another that holds just if the first does
 pub tells : {P Q : Type 0} (passed : Bool) (s : ℕ) → s ≡ test_status passed → (IsTrue passed ↔ P) → (P ↔ Q) → TellsWhether Q s

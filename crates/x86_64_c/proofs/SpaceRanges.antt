@@ -20,11 +20,11 @@ use Rattle.x86_64_c.proofs.EntryChanges.{gives, plain}
 use Rattle.x86_64_c.proofs.RangesSeen.{maps_are}
 use Rattle.x86_64_c.proofs.TogetherFit.{has_levels, kept, none_first}
 use Rattle.x86_64_c.specs.AddressSpaces.{FitTogether, OthersStay, RangeChangesKeepOthers, RangeChangesKeepSpaces, RangeMapsKeepOthers, RangeMapsKeepSpaces, layout_given}
-use Rattle.x86_64_c.specs.Given.{bad_hierarchy, hierarchy_in, level_of_page_size}
+use Rattle.x86_64_c.specs.Arguments.{bad_hierarchy, hierarchy_in, level_of_page_size}
 use Rattle.x86_64_c.specs.PoolCalls.{Loan, loan, pool_in}
 use Rattle.x86_64_c.specs.Ranges.{Maps, MapsWith, MayMapPages, bad_map_range, range_asked}
-use Rattle.x86_64_c.specs.declared.given.Hierarchy.{Hierarchy as Given}
-use Rattle.x86_64_c.specs.declared.given.MapRequest.{MapRequest}
+use Rattle.x86_64_c.specs.declared.arguments.Hierarchy.{Hierarchy as Given}
+use Rattle.x86_64_c.specs.declared.arguments.MapRequest.{MapRequest}
 
 -- ---- whether a range may be mapped is decided
 

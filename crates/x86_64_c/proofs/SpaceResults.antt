@@ -11,10 +11,10 @@ use Rattle.x86_64_tables.specs.LentMemory.{numbered}
 use Rattle.x86_64_tables.specs.LentPool.{stacked}
 use Rattle.x86_64_tables.proofs.Stacks.{stacked-pop}
 use Rattle.x86_64_c.specs.AddressSpaces.{layout_given, shared_in, space_at, bad_new, bad_gone, Makes, MakesSpace, GivesUpSpace}
-use Rattle.x86_64_c.specs.Given.{hierarchy_in}
+use Rattle.x86_64_c.specs.Arguments.{hierarchy_in}
 use Rattle.x86_64_c.specs.PoolCalls.{Loan, loan, pool_in}
 use Rattle.x86_64_c.specs.Status as status
-use Rattle.x86_64_c.specs.declared.given.Hierarchy.{Hierarchy as Given}
+use Rattle.x86_64_c.specs.declared.arguments.Hierarchy.{Hierarchy as Given}
 use Rattle.x86_64_c.specs.private.Pools.{Leaves}
 use Rattle.x86_64_c.specs.private.Spaces.{MakesRoot}
 use Rattle.x86_64_c.proofs.Arguments.{kept}

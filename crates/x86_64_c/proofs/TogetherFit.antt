@@ -25,11 +25,11 @@ use Rattle.x86_64_c.specs.AddressSpaces.{layout_given, layouts_given, shared_in,
 use Rattle.x86_64.specs.Asked.{machine_call}
 use Rattle.x86_64.specs.Replies.{Reply}
 use Rattle.x86_64.specs.Runs.{AfterStep}
-use Rattle.x86_64_c.specs.Given.{bad_hierarchy}
+use Rattle.x86_64_c.specs.Arguments.{bad_hierarchy}
 use Rattle.x86_64_c.specs.PoolCalls.{Loan, loan, Executes, ExecutesOrNothing, wrong_pool_call, Request}
 use Rattle.x86_64_c.specs.Status.{ok}
 use Rattle.x86_64_c.specs.Validity.{test_status, TellsWhether}
-use Rattle.x86_64_c.specs.declared.given.Hierarchy.{Hierarchy as Given}
+use Rattle.x86_64_c.specs.declared.arguments.Hierarchy.{Hierarchy as Given}
 use Rattle.x86_64_c.proofs.Arguments.{four_or_five}
 use Rattle.x86_64_c.proofs.SpaceArguments.{tells}
 use Rattle.x86_64_c.proofs.EntryChanges.{gives, plain}

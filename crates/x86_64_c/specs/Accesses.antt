@@ -5,12 +5,12 @@ use Rattle.x86_64_model.specs.Access as model
 use Rattle.x86_64_model.specs.Access.{Access, Kind, Read, Write, Fetch, Arrives, Faults, NoMemory}
 use Rattle.x86_64_model.specs.Hierarchy.{Hierarchy, PoolFits, words}
 use Rattle.x86_64_model.specs.Memory.{Memory}
-use Rattle.x86_64_c.specs.Given.{unless, bad_hierarchy, wrong_address, position_of}
+use Rattle.x86_64_c.specs.Arguments.{unless, bad_hierarchy, wrong_address, position_of}
 use Rattle.x86_64_c.specs.Status as status
 use Rattle.x86_64_c.specs.declared.accesses.AccessRequest.{AccessRequest}
 use Rattle.x86_64_c.specs.declared.accesses.Controls.{Controls}
 use Rattle.x86_64_c.specs.declared.accesses.Outcome.{Outcome}
-use Rattle.x86_64_c.specs.declared.given.Hierarchy.{Hierarchy as Given}
+use Rattle.x86_64_c.specs.declared.arguments.Hierarchy.{Hierarchy as Given}
 
 -- ---- what is asked
 

@@ -22,14 +22,14 @@ use Rattle.x86_64_tables.specs.LentPool.{is_in, stacked}
 use Rattle.x86_64_tables.specs.Shifted.{shifted_places}
 use Rattle.x86_64.specs.Asked.{machine_call}
 use Rattle.x86_64_c.specs.Calls.{Changes}
-use Rattle.x86_64_c.specs.Given.{unless, bad_hierarchy, hierarchy_in}
+use Rattle.x86_64_c.specs.Arguments.{unless, bad_hierarchy, hierarchy_in}
 use Rattle.x86_64_c.specs.PoolCalls.{Loan, loan, Request, MayExecute, Executes, ExecutesOrNothing, bad_lent, bad_pool, pool_in}
 pub use Rattle.x86_64_c.specs.PoolCalls.{HasPool}
 use Rattle.x86_64_c.specs.Ranges as range
 use Rattle.x86_64_c.specs.Ranges.{MapsWith, MayMapWith, range_asked}
 use Rattle.x86_64_c.specs.Status as status
-use Rattle.x86_64_c.specs.declared.given.Hierarchy.{Hierarchy as Given}
-use Rattle.x86_64_c.specs.declared.given.MapRequest.{MapRequest}
+use Rattle.x86_64_c.specs.declared.arguments.Hierarchy.{Hierarchy as Given}
+use Rattle.x86_64_c.specs.declared.arguments.MapRequest.{MapRequest}
 
 -- ---- which spaces
 

@@ -10,10 +10,10 @@ use Rattle.x86_64.specs.Replies.{Reply, SizeReply}
 use Rattle.x86_64_model.specs.Store.{KeepsPool}
 use Rattle.x86_64.specs.declared.call_values.MapperReply.TheVariants.{Of4KiB, Of2MiB, Of1GiB, Translate, Address, Cleaned, NotAllowed}
 use Rattle.x86_64.specs.declared.call_values.PageReply.TheVariants.{Map, Unmap, Update, TableFlags, Frame}
-use Rattle.x86_64_c.specs.Given.{unless, bad_hierarchy, wrong_page}
+use Rattle.x86_64_c.specs.Arguments.{unless, bad_hierarchy, wrong_page}
 use Rattle.x86_64_c.specs.Status as status
-use Rattle.x86_64_c.specs.declared.given.Hierarchy.{Hierarchy as Given}
-use Rattle.x86_64_c.specs.declared.given.Page.{Page}
+use Rattle.x86_64_c.specs.declared.arguments.Hierarchy.{Hierarchy as Given}
+use Rattle.x86_64_c.specs.declared.arguments.Page.{Page}
 
 -- ---- statuses
 

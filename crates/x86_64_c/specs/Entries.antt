@@ -7,9 +7,9 @@ use Rattle.x86_64_mappings.specs.WalkEntries as walk
 use Rattle.x86_64_mappings.specs.declared.walk_entries.WalkEnd.{WalkEnd}
 use Rattle.x86_64_mappings.specs.declared.walk_entries.WalkEnd.TheVariants.{Page, NotPresent, HugePage, NoTable}
 use Rattle.x86_64_mappings.specs.declared.walk_entries.WalkEntry.{WalkEntry}
-use Rattle.x86_64_c.specs.Given.{unless, bad_hierarchy, wrong_address, position_of}
+use Rattle.x86_64_c.specs.Arguments.{unless, bad_hierarchy, wrong_address, position_of}
 use Rattle.x86_64_c.specs.Status as status
-use Rattle.x86_64_c.specs.declared.given.Hierarchy.{Hierarchy as Given}
+use Rattle.x86_64_c.specs.declared.arguments.Hierarchy.{Hierarchy as Given}
 
 -- What is wrong with the room for entries of a walk, or else with a virtual address. There must be room for an entry of each of L
 -- levels.

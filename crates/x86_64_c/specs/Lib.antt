@@ -1,5 +1,5 @@
 pub mod Status
-pub mod Given
+pub mod Arguments
 pub mod Reads
 pub mod Validity
 pub mod Entries

@@ -3,7 +3,7 @@ use Rattle.std.specs.Prelude.{◌≡◌, ℕ, List, [], ◌∷◌, ◌++◌, len
 use Rattle.x86_64_model.specs.Hierarchy.{Hierarchy, words}
 use Rattle.x86_64_model.specs.Mappings as model
 use Rattle.x86_64_model.specs.Position.{raw}
-use Rattle.x86_64_c.specs.Given.{position_of}
+use Rattle.x86_64_c.specs.Arguments.{position_of}
 use Rattle.x86_64_c.specs.Status as status
 use Rattle.x86_64_c.specs.declared.listing.Mapping.{Mapping}
 

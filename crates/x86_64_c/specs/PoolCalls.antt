@@ -9,11 +9,11 @@ use Rattle.x86_64.specs.Asked.{MapperCall, PageCall}
 use Rattle.x86_64.specs.Replies.{Reply, changes_nothing}
 use Rattle.x86_64.specs.Runs.{LeavesFree, Stepped, machine_with, state_with, step_by}
 use Rattle.x86_64_c.specs.Calls.{reply_status}
-use Rattle.x86_64_c.specs.Given.{unless, bad_hierarchy, wrong_page, wrong_frame, hierarchy_in, level_of_page_size, starts_page, position_of}
+use Rattle.x86_64_c.specs.Arguments.{unless, bad_hierarchy, wrong_page, wrong_frame, hierarchy_in, level_of_page_size, starts_page, position_of}
 use Rattle.x86_64_c.specs.Status as status
 use Rattle.x86_64_c.specs.Status.{ok}
-use Rattle.x86_64_c.specs.declared.given.Hierarchy.{Hierarchy as Given}
-use Rattle.x86_64_c.specs.declared.given.MapRequest.{MapRequest}
+use Rattle.x86_64_c.specs.declared.arguments.Hierarchy.{Hierarchy as Given}
+use Rattle.x86_64_c.specs.declared.arguments.MapRequest.{MapRequest}
 
 -- ---- what a caller asks for
 

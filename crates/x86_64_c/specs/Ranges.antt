@@ -10,13 +10,13 @@ use Rattle.x86_64_model.specs.Store.{Store, KeepsPool}
 use Rattle.x86_64_mappers.specs.RangeChanges.{DoesChanges, frames_done, unmaps, updates}
 use Rattle.x86_64_mappers.specs.Ranges.{MapRange, MayMapRange, MapsAll, StopsAt, range_of}
 use Rattle.x86_64_c.specs.Calls.{refusal_status}
-use Rattle.x86_64_c.specs.Given.{unless, bad_hierarchy, wrong_page, wrong_frame, hierarchy_in, level_of_page_size, position_of}
+use Rattle.x86_64_c.specs.Arguments.{unless, bad_hierarchy, wrong_page, wrong_frame, hierarchy_in, level_of_page_size, position_of}
 use Rattle.x86_64_c.specs.PoolCalls.{HasPool, Loan, bad_lent, pool_in}
 use Rattle.x86_64_c.specs.Status as status
 use Rattle.x86_64_c.specs.Status.{ok, more, not_allowed}
-use Rattle.x86_64_c.specs.declared.given.Hierarchy.{Hierarchy as Given}
-use Rattle.x86_64_c.specs.declared.given.MapRequest.{MapRequest}
-use Rattle.x86_64_c.specs.declared.given.Page.{Page}
+use Rattle.x86_64_c.specs.declared.arguments.Hierarchy.{Hierarchy as Given}
+use Rattle.x86_64_c.specs.declared.arguments.MapRequest.{MapRequest}
+use Rattle.x86_64_c.specs.declared.arguments.Page.{Page}
 use Rattle.x86_64_c.specs.declared.ranges.FrameArray.{FrameArray}
 use Rattle.x86_64_c.specs.declared.ranges.RangeMap.{RangeMap}
 use Rattle.x86_64_tables.specs.PageTableFlags.{bits_of}

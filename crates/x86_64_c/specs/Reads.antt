@@ -3,7 +3,7 @@ use Rattle.std.specs.Prelude.{◌≡◌, ℕ, Option, Some, None, option_map}
 use Rattle.x86_64_model.specs.Hierarchy.{Hierarchy, translation, walk}
 use Rattle.x86_64_model.specs.PageWalk as model
 use Rattle.x86_64_model.specs.Translation.{Translated, NotMapped, Mapped}
-use Rattle.x86_64_c.specs.Given.{position_of}
+use Rattle.x86_64_c.specs.Arguments.{position_of}
 use Rattle.x86_64_c.specs.Status as status
 use Rattle.x86_64_c.specs.declared.reads.Translation.{Translation}
 use Rattle.x86_64_c.specs.declared.reads.Walked.{Walked}

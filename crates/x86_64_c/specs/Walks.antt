@@ -4,7 +4,7 @@ use Rattle.x86_64_model.specs.Hierarchy.{Hierarchy, walk, words}
 use Rattle.x86_64_model.specs.Mappings.{Rights}
 use Rattle.x86_64_model.specs.PageWalk.{Walked}
 use Rattle.x86_64_mappings.specs.WalkEntries.{rights_in, steps_to}
-use Rattle.x86_64_c.specs.Given.{position_of}
+use Rattle.x86_64_c.specs.Arguments.{position_of}
 use Rattle.x86_64_c.specs.declared.walk.WalkResult.{WalkResult}
 
 -- Whether no entry that the page walk to a position reads has NO_EXECUTE.

@@ -2,11 +2,11 @@
 ghost use Rattle.std.specs.Prelude.{◌≡◌, ◌≤◌, ℕ, length, Some, None, IfSome, IfNone};
 ghost use Rattle.x86_64_access.specs.Accesses as memory_unit;
 ghost use Rattle.x86_64_c.specs.Accesses as accesses;
-ghost use Rattle.x86_64_c.specs.Given as given;
+ghost use Rattle.x86_64_c.specs.Arguments as given;
 ghost use Rattle.x86_64_c.specs.Status as statuses;
 ghost use Rattle.x86_64_tables.specs.LentMemory.{numbered};
 
-use crate::given::{Hierarchy, Located, address_of};
+use crate::arguments::{Hierarchy, Located, address_of};
 use crate::operation::{Operation, enter};
 use crate::status;
 use bitflags::Flags;

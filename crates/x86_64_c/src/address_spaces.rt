@@ -9,7 +9,7 @@ ghost use Rattle.x86_64_spaces.specs.SpaceLayouts.{indices_of, spaces_at};
 ghost use Rattle.x86_64_tables.specs.LentPool.{is_in};
 ghost use Rattle.x86_64_tables.specs.Shifted.{shifted_places};
 
-use crate::given::{Hierarchy, Located};
+use crate::arguments::{Hierarchy, Located};
 use crate::operation::{Operation, enter};
 use crate::pool::{PoolStep, Stepped, with_pool};
 use crate::status;

@@ -1,7 +1,7 @@
 //! Calls that change one entry: unmaps and changes of flags.
 ghost use Rattle.std.specs.Prelude.{◌≡◌, ◌≤◌, ℕ, List, length, Option, Some, None};
 ghost use Rattle.x86_64_c.specs.Calls as calls;
-ghost use Rattle.x86_64_c.specs.Given as given;
+ghost use Rattle.x86_64_c.specs.Arguments as given;
 ghost use Rattle.x86_64_model.specs.Call.{UpdateFlags, SetFlags};
 ghost use Rattle.x86_64_model.specs.Hierarchy.{Hierarchy, Valid, allows, path_of};
 ghost use Rattle.x86_64_model.specs.Path.{path_at};
@@ -9,7 +9,7 @@ ghost use Rattle.x86_64_model.specs.Refusal.{Refused};
 ghost use Rattle.x86_64_tables.specs.MapperAnswers.{unmap_answer, refusal_of_unmap, flags_answer};
 ghost use Rattle.x86_64_tables.specs.PageTableFlags.{bits_of};
 
-use crate::given::{AnyPage, Hierarchy, Located, Page, page_of};
+use crate::arguments::{AnyPage, Hierarchy, Located, Page, page_of};
 use crate::operation::{Operation, enter};
 use crate::status::{self, flags_status};
 use bitflags::Flags;
@@ -59,7 +59,7 @@ pub struct OnPage<'a, C> {
 
 impl<'a, C: EntryChange> Operation for OnPage<'a, C> {
     ghost use Rattle.std.specs.Option.{option_or};
-    ghost use Rattle.x86_64_c.specs.Given.{wrong_page, path_of_page};
+    ghost use Rattle.x86_64_c.specs.Arguments.{wrong_page, path_of_page};
     ghost use Rattle.x86_64_model.specs.Hierarchy.{Valid};
 
     type Out = C::Out;
@@ -340,7 +340,7 @@ pub struct FlagsOfTable {
 
 impl EntryChange for FlagsOfTable {
     ghost use Rattle.x86_64_c.specs.Calls as calls;
-    ghost use Rattle.x86_64_c.specs.Given.{unless};
+    ghost use Rattle.x86_64_c.specs.Arguments.{unless};
     ghost use Rattle.x86_64_c.specs.Status.{bad_levels};
     ghost use Rattle.x86_64_model.specs.Call.{SetFlags};
     ghost use Rattle.x86_64_tables.specs.PageTableFlags.{bits_of};

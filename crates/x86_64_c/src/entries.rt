@@ -1,9 +1,9 @@
 //! The entries that a page walk reads.
 ghost use Rattle.std.specs.Prelude.{◌≡◌, ℕ, length, Some, None};
 ghost use Rattle.x86_64_c.specs.Entries as steps;
-ghost use Rattle.x86_64_c.specs.Given as given;
+ghost use Rattle.x86_64_c.specs.Arguments as given;
 
-use crate::given::{Hierarchy, Located, address_of};
+use crate::arguments::{Hierarchy, Located, address_of};
 use crate::operation::{Operation, enter};
 use crate::status;
 use x86_64::structures::paging::PageTable;

@@ -1,9 +1,9 @@
 //! What is mapped.
 ghost use Rattle.std.specs.Prelude.{◌≡◌, ℕ, ◌++◌, length, map, take, drop, Some, None};
-ghost use Rattle.x86_64_c.specs.Given as given;
+ghost use Rattle.x86_64_c.specs.Arguments as given;
 ghost use Rattle.x86_64_c.specs.Listing as listing;
 
-use crate::given::{Hierarchy, Located, address_of};
+use crate::arguments::{Hierarchy, Located, address_of};
 use crate::operation::{Operation, enter};
 use crate::status;
 use bitflags::Flags;
@@ -101,7 +101,7 @@ pub struct Listed {
 
 impl Operation for Listing {
     ghost use Rattle.std.specs.Prelude.{◌≡◌, drop, length};
-    ghost use Rattle.x86_64_c.specs.Given.{wrong_address};
+    ghost use Rattle.x86_64_c.specs.Arguments.{wrong_address};
     ghost use Rattle.x86_64_c.specs.Listing.{WritesMappings, mappings_from_address, next_of};
 
     type Out = Listed;

@@ -1,15 +1,15 @@
 //! Maps that are done or change nothing.
 ghost use Rattle.std.specs.Prelude.{◌≡◌, ◌≤◌, ℕ, List, length, None, Some, IfOk, IfErr, OnErr};
 ghost use Rattle.std.specs.FinMap.{len};
-ghost use Rattle.x86_64_c.specs.Given as given;
+ghost use Rattle.x86_64_c.specs.Arguments as given;
 ghost use Rattle.x86_64_c.specs.PoolCalls as calls;
 ghost use Rattle.x86_64_c.specs.private.OrNothing.{RunsOrNothing};
 ghost use Rattle.x86_64_c.specs.private.Pools as pools;
 
-use crate::given::{AnyPage, Hierarchy, Located, MapRequest, frame_at, page_of};
+use crate::arguments::{AnyPage, Hierarchy, Located, MapRequest, frame_at, page_of};
 use crate::operation::{Operation, enter};
 use crate::pool::{PoolStep, Stepped, with_pool};
-use crate::runs::mapped_status;
+use crate::pool_calls::mapped_status;
 use crate::status;
 use bitflags::Flags;
 use x86_64::structures::paging::{PageIn, PageSize, PageTable, PageTableFlags};

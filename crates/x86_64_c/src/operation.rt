@@ -1,11 +1,11 @@
 //! The way in: what each operation on a hierarchy in the caller's tables shares.
 ghost use Rattle.std.specs.Prelude.{◌≡◌, ℕ, List, length, Option, Some, None, IfOk, IfErr, OnErr};
 ghost use Rattle.std.specs.FinMap.{len};
-ghost use Rattle.x86_64_c.specs.Given as given;
+ghost use Rattle.x86_64_c.specs.Arguments as given;
 ghost use Rattle.x86_64_c.specs.private.Operations as operations;
 ghost use Rattle.x86_64_model.specs.Hierarchy as mapper;
 
-use crate::given::{Hierarchy, Located, locate};
+use crate::arguments::{Hierarchy, Located, locate};
 use crate::status;
 use x86_64::structures::paging::PageTable;
 use x86_64::{FiveLevels, FourLevels, LentMemory, LevelCount, TableMemory};

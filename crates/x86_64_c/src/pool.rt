@@ -1,13 +1,13 @@
 //! The way in with a pool: what each operation that takes frames from a pool or returns frames to it shares.
 ghost use Rattle.std.specs.Prelude.{◌≡◌, ◌≤◌, ℕ, Bool, List, true, length};
 ghost use Rattle.std.specs.Borrow.{GName};
-ghost use Rattle.x86_64_c.specs.Given as given;
+ghost use Rattle.x86_64_c.specs.Arguments as given;
 ghost use Rattle.x86_64_c.specs.private.Pools as pools;
 ghost use Rattle.x86_64_model.specs.Hierarchy as mapper;
 ghost use Rattle.x86_64_model.specs.Store.{StoreFits, Store, store_of};
 ghost use Rattle.x86_64_tables.specs.LentPool.{is_in, served_by};
 
-use crate::given::Located;
+use crate::arguments::Located;
 use x86_64::{FrameStore, LentPool, LevelCount, OwnFrames, TableMemory};
 
 /// What an operation with right arguments does to a hierarchy of `L` levels of tables and to a store of frames.

@@ -1,7 +1,7 @@
 //! Calls on ranges of pages of one size: maps, unmaps and changes of flags.
 ghost use Rattle.std.specs.Prelude.{◌≡◌, ◌≤◌, ◌+◌, ◌-◌, ◌*◌, ℕ, List, nat_le, length, fold, Some, None, IfOk, IfErr, OnErr};
 ghost use Rattle.x86_64_c.specs.Calls.{result_status};
-ghost use Rattle.x86_64_c.specs.Given as given;
+ghost use Rattle.x86_64_c.specs.Arguments as given;
 ghost use Rattle.x86_64_c.specs.PoolCalls.{loan};
 ghost use Rattle.x86_64_c.specs.Ranges as ranges;
 ghost use Rattle.x86_64_c.specs.private.Pools as pools;
@@ -11,7 +11,7 @@ ghost use Rattle.x86_64_model.specs.Position.{position_count, span};
 ghost use Rattle.x86_64_tables.specs.MapperAnswers.{map_refusal};
 ghost use Rattle.x86_64_tables.specs.PageTableFlags.{bits_of};
 
-use crate::given::{AnyPage, Hierarchy, Located, MapRequest, Page, frame_at, page_of};
+use crate::arguments::{AnyPage, Hierarchy, Located, MapRequest, Page, frame_at, page_of};
 use crate::operation::{Operation, enter};
 use crate::pool::{PoolStep, Stepped, with_pool};
 use crate::status::{self, map_status};
@@ -391,7 +391,7 @@ pub struct Unmapped {
 }
 
 impl<'a> Operation for UnmapFrom<'a> {
-    ghost use Rattle.x86_64_c.specs.Given.{level_of_page_size, position_of};
+    ghost use Rattle.x86_64_c.specs.Arguments.{level_of_page_size, position_of};
     ghost use Rattle.x86_64_c.specs.Ranges.{UnmapsRange, bad_pages, end_status};
     ghost use Rattle.x86_64_model.specs.Hierarchy.{Valid};
 
@@ -511,7 +511,7 @@ pub struct UpdateFrom<'a> {
 }
 
 impl<'a> Operation for UpdateFrom<'a> {
-    ghost use Rattle.x86_64_c.specs.Given.{level_of_page_size, position_of};
+    ghost use Rattle.x86_64_c.specs.Arguments.{level_of_page_size, position_of};
     ghost use Rattle.x86_64_c.specs.Ranges.{bad_pages};
     ghost use Rattle.x86_64_c.specs.private.RangeMaps.{TellsUpdates};
     ghost use Rattle.x86_64_model.specs.Hierarchy.{Valid};

@@ -1,10 +1,10 @@
 //! Calls that read at an address: page walk and translation.
 ghost use Rattle.std.specs.Prelude.{◌≡◌, ℕ, length, option_map, Some, None};
-ghost use Rattle.x86_64_c.specs.Given as given;
+ghost use Rattle.x86_64_c.specs.Arguments as given;
 ghost use Rattle.x86_64_c.specs.Reads as reads;
 ghost use Rattle.x86_64_model.specs.Hierarchy.{Valid};
 
-use crate::given::{Hierarchy, Located, address_of};
+use crate::arguments::{Hierarchy, Located, address_of};
 use crate::operation::{Operation, enter};
 use crate::status;
 use bitflags::Flags;
@@ -85,7 +85,7 @@ pub struct PageWalk {
 
 impl Operation for PageWalk {
     ghost use Rattle.std.specs.Prelude.{◌≡◌};
-    ghost use Rattle.x86_64_c.specs.Given.{wrong_address};
+    ghost use Rattle.x86_64_c.specs.Arguments.{wrong_address};
     ghost use Rattle.x86_64_c.specs.Reads.{walked_to};
 
     type Out = Option<Walked>;
@@ -153,7 +153,7 @@ pub struct Translate {
 
 impl Operation for Translate {
     ghost use Rattle.std.specs.Prelude.{◌≡◌};
-    ghost use Rattle.x86_64_c.specs.Given.{wrong_address};
+    ghost use Rattle.x86_64_c.specs.Arguments.{wrong_address};
     ghost use Rattle.x86_64_c.specs.Reads.{translated_at};
     ghost use Rattle.x86_64_model.specs.Hierarchy.{Valid};
 

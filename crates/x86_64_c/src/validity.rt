@@ -1,10 +1,10 @@
 //! The tests of a hierarchy and of a pool, over marks that the caller lends.
 ghost use Rattle.std.specs.Prelude.{◌≡◌, ℕ, length, Some, None};
-ghost use Rattle.x86_64_c.specs.Given as given;
+ghost use Rattle.x86_64_c.specs.Arguments as given;
 ghost use Rattle.x86_64_c.specs.Validity as validity;
 ghost use Rattle.x86_64_model.specs.Hierarchy.{Valid};
 
-use crate::given::{Hierarchy, Located};
+use crate::arguments::{Hierarchy, Located};
 use crate::operation::{Operation, enter};
 use crate::status;
 use x86_64::structures::paging::PageTable;
@@ -53,7 +53,7 @@ pub struct IsValid;
 
 impl Operation for IsValid {
     ghost use Rattle.std.specs.Prelude.{◌≡◌, ◌↔◌, IsTrue};
-    ghost use Rattle.x86_64_c.specs.Given.{bad_marks};
+    ghost use Rattle.x86_64_c.specs.Arguments.{bad_marks};
     ghost use Rattle.x86_64_model.specs.Hierarchy.{Valid};
 
     type Out = bool;
@@ -120,7 +120,7 @@ pub struct PoolFits<'a> {
 
 impl<'a> Operation for PoolFits<'a> {
     ghost use Rattle.std.specs.Prelude.{◌≡◌, ◌↔◌, IsTrue, length};
-    ghost use Rattle.x86_64_c.specs.Given.{bad_room};
+    ghost use Rattle.x86_64_c.specs.Arguments.{bad_room};
     ghost use Rattle.x86_64_c.specs.Validity.{FitsArray};
 
     type Out = bool;

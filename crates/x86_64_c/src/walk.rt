@@ -1,12 +1,12 @@
 //! The page walk with all rights.
 ghost use Rattle.std.specs.Prelude.{◌≡◌, ◌≤◌, ◌+◌, ◌%◌, ℕ, length, Some, None};
-ghost use Rattle.x86_64_c.specs.Given as given;
+ghost use Rattle.x86_64_c.specs.Arguments as given;
 ghost use Rattle.x86_64_c.specs.Reads.{WritesIfFound};
 ghost use Rattle.x86_64_c.specs.Walks as walks;
 ghost use Rattle.x86_64_model.specs.PageWalk.{page_start};
 ghost use Rattle.x86_64_model.specs.Position.{span as span_of};
 
-use crate::given::{Hierarchy, Located, address_of};
+use crate::arguments::{Hierarchy, Located, address_of};
 use crate::operation::{Operation, enter};
 use crate::reads::tell;
 use x86_64::structures::paging::PageTable;
@@ -77,7 +77,7 @@ pub struct Walk {
 
 impl Operation for Walk {
     ghost use Rattle.std.specs.Prelude.{◌≡◌};
-    ghost use Rattle.x86_64_c.specs.Given.{wrong_address};
+    ghost use Rattle.x86_64_c.specs.Arguments.{wrong_address};
     ghost use Rattle.x86_64_c.specs.Walks.{result_walked};
 
     type Out = Option<WalkResult>;

@@ -2,8 +2,8 @@
 use Rattle.std.specs.Prelude.{◌≡◌, ℕ, List, length, Option, None}
 use Rattle.std.specs.Option.{option_or}
 use Rattle.x86_64_model.specs.Hierarchy.{Hierarchy}
-use Rattle.x86_64_c.specs.Given.{bad_hierarchy, hierarchy_in}
-use Rattle.x86_64_c.specs.declared.given.Hierarchy.{Hierarchy as Given}
+use Rattle.x86_64_c.specs.Arguments.{bad_hierarchy, hierarchy_in}
+use Rattle.x86_64_c.specs.declared.arguments.Hierarchy.{Hierarchy as Given}
 
 -- What is wrong with a hierarchy in an array of so many tables, or else with an operation's own arguments, by its rule for the
 -- numbers of levels, of tables and of entries of its array.

@@ -2,7 +2,7 @@ use Rattle.std.proofs.Common.{sym, ap, ◌∙◌, length, rules}
 use Rattle.x86_64_tables.specs.LentPool.{stacked}
 use Rattle.x86_64_tables.proofs.LentPools.{fits_served}
 use Rattle.x86_64_tables.proofs.Stacks.{length-stacked, same_array, same_count}
-use Rattle.x86_64_c.specs.Given.{at}
+use Rattle.x86_64_c.specs.Arguments.{at}
 use Rattle.x86_64_c.proofs.Pools.{lent_step, serves_root}
 use Rattle.x86_64_c.proofs.pool.with_pool.Goals as goal
 

@@ -3,7 +3,7 @@ use Rattle.std.proofs.Math.Nat.{mul-le-mul_right}
 use Rattle.x86_64_model.specs.Position.{span}
 use Rattle.x86_64_mappers.specs.Layouts.{direct_at}
 use Rattle.x86_64_mappers.specs.RangeChanges.{unmaps, frames_done}
-use Rattle.x86_64_c.specs.Given.{places_of}
+use Rattle.x86_64_c.specs.Arguments.{places_of}
 use Rattle.x86_64_c.specs.declared.ranges.FrameArray.{FrameArray}
 use Rattle.x86_64_c.proofs.EntryChanges.{plain, valid_over}
 use Rattle.x86_64_c.proofs.FrameArrays.{takes_all}

@@ -1,7 +1,7 @@
 use Rattle.std.proofs.Common.{arith, ◌≡◌, option_map, sym, ap, ◌∙◌, rules}
 use Rattle.x86_64_model.specs.Memory.{words_of}
 use Rattle.x86_64_mappings.specs.declared.walk_entries.WalkEnd.TheVariants.{Page}
-use Rattle.x86_64_c.specs.Given.{at, places_of}
+use Rattle.x86_64_c.specs.Arguments.{at, places_of}
 use Rattle.x86_64_c.specs.Walks.{result_of_walk, may_execute}
 use Rattle.x86_64_c.proofs.WalkBySteps.{last_within, some_written, tells, tells_nowhere, tells_page}
 use Rattle.x86_64_c.proofs.walk.walk_at.Goals as goal

@@ -5,7 +5,7 @@ use Rattle.x86_64_model.proofs.Lemmas.Machines.Giving.{giving_from}
 use Rattle.x86_64_mappers.specs.Layouts.{direct_at}
 use Rattle.x86_64_tables.specs.PageTableFlags.{bits_of}
 use Rattle.x86_64_tables.specs.Shifted.{shifted_is_mapping}
-use Rattle.x86_64_c.specs.Given.{places_of}
+use Rattle.x86_64_c.specs.Arguments.{places_of}
 use Rattle.x86_64_c.proofs.EntryChanges.{plain, supply_over}
 use Rattle.x86_64_c.proofs.OrNothing.{if_ok, if_refused, mapped_or_nothing, same_serves}
 use Rattle.x86_64_c.proofs.PoolSteps.{refused, seen_allows}

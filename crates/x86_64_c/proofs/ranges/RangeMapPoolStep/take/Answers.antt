@@ -1,6 +1,6 @@
 use Rattle.std.proofs.Common.{true≢false, sym, ◌∙◌, refl, rules}
 use Rattle.x86_64_mappers.specs.Layouts.{direct_at}
-use Rattle.x86_64_c.specs.Given.{places_of}
+use Rattle.x86_64_c.specs.Arguments.{places_of}
 use Rattle.x86_64_c.specs.Ranges.{range_of_request}
 use Rattle.x86_64_c.proofs.EntryChanges.{plain, supply_over}
 use Rattle.x86_64_c.proofs.RangesSeen.{mapped, maps_are, range_over, range_seen}

@@ -2,12 +2,12 @@
 ghost use Rattle.std.specs.Prelude.{◌≡◌, ◌≤◌, ◌+◌, ℕ, List, length, None, Some, IfOk, IfErr, OnErr};
 ghost use Rattle.std.specs.FinMap.{len};
 ghost use Rattle.x86_64_c.specs.Calls.{result_status};
-ghost use Rattle.x86_64_c.specs.Given as given;
+ghost use Rattle.x86_64_c.specs.Arguments as given;
 ghost use Rattle.x86_64_c.specs.PoolCalls as calls;
 ghost use Rattle.x86_64_c.specs.private.Pools as pools;
 ghost use Rattle.x86_64_tables.specs.MapperAnswers.{map_refusal};
 
-use crate::given::{AnyPage, Hierarchy, Located, MapRequest, frame_at, page_at, page_of};
+use crate::arguments::{AnyPage, Hierarchy, Located, MapRequest, frame_at, page_at, page_of};
 use crate::operation::{Operation, enter};
 use crate::pool::{PoolStep, Stepped, with_pool};
 use crate::status::{self, map_status};

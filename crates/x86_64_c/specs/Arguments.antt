@@ -9,11 +9,11 @@ use Rattle.x86_64_mappers.specs.Layouts.{owned_at}
 use Rattle.x86_64_tables.specs.LentMemory.{numbered}
 use Rattle.x86_64_tables.specs.Shifted.{shifted_places}
 use Rattle.x86_64_c.specs.Status as status
-use Rattle.x86_64_c.specs.declared.given.Hierarchy.{Hierarchy}
-use Rattle.x86_64_c.specs.declared.given.Located.{Located}
-use Rattle.x86_64_c.specs.declared.given.AnyPage.{AnyPage}
-use Rattle.x86_64_c.specs.declared.given.AnyPage.TheVariants.{Of4KiB, Of2MiB, Of1GiB}
-use Rattle.x86_64_c.specs.declared.given.Page.{Page}
+use Rattle.x86_64_c.specs.declared.arguments.Hierarchy.{Hierarchy}
+use Rattle.x86_64_c.specs.declared.arguments.Located.{Located}
+use Rattle.x86_64_c.specs.declared.arguments.AnyPage.{AnyPage}
+use Rattle.x86_64_c.specs.declared.arguments.AnyPage.TheVariants.{Of4KiB, Of2MiB, Of1GiB}
+use Rattle.x86_64_c.specs.declared.arguments.Page.{Page}
 
 -- The hierarchy in the caller's tables: table i is that of the frame of number first + i.
 abbrev pub hierarchy_in : Hierarchy → (tables : List (List ℕ)) → mapper.Hierarchy (Unit {0})

@@ -5,10 +5,10 @@ use Rattle.x86_64_mappers.specs.Layouts.{direct_at}
 use Rattle.x86_64_tables.specs.PageTableFlags.{bits_of}
 use Rattle.x86_64_tables.specs.Shifted.{shifted_is_mapping}
 use Rattle.x86_64.specs.Asked.{MapToWithTableFlags}
-use Rattle.x86_64_c.specs.Given.{places_of}
+use Rattle.x86_64_c.specs.Arguments.{places_of}
 use Rattle.x86_64_c.proofs.EntryChanges.{plain, supply_over, valid_over}
 use Rattle.x86_64_c.proofs.PoolSteps.{mapped, map_did, refused, seen_allows}
-use Rattle.x86_64_c.proofs.runs.MapToPoolStep.take.Goals as goal
+use Rattle.x86_64_c.proofs.pool_calls.MapToPoolStep.take.Goals as goal
 
 pub returns-then-not-map_allowed-clause-does : goal.returns-then-not-map_allowed-clause-does
 returns-then-not-map_allowed-clause-does g c =

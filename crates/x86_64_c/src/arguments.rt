@@ -1,6 +1,6 @@
 //! What callers hand in.
 ghost use Rattle.std.specs.Prelude.{◌≡◌, true, false, Some, None, IfOk, IfErr, IfSome, IfNone};
-ghost use Rattle.x86_64_c.specs.Given as given;
+ghost use Rattle.x86_64_c.specs.Arguments as given;
 ghost use Rattle.x86_64_c.specs.Status as status;
 ghost use Rattle.x86_64_tables.specs.Shifted.{shifted_places};
 

@@ -1,6 +1,6 @@
 use Rattle.x86_64_c.specs.PoolCalls.{loan, to_map}
 use Rattle.x86_64_c.proofs.Executed.{executes, refuses}
-use Rattle.x86_64_c.proofs.runs.x64_map_as_mapper.Goals as goal
+use Rattle.x86_64_c.proofs.pool_calls.x64_map_as_mapper.Goals as goal
 
 pub returns-in-Ok : goal.returns-in-Ok
 returns-in-Ok g c =

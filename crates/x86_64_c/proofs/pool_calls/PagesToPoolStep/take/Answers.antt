@@ -4,10 +4,10 @@ use Rattle.x86_64_model.specs.Hierarchy.{PoolFits}
 use Rattle.x86_64_mappers.specs.Layouts.{direct_at}
 use Rattle.x86_64_tables.specs.Shifted.{shifted_is_mapping}
 use Rattle.x86_64.proofs.CleanUpSteps.{held_may_clean_up}
-use Rattle.x86_64_c.specs.Given.{places_of}
+use Rattle.x86_64_c.specs.Arguments.{places_of}
 use Rattle.x86_64_c.proofs.EntryChanges.{of, plain}
 use Rattle.x86_64_c.proofs.PoolSteps.{cleaned, clean_up_did}
-use Rattle.x86_64_c.proofs.runs.PagesToPoolStep.take.Goals as goal
+use Rattle.x86_64_c.proofs.pool_calls.PagesToPoolStep.take.Goals as goal
 
 pub clean_up_range-requires : goal.clean_up_range-requires
 clean_up_range-requires g c =

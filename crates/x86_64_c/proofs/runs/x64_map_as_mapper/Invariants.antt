@@ -1,4 +1,0 @@
-use Rattle.x86_64_c.proofs.runs.x64_map_as_mapper.Given as goal
-
-abbrev pub ghost-of : goal.ghost-of
-ghost-of g a = g.own
