@@ -1,7 +1,7 @@
 //! The page tables of x86-64 for C: a static library over tables in the caller's own memory.
 //!
-//! Each function but `x64_flush_after` and `x64_flush_between` returns a status, and takes a hierarchy by its root and by an array with a table for each frame of
-//! the memory. It keeps no state and takes no memory. The header is `include/x86_64_paging.h`.
+//! Each function but `x64_flush_after` and `x64_flush_between` returns a status, and takes a hierarchy by its root and by an array with a
+//! table for each frame of the memory. It keeps no state and takes no memory. The header is `include/x86_64_paging.h`.
 #![tactic(auto)]
 
 mod accesses;
