@@ -1,7 +1,7 @@
 -- Commands that no arguments describe.
 use Rattle.std.proofs.Common.{◌≡◌, ◌∙◌, ℕ, List, codes, false, true, Result, IfOk, IfErr, refl, sym, subst}
 use Rattle.clap.specs.declared.parser.matches.Found.{Found}
-use Rattle.ptdump_engine.specs.declared.request.Checking.{Checking}
+use Rattle.ptdump_check.specs.declared.checking.Checking.{Checking}
 use Rattle.ptdump_engine.specs.declared.request.Command.{Command}
 use Rattle.ptdump_engine.specs.declared.request.Command.TheVariants.{Regions, Pages, Walk, Find, Check, Image, Picture, Info}
 use Rattle.ptdump_engine.specs.declared.request.WalkOptions.{WalkOptions}

@@ -7,7 +7,7 @@ use Rattle.std.specs.Borrow.{Bor}
 use Rattle.x86_64_dump.specs.declared.placement.Placement.{Placement}
 use Rattle.x86_64_dump.specs.declared.placement.Placement.TheVariants.{Unstated, Base, Ranges}
 use Rattle.x86_64_dump.specs.declared.placement.RawRange.{RawRange}
-use Rattle.ptdump_engine.specs.declared.request.AddressRange.{AddressRange}
+use Rattle.ptdump_check.specs.declared.checking.AddressRange.{AddressRange}
 use Rattle.ptdump.specs.DirectMaps.{AreEnds}
 use Rattle.ptdump.specs.Placements.{AreRangeParts, AreRanges, Denotes, IsPlacement, IsRawRange}
 

@@ -4,9 +4,9 @@ use Rattle.std.proofs.lemmas.Result.{IfErr-weaker}
 use Rattle.std.specs.Borrow.{Bor}
 use Rattle.clap.specs.Matches.{first_value}
 use Rattle.clap.specs.declared.parser.matches.Found.{Found}
+use Rattle.ptdump_check.specs.declared.checking.AddressRange.{AddressRange}
 use Rattle.ptdump_engine.specs.Accesses.{access_name}
 use Rattle.ptdump_engine.specs.declared.failure.Failure.TheVariants.{OutOfMemory}
-use Rattle.ptdump_engine.specs.declared.request.AddressRange.{AddressRange}
 use Rattle.ptdump.specs.DirectMaps.{IsAddressRange, IsDirectMap}
 use Rattle.ptdump.specs.Options.{option_name}
 use Rattle.ptdump.specs.Placements.{IsRawRange}

@@ -1,7 +1,7 @@
 -- Direct maps: where the kernel's direct map lies, as --direct-map says it.
 use Rattle.std.specs.Prelude.{◌≡◌, ℕ, ◌==◌, List, [], ◌∷◌, Option, None, Some}
 use Rattle.std.specs.List.{AllZip, slice_split}
-use Rattle.ptdump_engine.specs.declared.request.AddressRange.{AddressRange}
+use Rattle.ptdump_check.specs.declared.checking.AddressRange.{AddressRange}
 use Rattle.ptdump.specs.Placements.{Denotes}
 
 -- The parts of a text are two numbers: the first and the last address of the range.

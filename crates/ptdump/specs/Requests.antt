@@ -2,9 +2,9 @@
 use Rattle.std.specs.Prelude.{◌≡◌, ◌⊎◌, ℕ, Bool, true, false, List, [], Option, All, codes, map, option_map, unwrap_or}
 use Rattle.clap.specs.Matches.{first_value, matched_of, one_text, raw_values}
 use Rattle.clap.specs.declared.parser.matches.Found.{Found}
+use Rattle.ptdump_check.specs.declared.checking.Checking.{Checking}
 use Rattle.ptdump_engine.specs.declared.request.AreaNames.{AreaNames}
 use Rattle.ptdump_engine.specs.declared.request.AreaNames.TheVariants.{OfKernel, Always, By}
-use Rattle.ptdump_engine.specs.declared.request.Checking.{Checking}
 use Rattle.ptdump_engine.specs.declared.request.Command.{Command}
 use Rattle.ptdump_engine.specs.declared.request.Command.TheVariants.{Regions, Pages, Walk, Find, Check, Image, Picture, Info}
 use Rattle.ptdump_engine.specs.declared.request.Form.{Form}

@@ -5,8 +5,8 @@ ghost use Rattle.ptdump.specs.DirectMaps.{AreEnds, IsAddressRange, IsDirectMap};
 ghost use Rattle.ptdump.specs.Reasons.{IsStopReason};
 ghost use Rattle.ptdump.specs.Requests.{IsUnreadArgument};
 ghost use Rattle.ptdump.specs.declared.stop.Stop.TheVariants.{Failed, NoDirectMap};
+ghost use Rattle.ptdump_check.specs.declared.checking.AddressRange.{AddressRange};
 ghost use Rattle.ptdump_engine.specs.declared.failure.Failure.TheVariants.{OutOfMemory};
-ghost use Rattle.ptdump_engine.specs.declared.request.AddressRange.{AddressRange};
 
 use crate::numbers::read_number;
 use crate::placement::parts_of;

@@ -2,9 +2,9 @@
 use Rattle.std.proofs.Common.{◌≡◌, ◌≢◌, ◌∙◌, ◌≤◌, ◌<◌, ◌==◌, ℕ, suc, Bool, true, false, false-eqb, ne_eqb, cond, List, [], ◌∷◌, drop, map, length, Option, refl, sym, ap, ap₂, arith}
 use Rattle.std.proofs.lemmas.Bool.{eq-eqb, eqb-true}
 use Rattle.std.specs.List.{AllByRecursion, cons_option, dedup, dedup_from, filter_map}
+use Rattle.ptdump_check.specs.Ascending.{Ascend}
+use Rattle.ptdump_check.proofs.InOrder.{with}
 use Rattle.ptdump_engine.specs.private.Alike.{alike}
-use Rattle.ptdump_engine.specs.private.Ascending.{Ascend}
-use Rattle.ptdump_engine.proofs.InOrder.{with}
 
 abbrev same : (a b : ℕ) → Bool
 same a b = a == b

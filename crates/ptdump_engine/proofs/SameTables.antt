@@ -14,23 +14,24 @@ use Rattle.x86_64_model.specs.PageWalk.{read}
 use Rattle.x86_64_model.specs.Path.{indices}
 use Rattle.x86_64_model.specs.Position.{raw}
 use Rattle.x86_64_model.specs.Regions.{regions_in}
-use Rattle.ptdump_engine.specs.Findings as findings
-use Rattle.ptdump_engine.specs.ReachedTables.{all_reached, first_to, for_user, frames_in_order, reached_at, writable_for_user}
+use Rattle.ptdump_check.specs.Findings as findings
+use Rattle.ptdump_check.specs.ReachedTables.{all_reached, first_to, for_user, frames_in_order, reached_at, writable_for_user}
 use Rattle.x86_64_mappings.specs.Selections.{is_selected}
+use Rattle.ptdump_check.specs.WritableTables.{all_writable, writable_at, writable_outside}
+use Rattle.ptdump_check.specs.Findings.{all_named_often, entries_in, frames_above, flaw_in, flawed_entries, missing, name_by, names_in, names_in_order, processor, processor_of, table_findings, tables_by_address}
+use Rattle.ptdump_check.specs.InOrder.{inserted, in_order}
+use Rattle.ptdump_check.specs.declared.findings.entry.Table.{Table}
+use Rattle.ptdump_check.specs.declared.findings.finding.EntryFlaw.{EntryFlaw}
+use Rattle.ptdump_check.specs.declared.findings.finding.EntryFlaw.TheVariants as flaws
+use Rattle.ptdump_check.specs.declared.findings.finding.Finding.TheVariants.{NotInDump}
+use Rattle.ptdump_check.specs.declared.findings.finding.Finding.{Finding}
+use Rattle.ptdump_check.specs.declared.checking.AddressRange.{AddressRange}
+use Rattle.ptdump_check.specs.declared.checking.Checking.{Checking}
+use Rattle.ptdump_check.specs.declared.findings.flaw.Flaw.TheVariants.{WritableAndExecutable, UserInUpperHalf}
+use Rattle.ptdump_check.specs.declared.findings.names.Name.{Name}
 use Rattle.ptdump_engine.specs.Reserved.{lists_mappings, reserved_count, reserved_entries, reserved_line, reserved_note}
-use Rattle.ptdump_engine.specs.WritableTables.{all_writable, writable_at, writable_outside}
-use Rattle.ptdump_engine.specs.Findings.{aliases_asked, all_named_often, check_text, entries_in, finding_lines, finds_nothing, flawed_lines, frames_above, flaw_in, flawed_entries, missing, name_by, names_in, names_in_order, processor, processor_of, said_of, table_findings, tables_by_address}
-use Rattle.ptdump_engine.specs.InOrder.{inserted, in_order}
-use Rattle.ptdump_engine.specs.declared.findings.entry.Table.{Table}
-use Rattle.ptdump_engine.specs.declared.findings.finding.EntryFlaw.{EntryFlaw}
-use Rattle.ptdump_engine.specs.declared.findings.finding.EntryFlaw.TheVariants as flaws
-use Rattle.ptdump_engine.specs.declared.findings.finding.Finding.TheVariants.{NotInDump}
-use Rattle.ptdump_engine.specs.declared.findings.finding.Finding.{Finding}
-use Rattle.ptdump_engine.specs.declared.request.AddressRange.{AddressRange}
-use Rattle.ptdump_engine.specs.declared.request.Checking.{Checking}
+use Rattle.ptdump_engine.specs.CheckReports.{aliases_asked, check_text, finding_lines, finds_nothing, flawed_lines, said_of}
 use Rattle.ptdump_engine.specs.declared.request.Command.{Command}
-use Rattle.ptdump_engine.specs.declared.findings.flaw.Flaw.TheVariants.{WritableAndExecutable, UserInUpperHalf}
-use Rattle.ptdump_engine.specs.declared.findings.names.Name.{Name}
 
 -- ---- what mappings reach
 

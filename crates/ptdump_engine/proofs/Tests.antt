@@ -7,6 +7,7 @@ use Rattle.x86_64_addr.specs.declared.level_count.Levels.{Levels}
 use Rattle.x86_64_dump.specs.Dump.{Contents, words_of_dump}
 use Rattle.x86_64_dump.specs.Notes.{processors_of}
 use Rattle.x86_64_model.specs.Memory.{Words}
+use Rattle.ptdump_check.specs.declared.checking.AddressRange.{AddressRange}
 use Rattle.ptdump_engine.specs.Processors.{firsts_of, modes_failure, processors_from}
 use Rattle.ptdump_engine.specs.Program.{address_failure, argument_failure, direct_map_failure, first_failure, is_canonical_address, is_walk, level_count, order_failure, processors_for, root_failure, reversed_failure, selection_failure, start_for, tables_failure}
 use Rattle.ptdump_engine.specs.Start.{start_of}
@@ -14,7 +15,6 @@ use Rattle.ptdump_engine.specs.Steps.{FailsBy, and_then, unless_failure}
 use Rattle.ptdump_engine.specs.declared.failure.Failure.{Failure}
 use Rattle.ptdump_engine.specs.declared.failure.Failure.TheVariants as failures
 use Rattle.ptdump_engine.specs.declared.processors.Processor.{Processor}
-use Rattle.ptdump_engine.specs.declared.request.AddressRange.{AddressRange}
 use Rattle.ptdump_engine.specs.declared.request.Command.{Command}
 use Rattle.ptdump_engine.specs.declared.request.Command.TheVariants as commands
 use Rattle.ptdump_engine.specs.declared.request.Request.{Request}

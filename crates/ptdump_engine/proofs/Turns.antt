@@ -6,10 +6,10 @@ use Rattle.std.proofs.lemmas.List.{drop_all, drop_more}
 use Rattle.std.specs.Io.KnownBytes.{Appends}
 use Rattle.std.specs.List.{enumerate_from, flat_map, join_by}
 use Rattle.x86_64_dump.specs.Loaded.{Counts}
+use Rattle.ptdump_check.proofs.Found.{flat_more}
 use Rattle.ptdump_engine.specs.Program.{ToldInTurn, ToldUpTo}
 use Rattle.ptdump_engine.specs.Steps.{InTurn}
 use Rattle.ptdump_engine.specs.private.Roots.{number_at}
-use Rattle.ptdump_engine.proofs.Found.{flat_more}
 
 module _ {X G : Type 0} (Step : X → G → G → Type 0) where
   -- what is left after one more step completes what was left before it

@@ -18,7 +18,7 @@ use Rattle.x86_64_mappings.specs.Wanted.{leads_to}
 use Rattle.ptdump_engine.specs.Explanations.{explanation_text}
 use Rattle.ptdump_engine.specs.Output.{Puts, put_in}
 use Rattle.ptdump_engine.specs.Failure.{failure_of}
-use Rattle.ptdump_engine.specs.Findings.{check_text, line_count, said_of_count}
+use Rattle.ptdump_engine.specs.CheckReports.{check_text, line_count, said_of_count}
 use Rattle.ptdump_engine.specs.Json.{json_line, json_of_access, json_of_asked, json_of_walk}
 use Rattle.ptdump_engine.specs.Lines.{mapping_line, region_line, walk_lines}
 use Rattle.ptdump_engine.specs.Program.{DumpedMachine, Opened, ReportsAll, ReportsOf, RunsAs, RunsOnDump, RunsOnProcessors, RunsOnTables, completeness_of, contents_for, dump_for, info_of, machine_for, opened_for, processors_for, report_in, report_of, start_for}

@@ -2,13 +2,13 @@
 use Rattle.std.specs.Prelude.{ℕ, List, codes}
 use Rattle.serde_json.specs.Data.{Data, boolean, string, object, put, member, no_members}
 use Rattle.x86_64_model.specs.Regions.{Region}
-use Rattle.ptdump_engine.specs.FindingTexts.{flaw_text}
+use Rattle.ptdump_check.specs.FindingTexts.{flaw_text}
+use Rattle.ptdump_check.specs.declared.findings.entry.Slot.{Slot}
+use Rattle.ptdump_check.specs.declared.findings.finding.Finding.{Finding}
+use Rattle.ptdump_check.specs.declared.findings.finding.Finding.TheVariants.{NamedOften, NotInDump, HugePage, ReservedBits, WritableForUser, MappedForUser, WritableOutside}
+use Rattle.ptdump_check.specs.declared.findings.flaw.Flaw.{Flaw}
+use Rattle.ptdump_check.specs.declared.findings.aliased.Aliased.{Aliased}
 use Rattle.ptdump_engine.specs.Json.{json_count, hexadecimal_string, region_members}
-use Rattle.ptdump_engine.specs.declared.findings.entry.Slot.{Slot}
-use Rattle.ptdump_engine.specs.declared.findings.finding.Finding.{Finding}
-use Rattle.ptdump_engine.specs.declared.findings.finding.Finding.TheVariants.{NamedOften, NotInDump, HugePage, ReservedBits, WritableForUser, MappedForUser, WritableOutside}
-use Rattle.ptdump_engine.specs.declared.findings.flaw.Flaw.{Flaw}
-use Rattle.ptdump_engine.specs.declared.findings.aliased.Aliased.{Aliased}
 
 -- The object of a region with a flaw: the members of the region, and the flaw.
 abbrev pub json_of_flawed : (L : ℕ) → Flaw → Region → Data

@@ -6,12 +6,13 @@ use Rattle.x86_64_model.specs.Mappings.{Mapping, Rights}
 use Rattle.x86_64_model.specs.Memory.{Words}
 use Rattle.x86_64_model.specs.Position.{raw}
 use Rattle.x86_64_model.specs.Regions.{Region}
+use Rattle.ptdump_check.specs.FindingTexts.{rights_at_text}
 use Rattle.ptdump_engine.specs.Accesses.{asked_text}
 use Rattle.ptdump_engine.specs.Columns.{mapping_in, region_in}
 use Rattle.ptdump_engine.specs.Explanations.{explanation_text}
 use Rattle.ptdump_engine.specs.Json.{json_line, json_of_asked, json_of_found, json_of_mapping, json_of_region, json_of_walk}
 use Rattle.ptdump_engine.specs.NamedAreas.{area_of_mapping, area_of_region, area_text}
-use Rattle.ptdump_engine.specs.Walks.{line, rights_at_text, walk_of, walk_text}
+use Rattle.ptdump_engine.specs.Walks.{line, walk_of, walk_text}
 use Rattle.ptdump_engine.specs.declared.request.Columns.{Columns}
 use Rattle.ptdump_engine.specs.declared.request.Form.{Form}
 use Rattle.ptdump_engine.specs.declared.request.Form.TheVariants.{Text, Json}

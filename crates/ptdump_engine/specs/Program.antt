@@ -20,7 +20,8 @@ use Rattle.x86_64_dump.specs.declared.segment.Segment.{Segment}
 use Rattle.x86_64_mappings.specs.Numbers.{hexadecimal}
 use Rattle.x86_64_model.specs.Memory.{Words}
 use Rattle.x86_64_model.specs.Position.{lower_half}
-use Rattle.ptdump_engine.specs.Findings.{check_text, finds_nothing}
+use Rattle.ptdump_check.specs.declared.checking.AddressRange.{AddressRange}
+use Rattle.ptdump_engine.specs.CheckReports.{check_text, finds_nothing}
 use Rattle.ptdump_engine.specs.Info.{info_in}
 use Rattle.ptdump_engine.specs.InfoTexts.{text_told}
 pub use Rattle.ptdump_engine.specs.MemoryRanges.{last_address}
@@ -37,7 +38,6 @@ use Rattle.ptdump_engine.specs.Totals.{AreTotals, totals_text}
 use Rattle.ptdump_engine.specs.Walks.{line}
 use Rattle.ptdump_engine.specs.declared.failure.Failure.{Failure}
 use Rattle.ptdump_engine.specs.declared.failure.Failure.TheVariants as failures
-use Rattle.ptdump_engine.specs.declared.request.AddressRange.{AddressRange}
 use Rattle.ptdump_engine.specs.declared.request.Columns.{Columns}
 use Rattle.ptdump_engine.specs.declared.request.Command.{Command}
 use Rattle.ptdump_engine.specs.declared.request.Command.TheVariants as commands

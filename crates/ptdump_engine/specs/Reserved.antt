@@ -2,11 +2,11 @@
 use Rattle.std.specs.Prelude.{ℕ, Bool, ◌-◌, ◌^◌, ◌==◌, ◌++◌, if◌then◌else◌, true, false, min, List, [], codes, decimal, length}
 use Rattle.x86_64_dump.specs.Tables.{tables_by_level}
 use Rattle.x86_64_model.specs.Memory.{Words}
-use Rattle.ptdump_engine.specs.Findings.{flawed_entries, processor, tables_below}
+use Rattle.ptdump_check.specs.Findings.{flawed_entries, processor, tables_below}
+use Rattle.ptdump_check.specs.declared.findings.entry.Table.{Table}
+use Rattle.ptdump_check.specs.declared.findings.finding.Finding.{Finding}
+use Rattle.ptdump_check.specs.declared.findings.finding.EntryFlaw.TheVariants as flaws
 use Rattle.ptdump_engine.specs.Walks.{line}
-use Rattle.ptdump_engine.specs.declared.findings.entry.Table.{Table}
-use Rattle.ptdump_engine.specs.declared.findings.finding.Finding.{Finding}
-use Rattle.ptdump_engine.specs.declared.findings.finding.EntryFlaw.TheVariants as flaws
 use Rattle.ptdump_engine.specs.declared.request.Command.{Command}
 use Rattle.ptdump_engine.specs.declared.request.Command.TheVariants as commands
 

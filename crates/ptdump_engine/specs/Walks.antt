@@ -13,7 +13,7 @@ use Rattle.x86_64_model.specs.Mappings.{Rights, maps_page, rights_of}
 use Rattle.x86_64_model.specs.Memory.{Words}
 use Rattle.x86_64_model.specs.PageWalk.{Walked, arrives, page_start, read}
 use Rattle.x86_64_model.specs.Position.{index, span}
-use Rattle.x86_64_tables.specs.Rights.{rights_text}
+use Rattle.ptdump_check.specs.FindingTexts.{rights_at_text}
 use Rattle.ptdump_engine.specs.declared.word_read.WordRead.{WordRead}
 
 -- The end of a walk: it arrives at a physical address in a page of `size` bytes, a word lacks PRESENT, the table in a frame is
@@ -94,10 +94,6 @@ word_lines c w = line (word_text w) ++ (if faults_at c w then line (codes "reser
 -- The text "table 0xFRAME is not in the dump".
 abbrev pub missing_text : (frame : ℕ) → List ℕ
 missing_text frame = codes "table " ++ hexadecimal frame ++ codes " is not in the dump"
-
--- The text "0xADDRESS RIGHTS" of an address and the rights there.
-abbrev pub rights_at_text : (address : ℕ) → Rights → List ℕ
-rights_at_text address rights = hexadecimal address ++ codes " " ++ rights_text rights
 
 -- The text of the end of a walk: the address at which it arrives with its rights, or why it doesn't arrive.
 abbrev pub end_text : Rights → End → List ℕ

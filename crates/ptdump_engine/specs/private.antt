@@ -1,8 +1,6 @@
-pub mod Aliasing
 pub mod AliasingLaws
 pub mod AliasingLines
 pub mod Alike
-pub mod Ascending
 pub mod Asked
 pub mod Checked
 pub mod Counting
@@ -16,7 +14,6 @@ pub mod NoFloats
 pub mod Objects
 pub mod ProcessorGroups
 pub mod Puts
-pub mod Reaching
 pub mod Reported
 pub mod Roots
 pub mod Telling

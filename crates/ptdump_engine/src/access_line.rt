@@ -3,16 +3,16 @@ ghost use Rattle.std.specs.Prelude.{◌≡◌, OnOk, IfOk, Some};
 ghost use Rattle.std.specs.Fmt.{WritesOnOk};
 ghost use Rattle.x86_64_access.specs.Accesses.{fault_of, outcome_of};
 ghost use Rattle.x86_64_model.specs.Memory.{words_of, identity_places};
+ghost use Rattle.ptdump_check.specs.Loaded.{words_loaded};
 ghost use Rattle.ptdump_engine.specs.Accesses as accesses;
-ghost use Rattle.ptdump_engine.specs.Loaded.{words_loaded};
 ghost use Rattle.ptdump_engine.specs.Output.{Puts};
 ghost use Rattle.ptdump_engine.specs.Walks.{line};
 
 use crate::destination::Destination;
-use crate::loaded::Loaded;
 use crate::output::{Output, OutputError};
 use crate::request::ControlsSource;
 use bitflags::Flags;
+use ptdump_check::Loaded;
 use std::fmt::{Display, Formatter, Result as FmtResult, Write};
 use x86_64_access::{Access, AccessKind, Controls, Fault, PageFaultCode, access};
 use x86_64_addr::addr::{PhysAddr, VirtAddrIn};

@@ -1,15 +1,15 @@
 //! The report of a check.
 ghost use Rattle.std.specs.Prelude.{◌≡◌, ◌≤◌, OnOk, IfOk};
 ghost use Rattle.std.specs.List.{flat_map};
-ghost use Rattle.ptdump_engine.specs.Findings as findings;
-ghost use Rattle.ptdump_engine.specs.Loaded.{HasAllTables, IsLoadedDump, words_loaded};
+ghost use Rattle.ptdump_check.specs.Ascending.{Ascend};
+ghost use Rattle.ptdump_check.specs.Findings as findings;
+ghost use Rattle.ptdump_check.specs.Loaded.{HasAllTables, IsLoadedDump, words_loaded};
+ghost use Rattle.ptdump_engine.specs.CheckReports as reports;
 ghost use Rattle.ptdump_engine.specs.Output.{Puts};
 ghost use Rattle.ptdump_engine.specs.Said.{line_of};
-ghost use Rattle.ptdump_engine.specs.private.Ascending.{Ascend};
 ghost use Rattle.ptdump_engine.specs.private.Checked.{finding_lines_by};
 
 mod aliases;
-mod first_mappings;
 mod regions;
 mod subject;
 mod tables;
@@ -20,15 +20,13 @@ use crate::check::subject::Subject;
 use crate::check::tables::write_table_findings;
 use crate::counted_lines::CountedLines;
 use crate::destination::Destination;
-use crate::findings::{FindingCount, Flaw, names_in_order, tables_in_order};
 use crate::flawed_entries::PROCESSOR;
 use crate::json_lines::write_as;
 use crate::line_output::LineOutput;
 use crate::lines::Lines;
-use crate::loaded::Loaded;
 use crate::output::{Output, OutputError};
-use crate::reached::mapped_tables;
 use crate::request::{Checking, Form};
+use ptdump_check::{FindingCount, Flaw, Loaded, mapped_tables, names_in_order, tables_in_order};
 use std::alloc::Global;
 use x86_64_access::Controls;
 use x86_64_addr::level_count::LevelCount;
@@ -48,9 +46,9 @@ pub fn write_findings<L: LevelCount, W: Destination>(
 ) -> Result<bool, OutputError<W>>
     requires { IsLoadedDump loaded.now }
     ensures text { HasAllTables L.LEVELS loaded.now → OnOk result (Puts W.contents output.old output.new
-        (findings.check_text form checking L.LEVELS (words_loaded loaded.now) loaded.now.root)) }
+        (reports.check_text form checking L.LEVELS (words_loaded loaded.now) loaded.now.root)) }
     ensures nothing { HasAllTables L.LEVELS loaded.now → IfOk result (λ nothing.
-        nothing ≡ findings.finds_nothing checking L.LEVELS (words_loaded loaded.now) loaded.now.root) }
+        nothing ≡ reports.finds_nothing checking L.LEVELS (words_loaded loaded.now) loaded.now.root) }
 {
     let memory = loaded.tables.memory();
     let tables = tables_in_order(alloc, loaded.tables.frames())?;
@@ -95,7 +93,7 @@ fn write_counted<L: LevelCount, O: Lines>(
     ensures lines { OnOk result (O.puts output.old output.new
         (flat_map (line_of form) (finding_lines_by L.LEVELS loaded.now subject.now))) }
     ensures count { IfOk result (λ count. count
-        ≡ findings.line_count (finding_lines_by L.LEVELS loaded.now subject.now)) }
+        ≡ reports.line_count (finding_lines_by L.LEVELS loaded.now subject.now)) }
 {
     let mut lines = CountedLines::new(alloc, form, output);
     write_lines::<L, CountedLines<'_, O>>(alloc, loaded, subject, &mut lines)?;

@@ -2,12 +2,12 @@
 ghost use Rattle.std.specs.Prelude.{[], OnOk, map};
 ghost use Rattle.std.specs.List.{cons_option, filter_map};
 ghost use Rattle.x86_64_model.specs.Memory.{identity_places, words_of};
-ghost use Rattle.ptdump_engine.specs.Findings as findings;
-ghost use Rattle.ptdump_engine.specs.Findings.{said_of};
-ghost use Rattle.ptdump_engine.specs.private.Checked.{HasBits};
+ghost use Rattle.ptdump_check.specs.Findings as findings;
+ghost use Rattle.ptdump_check.specs.Findings.{HasBits};
+ghost use Rattle.ptdump_engine.specs.CheckReports.{said_of};
 
-use crate::findings::{Entry, EntryFlaw, Finding, Table};
 use crate::line_output::LineOutput;
+use ptdump_check::{Entry, EntryFlaw, Finding, Table};
 use x86_64_access::Controls;
 use x86_64_tables::phys_memory::{IdentityMapping, PhysMemory, table_in};
 
@@ -39,7 +39,7 @@ pub fn write_flawed_entries<O: LineOutput>(
 }
 
 /// Writes a line for each entry of a table that has `PRESENT` and a flaw. The words aren't read if the level rules the flaw out.
-#[tactic(auto, unfolding(crate::specs::Findings::entries_in))]
+#[tactic(auto, unfolding(ptdump_check::specs::Findings::entries_in))]
 pub fn write_flawed_in<O: LineOutput>(
     memory: &PhysMemory,
     table: &Table,

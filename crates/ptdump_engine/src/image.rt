@@ -4,9 +4,8 @@ ghost use Rattle.ptdump_engine.specs.Steps.{MayBeForced};
 
 use crate::destination::Destination;
 use crate::failure::Failure;
-use crate::findings::{Image, Table};
-use crate::loaded::Loaded;
 use crate::output::{Output, OutputError};
+use ptdump_check::{Image, Loaded, Table};
 use std::alloc::Global;
 use x86_64_addr::level_count::LevelCount;
 use x86_64_dump::{ByteSource, Dump};

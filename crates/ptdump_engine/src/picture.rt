@@ -2,9 +2,9 @@
 ghost use Rattle.std.specs.Prelude.{⊤};
 
 use crate::destination::Destination;
-use crate::loaded::Loaded;
 use crate::output::{Output, OutputError};
 use crate::totals::Totals;
+use ptdump_check::Loaded;
 use ptdump_picture::{MOST_DRAWN_TABLES, Mapped, Picture, TableLink, table_links};
 use std::alloc::{AllocError, Global};
 use x86_64_addr::level_count::LevelCount;

@@ -6,7 +6,7 @@ ghost use Rattle.ptdump_engine.specs.NamedAreas.{layout_in};
 ghost use Rattle.ptdump_engine.specs.Program.{has_roots, is_info, is_of_processors};
 
 use linux_areas::Layout;
-use std::fmt::{Display, Formatter, Result as FmtResult, Write};
+pub use ptdump_check::{AddressRange, Checking};
 use x86_64_access::{Access, Controls};
 pub use x86_64_addr::level_count::Levels;
 use x86_64_dump::Placement;
@@ -48,42 +48,6 @@ pub struct WalkOptions {
     pub explains: bool,
     /// The access of which the report also says what the processor does with it, if there is one.
     pub access: Option<Access>,
-}
-
-/// The addresses from a first one to a last one, both included. As text these are both, joined by `-`.
-#[derive(Clone, Copy)]
-pub struct AddressRange {
-    /// The first.
-    pub first: u64,
-    /// The last.
-    pub last: u64,
-}
-
-impl Display for AddressRange {
-    ghost use Rattle.std.specs.Prelude.{◌++◌, Some, codes};
-    ghost use Rattle.x86_64_mappings.specs.Numbers.{hexadecimal};
-
-    ghost output = { λ range. Some (hexadecimal range.first ++ codes "-" ++ hexadecimal range.last) };
-
-    fn fmt<W: Write>(&self, f: &mut Formatter<W>) -> FmtResult {
-        let first = self.first;
-        let last = self.last;
-        write!(f, "0x{first:x}-0x{last:x}")
-    }
-}
-
-/// What a check looks for besides what is always a finding.
-#[derive(Clone, Copy)]
-pub struct Checking {
-    /// The number of bits of the processor's physical addresses. More than 52 count as 52.
-    pub physical_bits: u8,
-    /// The addresses of the kernel's direct map, through which it may write to all of memory. If they are known, a table to which
-    /// another writable mapping leads is a finding. A mapping that lies there only in part is such a mapping.
-    pub direct_map: Option<AddressRange>,
-    /// The regions that are looked at. All tables are.
-    pub selection: Selection,
-    /// Whether frames are looked for that are mapped with different rights, by the mappings that are selected.
-    pub aliases: bool,
 }
 
 /// The report to write.

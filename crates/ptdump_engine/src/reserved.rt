@@ -2,20 +2,19 @@
 ghost use Rattle.std.specs.Prelude.{◌≡◌, ◌-◌, ◌^◌, IfOk, OnOk, length, map, min};
 ghost use Rattle.x86_64_dump.specs.Loaded.{frames_in, loaded_words};
 ghost use Rattle.x86_64_model.specs.Memory.{identity_places, words_of};
-ghost use Rattle.ptdump_engine.specs.Findings.{flawed_entries, said_of, tables_below};
-ghost use Rattle.ptdump_engine.specs.Loaded.{HasAllTables, words_loaded};
+ghost use Rattle.ptdump_check.specs.Findings.{flawed_entries, tables_below, HasBits};
+ghost use Rattle.ptdump_check.specs.Loaded.{HasAllTables, words_loaded};
+ghost use Rattle.ptdump_engine.specs.CheckReports.{said_of};
 ghost use Rattle.ptdump_engine.specs.Output.{Puts};
 ghost use Rattle.ptdump_engine.specs.Reserved as specs;
-ghost use Rattle.ptdump_engine.specs.private.Checked.{HasBits};
 
 use crate::destination::Destination;
-use crate::findings::{EntryFlaw, Table};
 use crate::flawed_entries::{PROCESSOR, write_flawed_in};
 use crate::line_count::LineCount;
 use crate::line_output::LineOutput;
-use crate::loaded::Loaded;
 use crate::output::{Output, OutputError};
 use crate::request::Command;
+use ptdump_check::{EntryFlaw, Loaded, Table};
 use std::alloc::AllocError;
 use x86_64_addr::level_count::LevelCount;
 use x86_64_dump::DumpTables;

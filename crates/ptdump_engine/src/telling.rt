@@ -4,13 +4,13 @@ ghost use Rattle.std.specs.List.{cons_option, filter_map};
 ghost use Rattle.x86_64_model.specs.Mappings.{mappings_of};
 ghost use Rattle.x86_64_model.specs.Regions.{regions_of};
 ghost use Rattle.x86_64_mappings.specs.Selections.{is_mapping_selected, is_selected};
-ghost use Rattle.ptdump_engine.specs.Loaded.{IsLoadedDump, words_loaded};
+ghost use Rattle.ptdump_check.specs.Loaded.{IsLoadedDump, words_loaded};
 ghost use Rattle.ptdump_engine.specs.Said.{Said};
 
 use crate::line_output::LineOutput;
-use crate::loaded::Loaded;
 use crate::request::Selection;
 use crate::selected::Selected;
+use ptdump_check::Loaded;
 use x86_64_addr::level_count::LevelCount;
 use x86_64_mappings::{MappingIn, RegionIn, Visitor, visit_regions, visit_selected_mappings};
 use x86_64_tables::phys_memory::{IdentityMapping, PhysMemory};

@@ -2,10 +2,10 @@
 ghost use Rattle.std.specs.Prelude.{◌≡◌, Some, length, sum_by};
 ghost use Rattle.std.specs.FinMap as finite;
 ghost use Rattle.x86_64_model.specs.Mappings.{mappings_of};
-ghost use Rattle.ptdump_engine.specs.Loaded.{IsLoadedDump, words_loaded};
+ghost use Rattle.ptdump_check.specs.Loaded.{IsLoadedDump, words_loaded};
 ghost use Rattle.ptdump_engine.specs.Totals.{IsMappedMemory};
 
-use crate::loaded::Loaded;
+use ptdump_check::Loaded;
 use ptdump_picture::ShortSize;
 use std::fmt::{Display, Formatter, Result as FmtResult, Write};
 use x86_64_addr::addr::VirtAddrIn;

@@ -4,13 +4,12 @@ ghost use Rattle.x86_64_model.specs.Mappings.{maps_page as page_mapped};
 ghost use Rattle.x86_64_model.specs.Memory.{words_of, identity_places};
 ghost use Rattle.x86_64_model.specs.PageWalk.{page_start};
 ghost use Rattle.x86_64_model.specs.Position.{span as span_of};
-ghost use Rattle.ptdump_engine.specs.Loaded.{words_loaded};
+ghost use Rattle.ptdump_check.specs.Loaded.{words_loaded};
 ghost use Rattle.ptdump_engine.specs.Walks as walks;
 ghost use Rattle.ptdump_engine.specs.private.Walked.{IsWalk, end_said, end_with, is_arrival, text_of_end};
 
-use crate::loaded::Loaded;
-use crate::rights_at::RightsAt;
 use crate::word_read::{MissingTable, WordRead};
+use ptdump_check::{Loaded, RightsAt};
 use std::alloc::{AllocError, Global};
 use std::fmt::{Display, Formatter, Result as FmtResult, Write};
 use x86_64_addr::addr::VirtAddrIn;

@@ -1,20 +1,12 @@
--- First mappings, and lines for mappings with aliases, after parts of the visits.
-use Rattle.std.proofs.Common.{◌∙◌, ◌++◌, ℕ, List, [], refl, sym, subst, append-nil, append_assoc}
+-- Lines for mappings with aliases, after parts of the visits.
+use Rattle.std.proofs.Common.{◌∙◌, ◌++◌, ℕ, List, [], refl, sym, subst}
 use Rattle.std.proofs.lemmas.List.Elements.{filter_map-append}
 use Rattle.x86_64_model.specs.Mappings.{Mapping}
-use Rattle.ptdump_engine.specs.Aliases.{said_of_mapping}
+use Rattle.ptdump_check.specs.Aliasing.{AreOfAll}
+use Rattle.ptdump_engine.specs.CheckReports.{said_of_mapping}
 use Rattle.ptdump_engine.specs.Said.{Said}
 use Rattle.ptdump_engine.specs.declared.check.aliases.AliasLines.{AliasLines}
-use Rattle.ptdump_engine.specs.declared.check.first_mappings.FirstMappings.{FirstMappings}
-use Rattle.ptdump_engine.specs.private.Aliasing.{AreOfAll, AreFirstsAfter, TakesFirsts}
 use Rattle.ptdump_engine.specs.private.AliasingLines.{AreAliased}
-
-module _ {X : Type 0} where
-  pub taken_nothing : (firsts : FirstMappings X) → TakesFirsts firsts firsts []
-  taken_nothing firsts = λ ms after. subst (AreFirstsAfter firsts) (sym (append-nil ms)) after
-
-  pub taken_both : (before between after : FirstMappings X) (front back : List Mapping) → TakesFirsts before between front → TakesFirsts between after back → TakesFirsts before after (front ++ back)
-  taken_both before between after front back first second = λ ms is. subst (AreFirstsAfter after) (append_assoc ms front back) (second (ms ++ front) (first ms is))
 
 module _ {X O : Type 0} (Lines : O → O → List Said → Type 0) where
   pub aliased_nothing : (nothing : (o : O) → Lines o o []) (L : ℕ) (visitor : AliasLines X O) → AreAliased Lines L visitor visitor []

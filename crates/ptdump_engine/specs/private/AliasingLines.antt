@@ -2,10 +2,10 @@
 use Rattle.std.specs.Prelude.{◌≡◌, ℕ, List}
 use Rattle.std.specs.List.{filter_map}
 use Rattle.x86_64_model.specs.Mappings.{Mapping}
-use Rattle.ptdump_engine.specs.Aliases.{said_of_mapping}
+use Rattle.ptdump_check.specs.Aliasing.{AreOfAll}
+use Rattle.ptdump_engine.specs.CheckReports.{said_of_mapping}
 use Rattle.ptdump_engine.specs.Said.{Said}
 use Rattle.ptdump_engine.specs.declared.check.aliases.AliasLines.{AliasLines}
-use Rattle.ptdump_engine.specs.private.Aliasing.{AreOfAll}
 
 -- A line for each of some mappings that has an alias among all mappings, in order.
 abbrev pub lines_among : (L : ℕ) → (all : List Mapping) → List Mapping → List Said

@@ -1,18 +1,16 @@
 -- Checked: the lines of a check of loaded tables, which are in order.
-use Rattle.std.specs.Prelude.{ℕ, ◌≤◌, ◌++◌, if◌then◌else◌, List, [], filter, map, ⊤}
+use Rattle.std.specs.Prelude.{ℕ, ◌++◌, if◌then◌else◌, List, [], filter, map}
 use Rattle.x86_64_model.specs.Memory.{identity_places, words_of}
 use Rattle.x86_64_model.specs.Mappings.{mappings_of}
 use Rattle.x86_64_model.specs.Regions.{regions_of}
-use Rattle.ptdump_engine.specs.Aliases.{alias_lines}
-use Rattle.ptdump_engine.specs.Findings.{findings_by, flawed_lines, said_of}
-use Rattle.ptdump_engine.specs.Loaded.{words_loaded}
-use Rattle.ptdump_engine.specs.Said.{Said}
+use Rattle.ptdump_check.specs.Findings.{findings_by}
+use Rattle.ptdump_check.specs.Loaded.{words_loaded}
 use Rattle.x86_64_mappings.specs.Selections.{is_selected}
+use Rattle.ptdump_check.specs.declared.findings.flaw.Flaw.TheVariants.{WritableAndExecutable, UserInUpperHalf}
+use Rattle.ptdump_check.specs.declared.loaded.Loaded.{Loaded}
+use Rattle.ptdump_engine.specs.CheckReports.{alias_lines, flawed_lines, said_of}
+use Rattle.ptdump_engine.specs.Said.{Said}
 use Rattle.ptdump_engine.specs.declared.check.subject.Subject.{Subject}
-use Rattle.ptdump_engine.specs.declared.findings.finding.EntryFlaw.{EntryFlaw}
-use Rattle.ptdump_engine.specs.declared.findings.finding.EntryFlaw.TheVariants as flaws
-use Rattle.ptdump_engine.specs.declared.findings.flaw.Flaw.TheVariants.{WritableAndExecutable, UserInUpperHalf}
-use Rattle.ptdump_engine.specs.declared.loaded.Loaded.{Loaded}
 
 -- The lines for mappings in loaded tables that have an alias, or none if a check doesn't look for these.
 abbrev pub aliases_by : {X : Type 0} → (L : ℕ) → Loaded X → Subject → List Said
@@ -25,8 +23,3 @@ finding_lines_by L loaded subject = let regions = filter (is_selected L subject.
     flawed_lines L WritableAndExecutable regions ++ flawed_lines L UserInUpperHalf regions
     ++ map said_of (findings_by subject.processor (words_of subject.memory.now identity_places) subject.root subject.tables.now subject.names.now ++ subject.reached.now)
     ++ aliases_by L loaded subject
-
--- The processor for which a flaw of entries is looked for, if it depends on one, has at most 52 bits of physical addresses.
-abbrev pub HasBits : EntryFlaw → Type 0
-HasBits flaws.HugePage = ⊤
-HasBits (flaws.ReservedBits c) = c.physical_bits ≤ 52

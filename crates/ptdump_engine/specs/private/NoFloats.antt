@@ -10,6 +10,8 @@ use Rattle.x86_64_access.specs.declared.request.Access.{Access}
 use Rattle.x86_64_model.specs.Access.{Outcome, Arrives, Faults, NoMemory}
 use Rattle.x86_64_model.specs.Mappings.{Mapping}
 use Rattle.x86_64_model.specs.Regions.{Region}
+use Rattle.ptdump_check.specs.declared.findings.finding.Finding.{Finding}
+use Rattle.ptdump_check.specs.declared.findings.finding.Finding.TheVariants.{NamedOften, NotInDump, HugePage, ReservedBits, WritableForUser, MappedForUser, WritableOutside}
 use Rattle.ptdump_engine.specs.FindingObjects.{json_of_finding}
 use Rattle.ptdump_engine.specs.InfoObjects.{json_of_processor, json_of_registers, json_of_root, root_members, named_member}
 use Rattle.ptdump_engine.specs.Json.{json_count, json_of_access, json_of_mapping, json_of_region, json_of_word}
@@ -17,8 +19,6 @@ use Rattle.ptdump_engine.specs.Processors.{json_of_group}
 use Rattle.ptdump_engine.specs.Start.{mode_of}
 use Rattle.ptdump_engine.specs.private.Walked.{json_of_line, json_of_value}
 use Rattle.ptdump_engine.specs.declared.access_line.AccessLine.{AccessLine}
-use Rattle.ptdump_engine.specs.declared.findings.finding.Finding.{Finding}
-use Rattle.ptdump_engine.specs.declared.findings.finding.Finding.TheVariants.{NamedOften, NotInDump, HugePage, ReservedBits, WritableForUser, MappedForUser, WritableOutside}
 use Rattle.ptdump_engine.specs.declared.mode.Mode.{Mode}
 use Rattle.ptdump_engine.specs.declared.mode.Mode.TheVariants.{NoPaging, Paging32, Paging64}
 use Rattle.ptdump_engine.specs.declared.registers.Registers.{Registers}

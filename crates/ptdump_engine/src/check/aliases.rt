@@ -2,17 +2,15 @@
 ghost use Rattle.std.specs.Prelude.{◌≡◌, [], List, OnOk};
 ghost use Rattle.std.specs.List.{cons_option};
 ghost use Rattle.x86_64_model.specs.Mappings.{Mapping, mappings_of};
-ghost use Rattle.ptdump_engine.specs.Aliases.{alias_lines, said_of_mapping};
-ghost use Rattle.ptdump_engine.specs.Loaded.{IsLoadedDump, words_loaded};
-ghost use Rattle.ptdump_engine.specs.private.Aliasing.{AreOfAll};
+ghost use Rattle.ptdump_check.specs.Loaded.{IsLoadedDump, words_loaded};
+ghost use Rattle.ptdump_check.specs.Aliasing.{AreOfAll};
+ghost use Rattle.ptdump_engine.specs.CheckReports.{alias_lines, said_of_mapping};
 ghost use Rattle.ptdump_engine.specs.private.Checked.{aliases_by};
 
-use crate::check::first_mappings::FirstMappings;
 use crate::check::subject::Subject;
-use crate::findings::Aliased;
 use crate::line_output::LineOutput;
-use crate::loaded::Loaded;
 use crate::request::Selection;
+use ptdump_check::{Aliased, FirstMappings, Loaded};
 use std::alloc::Global;
 use x86_64_addr::level_count::LevelCount;
 use x86_64_mappings::{MappingIn, Visitor, visit_distinct_mappings};

@@ -1,15 +1,15 @@
 //! Findings in regions.
 ghost use Rattle.std.specs.Prelude.{cond, filter, None, OnOk, Some};
 ghost use Rattle.x86_64_model.specs.Regions.{regions_of};
-ghost use Rattle.ptdump_engine.specs.Findings.{flawed_lines, has_flaw, said_of_flawed};
-ghost use Rattle.ptdump_engine.specs.Loaded.{IsLoadedDump, words_loaded};
+ghost use Rattle.ptdump_check.specs.Findings.{has_flaw};
+ghost use Rattle.ptdump_check.specs.Loaded.{IsLoadedDump, words_loaded};
+ghost use Rattle.ptdump_engine.specs.CheckReports.{flawed_lines, said_of_flawed};
 ghost use Rattle.x86_64_mappings.specs.Selections.{is_selected};
 
-use crate::findings::{Flaw, FlawedRegion};
 use crate::line_output::LineOutput;
-use crate::loaded::Loaded;
 use crate::request::Selection;
 use crate::telling::{Telling, tell_regions};
+use ptdump_check::{Flaw, FlawedRegion, Loaded};
 use x86_64_addr::level_count::LevelCount;
 use x86_64_mappings::RegionIn;
 

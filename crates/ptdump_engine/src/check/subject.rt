@@ -1,7 +1,7 @@
 //! What a check looks at.
 
-use crate::findings::{Finding, Name, Table};
 use crate::request::Selection;
+use ptdump_check::{Finding, Name, Table};
 use x86_64_access::Controls;
 use x86_64_page::frame::PhysFrame;
 use x86_64_page::page::Size4KiB;

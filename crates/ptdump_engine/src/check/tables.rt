@@ -2,15 +2,15 @@
 ghost use Rattle.std.specs.Prelude.{◌≡◌, ◌≤◌, ◌++◌, OnOk, map, length};
 ghost use Rattle.std.specs.List.{filter_map};
 ghost use Rattle.x86_64_model.specs.Memory.{identity_places, words_of};
-ghost use Rattle.ptdump_engine.specs.Findings as findings;
-ghost use Rattle.ptdump_engine.specs.Findings.{said_of};
+ghost use Rattle.ptdump_check.specs.Ascending.{Ascend};
+ghost use Rattle.ptdump_check.specs.Findings as findings;
+ghost use Rattle.ptdump_engine.specs.CheckReports.{said_of};
 ghost use Rattle.ptdump_engine.specs.private.Alike.{alike};
-ghost use Rattle.ptdump_engine.specs.private.Ascending.{Ascend};
 
 use crate::check::subject::Subject;
-use crate::findings::{EntryFlaw, Finding, Name};
 use crate::flawed_entries::{write_finding, write_flawed_entries};
 use crate::line_output::LineOutput;
+use ptdump_check::{EntryFlaw, Finding, Name};
 use x86_64_page::frame::PhysFrame;
 use x86_64_page::page::Size4KiB;
 use x86_64_tables::phys_memory::PhysMemory;

@@ -4,7 +4,7 @@ ghost use Rattle.ptdump_engine.specs.FindingObjects.{json_of_aliased};
 
 use super::ToJson;
 use super::object::Object;
-use crate::findings::Aliased;
+use ptdump_check::Aliased;
 use serde_json::Value;
 use std::alloc::{AllocError, Global};
 

@@ -1,13 +1,13 @@
 //! Findings as JSON.
 ghost use Rattle.std.specs.Prelude.{◌≡◌, IfOk};
 ghost use Rattle.serde_json.specs.View.{view};
+ghost use Rattle.ptdump_check.specs.declared.findings.finding.Finding.TheVariants.{NamedOften, NotInDump, HugePage, ReservedBits};
 ghost use Rattle.ptdump_engine.specs.FindingObjects as objects;
-ghost use Rattle.ptdump_engine.specs.declared.findings.finding.Finding.TheVariants.{NamedOften, NotInDump, HugePage, ReservedBits};
 
 use super::ToJson;
 use super::listed::region_object;
 use super::object::Object;
-use crate::findings::{Entry, Finding, FindingCount, FlawedRegion, Slot};
+use ptdump_check::{Entry, Finding, FindingCount, FlawedRegion, Slot};
 use serde_json::Value;
 use std::alloc::{AllocError, Global};
 use x86_64_addr::level_count::LevelCount;

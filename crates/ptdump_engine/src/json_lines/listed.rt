@@ -1,15 +1,15 @@
 //! Regions, mappings and addresses that are found, as JSON.
 ghost use Rattle.std.specs.Prelude.{◌≡◌, IfOk, Some};
 ghost use Rattle.std.proofs.Common.{refl};
+ghost use Rattle.ptdump_check.specs.FindingTexts.{rights_at_text};
 ghost use Rattle.ptdump_engine.specs.Json as json;
-ghost use Rattle.ptdump_engine.specs.Walks.{rights_at_text};
 ghost use Rattle.ptdump_engine.specs.private.Objects.{members_in};
 
 use super::ToJson;
 use super::object::Object;
 use crate::listing::{ListedMapping, ListedRegion};
-use crate::rights_at::RightsAt;
 use bitflags::Flags;
+use ptdump_check::RightsAt;
 use serde_json::Value;
 use std::alloc::{AllocError, Global};
 use std::fmt::{Display, Formatter, Result as FmtResult, Write};

@@ -4,28 +4,28 @@ use Rattle.x86_64_dump.specs.Loaded.{frames_of}
 use Rattle.x86_64_model.specs.Memory.{Words, identity_places, words_of}
 use Rattle.x86_64_model.specs.Mappings.{mappings_of}
 use Rattle.x86_64_model.specs.Regions.{regions_of}
-use Rattle.ptdump_engine.specs.Aliases.{alias_lines}
-use Rattle.ptdump_engine.specs.Findings.{check_text, finding_lines, findings_by, flawed_lines, frames_above, line_count, names_in, names_in_order, processor_of, said_of, said_of_count, table_findings, tables_below, tables_by_address}
-use Rattle.ptdump_engine.specs.ReachedTables.{all_reached}
-use Rattle.ptdump_engine.specs.Loaded.{HasAllTables, words_loaded}
-use Rattle.ptdump_engine.specs.Output.{Puts}
-use Rattle.ptdump_engine.specs.Said.{Said, line_of}
+use Rattle.ptdump_check.specs.Findings.{findings_by, frames_above, names_in, names_in_order, processor_of, table_findings, tables_below, tables_by_address}
+use Rattle.ptdump_check.specs.ReachedTables.{all_reached}
+use Rattle.ptdump_check.specs.Loaded.{HasAllTables, words_loaded}
+use Rattle.ptdump_check.specs.WritableTables.{all_writable}
+use Rattle.ptdump_check.specs.declared.findings.entry.Table.{Table}
+use Rattle.ptdump_check.specs.declared.findings.finding.Finding.{Finding}
 use Rattle.x86_64_mappings.specs.Selections.{is_selected}
-use Rattle.ptdump_engine.specs.WritableTables.{all_writable}
-use Rattle.ptdump_engine.specs.declared.check.subject.Subject.{Subject}
-use Rattle.ptdump_engine.specs.declared.findings.entry.Table.{Table}
-use Rattle.ptdump_engine.specs.declared.findings.finding.Finding.{Finding}
-use Rattle.ptdump_engine.specs.declared.findings.flaw.Flaw.TheVariants.{WritableAndExecutable, UserInUpperHalf}
-use Rattle.ptdump_engine.specs.declared.findings.names.Name.{Name}
-use Rattle.ptdump_engine.specs.declared.loaded.Loaded.{Loaded}
-use Rattle.ptdump_engine.specs.declared.request.Checking.{Checking}
+use Rattle.ptdump_check.specs.declared.findings.flaw.Flaw.TheVariants.{WritableAndExecutable, UserInUpperHalf}
+use Rattle.ptdump_check.specs.declared.findings.names.Name.{Name}
+use Rattle.ptdump_check.specs.declared.loaded.Loaded.{Loaded}
+use Rattle.ptdump_check.specs.declared.checking.Checking.{Checking}
+use Rattle.ptdump_check.specs.Ascending.{Ascend}
+use Rattle.ptdump_check.proofs.InOrder.{ascend_in_order}
+use Rattle.ptdump_engine.specs.CheckReports.{alias_lines, check_text, finding_lines, flawed_lines, line_count, said_of, said_of_count}
+use Rattle.ptdump_engine.specs.Output.{Puts}
 use Rattle.x86_64_mappings.specs.declared.selection.Selection.{Selection}
 use Rattle.x86_64_access.specs.declared.controls.Controls.{Controls}
-use Rattle.ptdump_engine.specs.private.Ascending.{Ascend}
+use Rattle.ptdump_engine.specs.Said.{Said, line_of}
+use Rattle.ptdump_engine.specs.declared.check.subject.Subject.{Subject}
 use Rattle.ptdump_engine.specs.private.Checked.{finding_lines_by}
 use Rattle.ptdump_engine.specs.private.Puts.{puts_both}
 use Rattle.ptdump_engine.proofs.Counting.{none_counted}
-use Rattle.ptdump_engine.proofs.InOrder.{ascend_in_order}
 use Rattle.ptdump_engine.proofs.check.write_findings.Goals as goal
 
 -- the findings of tables to which mappings lead

@@ -1,6 +1,6 @@
 use Rattle.std.proofs.Common.{rules, subst}
 use Rattle.std.specs.Io.KnownBytes.{Appends}
-use Rattle.ptdump_engine.specs.Loaded.{words_loaded}
+use Rattle.ptdump_check.specs.Loaded.{words_loaded}
 use Rattle.ptdump_engine.specs.Program.{report_of}
 use Rattle.ptdump_engine.proofs.Wholly.{if_some, written_whole}
 use Rattle.ptdump_engine.proofs.engine.write_whole.Goals as goal

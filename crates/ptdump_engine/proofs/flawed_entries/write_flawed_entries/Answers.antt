@@ -1,8 +1,10 @@
 use Rattle.std.proofs.Common.{◌∙◌, ◌+◌, ◌++◌, take, sym, ap}
 use Rattle.std.specs.List.{filter_map}
 use Rattle.x86_64_model.specs.Memory.{identity_places, words_of}
-use Rattle.ptdump_engine.specs.Findings.{entries_in, flaw_in, flawed_entries, said_of}
-use Rattle.ptdump_engine.proofs.Found.{both_lines, flat_more}
+use Rattle.ptdump_check.specs.Findings.{entries_in, flaw_in, flawed_entries}
+use Rattle.ptdump_check.proofs.Found.{flat_more}
+use Rattle.ptdump_engine.specs.CheckReports.{said_of}
+use Rattle.ptdump_engine.proofs.BothLines.{both_lines}
 use Rattle.ptdump_engine.proofs.flawed_entries.write_flawed_entries.Goals as goal
 
 pub loop-table-preserved : goal.loop-table-preserved

@@ -4,9 +4,11 @@ use Rattle.std.specs.List.{cons_option, filter_map, range_with_len}
 use Rattle.std.specs.Option.{option_copied}
 use Rattle.x86_64_model.specs.Memory.{identity_places, words_of}
 use Rattle.x86_64_model.specs.Path.{indices}
-use Rattle.ptdump_engine.specs.Findings.{entries_in, entry_in_table, flaw_in, said_of}
-use Rattle.ptdump_engine.proofs.Flawless.{none_in}
-use Rattle.ptdump_engine.proofs.Found.{both_lines, filter_nothing, range_more}
+use Rattle.ptdump_check.specs.Findings.{entries_in, entry_in_table, flaw_in}
+use Rattle.ptdump_check.proofs.Flawless.{none_in}
+use Rattle.ptdump_check.proofs.Found.{filter_nothing, range_more}
+use Rattle.ptdump_engine.specs.CheckReports.{said_of}
+use Rattle.ptdump_engine.proofs.BothLines.{both_lines}
 use Rattle.ptdump_engine.proofs.flawed_entries.write_flawed_in.Goals as goal
 
 pub returns-then-not-may_be_at : goal.returns-then-not-may_be_at

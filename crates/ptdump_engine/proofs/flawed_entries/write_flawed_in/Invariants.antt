@@ -1,7 +1,8 @@
 use Rattle.std.proofs.Common.{map}
 use Rattle.std.specs.List.{filter_map, range_with_len}
 use Rattle.x86_64_model.specs.Memory.{identity_places, words_of}
-use Rattle.ptdump_engine.specs.Findings.{entry_in_table, flaw_in, said_of}
+use Rattle.ptdump_check.specs.Findings.{entry_in_table, flaw_in}
+use Rattle.ptdump_engine.specs.CheckReports.{said_of}
 use Rattle.ptdump_engine.proofs.flawed_entries.write_flawed_in.Given as goal
 
 -- the findings of the entries so far are written

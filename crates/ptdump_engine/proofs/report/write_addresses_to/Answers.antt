@@ -1,10 +1,10 @@
 use Rattle.std.proofs.Common.{◌≡◌, ◌∙◌, Some, IfOk, ap, subst}
 use Rattle.x86_64_model.specs.Mappings.{mappings_of}
-use Rattle.ptdump_engine.specs.Loaded.{words_loaded}
+use Rattle.ptdump_check.specs.Loaded.{words_loaded}
 use Rattle.ptdump_engine.specs.Output.{Puts}
 use Rattle.ptdump_engine.specs.private.Asked.{mappings_asked}
 use Rattle.ptdump_engine.specs.private.Finding.{some_there, visited_lines}
-use Rattle.ptdump_engine.proofs.Asked.{lines_found, some_found}
+use Rattle.ptdump_engine.proofs.Searches.{lines_found, some_found}
 use Rattle.ptdump_engine.proofs.Results.{on_ok}
 use Rattle.ptdump_engine.proofs.report.write_addresses_to.Goals as goal
 

@@ -3,7 +3,7 @@ use Rattle.std.proofs.lemmas.Bool.Decides.{nat_tests}
 use Rattle.std.specs.List.{list_any}
 use Rattle.x86_64_model.specs.Mappings.{mappings_of}
 use Rattle.x86_64_mappings.specs.Wanted.{leads_to}
-use Rattle.ptdump_engine.specs.Loaded.{words_loaded}
+use Rattle.ptdump_check.specs.Loaded.{words_loaded}
 use Rattle.ptdump_engine.specs.Output.{Puts}
 use Rattle.ptdump_engine.specs.Reports.{are_several, find_text, headed_addresses}
 use Rattle.ptdump_engine.specs.private.Puts.{puts_nothing}

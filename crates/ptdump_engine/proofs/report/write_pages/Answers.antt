@@ -2,7 +2,7 @@ use Rattle.std.proofs.Common.{rules, ◌≡◌, ◌∙◌, filter, Some, ap, sub
 use Rattle.std.specs.List.{filter_map, flat_map}
 use Rattle.x86_64_model.specs.Mappings.{mappings_of}
 use Rattle.x86_64_mappings.specs.Selections.{is_mapping_selected}
-use Rattle.ptdump_engine.specs.Loaded.{words_loaded}
+use Rattle.ptdump_check.specs.Loaded.{words_loaded}
 use Rattle.ptdump_engine.specs.Reports.{pages_text}
 use Rattle.ptdump_engine.specs.Said.{line_of}
 use Rattle.ptdump_engine.specs.private.Counting.{AreCounted}

@@ -1,7 +1,7 @@
 use Rattle.std.proofs.Common.{◌∙◌, ◌++◌, [], if◌then◌else◌, sym, ap, subst, append-nil}
+use Rattle.ptdump_check.specs.Loaded.{words_loaded}
 use Rattle.ptdump_engine.specs.Accesses.{asked_text, is_access_there}
 use Rattle.ptdump_engine.specs.Explanations.{explanation_text}
-use Rattle.ptdump_engine.specs.Loaded.{words_loaded}
 use Rattle.ptdump_engine.specs.Output.{Puts}
 use Rattle.ptdump_engine.specs.Walks.{walk_of, walk_text}
 use Rattle.ptdump_engine.specs.private.Puts.{puts_both}

@@ -3,10 +3,11 @@ use Rattle.std.proofs.lemmas.Grind.{flat_map-append}
 use Rattle.std.proofs.lemmas.List.{map-append, take_more}
 use Rattle.std.specs.List.{filter_map, flat_map}
 use Rattle.x86_64_model.specs.Memory.{identity_places, words_of}
-use Rattle.ptdump_engine.specs.Findings.{entries_in, flaw_in, flawed_entries, said_of}
-use Rattle.ptdump_engine.specs.declared.findings.entry.Table.{Table}
-use Rattle.ptdump_engine.specs.declared.findings.finding.Finding.{Finding}
-use Rattle.ptdump_engine.proofs.Found.{both_lines}
+use Rattle.ptdump_check.specs.Findings.{entries_in, flaw_in, flawed_entries}
+use Rattle.ptdump_check.specs.declared.findings.entry.Table.{Table}
+use Rattle.ptdump_check.specs.declared.findings.finding.Finding.{Finding}
+use Rattle.ptdump_engine.specs.CheckReports.{said_of}
+use Rattle.ptdump_engine.proofs.BothLines.{both_lines}
 use Rattle.ptdump_engine.proofs.reserved.write_flawed_at.Goals as goal
 
 -- what one more frame's table gives

@@ -1,6 +1,7 @@
 use Rattle.std.proofs.Common.{map, take}
 use Rattle.x86_64_model.specs.Memory.{identity_places, words_of}
-use Rattle.ptdump_engine.specs.Findings.{flawed_entries, said_of}
+use Rattle.ptdump_check.specs.Findings.{flawed_entries}
+use Rattle.ptdump_engine.specs.CheckReports.{said_of}
 use Rattle.ptdump_engine.proofs.reserved.write_flawed_at.Given as goal
 
 -- the findings of the tables in the frames so far are written

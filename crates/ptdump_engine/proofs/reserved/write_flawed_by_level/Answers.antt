@@ -4,11 +4,12 @@ use Rattle.std.proofs.lemmas.List.{drop_all, drop_more}
 use Rattle.std.specs.List.{filter_map}
 use Rattle.x86_64_dump.specs.Loaded.{frames_of, loaded_words}
 use Rattle.x86_64_model.specs.Memory.{Words, identity_places, words_of}
-use Rattle.ptdump_engine.specs.Findings.{entries_in, flaw_in, flawed_entries, said_of, tables_below}
-use Rattle.ptdump_engine.specs.declared.findings.entry.Table.{Table}
-use Rattle.ptdump_engine.specs.declared.findings.finding.EntryFlaw.{EntryFlaw}
-use Rattle.ptdump_engine.specs.declared.findings.finding.Finding.{Finding}
-use Rattle.ptdump_engine.proofs.Found.{both_lines}
+use Rattle.ptdump_check.specs.Findings.{entries_in, flaw_in, flawed_entries, tables_below}
+use Rattle.ptdump_check.specs.declared.findings.entry.Table.{Table}
+use Rattle.ptdump_check.specs.declared.findings.finding.EntryFlaw.{EntryFlaw}
+use Rattle.ptdump_check.specs.declared.findings.finding.Finding.{Finding}
+use Rattle.ptdump_engine.specs.CheckReports.{said_of}
+use Rattle.ptdump_engine.proofs.BothLines.{both_lines}
 use Rattle.ptdump_engine.proofs.reserved.write_flawed_by_level.Goals as goal
 
 -- the findings of one more level

@@ -1,7 +1,8 @@
 use Rattle.std.proofs.Common.{◌≡◌, ◌+◌, ◌++◌, List, drop, map}
 use Rattle.x86_64_dump.specs.Loaded.{frames_of, loaded_words}
-use Rattle.ptdump_engine.specs.Findings.{flawed_entries, said_of, tables_below}
-use Rattle.ptdump_engine.specs.declared.findings.finding.Finding.{Finding}
+use Rattle.ptdump_check.specs.Findings.{flawed_entries, tables_below}
+use Rattle.ptdump_check.specs.declared.findings.finding.Finding.{Finding}
+use Rattle.ptdump_engine.specs.CheckReports.{said_of}
 use Rattle.ptdump_engine.proofs.reserved.write_flawed_by_level.Given as goal
 
 -- the findings so far are written, and those of the levels to come are the rest

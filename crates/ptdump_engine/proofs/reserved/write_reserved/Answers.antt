@@ -1,10 +1,10 @@
 use Rattle.std.proofs.Common.{◌≡◌, ◌∙◌, ◌-◌, ◌^◌, if◌then◌else◌, ℕ, [], length, min, sym, ap, subst}
 use Rattle.x86_64_dump.specs.Loaded.{frames_in}
-use Rattle.ptdump_engine.specs.Findings.{tables_below}
-use Rattle.ptdump_engine.specs.Loaded.{HasAllTables, words_loaded}
+use Rattle.ptdump_check.specs.Findings.{tables_below}
+use Rattle.ptdump_check.specs.Loaded.{HasAllTables, words_loaded}
+use Rattle.ptdump_check.specs.declared.loaded.Loaded.{Loaded}
 use Rattle.ptdump_engine.specs.Output.{Puts}
 use Rattle.ptdump_engine.specs.Reserved.{reserved_count, reserved_entries, reserved_line, reserved_note}
-use Rattle.ptdump_engine.specs.declared.loaded.Loaded.{Loaded}
 use Rattle.ptdump_engine.proofs.Results.{on_ok}
 use Rattle.ptdump_engine.proofs.reserved.write_reserved.Goals as goal
 

@@ -1,9 +1,10 @@
 use Rattle.std.proofs.Common.{refl}
 use Rattle.x86_64_dump.specs.Loaded.{frames_in, loaded_words}
-use Rattle.ptdump_engine.specs.Findings.{flawed_entries, processor, said_of, tables_below}
+use Rattle.ptdump_check.specs.Findings.{flawed_entries, processor, tables_below}
+use Rattle.ptdump_check.specs.declared.findings.finding.EntryFlaw.TheVariants as flaws
+use Rattle.ptdump_engine.specs.CheckReports.{said_of}
 use Rattle.ptdump_engine.specs.Reserved.{reserved_entries}
-use Rattle.ptdump_engine.specs.declared.findings.finding.EntryFlaw.TheVariants as flaws
-use Rattle.ptdump_engine.proofs.Found.{both_lines}
+use Rattle.ptdump_engine.proofs.BothLines.{both_lines}
 use Rattle.ptdump_engine.proofs.Results.{on_ok}
 use Rattle.ptdump_engine.proofs.reserved.write_reserved_entries.Goals as goal
 

@@ -2,9 +2,9 @@ use Rattle.std.proofs.Common.{rules, ◌≡◌, filter, subst}
 use Rattle.std.specs.List.{filter_map}
 use Rattle.x86_64_model.specs.Mappings.{mappings_of}
 use Rattle.x86_64_mappings.specs.Selections.{is_mapping_selected}
-use Rattle.ptdump_engine.specs.Loaded.{words_loaded}
+use Rattle.ptdump_check.specs.Loaded.{words_loaded}
+use Rattle.ptdump_check.proofs.Asked.{all_asked}
 use Rattle.ptdump_engine.specs.private.Telling.{AreTold}
-use Rattle.ptdump_engine.proofs.Asked.{all_asked}
 use Rattle.ptdump_engine.proofs.Told.{told_since}
 use Rattle.ptdump_engine.proofs.telling.tell_mappings.Goals as goal
 

@@ -1,7 +1,7 @@
 use Rattle.std.proofs.Common.{rules, ◌≡◌, ◌∙◌, ap, arith}
 use Rattle.x86_64_model.specs.Mappings.{mappings_from, mappings_of}
 use Rattle.x86_64_model.proofs.Lemmas.Mappings.Listing.{from_first}
-use Rattle.ptdump_engine.specs.Loaded.{words_loaded}
+use Rattle.ptdump_check.specs.Loaded.{words_loaded}
 use Rattle.ptdump_engine.proofs.Counted.{one_more, none_left}
 use Rattle.ptdump_engine.proofs.totals.count_mappings.Goals as goal
 

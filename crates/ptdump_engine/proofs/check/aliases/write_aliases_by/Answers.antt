@@ -1,12 +1,12 @@
 use Rattle.std.proofs.Common.{rules, ◌≡◌, filter, sym, subst}
 use Rattle.x86_64_model.specs.Mappings.{mappings_of}
-use Rattle.ptdump_engine.specs.Aliases.{alias_lines}
-use Rattle.ptdump_engine.specs.Loaded.{words_loaded}
+use Rattle.ptdump_check.specs.Loaded.{words_loaded}
+use Rattle.ptdump_check.specs.Aliasing.{AreOfAll}
 use Rattle.x86_64_mappings.specs.Kinds.{distinct}
 use Rattle.x86_64_mappings.specs.Selections.{is_mapping_selected}
-use Rattle.ptdump_engine.specs.private.Aliasing.{AreOfAll}
+use Rattle.ptdump_check.proofs.Asked.{all_asked}
+use Rattle.ptdump_engine.specs.CheckReports.{alias_lines}
 use Rattle.ptdump_engine.specs.private.AliasingLines.{AreAliased}
-use Rattle.ptdump_engine.proofs.Asked.{all_asked}
 use Rattle.ptdump_engine.proofs.check.aliases.write_aliases_by.Goals as goal
 
 pub returns : goal.returns

@@ -1,8 +1,9 @@
 use Rattle.std.proofs.Common.{◌∙◌, Some, filter, subst}
 use Rattle.x86_64_model.specs.Regions.{regions_of}
 use Rattle.x86_64_mappings.specs.Selections.{is_selected}
-use Rattle.ptdump_engine.specs.Findings.{has_flaw, said_of_flawed}
-use Rattle.ptdump_engine.specs.Loaded.{words_loaded}
+use Rattle.ptdump_check.specs.Findings.{has_flaw}
+use Rattle.ptdump_check.specs.Loaded.{words_loaded}
+use Rattle.ptdump_engine.specs.CheckReports.{said_of_flawed}
 use Rattle.ptdump_engine.proofs.Results.{on_ok}
 use Rattle.ptdump_engine.proofs.Told.{said_of_each, said_of_passing}
 use Rattle.ptdump_engine.proofs.check.regions.write_flawed.Goals as goal

@@ -1,7 +1,7 @@
 use Rattle.std.proofs.Common.{◌∙◌, ◌+◌, ◌++◌, [], ◌∷◌, take, sym, ap}
 use Rattle.std.proofs.lemmas.List.{take_more}
-use Rattle.ptdump_engine.specs.Findings.{said_of}
-use Rattle.ptdump_engine.proofs.Found.{both_lines}
+use Rattle.ptdump_engine.specs.CheckReports.{said_of}
+use Rattle.ptdump_engine.proofs.BothLines.{both_lines}
 use Rattle.ptdump_engine.proofs.check.tables.write_each.Goals as goal
 
 pub loop-finding-preserved : goal.loop-finding-preserved

@@ -1,5 +1,5 @@
 use Rattle.std.proofs.Common.{map, take}
-use Rattle.ptdump_engine.specs.Findings.{said_of}
+use Rattle.ptdump_engine.specs.CheckReports.{said_of}
 use Rattle.ptdump_engine.proofs.check.tables.write_each.Given as goal
 
 -- the findings so far are written

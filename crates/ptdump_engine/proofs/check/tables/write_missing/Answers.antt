@@ -1,8 +1,10 @@
 use Rattle.std.proofs.Common.{◌∙◌, ◌+◌, ◌++◌, [], take, sym, ap}
 use Rattle.std.specs.List.{cons_option, filter_map}
 use Rattle.x86_64_model.specs.Memory.{identity_places, words_of}
-use Rattle.ptdump_engine.specs.Findings.{missing, said_of}
-use Rattle.ptdump_engine.proofs.Found.{both_lines, filter_more}
+use Rattle.ptdump_check.specs.Findings.{missing}
+use Rattle.ptdump_check.proofs.Found.{filter_more}
+use Rattle.ptdump_engine.specs.CheckReports.{said_of}
+use Rattle.ptdump_engine.proofs.BothLines.{both_lines}
 use Rattle.ptdump_engine.proofs.check.tables.write_missing.Goals as goal
 
 pub loop-name-preserved : goal.loop-name-preserved

@@ -1,7 +1,8 @@
 use Rattle.std.proofs.Common.{map, take}
 use Rattle.std.specs.List.{filter_map}
 use Rattle.x86_64_model.specs.Memory.{identity_places, words_of}
-use Rattle.ptdump_engine.specs.Findings.{missing, said_of}
+use Rattle.ptdump_check.specs.Findings.{missing}
+use Rattle.ptdump_engine.specs.CheckReports.{said_of}
 use Rattle.ptdump_engine.proofs.check.tables.write_missing.Given as goal
 
 -- the findings of the names so far are written

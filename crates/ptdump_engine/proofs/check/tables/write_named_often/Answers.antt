@@ -1,12 +1,13 @@
 use Rattle.std.proofs.Common.{rules, ◌≡◌, ◌∙◌, ◌≤◌, ◌+◌, ◌-◌, ◌<◌, ◌==◌, ◌++◌, if◌then◌else◌, ℕ, List, [], ◌∷◌, Option, None, Some, drop, get_or, length, map, take, refl, sym, ap, subst, append_assoc, append-nil, drop-drop, arith}
 use Rattle.std.proofs.lemmas.List.{drop_all, drop_more, length-drop, take_all}
 use Rattle.std.specs.List.{cons_option}
-use Rattle.ptdump_engine.specs.Findings.{all_named_often, often, said_of}
-use Rattle.ptdump_engine.specs.declared.findings.finding.Finding.{Finding}
-use Rattle.ptdump_engine.specs.declared.findings.names.Name.{Name}
+use Rattle.ptdump_check.specs.Findings.{all_named_often, often}
+use Rattle.ptdump_check.specs.declared.findings.finding.Finding.{Finding}
+use Rattle.ptdump_check.specs.declared.findings.names.Name.{Name}
+use Rattle.ptdump_check.specs.Ascending.{Ascend}
+use Rattle.ptdump_engine.specs.CheckReports.{said_of}
 use Rattle.ptdump_engine.specs.private.Alike.{alike}
-use Rattle.ptdump_engine.specs.private.Ascending.{Ascend}
-use Rattle.ptdump_engine.proofs.Found.{both_lines}
+use Rattle.ptdump_engine.proofs.BothLines.{both_lines}
 use Rattle.ptdump_engine.proofs.Grouped.{grouped_more, rest_ascends}
 use Rattle.ptdump_engine.proofs.check.tables.write_named_often.Goals as goal
 

@@ -1,7 +1,8 @@
 use Rattle.std.proofs.Common.{◌≡◌, ◌≤◌, ◌-◌, ◌++◌, List, drop, length, map}
-use Rattle.ptdump_engine.specs.Findings.{all_named_often, said_of}
-use Rattle.ptdump_engine.specs.declared.findings.finding.Finding.{Finding}
-use Rattle.ptdump_engine.specs.private.Ascending.{Ascend}
+use Rattle.ptdump_check.specs.Findings.{all_named_often}
+use Rattle.ptdump_check.specs.declared.findings.finding.Finding.{Finding}
+use Rattle.ptdump_check.specs.Ascending.{Ascend}
+use Rattle.ptdump_engine.specs.CheckReports.{said_of}
 use Rattle.ptdump_engine.proofs.check.tables.write_named_often.Given as goal
 
 -- the findings so far are written, and those of the other names are the rest

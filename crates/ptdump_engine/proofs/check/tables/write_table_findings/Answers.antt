@@ -1,9 +1,10 @@
 use Rattle.std.proofs.Common.{◌++◌, refl}
 use Rattle.std.specs.List.{filter_map}
 use Rattle.x86_64_model.specs.Memory.{identity_places, words_of}
-use Rattle.ptdump_engine.specs.Findings.{all_named_often, findings_by, flawed_entries, missing, said_of}
-use Rattle.ptdump_engine.specs.declared.findings.finding.EntryFlaw.TheVariants as flaws
-use Rattle.ptdump_engine.proofs.Found.{both_lines}
+use Rattle.ptdump_check.specs.Findings.{all_named_often, findings_by, flawed_entries, missing}
+use Rattle.ptdump_check.specs.declared.findings.finding.EntryFlaw.TheVariants as flaws
+use Rattle.ptdump_engine.specs.CheckReports.{said_of}
+use Rattle.ptdump_engine.proofs.BothLines.{both_lines}
 use Rattle.ptdump_engine.proofs.Results.{on_ok}
 use Rattle.ptdump_engine.proofs.check.tables.write_table_findings.Goals as goal
 

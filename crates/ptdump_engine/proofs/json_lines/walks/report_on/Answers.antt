@@ -1,6 +1,6 @@
 use Rattle.std.proofs.Common.{◌∙◌, unwrap_or, ap₂}
 use Rattle.x86_64_model.specs.Position.{raw}
-use Rattle.ptdump_engine.specs.Loaded.{words_loaded}
+use Rattle.ptdump_check.specs.Loaded.{words_loaded}
 use Rattle.ptdump_engine.specs.Walks.{walk_of}
 use Rattle.ptdump_engine.specs.private.Walked.{json_of_value}
 use Rattle.ptdump_engine.proofs.WalkValues.{asked_there, object_of_walk, value_arrives}

@@ -3,8 +3,8 @@ use Rattle.x86_64_mappings.specs.Summaries.{summary_of}
 use Rattle.x86_64_mappings.specs.Wanted.{asked_mappings, asked_of}
 use Rattle.x86_64_model.specs.Mappings.{mappings_of}
 use Rattle.x86_64_model.specs.Memory.{identity_places}
-use Rattle.ptdump_engine.specs.Loaded.{words_loaded}
-use Rattle.ptdump_engine.proofs.Asked.{all_asked}
+use Rattle.ptdump_check.specs.Loaded.{words_loaded}
+use Rattle.ptdump_check.proofs.Asked.{all_asked}
 use Rattle.ptdump_engine.proofs.totals.Totals.of.Goals as goal
 use Rattle.ptdump_engine.proofs.totals.Totals.of.Goals.{in-Some, in-None}
 

@@ -1,0 +1,10 @@
+pub mod Asked
+pub mod FirstAddresses
+pub mod FirstAliases
+pub mod Flawless
+pub mod Found
+pub mod InOrder
+pub mod Noted
+pub mod OnceInOrder
+pub mod Reaches
+pub mod Renamed

@@ -1,0 +1,2 @@
+pub mod AliasingLaws
+pub mod Reaching
