@@ -8,3 +8,4 @@ pub mod Noted
 pub mod OnceInOrder
 pub mod Reaches
 pub mod Renamed
+pub mod SameTables

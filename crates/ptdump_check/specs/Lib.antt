@@ -7,6 +7,7 @@ pub mod FindingTexts
 pub mod InOrder
 pub mod Loaded
 pub mod ReachedTables
+pub mod ReservedEntries
 pub mod Selections
 pub mod WritableTables
 pub mod private

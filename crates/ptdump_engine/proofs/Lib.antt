@@ -16,7 +16,7 @@ pub mod Resolved
 pub mod Counted
 pub mod Searches
 pub mod Grouped
-pub mod SameTables
+pub mod SameLines
 pub mod ProcessorGroups
 pub mod Processing
 pub mod Turns

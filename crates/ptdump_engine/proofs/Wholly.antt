@@ -46,7 +46,7 @@ use Rattle.ptdump_engine.specs.declared.request.Request.{Request}
 use Rattle.ptdump_engine.specs.declared.start.Start.{Start}
 use Rattle.ptdump_engine.proofs.AccessLaws.{same_asked, same_outcome, same_there}
 use Rattle.ptdump_engine.proofs.Failing.{dump_fails, dump_unread, fails_then, forced_fails, forced_first}
-use Rattle.ptdump_engine.proofs.SameTables.{same_lines}
+use Rattle.ptdump_engine.proofs.SameLines.{same_lines}
 use Rattle.ptdump_engine.proofs.WalkLaws.{same_walk}
 
 -- a consequence of a fact about the value of an option

@@ -32,6 +32,7 @@ pub use Rattle.ptdump_check.specs.Aliases
 pub use Rattle.ptdump_check.specs.Findings
 pub use Rattle.ptdump_check.specs.FindingTexts
 pub use Rattle.ptdump_check.specs.Loaded
+pub use Rattle.ptdump_check.specs.ReservedEntries
 pub use Rattle.linux_areas.specs.Areas
 pub use Rattle.ptdump_picture.specs.Sizes
 pub use Rattle.x86_64_dump.specs.Formats

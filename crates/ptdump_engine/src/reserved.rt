@@ -4,6 +4,7 @@ ghost use Rattle.x86_64_dump.specs.Loaded.{frames_in, loaded_words};
 ghost use Rattle.x86_64_model.specs.Memory.{identity_places, words_of};
 ghost use Rattle.ptdump_check.specs.Findings.{flawed_entries, tables_below, HasBits};
 ghost use Rattle.ptdump_check.specs.Loaded.{HasAllTables, words_loaded};
+ghost use Rattle.ptdump_check.specs.ReservedEntries.{reserved_entries};
 ghost use Rattle.ptdump_engine.specs.CheckReports.{said_of};
 ghost use Rattle.ptdump_engine.specs.Output.{Puts};
 ghost use Rattle.ptdump_engine.specs.Reserved as specs;
@@ -65,7 +66,7 @@ fn write_count<E: Destination>(count: u64, notes: &mut Output<'_, E>) -> Result<
 
 /// Returns the number of words with reserved bits in the tables, or 2^64 - 1 if there are more.
 fn count_reserved(tables: &DumpTables) -> Result<u64, AllocError>
-    ensures { IfOk result (λ count. count ≡ min (length (specs.reserved_entries (loaded_words tables.now)
+    ensures { IfOk result (λ count. count ≡ min (length (reserved_entries (loaded_words tables.now)
         (tables_below 1 (frames_in tables.now)))) (2 ^ 64 - 1)) }
 {
     let mut count = LineCount::new();
@@ -79,7 +80,7 @@ fn write_reserved_entries<O: LineOutput>(
     output: &mut O,
 ) -> Result<(), O::Error>
     ensures { OnOk result (O.Lines output.old output.new (map said_of
-        (specs.reserved_entries (loaded_words tables.now) (tables_below 1 (frames_in tables.now))))) }
+        (reserved_entries (loaded_words tables.now) (tables_below 1 (frames_in tables.now))))) }
 {
     write_flawed_by_level::<O>(tables, EntryFlaw::HugePage, output)?;
     write_flawed_by_level::<O>(tables, EntryFlaw::ReservedBits(PROCESSOR), output)

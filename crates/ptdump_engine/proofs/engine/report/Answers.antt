@@ -12,7 +12,8 @@ use Rattle.ptdump_engine.specs.Reserved.{reserved_note}
 use Rattle.ptdump_engine.specs.Totals.{IsMappedMemory, totals_text}
 use Rattle.ptdump_engine.specs.Walks.{line}
 use Rattle.ptdump_engine.specs.declared.output.Output.{Output}
-use Rattle.ptdump_engine.proofs.SameTables.{same_note, same_tables}
+use Rattle.ptdump_check.proofs.SameTables.{same_tables}
+use Rattle.ptdump_engine.proofs.SameLines.{same_note}
 use Rattle.ptdump_engine.proofs.Wholly.{puts_both, same_report, same_completeness, written_rest}
 use Rattle.ptdump_engine.proofs.Turns.{told_once}
 use Rattle.ptdump_engine.proofs.engine.report.Given.{Over}

@@ -3,7 +3,7 @@ use Rattle.x86_64_dump.specs.Loaded.{frames_in, loaded_words}
 use Rattle.ptdump_check.specs.Findings.{flawed_entries, processor, tables_below}
 use Rattle.ptdump_check.specs.declared.findings.finding.EntryFlaw.TheVariants as flaws
 use Rattle.ptdump_engine.specs.CheckReports.{said_of}
-use Rattle.ptdump_engine.specs.Reserved.{reserved_entries}
+use Rattle.ptdump_check.specs.ReservedEntries.{reserved_entries}
 use Rattle.ptdump_engine.proofs.BothLines.{both_lines}
 use Rattle.ptdump_engine.proofs.Results.{on_ok}
 use Rattle.ptdump_engine.proofs.reserved.write_reserved_entries.Goals as goal

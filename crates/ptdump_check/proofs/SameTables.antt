@@ -1,5 +1,5 @@
 -- Words that are equal wherever page walks from a root lead have the same tables, the same findings and the same reserved bits.
-use Rattle.std.proofs.Common.{◌≡◌, ◌∙◌, ◌<◌, ◌+◌, ◌-◌, ◌^◌, ◌==◌, ◌&&◌, ◌++◌, ℕ, zero, suc, Bool, true, false, not, cond, if◌then◌else◌, nat_lt, nat_le, List, [], ◌∷◌, reverse, map, filter, length, get_or, Option, Some, None, is_some, min, option_map, option_and_then, refl, sym, ap, ap₂, subst, arith, find}
+use Rattle.std.proofs.Common.{◌≡◌, ◌∙◌, ◌<◌, ◌+◌, ◌-◌, ◌^◌, ◌==◌, ◌&&◌, ◌++◌, ℕ, zero, suc, Bool, true, false, not, cond, nat_lt, nat_le, List, [], ◌∷◌, reverse, map, filter, length, get_or, Option, Some, None, is_some, min, option_map, option_and_then, refl, sym, ap, ap₂, subst, arith, find}
 use Rattle.std.proofs.lemmas.Grind.{reverse_onto}
 use Rattle.std.proofs.lemmas.List.{length-reverse}
 use Rattle.std.specs.List.{AllByRecursion, cons_option, dedup, dedup_from, filter_map, flat_map, fold}
@@ -13,10 +13,8 @@ use Rattle.x86_64_model.specs.Memory.{Words}
 use Rattle.x86_64_model.specs.PageWalk.{read}
 use Rattle.x86_64_model.specs.Path.{indices}
 use Rattle.x86_64_model.specs.Position.{raw}
-use Rattle.x86_64_model.specs.Regions.{regions_in}
 use Rattle.ptdump_check.specs.Findings as findings
 use Rattle.ptdump_check.specs.ReachedTables.{all_reached, first_to, for_user, frames_in_order, reached_at, writable_for_user}
-use Rattle.x86_64_mappings.specs.Selections.{is_selected}
 use Rattle.ptdump_check.specs.WritableTables.{all_writable, writable_at, writable_outside}
 use Rattle.ptdump_check.specs.Findings.{all_named_often, entries_in, frames_above, flaw_in, flawed_entries, missing, name_by, names_in, names_in_order, processor, processor_of, table_findings, tables_by_address}
 use Rattle.ptdump_check.specs.InOrder.{inserted, in_order}
@@ -27,11 +25,8 @@ use Rattle.ptdump_check.specs.declared.findings.finding.Finding.TheVariants.{Not
 use Rattle.ptdump_check.specs.declared.findings.finding.Finding.{Finding}
 use Rattle.ptdump_check.specs.declared.checking.AddressRange.{AddressRange}
 use Rattle.ptdump_check.specs.declared.checking.Checking.{Checking}
-use Rattle.ptdump_check.specs.declared.findings.flaw.Flaw.TheVariants.{WritableAndExecutable, UserInUpperHalf}
 use Rattle.ptdump_check.specs.declared.findings.names.Name.{Name}
-use Rattle.ptdump_engine.specs.Reserved.{lists_mappings, reserved_count, reserved_entries, reserved_line, reserved_note}
-use Rattle.ptdump_engine.specs.CheckReports.{aliases_asked, check_text, finding_lines, finds_nothing, flawed_lines, said_of}
-use Rattle.ptdump_engine.specs.declared.request.Command.{Command}
+use Rattle.ptdump_check.specs.ReservedEntries.{reserved_count, reserved_entries}
 
 -- ---- what mappings reach
 
@@ -295,10 +290,6 @@ module _ (T W : Words) where
       ∙ ap (λ fs. findings.findings_by processor T root ts (names_in_order W ts) ++ fs) (ap₂ (λ fs gs. fs ++ gs) (same_reached L root ts maps) (same_writable L root checking.direct_map ts maps))
       ∙ (λ i. (all_named_often (names_in_order W ts) root ++ lacks i ++ same_entries flaws.HugePage ts all i ++ same_entries (flaws.ReservedBits processor) ts all i) ++ mapped W ts)
 
-  pub same_lines : (checking : Checking) (L root : ℕ) → mappings_of L T root ≡ mappings_of L W root → SameBelow L T W root → finding_lines checking L T root ≡ finding_lines checking L W root
-  unfolding finding_lines
-  same_lines checking L root mapped same = ap₂ (λ ms fs. flawed_lines L WritableAndExecutable (filter (is_selected L checking.selection) (regions_in L ms)) ++ flawed_lines L UserInUpperHalf (filter (is_selected L checking.selection) (regions_in L ms)) ++ map said_of fs ++ aliases_asked checking L ms) mapped (same_findings checking L root mapped same)
-
   -- ---- reserved bits
 
   pub same_reserved : (L root : ℕ) → SameBelow L T W root → reserved_count L T root ≡ reserved_count L W root
@@ -308,6 +299,3 @@ module _ (T W : Words) where
       let all = each_below L root same in
       ap (λ levels. min (length (reserved_entries T (findings.tables_below 1 levels))) (2 ^ 64 - 1)) (same_tables L root same)
       ∙ (λ i. min (length (same_entries flaws.HugePage ts all i ++ same_entries (flaws.ReservedBits processor) ts all i)) (2 ^ 64 - 1))
-
-  pub same_note : (command : Command) (L root : ℕ) → SameBelow L T W root → reserved_note command L T root ≡ reserved_note command L W root
-  same_note command L root same = ap (λ count. if lists_mappings command then reserved_line count else []) (same_reserved L root same)
