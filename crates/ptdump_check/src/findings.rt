@@ -1,4 +1,4 @@
-//! Findings in page tables, and images of page tables for `pagetab`.
+//! Findings in page tables, and images for `pagetab`.
 
 mod aliased;
 mod count;

@@ -1,4 +1,4 @@
-//! The check of page tables that were read from a dump: flaws of entries, tables and mappings; and images of page tables.
+//! What a check of a dump's page tables finds, and their images for `pagetab`.
 #![tactic(auto)]
 
 mod checking;
