@@ -210,7 +210,7 @@ fn write_controls<W: Write>(
 }
 
 /// Writes what says the controls.
-#[tactic(auto, unfolding(crate::specs::Accesses::source_text))]
+#[tactic(auto, unfolding(crate::specs::Accesses::controls_source_text))]
 fn write_source<W: Write>(f: &mut Formatter<W>, source: ControlsSource) -> FmtResult
     ensures { WritesOnOk W.write_str_gives f.old result (accesses.controls_source_text source) f.new }
 {

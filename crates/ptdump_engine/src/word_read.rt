@@ -40,7 +40,7 @@ impl Display for Place {
 
     ghost output = { λ place. Some (word_place_text place.0) };
 
-    #[tactic(auto, unfolding(crate::specs::Walks::place_text))]
+    #[tactic(auto, unfolding(crate::specs::Walks::word_place_text))]
     fn fmt<W: Write>(&self, f: &mut Formatter<W>) -> FmtResult {
         let level = self.0.level;
         let index = self.0.index;

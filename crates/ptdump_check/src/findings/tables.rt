@@ -14,7 +14,7 @@ use x86_64_page::page::Size4KiB;
 /// # Errors
 ///
 /// `AllocError` if memory allocation fails.
-#[tactic(auto, unfolding(crate::specs::Findings::tables_in_order))]
+#[tactic(auto, unfolding(crate::specs::Findings::tables_by_address))]
 pub fn tables_in_order(alloc: Global, frames: TablesByLevel<'_>) -> Result<Vec<Table>, AllocError>
     ensures { IfOk result (λ tables. tables.items ≡ tables_by_address (frames_of frames.now)) }
 {

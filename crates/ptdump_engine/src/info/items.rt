@@ -117,7 +117,7 @@ struct Place {
 impl Display for Place {
     ghost output = { λ place. Some (texts.root_place_text place.root place.levels) };
 
-    #[tactic(auto, unfolding(crate::specs::InfoTexts::place_text))]
+    #[tactic(auto, unfolding(crate::specs::InfoTexts::root_place_text))]
     fn fmt<W: Write>(&self, f: &mut Formatter<W>) -> FmtResult {
         write_hexadecimal(f, self.root.start_address().as_u64())?;
         let levels = levels_name(self.levels);
