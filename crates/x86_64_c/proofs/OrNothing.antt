@@ -1,5 +1,5 @@
 -- Maps that change nothing if they are refused: their statuses are those of the machine's replies.
-use Rattle.std.proofs.Common.{◌≡◌, ◌≢◌, ◌<◌, ◌≤◌, ℕ, Bool, true, false, true≢false, not, cond, List, Option, Some, None, option_map, Result, Ok, Err, OnErr, refl, sym, ap, ap₂, ◌∙◌, subst, arith}
+use Rattle.std.proofs.Common.{◌≡◌, ◌<◌, ◌≤◌, ℕ, Bool, true, false, true≢false, not, cond, List, Some, None, option_map, Result, Ok, Err, OnErr, refl, sym, ap, ap₂, ◌∙◌, subst, arith}
 use Rattle.std.proofs.lemmas.Bool.{ne_eqb}
 use Rattle.std.specs.Option.{option_or}
 use Rattle.std.specs.Result.{IfOk}
@@ -20,7 +20,6 @@ use Rattle.x86_64_model.specs.PathMap.{PathMap}
 use Rattle.x86_64_model.specs.Pool.{TakesBack}
 use Rattle.x86_64_model.specs.Refusal.{Answer}
 use Rattle.x86_64_model.specs.Store.{Store, StoreFits}
-use Rattle.x86_64_tables.specs.LentMemory.{numbered}
 use Rattle.x86_64_tables.specs.MapperAnswers.{map_answer, map_refusal}
 use Rattle.x86_64_tables.specs.PageTableFlags.{bits_of}
 use Rattle.x86_64_tables.specs.declared.errors.MapToError.{MapToError}
@@ -32,7 +31,7 @@ use Rattle.x86_64.specs.declared.call_values.MapperReply.TheVariants as reply
 use Rattle.x86_64.specs.declared.call_values.PageReply.TheVariants.{Map}
 use Rattle.x86_64_c.specs.Calls.{refusal_status, reply_status, result_status}
 use Rattle.x86_64_c.specs.Arguments.{hierarchy_in}
-use Rattle.x86_64_c.specs.PoolCalls.{ExecutesOrNothing, Loan, Request, RunsCall, wrong_pool_call, loan, machine_status, on_page, pool_in}
+use Rattle.x86_64_c.specs.PoolCalls.{ExecutesOrNothing, Request, RunsCall, wrong_pool_call, loan, machine_status, on_page, pool_in}
 use Rattle.x86_64_c.specs.Status.{ok}
 use Rattle.x86_64_c.specs.declared.arguments.Hierarchy.{Hierarchy as Given}
 use Rattle.x86_64_c.specs.private.OrNothing.{RunsIfOk, RunsOrNothing, is_refusal}
@@ -120,10 +119,10 @@ rule_answer paths supply after = by (is_refused after.answer)
     by false = refl
 
 -- it leaves a supply that serves the same frames
-pub same_serves : {Lent S L E X : Type 0} (h after : Hierarchy Lent) (supply rest : Supply) (level : ℕ) (map : PageMap S L) (r : Result X (MapToError E))
-    → MapsOrNothing h supply level map (map_answer map.frame r) after rest → rest.serves ≡ supply.serves
-same_serves h after supply rest level map (Ok flush) maps = (maps.done refl).serves
-same_serves h after supply rest level map (Err why) maps = ap (λ (s : Supply). s.serves) (maps.refused refl).1
+pub same_serves : {Lent S L E X : Type 0} (h after : Hierarchy Lent) (supply rest : Supply) (level : ℕ) (request : PageMap S L) (r : Result X (MapToError E))
+    → MapsOrNothing h supply level request (map_answer request.frame r) after rest → rest.serves ≡ supply.serves
+same_serves h after supply rest level request (Ok flush) maps = (maps.done refl).serves
+same_serves h after supply rest level request (Err why) maps = ap (λ (s : Supply). s.serves) (maps.refused refl).1
 
 module _ {S L : Type 0} (l : Layout) (store : Store) (m : Memory) (map : PageMap S L) (rest : Store) (n : Memory) (status : ℕ)
     (some : 3 < l.levels) (adds : IsParentFlags l.added_flags) (gives : TakesBack store.take_back) (mapping : IsMapping l.places) (fits : StoreFits (of l m) store) where
@@ -143,9 +142,9 @@ module _ {S L : Type 0} (l : Layout) (store : Store) (m : Memory) (map : PageMap
 
   runs_if_ok : {E : Type 0} (r : Result ℕ (MapToError E)) → IfOk r (λ flush. flush ≡ map.page) → status ≡ result_status map_refusal r → (level : ℕ) → 1 ≤ level → level ≤ 3
       → MapsFrom m level r → Allowed level → status ≡ ok → RunsCall (of l m) store (on_page level (call_for map)) (of l n) rest status
-  runs_if_ok (Ok flush) same told level low high maps may fine =
+  runs_if_ok {E = E} (Ok flush) same told level low high maps may fine =
       let done = maps.done refl in
-      mapped l store m map.page map.frame given more rest done.serves n status some adds gives mapping fits (Ok flush) same told level low high done.map may
+      mapped l store m map.page map.frame given more rest done.serves n status some adds gives mapping fits {S = E} (Ok flush) same told level low high done.map may
   runs_if_ok (Err why) same told level low high maps may fine = absurd (not_ok why (sym told ∙ fine))
 
   pub mapped_or_nothing : {E : Type 0} (k : Memory) (r : Result ℕ (MapToError E)) → IfOk r (λ flush. flush ≡ map.page) → status ≡ result_status map_refusal r → (level : ℕ) → 1 ≤ level → level ≤ 3

@@ -33,8 +33,8 @@ returns-then-not-may_map-clause-does g c =
 pub returns-clause-does : goal.returns-clause-does
 returns-clause-does g c =
     let l = direct_at g.L.LevelCount.LEVELS (places_of c.args.located) c.args.located.root in
-    mapped_or_nothing l _ (g.T.TableMemory.tables c.args.memory.now) c.args.self.now _ _ _ _ g.L.LevelCount.at_least_four plain (giving_from _ g.met.F.FrameDeallocator.take_back_rearranges)
-    (shifted_is_mapping c.args.located.mapping.first) c.requires.fits c.map_or_nothing-mapped.result c.map_or_nothing-mapped.ensures.page c.mapped_status.ensures
+    mapped_or_nothing l _ (g.T.TableMemory.tables c.args.memory.now) c.args.self.now _ _ _ g.L.LevelCount.at_least_four plain (giving_from _ g.met.F.FrameDeallocator.take_back_rearranges)
+    (shifted_is_mapping c.args.located.mapping.first) c.requires.fits _ c.map_or_nothing-mapped.result c.map_or_nothing-mapped.ensures.page c.mapped_status.ensures
     g.S.PageSize.LEVEL g.S.PageSize.low g.S.PageSize.high c.may_map.ensures.kept c.map_or_nothing-mapped.ensures.maps (sym c.may_map.ensures.answer ∙ c.if-not-may_map.false)
 
 pub returns-clause-unchanged : goal.returns-clause-unchanged
