@@ -1,4 +1,4 @@
-//! What has to be flushed after a call.
+//! What has to be flushed after a call, and after an exchange of an entry's word.
 
 use crate::addresses::index::PageTableIndex;
 use crate::addresses::level_count::LevelCount;
@@ -163,4 +163,38 @@ pub fn loses(old: &PageTableEntry, new: &PageTableEntry) -> bool {
         | lacks(old, new, PageTableFlags::USER_ACCESSIBLE)
         | lacks(new, old, PageTableFlags::NO_EXECUTE);
     !old.is_unused() & (leads_elsewhere | is_other_kind | loses_mark | grants_less)
+}
+
+/// Returns what has to be flushed after the word of an entry was exchanged for another one by one atomic instruction, given the level of
+/// the entry's table and the hierarchy's recursive index, if it has one. Level one is that of tables whose entries map 4KiB pages.
+///
+/// | entry | flush |
+/// |---|---|
+/// | `old` lacks `PRESENT`, or loses nothing by becoming `new` | `Nothing` |
+/// | `old` maps a page | `Page`; with a recursive index and a page of 2MiB or 1GiB `Everything` |
+/// | `old` names a table | `Everything` |
+///
+/// No cache holds an entry that lacks `PRESENT`. What an entry loses is what [`loses`] tests; an entry that gets `USER_ACCESSIBLE` counts
+/// as one that loses something, too, since under SMEP and SMAP it takes rights from supervisors.
+///
+/// If an exchange is followed by this flush, each access goes with the page walk, with no right more, whatever the processor caches between
+/// exchanges, calls and flushes: the laws `exchanges_may_happen` and `flushes_after_calls_are_enough` of `x86_64_model`, which also say which
+/// words may be exchanged. Intel SDM vol. 3A, "Invalidation of TLBs and Paging-Structure Caches".
+///
+/// # Proved
+///
+/// ```text
+/// ensures { TellsFlushBetween level old.now new.now recursive_index result }
+/// ```
+pub fn flush_between(level: u64, old: &PageTableEntry, new: &PageTableEntry, recursive_index: Option<PageTableIndex>) -> Flush {
+    let is_lost = loses(old, new) | lacks(new, old, PageTableFlags::USER_ACCESSIBLE);
+    if !has_flag(old, PageTableFlags::PRESENT) | !is_lost {
+        return Flush::Nothing;
+    }
+    let names_table = !has_flag(old, PageTableFlags::HUGE_PAGE);
+    if (level > 1) & (names_table | recursive_index.is_some()) {
+        Flush::Everything
+    } else {
+        Flush::Page
+    }
 }
