@@ -1,4 +1,4 @@
-pub mod Arguments
+pub mod ArgumentsGiven
 pub mod EntryChanges
 pub mod Marked
 pub mod PoolSteps

@@ -35,7 +35,7 @@ use Rattle.x86_64_c.specs.PoolCalls.{ExecutesOrNothing, Request, RunsCall, wrong
 use Rattle.x86_64_c.specs.Status.{ok}
 use Rattle.x86_64_c.specs.declared.arguments.Hierarchy.{Hierarchy as Given}
 use Rattle.x86_64_c.specs.private.OrNothing.{RunsIfOk, RunsOrNothing, is_refusal}
-use Rattle.x86_64_c.proofs.Arguments.{kept}
+use Rattle.x86_64_c.proofs.ArgumentsGiven.{kept}
 use Rattle.x86_64_c.proofs.EntryChanges.{of}
 use Rattle.x86_64_c.proofs.Executed.{executes, refuses}
 use Rattle.x86_64_c.proofs.PoolSteps.{by_level, mapped}

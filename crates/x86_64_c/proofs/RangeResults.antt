@@ -8,7 +8,7 @@ use Rattle.x86_64_c.specs.declared.arguments.Hierarchy.{Hierarchy as Given}
 use Rattle.x86_64_c.specs.declared.arguments.MapRequest.{MapRequest}
 use Rattle.x86_64_c.specs.declared.ranges.Mapped.{Mapped}
 use Rattle.x86_64_c.specs.private.RangeMaps.{MapsInPool, is_without_number}
-use Rattle.x86_64_c.proofs.Arguments.{kept}
+use Rattle.x86_64_c.proofs.ArgumentsGiven.{kept}
 
 module _ (own : List ℕ) (h : Given) (ts us : List (List ℕ)) (array left : List ℕ) (free : ℕ) (request : MapRequest) (count was : ℕ) where
   pub maps_with : (number : ℕ) (mapped : Mapped) (done : ℕ) → bad_map_range h (loan ts array free) request count ≡ None

@@ -15,7 +15,7 @@ use Rattle.x86_64_mappers.specs.Ranges.{DoesMaps, MapRange, range_frame, map_at,
 use Rattle.x86_64_tables.specs.LentMemory.{numbered}
 use Rattle.x86_64_tables.specs.LentPool.{is_in, stacked}
 use Rattle.x86_64_tables.specs.Shifted.{shifted_is_mapping}
-use Rattle.x86_64_c.proofs.Arguments.{four_or_five}
+use Rattle.x86_64_c.proofs.ArgumentsGiven.{four_or_five}
 use Rattle.x86_64_c.proofs.EntryChanges.{gives, plain}
 use Rattle.x86_64_c.proofs.RangesSeen.{maps_are}
 use Rattle.x86_64_c.proofs.TogetherFit.{has_levels, kept, none_first}

@@ -17,7 +17,7 @@ use Rattle.x86_64_c.specs.Status as status
 use Rattle.x86_64_c.specs.declared.arguments.Hierarchy.{Hierarchy as Given}
 use Rattle.x86_64_c.specs.private.Pools.{Leaves}
 use Rattle.x86_64_c.specs.private.Spaces.{MakesRoot}
-use Rattle.x86_64_c.proofs.Arguments.{kept}
+use Rattle.x86_64_c.proofs.ArgumentsGiven.{kept}
 use Rattle.x86_64_c.proofs.SpaceArguments.{within_new}
 
 -- ---- the top of a stack

@@ -30,7 +30,7 @@ use Rattle.x86_64_c.specs.PoolCalls.{Loan, loan, Executes, ExecutesOrNothing, wr
 use Rattle.x86_64_c.specs.Status.{ok}
 use Rattle.x86_64_c.specs.Validity.{test_status, TellsWhether}
 use Rattle.x86_64_c.specs.declared.arguments.Hierarchy.{Hierarchy as Given}
-use Rattle.x86_64_c.proofs.Arguments.{four_or_five}
+use Rattle.x86_64_c.proofs.ArgumentsGiven.{four_or_five}
 use Rattle.x86_64_c.proofs.SpaceArguments.{tells}
 use Rattle.x86_64_c.proofs.EntryChanges.{gives, plain}
 

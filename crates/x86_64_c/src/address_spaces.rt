@@ -27,7 +27,7 @@ use x86_64_model::laws::spaces::{calls_keep_what_they_avoid, shared_halves_stay,
 /// They are if the roots are distinct, each hierarchy is valid, all roots have the same words from index `shared_from` up to, but not
 /// including, `shared_to`, and no table is in two hierarchies but those below these indices. The marks, one for each table, may hold
 /// anything before and after. Returns `OK`, also for no root, `NOT_VALID`, or what is wrong with an argument.
-#[tactic(auto, using(crate::proofs::Arguments::handed_back, crate::proofs::Arguments::counted))]
+#[tactic(auto, using(crate::proofs::ArgumentsGiven::handed_back, crate::proofs::ArgumentsGiven::counted))]
 #[unsafe(no_mangle)]
 pub extern "C" fn x64_spaces_fit(
     first: u64,

@@ -52,7 +52,7 @@ impl Mapping {
 ///
 /// Writes as many mappings as the array has room for, and their number to `count`. Returns `OK` if these are all, or `MORE` if there
 /// are others; then `next` is the address to go on from. Or returns what is wrong with an argument; then nothing is written.
-#[tactic(auto, using(crate::proofs::Arguments::kept))]
+#[tactic(auto, using(crate::proofs::ArgumentsGiven::kept))]
 #[unsafe(no_mangle)]
 pub extern "C" fn x64_mappings(
     hierarchy: &Hierarchy,

@@ -76,7 +76,7 @@ pub fn enter<O: Operation>(
 }
 
 /// Does an operation on a hierarchy with `L` levels of tables.
-#[tactic(auto, using(crate::proofs::Arguments::handed_back, crate::proofs::Arguments::counted))]
+#[tactic(auto, using(crate::proofs::ArgumentsGiven::handed_back, crate::proofs::ArgumentsGiven::counted))]
 fn enter_in<L: LevelCount, O: Operation>(
     hierarchy: &Hierarchy,
     tables: &mut [PageTable],

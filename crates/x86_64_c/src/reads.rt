@@ -56,7 +56,7 @@ pub fn tell<X: Drop>(found: Option<X>, place: &mut X) -> u32
 /// Walks to an address through the entries with `PRESENT`, whatever words the tables hold. Reserved bits don't end it.
 ///
 /// Returns `OK` with where the walk arrives, `NOT_MAPPED`, or what is wrong with an argument; then nothing is written.
-#[tactic(auto, using(crate::proofs::Arguments::kept))]
+#[tactic(auto, using(crate::proofs::ArgumentsGiven::kept))]
 #[unsafe(no_mangle)]
 pub extern "C" fn x64_page_walk(
     hierarchy: &Hierarchy,
@@ -122,7 +122,7 @@ impl Operation for PageWalk {
 ///
 /// Requires that the hierarchy is valid, which `x64_is_valid` tests. Returns `OK` with the translation, `NOT_MAPPED`, or what is wrong
 /// with an argument; then nothing is written.
-#[tactic(auto, using(crate::proofs::Arguments::kept))]
+#[tactic(auto, using(crate::proofs::ArgumentsGiven::kept))]
 #[unsafe(no_mangle)]
 pub extern "C" fn x64_translate(
     hierarchy: &Hierarchy,

@@ -27,7 +27,7 @@ pub fn status_of_test(passed: bool) -> u32
 /// in the array and a frame of its own, which is frame 0 for none but the root, and no word above level three has `HUGE_PAGE`.
 ///
 /// The marks, one for each table, may hold anything before and after. Returns `OK`, `NOT_VALID`, or what is wrong with an argument.
-#[tactic(auto, using(crate::proofs::Arguments::kept))]
+#[tactic(auto, using(crate::proofs::ArgumentsGiven::kept))]
 #[unsafe(no_mangle)]
 pub extern "C" fn x64_is_valid(
     hierarchy: &Hierarchy,
@@ -88,7 +88,7 @@ impl Operation for IsValid {
 ///
 /// A pool fits if its free frames have tables in the array, are there once, and none is frame 0, the root or a table of the hierarchy.
 /// The marks, one for each table, may hold anything before and after. Returns `OK`, `NOT_VALID`, or what is wrong with an argument.
-#[tactic(auto, using(crate::proofs::Arguments::kept))]
+#[tactic(auto, using(crate::proofs::ArgumentsGiven::kept))]
 #[unsafe(no_mangle)]
 pub extern "C" fn x64_pool_fits(
     hierarchy: &Hierarchy,

@@ -48,7 +48,7 @@ impl WalkResult {
 /// Walks to an address as `x64_page_walk` does, whatever words the tables hold, and tells all rights.
 ///
 /// Returns `OK` with where the walk arrives, `NOT_MAPPED`, or what is wrong with an argument; then nothing is written.
-#[tactic(auto, using(crate::proofs::Arguments::kept))]
+#[tactic(auto, using(crate::proofs::ArgumentsGiven::kept))]
 #[unsafe(no_mangle)]
 pub extern "C" fn x64_walk(
     hierarchy: &Hierarchy,

@@ -52,7 +52,7 @@ module _ {Lent : Type 0} (h : Hierarchy Lent) (supply : Supply) (level page fram
     stand = λ j before. absurd (omega (arith, before));
     were_free = λ l q f g multiple stands p from to. absurd (omega (arith, from, to));
     leaves = record { kept = kept_none h supply fits; pages = λ l q f g up stands. stands };
-    accepted_maps = accepts_none h supply.frames;
+    accepted = accepts_none h supply.frames;
   }
 
   -- the map of page k
@@ -100,7 +100,7 @@ module _ {Lent : Type 0} (h : Hierarchy Lent) (supply : Supply) (level page fram
           stand = one_more_stands h now after (holding rest) level (span level) page frame given k high so_far.stand leave stands;
           were_free = one_more_free h now after (holding rest) level (span level) page frame given k (holding left) so_far.were_free so_far.leaves free;
           leaves = leaves_then h now after (holding left) (holding rest) 3 3 3 (omega arith) (omega arith) so_far.leaves leave;
-          accepted_maps = subst (λ pages. Accepts h supply.frames pages after rest) (sym (run_more level page frame given k))
+          accepted = subst (λ pages. Accepts h supply.frames pages after rest) (sym (run_more level page frame given k))
               (accepts_then h now after supply.frames left rest (run_of level page frame given k) (page_mapping level p f given ∷ []) same so_far.accepted one);
         })
 

@@ -1,4 +1,4 @@
-use Rattle.x86_64_c.proofs.Arguments.{else_five}
+use Rattle.x86_64_c.proofs.ArgumentsGiven.{else_five}
 use Rattle.x86_64_c.proofs.address_spaces.fit.Goals as goal
 
 pub returns-then-levels-eq4 : goal.returns-then-levels-eq4

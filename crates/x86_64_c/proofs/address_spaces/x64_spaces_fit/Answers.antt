@@ -2,7 +2,7 @@ use Rattle.std.proofs.Common.{sym, ap, ◌∙◌, length, arith}
 use Rattle.std.specs.FinMap.{len}
 use Rattle.std.proofs.lemmas.List.{length-take-le}
 use Rattle.x86_64_c.specs.PoolCalls.{loan}
-use Rattle.x86_64_c.proofs.Arguments.{counted}
+use Rattle.x86_64_c.proofs.ArgumentsGiven.{counted}
 use Rattle.x86_64_c.proofs.TogetherFit.{told}
 use Rattle.x86_64_c.proofs.address_spaces.x64_spaces_fit.Goals as goal
 

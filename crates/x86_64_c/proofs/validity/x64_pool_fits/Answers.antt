@@ -1,4 +1,4 @@
-use Rattle.x86_64_c.proofs.Arguments.{kept}
+use Rattle.x86_64_c.proofs.ArgumentsGiven.{kept}
 use Rattle.x86_64_c.proofs.validity.x64_pool_fits.Goals as goal
 
 pub returns-in-Ok-clause-tables : goal.returns-in-Ok-clause-tables
