@@ -1,8 +1,7 @@
 -- What a call to map a range returns and leaves, once the operation in the caller's tables and pool is done.
-use Rattle.std.proofs.Common.{◌≡◌, ℕ, true, List, Some, None, unwrap_or, refl, sym, ap, ◌∙◌, subst}
-use Rattle.x86_64_tables.specs.LentMemory.{numbered}
+use Rattle.std.proofs.Common.{◌≡◌, ℕ, List, Some, None, unwrap_or, sym, ap, ◌∙◌, subst}
 use Rattle.x86_64_c.specs.Arguments.{hierarchy_in}
-use Rattle.x86_64_c.specs.PoolCalls.{Loan, loan, pool_in}
+use Rattle.x86_64_c.specs.PoolCalls.{loan, pool_in}
 use Rattle.x86_64_c.specs.Ranges.{Maps, MapsWith, bad_map_range, range_asked}
 use Rattle.x86_64_c.specs.declared.arguments.Hierarchy.{Hierarchy as Given}
 use Rattle.x86_64_c.specs.declared.arguments.MapRequest.{MapRequest}

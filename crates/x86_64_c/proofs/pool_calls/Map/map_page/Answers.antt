@@ -1,5 +1,4 @@
-use Rattle.std.proofs.Common.{rules}
-use Rattle.x86_64_c.proofs.Executed.{requested, right_frame, frame_refused}
+use Rattle.x86_64_c.proofs.Executed.{requested, right_frame}
 use Rattle.x86_64_c.proofs.pool_calls.Map.map_page.Goals as goal
 
 pub with_pool-requires-clause-fits : goal.with_pool-requires-clause-fits
