@@ -109,8 +109,8 @@
  *                                               enough
  *   x64_map                   X64_OK            nothing; but everything, global pages too, if the
  *                                               parent flags have X64_NO_EXECUTE
- *   x64_map_as_mapper,        any               the same, unless the status is X64_NOT_ALLOWED or an
- *   x64_map_range                               X64_BAD_ status
+ *   x64_map_as_mapper,        any               the same, unless the status is X64_NOT_ALLOWED or
+ *   x64_map_range                               an X64_BAD_ status
  *   x64_new_space             any               nothing
  *   x64_give_up_space         any               nothing; but before the call no processor uses the
  *                                               root, and no PCID holds it (see below)
@@ -132,9 +132,10 @@
  *               Nor is a right gone before the flush.
  *   a page      until a smaller page is mapped there: one INVLPG drops all of a large page only as
  *               long as no smaller one is there.
- *   tables      until the next map (x64_map, x64_map_as_mapper, x64_map_range) or x64_new_space with
- *               this pool, on whatever root, and until the caller takes a free frame. A freed table
- *               may become another table or a root, which the processor would walk as the old one.
+ *   tables      until the next map (x64_map, x64_map_as_mapper, x64_map_range) or x64_new_space
+ *               with this pool, on whatever root, and until the caller takes a free frame. A freed
+ *               table may become another table or a root, which the processor would walk as the
+ *               old one.
  *
  * x64_clean_up may put the frames of tables into an array of its own, which is passed as its pool
  * and has room for all tables below the root (x64_pool_fits). Then maps with another pool take none
@@ -213,8 +214,8 @@
  *    each other, as long as no call touches the same word and no table on the way is freed between
  *    finding a word and exchanging it. x86_64_paging_live.h has the functions, and says more.
  *    x64_map, x64_map_as_mapper, x64_unmap and x64_update_flags touch the entry of their page and
- *    those above it; ranges touch those of all their pages; x64_clean_up touches all entries in its range, and
- *    x64_give_up_space those of the root, and both free tables.
+ *    those above it; ranges touch those of all their pages; x64_clean_up touches all entries in its
+ *    range, and x64_give_up_space those of the root, and both free tables.
  * 5. Processors mark entries at any moment. What they set is lost only by calls that read an entry
  *    and then write it: x64_unmap, x64_update_flags, their ranges, x64_set_table_flags, maps that
  *    add parent flags, and x64_access with mark. The last one may also put back an entry that a
@@ -627,9 +628,9 @@ uint32_t x64_access(const x64_hierarchy *hierarchy, x64_table *tables, size_t ta
 
 /*
  * Maps a page to a frame, or changes nothing: unless it returns X64_OK, the tables, the pool and
- * *free_count are as before. It looks at the tables first. From the root down, request->parent_flags
- * are added to each entry above the page. An entry that was 0 then also names a new table: the last
- * free frame of the pool, which is cleared, and *free_count decreases by one.
+ * *free_count are as before. It looks at the tables first. Then, from the root down,
+ * request->parent_flags are added to each entry above the page. An entry that was 0 then also names
+ * a new table: the last free frame of the pool, which is cleared, and *free_count decreases by one.
  *
  * Condition: the pool fits the hierarchy (x64_pool_fits).
  *
@@ -653,9 +654,9 @@ uint32_t x64_map(const x64_hierarchy *hierarchy, x64_table *tables, size_t table
 
 /*
  * Maps a page to a frame as map_to_with_table_flags of the Rust crate x86_64 does, and the program
- * pagetab: it returns what x64_map returns, and leaves the same if that is X64_OK, X64_NOT_ALLOWED or
- * an X64_BAD_ status. But it changes entries on its way down, so entries above a page that it refuses
- * may have changed. Use it to end with the same words as one of these after any calls.
+ * pagetab: it returns what x64_map returns, and leaves the same if that is X64_OK, X64_NOT_ALLOWED
+ * or an X64_BAD_ status. But it changes entries on its way down, so entries above a page that it
+ * refuses may have changed. Use it to end with the same words as one of these after any calls.
  *
  * Condition: the pool fits the hierarchy (x64_pool_fits).
  *
@@ -681,10 +682,11 @@ uint32_t x64_map_as_mapper(const x64_hierarchy *hierarchy, x64_table *tables, si
  *   X64_NOT_ALLOWED              if the parent flags lack X64_PRESENT; or, unless count is 0, if
  *                                x64_map of a page wouldn't be allowed. Nothing has changed
  *   X64_FRAME_ALLOCATION_FAILED, X64_PARENT_ENTRY_HUGE_PAGE, X64_PAGE_ALREADY_MAPPED
- *                                if x64_map_as_mapper refused the next page so. *done is written: so
- *                                many pages are mapped. The next one left what a refused
- *                                x64_map_as_mapper leaves: entries above it may have got the parent
- *                                flags, and tables may be new. No page after it was looked at
+ *                                if x64_map_as_mapper refused the next page so. *done is written:
+ *                                so many pages are mapped. The next one left what a refused
+ *                                x64_map_as_mapper leaves: entries above it may have got the
+ *                                parent flags, and tables may be new. No page after it was looked
+ *                                at
  *   X64_BAD_ARRAY                if *free_count > capacity
  *   X64_BAD_PAGE                 also if the pages don't end in the half of the address space in
  *                                which they start
