@@ -835,8 +835,8 @@ uint32_t x64_flush_after(uint32_t call, uint64_t parent_flags, uint32_t status);
  * Returns what has to be flushed after the word of an entry of a level, which was `old`, was
  * exchanged for `word` by one atomic instruction (x86_64_paging_live.h has such exchanges):
  * X64_FLUSH_NOTHING, X64_FLUSH_PAGE (INVLPG of an address in the page), or X64_FLUSH_EVERYTHING if
- * the entry names a table. Level 1 is that of tables whose entries map pages of 4 KiB. TABLES THAT A
- * PROCESSOR USES says which processors flush, and when.
+ * the entry names a table. Level 1 is that of tables whose entries map pages of 4 KiB. TABLES THAT
+ * A PROCESSOR USES says which processors flush, and when.
  *
  * It is nothing if `old` lacks X64_PRESENT, since a processor caches no such entry. Else it is
  * nothing if the address, X64_HUGE_PAGE and the bits 3, 4, 8 and 59 to 62 stay, none of PRESENT,
@@ -846,8 +846,8 @@ uint32_t x64_flush_after(uint32_t call, uint64_t parent_flags, uint32_t status);
  * It is proved that this is the least flush that settles all that the model makes due after the
  * exchange (due_between in crates/x86_64_model/specs/Flushing.antt), and of the model that such
  * flushes are enough, on one processor with one root (exchanges_may_happen,
- * flushes_after_calls_are_enough). There an entry that isn't 0 and lacks X64_PRESENT isn't exchanged
- * while everything is due for an entry above it.
+ * flushes_after_calls_are_enough). There an entry that isn't 0 and lacks X64_PRESENT isn't
+ * exchanged while everything is due for an entry above it.
  *
  * After "nothing" a processor may still fault once by what it cached: the handler finds that the
  * entry allows the access, and returns. Who clears ACCESSED only to learn which pages are in use
