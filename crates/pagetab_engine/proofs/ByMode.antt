@@ -18,7 +18,8 @@ use Rattle.x86_64.proofs.Keeping.{kept_none}
 use Rattle.pagetab_engine.specs.Arguments.{count, levels_of}
 use Rattle.pagetab_engine.specs.Calls.{IsAnswered}
 use Rattle.pagetab_engine.specs.Frames.{direct_layout, recursive_layout}
-use Rattle.pagetab_engine.specs.Hierarchy.{layout, layout_of, hierarchy_of, IsReached, AnswersRecursively, IsTwin, HasTwin, KeepsHierarchy}
+use Rattle.pagetab_engine.specs.Modes.{layout}
+use Rattle.pagetab_engine.specs.Hierarchy.{layout_of, hierarchy_of, IsReached, AnswersRecursively, IsTwin, HasTwin, KeepsHierarchy}
 use Rattle.pagetab_engine.specs.declared.arguments.Mode.{Mode}
 use Rattle.pagetab_engine.specs.declared.arguments.Mode.TheVariants.{Direct, Offset, Recursive, Pair}
 use Rattle.pagetab_engine.specs.declared.frames.Frames.{Frames}

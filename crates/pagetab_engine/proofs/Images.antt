@@ -12,7 +12,8 @@ use Rattle.x86_64_tables.specs.PageTable.{zero_words}
 use Rattle.x86_64.specs.Pairs.{pool_store}
 use Rattle.pagetab_engine.specs.Arguments.{count}
 use Rattle.pagetab_engine.specs.Frames.{direct_layout, recursive_layout, without_self_entry}
-use Rattle.pagetab_engine.specs.Hierarchy.{IsCopy, HasCopy, FitsImage, IsReached, IsHierarchy, first_memory, image_layout}
+use Rattle.pagetab_engine.specs.Hierarchy.{IsCopy, HasCopy, FitsImage, IsReached, IsHierarchy}
+use Rattle.pagetab_engine.specs.Modes.{first_memory, image_layout}
 use Rattle.x86_64_addr.specs.declared.level_count.Levels.{Levels}
 use Rattle.pagetab_engine.specs.declared.arguments.Mode.{Mode}
 use Rattle.pagetab_engine.specs.declared.arguments.Mode.TheVariants.{Direct, Offset, Recursive, Pair}

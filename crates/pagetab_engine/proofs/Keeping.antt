@@ -8,7 +8,8 @@ use Rattle.x86_64_model.specs.Store.{Store, StoreFits, Keeps}
 use Rattle.x86_64.specs.Pairs.{pool_store}
 use Rattle.x86_64.proofs.FreeFrames.{nothing_keeps_free}
 use Rattle.x86_64.proofs.Keeping.{kept_none}
-use Rattle.pagetab_engine.specs.Hierarchy.{hierarchy_of, layout, layout_of, IsReached, HasTwin, IsHierarchy, KeepsHierarchy, KeepsFree}
+use Rattle.pagetab_engine.specs.Modes.{layout}
+use Rattle.pagetab_engine.specs.Hierarchy.{hierarchy_of, layout_of, IsReached, HasTwin, IsHierarchy, KeepsHierarchy, KeepsFree}
 use Rattle.pagetab_engine.specs.declared.arguments.Mode.{Mode}
 use Rattle.pagetab_engine.specs.declared.arguments.Mode.TheVariants.{Direct, Offset, Recursive, Pair}
 use Rattle.pagetab_engine.specs.declared.hierarchy.Hierarchy.{Hierarchy}

@@ -1,33 +1,51 @@
 -- How an image is read, line by line.
-use Rattle.std.proofs.Common.{◌≡◌, ℕ, List, [], ◌∷◌, None, Some, sym, subst}
+use Rattle.std.proofs.Common.{◌≡◌, ◌∙◌, ℕ, Bool, true, false, cond, List, [], ◌∷◌, None, Some, refl, sym, ap, subst}
 use Rattle.std.specs.Bool.{⊤}
-use Rattle.pagetab_engine.specs.Commands.{Command, Image, Asks}
+use Rattle.std.specs.Io.KnownBytes.{Appends}
+use Rattle.std.specs.List.{flat_map}
+use Rattle.pagetab_engine.specs.Commands.{Command, Statement, Image, Asks}
 use Rattle.pagetab_engine.specs.Frames.{IsLoadable}
+use Rattle.pagetab_engine.specs.Image.{Loaded, is_loadable, load}
 use Rattle.pagetab_engine.specs.Lines.{Numbered, ExplainsRead, ForSome, TakesStatement, TracesBack}
-use Rattle.pagetab_engine.specs.Program.{Loads, Reads}
-use Rattle.pagetab_engine.specs.private.RunParts.{Follows, LoadsImage, StopsInImage}
-use Rattle.pagetab_engine.specs.Program.Reads.{loads, bad_line, refused, gives_up}
+use Rattle.pagetab_engine.specs.Program.{Transcript, read, read_line, stops_at, tested}
+use Rattle.pagetab_engine.specs.Texts.{reply_line}
 use Rattle.pagetab_engine.specs.declared.ending.Ending.TheVariants.{Stopped}
 use Rattle.pagetab_engine.specs.declared.ending.Fault.{Fault}
 use Rattle.pagetab_engine.specs.declared.ending.Fault.TheVariants.{BadLine, InvalidHierarchy, OutOfMemory, Input, Output, Usage}
 use Rattle.pagetab_engine.specs.declared.hierarchy.Hierarchy.{Hierarchy}
 use Rattle.pagetab_engine.specs.declared.statement.ImageLine.{ImageLine}
+use Rattle.pagetab_engine.specs.private.RunParts.{Follows, LoadsImage, Loads, StopsInImage, loaded_of, read_into}
+use Rattle.pagetab_engine.proofs.LoadedLines.{load_told, loadable_tells}
+use Rattle.pagetab_engine.proofs.Parsing.{shown}
+use Rattle.pagetab_engine.proofs.Written.{appends_nothing}
 
 module _ (levels places : ℕ) (before : Hierarchy) (start : List Numbered → Type 0) where
+  -- the transcript of these lines, after those before them were loaded
+  abbrev of : List Numbered → Hierarchy → Transcript
+  of lines between = read levels places before.mode lines (loaded_of between.frames)
+
   pub begins : TracesBack start start (λ all left. Follows levels places all before left before)
-  begins = λ left may. (left, may, λ ending replies reads. reads)
+  begins = λ left may. (left, may, refl)
 
   module _ (between : Hierarchy) (old : List Numbered → Type 0) (follows : TracesBack start old (λ all left. Follows levels places all before left between)) where
+    -- the transcript of lines that begin with this statement
+    taken : (lines : List Numbered) (number : ℕ) (rest : List Numbered) (statement : Statement) → TakesStatement levels places lines number rest statement
+        → of lines between ≡ read_line (Some statement) number (loaded_of between.frames) (λ loaded. read levels places before.mode rest loaded) (λ command. tested levels places before.mode (loaded_of between.frames) (Some command) rest)
+    taken lines number rest statement takes =
+        ap (λ lines. of lines between) takes.1
+        ∙ ap (λ said. read_line said number (loaded_of between.frames) (λ loaded. read levels places before.mode rest loaded) (λ command. tested levels places before.mode (loaded_of between.frames) (Some command) rest)) takes.2
+
     -- another line was loaded
     pub goes_on : (new : List Numbered → Type 0) (number : ℕ) (image : ImageLine) (after : Hierarchy)
         → TracesBack old new (λ lines rest. TakesStatement levels places lines number rest (Image image)) → Loads image between after
         → TracesBack start new (λ all left. Follows levels places all before left after)
-    goes_on new number image after takes loaded = λ rest may.
+    goes_on new number image after takes loads = λ rest may.
         let lines = takes rest may in let all = follows lines.0 lines.1 in (
           all.0,
           all.1,
-          λ ending replies reads. all.2 ending replies (subst (λ lines. Reads levels places lines between ending replies) (sym lines.2.1)
-              (loads (record { number = number; line = lines.2.0 }) rest image between after ending replies lines.2.2 loaded reads)),
+          all.2 ∙ taken lines.0 number rest (Image image) lines.2
+              ∙ ap (λ b. cond b (read levels places before.mode rest (load (loaded_of between.frames) image)) (stops_at number)) ((loadable_tells between.frames image).1 loads.accepted)
+              ∙ ap (λ (loaded : Loaded). read levels places before.mode rest loaded) (sym (load_told image between after loads)),
         )
 
     -- a line says the first command
@@ -35,29 +53,32 @@ module _ (levels places : ℕ) (before : Hierarchy) (start : List Numbered → T
         → TracesBack start new (λ all behind. LoadsImage levels places all before (Some command) behind between)
     command_follows new number command takes = λ rest may.
         let lines = takes rest may in let all = follows lines.0 lines.1 in
-        (all.0, all.1, (lines.0, (record { number = number; line = lines.2.0 }, lines.2.2, lines.2.1), all.2))
+        (all.0, all.1, (shown levels places lines.2.0 command lines.2.2, all.2 ∙ taken lines.0 number rest (Asks command) lines.2))
 
     -- no line is left
     pub nothing_follows : (new : List Numbered → Type 0) → TracesBack old new (λ lines rest. lines ≡ []) → TracesBack start new (λ all behind. LoadsImage levels places all before None behind between)
     nothing_follows new none = λ rest may.
         let lines = none rest may in let all = follows lines.0 lines.1 in
-        (all.0, all.1, (lines.0, lines.2, all.2))
+        (all.0, all.1, (tt, all.2 ∙ ap (λ lines. of lines between) lines.2))
+
+    -- the image ends at a bad line
+    bad : (all : List Numbered) (number : ℕ) → read_into levels places all before ≡ stops_at number → StopsInImage levels places all before (BadLine number)
+    bad all number is = λ held. subst (λ (t : Transcript). ((Stopped (BadLine number) ≡ t.ending) × Appends held held (flat_map reply_line t.replies))) (sym is) (refl, appends_nothing held)
 
     -- a line is bad, or a read failed
     pub unread : (fault : Fault) → ForSome old (λ lines. ExplainsRead levels places lines fault) → ForSome start (λ all. StopsInImage levels places all before fault)
-    unread fault why =
-        let all = follows why.0 why.1 in
-        let end = stops why.0 fault why.2 in
-        (all.0, all.1, (end.0, all.2 (Stopped fault) [] end.1))
+    unread fault why = let all = follows why.0 why.1 in (all.0, all.1, stops all.0 why.0 fault why.2 all.2)
       where
-        stops : (lines : List Numbered) (fault : Fault) → ExplainsRead levels places lines fault → StopsInImage levels places lines between fault
-        stops [] (BadLine number) why = absurd why
-        stops (line ∷ lines) (BadLine number) why = (tt, subst (λ number. Reads levels places (line ∷ lines) between (Stopped (BadLine number)) []) why.0 (bad_line line lines between why.1))
-        stops lines Input why = (tt, gives_up lines between Input tt)
-        stops lines InvalidHierarchy why = absurd why
-        stops lines OutOfMemory why = absurd why
-        stops lines Output why = absurd why
-        stops lines Usage why = absurd why
+        stops : (all lines : List Numbered) (fault : Fault) → ExplainsRead levels places lines fault → read_into levels places all before ≡ of lines between → StopsInImage levels places all before fault
+        stops all [] (BadLine number) why is = absurd why
+        stops all (line ∷ lines) (BadLine number) why is = bad all number
+            (is ∙ ap (λ said. read_line said line.number (loaded_of between.frames) (λ loaded. read levels places before.mode lines loaded) (λ command. tested levels places before.mode (loaded_of between.frames) (Some command) lines)) why.1
+            ∙ ap stops_at why.0)
+        stops all lines Input why is = λ held. ([], (read_into levels places all before).replies, refl, appends_nothing held)
+        stops all lines InvalidHierarchy why is = absurd why
+        stops all lines OutOfMemory why is = absurd why
+        stops all lines Output why is = absurd why
+        stops all lines Usage why is = absurd why
 
     -- a line can't be loaded
     pub not_loaded : (new : List Numbered → Type 0) (number : ℕ) (image : ImageLine) → ForSome new (λ rest. ⊤) → TracesBack old new (λ lines rest. TakesStatement levels places lines number rest (Image image))
@@ -66,9 +87,10 @@ module _ (levels places : ℕ) (before : Hierarchy) (start : List Numbered → T
         let lines = takes some.0 some.1 in let all = follows lines.0 lines.1 in (
           all.0,
           all.1,
-          (
-            tt,
-            all.2 (Stopped (BadLine number)) [] (subst (λ lines. Reads levels places lines between (Stopped (BadLine number)) []) (sym lines.2.1)
-                (refused (record { number = number; line = lines.2.0 }) some.0 image between lines.2.2 never)),
-          ),
+          bad all.0 number (all.2 ∙ taken lines.0 number some.0 (Image image) lines.2
+              ∙ ap (λ b. cond b (read levels places before.mode some.0 (load (loaded_of between.frames) image)) (stops_at number)) (refused (is_loadable (loaded_of between.frames) image) refl)),
         )
+      where
+        refused : (b : Bool) → is_loadable (loaded_of between.frames) image ≡ b → is_loadable (loaded_of between.frames) image ≡ false
+        refused false is = is
+        refused true is = absurd (never ((loadable_tells between.frames image).0 is))

@@ -1,11 +1,12 @@
 -- Lines are counted as they are read, and blank ones are skipped.
-use Rattle.std.proofs.Common.{◌≡◌, ◌≤◌, ℕ, refl, sym, ap, subst, ◌∙◌, suc, Bool, true, false, cond, List, [], ◌∷◌, length, Option, Some, None, arith}
+use Rattle.std.proofs.Common.{◌≡◌, ◌≤◌, ℕ, refl, sym, ap, subst, ◌∙◌, suc, Bool, true, false, cond, List, [], ◌∷◌, length, nat_le, leb-true, le-leb, Option, Some, None, arith}
 use Rattle.std.specs.Bool.{⊤}
 use Rattle.std.proofs.lemmas.Bool.Decides.{nat_tests}
 use Rattle.std.specs.List.{list_all}
 use Rattle.pagetab_engine.specs.Commands.{Statement}
 use Rattle.pagetab_engine.specs.Fields.{is_space}
-use Rattle.pagetab_engine.specs.Lines.{Numbered, numbered_from, is_blank, lines_of, BeginsBad, BeginsTooLong, ForSome, IsBad, IsInput, SaysAccepted, TakesLine, TakesStatement, TracesBack}
+use Rattle.pagetab_engine.specs.Statements.{statement_in, statement_of_fields}
+use Rattle.pagetab_engine.specs.Lines.{Numbered, numbered_from, is_blank, lines_of, BeginsBad, BeginsTooLong, ForSome, IsInput, TakesLine, TakesStatement, TracesBack}
 
 -- lines with numbers that may be left after this number of lines
 abbrev pub MayFollow : (number : ℕ) (known : Option (List ℕ)) → List Numbered → Type 0
@@ -48,7 +49,7 @@ line_next number bytes line rest some takes =
     ∙ ap (λ b. cond b (numbered_from (suc (suc number)) (lines_of rest)) (record { number = suc number; line = line } ∷ numbered_from (suc (suc number)) (lines_of rest))) some
 
 pub statement_taken : (levels places : ℕ) (number next : ℕ) (old new : Option (List ℕ)) (line : List ℕ) (statement : Statement) → next ≡ suc number → is_blank line ≡ false
-    → TracesBack (IsInput old) (IsInput new) (λ bytes rest. TakesLine bytes line rest) → SaysAccepted levels places line statement
+    → TracesBack (IsInput old) (IsInput new) (λ bytes rest. TakesLine bytes line rest) → statement_in levels places line ≡ Some statement
     → TracesBack (MayFollow number old) (MayFollow next new) (λ lines rest. TakesStatement levels places lines next rest statement)
 statement_taken levels places number next old new line statement counted some takes says = λ lines may.
     let rest = may.0 in
@@ -64,7 +65,7 @@ statement_taken levels places number next old new line statement counted some ta
     )
 
 pub bad_taken : (levels places : ℕ) (number next : ℕ) (old new : Option (List ℕ)) (line : List ℕ) → next ≡ suc number → is_blank line ≡ false
-    → TracesBack (IsInput old) (IsInput new) (λ bytes rest. TakesLine bytes line rest) → IsBad levels places line
+    → TracesBack (IsInput old) (IsInput new) (λ bytes rest. TakesLine bytes line rest) → statement_in levels places line ≡ None
     → ForSome (MayFollow number old) (λ lines. BeginsBad levels places lines next)
 bad_taken levels places number next old new line counted some takes bad =
     let rest = some_input new in
@@ -78,6 +79,18 @@ bad_taken levels places number next old new line counted some takes bad =
 long_line : (line : List ℕ) → ¬ (length line ≤ 256) → is_blank line ≡ false
 long_line line long = grind (arith, nat_tests)
 
+-- and is no statement
+too_long : (levels places : ℕ) (line : List ℕ) → ¬ (length line ≤ 256) → statement_in levels places line ≡ None
+too_long levels places line long = by (nat_le (length line) 256) refl
+  where
+    by : (b : Bool) → nat_le (length line) 256 ≡ b → cond b (statement_of_fields levels places line) None ≡ None
+    by false is = refl
+    by true is = absurd (long (leb-true (length line) 256 is))
+
+-- a line that isn't too long is the statement of its fields
+pub short_line : (levels places : ℕ) (line : List ℕ) → length line ≤ 256 → statement_in levels places line ≡ statement_of_fields levels places line
+short_line levels places line short = ap (λ b. cond b (statement_of_fields levels places line) None) (le-leb (length line) 256 short)
+
 -- if the first line is too long, it is bad
 pub long_taken : (levels places : ℕ) (number next : ℕ) (old new : Option (List ℕ)) → next ≡ suc number → TracesBack (IsInput old) (IsInput new) (λ bytes rest. BeginsTooLong (lines_of bytes))
     → ForSome (MayFollow number old) (λ lines. BeginsBad levels places lines next)
@@ -87,11 +100,11 @@ long_taken levels places number next old new counted long =
     (numbered_from (suc number) (lines_of bytes.0), (bytes.0, bytes.1, refl), begins (lines_of bytes.0) bytes.2)
   where
     begins : (lines : List (List ℕ)) → BeginsTooLong lines → BeginsBad levels places (numbered_from (suc number) lines) next
-    begins [] too_long = absurd too_long
-    begins (line ∷ lines) too_long =
+    begins [] longer = absurd longer
+    begins (line ∷ lines) longer =
         let first : numbered_from (suc number) (line ∷ lines) ≡ record { number = suc number; line = line } ∷ numbered_from (suc (suc number)) lines =
-        ap (λ b. cond b (numbered_from (suc (suc number)) lines) (record { number = suc number; line = line } ∷ numbered_from (suc (suc number)) lines)) (long_line line too_long) in
-        subst (λ (numbered : List Numbered). BeginsBad levels places numbered next) (sym first) (sym counted, λ fits. absurd (too_long fits))
+        ap (λ b. cond b (numbered_from (suc (suc number)) lines) (record { number = suc number; line = line } ∷ numbered_from (suc (suc number)) lines)) (long_line line longer) in
+        subst (λ (numbered : List Numbered). BeginsBad levels places numbered next) (sym first) (sym counted, too_long levels places line longer)
 
 -- if there is no line, none is left
 pub none_taken : (number next : ℕ) (old new : Option (List ℕ)) → TracesBack (IsInput old) (IsInput new) (λ bytes rest. lines_of bytes ≡ [])

@@ -11,8 +11,10 @@ use Rattle.x86_64.specs.declared.call_values.MapperReply.TheVariants.{NotAllowed
 use Rattle.pagetab_engine.specs.Arguments.{count, levels_of}
 use Rattle.pagetab_engine.specs.Calls.{IsAnswered}
 use Rattle.pagetab_engine.specs.Commands.{Call}
-use Rattle.pagetab_engine.specs.Hierarchy.{call_back, call_step, hierarchy_of, hierarchy_state, is_index_named, is_refused, layout_of, machine_of, IsHierarchy, KeepsFree, KeepsHierarchy, TwinTells}
-use Rattle.pagetab_engine.specs.Program.{Answers}
+use Rattle.pagetab_engine.specs.Hierarchy.{hierarchy_of, hierarchy_state, layout_of, IsHierarchy, KeepsFree, KeepsHierarchy, TwinTells}
+use Rattle.pagetab_engine.specs.Situation.{call_back, call_step, machine_in}
+use Rattle.pagetab_engine.specs.Modes.{is_index_named, is_refused}
+use Rattle.pagetab_engine.specs.private.RunParts.{Answers, situation_of}
 use Rattle.pagetab_engine.specs.Reply.{Answered}
 use Rattle.pagetab_engine.specs.declared.arguments.Mode.{Mode}
 use Rattle.pagetab_engine.specs.declared.hierarchy.Hierarchy.{Hierarchy}
@@ -29,10 +31,10 @@ module _ (hierarchy : Hierarchy) (call : MapperCall) where
 
   pub answers_refused : is_refused hierarchy.mode call ≡ true → IsHierarchy hierarchy → Answers (Call call) hierarchy (Answered NotAllowed) hierarchy
   answers_refused is fits =
-      let machine = machine_of hierarchy in
-      let step : call_step hierarchy call ≡ refused = ap (λ b. cond b refused (runs.step_by machine (hierarchy_state hierarchy) call)) is in
+      let machine = machine_in (situation_of hierarchy) in
+      let step : call_step (situation_of hierarchy) call ≡ refused = ap (λ b. cond b refused (runs.step_by machine (hierarchy_state hierarchy) call)) is in
       record {
-        reply = ap (λ (after : AfterStep Reply). option_map Answered after.reply) step;
+        reply = λ _. ap (λ (after : AfterStep Reply). option_map Answered after.reply) step;
         state = sym (ap (λ (after : AfterStep Reply). after.state) step);
         reads = λ _. refl;
         free = free_itself hierarchy _ (ap (λ b. cond b [] (back_by machine (hierarchy_state hierarchy) (machine_call machine.levels call))) is);
@@ -44,13 +46,13 @@ module _ (hierarchy : Hierarchy) (call : MapperCall) where
   pub answers_executed : (after : Hierarchy) (reply : Reply) → is_refused hierarchy.mode call ≡ false → KeepsHierarchy hierarchy after → TwinTells hierarchy.mode call hierarchy.twin after.twin reply
       → IsAnswered (hierarchy_of hierarchy) (pool_store hierarchy.frames.pool) call (hierarchy_of after) (pool_store after.frames.pool) reply → Answers (Call call) hierarchy (Answered reply) after
   answers_executed after reply is keeps twin answered =
-      let machine = machine_of hierarchy in
-      let step : call_step hierarchy call ≡ record { state = runs.state_in (layout_of hierarchy) after.frames.memory after.frames.pool.frames; reply = Some reply } =
+      let machine = machine_in (situation_of hierarchy) in
+      let step : call_step (situation_of hierarchy) call ≡ record { state = runs.state_in (layout_of hierarchy) after.frames.memory after.frames.pool.frames; reply = Some reply } =
       ap (λ b. cond b refused (runs.step_by machine (hierarchy_state hierarchy) call)) is ∙ answered.step in
-      let back : call_back hierarchy call ≡ back_by machine (hierarchy_state hierarchy) (machine_call machine.levels call) =
+      let back : call_back (situation_of hierarchy) call ≡ back_by machine (hierarchy_state hierarchy) (machine_call machine.levels call) =
       ap (λ b. cond b [] (back_by machine (hierarchy_state hierarchy) (machine_call machine.levels call))) is in
       record {
-        reply = ap (λ (after : AfterStep Reply). option_map Answered after.reply) step;
+        reply = λ _. ap (λ (after : AfterStep Reply). option_map Answered after.reply) step;
         state = ap (λ (l : Layout). runs.state_in l after.frames.memory after.frames.pool.frames) keeps.keeps.layout ∙ sym (ap (λ (after : AfterStep Reply). after.state) step);
         reads = λ refuses. absurd (let t : true ≡ false = sym refuses ∙ is in cc);
         free = subst (λ back. KeepsFree hierarchy back after) (sym back) answered.free;

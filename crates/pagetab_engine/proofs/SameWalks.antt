@@ -1,6 +1,10 @@
--- In memories with equal words, page walks arrive at the same addresses.
-use Rattle.std.proofs.Common.{◌≡◌, ◌+◌, ◌*◌, ◌/◌, ◌%◌, ◌^◌, ◌<◌, ◌&&◌, ℕ, zero, suc, nat_le, nat_lt, Bool, true, cond, get_or, List, Option, Some, None, option_and_then, option_map, refl, sym, ap, ◌∙◌, arith, eq-eqb, lt-ltb}
+-- Page walks in tables that are made of words arrive where those in the memory with these words do.
+use Rattle.std.proofs.Common.{◌≡◌, ◌+◌, ◌*◌, ◌/◌, ◌%◌, ◌^◌, ◌<◌, ◌&&◌, ℕ, zero, suc, nat_le, nat_lt, Bool, true, false, cond, get_or, map, List, Option, Some, None, option_and_then, option_map, refl, sym, ap, subst, ◌∙◌, arith, eq-eqb, lt-ltb, ltb-true}
 use Rattle.std.proofs.Math.Nat.{mul-div_cancel}
+use Rattle.std.proofs.lemmas.List.{get_or-map}
+use Rattle.std.proofs.lemmas.List.FromFn.{length-range_with_len, get_or-range_with_len}
+use Rattle.std.specs.List.{range_with_len}
+use Rattle.x86_64_model.specs.Path.{indices}
 use Rattle.std.specs.FinMap.{get}
 use Rattle.x86_64_model.specs.Entry.{present, writable, user, huge, address, is_frame}
 use Rattle.x86_64_model.specs.Memory.{Memory, Words, identity_places, word, word_in, words_of}
@@ -10,6 +14,7 @@ use Rattle.x86_64_model.proofs.Lemmas.Entries.Bits.{zero_absent}
 use Rattle.x86_64_model.proofs.Lemmas.Entries.Words.{address-multiple}
 use Rattle.x86_64_model.proofs.Lemmas.Walks.Walked.{index_small}
 use Rattle.x86_64.specs.EveryWord.{SameWords}
+use Rattle.pagetab_engine.specs.Situation.{tables_with}
 use Rattle.pagetab_engine.specs.Slot as slots
 
 -- if there is no table, a word is read as 0
@@ -58,3 +63,16 @@ slot_word memory place index small within aligned =
     by : (table : Option (List ℕ)) → slots.word_of_table table index ≡ word_in table index
     by None = refl
     by (Some words) = refl
+
+-- ---- tables that are made of words
+
+mapped_at : (f : ℕ → ℕ) (n i : ℕ) → i < n → get_or (map f (range_with_len 0 n)) i 0 ≡ f i
+mapped_at f n i small = get_or-map f (range_with_len 0 n) i 0 0 (subst (λ m. i < m) (sym (length-range_with_len 0 n)) small) ∙ ap f (get_or-range_with_len 0 n i 0 small ∙ (let e : 0 + i ≡ i = omega arith in e))
+
+pub word_of_tables : (T : Words) → SameWords T (tables_with (word T))
+unfolding word indices
+word_of_tables T f i = by (nat_lt i 512) refl
+  where
+    by : (b : Bool) → nat_lt i 512 ≡ b → cond b (word_in (T f) i) 0 ≡ cond b (get_or (map (λ j. cond (nat_lt j 512) (word_in (T f) j) 0) (range_with_len 0 512)) i 0) 0
+    by false large = refl
+    by true small = sym (mapped_at (λ j. cond (nat_lt j 512) (word_in (T f) j) 0) 512 i (ltb-true i 512 small) ∙ ap (λ b. cond b (word_in (T f) i) 0) small)

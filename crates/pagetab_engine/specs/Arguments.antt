@@ -1,7 +1,9 @@
 -- The program's arguments.
-use Rattle.std.specs.Prelude.{◌≡◌, ◌≤◌, ◌<◌, ℕ, List, [], ◌∷◌, codes}
+use Rattle.std.specs.Prelude.{◌≡◌, ◌≤◌, ◌<◌, ◌&&◌, nat_le, nat_lt, ℕ, Bool, cond, List, [], ◌∷◌, bytes_eq, codes, find, Option, Some, None, option_and_then, option_map}
 use Rattle.x86_64_model.specs.Position.{raw}
 use Rattle.x86_64_mappings.specs.Numbers.{IsNumber, number_of}
+use Rattle.pagetab_engine.specs.Fields.{is_number}
+use Rattle.pagetab_engine.specs.Starts.{is_canonical, position_at}
 use Rattle.pagetab_engine.specs.declared.arguments.Arguments.{Arguments}
 use Rattle.x86_64_addr.specs.declared.level_count.Levels.{Levels}
 use Rattle.x86_64_addr.specs.declared.level_count.Levels.TheVariants.{Four, Five}
@@ -50,6 +52,43 @@ recursive_word Five = codes "recursive5"
 abbrev pub pair_word : Levels → List ℕ
 pair_word Four = codes "pair"
 pair_word Five = codes "pair5"
+
+-- The argument that chooses a mode.
+abbrev pub mode_word : Mode → List ℕ
+mode_word (Direct levels) = direct_word levels
+mode_word (Offset address) = codes "offset"
+mode_word (Recursive levels index) = recursive_word levels
+mode_word (Pair levels index) = pair_word levels
+
+-- The one of these modes that a word chooses, if it chooses one.
+abbrev pub mode_named : (word : List ℕ) → List Mode → Option Mode
+mode_named word modes = find (λ mode. bytes_eq (mode_word mode) word) modes
+
+-- The modes with this number: the raw value of the address for an offset, or an index.
+abbrev pub modes_with : (number : ℕ) → List Mode
+modes_with number = Offset (position_at 4 number) ∷ Recursive Four number ∷ Recursive Five number ∷ Pair Four number ∷ Pair Five number ∷ []
+
+-- Whether a mode may have this number: that of a canonical address for an offset, and else one below 512.
+abbrev pub may_have : Mode → (number : ℕ) → Bool
+may_have (Offset address) number = is_canonical 4 number
+may_have mode number = nat_lt number 512
+
+-- The mode that a word and the text that may follow choose, if they choose one.
+abbrev pub mode_in : (word : List ℕ) → (more : List (List ℕ)) → Option Mode
+mode_in word [] = mode_named word (Direct Four ∷ Direct Five ∷ [])
+mode_in word (text ∷ []) = option_and_then (λ mode. cond (is_number text && may_have mode (number_of text)) (Some mode) None) (mode_named word (modes_with (number_of text)))
+mode_in word more = None
+
+-- Whether a text is a number of places, from 2 to 65536 (a place is the index of a table in memory).
+abbrev pub is_places : List ℕ → Bool
+is_places text = is_number text && (nat_le 2 (number_of text) && nat_le (number_of text) 65536)
+
+-- The arguments that the words are, if they are any: the word of a mode, the number of places, and the text that the mode needs.
+abbrev pub arguments_in : (words : List (List ℕ)) → Option Arguments
+arguments_in (word ∷ places ∷ more) = cond (is_places places) (option_map (λ mode. record { mode = mode; places = number_of places }) (mode_in word more)) None
+arguments_in words = None
+
+-- ---- the same as facts, for the contracts of parsers
 
 -- The arguments choose this mode: the word of the direct mapper alone, `offset` and an address, or the word of the recursive
 -- mapper or of a pair and an index.

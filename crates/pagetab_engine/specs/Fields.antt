@@ -1,7 +1,8 @@
 -- The fields of a line as texts.
-use Rattle.std.specs.Prelude.{◌≡◌, ◌==◌, ℕ, ⊤, Bool, true, false, List, [], ◌∷◌, ◌++◌, codes, filter, Option, Some, None}
-use Rattle.std.specs.List.{slice_split}
-use Rattle.x86_64_mappings.specs.Numbers.{IsNumber, number_of}
+use Rattle.std.specs.Prelude.{◌≡◌, ◌==◌, ◌&&◌, ◌^◌, nat_lt, ℕ, ⊤, Bool, true, false, cond, List, [], ◌∷◌, ◌++◌, bytes_eq, codes, drop, filter, find, Option, Some, None, option_and_then, option_map}
+use Rattle.std.specs.Char.{digit_value}
+use Rattle.std.specs.List.{list_all, slice_split}
+use Rattle.x86_64_mappings.specs.Numbers.{IsNumber, digits_of, number_of, radix_of}
 use Rattle.pagetab_engine.specs.declared.fields.Name.{Name}
 use Rattle.pagetab_engine.specs.declared.fields.Name.TheVariants.{Word, Free, Translate, Addr, Walk, Show, Pool, Map, MapWith, Identity, Unmap, Update, P5, P4, P3, P2, TranslatePage, CleanUp, CleanUpRange}
 use Rattle.pagetab_engine.specs.declared.fields.Size.{Size}
@@ -47,6 +48,60 @@ abbrev pub size_text : Size → List ℕ
 size_text Size4KiB = codes "4KiB"
 size_text Size2MiB = codes "2MiB"
 size_text Size1GiB = codes "1GiB"
+
+-- ---- the parts of a line
+
+-- All names of statements.
+abbrev pub names : List Name
+names = Word ∷ Free ∷ Translate ∷ Addr ∷ Walk ∷ Show ∷ Pool ∷ Map ∷ MapWith ∷ Identity ∷ Unmap ∷ Update ∷ P5 ∷ P4 ∷ P3 ∷ P2 ∷ TranslatePage ∷ CleanUp ∷ CleanUpRange ∷ []
+
+-- The name that a field is, if it is one.
+abbrev pub name_in : (field : List ℕ) → Option Name
+name_in field = find (λ name. bytes_eq (name_text name) field) names
+
+-- The size that a field stands for, if it stands for one.
+abbrev pub size_in : (field : List ℕ) → Option Size
+size_in field = find (λ size. bytes_eq (size_text size) field) (Size4KiB ∷ Size2MiB ∷ Size1GiB ∷ [])
+
+-- The size that the first of these fields stands for, if it stands for one.
+abbrev pub size_first : (fields : List (List ℕ)) → Option Size
+size_first [] = None
+size_first (field ∷ fields) = size_in field
+
+-- The fields without that of a size, if there is one.
+abbrev pub behind_size : Option Size → (fields : List (List ℕ)) → List (List ℕ)
+behind_size None fields = fields
+behind_size (Some size) fields = drop 1 fields
+
+-- Whether a text has one digit or more in this radix, and nothing else.
+abbrev pub is_numeral : (radix : ℕ) → (text : List ℕ) → Bool
+is_numeral radix text = has_bytes text && list_all (λ byte. nat_lt (digit_value byte) radix) text
+
+-- Whether a text is a number: digits, or `0x` and hexadecimal ones, whose number is below 2^64.
+abbrev pub is_number : (text : List ℕ) → Bool
+is_number text = is_numeral (radix_of text) (digits_of text) && nat_lt (number_of text) (2 ^ 64)
+
+-- The numbers that these fields are, if each is one.
+abbrev pub numbers_in : (fields : List (List ℕ)) → Option (List ℕ)
+numbers_in [] = Some []
+numbers_in (field ∷ fields) = cond (is_number field) (option_map (λ numbers. number_of field ∷ numbers) (numbers_in fields)) None
+
+-- The parts of a line: a name, a size if the second field is one, and numbers.
+pub record Parts : Type 0 where
+  pub name : Name
+  pub size : Option Size
+  pub numbers : List ℕ
+
+-- The parts with this name and size, and the numbers that follow the size in these fields, if only numbers follow.
+abbrev pub parts_with : Name → Option Size → (fields : List (List ℕ)) → Option Parts
+parts_with name size fields = option_map (λ numbers. record { name = name; size = size; numbers = numbers }) (numbers_in (behind_size size fields))
+
+-- The parts that these fields are, if they are a name, a size or none, and numbers.
+abbrev pub parts_in : (fields : List (List ℕ)) → Option Parts
+parts_in [] = None
+parts_in (first ∷ fields) = option_and_then (λ name. parts_with name (size_first fields) fields) (name_in first)
+
+-- ---- the same as facts, for the contracts of parsers
 
 -- The field for a size of pages, if there is one.
 abbrev pub size_texts : Option Size → List (List ℕ)

@@ -1,24 +1,23 @@
 -- The hierarchy that the program reads, or two with one image in a pair, as a machine.
-use Rattle.std.specs.Prelude.{◌≡◌, ℕ, ⊤, Bool, cond, false, List, [], Some}
+use Rattle.std.specs.Prelude.{◌≡◌, ℕ, ⊤, false, List}
 use Rattle.x86_64_model.specs.Layout.{Layout}
 use Rattle.x86_64_model.specs.Hierarchy as mapper
 use Rattle.x86_64_model.specs.Hierarchy.{◌laid_in◌}
-use Rattle.x86_64_model.specs.Machine.{Machine, State}
+use Rattle.x86_64_model.specs.Machine.{State}
 use Rattle.x86_64_model.specs.Memory.{Memory}
 use Rattle.x86_64_model.specs.Store.{StoreFits, Keeps}
 use Rattle.x86_64_mappers.specs.Offsets.{OffsetFits}
-use Rattle.x86_64.specs.Asked.{MapperCall, machine_call, names_by}
-use Rattle.x86_64.specs.FreeFrames.{KeepsFree as KeepsFreeFrames, back_by}
+use Rattle.x86_64.specs.Asked.{MapperCall}
+use Rattle.x86_64.specs.FreeFrames.{KeepsFree as KeepsFreeFrames}
 use Rattle.x86_64.specs.Pairs.{AreAlike, pool_store}
 use Rattle.x86_64.specs.Runs as runs
 use Rattle.x86_64.specs.Replies.{Reply}
-use Rattle.x86_64.specs.Runs.{AfterStep}
-use Rattle.x86_64.specs.declared.call_values.MapperReply.TheVariants.{NotAllowed}
-use Rattle.pagetab_engine.specs.Arguments.{count, levels_of}
+use Rattle.pagetab_engine.specs.Arguments.{count}
 use Rattle.pagetab_engine.specs.Calls.{IsAnswered}
-use Rattle.pagetab_engine.specs.Frames.{direct_layout, recursive_layout, without_self_entry}
+use Rattle.pagetab_engine.specs.Frames.{direct_layout, recursive_layout}
+use Rattle.pagetab_engine.specs.Modes.{image_layout, is_refused, layout}
 use Rattle.pagetab_engine.specs.declared.arguments.Mode.{Mode}
-use Rattle.pagetab_engine.specs.declared.arguments.Mode.TheVariants.{Direct, Offset, Recursive, Pair}
+use Rattle.pagetab_engine.specs.declared.arguments.Mode.TheVariants.{Offset, Pair}
 use Rattle.pagetab_engine.specs.declared.frames.Frames.{Frames}
 use Rattle.pagetab_engine.specs.declared.hierarchy.Hierarchy.{Hierarchy}
 
@@ -33,28 +32,11 @@ IsCopy mode frames copy = ⊤
 abbrev pub HasCopy : Hierarchy → Type 0
 HasCopy hierarchy = IsCopy hierarchy.mode hierarchy.frames hierarchy.twin
 
--- The layout in which the image is tested, which is the recursive mapper's in a pair.
-abbrev pub image_layout : Mode → Memory → Layout
-image_layout (Direct levels) memory = direct_layout (count levels)
-image_layout (Offset offset) memory = direct_layout 4
-image_layout (Recursive levels index) memory = recursive_layout (count levels) memory index
-image_layout (Pair levels index) memory = recursive_layout (count levels) memory index
-
 -- The hierarchy of the image is valid, and the free frames fit it.
 abbrev pub FitsImage : Hierarchy → Type 0
 FitsImage hierarchy = StoreFits (image_layout hierarchy.mode hierarchy.frames.memory laid_in hierarchy.frames.memory) (pool_store hierarchy.frames.pool)
 
--- The memory before the first command, which lacks the self-entry in a pair, since it is the direct mapper's.
-abbrev pub first_memory : Mode → Memory → Memory
-first_memory (Pair levels index) memory = without_self_entry index memory
-first_memory mode memory = memory
-
 -- ---- the commands
-
--- The layout of the mapper that executes the commands in a mode, which is the direct mapper's in a pair.
-abbrev pub layout : Mode → Memory → Layout
-layout (Pair levels index) memory = direct_layout (count levels)
-layout mode memory = image_layout mode memory
 
 -- The layout of the mapper that executes the commands on the hierarchy, which is the direct one in a pair.
 abbrev pub layout_of : Hierarchy → Layout
@@ -64,32 +46,9 @@ layout_of hierarchy = layout hierarchy.mode hierarchy.frames.memory
 abbrev pub hierarchy_of : Hierarchy → mapper.Hierarchy (Unit {0})
 hierarchy_of hierarchy = layout_of hierarchy laid_in hierarchy.frames.memory
 
--- The machine of the mapper that executes the commands, with its free frames, which is the direct one in a pair.
-abbrev pub machine_of : Hierarchy → Machine
-machine_of hierarchy = runs.machine_with (hierarchy_of hierarchy) (pool_store hierarchy.frames.pool)
-
 -- The machine's state: the path map that the hierarchy's words hold, and the free frames.
 abbrev pub hierarchy_state : Hierarchy → State
 hierarchy_state hierarchy = runs.state_with (hierarchy_of hierarchy) (pool_store hierarchy.frames.pool)
-
--- Whether the mode is a pair with a recursive index among these indices.
-abbrev pub is_index_named : Mode → (names : ℕ → Bool) → Bool
-is_index_named (Pair levels index) names = names index
-is_index_named mode names = false
-
--- Whether no mapper executes the call: its page or address has the recursive index of a pair.
-abbrev pub is_refused : Mode → MapperCall → Bool
-is_refused mode call = is_index_named mode (names_by (count (levels_of mode)) call)
-
--- The result of a call: the machine's step, or `NotAllowed` with no change if no mapper executes the call.
-abbrev pub call_step : Hierarchy → MapperCall → AfterStep Reply
-call_step hierarchy call = cond (is_refused hierarchy.mode call)
-    (record { state = hierarchy_state hierarchy; reply = Some NotAllowed })
-    (runs.step_by (machine_of hierarchy) (hierarchy_state hierarchy) call)
-
--- The frames that a call returns if a mapper executes it: those of the tables that a clean up removes.
-abbrev pub call_back : Hierarchy → MapperCall → List ℕ
-call_back hierarchy call = cond (is_refused hierarchy.mode call) [] (back_by (machine_of hierarchy) (hierarchy_state hierarchy) (machine_call (machine_of hierarchy).levels call))
 
 -- Free frames keep their words, except that returned frames hold zeros.
 abbrev pub KeepsFree : (before : Hierarchy) → (back : List ℕ) → (after : Hierarchy) → Type 0

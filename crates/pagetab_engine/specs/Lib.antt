@@ -8,10 +8,14 @@ pub mod Statements
 pub mod Lines
 pub mod Frames
 pub mod Calls
+pub mod TableWords
+pub mod Fitting
+pub mod Modes
 pub mod Hierarchy
 pub mod Reply
+pub mod Situation
+pub mod Image
 pub mod Ending
 pub mod Texts
 pub mod Program
-pub mod Decided
 pub mod private

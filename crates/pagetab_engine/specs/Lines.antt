@@ -3,12 +3,10 @@ use Rattle.std.specs.Prelude.{◌≡◌, ◌≤◌, ◌<◌, ◌^◌, ◌==◌, 
 use Rattle.std.specs.Io.KnownBytes.{Consumes, IsAtEnd, Keeps, prepend_known}
 use Rattle.std.specs.List.{list_all, slice_split}
 use Rattle.pagetab_engine.specs.Commands.{Statement}
-use Rattle.pagetab_engine.specs.Fields.{is_space, has_bytes, Says}
-use Rattle.pagetab_engine.specs.Statements.{IsStatement, SaysStatement}
+use Rattle.pagetab_engine.specs.Fields.{is_space, has_bytes}
+use Rattle.pagetab_engine.specs.Statements.{statement_in}
 use Rattle.pagetab_engine.specs.declared.ending.Fault.{Fault}
 use Rattle.pagetab_engine.specs.declared.ending.Fault.TheVariants.{BadLine, Input}
-use Rattle.pagetab_engine.specs.declared.fields.Name.{Name}
-use Rattle.pagetab_engine.specs.declared.fields.Size.{Size}
 use Rattle.pagetab_engine.specs.declared.lines.Line.{Line}
 use Rattle.pagetab_engine.specs.declared.lines.Line.TheVariants.{Text, TooLong, End}
 use Rattle.pagetab_engine.specs.declared.lines.Lines.{Lines}
@@ -91,19 +89,10 @@ ReadsLine bytes rest line (Text length) = TakesLine bytes (take length line) res
 ReadsLine bytes rest line TooLong = BeginsTooLong (lines_of bytes)
 ReadsLine bytes rest line End = lines_of bytes ≡ []
 
--- The line has at most 256 bytes and is this statement, for this number of levels and of places.
-abbrev pub SaysAccepted : (levels places : ℕ) (line : List ℕ) → Statement → Type 0
-SaysAccepted levels places line statement = (length line ≤ 256) × SaysStatement levels places line statement
-
--- The line has more than 256 bytes, or is no statement for this number of levels and of places.
-abbrev pub IsBad : (levels places : ℕ) (line : List ℕ) → Type 0
-IsBad levels places line =
-    (length line ≤ 256) → (name : Name) (size : Option Size) (numbers : List ℕ) → Says line name size numbers → ¬ (IsStatement levels places name size numbers)
-
 -- The first line has this number and is this statement, and the lines after it are left.
 abbrev pub TakesStatement : (levels places : ℕ) (lines : List Numbered) (number : ℕ) (rest : List Numbered) → Statement → Type 0
 TakesStatement levels places lines number rest statement =
-    (line : List ℕ) × (lines ≡ record { number = number; line = line } ∷ rest) × SaysAccepted levels places line statement
+    (line : List ℕ) × (lines ≡ record { number = number; line = line } ∷ rest) × (statement_in levels places line ≡ Some statement)
 
 -- This was read of the lines: the first one's statement, with this number, or that there is none.
 abbrev pub ReadsStatement : (levels places : ℕ) (lines : List Numbered) (number : ℕ) (rest : List Numbered) → Option Statement → Type 0
@@ -113,7 +102,7 @@ ReadsStatement levels places lines number rest None = lines ≡ []
 -- The first line has this number and is bad.
 abbrev pub BeginsBad : (levels places : ℕ) (lines : List Numbered) (number : ℕ) → Type 0
 BeginsBad levels places [] number = ⊥
-BeginsBad levels places (first ∷ lines) number = (first.number ≡ number) × IsBad levels places first.line
+BeginsBad levels places (first ∷ lines) number = (first.number ≡ number) × (statement_in levels places first.line ≡ None)
 
 -- The fault is why no statement of these lines was read: the first one is bad, or a read failed.
 abbrev pub ExplainsRead : (levels places : ℕ) (lines : List Numbered) → Fault → Type 0

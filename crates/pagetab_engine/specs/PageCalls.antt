@@ -1,11 +1,26 @@
 -- How lines write calls on a page of a size: a name, the size, and numbers.
-use Rattle.std.specs.Prelude.{◌≡◌, ℕ, List, [], ◌∷◌, Option, Some, None, option_map}
+use Rattle.std.specs.Prelude.{◌≡◌, ◌==◌, ◌&&◌, ℕ, Bool, false, List, [], ◌∷◌, Option, Some, None, option_map}
 use Rattle.x86_64.specs.Asked.{PageCall, MapTo, MapToWithTableFlags, IdentityMap, Unmap, UpdateFlags, SetFlags, TranslatePage, MapperCall, Of4KiB, Of2MiB, Of1GiB}
-use Rattle.pagetab_engine.specs.Starts.{IsPageStart, IsFrameStart, position_at}
+use Rattle.pagetab_engine.specs.Starts.{IsPageStart, IsFrameStart, is_frame_start, is_page_start, position_at}
 use Rattle.pagetab_engine.specs.declared.fields.Name.{Name}
 use Rattle.pagetab_engine.specs.declared.fields.Name.TheVariants as name
 use Rattle.pagetab_engine.specs.declared.fields.Size.{Size}
 use Rattle.pagetab_engine.specs.declared.fields.Size.TheVariants.{Size4KiB, Size2MiB, Size1GiB}
+
+-- Whether a name and the numbers after a size in bytes are a call on a page with these levels: start addresses suit the size, and
+-- any flags are accepted.
+abbrev pub is_page_call : (levels size : ℕ) → Name → List ℕ → Bool
+is_page_call levels size name.Map (page ∷ frame ∷ flags ∷ []) = is_page_start levels size page && is_frame_start size frame
+is_page_call levels size name.MapWith (page ∷ frame ∷ flags ∷ parent_flags ∷ []) = is_page_start levels size page && is_frame_start size frame
+is_page_call levels size name.Identity (frame ∷ flags ∷ []) = is_frame_start size frame
+is_page_call levels size name.Unmap (page ∷ []) = is_page_start levels size page
+is_page_call levels size name.Update (page ∷ flags ∷ []) = is_page_start levels size page
+is_page_call levels size name.P5 (page ∷ flags ∷ []) = (levels == 5) && is_page_start levels size page
+is_page_call levels size name.P4 (page ∷ flags ∷ []) = is_page_start levels size page
+is_page_call levels size name.P3 (page ∷ flags ∷ []) = is_page_start levels size page
+is_page_call levels size name.P2 (page ∷ flags ∷ []) = is_page_start levels size page
+is_page_call levels size name.TranslatePage (page ∷ []) = is_page_start levels size page
+is_page_call levels size name numbers = false
 
 -- The name and the numbers after a size in bytes are a call on a page with these levels: start addresses suit the size, and any
 -- flags are accepted.

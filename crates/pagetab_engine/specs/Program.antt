@@ -1,102 +1,80 @@
--- What the program writes and how it ends, by its arguments and the bytes of its input.
-use Rattle.std.specs.Prelude.{◌≡◌, ℕ, ⊤, if◌then◌else◌, nat_lt, List, [], ◌∷◌, ◌++◌, flat_map, Option, Some, None}
-use Rattle.std.specs.FinMap.{get}
+-- What the program writes and how it ends, as a function of its arguments and the bytes of its input.
+use Rattle.std.specs.Prelude.{◌≡◌, ℕ, ⊤, Bool, false, IsTrue, IsSome, cond, List, [], ◌∷◌, ◌++◌, flat_map, Option, Some, None}
 use Rattle.std.specs.Io.KnownBytes.{Appends}
-use Rattle.x86_64_tables.specs.PageTable.{zero_words}
-use Rattle.pagetab_engine.specs.Arguments.{Says, count, levels_of}
-use Rattle.pagetab_engine.specs.Commands.{Command, Image, Asks}
-use Rattle.pagetab_engine.specs.Frames.{IsLoadable, memory_after, free_after}
-use Rattle.pagetab_engine.specs.Hierarchy.{hierarchy_state, first_memory, FitsImage, HasCopy, ReachesAll, KeepsHierarchy, KeepsFree}
-use Rattle.pagetab_engine.specs.Lines.{Numbered, numbered_from, lines_of, SaysAccepted, IsBad}
-use Rattle.pagetab_engine.specs.Reply.{Reply, IsToldByBoth, OnlyReads, command_back, command_reply, command_state}
+use Rattle.pagetab_engine.specs.Arguments.{arguments_in, count, levels_of}
+use Rattle.pagetab_engine.specs.Commands.{Command, Statement, Image, Asks}
+use Rattle.pagetab_engine.specs.Image.{Loaded, first_situation, fits, is_loadable, load, nothing_loaded}
+use Rattle.pagetab_engine.specs.Lines.{Numbered, numbered_from, lines_of}
+use Rattle.pagetab_engine.specs.Modes.{reaches}
+use Rattle.pagetab_engine.specs.Reply.{Reply}
+use Rattle.pagetab_engine.specs.Situation.{Situation, command_after, command_reply}
+use Rattle.pagetab_engine.specs.Statements.{statement_in}
 use Rattle.pagetab_engine.specs.Texts.{reply_line}
 use Rattle.pagetab_engine.specs.declared.arguments.Arguments.{Arguments}
+use Rattle.pagetab_engine.specs.declared.arguments.Mode.{Mode}
 use Rattle.pagetab_engine.specs.declared.ending.Ending.{Ending}
 use Rattle.pagetab_engine.specs.declared.ending.Ending.TheVariants.{Done, Stopped}
-use Rattle.pagetab_engine.specs.declared.ending.Fault.{Fault}
 use Rattle.pagetab_engine.specs.declared.ending.Fault.TheVariants.{BadLine, InvalidHierarchy, OutOfMemory, Input, Output, Usage}
-use Rattle.pagetab_engine.specs.declared.hierarchy.Hierarchy.{Hierarchy}
-use Rattle.pagetab_engine.specs.declared.statement.ImageLine.{ImageLine}
 
--- The fault is a failure of memory allocation, of a read or of a write, so neither the arguments nor the input stop the program.
-abbrev pub IsForced : Fault → Type 0
-IsForced OutOfMemory = ⊤
-IsForced Input = ⊤
-IsForced Output = ⊤
-IsForced fault = ⊥
+-- What a run writes, a line for each reply, and its ending, if no memory allocation, read or write fails.
+pub record Transcript : Type 0 where
+  pub replies : List Reply
+  pub ending : Ending
+
+-- The transcript with no reply and this ending.
+abbrev pub ends : Ending → Transcript
+ends ending = record { replies = []; ending = ending }
+
+-- The transcript of a bad line, by its number.
+abbrev pub stops_at : (number : ℕ) → Transcript
+stops_at number = ends (Stopped (BadLine number))
+
+-- A transcript behind a reply, if there is one.
+abbrev pub behind_reply : Option Reply → Transcript → Transcript
+behind_reply None rest = rest
+behind_reply (Some reply) rest = record { replies = reply ∷ rest.replies; ending = rest.ending }
 
 -- ---- the commands
 
--- The line is this command, for this number of levels and of places.
-abbrev pub SaysCommand : (levels places : ℕ) → Numbered → Command → Type 0
-SaysCommand levels places line command = SaysAccepted levels places line.line (Asks command)
+-- The transcript of a command, with that of what follows it.
+abbrev pub answered : Command → Situation → (rest : Situation → Transcript) → Transcript
+answered command s rest = behind_reply (command_reply s command) (rest (command_after s command))
 
--- The line is this line of an image, for this number of levels and of places.
-abbrev pub SaysImage : (levels places : ℕ) → Numbered → ImageLine → Type 0
-SaysImage levels places line image = SaysAccepted levels places line.line (Image image)
+-- The transcript of a line after the image, by its statement if it is one. It is bad if it is no command.
+abbrev pub served_line : Option Statement → (number : ℕ) → Situation → (rest : Situation → Transcript) → Transcript
+served_line None number s rest = stops_at number
+served_line (Some (Image line)) number s rest = stops_at number
+served_line (Some (Asks command)) number s rest = answered command s rest
 
--- A command has this reply, and this effect on the hierarchy, or on both hierarchies in a pair.
-pub record Answers (command : Command) (before : Hierarchy) (answer : Reply) (after : Hierarchy) : Type 0 where
-  pub reply : command_reply before command ≡ Some answer
-  pub state : hierarchy_state after ≡ command_state before command
-  pub reads : OnlyReads before command → after ≡ before
-  pub free : KeepsFree before (command_back before command) after
-  pub keeps : KeepsHierarchy before after
-  pub both : IsToldByBoth before command answer after
-
--- After the image, each line that is a command gets its reply, and the first other line is bad.
-pub data Serves (levels places : ℕ) : (lines : List Numbered) → Hierarchy → Ending → (replies : List Reply) → Type 0 where
-  ends : (hierarchy : Hierarchy) → Serves levels places [] hierarchy Done []
-  answers : (line : Numbered) (lines : List Numbered) (command : Command) (before : Hierarchy) (reply : Reply) (after : Hierarchy) (ending : Ending) (replies : List Reply)
-      → SaysCommand levels places line command → Answers command before reply after → Serves levels places lines after ending replies → Serves levels places (line ∷ lines) before ending (reply ∷ replies)
-  bad_line : (line : Numbered) (lines : List Numbered) (hierarchy : Hierarchy) → IsBad levels places line.line → Serves levels places (line ∷ lines) hierarchy (Stopped (BadLine line.number)) []
-  late_image : (line : Numbered) (lines : List Numbered) (image : ImageLine) (hierarchy : Hierarchy)
-      → SaysImage levels places line image → Serves levels places (line ∷ lines) hierarchy (Stopped (BadLine line.number)) []
-  gives_up : (lines : List Numbered) (hierarchy : Hierarchy) (fault : Fault) → IsForced fault → Serves levels places lines hierarchy (Stopped fault) []
+-- The transcript of the lines after the image, for this number of levels and of places. Each command gets its reply.
+abbrev pub served : (levels places : ℕ) → List Numbered → Situation → Transcript
+served levels places [] s = ends Done
+served levels places (line ∷ lines) s = served_line (statement_in levels places line.line) line.number s (λ s. served levels places lines s)
 
 -- ---- the image
 
--- The hierarchy that the program begins with: all words are 0, and no frame is free.
-pub record IsEmpty (arguments : Arguments) (hierarchy : Hierarchy) : Type 0 where
-  pub mode : hierarchy.mode ≡ arguments.mode
-  pub memory : (place : ℕ) → get hierarchy.frames.memory place ≡ (if nat_lt place arguments.places then Some zero_words else None)
-  pub free : hierarchy.frames.pool.frames ≡ []
-  pub limit : hierarchy.frames.pool.limit ≡ arguments.places
-  pub copy : HasCopy hierarchy
+-- The transcript of the first command, if there is one, and of the lines behind it.
+abbrev pub first_served : (levels places : ℕ) → (first : Option Command) → (behind : List Numbered) → Situation → Transcript
+first_served levels places None behind s = ends Done
+first_served levels places (Some command) behind s = answered command s (λ s. served levels places behind s)
 
--- A line of the image sets its word, or adds its frame behind the other free ones; in a pair the other mapper gets it too.
-pub record Loads (image : ImageLine) (before after : Hierarchy) : Type 0 where
-  pub accepted : IsLoadable before.frames image
-  pub memory : after.frames.memory ≡ memory_after before.frames image
-  pub free : after.frames.pool.frames ≡ free_after before.frames image
-  pub limit : after.frames.pool.limit ≡ before.frames.pool.limit
-  pub mode : after.mode ≡ before.mode
-  pub copy : HasCopy after
+-- The transcript of a complete image, which is tested, and of what follows it.
+abbrev pub tested : (levels places : ℕ) → Mode → Loaded → (first : Option Command) → (behind : List Numbered) → Transcript
+tested levels places mode loaded first behind =
+    cond (fits mode loaded) (first_served levels places first behind (first_situation mode loaded)) (ends (Stopped InvalidHierarchy))
 
--- The hierarchy of the first command; in a pair the memory of the direct mapper lacks the self-entry.
-pub record IsFirst (image first : Hierarchy) : Type 0 where
-  pub memory : first.frames.memory ≡ first_memory image.mode image.frames.memory
-  pub pool : first.frames.pool ≡ image.frames.pool
-  pub mode : first.mode ≡ image.mode
-  pub twin : first.twin ≡ image.twin
+-- The transcript of a line before the first command, by its statement if it is one. A line of the image is loaded, and is bad if
+-- it can't be. The first command ends the image. Other lines are bad.
+abbrev pub read_line : Option Statement → (number : ℕ) → Loaded → (rest : Loaded → Transcript) → (end : Command → Transcript) → Transcript
+read_line None number loaded rest end = stops_at number
+read_line (Some (Image line)) number loaded rest end = cond (is_loadable loaded line) (rest (load loaded line)) (stops_at number)
+read_line (Some (Asks command)) number loaded rest end = end command
 
--- The image is complete: the next line is a command, or there is none.
-abbrev pub IsRead : (levels places : ℕ) → List Numbered → Type 0
-IsRead levels places [] = ⊤
-IsRead levels places (line ∷ lines) = (command : Command) × SaysCommand levels places line command
-
--- Each line of the image is loaded. The first command, or the end of the input, ends the image, which is then tested. Other
--- lines are bad, and so are lines of the image that can't be loaded.
-pub data Reads (levels places : ℕ) : (lines : List Numbered) → Hierarchy → Ending → (replies : List Reply) → Type 0 where
-  loads : (line : Numbered) (lines : List Numbered) (image : ImageLine) (before after : Hierarchy) (ending : Ending) (replies : List Reply)
-      → SaysImage levels places line image → Loads image before after → Reads levels places lines after ending replies → Reads levels places (line ∷ lines) before ending replies
-  bad_line : (line : Numbered) (lines : List Numbered) (hierarchy : Hierarchy) → IsBad levels places line.line → Reads levels places (line ∷ lines) hierarchy (Stopped (BadLine line.number)) []
-  refused : (line : Numbered) (lines : List Numbered) (image : ImageLine) (hierarchy : Hierarchy)
-      → SaysImage levels places line image → ¬ (IsLoadable hierarchy.frames image) → Reads levels places (line ∷ lines) hierarchy (Stopped (BadLine line.number)) []
-  unfit : (lines : List Numbered) (hierarchy : Hierarchy) → IsRead levels places lines → ¬ (FitsImage hierarchy) → Reads levels places lines hierarchy (Stopped InvalidHierarchy) []
-  fits : (lines : List Numbered) (image first : Hierarchy) (ending : Ending) (replies : List Reply)
-      → IsRead levels places lines → FitsImage image → IsFirst image first → Serves levels places lines first ending replies → Reads levels places lines image ending replies
-  gives_up : (lines : List Numbered) (hierarchy : Hierarchy) (fault : Fault) → IsForced fault → Reads levels places lines hierarchy (Stopped fault) []
+-- The transcript of the lines of an image and those behind them, for this number of levels and of places.
+abbrev pub read : (levels places : ℕ) → Mode → List Numbered → Loaded → Transcript
+read levels places mode [] loaded = tested levels places mode loaded None []
+read levels places mode (line ∷ lines) loaded = read_line (statement_in levels places line.line) line.number loaded
+    (λ loaded. read levels places mode lines loaded) (λ command. tested levels places mode loaded (Some command) lines)
 
 -- ---- the run
 
@@ -104,35 +82,52 @@ pub data Reads (levels places : ℕ) : (lines : List Numbered) → Hierarchy →
 abbrev pub levels_in : Arguments → ℕ
 levels_in arguments = count (levels_of arguments.mode)
 
--- The input is read if the arguments are a mode and a number of places, and the mapper reaches each place. Memory for the places
--- may be refused then. The run may be forced to stop at each line.
-pub data IsRun (words : List (List ℕ)) (input : List ℕ) : Ending → (replies : List Reply) → Type 0 where
-  usage : ((arguments : Arguments) → ¬ (Says words arguments)) → IsRun words input (Stopped Usage) []
-  unreached : (arguments : Arguments) (hierarchy : Hierarchy)
-      → Says words arguments → IsEmpty arguments hierarchy → ¬ (ReachesAll hierarchy) → IsRun words input (Stopped Usage) []
-  reads : (arguments : Arguments) (hierarchy : Hierarchy) (ending : Ending) (replies : List Reply)
-      → Says words arguments → IsEmpty arguments hierarchy → ReachesAll hierarchy
-      → Reads (levels_in arguments) arguments.places (numbered_from 1 (lines_of input)) hierarchy ending replies → IsRun words input ending replies
-  no_memory : (arguments : Arguments) → Says words arguments → IsRun words input (Stopped OutOfMemory) []
+-- Whether a run with these arguments reads its input: there are some, and the mapper reaches each place.
+abbrev pub is_reading : Option Arguments → Bool
+is_reading None = false
+is_reading (Some arguments) = reaches arguments.mode arguments.places
+
+-- The transcript of a run with these arguments.
+abbrev pub transcript_with : Option Arguments → (input : List ℕ) → Transcript
+transcript_with None input = ends (Stopped Usage)
+transcript_with (Some arguments) input = cond (reaches arguments.mode arguments.places)
+    (read (levels_in arguments) arguments.places arguments.mode (numbered_from 1 (lines_of input)) (nothing_loaded arguments.places)) (ends (Stopped Usage))
+
+-- The transcript of a run, by the words of its arguments and the bytes of its input.
+abbrev pub transcript : (words : List (List ℕ)) → (input : List ℕ) → Transcript
+transcript words input = transcript_with (arguments_in words) input
+
+-- ---- what is written
 
 -- The bytes are a first part of the line, which may be empty, but not all of it.
 abbrev pub IsFrontPart : (front line : List ℕ) → Type 0
 IsFrontPart front line = (byte : ℕ) × (left : List ℕ) × (line ≡ front ++ byte ∷ left)
 
--- A first part of the line was written, but not all of it.
-abbrev pub AppendsFront : (before after : Option (List ℕ)) → (line : List ℕ) → Type 0
-AppendsFront before after line = (front : List ℕ) × IsFrontPart front line × Appends before after front
+-- The first of these replies, none to all of them, and nothing else are written in order as lines.
+abbrev pub WritesFirst : List Reply → (before after : Option (List ℕ)) → Type 0
+WritesFirst replies before after = (first : List Reply) × (left : List Reply) × (replies ≡ first ++ left) × Appends before after (flat_map reply_line first)
 
--- The replies before the last are written as lines, and only a first part of the last one's line.
-abbrev pub IsCutShort : (before after : Option (List ℕ)) → (replies : List Reply) → Type 0
-IsCutShort before after replies = (whole : List Reply) × (last : Reply) × (front : List ℕ)
-    × (replies ≡ whole ++ last ∷ []) × IsFrontPart front (reply_line last) × Appends before after (flat_map reply_line whole ++ front)
+-- The first of these replies are written as lines, and of the next one's line only a first part.
+abbrev pub WritesPart : List Reply → (before after : Option (List ℕ)) → Type 0
+WritesPart replies before after = (first : List Reply) × (cut : Reply) × (left : List Reply) × (front : List ℕ)
+    × (replies ≡ first ++ cut ∷ left) × IsFrontPart front (reply_line cut) × Appends before after (flat_map reply_line first ++ front)
 
--- The replies, and nothing else, are written in order as lines. If a write failed, it was that of the last reply.
-abbrev pub IsWritten : (before after : Option (List ℕ)) → Ending → (replies : List Reply) → Type 0
-IsWritten before after (Stopped Output) replies = IsCutShort before after replies
-IsWritten before after ending replies = Appends before after (flat_map reply_line replies)
+-- The transcript's replies are written in order as lines, and its ending is this one. If a memory allocation, a read or a write
+-- failed, only the first replies are written, and a first part of the one whose write failed.
+abbrev pub IsTold : Transcript → (before after : Option (List ℕ)) → Ending → Type 0
+IsTold transcript before after (Stopped OutOfMemory) = WritesFirst transcript.replies before after
+IsTold transcript before after (Stopped Input) = WritesFirst transcript.replies before after
+IsTold transcript before after (Stopped Output) = WritesPart transcript.replies before after
+IsTold transcript before after ending = (ending ≡ transcript.ending) × Appends before after (flat_map reply_line transcript.replies)
 
--- A run on these arguments and this input has this ending, and its replies are written.
-abbrev pub Runs : (words : List (List ℕ)) (input : List ℕ) (before after : Option (List ℕ)) → Ending → Type 0
-Runs words input before after ending = (replies : List Reply) × IsRun words input ending replies × IsWritten before after ending replies
+-- A memory allocation fails only if there are arguments, and a read only if the input is read.
+abbrev pub CanEnd : Option Arguments → Ending → Type 0
+CanEnd arguments (Stopped OutOfMemory) = IsSome arguments
+CanEnd arguments (Stopped Input) = IsTrue (is_reading arguments)
+CanEnd arguments ending = ⊤
+
+-- A run with these words and this input writes its transcript and has the transcript's ending, unless a memory allocation, a read
+-- or a write fails.
+pub record Runs (words : List (List ℕ)) (input : List ℕ) (before after : Option (List ℕ)) (ending : Ending) : Type 0 where
+  pub may_end : CanEnd (arguments_in words) ending
+  pub told : IsTold (transcript words input) before after ending

@@ -48,7 +48,7 @@ pub enum Mode {
 impl Mode {
     ghost use Rattle.std.specs.Prelude.{◌≡◌};
     ghost use Rattle.pagetab_engine.specs.Arguments.{levels_of};
-    ghost use Rattle.pagetab_engine.specs.Hierarchy.{is_index_named};
+    ghost use Rattle.pagetab_engine.specs.Modes.{is_index_named};
     ghost use Rattle.x86_64.specs.Calls.{names};
 
     /// Returns the number of levels.

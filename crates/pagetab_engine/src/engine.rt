@@ -5,8 +5,8 @@ ghost use Rattle.pagetab_engine.specs.Arguments.{count, levels_of};
 ghost use Rattle.pagetab_engine.specs.Commands.{command_of};
 ghost use Rattle.pagetab_engine.specs.Hierarchy.{HasCopy, IsHierarchy, KeepsHierarchy, ReachesAll};
 ghost use Rattle.pagetab_engine.specs.Lines.{ForSome, IsInput, MayBeLeft, TracesBack};
-ghost use Rattle.pagetab_engine.specs.Program.{Answers, AppendsFront, Runs, levels_in};
-ghost use Rattle.pagetab_engine.specs.private.RunParts.{LoadsImage, Replies, RunsFrom, Served, StopsAt, StopsInImage, ending_of};
+ghost use Rattle.pagetab_engine.specs.Program.{Runs, levels_in};
+ghost use Rattle.pagetab_engine.specs.private.RunParts.{Answers, AppendsFront, LoadsImage, Replies, RunsFrom, Served, StopsAt, StopsInImage, ending_of};
 ghost use Rattle.pagetab_engine.specs.Reply.{reply_of};
 ghost use Rattle.pagetab_engine.specs.declared.ending.Fault.TheVariants.{Output};
 
@@ -34,9 +34,10 @@ use x86_64_addr::level_count::Levels;
 ///   even if it only reads. `walk`, `show` and `pool` read the memory and the free frames of the first mapper.
 /// - `direct5 N`, `recursive5 N R`, `pair5 N R`: these with five levels of page tables and 57-bit addresses.
 ///
-/// Each reply is a line, written by one call of `write` if the writer takes it whole. The replies and the ending
-/// depend on the arguments and the input alone, unless memory allocation, a read or a write fails. Then the replies
-/// written so far are complete, except for the one whose write failed, of which only a first part is written.
+/// Each reply is a line, written by one call of `write` if the writer takes it whole. The replies and the ending are
+/// those of the transcript, a function of the arguments and the input, unless memory allocation, a read or a write
+/// fails. Then the replies written so far are the transcript's first ones, and complete, except for the one whose write
+/// failed, of which only a first part is written.
 ///
 /// The input is what the reader has left, if that is known, as for bytes in memory. For a file or a terminal it isn't
 /// known, and the contract says that the run is that of some input.
@@ -46,8 +47,8 @@ pub fn run<R: Read, W: Write>(
     reader: &mut R,
     writer: &mut W,
 ) -> Ending
-    ensures { (input : List ℕ) × IsInput (R.remaining reader.old) input
-        × Runs (map string_bytes words.now) input (W.contents writer.old) (W.contents writer.new) result }
+    ensures { ForSome (IsInput (R.remaining reader.old)) (λ input.
+        Runs (map string_bytes words.now) input (W.contents writer.old) (W.contents writer.new) result) }
 {
     match serve(alloc, words, reader, writer) {
         Ok(()) => Ending::Done,

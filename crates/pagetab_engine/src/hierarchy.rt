@@ -6,9 +6,10 @@ ghost use Rattle.pagetab_engine.specs.Arguments.{count, levels_of};
 ghost use Rattle.pagetab_engine.specs.Calls.{IsAnswered};
 ghost use Rattle.pagetab_engine.specs.Commands.{Call};
 ghost use Rattle.pagetab_engine.specs.Frames.{IsLoadable, IsRefusedFor};
-ghost use Rattle.pagetab_engine.specs.Hierarchy.{hierarchy_of, is_index_named};
+ghost use Rattle.pagetab_engine.specs.Hierarchy.{hierarchy_of};
 ghost use Rattle.pagetab_engine.specs.Hierarchy.{FitsImage, HasCopy, ReachesAll, IsHierarchy, KeepsHierarchy, TwinTells};
-ghost use Rattle.pagetab_engine.specs.Program.{Answers, IsEmpty, IsFirst, Loads};
+ghost use Rattle.pagetab_engine.specs.Modes.{is_index_named};
+ghost use Rattle.pagetab_engine.specs.private.RunParts.{Answers, IsEmpty, IsFirst, Loads};
 ghost use Rattle.pagetab_engine.specs.Reply.{Answered};
 
 use crate::arguments::{Arguments, Mode};

@@ -8,7 +8,6 @@ mod execution;
 mod fields;
 mod frames;
 mod hierarchy;
-pub mod laws;
 mod lines;
 mod page_call;
 mod reply;

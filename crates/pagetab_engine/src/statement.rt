@@ -1,8 +1,7 @@
 //! The statements that lines write.
-ghost use Rattle.std.specs.Prelude.{◌≡◌, ◌↔◌, ℕ, Option, List, Some, IsSome, IfSome, IfNone};
+ghost use Rattle.std.specs.Prelude.{◌≡◌, ◌↔◌, Some, None, IsSome, IfSome, IfNone};
 ghost use Rattle.pagetab_engine.specs.Commands.{statement_of};
-ghost use Rattle.pagetab_engine.specs.Fields.{Says};
-ghost use Rattle.pagetab_engine.specs.Statements.{IsPlain, IsStatement, SaysStatement, plain_by, statement_by};
+ghost use Rattle.pagetab_engine.specs.Statements.{IsPlain, IsStatement, plain_by, statement_by, statement_of_fields};
 
 use crate::fields::{Fields, Name, Size};
 use crate::page_call::{page_at, parse_call};
@@ -47,9 +46,8 @@ impl<L: LevelCount, P5: LevelFiveFlags<L>> Statement<L, P5> {
     /// the line is no statement.
     pub fn parse(line: &[u8], places: u64) -> Option<Self>
         ensures says { IfSome result (λ statement.
-            SaysStatement L.LEVELS places line.now (statement_of P5.bits statement)) }
-        ensures none { IfNone result ((name : Name) (size : Option Size) (numbers : List ℕ) →
-            Says line.now name size numbers → ¬ (IsStatement L.LEVELS places name size numbers)) }
+            statement_of_fields L.LEVELS places line.now ≡ Some (statement_of P5.bits statement)) }
+        ensures none { IfNone result (statement_of_fields L.LEVELS places line.now ≡ None) }
     {
         let fields = Fields::parse(str::from_utf8(line).ok()?)?;
         Self::from_fields(fields.name, fields.size, fields.numbers(), places)

@@ -24,9 +24,10 @@ use x86_64_paging::{FiveLevels, FourLevels, LevelCount, LevelFiveFlags, NoLevelF
 ///   even if it only reads. `walk`, `show` and `pool` read the memory and the free frames of the first mapper.
 /// - `direct5 N`, `recursive5 N R`, `pair5 N R`: these with five levels of page tables and 57-bit addresses.
 ///
-/// Each reply is a line, written by one call of `write` if the writer takes it whole. The replies and the ending
-/// depend on the arguments and the input alone, unless memory allocation, a read or a write fails. Then the replies
-/// written so far are complete, except for the one whose write failed, of which only a first part is written.
+/// Each reply is a line, written by one call of `write` if the writer takes it whole. The replies and the ending are
+/// those of the transcript, a function of the arguments and the input, unless memory allocation, a read or a write
+/// fails. Then the replies written so far are the transcript's first ones, and complete, except for the one whose write
+/// failed, of which only a first part is written.
 ///
 /// The input is what the reader has left, if that is known, as for bytes in memory. For a file or a terminal it isn't
 /// known, and the contract says that the run is that of some input.

@@ -3,7 +3,7 @@ use Rattle.pagetab_engine.specs.Arguments.{count, levels_of}
 use Rattle.pagetab_engine.specs.Commands.{Asks, Image, command_of}
 use Rattle.pagetab_engine.specs.Lines.{bytes_left, MayBeLeft, TakesStatement, TracesBack}
 use Rattle.pagetab_engine.specs.declared.statement.Statement.TheVariants as says
-use Rattle.pagetab_engine.proofs.ServedCommands.{first_stops, first_served, next_served, next_stops, all_served, image_too_late, unread}
+use Rattle.pagetab_engine.proofs.ServedCommands.{begins, first_stops, next_served, next_stops, all_served, image_too_late, unread}
 use Rattle.pagetab_engine.proofs.Numbering.{some_lines}
 use Rattle.pagetab_engine.proofs.engine.answer_commands.Goals as goal
 
@@ -24,7 +24,7 @@ loop-statement-init g c =
     record {
       fits = c.write_reply.ensures.keeps.fits;
       levels = ap (λ mode. count (levels_of mode)) c.write_reply.ensures.keeps.mode ∙ c.requires.levels;
-      served = first_served g.L.LevelCount.LEVELS c.args.places (command_of g.P5.LevelFiveFlags.bits c.args.first) c.args.hierarchy.now (contents c.args.writer.now) (may c.args.lines.now)
+      served = begins g.L.LevelCount.LEVELS c.args.places (command_of g.P5.LevelFiveFlags.bits c.args.first) c.args.hierarchy.now (contents c.args.writer.now) (may c.args.lines.now)
           c.write_reply.new.hierarchy (contents c.write_reply.new.writer) c.in_ok-write_reply.ensures.answered;
     }
 

@@ -2,7 +2,7 @@ use Rattle.std.proofs.Common.{rules, arith, ◌≡◌, ◌∙◌, refl, [], Some
 use Rattle.pagetab_engine.specs.Commands.{Asks, Image, command_of}
 use Rattle.pagetab_engine.specs.Frames.{IsLoadable}
 use Rattle.pagetab_engine.specs.Lines.{bytes_left, IsCounted, MayBeLeft, TakesStatement, TracesBack}
-use Rattle.pagetab_engine.specs.Program.{Loads}
+use Rattle.pagetab_engine.specs.private.RunParts.{Loads}
 use Rattle.pagetab_engine.specs.declared.statement.Statement.TheVariants as says
 use Rattle.pagetab_engine.proofs.LoadedImages.{begins, goes_on, command_follows, nothing_follows, unread, not_loaded}
 use Rattle.pagetab_engine.proofs.Numbering.{some_lines}

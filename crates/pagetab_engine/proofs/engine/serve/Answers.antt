@@ -1,8 +1,7 @@
 use Rattle.std.proofs.Common.{rules, ◌≡◌, Err, map, string_bytes}
 use Rattle.pagetab_engine.specs.Arguments.{Says}
 use Rattle.pagetab_engine.specs.Hierarchy.{IsReached}
-use Rattle.pagetab_engine.specs.Program.{IsEmpty}
-use Rattle.pagetab_engine.specs.private.RunParts.{ending_of}
+use Rattle.pagetab_engine.specs.private.RunParts.{IsEmpty, ending_of}
 use Rattle.pagetab_engine.specs.declared.ending.Fault.TheVariants.{OutOfMemory}
 use Rattle.pagetab_engine.proofs.WholeRun.{no_arguments, no_memory, not_reached, goes_on}
 use Rattle.pagetab_engine.proofs.engine.serve.Goals as goal

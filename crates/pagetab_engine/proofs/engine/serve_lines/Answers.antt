@@ -2,8 +2,7 @@ use Rattle.std.proofs.Common.{rules, ◌≡◌, Some, None, Err, option_map}
 use Rattle.pagetab_engine.specs.Commands.{command_of}
 use Rattle.pagetab_engine.specs.Hierarchy.{FitsImage}
 use Rattle.pagetab_engine.specs.Lines.{bytes_left, MayBeLeft}
-use Rattle.pagetab_engine.specs.Program.{IsFirst}
-use Rattle.pagetab_engine.specs.private.RunParts.{ending_of}
+use Rattle.pagetab_engine.specs.private.RunParts.{IsFirst, ending_of}
 use Rattle.pagetab_engine.specs.declared.ending.Ending.TheVariants.{Done, Stopped}
 use Rattle.pagetab_engine.specs.declared.ending.Fault.TheVariants.{InvalidHierarchy, OutOfMemory}
 use Rattle.pagetab_engine.proofs.Numbering.{some_lines}
@@ -33,7 +32,7 @@ returns-in_err-end_image g c =
     let some = some_lines after.number (bytes_left g.R.Read.remaining after) in
     let told : c.from_residual-in_err-end_image.result ≡ Err OutOfMemory = search rules in
     rw told (of_input (RunsLines (may c.new-lines.result) held levels places empty held (Stopped OutOfMemory)) c.new-lines.result.number _ _ c.new-lines.ensures.number c.new-lines.ensures.bytes
-    (not_tested (may c.new-lines.result) held levels places empty c.read_image.new.hierarchy (option_map (command_of g.P5.LevelFiveFlags.bits) c.in_ok-first.first) (may after) c.in_ok-first.ensures.read some))
+    (not_tested (may c.new-lines.result) held levels places empty c.read_image.new.hierarchy c.in_ok-first.ensures.mode (option_map (command_of g.P5.LevelFiveFlags.bits) c.in_ok-first.first) (may after) c.in_ok-first.ensures.read some))
 
 pub returns-then-not-branch : goal.returns-then-not-branch
 returns-then-not-branch g c =
@@ -47,7 +46,7 @@ returns-then-not-branch g c =
     let some = some_lines after.number (bytes_left g.R.Read.remaining after) in
     let never : ¬ (FitsImage image) = search rules in
     of_input (RunsLines (may c.new-lines.result) held levels places empty held (Stopped InvalidHierarchy)) c.new-lines.result.number _ _ c.new-lines.ensures.number c.new-lines.ensures.bytes
-    (not_fitting (may c.new-lines.result) held levels places empty image (option_map (command_of g.P5.LevelFiveFlags.bits) c.in_ok-first.first) (may after) c.in_ok-first.ensures.read some never)
+    (not_fitting (may c.new-lines.result) held levels places empty image c.in_ok-first.ensures.mode (option_map (command_of g.P5.LevelFiveFlags.bits) c.in_ok-first.first) (may after) c.in_ok-first.ensures.read some never)
 
 pub returns-in-Some : goal.returns-in-Some
 returns-in-Some g c =
@@ -65,7 +64,7 @@ returns-in-Some g c =
     let ending = ending_of c.answer_commands.result in
     let new = contents c.answer_commands.new.writer in
     of_input (RunsLines (may c.new-lines.result) held levels places empty new ending) c.new-lines.result.number _ _ c.new-lines.ensures.number c.new-lines.ensures.bytes
-    (commands (may c.new-lines.result) held levels places empty image (option_map (command_of g.P5.LevelFiveFlags.bits) c.in_ok-first.first) (may c.read_image.new.lines) c.in_ok-first.ensures.read fits ready is_first
+    (commands (may c.new-lines.result) held levels places empty image c.in_ok-first.ensures.mode (option_map (command_of g.P5.LevelFiveFlags.bits) c.in_ok-first.first) (may c.read_image.new.lines) c.in_ok-first.ensures.read fits ready is_first
     (command_of g.P5.LevelFiveFlags.bits c.in-Some.command) ending new asked c.answer_commands.ensures)
 
 pub returns-in-None : goal.returns-in-None
@@ -83,4 +82,4 @@ returns-in-None g c =
     let is_first : IsFirst image ready = search rules in
     let none : option_map (command_of g.P5.LevelFiveFlags.bits) c.in_ok-first.first ≡ None = search rules in
     of_input (RunsLines (may c.new-lines.result) held levels places empty held Done) c.new-lines.result.number _ _ c.new-lines.ensures.number c.new-lines.ensures.bytes
-    (no_commands (may c.new-lines.result) held levels places empty image (option_map (command_of g.P5.LevelFiveFlags.bits) c.in_ok-first.first) (may after) c.in_ok-first.ensures.read fits ready is_first some none)
+    (no_commands (may c.new-lines.result) held levels places empty image c.in_ok-first.ensures.mode (option_map (command_of g.P5.LevelFiveFlags.bits) c.in_ok-first.first) (may after) c.in_ok-first.ensures.read fits ready is_first some none)

@@ -2,8 +2,7 @@ use Rattle.std.proofs.Common.{◌≡◌, ◌<◌, ◌∙◌, ℕ, List, length, 
 use Rattle.std.proofs.lemmas.Result.{IfOk-from_err, IfOk-weaker, IfErr-weaker, err_from_is_err_and}
 use Rattle.std.specs.Io.KnownBytes.{Appends}
 use Rattle.pagetab_engine.specs.Commands.{command_of}
-use Rattle.pagetab_engine.specs.Program.{Answers, AppendsFront}
-use Rattle.pagetab_engine.specs.private.RunParts.{Replies, StopsAt}
+use Rattle.pagetab_engine.specs.private.RunParts.{Answers, AppendsFront, Replies, StopsAt}
 use Rattle.pagetab_engine.specs.Reply.{reply_of}
 use Rattle.pagetab_engine.specs.Texts.{reply_line}
 use Rattle.pagetab_engine.specs.declared.ending.Fault.TheVariants.{Output, OutOfMemory}

@@ -1,6 +1,6 @@
 use Rattle.std.proofs.Common.{rules, take}
 use Rattle.pagetab_engine.specs.Fields.{Says}
-use Rattle.pagetab_engine.proofs.Uniqueness.{one_reading}
+use Rattle.pagetab_engine.proofs.Parsing.{one_reading}
 use Rattle.pagetab_engine.proofs.fields.Fields.parse.Goals as goal
 
 pub returns-clause-only : goal.returns-clause-only

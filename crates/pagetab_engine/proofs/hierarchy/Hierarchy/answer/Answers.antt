@@ -3,7 +3,7 @@ use Rattle.x86_64_model.specs.Position.{raw}
 use Rattle.x86_64_mappers.specs.Offsets.{OffsetFits}
 use Rattle.x86_64.specs.Calls.{to_call}
 use Rattle.pagetab_engine.specs.declared.arguments.Mode.TheVariants.{Direct, Offset, Recursive, Pair}
-use Rattle.pagetab_engine.proofs.OneArguments.{position, position_read}
+use Rattle.pagetab_engine.proofs.ArgumentsRead.{one_position}
 use Rattle.pagetab_engine.proofs.ByMode.{here, fits_in, kept_in, kept_in_pair, twin_in}
 use Rattle.pagetab_engine.proofs.hierarchy.Hierarchy.answer.Goals as goal
 
@@ -28,6 +28,6 @@ returns-in-Offset-clause-keeps g c =
     let known = here c.args.self.now g.L.LevelCount.LEVELS c.requires.levels mode c.in-Offset.is in
     let offset = c.new-offset.result in
     let raws : raw 4 offset ≡ raw 4 c.in-Offset.offset = ap (λ n. raw n offset) known ∙ c.new-offset.ensures.value ∙ c.as_u64.ensures.value in
-    let same = sym (position_read 4 offset) ∙ ap (position 4) raws ∙ position_read 4 c.in-Offset.offset in
+    let same = one_position offset c.in-Offset.offset raws in
     kept_in c.args.self.now g.L.LevelCount.LEVELS c.requires.levels mode c.in-Offset.is _ refl
     (subst₂ (λ n offset. OffsetFits n c.answer_at_offset.new.frames.memory offset) (sym known) same done.offset) tt done.answered.keeps

@@ -6,7 +6,7 @@ use Rattle.x86_64.specs.Replies.{Reply}
 use Rattle.pagetab_engine.specs.Calls.{IsAnswered}
 use Rattle.pagetab_engine.specs.Commands.{Call}
 use Rattle.pagetab_engine.specs.Hierarchy.{hierarchy_of, TwinTells}
-use Rattle.pagetab_engine.specs.Program.{Answers}
+use Rattle.pagetab_engine.specs.private.RunParts.{Answers}
 use Rattle.pagetab_engine.specs.Reply.{Answered}
 use Rattle.pagetab_engine.proofs.Refusing.{answers_executed, answers_refused, refused_by}
 use Rattle.pagetab_engine.proofs.hierarchy.Hierarchy.answer_call.Goals as goal

@@ -4,7 +4,7 @@ use Rattle.x86_64_model.specs.Hierarchy.{◌laid_in◌}
 use Rattle.x86_64_model.specs.Store.{StoreFits}
 use Rattle.x86_64_addr.specs.declared.level_count.Levels.{Levels}
 use Rattle.x86_64.specs.Pairs.{pool_store}
-use Rattle.pagetab_engine.specs.Hierarchy.{image_layout}
+use Rattle.pagetab_engine.specs.Modes.{image_layout}
 use Rattle.pagetab_engine.specs.declared.arguments.Mode.{Mode}
 use Rattle.pagetab_engine.specs.declared.arguments.Mode.TheVariants.{Recursive, Pair}
 use Rattle.pagetab_engine.specs.declared.frames.Frames.{Frames}

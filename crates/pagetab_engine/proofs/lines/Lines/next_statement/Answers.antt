@@ -3,7 +3,7 @@ use Rattle.pagetab_engine.specs.Commands.{statement_of}
 use Rattle.pagetab_engine.specs.Lines.{bytes_left, is_blank}
 use Rattle.pagetab_engine.specs.declared.ending.Fault.TheVariants.{Input}
 use Rattle.pagetab_engine.specs.declared.lines.Line.TheVariants.{End, Text, TooLong}
-use Rattle.pagetab_engine.proofs.Numbering.{behind_blank, begins_behind, blank_passed, blank_line, long_taken, none_taken, some_lines, statement_taken, bad_taken}
+use Rattle.pagetab_engine.proofs.Numbering.{behind_blank, begins_behind, blank_passed, blank_line, long_taken, none_taken, short_line, some_lines, statement_taken, bad_taken}
 use Rattle.pagetab_engine.proofs.lines.Lines.next_statement.Goals as goal
 
 pub loop-number-init : goal.loop-number-init
@@ -42,7 +42,7 @@ returns-in-Some-parse-clause-next g c =
     let some : is_blank (take c.in-Text.length c.next_line.new.line) ≡ false = blank_line _ _ fits c.is_blank.ensures ∙ c.if-is_blank.false in
     let says = c.in-Some-parse.ensures in
     behind_blank _ _ _ _ c.loop-number.invariant.blank (statement_taken g.L.LevelCount.LEVELS c.args.places c.loop-number.self.number _ _ _ _ (statement_of g.P5.LevelFiveFlags.bits c.in-Some-parse.statement) counted some
-    (rw read at c.next_line.ensures.line) (fits, says.says))
+    (rw read at c.next_line.ensures.line) (short_line _ _ _ fits ∙ says.says))
 
 pub returns-in-None-clause-why : goal.returns-in-None-clause-why
 returns-in-None-clause-why g c =
@@ -52,7 +52,7 @@ returns-in-None-clause-why g c =
     let fits : length (take c.in-Text.length c.next_line.new.line) ≤ 256 = omega (arith, length-take c.in-Text.length c.next_line.new.line) in
     let some : is_blank (take c.in-Text.length c.next_line.new.line) ≡ false = blank_line _ _ fits c.is_blank.ensures ∙ c.if-is_blank.false in
     rw c.fault-in-None.ensures (begins_behind _ _ _ c.loop-number.invariant.blank (bad_taken g.L.LevelCount.LEVELS c.args.places c.loop-number.self.number _ _ _ _ counted some
-    (rw read at c.next_line.ensures.line) (λ _. c.in-None.ensures.none)))
+    (rw read at c.next_line.ensures.line) (short_line _ _ _ fits ∙ c.in-None.ensures.none)))
 
 pub returns-in_err-map_err-clause-why : goal.returns-in_err-map_err-clause-why
 returns-in_err-map_err-clause-why g c =

@@ -1,37 +1,35 @@
 use Rattle.std.proofs.Common.{rules, ◌≡◌, ◌↔◌, ℕ, Option, List, Some, None, IsSome, IfSome, IfNone, IsUtf8, refl, sym, subst, subst₂, ◌∙◌, true≢false}
 use Rattle.pagetab_engine.specs.Commands.{Statement, statement_of}
 use Rattle.pagetab_engine.specs.Fields.{Says}
-use Rattle.pagetab_engine.specs.Statements.{IsStatement, SaysStatement, statement_by}
+use Rattle.pagetab_engine.specs.Statements.{IsStatement, statement_by, statement_of_fields}
 use Rattle.pagetab_engine.specs.declared.fields.Name.{Name}
 use Rattle.pagetab_engine.specs.declared.fields.Size.{Size}
 use Rattle.pagetab_engine.proofs.Characters.{is_text}
-use Rattle.pagetab_engine.proofs.Uniqueness.{few_numbers}
+use Rattle.pagetab_engine.proofs.Parsing.{few_numbers, not_said, said}
 use Rattle.pagetab_engine.proofs.statement.Statement.parse.Goals as goal
 
 -- a line is no statement if its fields are none
 none_said : {A : Type 0} (result : Option A) (line : List ℕ) (levels places : ℕ) (name : Name) (size : Option Size) (numbers : List ℕ) → IsSome result ↔ IsStatement levels places name size numbers
     → ((other : Name) (another : Option Size) (others : List ℕ) → Says line other another others → (other ≡ name) × (another ≡ size) × (others ≡ numbers))
-    → IfNone result ((other : Name) (another : Option Size) (others : List ℕ) → Says line other another others → ¬ (IsStatement levels places other another others))
+    → IfNone result (statement_of_fields levels places line ≡ None)
 none_said (Some statement) line levels places name size numbers accepted only = tt
-none_said None line levels places name size numbers accepted only = λ other another others says is.
+none_said None line levels places name size numbers accepted only = not_said levels places line (λ other another others says is.
     let same = only other another others says in
-    absurd (true≢false (sym (accepted.1 (subst (λ (ns : List ℕ). IsStatement levels places name size ns) same.2
+    true≢false (sym (accepted.1 (subst (λ (ns : List ℕ). IsStatement levels places name size ns) same.2
     (subst (λ (s : Option Size). IsStatement levels places name s others) same.1 (subst (λ (n : Name). IsStatement levels places n another others) same.0 is))))))
 
 -- the fields of a line say what they write
 says_written : {A : Type 0} (of : A → Statement) (result : Option A) (line : List ℕ) (levels places : ℕ) (name : Name) (size : Option Size) (numbers : List ℕ) → Says line name size numbers
     → IsSome result ↔ IsStatement levels places name size numbers → IfSome result (λ statement. statement_by levels name size numbers ≡ Some (of statement))
-    → IfSome result (λ statement. SaysStatement levels places line (of statement))
+    → IfSome result (λ statement. statement_of_fields levels places line ≡ Some (of statement))
 says_written of None line levels places name size numbers says accepted writes = tt
-says_written of (Some statement) line levels places name size numbers says accepted writes =
-    record { name = name; size = size; numbers = numbers; says = says; accepted = accepted.0 refl; writes = writes }
+says_written of (Some statement) line levels places name size numbers says accepted writes = said levels places line name size numbers (of statement) says (accepted.0 refl) writes
 
 pub returns-in_err-ok-clause-none : goal.returns-in_err-ok-clause-none
 returns-in_err-ok-clause-none g c =
     let levels = g.L.LevelCount.LEVELS in let places = c.args.places in
     let no_text : ¬ (IsUtf8 c.args.line.now) = search rules in
-    let none : (name : Name) (size : Option Size) (numbers : List ℕ) → Says c.args.line.now name size numbers → ¬ (IsStatement levels places name size numbers) =
-    λ name size numbers says is. no_text (is_text c.args.line.now name size numbers says) in
+    let none = not_said levels places c.args.line.now (λ name size numbers says is. no_text (is_text c.args.line.now name size numbers says)) in
     search (rules, none)
 
 pub returns-in_err-fields-clause-none : goal.returns-in_err-fields-clause-none
@@ -39,8 +37,8 @@ returns-in_err-fields-clause-none g c =
     let levels = g.L.LevelCount.LEVELS in let places = c.args.places in
     let text : c.in_ok-ok.field-0.now ≡ c.args.line.now = search rules in
     let unread = rw (c.in_err-fields.was) at c.parse.ensures.none in
-    let none : (name : Name) (size : Option Size) (numbers : List ℕ) → Says c.args.line.now name size numbers → ¬ (IsStatement levels places name size numbers) =
-    λ name size numbers says is. unread name size numbers (few_numbers levels places name size numbers is) (subst (λ (l : List ℕ). Says l name size numbers) (sym text) says) in
+    let none = not_said levels places c.args.line.now
+    (λ name size numbers says is. unread name size numbers (few_numbers levels places name size numbers is) (subst (λ (l : List ℕ). Says l name size numbers) (sym text) says)) in
     search (rules, none)
 
 pub returns-clause-none : goal.returns-clause-none
