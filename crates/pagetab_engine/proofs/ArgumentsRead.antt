@@ -7,9 +7,9 @@ use Rattle.std.specs.Bool.{Decides}
 use Rattle.x86_64_addr.specs.Position.{IsCanonical, raw}
 use Rattle.x86_64_addr.specs.declared.level_count.Levels.TheVariants.{Four, Five}
 use Rattle.x86_64_mappings.specs.Numbers.{number_of}
-use Rattle.pagetab_engine.specs.Arguments.{IsIndex, IsPlaces, Says, SaysMode, arguments_in, is_places, may_have, mode_in, mode_named, mode_word, modes_with}
+use Rattle.pagetab_engine.specs.Arguments.{IsIndex, IsPlaces, SaysArguments, SaysMode, arguments_in, is_places, may_have, mode_in, mode_named, mode_word, modes_with}
 use Rattle.pagetab_engine.specs.Fields.{is_number}
-use Rattle.pagetab_engine.specs.Starts.{is_canonical, position_at}
+use Rattle.pagetab_engine.specs.Starts.{is_canonical_number, position_at}
 use Rattle.pagetab_engine.specs.declared.arguments.Arguments.{Arguments}
 use Rattle.pagetab_engine.specs.declared.arguments.Mode.{Mode}
 use Rattle.pagetab_engine.specs.declared.arguments.Mode.TheVariants.{Direct, Offset, Recursive, Pair}
@@ -64,7 +64,7 @@ mode_read word (text ∷ []) (Pair Four index) says = with_index (Pair Four) wor
 mode_read word (text ∷ []) (Pair Five index) says = with_index (Pair Five) word (codes "pair5") text index says.0 (λ n. refl) (λ n. refl) says.1 says.2
 mode_read word more mode says = absurd says
 
-pub arguments_read : (words : List (List ℕ)) (arguments : Arguments) → Says words arguments → arguments_in words ≡ Some arguments
+pub arguments_read : (words : List (List ℕ)) (arguments : Arguments) → SaysArguments words arguments → arguments_in words ≡ Some arguments
 arguments_read [] arguments says = absurd says
 arguments_read (word ∷ []) arguments says = absurd says
 arguments_read (word ∷ places ∷ more) arguments (are, number, says) =
@@ -96,7 +96,7 @@ mode_is word (text ∷ []) mode is = by (mode_named word (modes_with (number_of 
       where
         said : IsSaid word text found × (bytes_eq (mode_word found) word ≡ true)
         said = found_by (IsSaid word text) (λ mode. bytes_eq (mode_word mode) word) (modes_with n) found (
-          (λ e may. let parts = and_parts (is_number text) (is_canonical 4 n) may in (sym e, ((is_number_tells text).0 parts.0, raw_position n ((canonical_tells 4 n).0 parts.1)))),
+          (λ e may. let parts = and_parts (is_number text) (is_canonical_number 4 n) may in (sym e, ((is_number_tells text).0 parts.0, raw_position n ((canonical_tells 4 n).0 parts.1)))),
           ((λ e may. let is = indexed _ e may in (is.0, ((is_number_tells text).0 is.1.0, is.1.1), refl)), ((λ e may. let is = indexed _ e may in (is.0, ((is_number_tells text).0 is.1.0, is.1.1), refl)), ((λ e may. let is = indexed _ e may in (is.0, ((is_number_tells text).0 is.1.0, is.1.1), refl)), ((λ e may. let is = indexed _ e may in (is.0, ((is_number_tells text).0 is.1.0, is.1.1), refl)), tt)))),
         ) some
 
@@ -106,7 +106,7 @@ mode_is word (text ∷ []) mode is = by (mode_named word (modes_with (number_of 
 mode_is word (text ∷ other ∷ more) mode is = cc
 
 -- words that say no arguments are none
-pub not_read : (words : List (List ℕ)) → ((arguments : Arguments) → ¬ (Says words arguments)) → arguments_in words ≡ None
+pub not_read : (words : List (List ℕ)) → ((arguments : Arguments) → ¬ (SaysArguments words arguments)) → arguments_in words ≡ None
 not_read [] none = refl
 not_read (word ∷ []) none = refl
 not_read (word ∷ places ∷ more) none = by (is_places places) refl (mode_in word more) refl

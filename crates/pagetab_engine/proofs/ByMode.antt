@@ -19,7 +19,7 @@ use Rattle.pagetab_engine.specs.Arguments.{count, levels_of}
 use Rattle.pagetab_engine.specs.Calls.{IsAnswered}
 use Rattle.pagetab_engine.specs.Frames.{direct_layout, recursive_layout}
 use Rattle.pagetab_engine.specs.Modes.{layout}
-use Rattle.pagetab_engine.specs.Hierarchy.{layout_of, hierarchy_of, IsReached, AnswersRecursively, IsTwin, HasTwin, KeepsHierarchy}
+use Rattle.pagetab_engine.specs.Hierarchy.{layout_of, hierarchy_of, ModeReaches, AnswersRecursively, IsTwin, HasTwin, KeepsHierarchy}
 use Rattle.pagetab_engine.specs.declared.arguments.Mode.{Mode}
 use Rattle.pagetab_engine.specs.declared.arguments.Mode.TheVariants.{Direct, Offset, Recursive, Pair}
 use Rattle.pagetab_engine.specs.declared.frames.Frames.{Frames}
@@ -50,7 +50,7 @@ module _ (before : Hierarchy) (levels : ℕ) (known : count (levels_of before.mo
   pub fits_in : StoreFits (hierarchy_of before) (pool_store before.frames.pool) → StoreFits (layout_in mode levels before.frames.memory laid_in before.frames.memory) (pool_store before.frames.pool)
   fits_in = subst (λ (l : Layout). StoreFits (l laid_in before.frames.memory) (pool_store before.frames.pool)) lies
 
-  pub kept_in : (after : Hierarchy) → after.mode ≡ before.mode → IsReached mode after.frames.memory → HasTwin mode after.frames after.twin
+  pub kept_in : (after : Hierarchy) → after.mode ≡ before.mode → ModeReaches mode after.frames.memory → HasTwin mode after.frames after.twin
       → Keeps (layout_in mode levels before.frames.memory laid_in before.frames.memory) (pool_store before.frames.pool) (layout_in mode levels after.frames.memory laid_in after.frames.memory) (pool_store after.frames.pool) → KeepsHierarchy before after
   kept_in after same reached twin kept =
       let m = before.frames.memory in let n = after.frames.memory in

@@ -10,7 +10,7 @@ use Rattle.std.proofs.lemmas.Str.{IsUtf8-from_ascii}
 use Rattle.std.proofs.lemmas.Str.Ascii.{IsAscii-from_all}
 use Rattle.std.proofs.lemmas.Bool.{eqb-true}
 use Rattle.x86_64_mappings.specs.Numbers.{IsNumber, is_hexadecimal}
-use Rattle.pagetab_engine.specs.Fields.{is_space, has_bytes, fields_of, name_text, size_text, size_texts, AreNumbers, Says}
+use Rattle.pagetab_engine.specs.Fields.{is_space, has_bytes, fields_of, name_text, size_name, size_texts, AreNumbers, Says}
 use Rattle.pagetab_engine.specs.declared.fields.Name.{Name}
 use Rattle.pagetab_engine.specs.declared.fields.Name.TheVariants as name
 use Rattle.pagetab_engine.specs.declared.fields.Size.{Size}
@@ -32,7 +32,7 @@ name_test : (name : Name) → list_all is_low (name_text name) ≡ true
 name_test name.Word = refl
 name_test name = refl
 
-size_test : (size : Size) → list_all is_low (size_text size) ≡ true
+size_test : (size : Size) → list_all is_low (size_name size) ≡ true
 size_test Size4KiB = refl
 size_test size = refl
 
@@ -60,7 +60,7 @@ numbers_low (text ∷ texts) (n ∷ numbers) are = (number_low text are.0, numbe
 
 rest_low : (size : Option Size) (texts : List (List ℕ)) → AllByRecursion AreLow texts → AllByRecursion AreLow (size_texts size ++ texts)
 rest_low None texts low = low
-rest_low (Some size) texts low = (tested (size_text size) (size_test size), low)
+rest_low (Some size) texts low = (tested (size_name size) (size_test size), low)
 
 -- the empty parts have no other bytes
 parts_low : (parts : List (List ℕ)) → AllByRecursion AreLow (filter has_bytes parts) → AllByRecursion AreLow parts

@@ -27,7 +27,7 @@ use Rattle.pagetab_engine.specs.Image.{Loaded, fits}
 use Rattle.pagetab_engine.specs.Modes.{image_layout}
 use Rattle.pagetab_engine.specs.declared.arguments.Mode.{Mode}
 use Rattle.pagetab_engine.specs.declared.arguments.Mode.TheVariants.{Direct, Offset, Recursive, Pair}
-use Rattle.pagetab_engine.specs.Fitting.{each_once, fits_in, is_sound, is_usable, names_root, none_huge}
+use Rattle.pagetab_engine.specs.Fitting.{are_distinct, fits_in, is_sound, is_usable, names_root, none_huge}
 use Rattle.pagetab_engine.proofs.Lists.{all_tell, each_once_tells}
 
 not_tells : (b : Bool) → Decides (not b) (b ≡ false)
@@ -75,8 +75,8 @@ module _ (n : ℕ) (T : Words) (root limit : ℕ) (free : List ℕ) where
 
   sound_tells : Decides (is_sound n T root limit free) (SoundTables n T root (serves_below limit) free)
   sound_tells =
-      let both = Decides-and (none_huge n T root) (each_once frames && list_all (is_usable T root limit) frames) (none_huge_tells n T root)
-      (Decides-and (each_once frames) (list_all (is_usable T root limit) frames) (each_once_tells frames) (all_tell (is_usable T root limit) frames)) in (
+      let both = Decides-and (none_huge n T root) (are_distinct frames && list_all (is_usable T root limit) frames) (none_huge_tells n T root)
+      (Decides-and (are_distinct frames) (list_all (is_usable T root limit) frames) (each_once_tells frames) (all_tell (is_usable T root limit) frames)) in (
         λ e. let h = both.0 e in record {
           none_huge = h.0;
           each_once = h.1.0;

@@ -12,7 +12,7 @@ use Rattle.x86_64_tables.specs.PageTable.{zero_words}
 use Rattle.x86_64.specs.Pairs.{pool_store}
 use Rattle.pagetab_engine.specs.Arguments.{count}
 use Rattle.pagetab_engine.specs.Frames.{direct_layout, recursive_layout, without_self_entry}
-use Rattle.pagetab_engine.specs.Hierarchy.{IsCopy, HasCopy, FitsImage, IsReached, IsHierarchy}
+use Rattle.pagetab_engine.specs.Hierarchy.{IsCopy, HasCopy, FitsImage, ModeReaches, IsHierarchy}
 use Rattle.pagetab_engine.specs.Modes.{first_memory, image_layout}
 use Rattle.x86_64_addr.specs.declared.level_count.Levels.{Levels}
 use Rattle.pagetab_engine.specs.declared.arguments.Mode.{Mode}
@@ -52,7 +52,7 @@ first_hierarchy mode frames twin = record { mode = mode; frames = record { memor
 -- The image fits and each place is reached if and only if the hierarchy of the first commands is valid and fits, in a pair with
 -- an alike one.
 pub fits_at_end : (mode : Mode) (frames twin : Frames) → IsCopy mode frames twin
-    → (StoreFits (image_layout mode frames.memory laid_in frames.memory) (pool_store frames.pool) × IsReached mode frames.memory) ↔ IsHierarchy (first_hierarchy mode frames twin)
+    → (StoreFits (image_layout mode frames.memory laid_in frames.memory) (pool_store frames.pool) × ModeReaches mode frames.memory) ↔ IsHierarchy (first_hierarchy mode frames twin)
 fits_at_end (Direct levels) frames twin copied = (λ fits. record { fits = fits.0; reached = tt; twin = tt }, λ is. (is.fits, tt))
 fits_at_end (Offset offset) frames twin copied = (λ fits. record { fits = fits.0; reached = fits.1; twin = tt }, λ is. (is.fits, is.reached))
 fits_at_end (Recursive levels index) frames twin copied = (λ fits. record { fits = fits.0; reached = tt; twin = tt }, λ is. (is.fits, tt))
@@ -74,7 +74,7 @@ fits_at_end (Pair levels index) frames twin copied =
     )
 
 -- so the test of the image is that of the hierarchy after it
-pub ends : (before after : Hierarchy) → HasCopy before → IsReached before.mode before.frames.memory → after.frames.memory ≡ first_memory before.mode before.frames.memory
+pub ends : (before after : Hierarchy) → HasCopy before → ModeReaches before.mode before.frames.memory → after.frames.memory ≡ first_memory before.mode before.frames.memory
     → after.frames.pool ≡ before.frames.pool → after.mode ≡ before.mode → after.twin ≡ before.twin → (fits : Bool) → IsTrue fits ↔ FitsImage before → IsTrue fits ↔ IsHierarchy after
 ends before after copied reached memory pool mode twin fits tested =
     let same : after ≡ first_hierarchy before.mode before.frames before.twin = λ i. record { mode = mode i; frames = record { memory = memory i; pool = pool i }; twin = twin i } in

@@ -9,7 +9,7 @@ use Rattle.x86_64.specs.Pairs.{pool_store}
 use Rattle.x86_64.proofs.FreeFrames.{nothing_keeps_free}
 use Rattle.x86_64.proofs.Keeping.{kept_none}
 use Rattle.pagetab_engine.specs.Modes.{layout}
-use Rattle.pagetab_engine.specs.Hierarchy.{hierarchy_of, layout_of, IsReached, HasTwin, IsHierarchy, KeepsHierarchy, KeepsFree}
+use Rattle.pagetab_engine.specs.Hierarchy.{hierarchy_of, layout_of, ModeReaches, HasTwin, IsHierarchy, KeepsHierarchy, KeepsFree}
 use Rattle.pagetab_engine.specs.declared.arguments.Mode.{Mode}
 use Rattle.pagetab_engine.specs.declared.arguments.Mode.TheVariants.{Direct, Offset, Recursive, Pair}
 use Rattle.pagetab_engine.specs.declared.hierarchy.Hierarchy.{Hierarchy}
@@ -29,7 +29,7 @@ by_number (Recursive levels index) memory = refl
 by_number (Pair levels index) memory = refl
 
 -- what the mapper of the mode keeps is kept in the hierarchy
-pub kept_by : (before after : Hierarchy) → after.mode ≡ before.mode → (mode : Mode) → before.mode ≡ mode → IsReached mode after.frames.memory → HasTwin mode after.frames after.twin
+pub kept_by : (before after : Hierarchy) → after.mode ≡ before.mode → (mode : Mode) → before.mode ≡ mode → ModeReaches mode after.frames.memory → HasTwin mode after.frames after.twin
     → Keeps (layout mode before.frames.memory laid_in before.frames.memory) (pool_store before.frames.pool) (layout mode after.frames.memory laid_in after.frames.memory) (pool_store after.frames.pool) → KeepsHierarchy before after
 kept_by before after same mode is reached twin kept =
     let m = before.frames.memory in let n = after.frames.memory in
@@ -42,7 +42,7 @@ kept_by before after same mode is reached twin kept =
       keeps = keeps;
       fits = record {
         fits = rest_fits (hierarchy_of before) (hierarchy_of after) store rest keeps;
-        reached = subst (λ mode. IsReached mode n) (sym (same ∙ is)) reached;
+        reached = subst (λ mode. ModeReaches mode n) (sym (same ∙ is)) reached;
         twin = subst (λ mode. HasTwin mode after.frames after.twin) (sym (same ∙ is)) twin;
       };
     }

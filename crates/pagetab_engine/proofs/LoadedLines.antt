@@ -11,11 +11,11 @@ use Rattle.x86_64_model.specs.Memory.{Memory}
 use Rattle.x86_64_model.proofs.Lemmas.Hierarchies.Memories.{same_key, other_key}
 use Rattle.x86_64_tables.specs.PageTable.{zero_words}
 use Rattle.pagetab_engine.specs.Frames.{IsLoadable}
-use Rattle.pagetab_engine.specs.Hierarchy.{IsReached}
+use Rattle.pagetab_engine.specs.Hierarchy.{ModeReaches}
 use Rattle.pagetab_engine.specs.Image.{empty_memory, is_loadable, load, nothing_loaded}
-use Rattle.pagetab_engine.specs.Modes.{are_reached, reaches}
-use Rattle.pagetab_engine.specs.Starts.{is_canonical}
-use Rattle.pagetab_engine.specs.TableWords.{is_in}
+use Rattle.pagetab_engine.specs.Modes.{are_reached, mode_reaches}
+use Rattle.pagetab_engine.specs.Starts.{is_canonical_number}
+use Rattle.pagetab_engine.specs.TableWords.{is_among}
 use Rattle.pagetab_engine.specs.declared.arguments.Arguments.{Arguments}
 use Rattle.pagetab_engine.specs.declared.arguments.Mode.{Mode}
 use Rattle.pagetab_engine.specs.declared.arguments.Mode.TheVariants.{Direct, Offset, Recursive, Pair}
@@ -33,8 +33,8 @@ pub loadable_tells : (frames : Frames) (image : ImageLine) → Decides (is_loada
 loadable_tells frames (Word slot value) = (λ _. tt, λ _. refl)
 loadable_tells frames (Free frame) =
     let free = frames.pool.frames in let limit = frames.pool.limit in
-    let both = Decides-and (not (frame == 0)) (nat_lt (frame / 4096) limit && not (is_in free frame)) (Decides-not (frame == 0) (Decides-eqb frame 0))
-    (Decides-and (nat_lt (frame / 4096) limit) (not (is_in free frame)) (Decides-ltb (frame / 4096) limit) (Decides-not (is_in free frame) (is_in_tells free frame))) in
+    let both = Decides-and (not (frame == 0)) (nat_lt (frame / 4096) limit && not (is_among free frame)) (Decides-not (frame == 0) (Decides-eqb frame 0))
+    (Decides-and (nat_lt (frame / 4096) limit) (not (is_among free frame)) (Decides-ltb (frame / 4096) limit) (Decides-not (is_among free frame) (is_in_tells free frame))) in
     (λ e. let h = both.0 e in (h.0, h.1.0, h.1.1), λ is. both.1 (is.0, (is.1, is.2)))
 
 pub load_told : (image : ImageLine) (before after : Hierarchy) → Loads image before after → loaded_of after.frames ≡ load (loaded_of before.frames) image
@@ -82,17 +82,17 @@ there_below places place o is = by (nat_lt place places) is
     by true is = (λ _. subst IsSome (sym is) refl, λ _. refl)
     by false is = (λ e. absurd (true≢false (sym e)), λ some. absurd (true≢false (sym (subst IsSome is some))))
 
-reached_tells : (mode : Mode) (places : ℕ) (memory : Memory) → ((place : ℕ) → get memory place ≡ (if nat_lt place places then Some zero_words else None)) → Decides (reaches mode places) (IsReached mode memory)
+reached_tells : (mode : Mode) (places : ℕ) (memory : Memory) → ((place : ℕ) → get memory place ≡ (if nat_lt place places then Some zero_words else None)) → Decides (mode_reaches mode places) (ModeReaches mode memory)
 reached_tells (Direct levels) places memory is = (λ _. tt, λ _. refl)
 reached_tells (Recursive levels index) places memory is = (λ _. tt, λ _. refl)
 reached_tells (Pair levels index) places memory is = (λ _. tt, λ _. refl)
 reached_tells (Offset offset) places memory is =
-    let all = Decides-below_and (λ place. is_canonical 4 (raw 4 offset + place * 4096)) (λ place. IsCanonical 4 (raw 4 offset + place * 4096)) (are_reached offset)
+    let all = Decides-below_and (λ place. is_canonical_number 4 (raw 4 offset + place * 4096)) (λ place. IsCanonical 4 (raw 4 offset + place * 4096)) (are_reached offset)
     (λ place. canonical_tells 4 (raw 4 offset + place * 4096)) refl (λ place. refl) places in (
       λ e place there. all.0 e place (ltb-true place places ((there_below places place (get memory place) (is place)).1 there)),
       λ fits. all.1 (λ place low. fits place ((there_below places place (get memory place) (is place)).0 (lt-ltb place places low))),
     )
 
-pub empty_reached : (arguments : Arguments) (hierarchy : Hierarchy) → IsEmpty arguments hierarchy → Decides (reaches arguments.mode arguments.places) (IsReached hierarchy.mode hierarchy.frames.memory)
+pub empty_reached : (arguments : Arguments) (hierarchy : Hierarchy) → IsEmpty arguments hierarchy → Decides (mode_reaches arguments.mode arguments.places) (ModeReaches hierarchy.mode hierarchy.frames.memory)
 empty_reached arguments hierarchy is =
-    subst (λ (mode : Mode). Decides (reaches mode arguments.places) (IsReached hierarchy.mode hierarchy.frames.memory)) is.mode (reached_tells hierarchy.mode arguments.places hierarchy.frames.memory is.memory)
+    subst (λ (mode : Mode). Decides (mode_reaches mode arguments.places) (ModeReaches hierarchy.mode hierarchy.frames.memory)) is.mode (reached_tells hierarchy.mode arguments.places hierarchy.frames.memory is.memory)

@@ -10,9 +10,9 @@ use Rattle.x86_64_addr.specs.Position.{IsCanonical, lower_half}
 use Rattle.x86_64.specs.Asked.{MapperCall}
 use Rattle.x86_64_mappings.specs.Numbers.{IsNumber, digits_of, number_of, radix_of}
 use Rattle.pagetab_engine.specs.Commands.{Call, Command, Show, Statement, Asks}
-use Rattle.pagetab_engine.specs.Fields.{Parts, has_bytes, is_number, is_numeral, name_in, name_text, names, numbers_in, parts_in, parts_with, size_first, size_in, size_text, size_texts, behind_size, fields_of, AreNumbers, Says}
+use Rattle.pagetab_engine.specs.Fields.{Parts, has_bytes, is_number, is_numeral, name_in, name_text, all_names, numbers_in, parts_in, parts_with, size_first, size_in, size_name, size_texts, behind_size, fields_of, AreNumbers, Says}
 use Rattle.pagetab_engine.specs.PageCalls.{IsPageCall, bytes_of, call_by, is_page_call}
-use Rattle.pagetab_engine.specs.Starts.{IsFrameStart, IsPageStart, IsTableStart, is_canonical, is_frame_start, is_page_start, is_table_start}
+use Rattle.pagetab_engine.specs.Starts.{IsFrameStart, IsPageStart, IsTableStart, is_canonical_number, is_frame_start, is_page_start, is_table_start}
 use Rattle.pagetab_engine.specs.Statements.{IsPlain, IsStatement, is_plain, is_statement, statement_by, statement_in, statement_of_fields, statement_with}
 use Rattle.pagetab_engine.specs.declared.fields.Name.{Name}
 use Rattle.pagetab_engine.specs.declared.fields.Name.TheVariants as name
@@ -42,14 +42,14 @@ is_number_tells text =
 pub leb_tells : (a b : ℕ) → Decides (nat_le a b) (a ≤ b)
 leb_tells a b = (leb-true a b, le-leb a b)
 
-pub canonical_tells : (levels value : ℕ) → Decides (is_canonical levels value) (IsCanonical levels value)
+pub canonical_tells : (levels value : ℕ) → Decides (is_canonical_number levels value) (IsCanonical levels value)
 canonical_tells levels value =
     let high = 2 ^ 64 - lower_half levels in
     Decides-or (nat_lt value (lower_half levels)) (nat_le high value && nat_lt value (2 ^ 64)) (Decides-ltb value (lower_half levels))
     (Decides-and (nat_le high value) (nat_lt value (2 ^ 64)) (leb_tells high value) (Decides-ltb value (2 ^ 64)))
 
 page_tells : (levels size start : ℕ) → Decides (is_page_start levels size start) (IsPageStart levels size start)
-page_tells levels size start = Decides-and (is_canonical levels start) (start % size == 0) (canonical_tells levels start) (Decides-eqb (start % size) 0)
+page_tells levels size start = Decides-and (is_canonical_number levels start) (start % size == 0) (canonical_tells levels start) (Decides-eqb (start % size) 0)
 
 frame_tells : (size start : ℕ) → Decides (is_frame_start size start) (IsFrameStart size start)
 frame_tells size start = Decides-and (nat_lt start (2 ^ 52)) (start % size == 0) (Decides-ltb start (2 ^ 52)) (Decides-eqb (start % size) 0)
@@ -98,18 +98,18 @@ name_read : (name : Name) → name_in (name_text name) ≡ Some name
 name_read name.Word = refl
 name_read name = refl
 
-size_read : (size : Size) → size_in (size_text size) ≡ Some size
+size_read : (size : Size) → size_in (size_name size) ≡ Some size
 size_read Size4KiB = refl
 size_read size = refl
 
 name_is : (text : List ℕ) (name : Name) → name_in text ≡ Some name → name_text name ≡ text
-name_is text name is = (bytes_eq-Decides (name_text name) text).0 (found (λ name. bytes_eq (name_text name) text) names name is)
+name_is text name is = (bytes_eq-Decides (name_text name) text).0 (found (λ name. bytes_eq (name_text name) text) all_names name is)
 
-size_is : (text : List ℕ) (size : Size) → size_in text ≡ Some size → size_text size ≡ text
-size_is text size is = (bytes_eq-Decides (size_text size) text).0 (found (λ size. bytes_eq (size_text size) text) (Size4KiB ∷ Size2MiB ∷ Size1GiB ∷ []) size is)
+size_is : (text : List ℕ) (size : Size) → size_in text ≡ Some size → size_name size ≡ text
+size_is text size is = (bytes_eq-Decides (size_name size) text).0 (found (λ size. bytes_eq (size_name size) text) (Size4KiB ∷ Size2MiB ∷ Size1GiB ∷ []) size is)
 
 -- the letter after the first digit is no digit
-size_no_number : (size : Size) → IsNumber (size_text size) → ⊥
+size_no_number : (size : Size) → IsNumber (size_name size) → ⊥
 size_no_number Size4KiB is = let letter : 20 < 10 = is.0.1.1.0 in omega arith
 size_no_number Size2MiB is = let letter : 22 < 10 = is.0.1.1.0 in omega arith
 size_no_number Size1GiB is = let letter : 16 < 10 = is.0.1.1.0 in omega arith
@@ -154,7 +154,7 @@ read_parts line name size numbers (texts, is, are) =
     after None [] are = ap (make None) (numbers_read [] numbers are)
     after None (text ∷ texts) are =
         ap (λ s. parts_with name s (text ∷ texts)) (no_size text (number_among [] text texts numbers are)) ∙ ap (make None) (numbers_read (text ∷ texts) numbers are)
-    after (Some size) texts are = ap (λ s. parts_with name s (size_text size ∷ texts)) (size_read size) ∙ ap (make (Some size)) (numbers_read texts numbers are)
+    after (Some size) texts are = ap (λ s. parts_with name s (size_name size ∷ texts)) (size_read size) ∙ ap (make (Some size)) (numbers_read texts numbers are)
 
 size_split : (fields : List (List ℕ)) → fields ≡ size_texts (size_first fields) ++ behind_size (size_first fields) fields
 size_split [] = refl

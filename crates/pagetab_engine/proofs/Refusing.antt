@@ -12,9 +12,9 @@ use Rattle.pagetab_engine.specs.Arguments.{count, levels_of}
 use Rattle.pagetab_engine.specs.Calls.{IsAnswered}
 use Rattle.pagetab_engine.specs.Commands.{Call}
 use Rattle.pagetab_engine.specs.Hierarchy.{hierarchy_of, hierarchy_state, layout_of, IsHierarchy, KeepsFree, KeepsHierarchy, TwinTells}
-use Rattle.pagetab_engine.specs.Situation.{call_back, call_step, machine_in}
+use Rattle.pagetab_engine.specs.Situation.{call_back, call_step, situation_machine}
 use Rattle.pagetab_engine.specs.Modes.{is_index_named, is_refused}
-use Rattle.pagetab_engine.specs.private.RunParts.{Answers, situation_of}
+use Rattle.pagetab_engine.specs.private.RunParts.{AnswersCommand, situation_of}
 use Rattle.pagetab_engine.specs.Reply.{Answered}
 use Rattle.pagetab_engine.specs.declared.arguments.Mode.{Mode}
 use Rattle.pagetab_engine.specs.declared.hierarchy.Hierarchy.{Hierarchy}
@@ -29,9 +29,9 @@ module _ (hierarchy : Hierarchy) (call : MapperCall) where
   abbrev refused : AfterStep Reply
   refused = record { state = hierarchy_state hierarchy; reply = Some NotAllowed }
 
-  pub answers_refused : is_refused hierarchy.mode call ≡ true → IsHierarchy hierarchy → Answers (Call call) hierarchy (Answered NotAllowed) hierarchy
+  pub answers_refused : is_refused hierarchy.mode call ≡ true → IsHierarchy hierarchy → AnswersCommand (Call call) hierarchy (Answered NotAllowed) hierarchy
   answers_refused is fits =
-      let machine = machine_in (situation_of hierarchy) in
+      let machine = situation_machine (situation_of hierarchy) in
       let step : call_step (situation_of hierarchy) call ≡ refused = ap (λ b. cond b refused (runs.step_by machine (hierarchy_state hierarchy) call)) is in
       record {
         reply = λ _. ap (λ (after : AfterStep Reply). option_map Answered after.reply) step;
@@ -44,9 +44,9 @@ module _ (hierarchy : Hierarchy) (call : MapperCall) where
 
   -- the call is executed
   pub answers_executed : (after : Hierarchy) (reply : Reply) → is_refused hierarchy.mode call ≡ false → KeepsHierarchy hierarchy after → TwinTells hierarchy.mode call hierarchy.twin after.twin reply
-      → IsAnswered (hierarchy_of hierarchy) (pool_store hierarchy.frames.pool) call (hierarchy_of after) (pool_store after.frames.pool) reply → Answers (Call call) hierarchy (Answered reply) after
+      → IsAnswered (hierarchy_of hierarchy) (pool_store hierarchy.frames.pool) call (hierarchy_of after) (pool_store after.frames.pool) reply → AnswersCommand (Call call) hierarchy (Answered reply) after
   answers_executed after reply is keeps twin answered =
-      let machine = machine_in (situation_of hierarchy) in
+      let machine = situation_machine (situation_of hierarchy) in
       let step : call_step (situation_of hierarchy) call ≡ record { state = runs.state_in (layout_of hierarchy) after.frames.memory after.frames.pool.frames; reply = Some reply } =
       ap (λ b. cond b refused (runs.step_by machine (hierarchy_state hierarchy) call)) is ∙ answered.step in
       let back : call_back (situation_of hierarchy) call ≡ back_by machine (hierarchy_state hierarchy) (machine_call machine.levels call) =

@@ -52,7 +52,7 @@ unfolding page_walk
 same_walk levels T U same root position = same_walk_on T U same position levels true true root
 
 -- the word in a slot is that of the frame which lies there
-pub slot_word : (memory : Memory) (place index : ℕ) → index < 512 → place * 4096 < 2 ^ 52 → (place * 4096) % 4096 ≡ 0 → slots.word_in memory place index ≡ word (words_of memory identity_places) (place * 4096) index
+pub slot_word : (memory : Memory) (place index : ℕ) → index < 512 → place * 4096 < 2 ^ 52 → (place * 4096) % 4096 ≡ 0 → slots.word_at_place memory place index ≡ word (words_of memory identity_places) (place * 4096) index
 unfolding word
 slot_word memory place index small within aligned =
     let frame : is_frame (place * 4096) ≡ true = eq-eqb (address (place * 4096)) (place * 4096) (address-multiple (place * 4096) aligned within) in

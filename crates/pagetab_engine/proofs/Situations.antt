@@ -12,16 +12,16 @@ use Rattle.pagetab_engine.specs.Commands.{Command, Call, Walk, Show}
 use Rattle.pagetab_engine.specs.Commands as command
 use Rattle.pagetab_engine.specs.Hierarchy.{layout_of}
 use Rattle.pagetab_engine.specs.Lines.{Numbered}
-use Rattle.pagetab_engine.specs.Program.{answered, behind_reply, served}
+use Rattle.pagetab_engine.specs.Program.{command_transcript, behind_reply, served_transcript}
 use Rattle.pagetab_engine.specs.Reply.{Reply}
 use Rattle.pagetab_engine.specs.Situation.{call_back, call_step, command_after}
 use Rattle.pagetab_engine.specs.TableWords.{words_after}
 use Rattle.pagetab_engine.specs.declared.hierarchy.Hierarchy.{Hierarchy}
-use Rattle.pagetab_engine.specs.private.RunParts.{Answers, IsShown, situation_of}
+use Rattle.pagetab_engine.specs.private.RunParts.{AnswersCommand, IsShown, situation_of}
 use Rattle.pagetab_engine.proofs.Keeping.{by_number}
 use Rattle.pagetab_engine.proofs.TableWords.{words_told}
 
-module _ (call : MapperCall) (before after : Hierarchy) (reply : Reply) (answers : Answers (Call call) before reply after) where
+module _ (call : MapperCall) (before after : Hierarchy) (reply : Reply) (answers : AnswersCommand (Call call) before reply after) where
   abbrev m : Memory
   m = before.frames.memory
 
@@ -52,15 +52,15 @@ module _ (call : MapperCall) (before after : Hierarchy) (reply : Reply) (answers
   call_told : situation_of after ≡ command_after (situation_of before) (Call call)
   call_told = λ i. record { mode = answers.keeps.mode i; layout = answers.keeps.keeps.layout i; state = answers.state i; words = λ f j. word_is f j i }
 
-command_told : (asked : Command) (before after : Hierarchy) (reply : Reply) → Answers asked before reply after → situation_of after ≡ command_after (situation_of before) asked
+command_told : (asked : Command) (before after : Hierarchy) (reply : Reply) → AnswersCommand asked before reply after → situation_of after ≡ command_after (situation_of before) asked
 command_told (Call call) before after reply answers = call_told call before after reply answers
 command_told (Walk position) before after reply answers = ap situation_of (answers.reads tt)
 command_told (Show slot) before after reply answers = ap situation_of (answers.reads tt)
 command_told command.Pool before after reply answers = ap situation_of (answers.reads tt)
 
 -- so the transcript of a command begins with its reply
-pub answer_told : (levels places : ℕ) (asked : Command) (before after : Hierarchy) (reply : Reply) → Answers asked before reply after → IsShown asked → (behind : List Numbered)
-    → answered asked (situation_of before) (λ s. served levels places behind s) ≡ behind_reply (Some reply) (served levels places behind (situation_of after))
+pub answer_told : (levels places : ℕ) (asked : Command) (before after : Hierarchy) (reply : Reply) → AnswersCommand asked before reply after → IsShown asked → (behind : List Numbered)
+    → command_transcript asked (situation_of before) (λ s. served_transcript levels places behind s) ≡ behind_reply (Some reply) (served_transcript levels places behind (situation_of after))
 answer_told levels places asked before after reply answers shown behind =
-    ap (λ (told : Option Reply). behind_reply told (served levels places behind (command_after (situation_of before) asked))) (answers.reply shown)
-    ∙ ap (λ s. behind_reply (Some reply) (served levels places behind s)) (sym (command_told asked before after reply answers))
+    ap (λ (told : Option Reply). behind_reply told (served_transcript levels places behind (command_after (situation_of before) asked))) (answers.reply shown)
+    ∙ ap (λ s. behind_reply (Some reply) (served_transcript levels places behind s)) (sym (command_told asked before after reply answers))

@@ -3,13 +3,13 @@ use Rattle.std.proofs.Common.{◌≡◌, ◌∙◌, ℕ, suc, Bool, true, false,
 use Rattle.std.specs.Bool.{⊤, Decides}
 use Rattle.std.specs.Io.KnownBytes.{Appends}
 use Rattle.std.specs.List.{flat_map}
-use Rattle.pagetab_engine.specs.Arguments.{Says, arguments_in}
+use Rattle.pagetab_engine.specs.Arguments.{SaysArguments, arguments_in}
 use Rattle.pagetab_engine.specs.Commands.{Command}
-use Rattle.pagetab_engine.specs.Hierarchy.{FitsImage, IsReached}
+use Rattle.pagetab_engine.specs.Hierarchy.{FitsImage, ModeReaches}
 use Rattle.pagetab_engine.specs.Image.{first_situation, fits, nothing_loaded}
 use Rattle.pagetab_engine.specs.Lines.{Numbered, ForSome, IsInput, TracesBack, lines_of, numbered_from}
-use Rattle.pagetab_engine.specs.Modes.{reaches}
-use Rattle.pagetab_engine.specs.Program.{CanEnd, IsTold, Runs, Transcript, ends, first_served, levels_in, read, tested, transcript, transcript_with}
+use Rattle.pagetab_engine.specs.Modes.{mode_reaches}
+use Rattle.pagetab_engine.specs.Program.{CanEnd, IsTold, Runs, Transcript, ending_alone, first_served, levels_in, image_transcript, tested_transcript, transcript, transcript_with}
 use Rattle.pagetab_engine.specs.Situation.{situation}
 use Rattle.pagetab_engine.specs.Texts.{reply_line}
 use Rattle.pagetab_engine.specs.declared.arguments.Arguments.{Arguments}
@@ -42,18 +42,18 @@ is_false false tells none = refl
 abbrev ToldNothing : Option (List ℕ) → Transcript → Ending → Type 0
 ToldNothing held t ending = (ending ≡ t.ending) × Appends held held (flat_map reply_line t.replies)
 
-told_nothing : (held : Option (List ℕ)) (t : Transcript) (ending : Ending) → t ≡ ends ending → ToldNothing held t ending
+told_nothing : (held : Option (List ℕ)) (t : Transcript) (ending : Ending) → t ≡ ending_alone ending → ToldNothing held t ending
 told_nothing held t ending is = subst (λ t. ToldNothing held t ending) (sym is) (refl, appends_nothing held)
 
 module _ (words : List (List ℕ)) (known : Option (List ℕ)) (old : Option (List ℕ)) where
   -- a run with wrong arguments
-  ends_in_usage : ((input : List ℕ) → transcript words input ≡ ends (Stopped Usage)) → ForSome (IsInput known) (λ input. Runs words input old old (Stopped Usage))
+  ends_in_usage : ((input : List ℕ) → transcript words input ≡ ending_alone (Stopped Usage)) → ForSome (IsInput known) (λ input. Runs words input old old (Stopped Usage))
   ends_in_usage is = let some = some_input known in (some.0, some.1, record { may_end = tt; told = told_nothing old (transcript words some.0) (Stopped Usage) (is some.0) })
 
-  pub no_arguments : ((arguments : Arguments) → ¬ (Says words arguments)) → ForSome (IsInput known) (λ input. Runs words input old old (Stopped Usage))
+  pub no_arguments : ((arguments : Arguments) → ¬ (SaysArguments words arguments)) → ForSome (IsInput known) (λ input. Runs words input old old (Stopped Usage))
   no_arguments none = ends_in_usage (λ input. ap (λ arguments. transcript_with arguments input) (not_read words none))
 
-  module _ (arguments : Arguments) (says : Says words arguments) where
+  module _ (arguments : Arguments) (says : SaysArguments words arguments) where
     are : arguments_in words ≡ Some arguments
     are = arguments_read words arguments says
 
@@ -63,23 +63,23 @@ module _ (words : List (List ℕ)) (known : Option (List ℕ)) (old : Option (Li
         (some.0, some.1, record { may_end = subst (λ arguments. CanEnd arguments (Stopped OutOfMemory)) (sym are) refl; told = ([], (transcript words some.0).replies, refl, appends_nothing old) })
 
     module _ (empty : Hierarchy) (is_empty : IsEmpty arguments empty) where
-      pub not_reached : ¬ (IsReached empty.mode empty.frames.memory) → ForSome (IsInput known) (λ input. Runs words input old old (Stopped Usage))
+      pub not_reached : ¬ (ModeReaches empty.mode empty.frames.memory) → ForSome (IsInput known) (λ input. Runs words input old old (Stopped Usage))
       not_reached never = ends_in_usage (λ input. ap (λ arguments. transcript_with arguments input) are
-          ∙ ap (λ b. cond b (read (levels_in arguments) arguments.places arguments.mode (numbered_from 1 (lines_of input)) (nothing_loaded arguments.places)) (ends (Stopped Usage)))
-          (is_false (reaches arguments.mode arguments.places) (empty_reached arguments empty is_empty) never))
+          ∙ ap (λ b. cond b (image_transcript (levels_in arguments) arguments.places arguments.mode (numbered_from 1 (lines_of input)) (nothing_loaded arguments.places)) (ending_alone (Stopped Usage)))
+          (is_false (mode_reaches arguments.mode arguments.places) (empty_reached arguments empty is_empty) never))
 
       -- a run that reads
-      pub goes_on : IsReached empty.mode empty.frames.memory → (ending : Ending) (new : Option (List ℕ))
+      pub goes_on : ModeReaches empty.mode empty.frames.memory → (ending : Ending) (new : Option (List ℕ))
           → ForSome (IsInput known) (λ input. RunsFrom (levels_in arguments) arguments.places empty input old new ending) → ForSome (IsInput known) (λ input. Runs words input old new ending)
       goes_on reached ending new (input, may, told) = (input, may, record { may_end = subst (λ arguments. CanEnd arguments ending) (sym are) (can_end ending); told = subst (λ (t : Transcript). IsTold t old new ending) (sym same) told })
         where
-          reads : reaches arguments.mode arguments.places ≡ true
+          reads : mode_reaches arguments.mode arguments.places ≡ true
           reads = (empty_reached arguments empty is_empty).1 reached
 
           same : transcript words input ≡ read_into (levels_in arguments) arguments.places (numbered_from 1 (lines_of input)) empty
           same = ap (λ arguments. transcript_with arguments input) are
-              ∙ ap (λ b. cond b (read (levels_in arguments) arguments.places arguments.mode (numbered_from 1 (lines_of input)) (nothing_loaded arguments.places)) (ends (Stopped Usage))) reads
-              ∙ (λ i. read (levels_in arguments) arguments.places (sym is_empty.mode i) (numbered_from 1 (lines_of input)) (sym (empty_told arguments empty is_empty) i))
+              ∙ ap (λ b. cond b (image_transcript (levels_in arguments) arguments.places arguments.mode (numbered_from 1 (lines_of input)) (nothing_loaded arguments.places)) (ending_alone (Stopped Usage))) reads
+              ∙ (λ i. image_transcript (levels_in arguments) arguments.places (sym is_empty.mode i) (numbered_from 1 (lines_of input)) (sym (empty_told arguments empty is_empty) i))
 
           can_end : (ending : Ending) → CanEnd (Some arguments) ending
           can_end Done = tt
@@ -106,10 +106,10 @@ module _ (start : List Numbered → Type 0) (old : Option (List ℕ)) (levels pl
 
     -- the transcript after the test
     by_test : (lines behind : List Numbered) → LoadsImage levels places lines empty first behind image → (b : Bool) → fits image.mode (loaded_of image.frames) ≡ b
-        → read_into levels places lines empty ≡ cond b (first_served levels places first behind (first_situation image.mode (loaded_of image.frames))) (ends (Stopped InvalidHierarchy))
+        → read_into levels places lines empty ≡ cond b (first_served levels places first behind (first_situation image.mode (loaded_of image.frames))) (ending_alone (Stopped InvalidHierarchy))
     by_test lines behind loads b is =
-        loads.1 ∙ ap (λ (mode : Mode). tested levels places mode (loaded_of image.frames) first behind) (sym mode)
-        ∙ ap (λ b. cond b (first_served levels places first behind (first_situation image.mode (loaded_of image.frames))) (ends (Stopped InvalidHierarchy))) is
+        loads.1 ∙ ap (λ (mode : Mode). tested_transcript levels places mode (loaded_of image.frames) first behind) (sym mode)
+        ∙ ap (λ b. cond b (first_served levels places first behind (first_situation image.mode (loaded_of image.frames))) (ending_alone (Stopped InvalidHierarchy))) is
 
     pub not_fitting : ForSome after (λ behind. ⊤) → ¬ (FitsImage image) → ForSome start (RunsLines old (Stopped InvalidHierarchy))
     not_fitting some never =

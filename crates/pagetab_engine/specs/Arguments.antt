@@ -3,7 +3,7 @@ use Rattle.std.specs.Prelude.{◌≡◌, ◌≤◌, ◌<◌, ◌&&◌, nat_le, n
 use Rattle.x86_64_model.specs.Position.{raw}
 use Rattle.x86_64_mappings.specs.Numbers.{IsNumber, number_of}
 use Rattle.pagetab_engine.specs.Fields.{is_number}
-use Rattle.pagetab_engine.specs.Starts.{is_canonical, position_at}
+use Rattle.pagetab_engine.specs.Starts.{is_canonical_number, position_at}
 use Rattle.pagetab_engine.specs.declared.arguments.Arguments.{Arguments}
 use Rattle.x86_64_addr.specs.declared.level_count.Levels.{Levels}
 use Rattle.x86_64_addr.specs.declared.level_count.Levels.TheVariants.{Four, Five}
@@ -70,7 +70,7 @@ modes_with number = Offset (position_at 4 number) ∷ Recursive Four number ∷ 
 
 -- Whether a mode may have this number: that of a canonical address for an offset, and else one below 512.
 abbrev pub may_have : Mode → (number : ℕ) → Bool
-may_have (Offset address) number = is_canonical 4 number
+may_have (Offset address) number = is_canonical_number 4 number
 may_have mode number = nat_lt number 512
 
 -- The mode that a word and the text that may follow choose, if they choose one.
@@ -100,6 +100,6 @@ SaysMode word (text ∷ []) (Pair levels index) = (word ≡ pair_word levels) ×
 SaysMode word more mode = ⊥
 
 -- The words are these arguments: the word of a mode, the number of places, and the text that the mode needs.
-abbrev pub Says : (words : List (List ℕ)) → Arguments → Type 0
-Says (word ∷ places ∷ more) arguments = IsPlaces places × (arguments.places ≡ number_of places) × SaysMode word more arguments.mode
-Says words arguments = ⊥
+abbrev pub SaysArguments : (words : List (List ℕ)) → Arguments → Type 0
+SaysArguments (word ∷ places ∷ more) arguments = IsPlaces places × (arguments.places ≡ number_of places) × SaysMode word more arguments.mode
+SaysArguments words arguments = ⊥

@@ -44,24 +44,24 @@ name_text CleanUp = codes "cleanup"
 name_text CleanUpRange = codes "cleanup-range"
 
 -- The field of a line that stands for a size of pages.
-abbrev pub size_text : Size → List ℕ
-size_text Size4KiB = codes "4KiB"
-size_text Size2MiB = codes "2MiB"
-size_text Size1GiB = codes "1GiB"
+abbrev pub size_name : Size → List ℕ
+size_name Size4KiB = codes "4KiB"
+size_name Size2MiB = codes "2MiB"
+size_name Size1GiB = codes "1GiB"
 
 -- ---- the parts of a line
 
 -- All names of statements.
-abbrev pub names : List Name
-names = Word ∷ Free ∷ Translate ∷ Addr ∷ Walk ∷ Show ∷ Pool ∷ Map ∷ MapWith ∷ Identity ∷ Unmap ∷ Update ∷ P5 ∷ P4 ∷ P3 ∷ P2 ∷ TranslatePage ∷ CleanUp ∷ CleanUpRange ∷ []
+abbrev pub all_names : List Name
+all_names = Word ∷ Free ∷ Translate ∷ Addr ∷ Walk ∷ Show ∷ Pool ∷ Map ∷ MapWith ∷ Identity ∷ Unmap ∷ Update ∷ P5 ∷ P4 ∷ P3 ∷ P2 ∷ TranslatePage ∷ CleanUp ∷ CleanUpRange ∷ []
 
 -- The name that a field is, if it is one.
 abbrev pub name_in : (field : List ℕ) → Option Name
-name_in field = find (λ name. bytes_eq (name_text name) field) names
+name_in field = find (λ name. bytes_eq (name_text name) field) all_names
 
 -- The size that a field stands for, if it stands for one.
 abbrev pub size_in : (field : List ℕ) → Option Size
-size_in field = find (λ size. bytes_eq (size_text size) field) (Size4KiB ∷ Size2MiB ∷ Size1GiB ∷ [])
+size_in field = find (λ size. bytes_eq (size_name size) field) (Size4KiB ∷ Size2MiB ∷ Size1GiB ∷ [])
 
 -- The size that the first of these fields stands for, if it stands for one.
 abbrev pub size_first : (fields : List (List ℕ)) → Option Size
@@ -106,7 +106,7 @@ parts_in (first ∷ fields) = option_and_then (λ name. parts_with name (size_fi
 -- The field for a size of pages, if there is one.
 abbrev pub size_texts : Option Size → List (List ℕ)
 size_texts None = []
-size_texts (Some size) = size_text size ∷ []
+size_texts (Some size) = size_name size ∷ []
 
 -- Each of the texts is a number, and these are their values in order.
 abbrev pub AreNumbers : (texts : List (List ℕ)) → (numbers : List ℕ) → Type 0

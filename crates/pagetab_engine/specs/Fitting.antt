@@ -9,12 +9,12 @@ use Rattle.x86_64_model.specs.Memory.{Memory, Words, words_of}
 use Rattle.x86_64_model.specs.Pool.{serves_below}
 use Rattle.x86_64_model.specs.Window.{Window, outside_window}
 use Rattle.x86_64_model.specs.private.Tables.{tables_from}
-use Rattle.pagetab_engine.specs.TableWords.{is_in}
+use Rattle.pagetab_engine.specs.TableWords.{is_among}
 
 -- Whether no number stands twice in a list.
-abbrev pub each_once : List ℕ → Bool
-each_once [] = true
-each_once (number ∷ numbers) = not (is_in numbers number) && each_once numbers
+abbrev pub are_distinct : List ℕ → Bool
+are_distinct [] = true
+are_distinct (number ∷ numbers) = not (is_among numbers number) && are_distinct numbers
 
 -- Whether the self-entry, if there is a recursive index, is present, isn't huge and names the root.
 abbrev pub names_root : Option Window → (root : ℕ) → Bool
@@ -33,7 +33,7 @@ is_usable tables root limit f = is_some (tables f) && ((f == root) || serves_bel
 abbrev pub is_sound : (n : ℕ) → Words → (root limit : ℕ) → (free : List ℕ) → Bool
 is_sound n tables root limit free =
     let frames : List ℕ = tables_from n tables root ++ free in
-    none_huge n tables root && (each_once frames && list_all (is_usable tables root limit) frames)
+    none_huge n tables root && (are_distinct frames && list_all (is_usable tables root limit) frames)
 
 -- Whether the hierarchy of a layout in a memory is valid, and these free frames with numbers below a limit fit it.
 abbrev pub fits_in : Layout → Memory → (limit : ℕ) → (free : List ℕ) → Bool

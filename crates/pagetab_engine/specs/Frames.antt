@@ -40,9 +40,9 @@ IsRefusedFor frames (Free frame) OutOfRange = frames.pool.limit ≤ frame / 4096
 IsRefusedFor frames (Free frame) AlreadyFree = In frames.pool.frames frame
 
 -- The memory after a line of an image was loaded, in which its word is set if it is one with a word.
-abbrev pub memory_after : Frames → ImageLine → Memory
-memory_after frames (Word slot value) = stored frames.memory slot.place slot.index value
-memory_after frames (Free frame) = frames.memory
+abbrev pub memory_loaded : Frames → ImageLine → Memory
+memory_loaded frames (Word slot value) = stored frames.memory slot.place slot.index value
+memory_loaded frames (Free frame) = frames.memory
 
 -- The free frames after a line of an image was loaded, with its frame behind the others if it is one with a free frame.
 abbrev pub free_after : Frames → ImageLine → List ℕ

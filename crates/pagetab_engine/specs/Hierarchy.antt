@@ -69,13 +69,13 @@ abbrev pub BothAnswer : Mode → MapperCall → Reply → (before after : Frames
 BothAnswer mode call reply before after = is_refused mode call ≡ false → TwinTells mode call before after reply
 
 -- The mapper of the mode reaches each place of the memory. Only an offset may be such that it doesn't.
-abbrev pub IsReached : Mode → Memory → Type 0
-IsReached (Offset offset) memory = OffsetFits 4 memory offset
-IsReached mode memory = ⊤
+abbrev pub ModeReaches : Mode → Memory → Type 0
+ModeReaches (Offset offset) memory = OffsetFits 4 memory offset
+ModeReaches mode memory = ⊤
 
 -- The hierarchy's mapper reaches each place of its memory.
 abbrev pub ReachesAll : Hierarchy → Type 0
-ReachesAll hierarchy = IsReached hierarchy.mode hierarchy.frames.memory
+ReachesAll hierarchy = ModeReaches hierarchy.mode hierarchy.frames.memory
 
 -- The recursive mapper's hierarchy is valid for the index, and its free frames fit it. Its path map and the direct mapper's are
 -- alike, and so are the free frames.

@@ -6,7 +6,7 @@ use Rattle.x86_64_model.specs.Position.{raw}
 use Rattle.x86_64.specs.Asked.{MapperCall, names_by}
 use Rattle.pagetab_engine.specs.Arguments.{count, levels_of}
 use Rattle.pagetab_engine.specs.Frames.{direct_layout, recursive_layout, without_self_entry}
-use Rattle.pagetab_engine.specs.Starts.{is_canonical}
+use Rattle.pagetab_engine.specs.Starts.{is_canonical_number}
 use Rattle.pagetab_engine.specs.declared.arguments.Mode.{Mode}
 use Rattle.pagetab_engine.specs.declared.arguments.Mode.TheVariants.{Direct, Offset, Recursive, Pair}
 
@@ -39,9 +39,9 @@ is_refused mode call = is_index_named mode (names_by (count (levels_of mode)) ca
 -- Whether the sum of the address at this position and of a frame's address is canonical, for each of so many places.
 abbrev pub are_reached : (offset places : ℕ) → Bool
 are_reached offset zero = true
-are_reached offset (suc place) = is_canonical 4 (raw 4 offset + place * 4096) && are_reached offset place
+are_reached offset (suc place) = is_canonical_number 4 (raw 4 offset + place * 4096) && are_reached offset place
 
 -- Whether the mapper of a mode reaches each of so many places. Only an offset may be such that it doesn't.
-abbrev pub reaches : Mode → (places : ℕ) → Bool
-reaches (Offset offset) places = are_reached offset places
-reaches mode places = true
+abbrev pub mode_reaches : Mode → (places : ℕ) → Bool
+mode_reaches (Offset offset) places = are_reached offset places
+mode_reaches mode places = true

@@ -5,7 +5,7 @@ use Rattle.pagetab_engine.specs.Arguments.{arguments_in, count, levels_of}
 use Rattle.pagetab_engine.specs.Commands.{Command, Statement, Image, Asks}
 use Rattle.pagetab_engine.specs.Image.{Loaded, first_situation, fits, is_loadable, load, nothing_loaded}
 use Rattle.pagetab_engine.specs.Lines.{Numbered, numbered_from, lines_of}
-use Rattle.pagetab_engine.specs.Modes.{reaches}
+use Rattle.pagetab_engine.specs.Modes.{mode_reaches}
 use Rattle.pagetab_engine.specs.Reply.{Reply}
 use Rattle.pagetab_engine.specs.Situation.{Situation, command_after, command_reply}
 use Rattle.pagetab_engine.specs.Statements.{statement_in}
@@ -22,12 +22,12 @@ pub record Transcript : Type 0 where
   pub ending : Ending
 
 -- The transcript with no reply and this ending.
-abbrev pub ends : Ending → Transcript
-ends ending = record { replies = []; ending = ending }
+abbrev pub ending_alone : Ending → Transcript
+ending_alone ending = record { replies = []; ending = ending }
 
 -- The transcript of a bad line, by its number.
 abbrev pub stops_at : (number : ℕ) → Transcript
-stops_at number = ends (Stopped (BadLine number))
+stops_at number = ending_alone (Stopped (BadLine number))
 
 -- A transcript behind a reply, if there is one.
 abbrev pub behind_reply : Option Reply → Transcript → Transcript
@@ -37,31 +37,31 @@ behind_reply (Some reply) rest = record { replies = reply ∷ rest.replies; endi
 -- ---- the commands
 
 -- The transcript of a command, with that of what follows it.
-abbrev pub answered : Command → Situation → (rest : Situation → Transcript) → Transcript
-answered command s rest = behind_reply (command_reply s command) (rest (command_after s command))
+abbrev pub command_transcript : Command → Situation → (rest : Situation → Transcript) → Transcript
+command_transcript command s rest = behind_reply (command_reply s command) (rest (command_after s command))
 
 -- The transcript of a line after the image, by its statement if it is one. It is bad if it is no command.
 abbrev pub served_line : Option Statement → (number : ℕ) → Situation → (rest : Situation → Transcript) → Transcript
 served_line None number s rest = stops_at number
 served_line (Some (Image line)) number s rest = stops_at number
-served_line (Some (Asks command)) number s rest = answered command s rest
+served_line (Some (Asks command)) number s rest = command_transcript command s rest
 
 -- The transcript of the lines after the image, for this number of levels and of places. Each command gets its reply.
-abbrev pub served : (levels places : ℕ) → List Numbered → Situation → Transcript
-served levels places [] s = ends Done
-served levels places (line ∷ lines) s = served_line (statement_in levels places line.line) line.number s (λ s. served levels places lines s)
+abbrev pub served_transcript : (levels places : ℕ) → List Numbered → Situation → Transcript
+served_transcript levels places [] s = ending_alone Done
+served_transcript levels places (line ∷ lines) s = served_line (statement_in levels places line.line) line.number s (λ s. served_transcript levels places lines s)
 
 -- ---- the image
 
 -- The transcript of the first command, if there is one, and of the lines behind it.
 abbrev pub first_served : (levels places : ℕ) → (first : Option Command) → (behind : List Numbered) → Situation → Transcript
-first_served levels places None behind s = ends Done
-first_served levels places (Some command) behind s = answered command s (λ s. served levels places behind s)
+first_served levels places None behind s = ending_alone Done
+first_served levels places (Some command) behind s = command_transcript command s (λ s. served_transcript levels places behind s)
 
 -- The transcript of a complete image, which is tested, and of what follows it.
-abbrev pub tested : (levels places : ℕ) → Mode → Loaded → (first : Option Command) → (behind : List Numbered) → Transcript
-tested levels places mode loaded first behind =
-    cond (fits mode loaded) (first_served levels places first behind (first_situation mode loaded)) (ends (Stopped InvalidHierarchy))
+abbrev pub tested_transcript : (levels places : ℕ) → Mode → Loaded → (first : Option Command) → (behind : List Numbered) → Transcript
+tested_transcript levels places mode loaded first behind =
+    cond (fits mode loaded) (first_served levels places first behind (first_situation mode loaded)) (ending_alone (Stopped InvalidHierarchy))
 
 -- The transcript of a line before the first command, by its statement if it is one. A line of the image is loaded, and is bad if
 -- it can't be. The first command ends the image. Other lines are bad.
@@ -71,10 +71,10 @@ read_line (Some (Image line)) number loaded rest end = cond (is_loadable loaded 
 read_line (Some (Asks command)) number loaded rest end = end command
 
 -- The transcript of the lines of an image and those behind them, for this number of levels and of places.
-abbrev pub read : (levels places : ℕ) → Mode → List Numbered → Loaded → Transcript
-read levels places mode [] loaded = tested levels places mode loaded None []
-read levels places mode (line ∷ lines) loaded = read_line (statement_in levels places line.line) line.number loaded
-    (λ loaded. read levels places mode lines loaded) (λ command. tested levels places mode loaded (Some command) lines)
+abbrev pub image_transcript : (levels places : ℕ) → Mode → List Numbered → Loaded → Transcript
+image_transcript levels places mode [] loaded = tested_transcript levels places mode loaded None []
+image_transcript levels places mode (line ∷ lines) loaded = read_line (statement_in levels places line.line) line.number loaded
+    (λ loaded. image_transcript levels places mode lines loaded) (λ command. tested_transcript levels places mode loaded (Some command) lines)
 
 -- ---- the run
 
@@ -85,13 +85,13 @@ levels_in arguments = count (levels_of arguments.mode)
 -- Whether a run with these arguments reads its input: there are some, and the mapper reaches each place.
 abbrev pub is_reading : Option Arguments → Bool
 is_reading None = false
-is_reading (Some arguments) = reaches arguments.mode arguments.places
+is_reading (Some arguments) = mode_reaches arguments.mode arguments.places
 
 -- The transcript of a run with these arguments.
 abbrev pub transcript_with : Option Arguments → (input : List ℕ) → Transcript
-transcript_with None input = ends (Stopped Usage)
-transcript_with (Some arguments) input = cond (reaches arguments.mode arguments.places)
-    (read (levels_in arguments) arguments.places arguments.mode (numbered_from 1 (lines_of input)) (nothing_loaded arguments.places)) (ends (Stopped Usage))
+transcript_with None input = ending_alone (Stopped Usage)
+transcript_with (Some arguments) input = cond (mode_reaches arguments.mode arguments.places)
+    (image_transcript (levels_in arguments) arguments.places arguments.mode (numbered_from 1 (lines_of input)) (nothing_loaded arguments.places)) (ending_alone (Stopped Usage))
 
 -- The transcript of a run, by the words of its arguments and the bytes of its input.
 abbrev pub transcript : (words : List (List ℕ)) → (input : List ℕ) → Transcript

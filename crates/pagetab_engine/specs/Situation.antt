@@ -34,16 +34,16 @@ situation mode memory free =
     record { mode = mode; layout = layout mode memory; state = runs.state_in (layout mode memory) memory free; words = word (words_of memory identity_places) }
 
 -- The machine that executes calls.
-abbrev pub machine_in : Situation → Machine
-machine_in s = runs.machine_of s.layout put_first
+abbrev pub situation_machine : Situation → Machine
+situation_machine s = runs.machine_of s.layout put_first
 
 -- The result of a call: the machine's step, or `NotAllowed` with no change if no mapper executes the call.
 abbrev pub call_step : Situation → MapperCall → AfterStep CallReply
-call_step s call = cond (is_refused s.mode call) (record { state = s.state; reply = Some NotAllowed }) (runs.step_by (machine_in s) s.state call)
+call_step s call = cond (is_refused s.mode call) (record { state = s.state; reply = Some NotAllowed }) (runs.step_by (situation_machine s) s.state call)
 
 -- The frames that a call returns if a mapper executes it: those of the tables that a clean up removes.
 abbrev pub call_back : Situation → MapperCall → List ℕ
-call_back s call = cond (is_refused s.mode call) [] (back_by (machine_in s) s.state (machine_call s.layout.levels call))
+call_back s call = cond (is_refused s.mode call) [] (back_by (situation_machine s) s.state (machine_call s.layout.levels call))
 
 -- A table of 512 words in each frame.
 abbrev pub tables_with : (words : ℕ → ℕ → ℕ) → Words

@@ -14,8 +14,8 @@ word_of_table None index = 0
 word_of_table (Some table) index = slice_index table index
 
 -- The word at an index of the table at a place, or 0 if there is no table.
-abbrev pub word_in : Memory → (place index : ℕ) → ℕ
-word_in memory place index = word_of_table (get memory place) index
+abbrev pub word_at_place : Memory → (place index : ℕ) → ℕ
+word_at_place memory place index = word_of_table (get memory place) index
 
 -- The memory after a word was set in this table at a place, unchanged if there is no table.
 abbrev pub stored_in : Memory → (place index word : ℕ) → Option (List ℕ) → Memory

@@ -7,12 +7,12 @@ abbrev pub position_at : (levels address : ℕ) → ℕ
 position_at levels address = address % position_count levels
 
 -- Whether the bits of a raw value above its highest bit are copies of it.
-abbrev pub is_canonical : (levels value : ℕ) → Bool
-is_canonical levels value = nat_lt value (lower_half levels) || (nat_le (2 ^ 64 - lower_half levels) value && nat_lt value (2 ^ 64))
+abbrev pub is_canonical_number : (levels value : ℕ) → Bool
+is_canonical_number levels value = nat_lt value (lower_half levels) || (nat_le (2 ^ 64 - lower_half levels) value && nat_lt value (2 ^ 64))
 
 -- Whether a raw value is that of the start of a page of this size in bytes, with this number of levels.
 abbrev pub is_page_start : (levels size start : ℕ) → Bool
-is_page_start levels size start = is_canonical levels start && (start % size == 0)
+is_page_start levels size start = is_canonical_number levels start && (start % size == 0)
 
 -- Whether an address is the start of a frame of this size in bytes, below 2^52.
 abbrev pub is_frame_start : (size start : ℕ) → Bool

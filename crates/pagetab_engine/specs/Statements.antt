@@ -6,7 +6,7 @@ use Rattle.pagetab_engine.specs.Commands.{Call, Walk, Show, Pool, Statement, Ima
 use Rattle.pagetab_engine.specs.Fields.{Parts, fields_of, parts_in}
 use Rattle.pagetab_engine.specs.PageCalls.{IsPageCall, bytes_of, call_by, is_page_call}
 use Rattle.pagetab_engine.specs.Slot.{slot_at}
-use Rattle.pagetab_engine.specs.Starts.{IsPageStart, IsTableStart, is_canonical, is_page_start, is_table_start, position_at}
+use Rattle.pagetab_engine.specs.Starts.{IsPageStart, IsTableStart, is_canonical_number, is_page_start, is_table_start, position_at}
 use Rattle.pagetab_engine.specs.declared.fields.Name.{Name}
 use Rattle.pagetab_engine.specs.declared.fields.Name.TheVariants as name
 use Rattle.pagetab_engine.specs.declared.fields.Size.{Size}
@@ -55,9 +55,9 @@ is_plain levels places name.Word (frame ∷ index ∷ value ∷ []) = is_table_s
 is_plain levels places name.Free (frame ∷ []) = is_table_start places frame
 is_plain levels places name.Show (frame ∷ index ∷ []) = is_table_start places frame && nat_lt index 512
 is_plain levels places name.Pool [] = true
-is_plain levels places name.Walk (addr ∷ []) = is_canonical levels addr
-is_plain levels places name.Translate (addr ∷ []) = is_canonical levels addr
-is_plain levels places name.Addr (addr ∷ []) = is_canonical levels addr
+is_plain levels places name.Walk (addr ∷ []) = is_canonical_number levels addr
+is_plain levels places name.Translate (addr ∷ []) = is_canonical_number levels addr
+is_plain levels places name.Addr (addr ∷ []) = is_canonical_number levels addr
 is_plain levels places name.CleanUp [] = true
 is_plain levels places name.CleanUpRange (first ∷ last ∷ []) = is_page_start levels 4096 first && is_page_start levels 4096 last
 is_plain levels places other numbers = false

@@ -8,8 +8,8 @@ use Rattle.x86_64_model.specs.PathMap.{PathMap, entry, table_at}
 use Rattle.x86_64_model.specs.Window.{Window}
 
 -- Whether a number is in a list.
-abbrev pub is_in : (numbers : List ℕ) → (number : ℕ) → Bool
-is_in numbers number = list_any (λ n. n == number) numbers
+abbrev pub is_among : (numbers : List ℕ) → (number : ℕ) → Bool
+is_among numbers number = list_any (λ n. n == number) numbers
 
 -- Whether this is the frame, if there is one.
 abbrev pub is_there : (frame : ℕ) → Option ℕ → Bool
@@ -34,4 +34,4 @@ table_word_or window paths (Some q) i other = table_word window paths q i
 -- path map, and returned frames that are free hold zeros. All other words stay.
 abbrev pub words_after : Layout → State → (back : List ℕ) → (words : ℕ → ℕ → ℕ) → (frame i : ℕ) → ℕ
 words_after layout state back words f i =
-    table_word_or layout.window state.paths (path_to layout.levels layout.root state.paths f) i (cond (is_in state.pool f && is_in back f) 0 (words f i))
+    table_word_or layout.window state.paths (path_to layout.levels layout.root state.paths f) i (cond (is_among state.pool f && is_among back f) 0 (words f i))

@@ -31,39 +31,39 @@ bit holds = if holds then 1 else 0
 -- ---- the replies to calls on a page
 
 -- The text of the error for a page that isn't mapped.
-abbrev pub page_not_mapped : List ℕ
-page_not_mapped = codes "page not mapped"
+abbrev pub page_not_mapped_text : List ℕ
+page_not_mapped_text = codes "page not mapped"
 
 -- The text of the error for a page below an entry that maps a larger page.
-abbrev pub parent_entry_huge_page : List ℕ
-parent_entry_huge_page = codes "parent entry huge page"
+abbrev pub parent_entry_huge_page_text : List ℕ
+parent_entry_huge_page_text = codes "parent entry huge page"
 
 -- The text of the error for a page whose entry names no frame of the page's size, with the address in the entry.
-abbrev pub invalid_frame_address : (address : ℕ) → List ℕ
-invalid_frame_address address = codes "invalid frame address " ++ hexadecimal address
+abbrev pub invalid_frame_address_text : (address : ℕ) → List ℕ
+invalid_frame_address_text address = codes "invalid frame address " ++ hexadecimal address
 
 -- The text of the error of a map.
 abbrev pub map_error_text : {S : Type 0} → MapToError S → List ℕ
 map_error_text map_to.FrameAllocationFailed = codes "frame allocation failed"
-map_error_text map_to.ParentEntryHugePage = parent_entry_huge_page
+map_error_text map_to.ParentEntryHugePage = parent_entry_huge_page_text
 map_error_text (map_to.PageAlreadyMapped frame) = codes "page already mapped " ++ hexadecimal frame
 
 -- The text of the error of an `unmap`.
 abbrev pub unmap_error_text : UnmapError → List ℕ
-unmap_error_text unmap.PageNotMapped = page_not_mapped
-unmap_error_text unmap.ParentEntryHugePage = parent_entry_huge_page
-unmap_error_text (unmap.InvalidFrameAddress address) = invalid_frame_address address
+unmap_error_text unmap.PageNotMapped = page_not_mapped_text
+unmap_error_text unmap.ParentEntryHugePage = parent_entry_huge_page_text
+unmap_error_text (unmap.InvalidFrameAddress address) = invalid_frame_address_text address
 
 -- The text of the error of a change of flags.
 abbrev pub flags_error_text : FlagUpdateError → List ℕ
-flags_error_text update.PageNotMapped = page_not_mapped
-flags_error_text update.ParentEntryHugePage = parent_entry_huge_page
+flags_error_text update.PageNotMapped = page_not_mapped_text
+flags_error_text update.ParentEntryHugePage = parent_entry_huge_page_text
 
 -- The text of the error of a `translate_page`.
 abbrev pub frame_error_text : TranslateError → List ℕ
-frame_error_text page_frame.PageNotMapped = page_not_mapped
-frame_error_text page_frame.ParentEntryHugePage = parent_entry_huge_page
-frame_error_text (page_frame.InvalidFrameAddress address) = invalid_frame_address address
+frame_error_text page_frame.PageNotMapped = page_not_mapped_text
+frame_error_text page_frame.ParentEntryHugePage = parent_entry_huge_page_text
+frame_error_text (page_frame.InvalidFrameAddress address) = invalid_frame_address_text address
 
 -- The text of the reply to a call on a page: `ok`, the start of the frame that it returns, or the error.
 abbrev pub page_text : {P S : Type 0} → PageReply P S → List ℕ

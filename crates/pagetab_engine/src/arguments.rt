@@ -1,7 +1,7 @@
 //! The program's arguments.
 ghost use Rattle.std.specs.Prelude.{◌≡◌, ◌<◌, ℕ, [], ◌∷◌, map, string_bytes, IfSome, IfNone};
 ghost use Rattle.std.specs.Option.{SomeIff};
-ghost use Rattle.pagetab_engine.specs.Arguments.{IsPlaces, IsAddress, IsIndex, Says, SaysMode, recursive_word as recursive_word_of, pair_word as pair_word_of};
+ghost use Rattle.pagetab_engine.specs.Arguments.{IsPlaces, IsAddress, IsIndex, SaysArguments, SaysMode, recursive_word as recursive_word_of, pair_word as pair_word_of};
 ghost use Rattle.x86_64_mappings.specs.Numbers.{number_of};
 ghost use Rattle.pagetab_engine.specs.declared.arguments.Mode.TheVariants.{Recursive, Pair};
 
@@ -85,9 +85,9 @@ impl Arguments {
     /// Parses `direct N`, `offset N OFF`, `recursive N R` or `pair N R`, or for five levels `direct5 N`, `recursive5
     /// N R` or `pair5 N R`. Returns `None` if and only if the words are none of these.
     pub fn parse(words: &[String]) -> Option<Arguments>
-        ensures says { IfSome result (Says (map string_bytes words.now)) }
+        ensures says { IfSome result (SaysArguments (map string_bytes words.now)) }
         ensures none { IfNone result ((arguments : Arguments) →
-            ¬ (Says (map string_bytes words.now) arguments)) }
+            ¬ (SaysArguments (map string_bytes words.now) arguments)) }
     {
         match words {
             [mode, places] => Some(Arguments {

@@ -6,7 +6,7 @@ ghost use Rattle.pagetab_engine.specs.Commands.{command_of};
 ghost use Rattle.pagetab_engine.specs.Hierarchy.{HasCopy, IsHierarchy, KeepsHierarchy, ReachesAll};
 ghost use Rattle.pagetab_engine.specs.Lines.{ForSome, IsInput, MayBeLeft, TracesBack};
 ghost use Rattle.pagetab_engine.specs.Program.{Runs, levels_in};
-ghost use Rattle.pagetab_engine.specs.private.RunParts.{Answers, AppendsFront, LoadsImage, Replies, RunsFrom, Served, StopsAt, StopsInImage, ending_of};
+ghost use Rattle.pagetab_engine.specs.private.RunParts.{AnswersCommand, AppendsFront, LoadsImage, Replies, RunsFrom, Served, CommandStops, StopsInImage, ending_of};
 ghost use Rattle.pagetab_engine.specs.Reply.{reply_of};
 ghost use Rattle.pagetab_engine.specs.declared.ending.Fault.TheVariants.{Output};
 
@@ -197,7 +197,7 @@ fn write_reply<L: LevelCount, P5: LevelFiveFlags<L>, W: Write>(
     requires levels { count (levels_of hierarchy.old.mode) ≡ L.LEVELS }
     ensures answered { OnOk result (Replies (command_of P5.bits command) hierarchy.old hierarchy.new
         (W.contents writer.old) (W.contents writer.new)) }
-    ensures stopped { IfErr result (StopsAt (command_of P5.bits command) hierarchy.old hierarchy.new
+    ensures stopped { IfErr result (CommandStops (command_of P5.bits command) hierarchy.old hierarchy.new
         (W.contents writer.old) (W.contents writer.new)) }
     ensures keeps { KeepsHierarchy hierarchy.old hierarchy.new }
 {
@@ -248,7 +248,7 @@ fn answer<L: LevelCount, P5: LevelFiveFlags<L>>(
     requires fits { IsHierarchy hierarchy.old }
     requires levels { count (levels_of hierarchy.old.mode) ≡ L.LEVELS }
     ensures answers { IfOk result (λ reply.
-        Answers (command_of P5.bits command) hierarchy.old (reply_of reply) hierarchy.new) }
+        AnswersCommand (command_of P5.bits command) hierarchy.old (reply_of reply) hierarchy.new) }
     ensures unchanged { OnErr result (hierarchy.new ≡ hierarchy.old) }
 {
     Ok(match command {

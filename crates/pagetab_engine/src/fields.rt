@@ -1,6 +1,6 @@
 //! The fields of a line, which are separated by spaces.
 ghost use Rattle.std.specs.Prelude.{◌≡◌, ◌≢◌, ◌≤◌, ℕ, Option, List, [], ◌∷◌, ◌++◌, length, MatchOption, IfSome, IfNone, take};
-ghost use Rattle.pagetab_engine.specs.Fields.{fields_of, name_text, size_text, size_texts, AreNumbers, Says};
+ghost use Rattle.pagetab_engine.specs.Fields.{fields_of, name_text, size_name, size_texts, AreNumbers, Says};
 
 use x86_64_mappings::text::parse_number;
 
@@ -129,8 +129,8 @@ pub enum Size {
 impl Size {
     /// Parses SIZE.
     fn parse(field: &str) -> Option<Size>
-        ensures found { IfSome result (λ size. size_text size ≡ field.now) }
-        ensures none { IfNone result ((size : Size) → size_text size ≢ field.now) }
+        ensures found { IfSome result (λ size. size_name size ≡ field.now) }
+        ensures none { IfNone result ((size : Size) → size_name size ≢ field.now) }
     {
         match field.as_bytes() {
             b"4KiB" => Some(Size::Size4KiB),
@@ -214,7 +214,7 @@ impl<'a> Rest<'a> {
     fn next_size(&mut self) -> Option<Size>
         ensures read { fields_of self.old.text.now ≡ size_texts result ++ fields_of self.new.text.now }
         ensures none { IfNone result ((size : Size) (rest : List (List ℕ)) →
-            fields_of self.old.text.now ≢ size_text size ∷ rest) }
+            fields_of self.old.text.now ≢ size_name size ∷ rest) }
     {
         let mut ahead = Rest { text: self.text };
         let size = Size::parse(ahead.next_field()?)?;

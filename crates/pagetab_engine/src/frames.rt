@@ -10,8 +10,8 @@ ghost use Rattle.x86_64_tables.specs.PageTable.{zero_words};
 ghost use Rattle.x86_64_tables.specs.Walks.{walked_of};
 ghost use Rattle.x86_64.specs.Pairs.{pool_store};
 ghost use Rattle.pagetab_engine.specs.Arguments.{count};
-ghost use Rattle.pagetab_engine.specs.Frames.{direct_layout, recursive_layout, IsLoadable, IsRefusedFor, memory_after, free_after, without_self_entry};
-ghost use Rattle.pagetab_engine.specs.Slot.{word_in};
+ghost use Rattle.pagetab_engine.specs.Frames.{direct_layout, recursive_layout, IsLoadable, IsRefusedFor, memory_loaded, free_after, without_self_entry};
+ghost use Rattle.pagetab_engine.specs.Slot.{word_at_place};
 
 use crate::slot::Slot;
 use crate::statement::ImageLine;
@@ -57,7 +57,7 @@ impl Frames {
     /// Those of [`FramePool::try_add`]. Then nothing changes.
     pub fn load(&mut self, line: &ImageLine) -> Result<(), PoolRefusal>
         ensures accepted { IsOk result ↔ IsLoadable self.old line.now }
-        ensures memory { OnOk result (self.new.memory ≡ memory_after self.old line.now) }
+        ensures memory { OnOk result (self.new.memory ≡ memory_loaded self.old line.now) }
         ensures free { OnOk result (self.new.pool.frames ≡ free_after self.old line.now) }
         ensures why { IfErr result (IsRefusedFor self.old line.now) }
         ensures refused { OnErr result (self.new ≡ self.old) }
@@ -120,7 +120,7 @@ impl Frames {
 
     /// Returns the word in a slot, or 0 if the memory lacks the table.
     pub fn word(&self, slot: Slot) -> u64
-        ensures { result ≡ word_in self.now.memory slot.place slot.index }
+        ensures { result ≡ word_at_place self.now.memory slot.place slot.index }
     {
         slot.word(&self.memory)
     }

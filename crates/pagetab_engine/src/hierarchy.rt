@@ -9,7 +9,7 @@ ghost use Rattle.pagetab_engine.specs.Frames.{IsLoadable, IsRefusedFor};
 ghost use Rattle.pagetab_engine.specs.Hierarchy.{hierarchy_of};
 ghost use Rattle.pagetab_engine.specs.Hierarchy.{FitsImage, HasCopy, ReachesAll, IsHierarchy, KeepsHierarchy, TwinTells};
 ghost use Rattle.pagetab_engine.specs.Modes.{is_index_named};
-ghost use Rattle.pagetab_engine.specs.private.RunParts.{Answers, IsEmpty, IsFirst, Loads};
+ghost use Rattle.pagetab_engine.specs.private.RunParts.{AnswersCommand, IsEmpty, IsFirst, Loads};
 ghost use Rattle.pagetab_engine.specs.Reply.{Answered};
 
 use crate::arguments::{Arguments, Mode};
@@ -157,7 +157,7 @@ impl Hierarchy {
         requires fits { IsHierarchy self.old }
         requires levels { count (levels_of self.old.mode) ≡ L.LEVELS }
         ensures answers { IfOk result (λ reply.
-            Answers (Call (to_call P5.bits call)) self.old (Answered reply) self.new) }
+            AnswersCommand (Call (to_call P5.bits call)) self.old (Answered reply) self.new) }
         ensures unchanged { OnErr result (self.new ≡ self.old) }
     {
         if self.mode.is_named(&call) {

@@ -155,7 +155,7 @@ fn write_frame_error<W: Write>(f: &mut Formatter<W>, error: &TranslateError) -> 
 
 /// Writes that the address in a page's entry isn't that of a frame of the page's size.
 fn write_invalid_address<W: Write>(f: &mut Formatter<W>, address: PhysAddr) -> FmtResult
-    ensures { WritesOnOk W.write_str_gives f.old result (texts.invalid_frame_address address) f.new }
+    ensures { WritesOnOk W.write_str_gives f.old result (texts.invalid_frame_address_text address) f.new }
 {
     f.write_str("invalid frame address ")?;
     write_address(f, address)

@@ -1,6 +1,6 @@
 //! Words in memory.
 ghost use Rattle.std.specs.Prelude.{◌≡◌, ◌<◌, ◌/◌, ◌↔◌, IsSome, IfSome};
-ghost use Rattle.pagetab_engine.specs.Slot.{slot_at, word_in, stored};
+ghost use Rattle.pagetab_engine.specs.Slot.{slot_at, word_at_place, stored};
 ghost use Rattle.pagetab_engine.specs.Starts.{IsTableStart};
 
 use x86_64::structures::paging::page_table::PageTableIndex;
@@ -42,7 +42,7 @@ impl Slot {
 
     /// Returns the word, or 0 if the memory lacks the table.
     pub fn word(self, memory: &PhysMemory) -> u64
-        ensures { result ≡ word_in memory.now self.place self.index }
+        ensures { result ≡ word_at_place memory.now self.place self.index }
     {
         match memory.table(self.place) {
             Some(table) => table[self.index].word(),

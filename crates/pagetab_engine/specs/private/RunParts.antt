@@ -5,12 +5,12 @@ use Rattle.std.specs.Io.KnownBytes.{Appends}
 use Rattle.x86_64_model.specs.Machine.{State}
 use Rattle.x86_64_tables.specs.PageTable.{zero_words}
 use Rattle.pagetab_engine.specs.Commands.{Command, Call, Show}
-use Rattle.pagetab_engine.specs.Frames.{IsLoadable, memory_after, free_after}
+use Rattle.pagetab_engine.specs.Frames.{IsLoadable, memory_loaded, free_after}
 use Rattle.pagetab_engine.specs.Hierarchy.{hierarchy_state, BothAnswer, HasCopy, KeepsHierarchy, KeepsFree}
 use Rattle.pagetab_engine.specs.Image.{Loaded}
 use Rattle.pagetab_engine.specs.Lines.{Numbered, numbered_from, lines_of}
 use Rattle.pagetab_engine.specs.Modes.{first_memory, is_refused}
-use Rattle.pagetab_engine.specs.Program.{Transcript, IsFrontPart, IsTold, first_served, read, served, tested}
+use Rattle.pagetab_engine.specs.Program.{Transcript, IsFrontPart, IsTold, first_served, image_transcript, served_transcript, tested_transcript}
 use Rattle.pagetab_engine.specs.Reply.{Reply, Answered}
 use Rattle.pagetab_engine.specs.Situation.{Situation, call_back, call_step, command_reply, situation}
 use Rattle.pagetab_engine.specs.Texts.{reply_line}
@@ -55,7 +55,7 @@ IsShown (Show slot) = (slot.place * 4096 < 2 ^ 52) × (slot.index < 512)
 IsShown asked = ⊤
 
 -- A command has this reply, and this effect on the hierarchy, or on both hierarchies in a pair.
-pub record Answers (command : Command) (before : Hierarchy) (answer : Reply) (after : Hierarchy) : Type 0 where
+pub record AnswersCommand (command : Command) (before : Hierarchy) (answer : Reply) (after : Hierarchy) : Type 0 where
   pub reply : IsShown command → command_reply (situation_of before) command ≡ Some answer
   pub state : hierarchy_state after ≡ command_state before command
   pub reads : OnlyReads before command → after ≡ before
@@ -80,7 +80,7 @@ pub record IsEmpty (arguments : Arguments) (hierarchy : Hierarchy) : Type 0 wher
 -- A line of the image sets its word, or adds its frame behind the other free ones; in a pair the other mapper gets it too.
 pub record Loads (image : ImageLine) (before after : Hierarchy) : Type 0 where
   pub accepted : IsLoadable before.frames image
-  pub memory : after.frames.memory ≡ memory_after before.frames image
+  pub memory : after.frames.memory ≡ memory_loaded before.frames image
   pub free : after.frames.pool.frames ≡ free_after before.frames image
   pub limit : after.frames.pool.limit ≡ before.frames.pool.limit
   pub mode : after.mode ≡ before.mode
@@ -97,7 +97,7 @@ pub record IsFirst (image first : Hierarchy) : Type 0 where
 
 -- The transcript of lines that are read into a hierarchy.
 abbrev pub read_into : (levels places : ℕ) → (lines : List Numbered) → Hierarchy → Transcript
-read_into levels places lines hierarchy = read levels places hierarchy.mode lines (loaded_of hierarchy.frames)
+read_into levels places lines hierarchy = image_transcript levels places hierarchy.mode lines (loaded_of hierarchy.frames)
 
 -- The input is read into this hierarchy, and its transcript is written.
 abbrev pub RunsFrom : (levels places : ℕ) → Hierarchy → (input : List ℕ) → (before after : Option (List ℕ)) → Ending → Type 0
@@ -110,7 +110,7 @@ ending_of (Err fault) = Stopped fault
 
 -- The transcript of the lines is that of those left, after the ones before were loaded.
 abbrev pub Follows : (levels places : ℕ) (lines : List Numbered) (before : Hierarchy) (left : List Numbered) (after : Hierarchy) → Type 0
-Follows levels places lines before left after = read_into levels places lines before ≡ read levels places before.mode left (loaded_of after.frames)
+Follows levels places lines before left after = read_into levels places lines before ≡ image_transcript levels places before.mode left (loaded_of after.frames)
 
 -- If there is a first command, it shows a slot of a frame below 2^52, if it shows one.
 abbrev pub IsFirstShown : Option Command → Type 0
@@ -119,7 +119,7 @@ IsFirstShown (Some command) = IsShown command
 
 -- The lines begin with an image, which was loaded, and those behind the first command are left.
 abbrev pub LoadsImage : (levels places : ℕ) → (lines : List Numbered) → (before : Hierarchy) → (first : Option Command) → (behind : List Numbered) → (after : Hierarchy) → Type 0
-LoadsImage levels places lines before first behind after = IsFirstShown first × (read_into levels places lines before ≡ tested levels places before.mode (loaded_of after.frames) first behind)
+LoadsImage levels places lines before first behind after = IsFirstShown first × (read_into levels places lines before ≡ tested_transcript levels places before.mode (loaded_of after.frames) first behind)
 
 -- The image ends at a bad line, or at a read that failed, and nothing is written.
 abbrev pub StopsInImage : (levels places : ℕ) (lines : List Numbered) → Hierarchy → Fault → Type 0
@@ -127,7 +127,7 @@ StopsInImage levels places lines before fault = (held : Option (List ℕ)) → I
 
 -- A command was executed, and its reply written as a line.
 abbrev pub Replies : Command → (before after : Hierarchy) → (old new : Option (List ℕ)) → Type 0
-Replies command before after old new = (reply : Reply) × Answers command before reply after × Appends old new (reply_line reply)
+Replies command before after old new = (reply : Reply) × AnswersCommand command before reply after × Appends old new (reply_line reply)
 
 -- A first part of the line was written, but not all of it.
 abbrev pub AppendsFront : (before after : Option (List ℕ)) → (line : List ℕ) → Type 0
@@ -136,13 +136,13 @@ AppendsFront before after line = (front : List ℕ) × IsFrontPart front line ×
 -- A command was executed, and the write of its reply failed.
 abbrev pub IsUnwritten : Command → (before after : Hierarchy) → (old new : Option (List ℕ)) → Type 0
 IsUnwritten command before after old new =
-    (reply : Reply) × Answers command before reply after × AppendsFront old new (reply_line reply)
+    (reply : Reply) × AnswersCommand command before reply after × AppendsFront old new (reply_line reply)
 
 -- The program was forced to stop at a command: memory allocation failed and nothing more is written, or a write failed.
-abbrev pub StopsAt : Command → (before after : Hierarchy) → (old new : Option (List ℕ)) → Fault → Type 0
-StopsAt command before after old new OutOfMemory = Appends old new []
-StopsAt command before after old new Output = IsUnwritten command before after old new
-StopsAt command before after old new fault = ⊥
+abbrev pub CommandStops : Command → (before after : Hierarchy) → (old new : Option (List ℕ)) → Fault → Type 0
+CommandStops command before after old new OutOfMemory = Appends old new []
+CommandStops command before after old new Output = IsUnwritten command before after old new
+CommandStops command before after old new fault = ⊥
 
 -- The first command and the lines behind it were served.
 abbrev pub Served : (levels places : ℕ) → (first : Command) → (behind : List Numbered) → Hierarchy → (old new : Option (List ℕ)) → Ending → Type 0
@@ -155,4 +155,4 @@ behind_replies replies rest = record { replies = replies ++ rest.replies; ending
 -- The first command and the lines up to those left were served.
 abbrev pub ServedUntil : (levels places : ℕ) → (first : Command) → (behind : List Numbered) → (before : Hierarchy) → (old new : Option (List ℕ)) → (left : List Numbered) → (after : Hierarchy) → Type 0
 ServedUntil levels places first behind before old new left after = IsShown first → (replies : List Reply) × Appends old new (flat_map reply_line replies)
-    × (first_served levels places (Some first) behind (situation_of before) ≡ behind_replies replies (served levels places left (situation_of after)))
+    × (first_served levels places (Some first) behind (situation_of before) ≡ behind_replies replies (served_transcript levels places left (situation_of after)))

@@ -1,5 +1,5 @@
 use Rattle.std.proofs.Common.{◌≡◌, ◌^◌, ◌-◌}
-use Rattle.pagetab_engine.specs.Hierarchy.{HasCopy, IsReached}
+use Rattle.pagetab_engine.specs.Hierarchy.{HasCopy, ModeReaches}
 use Rattle.pagetab_engine.specs.Lines.{MayBeLeft, TracesBack}
 use Rattle.pagetab_engine.specs.private.RunParts.{Follows}
 use Rattle.pagetab_engine.proofs.engine.read_image.Given as goal
@@ -9,7 +9,7 @@ invariant-loop-statement g l =
     let may = MayBeLeft g.R.Read.remaining in
     record {
       copy : HasCopy l.hierarchy;
-      reached : IsReached l.hierarchy.mode l.hierarchy.frames.memory;
+      reached : ModeReaches l.hierarchy.mode l.hierarchy.frames.memory;
       mode : l.hierarchy.mode ≡ l.fn.hierarchy.mode;
       follows : TracesBack (may l.fn.lines) (may l.lines) (λ all left. Follows g.L.LevelCount.LEVELS l.places all l.fn.hierarchy left l.hierarchy);
     }

@@ -2,7 +2,7 @@ use Rattle.std.proofs.Common.{◌≡◌, ◌<◌, ◌∙◌, ℕ, List, length, 
 use Rattle.std.proofs.lemmas.Result.{IfOk-from_err, IfOk-weaker, IfErr-weaker, err_from_is_err_and}
 use Rattle.std.specs.Io.KnownBytes.{Appends}
 use Rattle.pagetab_engine.specs.Commands.{command_of}
-use Rattle.pagetab_engine.specs.private.RunParts.{Answers, AppendsFront, Replies, StopsAt}
+use Rattle.pagetab_engine.specs.private.RunParts.{AnswersCommand, AppendsFront, Replies, CommandStops}
 use Rattle.pagetab_engine.specs.Reply.{reply_of}
 use Rattle.pagetab_engine.specs.Texts.{reply_line}
 use Rattle.pagetab_engine.specs.declared.ending.Fault.TheVariants.{Output, OutOfMemory}
@@ -24,7 +24,7 @@ returns-clause-answered g c =
     let command = command_of g.P5.LevelFiveFlags.bits c.args.command in
     let reply = reply_of c.in_ok-reply.reply in
     let text : c.as_bytes.result.now ≡ reply_line reply = c.as_bytes.ensures.value ∙ c.in_ok-text.ensures.ok in
-    let answers : Answers command c.args.hierarchy.now reply c.answer.new.hierarchy = c.in_ok-reply.ensures.answers in
+    let answers : AnswersCommand command c.args.hierarchy.now reply c.answer.new.hierarchy = c.in_ok-reply.ensures.answers in
     let old = contents c.args.writer.now in
     let new = contents c.write_line.new.writer in
     IfOk-weaker c.write_line.result (λ _. Appends old new c.as_bytes.result.now) (λ _. Replies command c.args.hierarchy.now c.answer.new.hierarchy old new)
@@ -36,11 +36,11 @@ returns-clause-stopped g c =
     let command = command_of g.P5.LevelFiveFlags.bits c.args.command in
     let reply = reply_of c.in_ok-reply.reply in
     let text : c.as_bytes.result.now ≡ reply_line reply = c.as_bytes.ensures.value ∙ c.in_ok-text.ensures.ok in
-    let answers : Answers command c.args.hierarchy.now reply c.answer.new.hierarchy = c.in_ok-reply.ensures.answers in
+    let answers : AnswersCommand command c.args.hierarchy.now reply c.answer.new.hierarchy = c.in_ok-reply.ensures.answers in
     let old = contents c.args.writer.now in
     let new = contents c.write_line.new.writer in
-    IfErr-weaker c.write_line.result (λ fault. (fault ≡ Output) × AppendsFront old new c.as_bytes.result.now) (StopsAt command c.args.hierarchy.now c.answer.new.hierarchy old new)
-    (λ fault told. subst (λ fault. StopsAt command c.args.hierarchy.now c.answer.new.hierarchy old new fault) (sym told.0)
+    IfErr-weaker c.write_line.result (λ fault. (fault ≡ Output) × AppendsFront old new c.as_bytes.result.now) (CommandStops command c.args.hierarchy.now c.answer.new.hierarchy old new)
+    (λ fault told. subst (λ fault. CommandStops command c.args.hierarchy.now c.answer.new.hierarchy old new fault) (sym told.0)
     (reply, answers, subst (λ bytes. AppendsFront old new bytes) text told.1)) c.write_line.ensures.cut
 
 pub returns-in_err-reply-clause-answered : goal.returns-in_err-reply-clause-answered

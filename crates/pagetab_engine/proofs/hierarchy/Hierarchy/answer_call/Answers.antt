@@ -6,7 +6,7 @@ use Rattle.x86_64.specs.Replies.{Reply}
 use Rattle.pagetab_engine.specs.Calls.{IsAnswered}
 use Rattle.pagetab_engine.specs.Commands.{Call}
 use Rattle.pagetab_engine.specs.Hierarchy.{hierarchy_of, TwinTells}
-use Rattle.pagetab_engine.specs.private.RunParts.{Answers}
+use Rattle.pagetab_engine.specs.private.RunParts.{AnswersCommand}
 use Rattle.pagetab_engine.specs.Reply.{Answered}
 use Rattle.pagetab_engine.proofs.Refusing.{answers_executed, answers_refused, refused_by}
 use Rattle.pagetab_engine.proofs.hierarchy.Hierarchy.answer_call.Goals as goal
@@ -27,5 +27,5 @@ returns-clause-answers g c =
     let call = to_call g.P5.LevelFiveFlags.bits c.args.call in let before = c.args.self.now in let after = c.answer.new.self in
     let executed = refused_by before.mode g.L.LevelCount.LEVELS call c.requires.levels ∙ sym c.is_named.ensures ∙ c.if-is_named.false in
     both_ok c.answer.result (IsAnswered (hierarchy_of before) (pool_store before.frames.pool) call (hierarchy_of after) (pool_store after.frames.pool)) (TwinTells before.mode call before.twin after.twin)
-    (λ (reply : Reply). Answers (Call call) before (Answered reply) after)
+    (λ (reply : Reply). AnswersCommand (Call call) before (Answered reply) after)
     (λ reply answered twin. answers_executed before call after reply executed c.answer.ensures.keeps twin answered) c.answer.ensures.answered c.answer.ensures.both
