@@ -171,7 +171,8 @@
  * always flush the page.
  *
  * What is proved: laws of a model, in which a processor may cache any present word at any moment.
- * Each function is proved to do what the model's call does, so the laws are about these calls.
+ * Each function is proved to do what the model's call does (a refused x64_map does nothing), so the
+ * laws are about these calls.
  *
  *   flushed_calls_leave_no_stale_item (crates/x86_64/src/laws.rt)
  *       Calls on one root, each with its flush, which may be late: afterwards each access goes
@@ -287,7 +288,7 @@ enum {
     X64_MORE = 2,                    /* there are more mappings, or pages, than room */
     X64_NOT_VALID = 3,               /* the hierarchy isn't valid, or the pool doesn't fit it */
     X64_NOT_ALLOWED = 4,             /* these flags may not be set there; nothing has changed */
-    X64_FRAME_ALLOCATION_FAILED = 5, /* a table is missing, and the pool is empty */
+    X64_FRAME_ALLOCATION_FAILED = 5, /* too few frames are free for what is missing */
     X64_PARENT_ENTRY_HUGE_PAGE = 6,  /* an entry above the page maps a larger page */
     X64_PAGE_ALREADY_MAPPED = 7,     /* the page's entry isn't 0 */
     X64_PAGE_NOT_MAPPED = 8,         /* the page, or the entry, isn't there */

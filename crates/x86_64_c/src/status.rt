@@ -23,7 +23,7 @@ pub const NOT_VALID: u32 = 3;
 /// The call's condition does not hold.
 pub const NOT_ALLOWED: u32 = 4;
 
-/// A table is missing, and the pool is empty.
+/// Too few frames are free for the tables that are missing, or none is for a root.
 pub const FRAME_ALLOCATION_FAILED: u32 = 5;
 
 /// An entry above the page has `HUGE_PAGE`, an unmap finds `HUGE_PAGE` in the entry of a 4KiB page or misses it in that of a larger
