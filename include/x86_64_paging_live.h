@@ -154,8 +154,8 @@ static inline uint64_t *x64_word_at(const x64_space *space, const x64_entry *ent
 
 /*
  * Does what x64_entries does, but reads each word by one load: so what it writes belongs together,
- * whoever changes the tables meanwhile. The code of x64_entries may load a word twice, once to
- * write it and once to go on. There is room for X64_MOST_LEVELS entries.
+ * whoever changes the tables meanwhile. x64_entries reads each word once, too, but by plain loads,
+ * which a compiler might repeat. There is room for X64_MOST_LEVELS entries.
  *
  * Condition: pointers only. The tables may hold anything, and may change meanwhile.
  *
