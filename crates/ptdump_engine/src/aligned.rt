@@ -61,7 +61,8 @@ fn write_place_columns<W: Write>(
     frame: u64,
     rights: Rights,
 ) -> FmtResult
-    ensures { WritesOnOk W.write_str_gives f.old result (columns.place_columns start size frame rights) f.new }
+    ensures { WritesOnOk W.write_str_gives f.old result
+        (columns.place_columns start size frame rights) f.new }
 {
     let start = NumberColumn {
         number: start,

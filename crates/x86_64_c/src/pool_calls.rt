@@ -266,7 +266,8 @@ impl Operation for CleanUp {
 
     ghost does = { λ new h array after left cleaned.
         Leaves new.own.frames array new.free_count left cleaned.free_count (λ pool rest.
-        RunsCall h pool (clean_up_call h.layout.levels new.first_page new.last_page) after rest cleaned.out) };
+        RunsCall h pool (clean_up_call h.layout.levels new.first_page new.last_page) after rest
+        cleaned.out) };
 
     fn execute<L: LevelCount, T: TableMemory>(
         &self,

@@ -96,7 +96,8 @@ impl Operation for PageWalk {
 
     ghost may = { λ walk h array. Unit {0} };
 
-    ghost does = { λ walk h array after left found. (after.memory ≡ h.memory) × (found ≡ walked_to h walk.address) };
+    ghost does = { λ walk h array after left found. (after.memory ≡ h.memory)
+        × (found ≡ walked_to h walk.address) };
 
     fn execute<L: LevelCount, T: TableMemory>(
         &self,

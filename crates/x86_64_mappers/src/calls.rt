@@ -259,9 +259,10 @@ pub fn clean_up<L: LevelCount, M: TableAccess + TablesIn<L>, D: FrameDeallocator
     mapper: &mut M,
     frame_deallocator: &mut D,
 )
-    requires { MayCleanUpInto (M.hierarchy mapper.old) (deallocator_store D.FrameDeallocator frame_deallocator.old) }
-    ensures { CleansUpInto (M.hierarchy mapper.old) (deallocator_store D.FrameDeallocator frame_deallocator.old)
-        0 (position_count L.LEVELS - 1)
+    requires { MayCleanUpInto (M.hierarchy mapper.old)
+        (deallocator_store D.FrameDeallocator frame_deallocator.old) }
+    ensures { CleansUpInto (M.hierarchy mapper.old)
+        (deallocator_store D.FrameDeallocator frame_deallocator.old) 0 (position_count L.LEVELS - 1)
         (M.hierarchy mapper.new) (deallocator_store D.FrameDeallocator frame_deallocator.new) }
 {
     clean_up_range(mapper, all_pages::<L>(), frame_deallocator);
