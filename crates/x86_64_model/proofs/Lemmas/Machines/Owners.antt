@@ -3,10 +3,11 @@ use Rattle.std.proofs.Common.{◌≡◌, ◌+◌, not, bit_or, ◌≤◌, ◌%�
 use Rattle.std.proofs.lemmas.Option.{same_Some}
 use Rattle.x86_64_model.specs.Allowed.{refuses}
 use Rattle.x86_64_model.specs.Arrivals.{Arrives}
-use Rattle.x86_64_model.specs.Call.{Call, MapTo, MapToWithTableFlags, IdentityMap, Unmap, UpdateFlags, SetFlags, TranslatePage, Translate, TranslateAddress, CleanUp, Cleaned}
+use Rattle.x86_64_model.specs.Call.{Call, MapTo, MapToWithTableFlags, IdentityMap, Unmap, UpdateFlags, SetFlags, TranslatePage, Translate, TranslateAddress, CleanUp, Cleaned, NotAllowed}
 use Rattle.x86_64_model.specs.Entry.{IsParentFlags, present, used, address}
 use Rattle.x86_64_model.proofs.Lemmas.Maps.Mapped.{arrives_in_page}
-use Rattle.x86_64_model.specs.Machine.{do_call, after_map, after_change}
+use Rattle.x86_64_model.specs.Laws.Rules.{MapsAreSteps, ChangesAreSteps, CleanUpsAreSteps}
+use Rattle.x86_64_model.specs.Machine.{do_call, after_map, after_change, only_reply}
 use Rattle.x86_64_model.specs.MapRule.{map_call, parent_part, leaf_entry}
 use Rattle.x86_64_model.specs.private.MapperCalls.{MapsPage, IsChanged, after_unmap, after_update, after_set_flags}
 use Rattle.x86_64_model.specs.Memory.{Memory}
@@ -186,3 +187,18 @@ module _ {Lent : Type 0} (h : Hierarchy Lent) where
       let after = after_set_flags h.layout h.memory level q given in
       changed (SetFlags level q given) after refl (answer_unless why (Done frame)) n
       (answer_told after.answer frame why (set_flags_done h.layout.levels (read_entry h) (paths h) level q given) is)
+
+-- ---- steps of the machine
+
+pub maps_are_steps : MapsAreSteps
+maps_are_steps h supply call answer after rest may does take_back =
+    ap (λ b. cond b (do_call (machine_of h.layout take_back) (state_of h supply) call) (only_reply (state_of h supply) NotAllowed)) (map_allows h supply call may.allowed)
+    ∙ map_leads h supply call answer after rest does.outcome take_back
+
+pub changes_are_steps : ChangesAreSteps
+changes_are_steps h call answer after may does pool take_back =
+    ap (λ b. cond b (do_call (machine_of h.layout take_back) (state_of h pool) call) (only_reply (state_of h pool) NotAllowed)) may.allowed
+    ∙ change_leads h call answer after does.outcome pool take_back
+
+pub clean_ups_are_steps : CleanUpsAreSteps
+clean_ups_are_steps = clean_up_leads
