@@ -9,6 +9,7 @@ use Rattle.x86_64_model.specs.Call.{CleanUp}
 use Rattle.x86_64_model.specs.CleanUp.{AfterCleanUp, clean_up}
 use Rattle.x86_64_model.specs.Entry.{IsParentFlags}
 use Rattle.x86_64_model.specs.Lists.{In}
+use Rattle.x86_64_model.specs.Machine.{do_call}
 use Rattle.x86_64_model.specs.Memory.{Memory}
 use Rattle.x86_64_model.specs.Hierarchy.{Hierarchy, Valid, CleansUp, words, paths, state_of}
 use Rattle.x86_64_model.specs.PathMap.{PathMap}
@@ -33,6 +34,7 @@ module _ {Lent : Type 0} (h : Hierarchy Lent) (adds : IsParentFlags h.layout.add
 
   ends : (N : PathMap) (back : List ℕ) → N ≡ after.paths → back ≡ after.back → (n : Memory) (rest : List ℕ) → IsCleaned h.layout take_back h.memory held N back n rest
       → CleansUp h take_back held low high (record h { memory = n }) rest
+  unfolding do_call
   ends N back paths_are back_is n rest c = record {
     outcome = is;
     returned = c.given ∙ ap (with_returned take_back held) back_is;
