@@ -98,9 +98,9 @@ struct Request {
 
 impl Request {
     ghost use Rattle.std.specs.Prelude.{false};
-    ghost use Rattle.x86_64_model.specs.Access.{Faults, code, ends_at, marked, reads_on, steps_from};
+    ghost use Rattle.x86_64_model.specs.Access.{Faults, code, ends_at, marked, steps_from};
     ghost use Rattle.x86_64_access.specs.Accesses.{fault_of};
-    ghost use Rattle.x86_64_access.specs.private.Walking.{ArrivesFrom};
+    ghost use Rattle.x86_64_access.specs.private.Walking.{ArrivesFrom, reads_on};
 
     /// Reads from the root down through `levels` levels, at a position: the number of an address counted without the gap.
     fn walk<T: TableMemory, P: PageTableFrameMapping>(
