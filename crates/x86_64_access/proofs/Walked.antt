@@ -7,9 +7,8 @@ use Rattle.x86_64_model.specs.Memory.{Memory, Places, Words}
 use Rattle.x86_64_model.specs.PageWalk.{read, page_start}
 use Rattle.x86_64_model.specs.Position.{index, span}
 use Rattle.x86_64_model.proofs.Lemmas.Entries.Words.{address_within}
-use Rattle.x86_64_model.specs.Access.{Access, Kind, Controls, set_bits, bits_to_set, marked, Outcome, NoMemory, steps_from, ends_at, ends_by, reserved, low_bits, access_allowed, code, Arrives, Faults, access}
+use Rattle.x86_64_model.specs.Access.{Access, Kind, Controls, set_bits, bits_to_set, marked, Outcome, NoMemory, steps_from, until, ends_at, ends_by, reserved, low_bits, access_allowed, code, Arrives, Faults, access}
 use Rattle.x86_64_access.proofs.Deciding.{both_left, both_right}
-use Rattle.x86_64_model.specs.Lists.{until}
 use Rattle.x86_64_model.specs.Steps.{Step, leads_on, steps}
 use Rattle.x86_64_access.specs.private.Walking.{access_on, may_read_on, reads_on, ArrivesFrom}
 use Rattle.x86_64_tables.specs.Rights.{both}

@@ -4,7 +4,6 @@
 use Rattle.std.specs.Prelude.{ℕ, ◌+◌, ◌*◌, ◌^◌, ◌%◌, ◌==◌, ◌&&◌, ◌||◌, nat_le, Bool, true, false, not, cond, List, [], ◌∷◌, Option, Some, None, option_map, unwrap_or, bit_and, bit_or, get_or, slice_set}
 use Rattle.std.specs.FinMap.{get, insert}
 use Rattle.std.specs.List.{last_or}
-use Rattle.x86_64_model.specs.Lists.{until}
 use Rattle.x86_64_model.specs.Position.{span}
 use Rattle.x86_64_model.specs.Entry.{present, huge, no_execute, address}
 use Rattle.x86_64_model.specs.Memory.{Memory, Places, Words}
@@ -46,6 +45,11 @@ low_bits level = cond (level == 3) 0x3fff_e000 (cond (level == 2) 0x001f_e000 0)
 unfoldable pub reserved : Controls → (level word : ℕ) → Bool
 reserved c level e = nat_le (2 ^ c.physical_bits) (address e) || (huge e && (nat_le 4 level || not (bit_and e (low_bits level) == 0)))
     || (no_execute e && not c.no_execute)
+
+-- The front of the list up to its first element that passes the test, this one included, or the whole list if none does.
+abbrev pub until : {X : Type 0} → (X → Bool) → List X → List X
+until test [] = []
+until test (x ∷ xs) = x ∷ cond (test x) [] (until test xs)
 
 -- The words that the processor reads for an access at position p (the number of an address counted without the non-canonical gap),
 -- from a frame's table of a level down: those that a page walk reads, up to the first that has a reserved bit set.

@@ -1,5 +1,5 @@
--- Membership in lists, lists without duplicates, and fronts of lists.
-use Rattle.std.specs.Prelude.{◌≡◌, ◌⊎◌, Bool, cond, List, [], ◌∷◌}
+-- Membership in lists, and lists without duplicates.
+use Rattle.std.specs.Prelude.{◌≡◌, ◌⊎◌, List, [], ◌∷◌}
 
 -- The element is in the list.
 abbrev pub In : {X : Type 0} → List X → X → Type 0
@@ -10,8 +10,3 @@ In (y ∷ ys) x = (y ≡ x) ⊎ In ys x
 abbrev pub EachOnce : {X : Type 0} → List X → Type 0
 EachOnce [] = Unit {0}
 EachOnce (x ∷ xs) = (In xs x → ⊥) × EachOnce xs
-
--- The front of the list up to its first element that passes the test, this one included, or the whole list if none does.
-abbrev pub until : {X : Type 0} → (X → Bool) → List X → List X
-until test [] = []
-until test (x ∷ xs) = x ∷ cond (test x) [] (until test xs)
