@@ -1,5 +1,5 @@
 -- Accesses agree with page walks.
-use Rattle.std.proofs.Common.{zero, suc, inl, inr, ◌≡◌, ◌<◌, ◌≤◌, ◌||◌, ◌==◌, bit_and, ◌-◌, ◌+◌, ◌%◌, ℕ, ◌&&◌, Bool, true≢false, true, false, not, nat_le, cond, is_some, List, [], ◌∷◌, Some, None, Option, refl, sym, ap, subst, ◌∙◌, arith}
+use Rattle.std.proofs.Common.{zero, suc, inl, inr, ◌≡◌, ◌<◌, ◌≤◌, ◌-◌, ◌+◌, ◌%◌, ℕ, ◌&&◌, Bool, true≢false, true, false, not, cond, is_some, List, [], ◌∷◌, Some, None, Option, refl, sym, ap, subst, ◌∙◌, arith}
 use Rattle.x86_64_model.specs.Arrivals.{Reaches}
 use Rattle.x86_64_model.specs.Entry.{present, huge, writable, user, address}
 use Rattle.x86_64_model.specs.Mappings.{Rights, maps_page, rights_of, granted}

@@ -10,7 +10,7 @@ use Rattle.x86_64_model.proofs.Lemmas.Entries.Words.{address_within}
 use Rattle.x86_64_model.specs.Access.{Access, Kind, Controls, set_bits, bits_to_set, marked, Outcome, NoMemory, steps_from, until, ends_at, ends_by, reserved, low_bits, access_allowed, code, Arrives, Faults, access}
 use Rattle.x86_64_access.proofs.Deciding.{both_left, both_right}
 use Rattle.x86_64_model.specs.Steps.{Step, leads_on, steps}
-use Rattle.x86_64_access.specs.private.Walking.{access_on, may_read_on, reads_on, ArrivesFrom}
+use Rattle.x86_64_access.specs.private.Walking.{access_on, may_read_on, ArrivesFrom}
 use Rattle.x86_64_tables.specs.Rights.{both}
 use Rattle.std.specs.Int.Bits.{and_zero_r}
 use Rattle.std.proofs.Math.Bool.{and-true, and-false, and_assoc}
@@ -54,7 +54,11 @@ not_huge c level e low sound table = by (huge e) refl
         absurd (true≢false (sym (high_huge level e low table large)
         ∙ or_left _ _ (sym (ap (λ b. b && (nat_le 4 level || not (bit_and e (low_bits level) == 0))) large) ∙ misplaced)))
 
--- the processor reads on where the page walk does, unless a reserved bit is set
+-- the processor reads on in the table that a word names
+abbrev pub reads_on : Controls → (level word : ℕ) → Bool
+reads_on c level e = present e && not (reserved c level e) && not (maps_page level e)
+
+-- that is where the page walk does, unless a reserved bit is set
 reads_is : (c : Controls) (level e : ℕ) → 1 ≤ level → (leads_on level e && not (reserved c level e)) ≡ reads_on c level e
 reads_is c level e low = by (present e) (maps_page level e) (huge e) (reserved c level e) (λ sound table. not_huge c level e low sound table)
   where
@@ -115,7 +119,7 @@ unfolding access access_on
 on_root c T p a level root = refl
 
 pub on_zero : (c : Controls) (T : Words) (p : ℕ) (a : Access) (frame : ℕ) (r : Rights) → NoMemory frame ≡ access_on c T p a 0 frame r
-unfolding access_on steps_from
+unfolding access_on steps_from steps
 on_zero c T p a frame r = refl
 
 pub on_none : (c : Controls) (T : Words) (p : ℕ) (a : Access) (level frame : ℕ) (r : Rights) → 1 ≤ level → None ≡ read T frame (index level p)
