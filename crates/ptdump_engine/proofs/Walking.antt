@@ -1,14 +1,15 @@
 -- Walks, word by word.
 use Rattle.std.proofs.Common.{◌≡◌, ◌∙◌, ◌≤◌, ◌+◌, ◌-◌, ◌%◌, ℕ, ◌&&◌, Bool, not, true, false, cond, get_or, slice_index, List, [], ◌∷◌, map, Some, None, option_map, refl, sym, ap}
-use Rattle.std.proofs.Math.Bool.{and_assoc, and-true}
+use Rattle.std.proofs.Math.Bool.{and-true}
 use Rattle.std.specs.List.{last_or}
-use Rattle.x86_64_model.specs.Entry.{address, present, huge, writable, user, no_execute}
+use Rattle.x86_64_model.specs.Entry.{address, present, huge}
 use Rattle.x86_64_model.specs.Mappings.{Rights, maps_page, granted}
 use Rattle.x86_64_model.specs.Memory.{Words}
 use Rattle.x86_64_model.specs.PageWalk.{read, page_start}
 use Rattle.x86_64_model.specs.Position.{index, span}
 use Rattle.x86_64_tables.specs.Rights.{both}
 use Rattle.x86_64_model.specs.Steps.{Step, leads_on, steps}
+use Rattle.x86_64_model.proofs.Lemmas.Mappings.Along.{both_more}
 use Rattle.x86_64_model.proofs.Lemmas.Walks.Steps.{step, steps_none, steps_some}
 use Rattle.ptdump_engine.specs.Walks.{Walk, End, arrives_at, not_present, no_table, huge_page, walk_end, walk_of, walk_rights}
 use Rattle.ptdump_engine.specs.declared.word_read.WordRead.{WordRead}
@@ -40,11 +41,7 @@ behind p level e below = cond (present e)
 
 -- the rights of words below another word
 pub narrowed_first : (r : Rights) (w : WordRead) (walk : Walk) → both r (walk_rights (after_word w walk)) ≡ both (granted r w.word) (walk_rights walk)
-narrowed_first r w walk = let below = walk_rights walk in λ i. record {
-  write = sym (and_assoc r.write (writable w.word) below.write) i;
-  user = sym (and_assoc r.user (user w.word) below.user) i;
-  execute = sym (and_assoc r.execute (not (no_execute w.word)) below.execute) i;
-}
+narrowed_first r w walk = both_more r w.word (map (λ v. v.word) walk.words)
 
 -- a walk without words keeps the rights
 pub rights_kept : (r : Rights) (end : End) → both r (walk_rights (walk_ends end)) ≡ r

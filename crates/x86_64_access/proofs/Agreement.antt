@@ -7,6 +7,7 @@ use Rattle.x86_64_model.specs.Lists.{In}
 use Rattle.x86_64_model.specs.Memory.{Words}
 use Rattle.x86_64_model.specs.PageWalk.{Walked, page_start, page_walk, read, walk_on}
 use Rattle.x86_64_model.specs.Position.{index, span}
+use Rattle.x86_64_model.proofs.Lemmas.Mappings.Along.{both_last, both_more}
 use Rattle.x86_64_tables.proofs.WalkSteps.{on_absent, on_end, on_none as walk_none, on_table}
 use Rattle.x86_64_tables.specs.Walks.{ends}
 use Rattle.x86_64_model.specs.Access.{Access, Arrives, Controls, Faults, Outcome, access_allowed, code, steps_from, reserved}
@@ -14,7 +15,7 @@ use Rattle.x86_64_model.specs.Steps.{Step}
 use Rattle.x86_64_access.specs.private.Walking.{access_on}
 use Rattle.x86_64_tables.specs.Rights.{both}
 use Rattle.x86_64_access.specs.Laws.{ArriveWhereWalksDo, WalksAllowedArrive}
-use Rattle.x86_64_access.proofs.Walked.{and_left, and_right, is_arrival, on_fault, on_none, on_page, on_root, on_table as to_table, on_zero, not_huge, page_low, both_more, both_none, words_in, steps_first, steps_on, steps_page, page_ends, table_high}
+use Rattle.x86_64_access.proofs.Walked.{and_left, and_right, is_arrival, on_fault, on_none, on_page, on_root, on_table as to_table, on_zero, not_huge, page_low, words_in, steps_first, steps_on, steps_page, page_ends, table_high}
 
 -- the arrival in a page
 ends_in : (level p e : ℕ) (w u : Bool) → 1 ≤ level → level ≤ 3 → ends level p w u e ≡ Some (record { address = page_start level e + p % span level; write = w; user = u })
@@ -137,7 +138,7 @@ module _ (c : Controls) (T : Words) (p : ℕ) (a : Access) where
           → (b : Bool) → maps_page (suc n) e ≡ b → access_on c T p a (suc n) frame r ≡ Arrives w.address
       by_page e is here true page = page_allowed (suc n) frame r e w low is here (first_sound e is) page walks
           (sym (ap (access_allowed c a) (ap (λ steps. both r (rights_of (words_in steps))) (steps_page c T p a (suc n) frame r e low is page)
-          ∙ (both_more r e [] ∙ both_none (granted r e)))) ∙ enough)
+          ∙ both_last r e)) ∙ enough)
       by_page e is here false table =
           let sound = first_sound e is in
           let small : huge e ≡ false = not_huge c (suc n) e low sound table in

@@ -1,21 +1,21 @@
 -- One word of the walk of an access, for code that has the level as a number.
 use Rattle.std.proofs.Common.{le-leb, ltb-true, nat_lt, zero, suc, ⊎_elim, inl, inr, ◌⊎◌, ◌≡◌, ◌<◌, ◌≤◌, ◌+◌, ◌-◌, ◌%◌, ◌^◌, ℕ, ◌&&◌, Bool, true≢false, true, false, not, ◌||◌, ◌==◌, nat_le, bit_and, cond, List, [], ◌∷◌, map, Some, None, Option, option_map, unwrap_or, refl, sym, ap, ◌∙◌, arith}
 use Rattle.std.specs.List.{last_or}
-use Rattle.x86_64_model.specs.Entry.{present, writable, user, huge, no_execute, address}
+use Rattle.x86_64_model.specs.Entry.{present, huge, no_execute, address}
 use Rattle.x86_64_model.specs.Mappings.{Rights, rights_of, maps_page, granted}
 use Rattle.x86_64_model.specs.Memory.{Memory, Places, Words}
 use Rattle.x86_64_model.specs.PageWalk.{read, page_start}
 use Rattle.x86_64_model.specs.Position.{index, span}
 use Rattle.x86_64_model.proofs.Lemmas.Entries.Words.{address_within}
+use Rattle.x86_64_model.proofs.Lemmas.Mappings.Along.{both_last, both_more}
 use Rattle.x86_64_model.specs.Access.{Access, Kind, Controls, set_bits, bits_to_set, marked, Outcome, NoMemory, steps_from, until, ends_at, ends_by, reserved, low_bits, access_allowed, code, Arrives, Faults, access}
 use Rattle.x86_64_access.proofs.Deciding.{both_left, both_right}
 use Rattle.x86_64_model.specs.Steps.{Step, leads_on, steps}
 use Rattle.x86_64_access.specs.private.Walking.{access_on, may_read_on, ArrivesFrom}
 use Rattle.x86_64_tables.specs.Rights.{both}
 use Rattle.std.specs.Int.Bits.{and_zero_r}
-use Rattle.std.proofs.Math.Bool.{and-true, and-false, and_assoc}
+use Rattle.std.proofs.Math.Bool.{and-false}
 use Rattle.std.proofs.lemmas.Bool.{eqb-true, eqb-false, lt-leb, ltb-false}
-use Rattle.std.specs.List.{list_all}
 
 -- ---- which words map pages, and which name tables
 
@@ -146,17 +146,6 @@ is_arrival outcome = false
 abbrev pub words_in : List Step → List ℕ
 words_in steps = map (λ s. s.word) steps
 
--- the rights of one more word
-pub both_more : (r : Rights) (e : ℕ) (words : List ℕ) → both r (rights_of (e ∷ words)) ≡ both (granted r e) (rights_of words)
-both_more r e words = rw (
-  and_assoc r.write (writable e) (list_all writable words),
-  and_assoc r.user (user e) (list_all user words),
-  and_assoc r.execute (not (no_execute e)) (list_all (λ f. not (no_execute f)) words),
-) refl
-
-pub both_none : (r : Rights) → both r (rights_of []) ≡ r
-both_none r = rw (and-true r.write, and-true r.user, and-true r.execute) refl
-
 -- the last step decides, whatever frame the walk began with
 at_last : (c : Controls) (a : Access) (p : ℕ) (r : Rights) (frame other : ℕ) (s : Step) (steps : List Step)
     → ends_by c a p r frame (last_or (Some s) steps) ≡ ends_by c a p r other (last_or (Some s) steps)
@@ -179,7 +168,7 @@ module _ (c : Controls) (T : Words) (p : ℕ) (a : Access) (level frame : ℕ) (
   -- the walk ends at the word
   pub on_end : reads_on c level e ≡ false → ends_at c a p (granted r e) step ≡ access_on c T p a level frame r
   on_end h = sym (to_step ∙ ap (λ b. comes_of c a p r frame (step ∷ cond b below [])) h
-      ∙ ap (λ s. ends_at c a p s step) (both_more r e [] ∙ both_none (granted r e)))
+      ∙ ap (λ s. ends_at c a p s step) (both_last r e))
 
   -- where the steps from the table below lead, if there are any
   after : (steps : List Step) → ends_at c a p (both r (rights_of (e ∷ []))) step ≡ NoMemory (address e)
