@@ -8,7 +8,7 @@ pub mod Numbers
 pub mod WalkEntries
 pub mod private
 pub use Rattle.x86_64_model.specs.Position
-pub use Rattle.x86_64_model.specs.Access
+pub use Rattle.x86_64_model.specs.Steps
 pub use Rattle.x86_64_model.specs.Mappings
 pub use Rattle.x86_64_model.specs.Memory
 pub use Rattle.x86_64_model.specs.Regions

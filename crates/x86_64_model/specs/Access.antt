@@ -1,14 +1,15 @@
 -- Accesses: what a processor does with a read, a write or an instruction fetch at an address, over any words.
 -- Intel SDM vol. 3A, "Access Rights", "Page-Fault Exceptions"; AMD APM vol. 2, "Page-Protection Checks", "Page-Fault Exception".
 -- Left out are protection keys, shadow stacks, and the accesses that a processor makes as a supervisor by itself.
-use Rattle.std.specs.Prelude.{zero, suc, ℕ, ◌+◌, ◌*◌, ◌^◌, ◌%◌, ◌==◌, ◌&&◌, ◌||◌, nat_le, Bool, true, false, not, cond, List, [], ◌∷◌, map, Option, Some, None, option_map, unwrap_or, bit_and, bit_or, get_or, slice_set}
+use Rattle.std.specs.Prelude.{ℕ, ◌+◌, ◌*◌, ◌^◌, ◌%◌, ◌==◌, ◌&&◌, ◌||◌, nat_le, Bool, true, false, not, cond, List, [], ◌∷◌, Option, Some, None, option_map, unwrap_or, bit_and, bit_or, get_or, slice_set}
 use Rattle.std.specs.FinMap.{get, insert}
 use Rattle.std.specs.List.{last_or}
-use Rattle.x86_64_model.specs.Position.{span, index}
+use Rattle.x86_64_model.specs.Position.{span}
 use Rattle.x86_64_model.specs.Entry.{present, huge, no_execute, address}
 use Rattle.x86_64_model.specs.Memory.{Memory, Places, Words}
-use Rattle.x86_64_model.specs.Mappings.{Rights, maps_page, rights_of}
-use Rattle.x86_64_model.specs.PageWalk.{read, page_start}
+use Rattle.x86_64_model.specs.Mappings.{Rights, maps_page}
+use Rattle.x86_64_model.specs.PageWalk.{page_start}
+use Rattle.x86_64_model.specs.Steps.{Step, steps, rights_in}
 
 -- ---- what is asked
 
@@ -45,26 +46,15 @@ unfoldable pub reserved : Controls → (level word : ℕ) → Bool
 reserved c level e = nat_le (2 ^ c.physical_bits) (address e) || (huge e && (nat_le 4 level || not (bit_and e (low_bits level) == 0)))
     || (no_execute e && not c.no_execute)
 
--- A word that the processor reads in a page walk: the level of its table, the frame with the table, the index there, and the word.
-pub record Step : Type 0 where
-  pub level : ℕ
-  pub frame : ℕ
-  pub index : ℕ
-  pub word : ℕ
-
--- Whether the processor reads on in the table that a word of this level names: the word is present, has no reserved bit, and maps
--- no page.
-abbrev pub reads_on : Controls → (level word : ℕ) → Bool
-reads_on c level e = present e && not (reserved c level e) && not (maps_page level e)
+-- The front of the list up to its first element that passes the test, this one included, or the whole list if none does.
+abbrev pub until : {X : Type 0} → (X → Bool) → List X → List X
+until test [] = []
+until test (x ∷ xs) = x ∷ cond (test x) [] (until test xs)
 
 -- The words that the processor reads for an access at position p (the number of an address counted without the non-canonical gap),
--- from a frame's table of a level down. They end with the first word that leads to no further table, or before a table that isn't
--- in memory.
+-- from a frame's table of a level down: those that a page walk reads, up to the first that has a reserved bit set.
 unfoldable pub steps_from : Controls → Words → (p level frame : ℕ) → List Step
-steps_from c T p zero frame = []
-steps_from c T p (suc n) frame = unwrap_or (option_map
-    (λ e. record { level = suc n; frame = frame; index = index (suc n) p; word = e } ∷ cond (reads_on c (suc n) e) (steps_from c T p n (address e)) [])
-    (read T frame (index (suc n) p))) []
+steps_from c T p level frame = until (λ s. reserved c s.level s.word) (steps T p level frame)
 
 -- ---- what comes of it
 
@@ -130,7 +120,7 @@ ends_by c a p r root (Some s) = ends_at c a p r s
 
 -- The outcome of an access at position p for which the processor reads these words, from the root's table down.
 abbrev pub outcome : Controls → Access → (p root : ℕ) → List Step → Outcome
-outcome c a p root steps = ends_by c a p (rights_of (map (λ s. s.word) steps)) root (last_or None steps)
+outcome c a p root steps = ends_by c a p (rights_in steps) root (last_or None steps)
 
 -- What a processor does with an access at position p (the number of an address counted without the non-canonical gap), by L levels
 -- of tables below a root.

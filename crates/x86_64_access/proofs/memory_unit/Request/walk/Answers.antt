@@ -1,5 +1,5 @@
 use Rattle.std.proofs.Common.{rules, ap, ◌≡◌, ◌≤◌, ◌-◌, ◌+◌, ◌∙◌, ◌==◌, ◌||◌, true, false, not, None, Some, sym, arith, bit_and, eq-eqb, ne_eqb}
-use Rattle.x86_64_model.specs.Access.{Arrives, access_allowed, ends_at, reads_on}
+use Rattle.x86_64_model.specs.Access.{Arrives, access_allowed, ends_at}
 use Rattle.x86_64_model.specs.Entry.{huge}
 use Rattle.x86_64_model.proofs.Lemmas.Entries.Words.{address_aligned}
 use Rattle.x86_64_model.specs.Mappings.{maps_page}
@@ -9,7 +9,7 @@ use Rattle.x86_64_model.specs.PageWalk.{read}
 use Rattle.x86_64_access.specs.Accesses.{access_of, controls_of}
 use Rattle.x86_64_access.specs.private.Walking.{access_on, may_read_on, rights_by}
 use Rattle.x86_64_access.proofs.Deciding.{rights_all}
-use Rattle.x86_64_access.proofs.Walked.{no_page, on_arrival, page_low, accepted, on_root, on_zero, on_none, on_end, on_table, or_not, read_not_huge, reads_sound, stops}
+use Rattle.x86_64_access.proofs.Walked.{no_page, reads_on, on_arrival, page_low, accepted, on_root, on_zero, on_none, on_end, on_table, or_not, read_not_huge, reads_sound, stops}
 use Rattle.x86_64_access.proofs.memory_unit.Request.walk.Goals as goal
 use Rattle.x86_64_access.proofs.memory_unit.Request.walk.Goals.{then-level-eq1-via-then-level-eq1, then-level-eq1-via-else-level-eq1+then-word-masks-ne-PRESENT}
 
