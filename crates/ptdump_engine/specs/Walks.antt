@@ -6,7 +6,7 @@ use Rattle.std.specs.List.{flat_map}
 use Rattle.std.specs.Option.{option_map_or}
 use Rattle.x86_64_access.specs.Accesses.{controls_of}
 use Rattle.x86_64_access.specs.declared.controls.Controls.{Controls}
-use Rattle.x86_64_mappings.specs.Numbers.{hexadecimal}
+use Rattle.text.specs.Numbers.{hexadecimal}
 use Rattle.x86_64_model.specs.Access.{reserved}
 use Rattle.x86_64_model.specs.Entry.{present, huge, address}
 use Rattle.x86_64_model.specs.Mappings.{Rights, maps_page, rights_of}
@@ -48,7 +48,8 @@ behind p level e below = cond (present e)
 unfoldable pub walk_words_from : Words → (p level frame : ℕ) → Walk
 walk_words_from T p zero frame = walk_ends not_present
 walk_words_from T p (suc n) frame = let level = suc n in option_map_or
-    (λ e. after_word (record { level = level; table = frame; index = index level p; word = e }) (behind p level e (walk_words_from T p n (address e))))
+    (λ e. after_word (record { level = level; table = frame; index = index level p; word = e })
+    (behind p level e (walk_words_from T p n (address e))))
     (read T frame (index level p))
     (walk_ends (no_table frame))
 
@@ -77,7 +78,9 @@ line text = text ++ 10 ∷ []
 
 -- The text "level L 0xTABLE[INDEX]" of the place of a word.
 unfoldable pub word_place_text : WordRead → List ℕ
-word_place_text w = codes "level " ++ decimal w.level ++ codes " " ++ hexadecimal w.table ++ codes "[" ++ decimal w.index ++ codes "]"
+word_place_text w =
+    codes "level " ++ decimal w.level ++ codes " " ++ hexadecimal w.table ++ codes "[" ++ decimal w.index
+    ++ codes "]"
 
 -- The text "level L 0xTABLE[INDEX] 0xWORD" of a word.
 abbrev pub word_text : WordRead → List ℕ
@@ -89,7 +92,9 @@ faults_at c w = present w.word && reserved (controls_of c) w.level w.word
 
 -- The line of a word, and another one if a processor with these controls faults there.
 unfoldable pub word_lines : Controls → WordRead → List ℕ
-word_lines c w = line (word_text w) ++ (if faults_at c w then line (codes "reserved bits: a processor faults here") else [])
+word_lines c w =
+    line (word_text w) ++
+    (if faults_at c w then line (codes "reserved bits: a processor faults here") else [])
 
 -- The text "table 0xFRAME is not in the dump".
 abbrev pub missing_text : (frame : ℕ) → List ℕ
