@@ -169,6 +169,7 @@ pub mod loader;
 #[allow(unsafe_code)]
 pub mod registers;
 pub mod support;
+pub mod text;
 
 // The example for kernels needs the feature.
 #[cfg(all(doctest, feature = "instructions"))]

@@ -5,7 +5,7 @@ use Rattle.std.specs.Prelude.{ℕ, ◌+◌, ◌%◌, ◌++◌, ◌&&◌, Bool, c
 use Rattle.std.specs.List.{flat_map, last_or}
 use Rattle.x86_64_access.specs.Accesses.{controls_of}
 use Rattle.x86_64_access.specs.declared.controls.Controls.{Controls}
-use Rattle.x86_64_mappings.specs.Numbers.{hexadecimal}
+use Rattle.text.specs.Numbers.{hexadecimal}
 use Rattle.x86_64_model.specs.Access.{reserved}
 use Rattle.x86_64_model.specs.Entry.{present, huge, address}
 use Rattle.x86_64_model.specs.Mappings.{Rights, maps_page, rights_of}
@@ -65,7 +65,9 @@ line text = text ++ 10 ∷ []
 
 -- The text "level L 0xTABLE[INDEX]" of the place of a word.
 unfoldable pub word_place_text : WordRead → List ℕ
-word_place_text w = codes "level " ++ decimal w.level ++ codes " " ++ hexadecimal w.table ++ codes "[" ++ decimal w.index ++ codes "]"
+word_place_text w =
+    codes "level " ++ decimal w.level ++ codes " " ++ hexadecimal w.table ++ codes "[" ++ decimal w.index
+    ++ codes "]"
 
 -- The text "level L 0xTABLE[INDEX] 0xWORD" of a word.
 abbrev pub word_text : WordRead → List ℕ
@@ -77,7 +79,9 @@ faults_at c w = present w.word && reserved (controls_of c) w.level w.word
 
 -- The line of a word, and another one if a processor with these controls faults there.
 unfoldable pub word_lines : Controls → WordRead → List ℕ
-word_lines c w = line (word_text w) ++ (if faults_at c w then line (codes "reserved bits: a processor faults here") else [])
+word_lines c w =
+    line (word_text w) ++
+    (if faults_at c w then line (codes "reserved bits: a processor faults here") else [])
 
 -- The text "table 0xFRAME is not in the dump".
 abbrev pub missing_text : (frame : ℕ) → List ℕ

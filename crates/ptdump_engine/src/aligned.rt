@@ -6,8 +6,8 @@ use crate::columns::{NumberColumn, SizeColumn};
 use crate::names::write_names;
 use bitflags::Flags;
 use std::fmt::{Formatter, Result as FmtResult, Write};
+use text::write_hexadecimal;
 use x86_64_addr::level_count::LevelCount;
-use x86_64_mappings::text::write_hexadecimal;
 use x86_64_mappings::{MappingIn, RegionIn};
 use x86_64_tables::page_table::Rights;
 

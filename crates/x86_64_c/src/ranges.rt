@@ -16,10 +16,10 @@ use crate::operation::{Operation, enter};
 use crate::pool::{PoolStep, Stepped, with_pool};
 use crate::status::{self, map_status};
 use bitflags::Flags;
-use x86_64::structures::paging::mapper::calls::{self, FrameSink};
 use x86_64::structures::paging::mapper::{MapRangeErrorIn, MappedPageTableIn, MapperFlushRangeIn};
 use x86_64::structures::paging::{PageIn, PageSize, PageTable, PageTableFlags, PhysFrame};
 use x86_64::{FrameStore, LevelCount, OwnFrames, TableMemory};
+use x86_64_mappers::calls::{self, FrameSink};
 
 /// The end of physical addresses.
 const PHYSICAL_END: u64 = 1 << 52;

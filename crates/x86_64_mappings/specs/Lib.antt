@@ -4,9 +4,10 @@ pub mod Summaries
 pub mod Wanted
 pub mod Selections
 pub mod Kinds
-pub mod Numbers
 pub mod WalkEntries
 pub mod private
+pub use Rattle.text.specs.Numbers
+pub use Rattle.text.specs.Sizes
 pub use Rattle.x86_64_model.specs.Position
 pub use Rattle.x86_64_model.specs.Steps
 pub use Rattle.x86_64_model.specs.Mappings

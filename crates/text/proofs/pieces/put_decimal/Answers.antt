@@ -1,6 +1,6 @@
 use Rattle.std.proofs.Common.{arith}
 use Rattle.std.proofs.lemmas.Fmt.{length-decimal-le}
-use Rattle.x86_64_mappings.proofs.text.pieces.put_decimal.Goals as goal
+use Rattle.text.proofs.pieces.put_decimal.Goals as goal
 
 pub put_digits-requires-clause-room : goal.put_digits-requires-clause-room
 put_digits-requires-clause-room c =

@@ -1,5 +1,5 @@
-use Rattle.x86_64_mappings.proofs.Digits.{AreWritten}
-use Rattle.x86_64_mappings.proofs.text.pieces.put_digits.Given as goal
+use Rattle.text.proofs.Digits.{AreWritten}
+use Rattle.text.proofs.pieces.put_digits.Given as goal
 
 abbrev pub invariant-loop-left : goal.invariant-loop-left
 invariant-loop-left l = AreWritten l.base l.number l.left l.end l.start l.fn.line l.line

@@ -1,15 +1,14 @@
-//! Pieces of a line, which are written into a buffer one before the other, from the end of the line to its start.
+//! Pieces of a line. They are written into a buffer one before the other, from the end of the line to its start.
 ghost use Rattle.std.specs.Fmt.{digit_glyph, digits};
 ghost use Rattle.std.specs.Prelude.{◌≡◌, ◌+◌, ◌<◌, ◌≤◌, ◌/◌, ◌%◌, ◌∷◌, ◌++◌, ◌⊎◌, [], codes, decimal, drop, false, length};
 ghost use Rattle.std.specs.Str.{IsAscii};
-ghost use Rattle.x86_64_mappings.specs.Numbers.{hexadecimal};
-ghost use Rattle.x86_64_mappings.specs.Texts.{size_text};
-ghost use Rattle.x86_64_tables.specs.Rights.{letter_text, rights_text};
+ghost use Rattle.text.specs.Numbers.{hexadecimal};
+ghost use Rattle.text.specs.Sizes.{size_text};
 
+use crate::sizes::{SizeUnit, exact_unit};
 use std::str::from_utf8_unchecked;
-use x86_64_tables::page_table::Rights;
 
-/// The size in bytes of a buffer for the text of a mapping or a region.
+/// The size in bytes of a buffer for a line, which has room for the text of a mapping or of a region.
 pub const CAPACITY: usize = 96;
 
 /// The characters of the digits below 16.
@@ -27,7 +26,7 @@ const PAIRS: [u8; 512] = *b"000102030405060708090a0b0c0d0e0f10111213141516171819
 
 /// Writes an ASCII character so that it ends at `end`, and returns where it starts.
 #[inline(always)]
-pub(crate) fn put(line: &mut [u8; CAPACITY], end: usize, character: u8) -> usize
+pub fn put(line: &mut [u8; CAPACITY], end: usize, character: u8) -> usize
     requires ascii { character < 128 }
     requires room { 0 < end }
     requires inside { end ≤ 96 }
@@ -42,7 +41,7 @@ pub(crate) fn put(line: &mut [u8; CAPACITY], end: usize, character: u8) -> usize
 /// Writes a number in base 16 so that it ends at `end`, after `0x`, in lower case and without leading zeros. Returns where
 /// it starts.
 #[inline(always)]
-pub(crate) fn put_hexadecimal(line: &mut [u8; CAPACITY], end: usize, number: u64) -> usize
+pub fn put_hexadecimal(line: &mut [u8; CAPACITY], end: usize, number: u64) -> usize
     requires room { 18 ≤ end }
     requires inside { end ≤ 96 }
     ensures text { drop result line.new ≡ hexadecimal number ++ drop end line.old }
@@ -89,7 +88,7 @@ fn pair(number: u64) -> (u8, u8)
 
 /// Writes a number in base 10 so that it ends at `end`, and returns where it starts.
 #[inline(always)]
-pub(crate) fn put_decimal(line: &mut [u8; CAPACITY], end: usize, number: u64) -> usize
+pub fn put_decimal(line: &mut [u8; CAPACITY], end: usize, number: u64) -> usize
     requires room { 20 ≤ end }
     requires inside { end ≤ 96 }
     ensures text { drop result line.new ≡ decimal number ++ drop end line.old }
@@ -132,7 +131,7 @@ fn digit(number: u64) -> u8
 /// Writes a number of bytes so that it ends at `end`, in the largest of KiB, MiB, GiB and TiB that divides it, and returns
 /// where it starts.
 #[inline(always)]
-pub(crate) fn put_size(line: &mut [u8; CAPACITY], end: usize, bytes: u64) -> usize
+pub fn put_size(line: &mut [u8; CAPACITY], end: usize, bytes: u64) -> usize
     requires room { 23 ≤ end }
     requires inside { end ≤ 96 }
     ensures text { drop result line.new ≡ size_text bytes ++ drop end line.old }
@@ -140,61 +139,31 @@ pub(crate) fn put_size(line: &mut [u8; CAPACITY], end: usize, bytes: u64) -> usi
     ensures short { end ≤ result + 23 }
     ensures ascii { IsAscii (drop end line.old) → IsAscii (drop result line.new) }
 {
-    let (count, unit) = in_unit(bytes);
-    let start = put(line, end, b'B');
-    let start = put(line, start, b'i');
-    let start = put(line, start, unit);
-    put_decimal(line, start, count)
+    let unit = exact_unit(bytes);
+    let start = put_unit(line, end, unit);
+    put_decimal(line, start, bytes / unit.bytes)
 }
 
-/// Returns a number of bytes in the largest of KiB, MiB, GiB and TiB that divides it, and the first letter of that unit. For
-/// 0, or if none of them divides the number, the unit is KiB.
-fn in_unit(bytes: u64) -> (u64, u8)
-    ensures text { size_text bytes ≡ decimal result.0 ++ result.1 ∷ codes "iB" }
-    ensures ascii { result.1 < 128 }
-{
-    if bytes == 0 {
-        (0, b'K')
-    } else if bytes % (1 << 40) == 0 {
-        (bytes / (1 << 40), b'T')
-    } else if bytes % (1 << 30) == 0 {
-        (bytes / (1 << 30), b'G')
-    } else if bytes % (1 << 20) == 0 {
-        (bytes / (1 << 20), b'M')
-    } else {
-        (bytes / (1 << 10), b'K')
-    }
-}
-
-/// Writes rights so that they end at `end`, and returns where they start.
+/// Writes the name of a unit so that it ends at `end`, and returns where it starts.
 #[inline(always)]
-#[tactic(auto, unfolding(x86_64_tables::specs::Rights::rights_text))]
-pub(crate) fn put_rights(line: &mut [u8; CAPACITY], end: usize, rights: Rights) -> usize
-    requires room { 4 ≤ end }
+fn put_unit(line: &mut [u8; CAPACITY], end: usize, unit: SizeUnit) -> usize
+    requires name { length unit.name.now ≡ 3 }
+    requires name_ascii { IsAscii unit.name.now }
+    requires room { 3 ≤ end }
     requires inside { end ≤ 96 }
-    ensures text { drop result line.new ≡ rights_text rights ++ drop end line.old }
-    ensures start { result + 4 ≡ end }
+    ensures text { drop result line.new ≡ unit.name.now ++ drop end line.old }
+    ensures start { result + 3 ≡ end }
     ensures ascii { IsAscii (drop end line.old) → IsAscii (drop result line.new) }
 {
-    let start = put(line, end, letter(rights.user, b'u'));
-    let start = put(line, start, letter(rights.execute, b'x'));
-    let start = put(line, start, letter(rights.write, b'w'));
-    put(line, start, b'r')
-}
-
-/// Returns the letter of a right, or `-` without the right.
-#[inline(always)]
-fn letter(holds: bool, letter: u8) -> u8
-    requires { letter < 128 }
-    ensures text { result ∷ [] ≡ letter_text holds (letter ∷ []) }
-    ensures ascii { result < 128 }
-{
-    if holds { letter } else { b'-' }
+    let name = unit.name.as_bytes();
+    let start = put(line, end, name[2]);
+    let start = put(line, start, name[1]);
+    put(line, start, name[0])
 }
 
 /// Returns the text from `start` on.
 #[inline(always)]
-pub(crate) fn text_from(line: &[u8; CAPACITY], start: usize) -> &str
+pub fn text_from(line: &[u8; CAPACITY], start: usize) -> &str
     requires inside { start ≤ 96 }
     requires ascii { IsAscii (drop start line.now) }
     ensures { result.now ≡ drop start line.now }

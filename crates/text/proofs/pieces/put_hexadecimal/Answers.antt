@@ -1,6 +1,6 @@
 use Rattle.std.proofs.Common.{arith}
-use Rattle.x86_64_mappings.proofs.Digits.{length_hexadecimal}
-use Rattle.x86_64_mappings.proofs.text.pieces.put_hexadecimal.Goals as goal
+use Rattle.text.proofs.Digits.{length_hexadecimal}
+use Rattle.text.proofs.pieces.put_hexadecimal.Goals as goal
 
 pub put_hexadecimal_digits-start-requires-clause-room : goal.put_hexadecimal_digits-start-requires-clause-room
 put_hexadecimal_digits-start-requires-clause-room c =

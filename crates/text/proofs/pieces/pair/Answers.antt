@@ -1,6 +1,6 @@
 use Rattle.std.proofs.Common.{◌/◌, ◌%◌, ◌<◌, subst, sym, arith, ℕ}
-use Rattle.x86_64_mappings.proofs.Digits.{glyph_ascii, pair_high, pair_low}
-use Rattle.x86_64_mappings.proofs.text.pieces.pair.Goals as goal
+use Rattle.text.proofs.Digits.{glyph_ascii, pair_high, pair_low}
+use Rattle.text.proofs.pieces.pair.Goals as goal
 
 pub returns-clause-high : goal.returns-clause-high
 returns-clause-high c = pair_high c.args.number c.requires

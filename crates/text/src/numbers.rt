@@ -1,12 +1,12 @@
-//! Numbers as text, read in base 10 or 16 and written in base 16.
+//! Numbers as text. They are read in base 10 or 16, and written in base 16.
 
 ghost use Rattle.std.specs.Prelude.{◌≤◌, ◌<◌, ◌^◌};
 ghost use Rattle.std.specs.Fmt.{WritesOnOk};
 ghost use Rattle.std.specs.Option.{SomeIff};
 ghost use Rattle.std.specs.Str.Parse.{IsNumeral, digits_value};
-ghost use Rattle.x86_64_mappings.specs.Numbers.{IsNumber, number_of, hexadecimal};
+ghost use Rattle.text.specs.Numbers.{IsNumber, number_of, hexadecimal};
 
-use crate::text::pieces::{CAPACITY, put_hexadecimal, text_from};
+use crate::pieces::{CAPACITY, put_hexadecimal, text_from};
 use std::fmt::{Formatter, Result as FmtResult, Write};
 
 /// Parses a number below 2^64: decimal digits, or `0x` and hexadecimal digits of either case.
@@ -25,7 +25,7 @@ pub fn parse_number(text: &str) -> Option<u64>
 /// 2^64.
 ///
 /// Requires that the radix is from 2 to 36.
-fn parse_digits(digits: &str, radix: u32) -> Option<u64>
+pub fn parse_digits(digits: &str, radix: u32) -> Option<u64>
     requires lower_bound { 2 ≤ radix }
     requires upper_bound { radix ≤ 36 }
     ensures { SomeIff result (IsNumeral radix digits.now × (digits_value radix digits.now < 2 ^ 64))

@@ -1,7 +1,7 @@
 use Rattle.std.proofs.Common.{◌∷◌, ◌++◌, ◌∙◌, ◌/◌, ◌%◌, [], drop, false, sym, ap, arith}
 use Rattle.std.specs.Fmt.{digit_glyph}
-use Rattle.x86_64_mappings.proofs.Digits.{digits_one, digits_step, length_one, length_step, written_on}
-use Rattle.x86_64_mappings.proofs.text.pieces.put_digits.Goals as goal
+use Rattle.text.proofs.Digits.{digits_one, digits_step, length_one, length_step, written_on}
+use Rattle.text.proofs.pieces.put_digits.Goals as goal
 
 pub put-start-requires-clause-room : goal.put-start-requires-clause-room
 put-start-requires-clause-room c =
