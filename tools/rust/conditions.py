@@ -52,6 +52,7 @@ TESTS = Rules(
         "MapperFlushRangeIn<S, L>::new": [
             "debug_assert!(count == 0 || PageIn::forward_checked(page, (count - 1) as usize).is_some());",
         ],
+        "SegmentMapping<'a>::new_unchecked": ["debug_assert!(first_wrong(segments).is_none());"],
         "lent_marks::is_valid_by_marks": ["assert!(marks.len() == memory.len());"],
         "lent_marks::pool_fits_by_marks": ["assert!(marks.len() == memory.len());"],
         "fitting::spaces_fit_by_marks": ["assert!(marks.len() == memory.len());"],
