@@ -1,2 +1,3 @@
 pub mod Looks
 pub mod Maps
+pub mod Prepared

@@ -1,4 +1,5 @@
 pub mod MapsOrNothing
+pub mod Prepares
 pub mod WouldAnswer
 pub use Rattle.x86_64_model.specs.Layout
 pub use Rattle.x86_64_model.specs.Hierarchy
@@ -6,3 +7,4 @@ pub use Rattle.x86_64_model.specs.MapRule
 pub use Rattle.x86_64_mappers.specs.Layouts
 pub use Rattle.x86_64_mappers.specs.PageAnswers
 pub use Rattle.x86_64_mappers.specs.Supplies
+pub use Rattle.x86_64_mappers.specs.TablesAbove

@@ -3,6 +3,8 @@
 
 mod look;
 mod map;
+mod prepare;
 
 pub use look::would_map;
 pub use map::{PageMap, map_or_nothing, may_map};
+pub use prepare::{may_prepare, prepare};
