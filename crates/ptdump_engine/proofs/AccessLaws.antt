@@ -9,7 +9,7 @@ use Rattle.x86_64_access.specs.Accesses.{access_of, controls_of}
 use Rattle.x86_64_access.specs.declared.controls.Controls.{Controls as Settings}
 use Rattle.x86_64_access.specs.declared.request.Access.{Access as Asked}
 use Rattle.x86_64_dump.specs.Reached.{SameBelow}
-use Rattle.x86_64_model.specs.Access.{Access, Arrives, Controls, Faults, NoMemory, Step, access, access_allowed, code, ends_by, low_bits, outcome, reads_on, reserved, steps_from}
+use Rattle.x86_64_model.specs.Access.{Access, Arrives, Controls, Faults, NoMemory, Step, access, access_allowed, code, ends_by, low_bits, outcome, reads_on, reserved, reserved_by_some, steps_from}
 use Rattle.x86_64_model.specs.Entry.{present, huge, no_execute, address}
 use Rattle.x86_64_model.specs.Mappings.{Rights, maps_page, rights_of}
 use Rattle.x86_64_model.specs.Memory.{Words}
@@ -35,9 +35,10 @@ by_page false true true is = refl
 by_page false false true is = refl
 by_page p r false is = absurd (true≢false (sym is))
 
-or_true : (b d : Bool) → (b || true || d) ≡ true
-or_true true d = refl
-or_true false d = refl
+or_true : (s b d : Bool) → (s || b || true || d) ≡ true
+or_true true b d = refl
+or_true false true d = refl
+or_true false false d = refl
 
 huge_ends : (c : Controls) (n e : ℕ) → huge e ≡ true → reads_on c (suc n) e ≡ false
 unfolding reserved
@@ -45,7 +46,7 @@ huge_ends c zero e big = by_page (present e) (reserved c 1 e) true refl
 huge_ends c (suc zero) e big = by_page (present e) (reserved c 2 e) (maps_page 2 e) (rw big refl)
 huge_ends c (suc (suc zero)) e big = by_page (present e) (reserved c 3 e) (maps_page 3 e) (rw big refl)
 huge_ends c (suc (suc (suc n))) e big = by_reserved (present e) (reserved c (suc (suc (suc (suc n)))) e) (maps_page (suc (suc (suc (suc n)))) e)
-    (rw (big, high) (or_true (nat_le (2 ^ c.physical_bits) (address e)) (no_execute e && not c.no_execute)))
+    (rw (big, high) (or_true _ _ _))
   where
     high : nat_le 4 (suc (suc (suc (suc n)))) ≡ true
     high = le-leb 4 (suc (suc (suc (suc n)))) (omega arith)
@@ -125,7 +126,7 @@ same_bits bits a low = by (nat_le bits 52) refl
 pub limited_reserved : (c : Settings) (level e : ℕ) → reserved (controls_of (limited c)) level e ≡ reserved (controls_of c) level e
 unfolding reserved
 limited_reserved c level e =
-    ap (λ b. b || (huge e && (nat_le 4 level || not (bit_and e (low_bits level) == 0))) || (no_execute e && not c.no_execute))
+    ap (λ b. reserved_by_some (controls_of c) level e || b || (huge e && (nat_le 4 level || not (bit_and e (low_bits level) == 0))) || (no_execute e && not c.no_execute))
     (same_bits c.physical_bits (address e) (address_within e))
 
 pub limited_access : (c : Settings) (L : ℕ) (T : Words) (root p : ℕ) (a : Access) → access L (controls_of (limited c)) T root p a ≡ access L (controls_of c) T root p a

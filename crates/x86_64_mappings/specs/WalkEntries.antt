@@ -9,10 +9,20 @@ use Rattle.x86_64_mappings.specs.declared.walk_entries.WalkEnd.{WalkEnd}
 use Rattle.x86_64_mappings.specs.declared.walk_entries.WalkEnd.TheVariants.{Page, NotPresent, HugePage, NoTable}
 use Rattle.x86_64_mappings.specs.declared.walk_entries.WalkEntry.{WalkEntry}
 
--- The settings of a processor with all 52 bits of physical addresses and with NO_EXECUTE. To it only HUGE_PAGE is reserved, above
--- level three, and low address bits of large pages, below which no walk reads on anyway.
+-- The settings of a processor with all 52 bits of physical addresses, with NO_EXECUTE and with pages of 1GiB, which reserves GLOBAL
+-- nowhere. To it only HUGE_PAGE is reserved, above level three, and low address bits of large pages, below which no walk reads on
+-- anyway.
 abbrev pub no_limits : Controls
-no_limits = record { write_protect = false; no_execute = true; smep = false; smap = false; ac = false; physical_bits = 52 }
+no_limits = record {
+  write_protect = false;
+  no_execute = true;
+  smep = false;
+  smap = false;
+  ac = false;
+  physical_bits = 52;
+  no_1gib_pages = false;
+  global_reserved = false;
+}
 
 -- The words that a page walk reads at position p (the number of an address counted without the gap), with L levels of tables and 52
 -- bits of physical addresses, in order from the root's word on.

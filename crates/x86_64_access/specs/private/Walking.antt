@@ -2,7 +2,7 @@
 use Rattle.std.specs.Prelude.{◌≡◌, ◌^◌, ◌&&◌, ◌||◌, not, nat_lt, Bool, ℕ, map, None}
 use Rattle.std.specs.List.{last_or}
 use Rattle.x86_64_model.specs.Access.{Access, Controls, Outcome, Arrives, steps_from, ends_by}
-use Rattle.x86_64_model.specs.Entry.{has, present, huge, no_execute, address}
+use Rattle.x86_64_model.specs.Entry.{has, present, huge, global, no_execute, address}
 use Rattle.x86_64_model.specs.Mappings.{Rights, rights_of}
 use Rattle.x86_64_model.specs.Memory.{Words}
 use Rattle.x86_64_tables.specs.Rights.{both}
@@ -13,9 +13,11 @@ unfoldable pub access_on : Controls → Words → (p : ℕ) → Access → (leve
 access_on c T p a level frame r = let steps = steps_from c T p level frame in
     ends_by c a p (both r (rights_of (map (λ s. s.word) steps))) frame (last_or None steps)
 
--- Whether the processor reads on in the table that a word names, if the word maps no page: it is present and has no reserved bit.
+-- Whether the processor reads on in the table that a word names at any level, if the word maps no page: it is present and has no bit
+-- that is reserved at some level.
 unfoldable pub may_read_on : Controls → (word : ℕ) → Bool
-may_read_on c e = present e && (not (huge e) && (nat_lt (address e) (2 ^ c.physical_bits) && (c.no_execute || not (no_execute e))))
+may_read_on c e = (present e && (not (huge e) && (nat_lt (address e) (2 ^ c.physical_bits) && (c.no_execute || not (no_execute e)))))
+    && not (c.global_reserved && global e)
 
 -- The rights that a number stands for by its bits: WRITABLE, USER_ACCESSIBLE, and, at the place of NO_EXECUTE, the right to
 -- execute.
