@@ -422,7 +422,7 @@ typedef struct x64_map_request {
     uint64_t parent_flags; /* added to each entry above it: mostly X64_PRESENT | X64_WRITABLE */
 } x64_map_request;
 
-/* What a processor is set to, as far as it decides accesses. */
+/* What a processor is set to, and has, as far as that decides accesses. */
 typedef struct x64_controls {
     bool write_protect;    /* CR0.WP: a supervisor can't write to pages without X64_WRITABLE */
     bool no_execute;       /* EFER.NXE: X64_NO_EXECUTE forbids fetches. Else that bit is reserved */
@@ -430,6 +430,9 @@ typedef struct x64_controls {
     bool smap;             /* CR4.SMAP: a supervisor can't read or write user pages, but with ac */
     bool ac;               /* EFLAGS.AC */
     uint8_t physical_bits; /* MAXPHYADDR: 32 to 52. Higher address bits of entries are reserved */
+    bool no_1gib_pages;    /* no pages of 1 GiB (CPUID 8000_0001H, EDX bit 26, is clear): at level 3
+                            * X64_HUGE_PAGE is reserved */
+    bool global_reserved;  /* X64_GLOBAL is reserved at levels 4 and 5, as on AMD's processors */
 } x64_controls;
 
 /* An access. */
@@ -600,8 +603,6 @@ uint32_t x64_spaces_fit(uint64_t first, uint64_t levels, const x64_table *tables
  *
  * Left out are, or have to be done by the caller:
  *   - protection keys, shadow stacks and HLAT (another root, which the VMCS names);
- *   - processors without pages of 1 GiB, to which X64_HUGE_PAGE at level 3 is a reserved bit;
- *   - bit 8 of entries at levels 4 and 5, which is reserved on AMD's processors;
  *   - LAM and AMD's UAI: clear the ignored bits of the address before;
  *   - LASS, by which an access faults before any entry is read;
  *   - what a processor reads as a supervisor by itself, such as descriptors: pass user = 0, ac = 0.

@@ -31,7 +31,7 @@ struct arguments {
     uint64_t list_capacity, null_list, entry_capacity, null_entries;
     uint64_t address, start, size, count, frame, flags, parent_flags, level, first_page, last_page;
     uint64_t root_count, null_roots, second_root, shared_from, shared_to;
-    uint64_t kind, user, mark, write_protect, no_execute, smep, smap, ac, physical_bits;
+    uint64_t kind, user, mark, write_protect, no_execute, smep, smap, ac, physical_bits, no_1gib_pages, global_reserved;
     /* before the call the word at an index of a table gets these flags and the address of the table with a number */
     uint64_t word_table, word_index, word_flags, word_names;
     /* whether all used words get USER_ACCESSIBLE before the call */
@@ -200,7 +200,8 @@ static uint32_t call(enum function function, const struct arguments *a) {
     x64_page page = {.start = a->start, .size = a->size};
     x64_map_request request = {.page = page, .frame = a->frame, .flags = a->flags, .parent_flags = a->parent_flags};
     x64_controls controls = {.write_protect = a->write_protect, .no_execute = a->no_execute, .smep = a->smep, .smap = a->smap,
-        .ac = a->ac, .physical_bits = (uint8_t)a->physical_bits};
+        .ac = a->ac, .physical_bits = (uint8_t)a->physical_bits, .no_1gib_pages = a->no_1gib_pages,
+        .global_reserved = a->global_reserved};
     x64_access_request access = {.address = a->address, .kind = (uint32_t)a->kind, .user = a->user, .mark = a->mark};
     size_t n = a->table_count;
     switch (function) {
@@ -548,12 +549,24 @@ static const struct row access_rows[] = {
     WRITES("all 52 bits", X64_OK, OUT(UINT64_C(0xffffffffff123), 0, 0, 0), SET(address, 0x9123), SET(physical_bits, 52),
         SET(word_table, 5), SET(word_index, 9), SET(word_flags, UINT64_C(0xffffffffff003))),
     WRITES("32 bits are enough", X64_OK, OUT(0x5000, 0, 0, 0), SET(address, 0x1000), SET(physical_bits, 32)),
+    WRITES("1 GiB", X64_OK, OUT(0x80123456, 0, 0, 0), SET(address, 0x40123456)),
+    WRITES("the same without pages of 1 GiB", X64_PAGE_FAULT, OUT(0, 9, 3, 0), SET(address, 0x40123456), SET(no_1gib_pages, 1)),
+    WRITES("2 MiB without pages of 1 GiB", X64_OK, OUT(0x434567, 0, 0, 0), SET(address, 0x234567), SET(no_1gib_pages, 1)),
+    WRITES("GLOBAL at level four", X64_OK, OUT(0x5abc, 0, 0, 0), SET(address, 0x1abc), SET(word_table, 1), SET(word_flags, 0x103),
+        SET(word_names, 3), SET(only, 4)),
+    WRITES("the same if it is reserved", X64_PAGE_FAULT, OUT(0, 9, 4, 0), SET(address, 0x1abc), SET(word_table, 1),
+        SET(word_flags, 0x103), SET(word_names, 3), SET(only, 4), SET(global_reserved, 1)),
+    WRITES("GLOBAL at level five, if it is reserved", X64_PAGE_FAULT, OUT(0, 9, 5, 0), SET(address, 0x1abc), SET(word_table, 1),
+        SET(word_flags, 0x103), SET(word_names, 2), SET(only, 5), SET(global_reserved, 1)),
+    WRITES("GLOBAL at level three is ignored", X64_OK, OUT(0x5abc, 0, 0, 0), SET(address, 0x1abc), SET(word_table, 3),
+        SET(word_flags, 0x103), SET(word_names, 4), SET(global_reserved, 1)),
+    WRITES("GLOBAL at level two is ignored", X64_OK, OUT(0x5abc, 0, 0, 0), SET(address, 0x1abc), SET(word_table, 4),
+        SET(word_flags, 0x103), SET(word_names, 5), SET(global_reserved, 1)),
+    WRITES("HUGE_PAGE beside GLOBAL at level three", X64_PAGE_FAULT, OUT(0, 9, 3, 0), SET(address, 0x1abc), SET(word_table, 3),
+        SET(word_flags, 0x183), SET(global_reserved, 1), SET(no_1gib_pages, 1)),
+    WRITES("a global page", X64_OK, OUT(0x9000, 0, 0, 0), SET(address, 0x9000), SET(word_table, 5), SET(word_index, 9),
+        SET(word_flags, 0x9103), SET(global_reserved, 1)),
     /* what the header leaves out: processors may do otherwise here */
-    WRITES("bit 8 above, which AMD's reserve", X64_OK, OUT(0x5abc, 0, 0, 0), SET(address, 0x1abc), SET(word_table, 4),
-        SET(word_flags, 0x103), SET(word_names, 5)),
-    WRITES("bit 8 in the root, which AMD's reserve", X64_OK, OUT(0x5abc, 0, 0, 0), SET(address, 0x1abc), SET(word_table, 1),
-        SET(word_flags, 0x103), SET(word_names, 3), SET(only, 4)),
-    WRITES("1 GiB, which not all have", X64_OK, OUT(0x80123456, 0, 0, 0), SET(address, 0x40123456)),
     WRITES("an implicit access of a supervisor to a user's page: AC is passed as 0", X64_PAGE_FAULT, OUT(0, 1, 1, 0), SET(address, 0x1000),
         SET(user_pages, 1), SET(ac, 0)),
     ROW("an address with bits that LAM lets be", X64_BAD_ADDRESS, SET(address, UINT64_C(0x2a00000000001abc))),

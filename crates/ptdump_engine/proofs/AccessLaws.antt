@@ -10,7 +10,7 @@ use Rattle.x86_64_access.specs.declared.controls.Controls.{Controls as Settings}
 use Rattle.x86_64_access.specs.declared.request.Access.{Access as Asked}
 use Rattle.x86_64_dump.specs.Reached.{SameBelow}
 use Rattle.x86_64_dump.proofs.SameMappings.{same_steps}
-use Rattle.x86_64_model.specs.Access.{Access, Arrives, Faults, NoMemory, access, access_allowed, code, ends_by, low_bits, outcome, reserved, steps_from, until}
+use Rattle.x86_64_model.specs.Access.{Access, Arrives, Faults, NoMemory, access, access_allowed, code, ends_by, low_bits, outcome, reserved, reserved_by_some, steps_from, until}
 use Rattle.x86_64_model.specs.Steps.{Step, steps, rights_in}
 use Rattle.x86_64_model.specs.Entry.{present, huge, no_execute, address}
 use Rattle.x86_64_model.specs.Mappings.{Rights, maps_page}
@@ -57,7 +57,7 @@ same_bits bits a low = by (nat_le bits 52) refl
 pub limited_reserved : (c : Settings) (level e : ℕ) → reserved (controls_of (limited c)) level e ≡ reserved (controls_of c) level e
 unfolding reserved
 limited_reserved c level e =
-    ap (λ b. b || (huge e && (nat_le 4 level || not (bit_and e (low_bits level) == 0))) || (no_execute e && not c.no_execute))
+    ap (λ b. reserved_by_some (controls_of c) level e || b || (huge e && (nat_le 4 level || not (bit_and e (low_bits level) == 0))) || (no_execute e && not c.no_execute))
     (same_bits c.physical_bits (address e) (address_within e))
 
 pub limited_access : (c : Settings) (L : ℕ) (T : Words) (root p : ℕ) (a : Access) → access L (controls_of (limited c)) T root p a ≡ access L (controls_of c) T root p a

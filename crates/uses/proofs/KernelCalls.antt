@@ -4,7 +4,7 @@ use Rattle.std.proofs.lemmas.Bool.{cases_eq}
 use Rattle.x86_64_mappers.specs.Layouts.{direct}
 use Rattle.x86_64_model.specs.Call as machine
 use Rattle.x86_64_model.specs.Call.{IsCall}
-use Rattle.x86_64_model.specs.Entry.{address, has, present}
+use Rattle.x86_64_model.specs.Entry.{address, has, present, global}
 use Rattle.x86_64_model.specs.Flushing.{Due, PageDue, TablesDue, flush_after, if_window}
 use Rattle.x86_64_model.specs.Laws.Globals.{GlobalsBelow}
 use Rattle.x86_64_model.specs.Laws.SwitchedSpaces.{space_for, started_in, MaySwitchIn}
@@ -22,7 +22,7 @@ use Rattle.x86_64_model.specs.Refusal.{Done, Refused}
 use Rattle.x86_64_model.specs.Spaces.{is_shared}
 use Rattle.x86_64_model.specs.Store.{Store}
 use Rattle.x86_64_model.specs.Switches.{Switching, is_concerned, is_held}
-use Rattle.x86_64_model.specs.Tags.{Tag, Of, Global, global}
+use Rattle.x86_64_model.specs.Tags.{Tag, Of, Global}
 use Rattle.x86_64_model.specs.Window.{begins_with, entry_at}
 use Rattle.x86_64_model.proofs.Lemmas.Entries.Bits.{has_or, only_flags}
 use Rattle.x86_64_model.proofs.Lemmas.Hierarchies.Memories.{identity_is_mapping}

@@ -1,7 +1,7 @@
 -- One word of the walk of an access, for code that has the level as a number.
 use Rattle.std.proofs.Common.{le-leb, ltb-true, nat_lt, zero, suc, ⊎_elim, inl, inr, ◌⊎◌, ◌≡◌, ◌<◌, ◌≤◌, ◌+◌, ◌-◌, ◌%◌, ◌^◌, ℕ, ◌&&◌, Bool, true≢false, true, false, not, ◌||◌, ◌==◌, nat_le, bit_and, cond, List, [], ◌∷◌, map, Some, None, Option, option_map, unwrap_or, refl, sym, ap, ◌∙◌, arith}
 use Rattle.std.specs.List.{last_or}
-use Rattle.x86_64_model.specs.Entry.{present, huge, no_execute, address}
+use Rattle.x86_64_model.specs.Entry.{present, huge, global, no_execute, address}
 use Rattle.x86_64_model.specs.Mappings.{Rights, rights_of, maps_page, granted}
 use Rattle.x86_64_model.specs.Memory.{Memory, Places, Words}
 use Rattle.x86_64_model.specs.PageWalk.{read, page_start}
@@ -10,8 +10,9 @@ use Rattle.x86_64_model.proofs.Lemmas.Entries.Words.{address_within}
 use Rattle.x86_64_model.proofs.Lemmas.Mappings.Along.{both_last, both_more}
 use Rattle.x86_64_model.specs.Access.{Access, Kind, Controls, set_bits, bits_to_set, marked, Outcome, NoMemory, steps_from, until, ends_at, ends_by, reserved, low_bits, access_allowed, code, Arrives, Faults, access}
 use Rattle.x86_64_access.proofs.Deciding.{both_left, both_right}
+use Rattle.x86_64_access.proofs.ReservedBySome.{low_none, page_none, table_none}
 use Rattle.x86_64_model.specs.Steps.{Step, leads_on, steps}
-use Rattle.x86_64_access.specs.private.Walking.{access_on, may_read_on, ArrivesFrom}
+use Rattle.x86_64_access.specs.private.Walking.{access_on, may_read_on, reads_on, ArrivesFrom}
 use Rattle.x86_64_tables.specs.Rights.{both}
 use Rattle.std.specs.Int.Bits.{and_zero_r}
 use Rattle.std.proofs.Math.Bool.{and-false}
@@ -53,10 +54,6 @@ not_huge c level e low sound table = by (huge e) refl
         let misplaced : (huge e && (nat_le 4 level || not (bit_and e (low_bits level) == 0))) ≡ false = or_right _ _ (or_left _ _ sound) in
         absurd (true≢false (sym (high_huge level e low table large)
         ∙ or_left _ _ (sym (ap (λ b. b && (nat_le 4 level || not (bit_and e (low_bits level) == 0))) large) ∙ misplaced)))
-
--- the processor reads on in the table that a word names
-abbrev pub reads_on : Controls → (level word : ℕ) → Bool
-reads_on c level e = present e && not (reserved c level e) && not (maps_page level e)
 
 -- that is where the page walk does, unless a reserved bit is set
 reads_is : (c : Controls) (level e : ℕ) → 1 ≤ level → (leads_on level e && not (reserved c level e)) ≡ reads_on c level e
@@ -284,65 +281,37 @@ plain_sound true false true false true false bad f t = (refl, refl)
 plain_sound true false true false false true bad f t = absurd (true≢false (sym t))
 plain_sound true false true false false false bad f t = (refl, refl)
 
-other_bad : (p h lt le nx x high low : Bool) → (lt ≡ false → le ≡ true) → (h ≡ true → high ≡ true) → (p && (not h && (lt && (nx || not x)))) ≡ false
-    → (p && not ((le || (h && (high || low))) || (x && not nx))) ≡ false
-other_bad false h lt le nx x high low f k t = refl
-other_bad true true lt true nx x high low f k t = refl
-other_bad true true lt false nx x true low f k t = refl
-other_bad true true lt false nx x false low f k t = absurd (true≢false (sym (k refl)))
-other_bad true false false true nx x high low f k t = refl
-other_bad true false false false nx x high low f k t = absurd (true≢false (sym (f refl)))
-other_bad true false true true nx x high low f k t = refl
-other_bad true false true false true x high low f k t = absurd (true≢false t)
-other_bad true false true false false true high low f k t = refl
-other_bad true false true false false false high low f k t = absurd (true≢false t)
-
-pub reads_sound : (c : Controls) (level e : ℕ) → may_read_on c e ≡ true → (present e ≡ true) × (reserved c level e ≡ false)
-unfolding may_read_on reserved
-reads_sound c level e = plain_sound (present e) (huge e) (nat_lt (address e) (2 ^ c.physical_bits)) (nat_le (2 ^ c.physical_bits) (address e)) c.no_execute (no_execute e)
-    (nat_le 4 level || not (bit_and e (low_bits level) == 0)) (λ t. lt-leb (2 ^ c.physical_bits) (address e) (ltb-true (address e) (2 ^ c.physical_bits) t))
-
-pub others_fault : (c : Controls) (level e : ℕ) → 1 ≤ level → maps_page level e ≡ false → may_read_on c e ≡ false → (present e && not (reserved c level e)) ≡ false
-unfolding may_read_on reserved
-others_fault c level e low table = other_bad (present e) (huge e) (nat_lt (address e) (2 ^ c.physical_bits)) (nat_le (2 ^ c.physical_bits) (address e)) c.no_execute (no_execute e)
-    (nat_le 4 level) (not (bit_and e (low_bits level) == 0)) (λ f. le-leb (2 ^ c.physical_bits) (address e) (ltb-false (address e) (2 ^ c.physical_bits) f)) (high_huge level e low table)
-
 pub read_not_huge : (c : Controls) (e : ℕ) → may_read_on c e ≡ true → huge e ≡ false
 unfolding may_read_on
-read_not_huge c e = by (present e) (huge e) (nat_lt (address e) (2 ^ c.physical_bits) && (c.no_execute || not (no_execute e)))
+read_not_huge c e on = by (present e) (huge e) (nat_lt (address e) (2 ^ c.physical_bits) && (c.no_execute || not (no_execute e))) (both_left _ (not (c.global_reserved && global e)) on)
   where
     by : (p h rest : Bool) → (p && (not h && rest)) ≡ true → h ≡ false
     by true false rest t = refl
     by true true rest t = absurd (true≢false (sym t))
     by false h rest t = absurd (true≢false (sym t))
 
+pub reads_sound : (c : Controls) (level e : ℕ) → may_read_on c e ≡ true → (present e ≡ true) × (reserved c level e ≡ false)
+unfolding may_read_on reserved
+reads_sound c level e on =
+    let bad = nat_le 4 level || not (bit_and e (low_bits level) == 0) in
+    let rest = present e && (not (huge e) && (nat_lt (address e) (2 ^ c.physical_bits) && (c.no_execute || not (no_execute e)))) in
+    let plain = plain_sound (present e) (huge e) (nat_lt (address e) (2 ^ c.physical_bits)) (nat_le (2 ^ c.physical_bits) (address e)) c.no_execute (no_execute e) bad
+    (λ t. lt-leb (2 ^ c.physical_bits) (address e) (ltb-true (address e) (2 ^ c.physical_bits) t)) (and_left rest (c.global_reserved && global e) on) in
+    let none = table_none c level e (read_not_huge c e on) (and_right rest (c.global_reserved && global e) on) in (
+      plain.0,
+      ap (λ s. ((s || nat_le (2 ^ c.physical_bits) (address e)) || (huge e && bad)) || (no_execute e && not c.no_execute)) none ∙ plain.1,
+    )
+
 pub no_page : (a h b : Bool) → a ≡ false → h ≡ false → (a || (h && b)) ≡ false
 no_page false false b n m = refl
 no_page true h b n m = absurd (true≢false n)
 no_page false true b n m = absurd (true≢false m)
 
-pub or_not : (a b : Bool) → b ≡ false → (a || not b) ≡ true
-or_not true b h = refl
-or_not false false h = refl
-or_not false true h = absurd (true≢false h)
-
--- a word at which the processor doesn't read on
-pub stops : (c : Controls) (level e : ℕ) → 1 ≤ level → ((level == 1) || not (may_read_on c e)) ≡ true → reads_on c level e ≡ false
-stops c level e low stop = by (maps_page level e) refl
-  where
-    sound : Bool
-    sound = present e && not (reserved c level e)
-
-    by : (b : Bool) → maps_page level e ≡ b → reads_on c level e ≡ false
-    by true page = rw page (and-false sound)
-    by false table =
-        let no_read : may_read_on c e ≡ false = other (level == 1) (may_read_on c e) (or_left (level == 1) (huge e && ((level == 2) || (level == 3))) table) stop in
-        rw (others_fault c level e low table no_read) refl
-      where
-        other : (a b : Bool) → a ≡ false → (a || not b) ≡ true → b ≡ false
-        other false false n h = refl
-        other false true n h = absurd (true≢false (sym h))
-        other true b n h = absurd (true≢false n)
+-- a word after which the processor reads on
+pub table_sound : (c : Controls) (level e : ℕ) → reads_on c level e ≡ true → (present e ≡ true) × (reserved c level e ≡ false) × (maps_page level e ≡ false)
+table_sound c level e on =
+    let sound = and_left (present e && not (reserved c level e)) (maps_page level e) on in
+    (and_left (present e) (reserved c level e) sound, and_right (present e) (reserved c level e) sound, and_right (present e && not (reserved c level e)) (maps_page level e) on)
 
 -- a word that maps a page, and that the processor accepts
 accepted_by : (le h high low nx x : Bool) → high ≡ false → low ≡ true → ((le || (h && false)) || (x && not nx)) ≡ false → ((le || (h && (high || not low))) || (x && not nx)) ≡ false
@@ -350,12 +319,18 @@ accepted_by le h false true nx x f t sound = sound
 accepted_by le h true low nx x f t sound = absurd (true≢false f)
 accepted_by le h false false nx x f t sound = absurd (true≢false (sym t))
 
--- a page's word without low bits has a reserved bit only if it has one at level one
-pub low_sound : (c : Controls) (level e : ℕ) → level ≤ 3 → (bit_and e (low_bits level) == 0) ≡ true → reserved c 1 e ≡ false → reserved c level e ≡ false
+-- a page's word without low bits has a reserved bit only if it has one at level one, or if there are no pages of its size
+pub low_sound : (c : Controls) (level e : ℕ) → level ≤ 3 → (bit_and e (low_bits level) == 0) ≡ true → ((level == 3) && c.no_1gib_pages) ≡ false
+    → reserved c 1 e ≡ false → reserved c level e ≡ false
 unfolding reserved
-low_sound c level e below low sound = accepted_by (nat_le (2 ^ c.physical_bits) (address e)) (huge e) (nat_le 4 level) (bit_and e (low_bits level) == 0) c.no_execute (no_execute e)
+low_sound c level e below low there sound =
+    ap (λ s. ((s || nat_le (2 ^ c.physical_bits) (address e)) || (huge e && (nat_le 4 level || not (bit_and e (low_bits level) == 0)))) || (no_execute e && not c.no_execute))
+    (page_none c level e below there)
+    ∙ accepted_by (nat_le (2 ^ c.physical_bits) (address e)) (huge e) (nat_le 4 level) (bit_and e (low_bits level) == 0) c.no_execute (no_execute e)
     (lt-leb 4 level (omega (arith, below))) low
-    (ap (λ z. (nat_le (2 ^ c.physical_bits) (address e) || (huge e && not (z == 0))) || (no_execute e && not c.no_execute)) (sym (and_zero_r e)) ∙ sound)
+    (ap (λ z. (nat_le (2 ^ c.physical_bits) (address e) || (huge e && not (z == 0))) || (no_execute e && not c.no_execute)) (sym (and_zero_r e))
+    ∙ ap (λ s. ((s || nat_le (2 ^ c.physical_bits) (address e)) || (huge e && not (bit_and e 0 == 0))) || (no_execute e && not c.no_execute)) (sym (low_none c 1 e refl refl))
+    ∙ sound)
 
 ends_of : (a h b : Bool) → (a || (h && b)) ≡ true → (a ≡ true) ⊎ (h ≡ true)
 ends_of true h b t = inl refl
@@ -374,13 +349,22 @@ page_low level e page = ⊎_elim
     (one_of (level == 1) (huge e) (level == 2) (level == 3) page)
 
 -- a word that maps a page and that the processor accepts, by what a mask finds of it
-pub accepted : (c : Controls) (level e : ℕ) (m : Bool) → m ≡ (present e && not (reserved c 1 e))
-    → (m && ((level == 1) || (maps_page level e && (bit_and e (low_bits level) == 0)))) ≡ true
+pub accepted : (c : Controls) (level e : ℕ) (m n : Bool) → m ≡ (present e && not (reserved c 1 e)) → n ≡ c.no_1gib_pages
+    → (m && ((level == 1) || ((maps_page level e && (bit_and e (low_bits level) == 0)) && not ((level == 3) && n)))) ≡ true
     → (present e ≡ true) × (reserved c level e ≡ false) × (maps_page level e ≡ true)
-accepted c level e m is t = by (level == 1) refl
+accepted c level e m n is lacks t = by (level == 1) refl
   where
+    plain : Bool
+    plain = maps_page level e && (bit_and e (low_bits level) == 0)
+
+    none : Bool
+    none = (level == 3) && n
+
+    fits : Bool
+    fits = plain && not none
+
     sound : (present e && not (reserved c 1 e)) ≡ true
-    sound = sym is ∙ both_left m ((level == 1) || (maps_page level e && (bit_and e (low_bits level) == 0))) t
+    sound = sym is ∙ both_left m ((level == 1) || fits) t
 
     fine : reserved c 1 e ≡ false
     fine = and_right (present e) (reserved c 1 e) sound
@@ -392,11 +376,11 @@ accepted c level e m is t = by (level == 1) refl
       ap (λ b. b || (huge e && ((level == 2) || (level == 3)))) one,
     )
     by false other =
-        let large : (maps_page level e && (bit_and e (low_bits level) == 0)) ≡ true =
-        ap (λ b. b || (maps_page level e && (bit_and e (low_bits level) == 0))) (sym other) ∙ both_right m ((level == 1) || (maps_page level e && (bit_and e (low_bits level) == 0))) t in
-        let page = both_left (maps_page level e) (bit_and e (low_bits level) == 0) large in (
+        let large : fits ≡ true = ap (λ b. b || fits) (sym other) ∙ both_right m ((level == 1) || fits) t in
+        let both : plain ≡ true = and_left plain none large in
+        let page = both_left (maps_page level e) (bit_and e (low_bits level) == 0) both in (
           and_left (present e) (reserved c 1 e) sound,
-          low_sound c level e (page_low level e page) (both_right (maps_page level e) (bit_and e (low_bits level) == 0) large) fine,
+          low_sound c level e (page_low level e page) (both_right (maps_page level e) (bit_and e (low_bits level) == 0) both) (ap (λ b. (level == 3) && b) (sym lacks) ∙ and_right plain none large) fine,
           page,
         )
 

@@ -132,7 +132,9 @@ impl Request {
                 if masks.accept(level, entry) && rights.suffice(masks) {
                     return Ok(address_in_page(level, entry, position));
                 }
-                return self.end_at(level, entry, position, rights.rights());
+                if !self.controls.reads_on(level, entry) {
+                    return self.end_at(level, entry, position, rights.rights());
+                }
             }
             frame = PhysFrame::from_start_address_unchecked(entry.addr());
         }

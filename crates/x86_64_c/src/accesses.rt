@@ -40,6 +40,10 @@ pub struct Controls {
     pub ac: bool,
     /// MAXPHYADDR: the number of bits of physical addresses, from 32 to 52.
     pub physical_bits: u8,
+    /// The processor has no pages of 1GiB, so that `HUGE_PAGE` is reserved at level three, too.
+    pub no_1gib_pages: bool,
+    /// `GLOBAL` is reserved at levels four and five, as on AMD's processors.
+    pub global_reserved: bool,
 }
 
 /// An access.
@@ -223,6 +227,8 @@ fn controls_of(controls: &Controls) -> x86_64_access::Controls
         smap: controls.smap,
         ac: controls.ac,
         physical_bits: controls.physical_bits,
+        no_1gib_pages: controls.no_1gib_pages,
+        global_reserved: controls.global_reserved,
     }
 }
 

@@ -1,11 +1,13 @@
 -- Accesses: what a processor does with a read, a write or an instruction fetch at an address, over any words.
 -- Intel SDM vol. 3A, "Access Rights", "Page-Fault Exceptions"; AMD APM vol. 2, "Page-Protection Checks", "Page-Fault Exception".
+-- Reserved bits: Intel SDM vol. 3A, "Linear-Address Translation with 4-Level Paging and 5-Level Paging"; AMD APM vol. 2,
+-- "Page-Translation-Table Entry Fields", "1-Gbyte Paging Support".
 -- Left out are protection keys, shadow stacks, and the accesses that a processor makes as a supervisor by itself.
 use Rattle.std.specs.Prelude.{ℕ, ◌+◌, ◌*◌, ◌^◌, ◌%◌, ◌==◌, ◌&&◌, ◌||◌, nat_le, Bool, true, false, not, cond, List, [], ◌∷◌, Option, Some, None, option_map, unwrap_or, bit_and, bit_or, get_or, slice_set}
 use Rattle.std.specs.FinMap.{get, insert}
 use Rattle.std.specs.List.{last_or}
 use Rattle.x86_64_model.specs.Position.{span}
-use Rattle.x86_64_model.specs.Entry.{present, huge, no_execute, address}
+use Rattle.x86_64_model.specs.Entry.{present, huge, global, no_execute, address}
 use Rattle.x86_64_model.specs.Memory.{Memory, Places, Words}
 use Rattle.x86_64_model.specs.Mappings.{Rights, maps_page}
 use Rattle.x86_64_model.specs.PageWalk.{page_start}
@@ -24,7 +26,9 @@ pub record Access : Type 0 where
   pub kind : Kind
   pub user : Bool
 
--- What a processor is set to: CR0.WP, EFER.NXE, CR4.SMEP, CR4.SMAP, EFLAGS.AC, and the bits of its physical addresses (MAXPHYADDR).
+-- What a processor is set to, and has: CR0.WP, EFER.NXE, CR4.SMEP, CR4.SMAP, EFLAGS.AC, the bits of its physical addresses
+-- (MAXPHYADDR), whether it lacks pages of 1GiB (CPUID 8000_0001H, EDX bit 26, is clear), and whether GLOBAL is reserved at levels
+-- four and five, as on AMD's processors.
 pub record Controls : Type 0 where
   pub write_protect : Bool
   pub no_execute : Bool
@@ -32,6 +36,8 @@ pub record Controls : Type 0 where
   pub smap : Bool
   pub ac : Bool
   pub physical_bits : ℕ
+  pub no_1gib_pages : Bool
+  pub global_reserved : Bool
 
 -- ---- the words that are read
 
@@ -40,10 +46,17 @@ pub record Controls : Type 0 where
 abbrev pub low_bits : (level : ℕ) → ℕ
 low_bits level = cond (level == 3) 0x3fff_e000 (cond (level == 2) 0x001f_e000 0)
 
--- Whether a word of a level has a bit set that is reserved, and so must be 0 in a present word: an address bit that the processor
--- lacks, HUGE_PAGE above level three, a low address bit of a 2MiB or 1GiB page, or NO_EXECUTE while EFER.NXE is off.
+-- Whether a word of a level has a bit set that only some processors reserve: HUGE_PAGE at level three if there are no pages of 1GiB,
+-- or GLOBAL at level four or five if the processor reserves it there. Below, it is ignored in entries that name tables.
+abbrev pub reserved_by_some : Controls → (level word : ℕ) → Bool
+reserved_by_some c level e = (c.no_1gib_pages && (level == 3) && huge e) || (c.global_reserved && nat_le 4 level && global e)
+
+-- Whether a word of a level has a bit set that is reserved, and so must be 0 in a present word: one that only some processors
+-- reserve, an address bit that the processor lacks, HUGE_PAGE above level three, a low address bit of a 2MiB or 1GiB page, or
+-- NO_EXECUTE while EFER.NXE is off.
 unfoldable pub reserved : Controls → (level word : ℕ) → Bool
-reserved c level e = nat_le (2 ^ c.physical_bits) (address e) || (huge e && (nat_le 4 level || not (bit_and e (low_bits level) == 0)))
+reserved c level e = reserved_by_some c level e
+    || nat_le (2 ^ c.physical_bits) (address e) || (huge e && (nat_le 4 level || not (bit_and e (low_bits level) == 0)))
     || (no_execute e && not c.no_execute)
 
 -- The front of the list up to its first element that passes the test, this one included, or the whole list if none does.

@@ -2,7 +2,7 @@
 use Rattle.std.specs.Prelude.{◌≡◌, ◌≢◌, ◌<◌, ℕ, Bool, true, false, List, [], ◌∷◌, map, Some, None}
 use Rattle.x86_64_model.specs.Lists.{In}
 use Rattle.x86_64_model.specs.Call.{Call, IsCall, parent_flags_of}
-use Rattle.x86_64_model.specs.Entry.{IsParentFlags, used, present}
+use Rattle.x86_64_model.specs.Entry.{IsParentFlags, used, present, global}
 use Rattle.x86_64_model.specs.Flushing.{PageDue, TablesDue, LosesNothing, mapped_by}
 use Rattle.x86_64_model.specs.Validity.{paths_of}
 use Rattle.x86_64_model.specs.Layout.{Layout}
@@ -15,7 +15,7 @@ use Rattle.x86_64_model.specs.Spaces.{is_shared, AreSpaces, IsSharing, ArePaired
 use Rattle.x86_64_model.specs.Store.{KeepsPool}
 use Rattle.x86_64_model.specs.Pool.{TakesBack}
 use Rattle.x86_64_model.specs.Window.{begins_with, entry_at, outside_window}
-use Rattle.x86_64_model.specs.Tags.{Tag, Of, global}
+use Rattle.x86_64_model.specs.Tags.{Tag, Of}
 use Rattle.x86_64_model.specs.Switches.{holder_with, Kernel, Space, AreHeld, held_by, Switching, machine_at, Makes, Writes, Returns, SwitchEvent, Pools, Begins, Ends}
 use Rattle.x86_64_model.specs.MaySwitch.{MayBegin, AllMaySwitch, after_switches}
 use Rattle.x86_64_model.specs.Laws.Caches.{IsAfterCall}

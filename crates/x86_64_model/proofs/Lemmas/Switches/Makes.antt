@@ -6,7 +6,7 @@ use Rattle.x86_64_model.specs.Memory.{Words}
 use Rattle.x86_64_model.specs.PathMap.{PathMap, entry}
 use Rattle.x86_64_model.specs.Pool.{TakesBack}
 use Rattle.x86_64_model.specs.Window.{Window, begins_with, entry_at, IsValidFor}
-use Rattle.x86_64_model.specs.Entry.{LeadAlike, present}
+use Rattle.x86_64_model.specs.Entry.{LeadAlike, present, global}
 use Rattle.x86_64_model.specs.Mappings.{maps_page}
 use Rattle.x86_64_model.specs.Path.{level_of}
 use Rattle.x86_64_model.specs.Call.{Call}
@@ -14,7 +14,7 @@ use Rattle.x86_64_model.specs.Machine.{Machine, IsMachine, State, step}
 use Rattle.x86_64_model.specs.Spaces.{is_shared}
 use Rattle.x86_64_model.specs.Caches.{PartialWalk, Cached}
 use Rattle.x86_64_model.specs.Flushing.{Due, BelowDue}
-use Rattle.x86_64_model.specs.Tags.{Of, Global, global}
+use Rattle.x86_64_model.specs.Tags.{Of, Global}
 use Rattle.x86_64_model.specs.Switches.{Kernel, Space, AreHeld, Switching, machine_at, state_at, made_due, with_next, is_held, is_concerned, Makes, after_switch}
 use Rattle.x86_64_model.specs.MaySwitch.{MayMakeOn}
 use Rattle.x86_64_model.proofs.Lemmas.Lists.Members.{in_left, in_right, in_append, in_map, from_map}

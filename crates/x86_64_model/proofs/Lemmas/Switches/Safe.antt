@@ -3,7 +3,7 @@
 use Rattle.std.proofs.Common.{◌≡◌, ◌⊎◌, inl, inr, ⊎_elim, ◌<◌, ℕ, Bool, true, false, cond, List, [], ◌∷◌, ◌++◌, Some, None, Option, refl, sym, ap, ◌∙◌, subst, subst₂, eqb-true}
 use Rattle.std.proofs.lemmas.Option.{same_Some}
 use Rattle.x86_64_model.specs.Lists.{In}
-use Rattle.x86_64_model.specs.Entry.{LeadAlike, present}
+use Rattle.x86_64_model.specs.Entry.{LeadAlike, present, global}
 use Rattle.x86_64_model.specs.Memory.{word}
 use Rattle.x86_64_model.specs.Path.{level_of, begins}
 use Rattle.x86_64_model.specs.PathMap.{entry}
@@ -14,7 +14,7 @@ use Rattle.x86_64_model.specs.Caches.{PartialWalk, start, Cached, Table, Page, c
 use Rattle.x86_64_model.specs.Flushing.{Due, PageDue, TablesDue, WindowDue, BelowDue, loosens}
 use Rattle.x86_64_model.specs.Laws.Caches.{WalksThere}
 use Rattle.x86_64_model.specs.Laws.Switches.{due_here}
-use Rattle.x86_64_model.specs.Tags.{Tag, Of, Global, Tagged, is_current, usable, global, MayTag, CachesTagged}
+use Rattle.x86_64_model.specs.Tags.{Tag, Of, Global, Tagged, is_current, usable, MayTag, CachesTagged}
 use Rattle.x86_64_model.specs.Switches.{Kernel, Space, AreHeld, Switching}
 use Rattle.x86_64_model.proofs.Lemmas.Lists.Members.{in_left, in_right, from_map, from_filter, passes}
 use Rattle.x86_64_model.proofs.Lemmas.Walks.Agrees.{reads}
