@@ -1,4 +1,4 @@
-use Rattle.std.proofs.Common.{rules, ap, ◌≡◌, ◌≤◌, ◌-◌, ◌+◌, ◌∙◌, ◌==◌, ◌||◌, true, false, not, None, Some, sym, arith, bit_and, eq-eqb, ne_eqb}
+use Rattle.std.proofs.Common.{rules, ap, ◌≡◌, ◌≤◌, ◌-◌, ◌+◌, ◌∙◌, ◌==◌, ◌||◌, true, false, None, Some, sym, arith, bit_and, ne_eqb}
 use Rattle.x86_64_model.specs.Access.{Arrives, access_allowed, ends_at, reserved}
 use Rattle.x86_64_model.specs.Entry.{huge, present}
 use Rattle.x86_64_model.proofs.Lemmas.Entries.Words.{address_aligned}
