@@ -75,10 +75,10 @@ flush_after L window (CleanUp low high) reply = TablesDue ∷ if_window window
 abbrev pub implies : (first second : Bool) → Bool
 implies a b = cond a b true
 
--- Whether a present entry e may lose something when it becomes f, as `x64_flush_between` in include/x86_64_paging_live.h tells.
--- It loses nothing if it stays present, its address, HUGE_PAGE, WRITE_THROUGH, NO_CACHE, GLOBAL and its protection key stay, none of
--- WRITABLE, USER_ACCESSIBLE, ACCESSED and DIRTY goes, and neither NO_EXECUTE nor USER_ACCESSIBLE comes: a page that becomes a
--- user's takes rights from ring 0 under SMEP and SMAP.
+-- Whether a present entry e may lose something when it becomes f, as `x64_flush_between` in include/x86_64_paging.h tells. It loses
+-- nothing if it stays present, its address, HUGE_PAGE, WRITE_THROUGH, NO_CACHE, GLOBAL and its protection key stay, none of WRITABLE,
+-- USER_ACCESSIBLE, ACCESSED and DIRTY goes, and neither NO_EXECUTE nor USER_ACCESSIBLE comes: a page that becomes a user's takes
+-- rights from ring 0 under SMEP and SMAP. `WordsTellLosses` says the same by `LosesNothing`.
 abbrev pub loses_between : (e f : ℕ) → Bool
 loses_between e f = not (present f && (address f == address e) && (bit_and f 0x80 == bit_and e 0x80)
     && (bit_and f 0x7800_0000_0000_0118 == bit_and e 0x7800_0000_0000_0118)

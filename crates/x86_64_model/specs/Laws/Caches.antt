@@ -1,12 +1,12 @@
 -- Laws of caches: what has to be flushed after each call suffices.
-use Rattle.std.specs.Prelude.{◌≡◌, ◌⊎◌, ◌≢◌, ◌<◌, ◌+◌, ◌&&◌, nat_le, nat_lt, ℕ, Bool, true, false, List, [], ◌∷◌, length, replicate, Option, Some, None, IsSome, option_map}
+use Rattle.std.specs.Prelude.{◌≡◌, ◌⊎◌, ◌↔◌, ◌≢◌, ◌<◌, ◌+◌, ◌&&◌, nat_le, nat_lt, ℕ, Bool, true, false, List, [], ◌∷◌, length, replicate, Option, Some, None, IsSome, option_map}
 use Rattle.std.specs.FinMap.{empty, insert}
 use Rattle.std.specs.Ordering.{nat_cmp}
 use Rattle.x86_64_model.specs.Lists.{In}
 use Rattle.x86_64_model.specs.Position.{page_path}
 use Rattle.x86_64_model.specs.PathMap.{entry, put}
 use Rattle.x86_64_model.specs.Path.{level_of, span_size, begins}
-use Rattle.x86_64_model.specs.Entry.{used, present}
+use Rattle.x86_64_model.specs.Entry.{used, present, user}
 use Rattle.x86_64_model.specs.Mappings.{maps_page}
 use Rattle.x86_64_model.specs.Memory.{Words, Memory, word, set_word, words_of, identity_places}
 use Rattle.x86_64_model.specs.Pool.{IsTable}
@@ -14,7 +14,7 @@ use Rattle.x86_64_model.specs.Window.{Window, begins_with, entry_at, IsValidFor}
 use Rattle.x86_64_model.specs.PageWalk.{page_start, page_walk}
 use Rattle.x86_64_model.specs.Machine.{Machine, IsMachine, State, step}
 use Rattle.x86_64_model.specs.Caches.{PartialWalk, start, AtMost, Cached, Table, Page, cached_item, Caches, MayRead, MayAccess, walk_with_rights_from, walk_with_rights, walked_in}
-use Rattle.x86_64_model.specs.Flushing.{Due, PageDue, TablesDue, WindowDue, BelowDue, flush_after, concerns, HasZeros, Invlpg, survives, System, Event, Makes, Exchanges, MayMake, MayWrite, MayPut, MayExchange, LosesNothing, due_between, after_event, AllMayHappen, after_events, fresh}
+use Rattle.x86_64_model.specs.Flushing.{Due, PageDue, TablesDue, WindowDue, BelowDue, flush_after, concerns, HasZeros, Invlpg, survives, System, Event, Makes, Exchanges, MayMake, MayWrite, MayPut, MayExchange, LosesNothing, loses_between, due_between, after_event, AllMayHappen, after_events, fresh}
 use Rattle.x86_64_model.specs.MapRule.{map_call}
 use Rattle.x86_64_model.specs.CleanUp.{clean_up}
 use Rattle.x86_64_model.specs.Refusal.{Done}
@@ -155,6 +155,10 @@ ExchangesMayHappen = (m : Machine) (root : ℕ) (serves : ℕ → Bool) (s : Sys
     → let U = set_word s.words may.in_table.frame may.in_table.index w in
     (word s.words may.in_table.frame may.in_table.index ≡ entry s.paths q) × MayExchange m root s q w U
     × FitsState m U root serves (after_event m s (Exchanges q w U)).state
+
+-- The test of both words tells of a present entry exactly that it loses nothing, and that it becomes a user's only if it was one.
+abbrev pub WordsTellLosses : Type 0
+WordsTellLosses = (e f : ℕ) → present e ≡ true → (loses_between e f ≡ false) ↔ (LosesNothing e f × (user f ≡ true → user e ≡ true))
 
 -- If nothing is due after the exchange of a present word, the entry loses nothing.
 abbrev pub ExchangesTell : Type 0

@@ -1,5 +1,5 @@
 // Laws of the processor's caches.
-ghost use Rattle.x86_64_model.specs.Laws.Caches.{WalksWithRights, WalksAreCached, FlushesAreEnough, AccessesAreWalks, OnlyTablesAreRead, StaleAccessesAreOld, LetGoIsUnreached, CallsMayHappen, ExchangesMayHappen, ExchangesTell, ExchangedWords, UnflushedCleanUp, UnflushedNoExecute, UnclearedTable};
+ghost use Rattle.x86_64_model.specs.Laws.Caches.{WalksWithRights, WalksAreCached, FlushesAreEnough, AccessesAreWalks, OnlyTablesAreRead, StaleAccessesAreOld, LetGoIsUnreached, CallsMayHappen, ExchangesMayHappen, WordsTellLosses, ExchangesTell, ExchangedWords, UnflushedCleanUp, UnflushedNoExecute, UnclearedTable};
 
 /// The page walk arrives if and only if the walk that also says the page's path and its right to execute leads to a page, and then
 /// in this page, with the same rights to write and of user mode.
@@ -51,6 +51,12 @@ pub fn calls_may_happen()
 /// An exchange of an entry's word may happen, if memory changes by this word alone, and the state fits memory again.
 pub fn exchanges_may_happen()
     ensures { ExchangesMayHappen }
+{}
+
+/// The test of both words says of a present entry exactly whether it loses nothing and doesn't become a user's.
+#[tactic(auto, using(crate::proofs::Lemmas::Caches::Exchanged::words_tell_losses))]
+pub fn words_tell_what_is_lost()
+    ensures { WordsTellLosses }
 {}
 
 /// An entry that is exchanged loses nothing, if it is present and nothing is due.

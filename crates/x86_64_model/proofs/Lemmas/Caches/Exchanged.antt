@@ -1,9 +1,12 @@
 -- An exchange of an entry keeps what is known of a system.
-use Rattle.std.proofs.Common.{◌≡◌, ◌≢◌, inl, inr, ⊎_elim, ◌<◌, nat_lt, ℕ, ◌==◌, ◌&&◌, Bool, true, false, cond, List, [], ◌∷◌, ◌++◌, length, Some, None, Option, refl, sym, ap, ◌∙◌, subst, eq-eqb, eqb-true, lt-ltb}
+use Rattle.std.proofs.Common.{◌≡◌, ◌≢◌, inl, inr, ⊎_elim, ◌<◌, nat_lt, ℕ, ◌*◌, ◌==◌, ◌&&◌, Bool, true, false, not, cond, List, [], ◌∷◌, ◌++◌, length, Some, None, Option, refl, sym, ap, ◌∙◌, subst, eq-eqb, eqb-true, lt-ltb, arith, bit_and}
+use Rattle.std.specs.Int.{bit_at}
 use Rattle.std.proofs.lemmas.Bool.{and_parts, and_from, not-false, cases_Bool}
+use Rattle.std.proofs.lemmas.Nat.Bits.{and_pow}
+use Rattle.x86_64_model.specs.Laws.Caches.{WordsTellLosses}
 use Rattle.x86_64_model.specs.Laws.EntriesInPlace.{NamesNoTable, NameOneTable}
 use Rattle.x86_64_model.specs.Lists.{In}
-use Rattle.x86_64_model.specs.Entry.{has, used, present, address, names_table}
+use Rattle.x86_64_model.specs.Entry.{has, used, present, user, huge, address, names_table}
 use Rattle.x86_64_model.specs.Memory.{Words}
 use Rattle.x86_64_model.specs.Path.{is_small}
 use Rattle.x86_64_model.specs.PathMap.{PathMap, entry, put, table_of, table_at}
@@ -61,6 +64,41 @@ told_nothing e f n =
       user = implied _ _ p8.1;
       execute = not_implied _ _ p9.1;
     }
+
+-- words that agree in whether they have HUGE_PAGE have equal bits there
+same_bit : (e f : ℕ) → huge f ≡ huge e → bit_and f 0x80 ≡ bit_and e 0x80
+unfolding has
+same_bit e f same =
+    let of_e : bit_and e 0x80 ≡ bit_at e 7 * 0x80 = and_pow e 7 in
+    let of_f : bit_and f 0x80 ≡ bit_at f 7 * 0x80 = and_pow f 7 in
+    grind (arith, same, of_e, of_f)
+
+by_implication : (a b : Bool) → (a ≡ true → b ≡ true) → implies a b ≡ true
+by_implication true b h = h refl
+by_implication false b h = refl
+
+by_contraposition : (a b : Bool) → (b ≡ false → a ≡ false) → implies a b ≡ true
+by_contraposition a true h = by a
+  where
+    by : (a : Bool) → implies a true ≡ true
+    by true = refl
+    by false = refl
+by_contraposition a false h = ap (λ a. implies a false) (h refl)
+
+-- a present word of which nothing is lost, and that does not become a user's
+told_kept : (e f : ℕ) → present e ≡ true → LosesNothing e f → (user f ≡ true → user e ≡ true) → loses_between e f ≡ false
+unfolding has
+told_kept e f here kept users = ap not (
+    and_from _ _ (and_from _ _ (and_from _ _ (and_from _ _ (and_from _ _ (and_from _ _ (and_from _ _ (and_from _ _ (and_from _ _
+    (kept.is_present here) (eq-eqb _ _ kept.same_address)) (eq-eqb _ _ (same_bit e f kept.same_huge))) (eq-eqb _ _ kept.same_kind))
+    (by_implication _ _ kept.accessed)) (by_implication _ _ kept.dirty)) (by_implication _ _ kept.write)) (by_implication _ _ kept.user))
+    (by_contraposition _ _ kept.execute)) (by_implication _ _ users))
+
+pub words_tell_losses : WordsTellLosses
+words_tell_losses e f here = (
+    λ n. (told_nothing e f n, implied _ _ (and_parts _ _ (not-false _ n)).1),
+    λ kept. told_kept e f here kept.0 kept.1,
+)
 
 -- ---- an exchange
 
