@@ -231,9 +231,9 @@ mapped_by L (MapToWithTableFlags q frame given parent_flags) = Some q
 mapped_by L (IdentityMap level frame given) = Some (path_at L level frame)
 mapped_by L call = None
 
--- A call may begin when the last one is done, if it takes no frame of a table that a clean up freed before tables are flushed. No
--- map of a smaller page may begin where a larger one is due: a processor may keep the larger one in parts, and one INVLPG drops all of
--- them only as long as no smaller page is mapped there. If the kernel learns that no used entry loses anything, none does.
+-- A call may begin when the last one is done. It takes no frame that a clean up freed before tables are flushed, and maps no smaller
+-- page where a larger one is due: a processor may keep the larger one in parts, and one INVLPG drops all of them only as long as no
+-- smaller page is mapped there. If the kernel learns that no used entry loses anything, none does.
 pub record MayMake (m : Machine) (s : System) (call : Call) (loses : Bool) : Type 0 where
   pub done : IsDone s
   pub is_call : IsCall m.levels call

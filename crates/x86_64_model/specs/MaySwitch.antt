@@ -14,11 +14,11 @@ use Rattle.x86_64_model.specs.Flushing.{PageDue, HasZeros, StayFree, StayEmpty, 
 use Rattle.x86_64_model.specs.Tags.{Tag, Of, Tagged, CachesTagged, TaggedFlush, is_left, is_left_by_load}
 use Rattle.x86_64_model.specs.Switches.{Kernel, Space, AreHeld, Switching, SwitchEvent, held_by, AreDone, machine_at, state_at, with_words, with_marks, after_switch, Makes, Writes, Marks, Returns, Pools, Begins, Ends, Loads, Abandons, Flushes, Changes}
 
--- The kernel may begin a call on a space that the pool fits, when no call is under way. It takes no frame of a table that was freed
--- and isn't flushed for each PCID, and maps no page within a larger page that is due. The call leads this space to the machine's next path map. Each entry
--- of another space stays, or is this space's old entry at the same path and becomes the new one, as in shared tables, and nothing
--- changes from roots that the call doesn't reach. If the kernel learns that no used entry loses anything, none does, and if it
--- learns that nothing changes below entries that all spaces share, the call avoids these.
+-- The kernel may begin a call on a space that the pool fits, when no call is under way. The call takes no frame that a clean up freed
+-- before tables are flushed for each PCID, and maps no page within a larger page that is due. It leads this space to the machine's
+-- next path map. Each entry of another space stays, or is this space's old entry at the same path and becomes the new one, as in
+-- shared tables, and nothing changes from roots that the call doesn't reach. If the kernel learns that no used entry loses anything,
+-- none does, and if it learns that nothing changes below entries that all spaces share, the call avoids these.
 pub record MayMakeOn (k : Kernel) (s : Switching) (a : Space) (call : Call) (loses : Bool)
     (reaches : ℕ → Bool)
     (everywhere : Bool) (next : Space → PathMap) : Type 0 where

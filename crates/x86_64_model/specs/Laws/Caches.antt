@@ -123,14 +123,14 @@ LetGoIsUnreached = (m : Machine) (root : ℕ) (T : Words) (serves : ℕ → Bool
 
 -- ---- calls as a whole
 
--- A call that is no map may begin whatever tables are due, since it takes no frame of the pool. So every call may that waits, if it is
--- a map, until no tables are due.
+-- A call that is no map takes no frame of the pool. So no frame of a freed table is taken if maps wait until no tables are due.
 abbrev pub OnlyMapsTakeFrames : Type 0
 OnlyMapsTakeFrames = (m : Machine) → IsMachine m → (root : ℕ) (T : Words) (serves : ℕ → Bool) (s : State) → FitsState m T root serves s
     → (call : Call) → IsCall m.levels call → (due : List Due)
     → ((freed : List ℕ) → In due (TablesDue freed) → parent_flags_of call ≡ None) → StayFree due s.pool (step m s call).state.pool
 
--- A call may begin if none of the first frames of the pool, one for each level but the last, is of a table that is due.
+-- A call takes only the first frames of the pool, one for each level but the first. So no frame of a freed table is taken if none of
+-- these is of one that is due.
 abbrev pub FirstFramesAreTaken : Type 0
 FirstFramesAreTaken = (m : Machine) → IsMachine m → (root : ℕ) (T : Words) (serves : ℕ → Bool) (s : State) → FitsState m T root serves s
     → (call : Call) → IsCall m.levels call → (due : List Due)

@@ -43,12 +43,13 @@ pub fn frames_let_go_are_not_reached()
     ensures { LetGoIsUnreached }
 {}
 
-/// Only maps take frames from the pool: any other call may begin while a clean up isn't flushed.
+/// Only maps take frames from the pool: any other call may begin while a clean up isn't flushed, and a map if none is.
 pub fn only_maps_take_frames()
     ensures { OnlyMapsTakeFrames }
 {}
 
-/// A call takes only the first frames of the pool: it may begin while a clean up isn't flushed that freed none of them.
+/// A call takes only the first frames of the pool, one for each level but the first: it may begin while a clean up isn't flushed
+/// that freed none of them.
 pub fn only_first_frames_are_taken()
     ensures { FirstFramesAreTaken }
 {}
