@@ -132,15 +132,16 @@
  *               Nor is a right gone before the flush.
  *   a page      until a smaller page is mapped there: one INVLPG drops all of a large page only as
  *               long as no smaller one is there.
- *   tables      until the next map (x64_map, x64_map_as_mapper, x64_map_range) or x64_new_space
- *               with this pool, on whatever root, and until the caller takes a free frame. A freed
- *               table may become another table or a root, which the processor would walk as the
- *               old one.
+ *   tables      until a frame that x64_clean_up freed is taken: by a map (x64_map,
+ *               x64_map_as_mapper, x64_map_range) or x64_new_space with this pool, on whatever root,
+ *               or by the caller. It may become another table or a root, which the processor would
+ *               walk as the old one. The map of a page takes at most the last 3 free frames of the
+ *               pool (4 with 5 levels), so it waits only if one of these was freed.
  *
  * x64_clean_up may put the frames of tables into an array of its own, which is passed as its pool
  * and has room for all tables below the root (x64_pool_fits). Then maps with another pool take none
  * of them meanwhile. After the flush the caller adds them to the pool, with their zeros. The laws
- * below know one pool, after whose clean ups all maps wait.
+ * below know one pool, in whose order frames that were freed may come after others.
  *
  * PCIDs (CR4.PCIDE): a PCID holds the root with which CR3 was last loaded under it. INVLPG flushes
  * for the PCID that is current, and global pages. A load of CR3 flushes for the PCID that it loads,

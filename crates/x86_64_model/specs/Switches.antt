@@ -11,7 +11,7 @@ use Rattle.x86_64_model.specs.Validity.{paths_of}
 use Rattle.x86_64_model.specs.Call.{Call}
 use Rattle.x86_64_model.specs.Machine.{Machine, State, step}
 use Rattle.x86_64_model.specs.Spaces.{is_shared}
-use Rattle.x86_64_model.specs.Flushing.{Due, flush_after}
+use Rattle.x86_64_model.specs.Flushing.{Due, due_after}
 use Rattle.x86_64_model.specs.Tags.{Tag, Of, Global, Tagged, TaggedFlush, is_settled}
 
 -- ---- spaces
@@ -138,7 +138,7 @@ state_at s a = record { paths = a.paths; pool = s.pool }
 -- What a call on a space makes due to be flushed, nothing if no used entry may lose anything.
 abbrev pub made_due : Kernel → Switching → Space → Call → (loses : Bool) → List Due
 made_due k s a call loses =
-    cond loses (flush_after k.levels a.window call (step (machine_at k a) (state_at s a) call).reply) []
+    cond loses (due_after (machine_at k a) (state_at s a) call) []
 
 -- The space with the next path map that this function returns for it.
 abbrev pub with_next : (Space → PathMap) → Space → Space

@@ -77,7 +77,7 @@ is_page_at L p (Page w) = begins w.path (page_path L p)
 -- Whether what is due is a page in which the position lies, with L levels.
 abbrev pub is_due_at : (L position : ℕ) → Due → Bool
 is_due_at L p (PageDue q frame) = begins q (page_path L p)
-is_due_at L p TablesDue = false
+is_due_at L p (TablesDue freed) = false
 is_due_at L p WindowDue = false
 is_due_at L p (BelowDue q) = false
 

@@ -13,7 +13,7 @@ use Rattle.x86_64_model.specs.PathMap.{PathMap, entry, put, table_of, table_at}
 use Rattle.x86_64_model.specs.Window.{Window, begins_with, entry_at, outside_window}
 use Rattle.x86_64_model.specs.Machine.{Machine}
 use Rattle.x86_64_model.specs.Caches.{Cached}
-use Rattle.x86_64_model.specs.Flushing.{Due, PageDue, TablesDue, WindowDue, BelowDue, LosesNothing, System, MayExchange, Exchanges, after_event, implies, loses_between, due_between, if_window, below_due, page_due}
+use Rattle.x86_64_model.specs.Flushing.{Due, PageDue, TablesDue, WindowDue, BelowDue, IsUnflushed, LosesNothing, System, MayExchange, Exchanges, after_event, implies, loses_between, due_between, if_window, below_due, page_due}
 use Rattle.x86_64_model.proofs.Lemmas.Entries.Bits.{used_present}
 use Rattle.x86_64_model.proofs.Lemmas.Hierarchies.Held.{table_at-put_same, table_at-put_other}
 use Rattle.x86_64_model.proofs.Lemmas.Hierarchies.Trees.{IsHierarchy, hierarchy_of_valid, table_at_is, some_not_none, used_table, plain_table}
@@ -171,8 +171,8 @@ module _ (m : Machine) (root : ℕ) (serves : ℕ → Bool) (s : System) (safe :
   in_new d p n l f false c i = i
 
   -- no tables come to be due
-  older_tables : In due TablesDue → In s.due TablesDue
-  older_tables i = ⊎_elim (λ i. absurd (in_new TablesDue (λ f e. cc) (λ e. cc) (λ e. cc) _ _ _ i)) (λ i. i) (in_append new s.due TablesDue i)
+  older_tables : (f : ℕ) → IsUnflushed due f → IsUnflushed s.due f
+  older_tables f (freed, i, j) = (freed, ⊎_elim (λ i. absurd (in_new (TablesDue freed) (λ f e. cc) (λ e. cc) (λ e. cc) _ _ _ i)) (λ i. i) (in_append new s.due (TablesDue freed) i), j)
 
   -- nothing comes to be due by a word that isn't present
   older : present (entry s.paths q) ≡ false → (d : Due) → In due d → In s.due d
@@ -245,10 +245,10 @@ module _ (m : Machine) (root : ℕ) (serves : ℕ → Bool) (s : System) (safe :
       (seen_below m.levels root s.paths N due s.state.pool U m.window may.holds.self hierarchy.tree)
       (seen_alters m.levels root s.paths N due s.state.pool U m.window alters)
       (seen_empty m.levels root s.paths N due s.state.pool U m.window (λ p f t n. absurd (some_not_none f (sym t ∙ sym (tables_same p) ∙ n))))
-      (λ d. may.keeps (older_tables d)) c
+      (λ f d. may.keeps f (older_tables f d)) c
       (item_stays m.levels root m.window s.due due s.state.pool s.state.pool s.words (entry_at m.window s.paths) c (record {
         pages = λ v e f d. in_right new s.due _ d;
-        tables = λ t e d. (in_right new s.due TablesDue d, λ f i. i);
+        tables = λ t e d. ((d.0, in_right new s.due _ d.1, d.2), λ i. i);
         loose = λ d i l. in_right new s.due d i;
       }) x)
 

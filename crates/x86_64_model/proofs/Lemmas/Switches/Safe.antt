@@ -72,7 +72,7 @@ stale_windowed L window due E w (inr ((d, i, l), st)) = by d i l
   where
     by : (d : Due) → In due d → loosens None d w.path ≡ true → StalePage L window due E w
     by (PageDue q f) i l = cc
-    by TablesDue i l = cc
+    by (TablesDue freed) i l = cc
     by WindowDue i l = cc
     by (BelowDue q) i l = inr ((BelowDue q, i, l), st)
 
@@ -111,7 +111,7 @@ module _ (k : Kernel) (levels : 0 < k.levels) (s : Switching) (safe : IsSafe k s
 
         by : (d : Due) → In (s.due (Of c)) d → loosens a.window d x ≡ true → LooseAt None (s.due Global) x
         by (PageDue q f) i l = cc
-        by TablesDue i l = cc
+        by (TablesDue freed) i l = cc
         by WindowDue i l = absurd (let t : true ≡ false = sym h ∙ safe.held.windows a ia x l in cc)
         by (BelowDue q) i l = below q i l
 
