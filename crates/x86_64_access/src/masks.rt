@@ -8,7 +8,9 @@ ghost use Rattle.x86_64_access.specs.private.Masks.{global_bits, high_bits, kept
 ghost use Rattle.x86_64_access.specs.private.Walking.{may_read_on, rights_by};
 
 use crate::controls::{Controls, low_bits};
-use crate::entry_bits::{ADDRESS, GLOBAL, HUGE_PAGE, NO_EXECUTE, PRESENT, USER_ACCESSIBLE, WRITABLE};
+use crate::entry_bits::{
+    ADDRESS, GLOBAL, HUGE_PAGE, NO_EXECUTE, PRESENT, USER_ACCESSIBLE, WRITABLE,
+};
 use crate::request::{Access, AccessKind};
 use x86_64_tables::page_table::PageTableEntry;
 

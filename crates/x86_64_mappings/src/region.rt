@@ -4,8 +4,8 @@ ghost use Rattle.x86_64_mappings.specs.Texts.{region_text};
 ghost use Rattle.x86_64_model.specs.Position.{position_count};
 ghost use Rattle.x86_64_model.specs.Regions as model;
 
-use crate::mapping::MappingIn;
 use crate::letters::put_rights;
+use crate::mapping::MappingIn;
 use std::fmt::{Display, Formatter, Result as FmtResult, Write};
 use std::marker::Model;
 use text::pieces::{CAPACITY, put, put_hexadecimal, put_size, text_from};

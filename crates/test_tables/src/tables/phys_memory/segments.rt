@@ -65,8 +65,14 @@ static TESTED: [(&[FrameSegment], Option<usize>); 12] = [
     (&[segment(2, 1, 0), segment(0, 2, 1)], Some(1)),
     (&[segment(0, 2, 1), segment(2, 1, 0)], None),
     (&[segment(0, 2, 1), segment(2, 2, 0)], Some(1)),
-    (&[segment(0, 1, 0), segment(1, 1, 1), segment(2, 1, 0)], Some(2)),
-    (&[segment(0, 0, 0), segment(0, 1, 0), segment(1, 0, 9)], None),
+    (
+        &[segment(0, 1, 0), segment(1, 1, 1), segment(2, 1, 0)],
+        Some(2),
+    ),
+    (
+        &[segment(0, 0, 0), segment(0, 1, 0), segment(1, 0, 9)],
+        None,
+    ),
 ];
 
 #[test]
@@ -94,7 +100,10 @@ fn a_hierarchy_lies_around_a_hole(rt: HostRuntime) {
     for word in WORDS {
         set_words(rt, &mut memory, &word);
     }
-    let (mapping, root) = (unwrap(rt, SegmentMapping::new(&SEGMENTS)), frame_at(0x1_1000));
+    let (mapping, root) = (
+        unwrap(rt, SegmentMapping::new(&SEGMENTS)),
+        frame_at(0x1_1000),
+    );
     let address = VirtAddr::new_truncate(0x1abc);
     let walked = unwrap_some(rt, page_walk(&memory, &mapping, root, address));
     assert_equal(rt, walked.address.as_u64(), 0x1_fabc);

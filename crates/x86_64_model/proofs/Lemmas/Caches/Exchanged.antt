@@ -96,8 +96,8 @@ told_kept e f here kept users = ap not (
 
 pub words_tell_losses : WordsTellLosses
 words_tell_losses e f here = (
-    λ n. (told_nothing e f n, implied _ _ (and_parts _ _ (not-false _ n)).1),
-    λ kept. told_kept e f here kept.0 kept.1,
+  λ n. (told_nothing e f n, implied _ _ (and_parts _ _ (not-false _ n)).1),
+  λ kept. told_kept e f here kept.0 kept.1,
 )
 
 -- ---- an exchange
