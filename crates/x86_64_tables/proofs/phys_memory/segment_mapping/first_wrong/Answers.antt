@@ -7,8 +7,8 @@ returns-then-not-may_follow-clause-wrong c = record {
   there = c.loop-index-test.true;
   before = c.loop-index.invariant;
   wrong =
-    next_in_order c.args.segments.now c.loop-index.index _ c.may_follow.result c.loop-index-test.true c.loop-index.invariant c.may_follow.ensures
-    ∙ c.if-not-may_follow.true;
+      next_in_order c.args.segments.now c.loop-index.index _ c.may_follow.result c.loop-index-test.true c.loop-index.invariant c.may_follow.ensures
+      ∙ c.if-not-may_follow.true;
 }
 
 pub loop-index-preserved : goal.loop-index-preserved
