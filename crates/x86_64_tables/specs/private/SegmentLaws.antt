@@ -1,5 +1,5 @@
 -- Segments in order are a frame mapping: distinct frames that they have, have distinct places.
-use Rattle.std.specs.Prelude.{◌≡◌, ◌/◌, ◌+◌, ◌-◌, ◌<◌, ◌≤◌, ◌&&◌, ◌||◌, ◌⊎◌, ◌^◌, ℕ, Bool, true, false, cond, nat_le, nat_lt, List, [], ◌∷◌, Some, None, is_some}
+use Rattle.std.specs.Prelude.{◌≡◌, ◌/◌, ◌+◌, ◌<◌, ◌≤◌, ◌&&◌, ◌⊎◌, ◌^◌, ℕ, true, false, cond, nat_le, nat_lt, List, [], ◌∷◌, Some, is_some}
 use Rattle.std.specs.List.{find, list_all}
 use Rattle.std.specs.Option.{option_map, unwrap_or}
 use Rattle.std.proofs.Common.{refl, sym, arith, inl, inr}

@@ -102,6 +102,7 @@ fn first_wrong(segments: &[FrameSegment]) -> Option<usize> {
 
 /// Returns the place of the frame with a number, or `None` if none of the segments has it. This is separate, so that callers
 /// contain only the code for frames of the first segment.
+#[cold]
 #[inline(never)]
 fn search(segments: &[FrameSegment], number: u64) -> Option<u64> {
     let count = segments.partition_point(|segment| segment.first <= number);
