@@ -1,3 +1,4 @@
 pub mod Looks
 pub mod Maps
 pub mod Prepared
+pub mod PreparedThenMapped

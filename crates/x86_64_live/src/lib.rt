@@ -1,6 +1,7 @@
 //! Maps of single pages in tables that are in use: each looks at the tables first, and a refused one changes nothing.
 #![tactic(auto)]
 
+pub mod laws;
 mod look;
 mod map;
 mod prepare;

@@ -34,8 +34,8 @@ pub fn may_prepare<S: PageSize, L: LevelCount, T: TableMemory, P: PageTableFrame
     parent_flags: PageTableFlags,
 ) -> bool
     requires { Valid (direct_at L.LEVELS (P.places mapping) root laid_in T.tables memory.old) }
-    ensures answer { result ≡ allows_page (direct_at L.LEVELS (P.places mapping) root laid_in T.tables memory.old)
-        S.LEVEL page 0 (bits_of parent_flags) }
+    ensures answer { let h = direct_at L.LEVELS (P.places mapping) root laid_in T.tables memory.old in
+        result ≡ allows_page h S.LEVEL page 0 (bits_of parent_flags) }
     ensures kept { T.tables memory.new ≡ T.tables memory.old }
     ensures lent { T.lent memory.new ≡ T.lent memory.old }
 {

@@ -1,0 +1,15 @@
+//! Laws of maps in tables that are in use. The bodies are empty, the contracts are the laws.
+ghost use Rattle.x86_64_live.specs.PreparedMaps.{PreparedMapsAreMaps, SmallPreparationsAreSteps};
+
+/// To prepare a page and then to map it with the same parent flags is to map it.
+#[tactic(auto, using(crate::proofs::PreparedThenMapped::prepared_maps_are_maps))]
+pub fn prepared_maps_are_maps()
+    ensures { PreparedMapsAreMaps }
+{}
+
+/// To prepare a page of 4KiB is a step of the machine: that of a map of the page to frame 0 without flags. So what laws say
+/// after each call of the machine, they say after it.
+#[tactic(auto, using(crate::proofs::PreparedThenMapped::small_preparations_are_steps))]
+pub fn small_preparations_are_steps()
+    ensures { SmallPreparationsAreSteps }
+{}
