@@ -2,6 +2,8 @@
 
 mod look;
 mod map;
+mod prepare;
 
 pub use look::would_map;
 pub use map::{map_or_nothing, may_map, PageMap};
+pub use prepare::{may_prepare, prepare};
