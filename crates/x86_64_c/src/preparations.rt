@@ -1,4 +1,4 @@
-//! Tables that are made above a page, before it is mapped.
+//! Tables above a page
 ghost use Rattle.std.specs.Prelude.{◌≡◌, ◌≤◌, ℕ, List, length, None, Some, IfOk, IfErr, OnErr};
 ghost use Rattle.x86_64_c.specs.Arguments as given;
 ghost use Rattle.x86_64_c.specs.PoolCalls as calls;

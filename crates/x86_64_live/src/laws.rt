@@ -1,4 +1,4 @@
-//! Laws of maps in tables that are in use. The bodies are empty, the contracts are the laws.
+//! Laws of pages whose tables were made before
 ghost use Rattle.x86_64_live.specs.PreparedMaps.{PreparedMapsAreMaps, SmallPreparationsAreSteps};
 
 /// To prepare a page and then to map it with the same parent flags is to map it.

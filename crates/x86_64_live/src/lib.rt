@@ -1,4 +1,4 @@
-//! Maps of single pages in tables that are in use: each looks at the tables first, and a refused one changes nothing.
+//! Maps of single pages in tables in use: each looks first, and a refused one changes nothing.
 #![tactic(auto)]
 
 pub mod laws;

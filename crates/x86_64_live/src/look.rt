@@ -1,4 +1,4 @@
-//! Looks down the page tables before a map.
+//! Looks before a map
 ghost use Rattle.std.specs.Prelude.{◌≡◌, ◌≤◌};
 ghost use Rattle.x86_64_mappers.specs.Layouts.{direct_at};
 ghost use Rattle.x86_64_live.specs.WouldAnswer.{WouldAnswer};

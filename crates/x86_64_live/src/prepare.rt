@@ -1,4 +1,4 @@
-//! Preparation: the tables above a page, made before the page is mapped.
+//! Tables above a page
 ghost use Rattle.std.specs.Prelude.{◌≡◌, length, OnErr};
 ghost use Rattle.x86_64_live.specs.Prepares.{Prepares};
 ghost use Rattle.x86_64_mappers.specs.Layouts.{direct_at};

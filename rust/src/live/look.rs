@@ -1,4 +1,4 @@
-//! Looks down the page tables before a map.
+//! Looks before a map
 
 use crate::addresses::level_count::LevelCount;
 use crate::pages::frame::PhysFrame;

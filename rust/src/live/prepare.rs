@@ -1,4 +1,4 @@
-//! Preparation: the tables above a page, made before the page is mapped.
+//! Tables above a page
 
 use crate::addresses::addr::PhysAddr;
 use crate::addresses::level_count::LevelCount;
