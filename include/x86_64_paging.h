@@ -71,9 +71,8 @@
  * including, shared_to. A kernel that has the upper half for itself shares 256 to 512. With 0 to 0
  * nothing is shared. A call on one of the spaces then keeps the others: below shared entries they
  * see what it did, elsewhere they stay as they were, and all fit together again. This is proved of
- * all calls but x64_access, and x64_prepare for pages larger than 4 KiB, as long as the root's
- * shared entries stay what they are. What changes one in one root must not happen, or the caller
- * has to do the same in all roots:
+ * all calls but x64_access, as long as the root's shared entries stay what they are. What changes
+ * one in one root must not happen, or the caller has to do the same in all roots:
  *
  *   x64_map, x64_map_as_mapper, x64_map_range, x64_prepare
  *                        if the shared entry is 0, or lacks one of the parent flags

@@ -1,10 +1,10 @@
 -- What making the tables above a page leaves of the caller's tables and pool, and the status that it has.
-use Rattle.std.proofs.Common.{◌≡◌, ℕ, true, false, true≢false, not, List, Option, Some, None, refl, sym, ap, ap₂, ◌∙◌, subst, subst₂}
+use Rattle.std.proofs.Common.{◌≡◌, ℕ, true, false, true≢false, not, List, Option, Some, None, Result, Ok, Err, refl, sym, ap, ap₂, ◌∙◌, subst, subst₂}
 use Rattle.std.proofs.lemmas.Bool.{ne_eqb}
 use Rattle.x86_64_live.specs.Prepares.{Prepares}
 use Rattle.x86_64_mappers.specs.PageAnswers.{allows_page}
 use Rattle.x86_64_mappers.specs.Supplies.{Supply}
-use Rattle.x86_64_mappers.specs.TablesAbove.{AfterTables}
+use Rattle.x86_64_mappers.specs.TablesAbove.{AfterTables, tables_refusal}
 use Rattle.x86_64_model.specs.Hierarchy.{Hierarchy}
 use Rattle.x86_64_model.specs.Layout.{Layout}
 use Rattle.x86_64_model.specs.Memory.{Memory}
@@ -12,6 +12,9 @@ use Rattle.x86_64_model.specs.Refusal.{Refusal}
 use Rattle.x86_64_model.specs.Store.{KeepsPool, Store, StoreFits}
 use Rattle.x86_64.proofs.Keeping.{keeps_nothing}
 use Rattle.x86_64_c.specs.Arguments.{hierarchy_in, level_of_page_size, position_of}
+use Rattle.x86_64_tables.specs.MapperAnswers.{map_refusal}
+use Rattle.x86_64_tables.specs.declared.errors.MapToError.{MapToError}
+use Rattle.x86_64_c.specs.Calls.{result_status}
 use Rattle.x86_64_c.specs.PoolCalls.{loan}
 use Rattle.x86_64_c.specs.Preparations.{ExecutesPreparation, PreparesPage, preparation_refusal, preparation_status, supply_in, wrong_preparation}
 use Rattle.x86_64_c.specs.Status.{not_allowed, ok}
@@ -59,6 +62,18 @@ module _ (l : Layout) (store : Store) (m : Memory) (level page more : ℕ) (fits
           keeps = keeps.0;
           serves = keeps.1;
         }
+
+-- ---- by the result
+
+-- the status of an allowed one is that of its result
+pub told_status : {S X : Type 0} (r : Result X (MapToError S)) → result_status map_refusal r ≡ preparation_status true (tables_refusal r)
+told_status (Ok x) = refl
+told_status (Err why) = refl
+
+-- it leaves a supply that serves the same frames
+pub prepared_serves : {Lent S X : Type 0} (h after : Hierarchy Lent) (supply rest : Supply) (level page more : ℕ) (r : Result X (MapToError S)) → Prepares h supply level page more (tables_refusal r) after rest → rest.serves ≡ supply.serves
+prepared_serves h after supply rest level page more (Ok x) prepares = (prepares.done refl).serves
+prepared_serves h after supply rest level page more (Err why) prepares = ap (λ (s : Supply). s.serves) (prepares.refused tt).1
 
 -- ---- in the caller's tables and pool
 

@@ -1,16 +1,19 @@
 //! Tables above a page
 ghost use Rattle.std.specs.Prelude.{◌≡◌, ◌≤◌, ℕ, List, length, None, Some, IfOk, IfErr, OnErr};
 ghost use Rattle.x86_64_c.specs.Arguments as given;
+ghost use Rattle.x86_64_c.specs.Calls.{result_status};
 ghost use Rattle.x86_64_c.specs.PoolCalls as calls;
 ghost use Rattle.x86_64_c.specs.Preparations as preparations;
 ghost use Rattle.x86_64_c.specs.private.Pools as pools;
 ghost use Rattle.x86_64_c.specs.private.PreparationSteps.{PreparesIn};
+ghost use Rattle.x86_64_tables.specs.MapperAnswers.{map_refusal};
 
 use crate::arguments::{AnyPage, Hierarchy, Located, Page, page_of};
 use crate::operation::{Operation, enter};
 use crate::pool::{PoolStep, Stepped, with_pool};
 use crate::status::{self, map_status};
 use bitflags::Flags;
+use x86_64::structures::paging::mapper::MapToError;
 use x86_64::structures::paging::{PageIn, PageSize, PageTable, PageTableFlags};
 use x86_64::{FrameStore, LevelCount, OwnFrames, TableMemory};
 use x86_64_live::{may_prepare, prepare};
@@ -162,12 +165,20 @@ impl<S: PageSize, L: LevelCount> PoolStep<L> for TablesAbove<S, L> {
         if !may_prepare(memory, mapping, root, page, parent_flags) {
             return status::NOT_ALLOWED;
         }
-        match prepare(memory, mapping, root, page, parent_flags, frames, free_count) {
-            Ok(()) => status::OK,
-            Err(error) => map_status(error),
-        }
+        let prepared = prepare(memory, mapping, root, page, parent_flags, frames, free_count);
+        prepared_status(prepared)
     }
 
     ghost own_frames = { λ new own array count serves same h after free rest status.
         own_prepares own array count same h after free rest _ _ _ status };
+}
+
+/// Returns the status of a preparation that is allowed.
+fn prepared_status<S: PageSize>(prepared: Result<(), MapToError<S>>) -> u32
+    ensures { result ≡ result_status map_refusal prepared }
+{
+    match prepared {
+        Ok(()) => status::OK,
+        Err(error) => map_status(error),
+    }
 }

@@ -1,9 +1,9 @@
 -- A map of a page that was prepared finds its tables, and goes on where it would have been after making them.
-use Rattle.std.proofs.Common.{◌≡◌, ◌≢◌, ◌<◌, ◌==◌, ◌+◌, ◌-◌, ℕ, Bool, true, false, cond, List, [], ◌∷◌, length, None, Some, bit_and, bit_or, min, refl, sym, ap, ap₂, ◌∙◌, subst, arith, eq-eqb, eqb-true}
+use Rattle.std.proofs.Common.{◌≡◌, ◌≢◌, ◌<◌, ◌==◌, ◌+◌, ◌-◌, ℕ, Bool, true, false, cond, List, [], ◌∷◌, length, None, Some, bit_and, bit_or, min, refl, sym, ap, ap₂, ◌∙◌, ⊎_elim, subst, arith, eq-eqb, eqb-true}
 use Rattle.std.proofs.lemmas.Nat.Bits.{same_from_bits, bit_at_and}
 use Rattle.std.specs.Int.{bit_at}
 use Rattle.std.specs.List.{AllByRecursion}
-use Rattle.x86_64_live.specs.PreparedMaps.{PreparedMapsAreMaps, SmallPreparationsAreSteps, empty_map}
+use Rattle.x86_64_live.specs.PreparedMaps.{FlaggedEntriesStay, PreparedMapsAreMaps, SmallPreparationsAreSteps, empty_map}
 use Rattle.x86_64_live.specs.Prepares.{Prepares}
 use Rattle.x86_64_mappers.proofs.Map.TablesMade.{at_end, put_same, without_page}
 use Rattle.x86_64_mappers.specs.Supplies.{Supply}
@@ -22,6 +22,7 @@ use Rattle.x86_64_model.proofs.Lemmas.Entries.Bits.{unused_zero}
 use Rattle.x86_64_model.proofs.Lemmas.Hierarchies.Trees.{IsTree, plain_table, tree_of_holds, used_table}
 use Rattle.x86_64_model.proofs.Lemmas.Lists.All.{all_mapped}
 use Rattle.x86_64_model.proofs.Lemmas.Maps.Down.{Descends, others, descends_same, step_used, step_huge, step_new, step_none, step_last}
+use Rattle.x86_64_model.proofs.Lemmas.Maps.Rights.{Grows, map_grows}
 use Rattle.x86_64_model.proofs.Lemmas.Maps.Trees.{page_descends, parents_short}
 use Rattle.x86_64_model.proofs.Lemmas.Pairs.AlikeEntries.{or_part}
 use Rattle.x86_64_model.proofs.Lemmas.Paths.Pages.{length_taken}
@@ -95,12 +96,16 @@ module _ (h after : Hierarchy (Unit {0})) (supply rest : Supply) (level page mor
   now : IsTree after.layout.levels after.layout.root (paths after)
   now = tree after rest.frames ((prepares.done refl).fits (λ f. true) fits)
 
+  way : Descends (paths h) (parents q) q
+  way = page_descends h.layout.levels h.layout.root (paths h) before q
+
+  without_entry : Descends (paths h) (parents q) []
+  without_entry = without_page (paths h) (parents q) q (all_mapped _ _ (λ p (s : (0 < length p) × (length p < length q)). s.0) (parents q) (parents_short q)) way
+
   by_parents : (e frame : ℕ) → map_rule (paths h) supply.frames more added (parents q) q e frame ≡ map_rule (paths after) rest.frames more added [] q e frame
   by_parents e frame =
       let creates = prepares.done refl in
-      let way = page_descends h.layout.levels h.layout.root (paths h) before q in
-      let nonempty : AllByRecursion (λ p. 0 < length p) (parents q) = all_mapped _ _ (λ p (s : (0 < length p) × (length p < length q)). s.0) (parents q) (parents_short q) in
-      comes_down more added q e frame (paths after) rest.frames now.used_alone (paths h) supply.frames (parents q) way (without_page (paths h) (parents q) q nonempty way) before.nothing_above before.used_alone
+      comes_down more added q e frame (paths after) rest.frames now.used_alone (paths h) supply.frames (parents q) way without_entry before.nothing_above before.used_alone
       (record {
         paths = sym (ap (λ (a : AfterTables). a.paths) creates.outcome);
         supply = sym (ap (λ (a : AfterTables). a.supply) creates.outcome);
@@ -111,6 +116,9 @@ module _ (h after : Hierarchy (Unit {0})) (supply rest : Supply) (level page mor
   again e frame =
       goes_down more added q e frame (paths after) rest.frames now.used_alone (parents q) (page_descends after.layout.levels after.layout.root (paths after) now q) ((prepares.done refl).made refl)
       ∙ sym (by_parents e frame)
+
+  grown : Grows more (paths h) (paths after)
+  grown = subst (Grows more (paths h)) (sym (ap (λ (a : AfterTables). a.paths) (prepares.done refl).outcome)) (map_grows more added [] 0 0 (paths h) supply.frames (parents q) without_entry)
 
   -- with the word 0 nothing more is written
   abbrev found : AfterMap
@@ -142,3 +150,7 @@ small_preparations_are_steps h after supply rest page more fits some prepares ma
     ap (λ b. let a : AfterCall = cond b (do_call (machine_of h.layout take_back) (state_of h supply.frames) (empty_map h page more)) (only_reply (state_of h supply.frames) NotAllowed) in a.state) may
     ∙ ap (λ e. state h after supply rest 1 page more fits prepares (map_rule (paths h) supply.frames more h.layout.added_flags (parents (path_of h 1 page)) (path_of h 1 page) e 0)) (empty_entry h.layout.levels page some)
     ∙ ap (state h after supply rest 1 page more fits prepares) (by_parents h after supply rest 1 page more fits prepares 0 0) ∙ nothing_written h after supply rest 1 page more fits prepares
+
+pub flagged_entries_stay : FlaggedEntriesStay
+flagged_entries_stay h after supply rest level page more fits prepares p is_used flagged =
+    ⊎_elim (λ same. same) (λ more. more ∙ flagged) (grown h after supply rest level page more fits prepares p is_used)

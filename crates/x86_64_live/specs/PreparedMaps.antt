@@ -1,11 +1,13 @@
 -- Maps of pages that were prepared, and preparations that are maps.
-use Rattle.std.specs.Prelude.{◌≡◌, ◌<◌, ℕ, true, List, None}
+use Rattle.std.specs.Prelude.{◌≡◌, ◌<◌, ℕ, true, List, None, bit_or}
 use Rattle.x86_64_live.specs.Prepares.{Prepares}
 use Rattle.x86_64_mappers.specs.Supplies.{Supply}
 use Rattle.x86_64_model.specs.Call.{Call, MapToWithTableFlags}
+use Rattle.x86_64_model.specs.Entry.{used}
 use Rattle.x86_64_model.specs.Hierarchy.{Hierarchy, SupplyFits, allows, machine_of, paths, path_of, state_of}
 use Rattle.x86_64_model.specs.Machine.{step}
 use Rattle.x86_64_model.specs.MapRule.{map_call}
+use Rattle.x86_64_model.specs.PathMap.{entry}
 
 -- After a page was prepared, a map of it with the same parent flags gives the answer, and leaves the paths and the supply, that it
 -- would have given and left alone.
@@ -25,3 +27,8 @@ abbrev pub SmallPreparationsAreSteps : Type 0
 SmallPreparationsAreSteps = (h after : Hierarchy (Unit {0})) (supply rest : Supply) (page more : ℕ) → SupplyFits h supply.frames → 0 < h.layout.levels → Prepares h supply 1 page more None after rest
     → allows h (empty_map h page more) ≡ true → (take_back : List ℕ → ℕ → List ℕ)
     → (step (machine_of h.layout take_back) (state_of h supply.frames) (empty_map h page more)).state ≡ state_of after rest.frames
+
+-- A used entry that has the parent flags stays, for example one of the root that address spaces share.
+abbrev pub FlaggedEntriesStay : Type 0
+FlaggedEntriesStay = (h after : Hierarchy (Unit {0})) (supply rest : Supply) (level page more : ℕ) → SupplyFits h supply.frames → Prepares h supply level page more None after rest
+    → (p : List ℕ) → used (entry (paths h) p) ≡ true → bit_or (entry (paths h) p) more ≡ entry (paths h) p → entry (paths after) p ≡ entry (paths h) p

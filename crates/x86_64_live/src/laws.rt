@@ -1,5 +1,5 @@
 //! Laws of pages whose tables were made before
-ghost use Rattle.x86_64_live.specs.PreparedMaps.{PreparedMapsAreMaps, SmallPreparationsAreSteps};
+ghost use Rattle.x86_64_live.specs.PreparedMaps.{FlaggedEntriesStay, PreparedMapsAreMaps, SmallPreparationsAreSteps};
 
 /// To prepare a page and then to map it with the same parent flags is to map it.
 #[tactic(auto, using(crate::proofs::PreparedThenMapped::prepared_maps_are_maps))]
@@ -12,4 +12,11 @@ pub fn prepared_maps_are_maps()
 #[tactic(auto, using(crate::proofs::PreparedThenMapped::small_preparations_are_steps))]
 pub fn small_preparations_are_steps()
     ensures { SmallPreparationsAreSteps }
+{}
+
+/// To prepare a page leaves each used entry that has the parent flags. So it keeps address spaces, by
+/// [`spaces_stay`](x86_64_model::laws::spaces::spaces_stay), if the root's shared entry on the way has them.
+#[tactic(auto, using(crate::proofs::PreparedThenMapped::flagged_entries_stay))]
+pub fn flagged_entries_stay()
+    ensures { FlaggedEntriesStay }
 {}
