@@ -6,6 +6,6 @@ mod look;
 mod map;
 mod prepare;
 
-pub use look::would_map;
+pub use look::{would_map, would_prepare};
 pub use map::{PageMap, map_or_nothing, may_map};
 pub use prepare::{may_prepare, prepare};
