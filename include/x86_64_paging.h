@@ -217,9 +217,9 @@
  *    each other, as long as no call touches the same word and no table on the way is freed between
  *    finding a word and exchanging it. x86_64_paging_live.h has the functions, and says more.
  *    x64_map, x64_map_as_mapper, x64_unmap and x64_update_flags touch the entry of their page and
- *    those above it, and x64_prepare changes only those above it; ranges touch those of all their
- *    pages; x64_clean_up touches all entries in its range, and x64_give_up_space those of the root,
- *    and both free tables.
+ *    those above it, and x64_prepare only those above it; ranges touch those of all their pages;
+ *    x64_clean_up touches all entries in its range, and x64_give_up_space those of the root, and
+ *    both free tables.
  * 5. Processors mark entries at any moment. What they set is lost only by calls that read an entry
  *    and then write it: x64_unmap, x64_update_flags, their ranges, x64_set_table_flags, maps and
  *    x64_prepare if they add parent flags, and x64_access with mark. The last one may also put back
@@ -679,7 +679,7 @@ uint32_t x64_map_as_mapper(const x64_hierarchy *hierarchy, x64_table *tables, si
  * Makes the tables above a page, or changes nothing: unless it returns X64_OK, the tables, the pool
  * and *free_count are as before. After X64_OK each entry above the page names a table and has the
  * parent flags. Those that were 0 name new tables: the last free frames of the pool, which are
- * cleared. The page's own entry stays, whatever it is.
+ * cleared. The page's own entry is neither read nor written.
  *
  * A map of the page then needs no free frame, and an exchange of its entry (x86_64_paging_live.h)
  * no table. So a handler of faults that may not fail has its pages prepared, and two handlers may

@@ -4,6 +4,6 @@ mod look;
 mod map;
 mod prepare;
 
-pub use look::would_map;
+pub use look::{would_map, would_prepare};
 pub use map::{map_or_nothing, may_map, PageMap};
 pub use prepare::{may_prepare, prepare};

@@ -1,9 +1,8 @@
 //! Tables above a page
 
-use crate::addresses::addr::PhysAddr;
 use crate::addresses::level_count::LevelCount;
 use crate::bitflags::Flags;
-use crate::live::look::would_map;
+use crate::live::look::would_prepare;
 use crate::mappers::calls::{create_tables, map_allowed};
 use crate::mappers::mapped_page_table::MappedPageTableIn;
 use crate::pages::frame::PhysFrame;
@@ -39,17 +38,16 @@ pub fn may_prepare<S: PageSize, L: LevelCount, T: TableMemory, P: PageTableFrame
 
 /// Makes the tables above a page, or changes nothing if this is refused: no word of the memory, and no frame of the allocator.
 ///
-/// Afterwards each entry above the page names a table and has the parent flags. The page's own entry, used or not, is neither read for
-/// the result nor written. So a later map of the page needs no frame and can't be refused for a missing table, and another
-/// processor may exchange the page's own entry at the same time. A map after it does what the map would have done alone.
+/// Afterwards each entry above the page names a table and has the parent flags. The page's own entry, used or not, is neither read
+/// nor written: another processor may exchange it at the same time. A later map of the page needs no frame, and does what it
+/// would have done alone.
 ///
-/// This looks first, as [`would_map`] does. Requires that the hierarchy is valid, that the allocator's frames fit it and are
+/// This looks first, as [`would_prepare`] does. Requires that the hierarchy is valid, that the allocator's frames fit it and are
 /// `free_frames` in number, and that [`may_prepare`] returns true.
 ///
 /// # Errors
 ///
-/// `ParentEntryHugePage` if a used entry above the page's own has `HUGE_PAGE`, else `FrameAllocationFailed` if more tables are
-/// missing than frames are free.
+/// Those of [`would_prepare`].
 ///
 /// # Proved
 ///
@@ -69,11 +67,7 @@ pub fn prepare<S: PageSize, L: LevelCount, T: TableMemory, P: PageTableFrameMapp
     frame_allocator: &mut A,
     free_frames: usize,
 ) -> Result<(), MapToError<S>> {
-    let any_frame = PhysFrame::containing_address(PhysAddr::zero());
-    match would_map(memory, &mapping, root, page, any_frame, free_frames) {
-        Ok(()) | Err(MapToError::PageAlreadyMapped(_)) => {}
-        Err(error) => return Err(error),
-    }
+    would_prepare(memory, &mapping, root, page, free_frames)?;
     let mut mapper = MappedPageTableIn::<_, L, T>::new(memory, root, mapping);
     create_tables(&mut mapper, page, parent_flags, frame_allocator)
 }
