@@ -37,36 +37,36 @@ no_more : (more e : ℕ) → IsParent more e → bit_or e more ≡ e
 unfolding has
 no_more more e parent = or_part e more (eqb-true (bit_and e more) more (parent.has_flags more (has_itself more)))
 
+-- a map of the parents without a refusal left this path map and this supply
+record Left (N : PathMap) (rest : List ℕ) (a : AfterMap) : Type 0 where
+  pub made : a.paths ≡ N
+  pub supply : a.supply ≡ rest
+  pub none : refusal_of a.answer ≡ None
+
 -- N and rest are what making the tables left
 module _ (more added : ℕ) (q : List ℕ) (e frame : ℕ) (N : PathMap) (rest : List ℕ) (alone : HasUsedAlone N) where
-  -- made without a refusal
-  record Left (a : AfterMap) : Type 0 where
-    pub paths : a.paths ≡ N
-    pub supply : a.supply ≡ rest
-    pub none : refusal_of a.answer ≡ None
-
   abbrev without : PathMap → (supply : List ℕ) → (ps : List (List ℕ)) → AfterMap
   without M supply ps = map_rule M supply more added ps [] 0 0
 
   -- a map comes to the page's own entry with what was left
   pub comes_down : (M : PathMap) (supply : List ℕ) (ps : List (List ℕ)) → Descends M ps q → Descends M ps [] → entry M [] ≡ 0 → HasUsedAlone M
-      → Left (without M supply ps) → map_rule M supply more added ps q e frame ≡ map_rule N rest more added [] q e frame
+      → Left N rest (without M supply ps) → map_rule M supply more added ps q e frame ≡ map_rule N rest more added [] q e frame
   comes_down M supply [] c d top own left =
       let is = at_end more added M supply [] own top in
-      ap₂ (λ M supply. map_rule M supply more added [] q e frame) (sym (ap (λ (a : AfterMap). a.paths) is) ∙ left.paths) (sym (ap (λ (a : AfterMap). a.supply) is) ∙ left.supply)
+      ap₂ (λ M supply. map_rule M supply more added [] q e frame) (sym (ap (λ (a : AfterMap). a.paths) is) ∙ left.made) (sym (ap (λ (a : AfterMap). a.supply) is) ∙ left.supply)
   comes_down M supply (p ∷ ps) c d top own left =
       let Comes : List ℕ → Type 0 = λ s. map_rule M s more added (p ∷ ps) q e frame ≡ map_rule N rest more added [] q e frame in
-      let below : (x : ℕ) (s : List ℕ) → Left (without (put M p x) s ps) → map_rule (put M p x) s more added ps q e frame ≡ map_rule N rest more added [] q e frame = λ x s.
+      let below : (x : ℕ) (s : List ℕ) → Left N rest (without (put M p x) s ps) → map_rule (put M p x) s more added ps q e frame ≡ map_rule N rest more added [] q e frame = λ x s.
       comes_down (put M p x) s ps (descends_same M (put M p x) ps q (others more added q e frame M p x ps c.1) c.3) (descends_same M (put M p x) ps [] (others more added [] 0 0 M p x ps d.1) d.3)
       (entry-put_other M p x [] d.2 ∙ top) (used_alone-put M p x own) in
-      elim (used (entry M p)) as (λ u. used (entry M p) ≡ u → Left (without M supply (p ∷ ps)) → Comes supply) [
-        | true ↦ λ u. elim (huge (entry M p)) as (λ h. huge (entry M p) ≡ h → Left (without M supply (p ∷ ps)) → Comes supply) [
+      elim (used (entry M p)) as (λ u. used (entry M p) ≡ u → Left N rest (without M supply (p ∷ ps)) → Comes supply) [
+        | true ↦ λ u. elim (huge (entry M p)) as (λ h. huge (entry M p) ≡ h → Left N rest (without M supply (p ∷ ps)) → Comes supply) [
           | true ↦ λ h l. absurd (let z : Some ParentEntryHugePage ≡ None = sym (ap (λ (a : AfterMap). refusal_of a.answer) (step_huge more added [] 0 0 M p ps d supply u h)) ∙ l.none in cc)
-          | false ↦ λ h l. step_used more added q e frame M p ps c supply u h ∙ below (bit_or (entry M p) more) supply (subst Left (step_used more added [] 0 0 M p ps d supply u h) l)
+          | false ↦ λ h l. step_used more added q e frame M p ps c supply u h ∙ below (bit_or (entry M p) more) supply (subst (Left N rest) (step_used more added [] 0 0 M p ps d supply u h) l)
         ] refl
-        | false ↦ λ u. elim supply as (λ s. Left (without M s (p ∷ ps)) → Comes s) [
+        | false ↦ λ u. elim supply as (λ s. Left N rest (without M s (p ∷ ps)) → Comes s) [
           | [] ↦ λ l. absurd (let z : Some FrameAllocationFailed ≡ None = sym (ap (λ (a : AfterMap). refusal_of a.answer) (step_none more added [] 0 0 M p ps d u)) ∙ l.none in cc)
-          | f ∷ fs ↦ λ l. step_new more added q e frame M p ps c f fs u ∙ below (bit_or f (bit_or more added)) fs (subst Left (step_new more added [] 0 0 M p ps d f fs u) l)
+          | f ∷ fs ↦ λ l. step_new more added q e frame M p ps c f fs u ∙ below (bit_or f (bit_or more added)) fs (subst (Left N rest) (step_new more added [] 0 0 M p ps d f fs u) l)
         ]
       ] refl left
 
@@ -107,7 +107,7 @@ module _ (h after : Hierarchy (Unit {0})) (supply rest : Supply) (level page mor
       let creates = prepares.done refl in
       comes_down more added q e frame (paths after) rest.frames now.used_alone (paths h) supply.frames (parents q) way without_entry before.nothing_above before.used_alone
       (record {
-        paths = sym (ap (λ (a : AfterTables). a.paths) creates.outcome);
+        made = sym (ap (λ (a : AfterTables). a.paths) creates.outcome);
         supply = sym (ap (λ (a : AfterTables). a.supply) creates.outcome);
         none = sym (ap (λ (a : AfterTables). a.refusal) creates.outcome);
       })
@@ -141,7 +141,7 @@ prepared_maps_are_maps h after supply rest level page more fits prepares frame g
 
 -- the entry of a page of 4KiB in frame 0 without flags
 empty_entry : (L page : ℕ) → 0 < L → leaf_entry L (path_at L 1 page) 0 0 ≡ 0
-empty_entry L page some = let long : length (path_at L 1 page) ≡ L = length_taken page (L + 1 - 1) L (omega arith) ∙ omega arith in
+empty_entry L page some = let long : length (path_at L 1 page) ≡ L = length_taken page (L + 1 - 1) L (omega arith) ∙ (let one : L + 1 - 1 ≡ L = omega arith in one) in
     ap (λ b. bit_or 0 (cond b 0 (bit_or 0 0x80))) (eq-eqb (length (path_at L 1 page)) L long)
 
 pub small_preparations_are_steps : SmallPreparationsAreSteps

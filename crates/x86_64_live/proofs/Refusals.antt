@@ -71,12 +71,17 @@ module _ {Lent : Type 0} (h : Hierarchy Lent) (valid : Valid h) (level page free
       rule_told supply more ∙ same_above (length supply) frame stops missing (used (entry (paths h) way)) ∙ ap refusal_above (sym (map_told supply more frame 0) ∙ would supply 0 more count)
 
   -- of the map
-  pub answers_below : (refusal : Option Refusal) → WouldRefuse h level page free refusal → (table : Option ℕ) → IsEntryIn h level page table → (frame : ℕ)
-      → WouldAnswer h level page frame free (answer_below frame (used (entry_in (words h) table (index level page))) refusal)
-  answers_below refusal would table own frame supply given more count =
+  below_told : (refusal : Option Refusal) → WouldRefuse h level page free refusal → (frame : ℕ) → WouldAnswer h level page frame free (answer_below frame (used (entry (paths h) way)) refusal)
+  below_told refusal would frame supply given more count =
       map_told supply more frame given ∙ same_below (length supply) frame stops missing (used (entry (paths h) way))
       ∙ ap (answer_below frame (used (entry (paths h) way))) (sym (rule_told supply more) ∙ would supply more count)
-      ∙ ap (λ e. answer_below frame (used e) refusal) own
+
+  pub refused_below : (why : Refusal) → WouldRefuse h level page free (Some why) → (frame : ℕ) → WouldAnswer h level page frame free (Refused why)
+  refused_below why = below_told (Some why)
+
+  pub answers_below : WouldRefuse h level page free None → (table : Option ℕ) → IsEntryIn h level page table → (full : Bool) → used (entry_in (words h) table (index level page)) ≡ full → (frame : ℕ)
+      → WouldAnswer h level page frame free (answer_below frame full None)
+  answers_below would table own full is frame = subst (λ b. WouldAnswer h level page frame free (answer_below frame b None)) (ap used own ∙ is) (below_told None would frame)
 
 -- a look that passed all parents finds no reason
 module _ (L level : ℕ) (at_least_four : 3 < L) (low : 1 ≤ level) (high : level ≤ 3) (places : Places) (root : ℕ) (m : Memory) (valid : Valid (direct_at L places root laid_in m)) (page free k table : ℕ)
