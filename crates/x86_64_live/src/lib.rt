@@ -4,8 +4,8 @@
 pub mod laws;
 mod look;
 mod map;
-mod prepare;
+mod preparation;
 
 pub use look::{would_map, would_prepare};
 pub use map::{PageMap, map_or_nothing, may_map};
-pub use prepare::{may_prepare, prepare};
+pub use preparation::{may_prepare, prepare};

@@ -2,8 +2,8 @@
 
 mod look;
 mod map;
-mod prepare;
+mod preparation;
 
 pub use look::{would_map, would_prepare};
 pub use map::{map_or_nothing, may_map, PageMap};
-pub use prepare::{may_prepare, prepare};
+pub use preparation::{may_prepare, prepare};

@@ -1,7 +1,7 @@
 use Rattle.std.proofs.Common.{refl, rules}
 use Rattle.x86_64_tables.specs.PageTableFlags.{bits_of}
 use Rattle.x86_64_live.proofs.Prepared.{made_after_look}
-use Rattle.x86_64_live.proofs.prepare.prepare.Goals as goal
+use Rattle.x86_64_live.proofs.preparation.prepare.Goals as goal
 
 pub returns-clause-prepares : goal.returns-clause-prepares
 returns-clause-prepares g c =
