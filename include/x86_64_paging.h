@@ -74,15 +74,15 @@
  * all calls but x64_access, as long as the root's shared entries stay what they are. What changes
  * one in one root must not happen, or the caller has to do the same in all roots:
  *
- *   x64_map, x64_map_as_mapper, x64_map_range
+ *   x64_map, x64_map_as_mapper, x64_map_range, x64_prepare
  *                        if the shared entry is 0, or lacks one of the parent flags
  *   x64_clean_up         over addresses below a shared entry, if all tables there are empty
  *   x64_set_table_flags  at the highest level
  *   x64_access           with mark, if the shared entry lacks X64_ACCESSED; so does a processor
  *
- * So begin with one hierarchy, map something below each shared entry that will ever be used, with
- * X64_ACCESSED among the parent flags, and make the others by x64_new_space. No further test is
- * needed then.
+ * So begin with one hierarchy, prepare a page of 1 GiB below each shared entry that will ever be
+ * used (x64_prepare), with X64_ACCESSED among the parent flags, and make the others by
+ * x64_new_space. No further test is needed then, as long as x64_clean_up finds a page below each.
  *
  * Roots may also share in pairs, for example a kernel's root and a user's root of each process. It
  * is proved of the model that calls keep this, too (paired_spaces_stay). But x64_spaces_fit knows
@@ -107,7 +107,7 @@
  *   x64_clean_up              X64_OK            tables: any INVLPG, or a load of CR3 with bit 63
  *                                               clear. If EFER.TCE is set (AMD), INVLPG isn't
  *                                               enough
- *   x64_map                   X64_OK            nothing; but everything, global pages too, if the
+ *   x64_map, x64_prepare      X64_OK            nothing; but everything, global pages too, if the
  *                                               parent flags have X64_NO_EXECUTE
  *   x64_map_as_mapper,        any               the same, unless the status is X64_NOT_ALLOWED or
  *   x64_map_range                               an X64_BAD_ status
@@ -133,10 +133,10 @@
  *   a page      until a smaller page is mapped there: one INVLPG drops all of a large page only as
  *               long as no smaller one is there.
  *   tables      until a frame that x64_clean_up freed is taken: by a map (x64_map,
- *               x64_map_as_mapper, x64_map_range) or x64_new_space with this pool, on whatever root,
- *               or by the caller. It may become another table or a root, which the processor would
- *               walk as the old one. The map of a page takes at most the last 3 free frames of the
- *               pool (4 with 5 levels), so it waits only if one of these was freed.
+ *               x64_map_as_mapper, x64_map_range), x64_prepare or x64_new_space with this pool, on
+ *               whatever root, or by the caller. It may become another table or a root, which the
+ *               processor would walk as the old one. The map of a page takes at most the last 3 free
+ *               frames of the pool (4 with 5 levels), so it waits only if one of these was freed.
  *
  * x64_clean_up may put the frames of tables into an array of its own, which is passed as its pool
  * and has room for all tables below the root (x64_pool_fits). Then maps with another pool take none
@@ -173,7 +173,9 @@
  *
  * What is proved: laws of a model, in which a processor may cache any present word at any moment.
  * Each function is proved to do what the model's call does (a refused x64_map does nothing), so the
- * laws are about these calls.
+ * laws are about these calls. x64_prepare of a page of 4 KiB leaves what a call leaves that maps
+ * the page to frame 0 without flags, and so writes 0 (small_preparations_are_steps in
+ * crates/x86_64_live). For larger pages it is none of these calls.
  *
  *   flushed_calls_leave_no_stale_item (crates/x86_64/src/laws.rt)
  *       Calls on one root, each with its flush, which may be late: afterwards each access goes
@@ -216,13 +218,14 @@
  *    each other, as long as no call touches the same word and no table on the way is freed between
  *    finding a word and exchanging it. x86_64_paging_live.h has the functions, and says more.
  *    x64_map, x64_map_as_mapper, x64_unmap and x64_update_flags touch the entry of their page and
- *    those above it; ranges touch those of all their pages; x64_clean_up touches all entries in its
- *    range, and x64_give_up_space those of the root, and both free tables.
+ *    those above it, and x64_prepare only those above it; ranges touch those of all their pages;
+ *    x64_clean_up touches all entries in its range, and x64_give_up_space those of the root, and
+ *    both free tables.
  * 5. Processors mark entries at any moment. What they set is lost only by calls that read an entry
- *    and then write it: x64_unmap, x64_update_flags, their ranges, x64_set_table_flags, maps that
- *    add parent flags, and x64_access with mark. The last one may also put back an entry that a
- *    guest took away in between. Exchanges lose nothing: a mark is in the entry, or an exchange
- *    returned it.
+ *    and then write it: x64_unmap, x64_update_flags, their ranges, x64_set_table_flags, maps and
+ *    x64_prepare if they add parent flags, and x64_access with mark. The last one may also put back
+ *    an entry that a guest took away in between. Exchanges lose nothing: a mark is in the entry, or
+ *    an exchange returned it.
  * 6. Calls that only read tables may run at the same time: they write nothing but their out
  *    parameters and marks. Beside exchanges of words they may load a word twice, and meet two:
  *    x64_entries_live and x64_access_live load each word once. Tests of validity want tables that
@@ -318,7 +321,7 @@ enum {
 
 /* The calls after which something may have to be flushed. */
 enum {
-    X64_CALL_MAP = 0,             /* x64_map, x64_map_as_mapper, x64_map_range */
+    X64_CALL_MAP = 0,             /* x64_map, x64_map_as_mapper, x64_map_range, x64_prepare */
     X64_CALL_UNMAP = 1,           /* x64_unmap, x64_unmap_range */
     X64_CALL_UPDATE_FLAGS = 2,    /* x64_update_flags, x64_update_flags_range */
     X64_CALL_SET_TABLE_FLAGS = 3, /* x64_set_table_flags */
@@ -673,6 +676,35 @@ X64_NODISCARD
 uint32_t x64_map_as_mapper(const x64_hierarchy *hierarchy, x64_table *tables, size_t table_count,
                            uint64_t *pool, size_t capacity, size_t *free_count,
                            const x64_map_request *request);
+
+/*
+ * Makes the tables above a page, or changes nothing: unless it returns X64_OK, the tables, the pool
+ * and *free_count are as before. After X64_OK each entry above the page names a table and has the
+ * parent flags. Those that were 0 name new tables: the last free frames of the pool, which are
+ * cleared. The page's own entry is neither read nor written.
+ *
+ * A map of the page then needs no free frame, and an exchange of its entry (x86_64_paging_live.h)
+ * no table. So a handler of faults that may not fail has its pages prepared, and two handlers may
+ * put two pages below one table at the same time.
+ *
+ * Condition: the pool fits the hierarchy (x64_pool_fits).
+ *
+ * Returns X64_OK or one of these; then nothing has changed:
+ *   X64_NOT_ALLOWED              if the parent flags have any of the bits 12 to 51, or
+ *                                X64_HUGE_PAGE; or if they lack X64_PRESENT and an entry above the
+ *                                page would be without it
+ *   X64_PARENT_ENTRY_HUGE_PAGE   if an entry above the page has X64_HUGE_PAGE
+ *   X64_FRAME_ALLOCATION_FAILED  if more tables are missing than frames are free
+ *   X64_BAD_ARRAY                if *free_count > capacity
+ *   X64_BAD_PAGE
+ *
+ * It is proved that x64_map of the page, with the same parent flags, does afterwards what it would
+ * have done alone (prepared_maps_are_maps in crates/x86_64_live).
+ */
+X64_NODISCARD
+uint32_t x64_prepare(const x64_hierarchy *hierarchy, x64_table *tables, size_t table_count,
+                     uint64_t *pool, size_t capacity, size_t *free_count, const x64_page *page,
+                     uint64_t parent_flags);
 
 /*
  * Maps `count` pages of one size, from request->page on, to as many frames, from request->frame on,
@@ -1082,6 +1114,16 @@ static inline uint32_t x64_space_map_as_mapper(x64_space *space, uint64_t page, 
     x64_map_request request = x64_map_request_of(page, size, frame, flags);
     return x64_map_as_mapper(&hierarchy, space->tables, space->table_count, space->pool,
                              space->capacity, &space->free_count, &request);
+}
+
+/* x64_prepare */
+X64_NODISCARD
+static inline uint32_t x64_space_prepare(x64_space *space, uint64_t page, uint64_t size,
+                                         uint64_t parent_flags) {
+    x64_hierarchy hierarchy = x64_space_hierarchy(space);
+    x64_page prepared = x64_page_of(page, size);
+    return x64_prepare(&hierarchy, space->tables, space->table_count, space->pool, space->capacity,
+                       &space->free_count, &prepared, parent_flags);
 }
 
 /* x64_map_range, with the parent flags of x64_map_request_of */

@@ -26,10 +26,10 @@
  * went through must still be there at the change: so no x64_clean_up, no x64_give_up_space and no
  * x64_join_page may free a table of this space, or below an entry that it shares, at the same time
  * or between the two. Other calls on this space may run meanwhile if they touch other entries:
- * x64_map, x64_unmap and x64_update_flags touch the entry of their page and those above it, ranges
- * touch those of all their pages. x64_split_page and x64_join_page are calls themselves: they run
- * one at a time with other calls on this space and with its pool, as x64_map does. See WHAT MAY RUN
- * AT THE SAME TIME in x86_64_paging.h.
+ * x64_map, x64_unmap and x64_update_flags touch the entry of their page and those above it,
+ * x64_prepare those above its page alone, ranges those of all their pages. x64_split_page and
+ * x64_join_page are calls themselves: they run one at a time with other calls on this space and
+ * with its pool, as x64_map does. See WHAT MAY RUN AT THE SAME TIME in x86_64_paging.h.
  *
  * WHAT TO FLUSH
  *

@@ -90,6 +90,11 @@ static void try_maps(void) {
     x64_map_request large = request(0x200000, X64_SIZE_2MIB, 0x400000, USUAL | X64_USER_ACCESSIBLE, USUAL | X64_USER_ACCESSIBLE);
     SAME(X64_OK, x64_space_map(&space, 0x200000, X64_SIZE_2MIB, 0x400000, USUAL | X64_USER_ACCESSIBLE),
          x64_map(&hierarchy, TABLES_OF(b), POOL_OF(b), &free_count, &large));
+    x64_page far = {UINT64_C(0x7fffffe00000), X64_SIZE_2MIB};
+    SAME(X64_OK, x64_space_prepare(&space, far.start, far.size, USUAL),
+         x64_prepare(&hierarchy, TABLES_OF(b), POOL_OF(b), &free_count, &far, USUAL));
+    SAME(X64_NOT_ALLOWED, x64_space_prepare(&space, far.start, far.size, USUAL | X64_HUGE_PAGE),
+         x64_prepare(&hierarchy, TABLES_OF(b), POOL_OF(b), &free_count, &far, USUAL | X64_HUGE_PAGE));
     x64_map_request range = request(0x10000, X64_SIZE_4KIB, 0x80000, USUAL, USUAL);
     SAME(X64_OK, x64_space_map_range(&space, 0x10000, X64_SIZE_4KIB, 4, 0x80000, USUAL, &a.word),
          x64_map_range(&hierarchy, TABLES_OF(b), POOL_OF(b), &free_count, &range, 4, &b.word));

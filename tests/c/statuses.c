@@ -135,6 +135,7 @@ enum function {
     ACCESS,
     MAP,
     MAP_AS_MAPPER,
+    PREPARE,
     UNMAP,
     UPDATE_FLAGS,
     SET_TABLE_FLAGS,
@@ -148,10 +149,10 @@ enum function {
 };
 
 static const char *const names[FUNCTIONS] = {
-    "x64_page_walk",    "x64_walk",            "x64_entries",   "x64_translate",   "x64_mappings",           "x64_is_valid",
-    "x64_pool_fits",    "x64_spaces_fit",      "x64_access",    "x64_map",         "x64_map_as_mapper",      "x64_unmap",
-    "x64_update_flags", "x64_set_table_flags", "x64_map_range", "x64_unmap_range", "x64_update_flags_range", "x64_clean_up",
-    "x64_new_space",    "x64_give_up_space",
+    "x64_page_walk", "x64_walk",         "x64_entries",         "x64_translate", "x64_mappings",      "x64_is_valid",
+    "x64_pool_fits", "x64_spaces_fit",   "x64_access",          "x64_map",       "x64_map_as_mapper", "x64_prepare",
+    "x64_unmap",     "x64_update_flags", "x64_set_table_flags", "x64_map_range", "x64_unmap_range",   "x64_update_flags_range",
+    "x64_clean_up",  "x64_new_space",    "x64_give_up_space",
 };
 
 /* Returns the arguments that rows change. */
@@ -228,6 +229,8 @@ static uint32_t call(enum function function, const struct arguments *a) {
         return x64_map(h, tables, n, pool, a->capacity, &world.free_count, &request);
     case MAP_AS_MAPPER:
         return x64_map_as_mapper(h, tables, n, pool, a->capacity, &world.free_count, &request);
+    case PREPARE:
+        return x64_prepare(h, tables, n, pool, a->capacity, &world.free_count, &page, a->parent_flags);
     case UNMAP:
         return x64_unmap(h, tables, n, &page, &world.frame);
     case UPDATE_FLAGS:
@@ -634,6 +637,45 @@ static const struct row refused_map_as_mapper[] = {
     {"below 2 MiB, and parents get USER_ACCESSIBLE", X64_PARENT_ENTRY_HUGE_PAGE, {SET(start, 0x200000),
         SET(parent_flags, 0x7)}, 2, 1, 0, {0}},
     {"mapped, and parents get USER_ACCESSIBLE", X64_PAGE_ALREADY_MAPPED, {SET(start, 0x1000), SET(parent_flags, 0x7)}, 2, 1, 0, {0}},
+};
+
+/* Tables above pages. The page's own entry stays, so nothing is left to do if they are there. */
+static const struct row prepare_rows[] = {
+    ROW("4 KiB", X64_OK, USUAL),
+    ROW("4 KiB where a page is", X64_OK, SET(start, 0x1000)),
+    ROW("4 KiB without PRESENT", X64_OK, SET(start, 0x2000)),
+    ROW("2 MiB", X64_OK, SET(start, 0xa00000), SET(size, X64_SIZE_2MIB)),
+    ROW("2 MiB where a page is", X64_OK, SET(start, 0x200000), SET(size, X64_SIZE_2MIB)),
+    ROW("2 MiB where a table is", X64_OK, SET(start, 0), SET(size, X64_SIZE_2MIB)),
+    ROW("1 GiB", X64_OK, SET(start, 0x100000000), SET(size, X64_SIZE_1GIB)),
+    ROW("1 GiB where a page is", X64_OK, SET(start, 0x40000000), SET(size, X64_SIZE_1GIB)),
+    {"three new tables", X64_OK, {SET(start, MISSING)}, 1 + 3 * 512, 0, 3, {0}},
+    {"two new tables", X64_OK, {SET(start, MISSING), SET(size, X64_SIZE_2MIB)}, 1 + 2 * 512, 0, 2, {0}},
+    {"one new table", X64_OK, {SET(start, MISSING), SET(size, X64_SIZE_1GIB), SET(free_count, 1)}, 1 + 512, 0, 1, {0}},
+    {"a new table below one that is there", X64_OK, {SET(start, 0xa00000), SET(free_count, 1)}, 1 + 512, 0, 1, {0}},
+    {"parents get USER_ACCESSIBLE", X64_OK, {SET(parent_flags, 0x7)}, 2, 1, 0, {0}},
+    {"parents of a page get USER_ACCESSIBLE", X64_OK, {SET(start, 0x1000), SET(parent_flags, 0x7)}, 2, 1, 0, {0}},
+    {"parents of 2 MiB get USER_ACCESSIBLE", X64_OK, {SET(start, 0x200000), SET(size, X64_SIZE_2MIB), SET(parent_flags, 0x7)},
+        1, 1, 0, {0}},
+    CHANGES("a parent gets PRESENT", X64_OK, 1, SET(start, 0x800000)),
+    ROW("no parent flags are needed", X64_OK, SET(parent_flags, 0)),
+    ROW("no free frame is needed", X64_OK, SET(free_count, 0)),
+    ROW("an address in the parent flags", X64_NOT_ALLOWED, SET(parent_flags, 0x1003)),
+    ROW("HUGE_PAGE in the parent flags", X64_NOT_ALLOWED, SET(parent_flags, 0x83)),
+    ROW("a new parent would lack PRESENT", X64_NOT_ALLOWED, SET(start, MISSING), SET(parent_flags, 0x2)),
+    ROW("a parent would still lack PRESENT", X64_NOT_ALLOWED, SET(start, 0x800000), SET(parent_flags, 0x2)),
+    ROW("not allowed before no frame", X64_NOT_ALLOWED, SET(start, MISSING), SET(parent_flags, 0), SET(free_count, 0)),
+    ROW("no free frame", X64_FRAME_ALLOCATION_FAILED, SET(start, MISSING), SET(free_count, 0)),
+    ROW("one free frame of three", X64_FRAME_ALLOCATION_FAILED, SET(start, MISSING), SET(free_count, 1)),
+    ROW("two free frames of three", X64_FRAME_ALLOCATION_FAILED, SET(start, MISSING), SET(free_count, 2)),
+    ROW("one free frame of two", X64_FRAME_ALLOCATION_FAILED, SET(start, MISSING), SET(size, X64_SIZE_2MIB), SET(free_count, 1)),
+    ROW("below 2 MiB", X64_PARENT_ENTRY_HUGE_PAGE, SET(start, 0x200000)),
+    ROW("below 2 MiB, and parents lack USER_ACCESSIBLE", X64_PARENT_ENTRY_HUGE_PAGE, SET(start, 0x200000), SET(parent_flags, 0x7)),
+    ROW("2 MiB below 1 GiB", X64_PARENT_ENTRY_HUGE_PAGE, SET(start, 0x40000000), SET(size, X64_SIZE_2MIB)),
+    ROW("more free frames than room", X64_BAD_ARRAY, SET(capacity, FREE - 1)),
+    ROW("no pool, but free frames", X64_BAD_ARRAY, SET(null_pool, 1), SET(capacity, 0)),
+    ROW("a bad array before a bad page", X64_BAD_ARRAY, SET(capacity, 0), SET(size, 0)),
+    ROW("a bad page before bad parent flags", X64_BAD_PAGE, SET(start, 1), SET(parent_flags, 0x1000)),
 };
 
 /* Bad pages of every function that takes one. */
@@ -1166,6 +1208,7 @@ int main(void) {
     TRY(MAP, refused_map);
     TRY(MAP_AS_MAPPER, map);
     TRY(MAP_AS_MAPPER, refused_map_as_mapper);
+    TRY(PREPARE, prepare_rows);
     TRY(UNMAP, unmap);
     TRY(UPDATE_FLAGS, update_flags);
     TRY(SET_TABLE_FLAGS, set_table_flags);
@@ -1189,6 +1232,7 @@ int main(void) {
                  X64_BAD_ARRAY, X64_BAD_PAGE, X64_BAD_FRAME},
         [MAP_AS_MAPPER] = {X64_NOT_ALLOWED, X64_FRAME_ALLOCATION_FAILED, X64_PARENT_ENTRY_HUGE_PAGE, X64_PAGE_ALREADY_MAPPED,
                            X64_BAD_ARRAY, X64_BAD_PAGE, X64_BAD_FRAME},
+        [PREPARE] = {X64_NOT_ALLOWED, X64_FRAME_ALLOCATION_FAILED, X64_PARENT_ENTRY_HUGE_PAGE, X64_BAD_ARRAY, X64_BAD_PAGE},
         [UNMAP] = {X64_PARENT_ENTRY_HUGE_PAGE, X64_PAGE_NOT_MAPPED, X64_INVALID_FRAME_ADDRESS, X64_BAD_PAGE},
         [UPDATE_FLAGS] = {X64_NOT_ALLOWED, X64_PARENT_ENTRY_HUGE_PAGE, X64_PAGE_NOT_MAPPED, X64_BAD_PAGE},
         [SET_TABLE_FLAGS] = {X64_NOT_ALLOWED, X64_PARENT_ENTRY_HUGE_PAGE, X64_PAGE_NOT_MAPPED, X64_BAD_PAGE},

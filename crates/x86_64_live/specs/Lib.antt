@@ -1,4 +1,5 @@
 pub mod MapsOrNothing
+pub mod PreparedMaps
 pub mod Prepares
 pub mod WouldAnswer
 pub use Rattle.x86_64_model.specs.Layout

@@ -1,10 +1,11 @@
-//! Maps of single pages in tables that are in use: each looks at the tables first, and a refused one changes nothing.
+//! Maps of single pages in tables in use: each looks first, and a refused one changes nothing.
 #![tactic(auto)]
 
+pub mod laws;
 mod look;
 mod map;
-mod prepare;
+mod preparation;
 
-pub use look::would_map;
+pub use look::{would_map, would_prepare};
 pub use map::{PageMap, map_or_nothing, may_map};
-pub use prepare::{may_prepare, prepare};
+pub use preparation::{may_prepare, prepare};

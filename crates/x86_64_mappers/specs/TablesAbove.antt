@@ -21,13 +21,13 @@ pub record AfterTables : Type 0 where
   pub refusal : Option Refusal
 
 -- What a map leaves, with the reason for its refusal in place of its answer.
-abbrev pub tables_of : AfterMap → AfterTables
-tables_of a = record { paths = a.paths; supply = a.supply; refusal = refusal_of a.answer }
+abbrev pub tables_after : AfterMap → AfterTables
+tables_after a = record { paths = a.paths; supply = a.supply; refusal = refusal_of a.answer }
 
 -- The effect of making the tables that the parents ps of a page name: that of the map rule for these parents without a page, since
 -- no entry stands at the empty path, and none is put there.
 abbrev pub tables_rule : PathMap → (supply : List ℕ) → (parent_flags added_flags : ℕ) → (ps : List (List ℕ)) → AfterTables
-tables_rule paths supply parent_flags added_flags ps = tables_of (map_rule paths supply parent_flags added_flags ps [] 0 0)
+tables_rule paths supply parent_flags added_flags ps = tables_after (map_rule paths supply parent_flags added_flags ps [] 0 0)
 
 -- The reason why the tables above a page weren't all made, None if they were.
 abbrev pub tables_refusal : {S X : Type 0} → Result X (MapToError S) → Option Refusal

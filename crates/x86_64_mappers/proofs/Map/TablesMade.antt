@@ -1,12 +1,12 @@
 -- The tables above a page, made on the way down its parents: the map rule's for these parents without a page.
-use Rattle.std.proofs.Common.{◌≡◌, ◌≢◌, ◌≤◌, ℕ, suc, Bool, true, false, cond, List, [], ◌∷◌, ◌++◌, length, map, Option, Some, None, Result, Ok, Err, bit_or, refl, sym, ap, ap₂, ◌∙◌, subst, subst₂, arith, inl, inr, take, get_or, ◌+◌, ◌-◌, ◌⊎◌, ◌↔◌, ⊎_elim, ◌<◌}
+use Rattle.std.proofs.Common.{◌≡◌, ◌≢◌, ◌≤◌, ℕ, Bool, true, false, cond, List, [], ◌∷◌, ◌++◌, length, map, Some, None, Result, Ok, Err, bit_or, refl, sym, ap, ap₂, ◌∙◌, subst, arith, inl, inr, take, get_or, ◌+◌, ◌-◌, ◌⊎◌, ◌↔◌, ⊎_elim, ◌<◌}
 use Rattle.std.proofs.lemmas.List.{length-append, length-take, map-id}
 use Rattle.std.specs.List.{AllByRecursion}
 use Rattle.x86_64_mappers.proofs.Entry.EntryEnds.{with_memory}
 use Rattle.x86_64_mappers.proofs.Way.Pages.{path_parted}
 use Rattle.x86_64_mappers.proofs.Way.Paths.{has_last_index, page_below_root, some_index_of}
 use Rattle.x86_64_mappers.specs.private.MapSteps.{IsDown, KeepsOwned, mapped_from}
-use Rattle.x86_64_mappers.specs.TablesAbove.{CreatesTables, tables_of}
+use Rattle.x86_64_mappers.specs.TablesAbove.{CreatesTables, tables_after}
 use Rattle.x86_64_mappers.specs.Supplies.{Supply}
 use Rattle.x86_64_model.specs.Call.{MapToWithTableFlags}
 use Rattle.x86_64_model.specs.Entry.{IsParentFlags, used, huge}
@@ -18,7 +18,7 @@ use Rattle.x86_64_model.specs.Memory.{Memory}
 use Rattle.x86_64_model.specs.Path.{parents}
 use Rattle.x86_64_model.specs.PathMap.{PathMap, entry, put, HasUsedAlone, table_at}
 use Rattle.x86_64_model.specs.Pool.{IsOwn}
-use Rattle.x86_64_model.specs.Refusal.{Refusal, ParentEntryHugePage, PageAlreadyMapped, FrameAllocationFailed, Answer, Done, Refused, refusal_of}
+use Rattle.x86_64_model.specs.Refusal.{Refusal, PageAlreadyMapped, Answer, Done, Refused, refusal_of}
 use Rattle.x86_64_model.specs.Standing.{IsParent}
 use Rattle.x86_64_model.specs.Window.{IsValidFor, outside_window}
 use Rattle.x86_64_model.proofs.Lemmas.Hierarchies.Changes.{unused_no_table, zero_not_used}
@@ -34,14 +34,14 @@ use Rattle.x86_64_model.proofs.Lemmas.Maps.Rights.{map_keeps_walks}
 use Rattle.x86_64_model.proofs.Lemmas.Maps.Trees.{page_descends, parents_are, parents_short}
 use Rattle.x86_64_model.proofs.Lemmas.Paths.Puts.{cases_path, entry-put_same, entry-put_other, no_end, used_alone-put, same_paths}
 
--- ---- an entry 0 where none is
+-- ---- the entry that is there
 
-put_nothing : (M : PathMap) (q : List ℕ) → HasUsedAlone M → entry M q ≡ 0 → put M q 0 ≡ M
-put_nothing M q alone none = same_paths (put M q 0) M (used_alone-put M q 0 alone) alone (λ p. by p (cases_path p q))
+pub put_same : (M : PathMap) (q : List ℕ) (e : ℕ) → HasUsedAlone M → entry M q ≡ e → put M q e ≡ M
+put_same M q e alone there = same_paths (put M q e) M (used_alone-put M q e alone) alone (λ p. by p (cases_path p q))
   where
-    by : (p : List ℕ) → (p ≡ q) ⊎ (p ≢ q) → entry (put M q 0) p ≡ entry M p
-    by p (inl is) = ap (entry (put M q 0)) is ∙ entry-put_same M q 0 ∙ sym none ∙ ap (entry M) (sym is)
-    by p (inr n) = entry-put_other M q 0 p n
+    by : (p : List ℕ) → (p ≡ q) ⊎ (p ≢ q) → entry (put M q e) p ≡ entry M p
+    by p (inl is) = ap (entry (put M q e)) is ∙ entry-put_same M q e ∙ sym there ∙ ap (entry M) (sym is)
+    by p (inr n) = entry-put_other M q e p n
 
 -- ---- a map without a page is one of a page without an entry
 
@@ -50,11 +50,11 @@ module _ (more added : ℕ) where
   abbrev by_rule : PathMap → (supply : List ℕ) → (ps : List (List ℕ)) → (q : List ℕ) → AfterMap
   by_rule M supply ps q = map_rule M supply more added ps q 0 0
 
-  at_end : (M : PathMap) (supply : List ℕ) (q : List ℕ) → HasUsedAlone M → entry M q ≡ 0 → by_rule M supply [] q ≡ record { paths = M; supply = supply; answer = Done 0 }
+  pub at_end : (M : PathMap) (supply : List ℕ) (q : List ℕ) → HasUsedAlone M → entry M q ≡ 0 → by_rule M supply [] q ≡ record { paths = M; supply = supply; answer = Done 0 }
   at_end M supply q alone none = step_last more added q 0 0 M supply
-      ∙ ap₂ (λ u N. cond u (record { paths = M; supply = supply; answer = Refused (PageAlreadyMapped 0) }) (record { paths = N; supply = supply; answer = Done 0 })) (ap used none ∙ zero_not_used) (put_nothing M q alone none)
+      ∙ ap₂ (λ u N. cond u (record { paths = M; supply = supply; answer = Refused (PageAlreadyMapped 0) }) (record { paths = N; supply = supply; answer = Done 0 })) (ap used none ∙ zero_not_used) (put_same M q 0 alone none)
 
-  wherever : (q r : List ℕ) (M : PathMap) (supply : List ℕ) (ps : List (List ℕ)) → Descends M ps q → Descends M ps r → entry M q ≡ 0 → entry M r ≡ 0 → HasUsedAlone M → by_rule M supply ps q ≡ by_rule M supply ps r
+  pub wherever : (q r : List ℕ) (M : PathMap) (supply : List ℕ) (ps : List (List ℕ)) → Descends M ps q → Descends M ps r → entry M q ≡ 0 → entry M r ≡ 0 → HasUsedAlone M → by_rule M supply ps q ≡ by_rule M supply ps r
   wherever q r M supply [] d e at to alone = at_end M supply q alone at ∙ sym (at_end M supply r alone to)
   wherever q r M supply (p ∷ ps) d e at to alone =
       let on : (x : ℕ) (s : List ℕ) → by_rule (put M p x) s ps q ≡ by_rule (put M p x) s ps r = λ x s. wherever q r (put M p x) s ps
@@ -83,7 +83,7 @@ not_empty : (p : List ℕ) → 0 < length p → [] ≢ p
 not_empty [] some is = absurd (omega (arith, some))
 not_empty (i ∷ p) some is = cc
 
-without_page : (M : PathMap) (ps : List (List ℕ)) (q : List ℕ) → AllByRecursion (λ p. 0 < length p) ps → Descends M ps q → Descends M ps []
+pub without_page : (M : PathMap) (ps : List (List ℕ)) (q : List ℕ) → AllByRecursion (λ p. 0 < length p) ps → Descends M ps q → Descends M ps []
 without_page M [] q some d = tt
 without_page M (p ∷ ps) q some d = (d.0, d.1, not_empty p some.0, without_page M ps q some.1 d.3)
 
@@ -203,7 +203,7 @@ module _ {Lent : Type 0} (h : Hierarchy Lent) (s : Supply) (ready : SupplyFits (
 
     left_tables : CreatesTables h s more q (refusal_of (answer_down r)) (record h { memory = n }) rest
     left_tables = record {
-      outcome = ap tables_of (sym left);
+      outcome = ap tables_after (sym left);
       made = parents_made r (ap (λ (a : AfterMap). a.answer) left);
       entries = kept;
       valid = owned.ready.valid;

@@ -1,13 +1,13 @@
-use Rattle.std.proofs.Common.{arith, ◌≡◌, ◌∙◌, ◌-◌, ◌<◌, true, length, take, get_or, refl, sym, subst, Ok, Err}
+use Rattle.std.proofs.Common.{arith, ◌≡◌, ◌-◌, true, length, get_or, sym, subst, Ok, Err}
 use Rattle.std.proofs.lemmas.List.{length-take}
 use Rattle.std.proofs.lemmas.Result.{err_from_is_err_and}
 use Rattle.x86_64_model.specs.Allowed.{parents_present}
-use Rattle.x86_64_model.specs.Hierarchy.{◌laid_in◌, paths}
+use Rattle.x86_64_model.specs.Hierarchy.{paths}
 use Rattle.x86_64_model.proofs.Lemmas.Machines.Effects.{map_may}
 use Rattle.x86_64_mappers.specs.private.Results.{create_refusal}
 use Rattle.x86_64_mappers.proofs.Way.Pages.{path_parted}
 use Rattle.x86_64_mappers.proofs.Map.OpenWays.{will_be_present}
-use Rattle.x86_64_mappers.proofs.Map.MapEnds.{map_is_allowed, outside_front}
+use Rattle.x86_64_mappers.proofs.Map.MapEnds.{outside_front}
 use Rattle.x86_64_mappers.proofs.Map.TablesMade.{page_tables_made}
 use Rattle.x86_64_mappers.proofs.Way.Paths.{has_last_index, some_index_of, page_below_root}
 use Rattle.x86_64_mappers.proofs.walk.map.create_tables_above.Goals as goal

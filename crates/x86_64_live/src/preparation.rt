@@ -1,4 +1,4 @@
-//! Preparation: the tables above a page, made before the page is mapped.
+//! Tables above a page
 ghost use Rattle.std.specs.Prelude.{◌≡◌, length, OnErr};
 ghost use Rattle.x86_64_live.specs.Prepares.{Prepares};
 ghost use Rattle.x86_64_mappers.specs.Layouts.{direct_at};
@@ -9,9 +9,8 @@ ghost use Rattle.x86_64_model.specs.Hierarchy.{◌laid_in◌, Valid};
 ghost use Rattle.x86_64_model.specs.PageCalls.{MayAskMap, MapToWithTableFlags};
 ghost use Rattle.x86_64_tables.specs.PageTableFlags.{bits_of};
 
-use crate::look::would_map;
+use crate::look::would_prepare;
 use bitflags::Flags;
-use x86_64_addr::addr::PhysAddr;
 use x86_64_addr::level_count::LevelCount;
 use x86_64_mappers::calls::{create_tables, map_allowed};
 use x86_64_mappers::mapped_page_table::MappedPageTableIn;
@@ -34,8 +33,8 @@ pub fn may_prepare<S: PageSize, L: LevelCount, T: TableMemory, P: PageTableFrame
     parent_flags: PageTableFlags,
 ) -> bool
     requires { Valid (direct_at L.LEVELS (P.places mapping) root laid_in T.tables memory.old) }
-    ensures answer { result ≡ allows_page (direct_at L.LEVELS (P.places mapping) root laid_in T.tables memory.old)
-        S.LEVEL page 0 (bits_of parent_flags) }
+    ensures answer { let h = direct_at L.LEVELS (P.places mapping) root laid_in T.tables memory.old in
+        result ≡ allows_page h S.LEVEL page 0 (bits_of parent_flags) }
     ensures kept { T.tables memory.new ≡ T.tables memory.old }
     ensures lent { T.lent memory.new ≡ T.lent memory.old }
 {
@@ -45,17 +44,16 @@ pub fn may_prepare<S: PageSize, L: LevelCount, T: TableMemory, P: PageTableFrame
 
 /// Makes the tables above a page, or changes nothing if this is refused: no word of the memory, and no frame of the allocator.
 ///
-/// Afterwards each entry above the page names a table and has the parent flags. The page's own entry, used or not, is neither read for
-/// the result nor written. So a later map of the page needs no frame and can't be refused for a missing table, and another
-/// processor may exchange the page's own entry at the same time. A map after it does what the map would have done alone.
+/// Afterwards each entry above the page names a table and has the parent flags. The page's own entry, used or not, is neither read
+/// nor written: another processor may exchange it at the same time. A later map of the page needs no frame, and does what it
+/// would have done alone.
 ///
-/// This looks first, as [`would_map`] does. Requires that the hierarchy is valid, that the allocator's frames fit it and are
+/// This looks first, as [`would_prepare`] does. Requires that the hierarchy is valid, that the allocator's frames fit it and are
 /// `free_frames` in number, and that [`may_prepare`] returns true.
 ///
 /// # Errors
 ///
-/// `ParentEntryHugePage` if a used entry above the page's own has `HUGE_PAGE`, else `FrameAllocationFailed` if more tables are
-/// missing than frames are free.
+/// Those of [`would_prepare`].
 pub fn prepare<
     S: PageSize,
     L: LevelCount,
@@ -81,11 +79,7 @@ pub fn prepare<
     ensures refused { OnErr result ((memory.new ≡ memory.old) × (frame_allocator.new ≡ frame_allocator.old)) }
     ensures lent { T.lent memory.new ≡ T.lent memory.old }
 {
-    let any_frame = PhysFrame::containing_address(PhysAddr::zero());
-    match would_map(memory, &mapping, root, page, any_frame, free_frames) {
-        Ok(()) | Err(MapToError::PageAlreadyMapped(_)) => {}
-        Err(error) => return Err(error),
-    }
+    would_prepare(memory, &mapping, root, page, free_frames)?;
     let mut mapper = MappedPageTableIn::<_, L, T>::new(memory, root, mapping);
     create_tables(&mut mapper, page, parent_flags, frame_allocator)
 }
