@@ -1,4 +1,5 @@
 pub mod MapsOrNothing
+pub mod PageRanges
 pub mod WouldAnswer
 pub use Rattle.x86_64_model.specs.Layout
 pub use Rattle.x86_64_model.specs.Hierarchy

@@ -3,6 +3,8 @@
 
 mod look;
 mod map;
+mod ranges;
 
 pub use look::would_map;
 pub use map::{PageMap, map_or_nothing, may_map};
+pub use ranges::{PageWord, RangeEnd, RangeSeen};
