@@ -1,12 +1,12 @@
 -- Ranges of pages of all sizes: which entries of pages lie in them, and what is done with these.
-use Rattle.std.specs.Prelude.{◌≡◌, ◌⊎◌, ◌×◌, ◌<◌, ◌≤◌, ◌+◌, ◌*◌, ◌/◌, ◌%◌, ◌==◌, ◌&&◌, ◌||◌, ◌++◌, ℕ, Bool, true, cond, List, [], ◌∷◌, length, map, drop, Option, Some, None, bit_and}
+use Rattle.std.specs.Prelude.{◌≡◌, ◌⊎◌, ◌<◌, ◌≤◌, ◌+◌, ◌*◌, ◌/◌, ◌%◌, ◌==◌, ◌&&◌, ◌||◌, ◌++◌, ℕ, Bool, true, cond, List, [], ◌∷◌, length, map, drop, Option, Some, None, bit_and}
 use Rattle.std.specs.List.{filter_map, flat_map}
 use Rattle.x86_64_live.specs.declared.ranges.PageWord.{PageWord}
 use Rattle.x86_64_live.specs.declared.ranges.RangeEnd.{RangeEnd}
 use Rattle.x86_64_live.specs.declared.ranges.RangeEnd.TheVariants.{All, More, LargerPage}
 use Rattle.x86_64_live.specs.declared.ranges.RangeSeen.{RangeSeen}
 use Rattle.x86_64_model.specs.Entry.{huge, has}
-use Rattle.x86_64_model.specs.Hierarchy.{◌laid_in◌, Hierarchy, PoolFits, paths}
+use Rattle.x86_64_model.specs.Hierarchy.{◌laid_in◌, PoolFits}
 use Rattle.x86_64_model.specs.Laws.Live.{IsLiveAfter}
 use Rattle.x86_64_model.specs.Layout.{Layout}
 use Rattle.x86_64_model.specs.Live.{Happening, Exchanges}
@@ -84,20 +84,24 @@ EndsFor L wanted M first last places count (LargerPage next) =
 abbrev pub told : (L : ℕ) → PageEntry → PageWord
 told L p = record { page = raw L p.start; size = span p.level; word = p.word }
 
--- The array gets the wanted pages of a hierarchy from the page at `first` to the page at `last`, in order, up to where the range ends,
--- and keeps what it holds behind them. No page before lies only partly in the range.
-pub record SeesPages {Lent Levels : Type 0} (h : Hierarchy Lent) (wanted : ℕ → Bool) (first last : ℕ) (before after : List PageWord) (seen : RangeSeen Levels) : Type 0 where
-  pub count : seen.count ≡ length (pages_between h.layout.levels wanted (paths h) first (reached last seen.end))
-  pub array : after ≡ map (told h.layout.levels) (pages_between h.layout.levels wanted (paths h) first (reached last seen.end)) ++ drop seen.count before
-  pub whole : AllWhole h.layout.levels wanted (paths h) first (reached last seen.end)
-  pub end : EndsFor h.layout.levels wanted (paths h) first last (length before) seen.count seen.end
+-- An array got the wanted pages of a path map that start at the positions from `first` up to but excluding `next`, in order and
+-- counted, and keeps what it held behind them. No wanted page lies there only partly.
+pub record ListsPages (L : ℕ) (wanted : ℕ → Bool) (M : PathMap) (first next count : ℕ) (before after : List PageWord) : Type 0 where
+  pub number : count ≡ length (pages_between L wanted M first next)
+  pub array : after ≡ map (told L) (pages_between L wanted M first next) ++ drop count before
+  pub whole : AllWhole L wanted M first next
+
+-- The array gets the wanted pages of a path map from the page at `first` to the page at `last`, up to where the range ends.
+pub record SeesPages {Levels : Type 0} (L : ℕ) (wanted : ℕ → Bool) (M : PathMap) (first last : ℕ) (before after : List PageWord) (seen : RangeSeen Levels) : Type 0 where
+  pub listed : ListsPages L wanted M first (reached last seen.end) seen.count before after
+  pub end : EndsFor L wanted M first last (length before) seen.count seen.end
 
 -- The exchange of a page's entry, by which its word becomes another one.
 abbrev pub exchange_of : (L : ℕ) → (next : ℕ → ℕ) → PageEntry → Happening
 exchange_of L next p = Exchanges (path_at L p.level p.start) next
 
--- From the memory m to the memory n the entries of these pages were exchanged, in order, and nothing else has changed: as live tables
--- are after these exchanges, with any pool that fitted.
+-- From the memory m to the memory n the entries of these pages were exchanged, in order, and nothing else has changed. So the hierarchy
+-- has the same tables, and any pool fits that did.
 abbrev pub ExchangesPages : Layout → (next : ℕ → ℕ) → List PageEntry → (m n : Memory) → Type 0
 ExchangesPages l next pages m n = (serves : ℕ → Bool) (pool : List ℕ) → PoolFits (l laid_in m) serves pool
     → IsLiveAfter l serves pool m (map (exchange_of l.levels next) pages) n
