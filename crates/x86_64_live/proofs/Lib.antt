@@ -3,3 +3,8 @@ pub mod Refusals
 pub mod Maps
 pub mod Prepared
 pub mod PreparedThenMapped
+pub mod PageMasks
+pub mod PageSpots
+pub mod PagesBetween
+pub mod PagesChanged
+pub mod PagesListed
