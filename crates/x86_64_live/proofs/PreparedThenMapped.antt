@@ -38,7 +38,7 @@ unfolding has
 no_more more e parent = or_part e more (eqb-true (bit_and e more) more (parent.has_flags more (has_itself more)))
 
 -- a map of the parents without a refusal left this path map and this supply
-record Left (N : PathMap) (rest : List ℕ) (a : AfterMap) : Type 0 where
+pub record Left (N : PathMap) (rest : List ℕ) (a : AfterMap) : Type 0 where
   pub made : a.paths ≡ N
   pub supply : a.supply ≡ rest
   pub none : refusal_of a.answer ≡ None
