@@ -46,7 +46,7 @@ module _ (l : Layout) (store : Store) (m : Memory) (level page more : ℕ) (fits
     keeps_by (Some why) prepares =
         let same = prepares.refused refl in (
           subst (λ n. KeepsPool l store.serves m store.frames n rest.frames) (sym (ap (λ (h : Hierarchy (Unit {0})). h.memory) same.0))
-          (subst (λ frames. KeepsPool l store.serves m store.frames m frames) (sym (ap (λ (s : Supply). s.frames) same.1)) stays),
+              (subst (λ frames. KeepsPool l store.serves m store.frames m frames) (sym (ap (λ (s : Supply). s.frames) same.1)) stays),
           ap (λ (s : Supply). s.serves) same.1,
         )
 

@@ -165,7 +165,15 @@ impl<S: PageSize, L: LevelCount> PoolStep<L> for TablesAbove<S, L> {
         if !may_prepare(memory, mapping, root, page, parent_flags) {
             return status::NOT_ALLOWED;
         }
-        let prepared = prepare(memory, mapping, root, page, parent_flags, frames, free_count);
+        let prepared = prepare(
+            memory,
+            mapping,
+            root,
+            page,
+            parent_flags,
+            frames,
+            free_count,
+        );
         prepared_status(prepared)
     }
 

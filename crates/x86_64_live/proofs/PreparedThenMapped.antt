@@ -1,5 +1,5 @@
 -- A map of a page that was prepared finds its tables, and goes on where it would have been after making them.
-use Rattle.std.proofs.Common.{◌≡◌, ◌≢◌, ◌<◌, ◌==◌, ◌+◌, ◌-◌, ℕ, Bool, true, false, cond, List, [], ◌∷◌, length, None, Some, bit_and, bit_or, min, refl, sym, ap, ap₂, ◌∙◌, ⊎_elim, subst, arith, eq-eqb, eqb-true}
+use Rattle.std.proofs.Common.{◌≡◌, ◌<◌, ◌+◌, ◌-◌, ℕ, Bool, true, false, cond, List, [], ◌∷◌, length, None, Some, bit_and, bit_or, min, refl, sym, ap, ap₂, ◌∙◌, ⊎_elim, subst, arith, eq-eqb, eqb-true}
 use Rattle.std.proofs.lemmas.Nat.Bits.{same_from_bits, bit_at_and}
 use Rattle.std.specs.Int.{bit_at}
 use Rattle.std.specs.List.{AllByRecursion}

@@ -14,7 +14,7 @@ use Rattle.x86_64_model.specs.PathMap.{entry}
 abbrev pub PreparedMapsAreMaps : Type 0
 PreparedMapsAreMaps = (h after : Hierarchy (Unit {0})) (supply rest : Supply) (level page more : ℕ) → SupplyFits h supply.frames → Prepares h supply level page more None after rest
     → (frame given : ℕ) → map_call h.layout.levels (paths after) rest.frames more h.layout.added_flags (path_of h level page) frame given
-      ≡ map_call h.layout.levels (paths h) supply.frames more h.layout.added_flags (path_of h level page) frame given
+    ≡ map_call h.layout.levels (paths h) supply.frames more h.layout.added_flags (path_of h level page) frame given
 
 -- The call that maps the 4KiB page at a position to frame 0 without flags (a position is an address counted without the
 -- non-canonical gap). The entry that it writes is 0.
