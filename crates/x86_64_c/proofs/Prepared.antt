@@ -44,7 +44,7 @@ module _ (l : Layout) (store : Store) (m : Memory) (level page more : ℕ) (fits
         let made = prepares.done refl in
         (record { fits = made.fits store.serves fits; conserved = made.conserved; others = λ k none. made.others k (λ f own. none f own.0) }, made.serves)
     keeps_by (Some why) prepares =
-        let same = prepares.refused tt in (
+        let same = prepares.refused refl in (
           subst (λ n. KeepsPool l store.serves m store.frames n rest.frames) (sym (ap (λ (h : Hierarchy (Unit {0})). h.memory) same.0))
               (subst (λ frames. KeepsPool l store.serves m store.frames m frames) (sym (ap (λ (s : Supply). s.frames) same.1)) stays),
           ap (λ (s : Supply). s.serves) same.1,
@@ -73,7 +73,7 @@ told_status (Err why) = refl
 -- it leaves a supply that serves the same frames
 pub prepared_serves : {Lent S X : Type 0} (h after : Hierarchy Lent) (supply rest : Supply) (level page more : ℕ) (r : Result X (MapToError S)) → Prepares h supply level page more (tables_refusal r) after rest → rest.serves ≡ supply.serves
 prepared_serves h after supply rest level page more (Ok x) prepares = (prepares.done refl).serves
-prepared_serves h after supply rest level page more (Err why) prepares = ap (λ (s : Supply). s.serves) (prepares.refused tt).1
+prepared_serves h after supply rest level page more (Err why) prepares = ap (λ (s : Supply). s.serves) (prepares.refused refl).1
 
 -- ---- in the caller's tables and pool
 

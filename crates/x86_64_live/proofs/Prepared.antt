@@ -32,7 +32,7 @@ module _ {Lent : Type 0} (h : Hierarchy Lent) (supply : Supply) (level page more
     made_by_look = record {
       outcome = creates.outcome ∙ sym (ap (made_or_nothing (paths h) supply.frames rule) is);
       done = λ _. creates;
-      refused = λ some. absurd (subst IsSome none_left some);
+      refused = λ some. absurd (let none : IsSome {T = Refusal} None = subst IsSome none_left some in cc);
     }
 
 -- tables that were made have no error

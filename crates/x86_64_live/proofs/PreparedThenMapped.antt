@@ -1,5 +1,5 @@
 -- A map of a page that was prepared finds its tables, and goes on where it would have been after making them.
-use Rattle.std.proofs.Common.{◌≡◌, ◌≢◌, ◌<◌, ◌==◌, ◌+◌, ◌-◌, ℕ, Bool, true, false, cond, List, [], ◌∷◌, length, None, Some, bit_and, bit_or, min, refl, sym, ap, ap₂, ◌∙◌, ⊎_elim, subst, arith, eq-eqb, eqb-true}
+use Rattle.std.proofs.Common.{◌≡◌, ◌<◌, ◌+◌, ◌-◌, ℕ, Bool, true, false, cond, List, [], ◌∷◌, length, None, Some, bit_and, bit_or, min, refl, sym, ap, ap₂, ◌∙◌, ⊎_elim, subst, arith, eq-eqb, eqb-true}
 use Rattle.std.proofs.lemmas.Nat.Bits.{same_from_bits, bit_at_and}
 use Rattle.std.specs.Int.{bit_at}
 use Rattle.std.specs.List.{AllByRecursion}
@@ -38,7 +38,7 @@ unfolding has
 no_more more e parent = or_part e more (eqb-true (bit_and e more) more (parent.has_flags more (has_itself more)))
 
 -- a map of the parents without a refusal left this path map and this supply
-record Left (N : PathMap) (rest : List ℕ) (a : AfterMap) : Type 0 where
+pub record Left (N : PathMap) (rest : List ℕ) (a : AfterMap) : Type 0 where
   pub made : a.paths ≡ N
   pub supply : a.supply ≡ rest
   pub none : refusal_of a.answer ≡ None

@@ -1,6 +1,8 @@
 use Rattle.std.proofs.Common.{◌≡◌, ◌∙◌, ◌%◌, refl, sym, subst, arith, true, false}
 use Rattle.x86_64_live.proofs.Looks.{look_starts, look_passes, look_meets_huge, look_lacks_frames, look_has_frames, look_has_entry, look_has_no_entry}
 use Rattle.x86_64_live.proofs.Refusals.{look_ends, refuses_above}
+use Rattle.x86_64_mappers.specs.Layouts.{direct_at}
+use Rattle.x86_64_model.specs.Hierarchy.{◌laid_in◌}
 use Rattle.x86_64_model.proofs.Lemmas.Entries.Words.{address_aligned}
 use Rattle.x86_64_model.specs.Entry.{used}
 use Rattle.x86_64_live.proofs.look.would_prepare.Goals as goal
@@ -23,7 +25,7 @@ loop-above-preserved g c =
 pub returns-then-free_frames-level-clause-refusal : goal.returns-then-free_frames-level-clause-refusal
 returns-then-free_frames-level-clause-refusal g c =
     let is_unused : used c.entry_of-entry.result ≡ false = let u = c.if-is_unused.ensures in grind (arith, u) in
-    refuses_above _ c.requires g.S.PageSize.LEVEL c.args.page c.args.free_frames 0 _
+    refuses_above (direct_at g.L.LevelCount.LEVELS (g.P.PageTableFrameMapping.places c.args.mapping.now) c.args.root laid_in g.T.TableMemory.tables c.args.memory.now) c.requires g.S.PageSize.LEVEL c.args.page c.args.free_frames 0 _
     (look_lacks_frames g.L.LevelCount.LEVELS g.S.PageSize.LEVEL g.L.LevelCount.at_least_four g.S.PageSize.low g.S.PageSize.high
     (g.P.PageTableFrameMapping.places c.args.mapping.now) c.args.root (g.T.TableMemory.tables c.args.memory.now) c.requires c.args.page 0 c.args.free_frames
     c.loop-above.above c.loop-above.table c.loop-above.invariant (omega (arith, c.loop-above-test.true, c.LEVELS.ensures, c.LEVEL.ensures)) c.LEVELS-in-loop-above.result c.LEVELS-in-loop-above.ensures c.entry_of-entry.result c.entry_of-entry.ensures is_unused
@@ -32,7 +34,7 @@ returns-then-free_frames-level-clause-refusal g c =
 pub returns-else-free_frames-level-clause-refusal : goal.returns-else-free_frames-level-clause-refusal
 returns-else-free_frames-level-clause-refusal g c =
     let is_unused : used c.entry_of-entry.result ≡ false = let u = c.if-is_unused.ensures in grind (arith, u) in
-    refuses_above _ c.requires g.S.PageSize.LEVEL c.args.page c.args.free_frames 0 _
+    refuses_above (direct_at g.L.LevelCount.LEVELS (g.P.PageTableFrameMapping.places c.args.mapping.now) c.args.root laid_in g.T.TableMemory.tables c.args.memory.now) c.requires g.S.PageSize.LEVEL c.args.page c.args.free_frames 0 _
     (look_has_frames g.L.LevelCount.LEVELS g.S.PageSize.LEVEL g.L.LevelCount.at_least_four g.S.PageSize.low g.S.PageSize.high
     (g.P.PageTableFrameMapping.places c.args.mapping.now) c.args.root (g.T.TableMemory.tables c.args.memory.now) c.requires c.args.page 0 c.args.free_frames
     c.loop-above.above c.loop-above.table c.loop-above.invariant (omega (arith, c.loop-above-test.true, c.LEVELS.ensures, c.LEVEL.ensures)) c.LEVELS-in-loop-above.result c.LEVELS-in-loop-above.ensures c.entry_of-entry.result c.entry_of-entry.ensures is_unused
@@ -41,7 +43,7 @@ returns-else-free_frames-level-clause-refusal g c =
 pub returns-then-has_flag-clause-refusal : goal.returns-then-has_flag-clause-refusal
 returns-then-has_flag-clause-refusal g c =
     let is_used : used c.entry_of-entry.result ≡ true = let u = c.if-is_unused.ensures in grind (arith, u) in
-    refuses_above _ c.requires g.S.PageSize.LEVEL c.args.page c.args.free_frames 0 _
+    refuses_above (direct_at g.L.LevelCount.LEVELS (g.P.PageTableFrameMapping.places c.args.mapping.now) c.args.root laid_in g.T.TableMemory.tables c.args.memory.now) c.requires g.S.PageSize.LEVEL c.args.page c.args.free_frames 0 _
     (look_meets_huge g.L.LevelCount.LEVELS g.S.PageSize.LEVEL g.L.LevelCount.at_least_four g.S.PageSize.low g.S.PageSize.high
     (g.P.PageTableFrameMapping.places c.args.mapping.now) c.args.root (g.T.TableMemory.tables c.args.memory.now) c.requires c.args.page 0 c.args.free_frames
     c.loop-above.above c.loop-above.table c.loop-above.invariant (omega (arith, c.loop-above-test.true, c.LEVELS.ensures, c.LEVEL.ensures)) c.LEVELS-in-loop-above.result c.LEVELS-in-loop-above.ensures c.entry_of-entry.result c.entry_of-entry.ensures is_used (sym c.if-has_flag.ensures))
