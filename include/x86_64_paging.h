@@ -98,6 +98,7 @@
  * Conditions 2 and 3 hold again after every call, whatever its status. If only these calls change
  * the tables and the pools, it is enough to test them once. Each call checks its other arguments
  * itself, and returns an X64_BAD_ status if one is wrong, whatever the tables hold.
+ *
  * SPACES THAT SHARE ENTRIES
  *
  * Spaces made by x64_space_new have roots of their own, and in all of these the entries at some
@@ -262,8 +263,7 @@
  *    entries that aren't shared, no frame is in two pools, and all roots fit together with each
  *    pool (x64_spaces_fit). So a lock for each space is enough, and a pool for each processor.
  * 3. Calls below shared entries, of any spaces, run one at a time. They may run beside those of 2
- * on
- *    other spaces: these read and write none of the same words.
+ *    on other spaces: these read and write none of the same words.
  * 4. Words of entries that name no table may be exchanged beside all of these calls, and beside
  *    each other, as long as no call touches the same word and no table on the way is freed between
  *    finding a word and exchanging it. x86_64_paging_live.h has the functions, and says more.
@@ -290,10 +290,9 @@
  *
  * WHAT IS PROVED, AND WHAT ISN'T
  *
- * Proved is what stands in the descriptions of the functions that this file only declares, which
- * are the raw calls, x64_flush_after and x64_flush_between: the contract of the function of the
- * same name in crates/x86_64_c/src says it. For the laws named above there is a theorem of that
- * name.
+ * Proved is what the functions return and write that this file only declares, as their descriptions
+ * say it: the raw calls, x64_flush_after and x64_flush_between. The contract of the function of the
+ * same name in crates/x86_64_c/src carries it. The laws named above are theorems of these names.
  *
  * Not proved is this file: the prover does not read it. tools/c_header compares it with the source:
  * the functions with their parameters and results, the fields of each struct with their types and

@@ -15,13 +15,13 @@ static x64_space context_of(const x64_hierarchy *space) {
 uint64_t word_of(const x64_hierarchy *space, const x64_page *page) {
     x64_space context = context_of(space);
     x64_entry entry;
-    return x64_find_page(&context, page->start, page->size, &entry) == X64_OK ? entry.word : 0;
+    return x64_space_find_page(&context, page->start, page->size, &entry) == X64_OK ? entry.word : 0;
 }
 
 /* Puts another word in the place of a page's, if there is one, and flushes. */
 uint32_t exchange_page(const x64_hierarchy *space, const x64_page *page, uint64_t word, uint64_t *old) {
     x64_space context = context_of(space);
-    uint32_t status = x64_exchange_page(&context, page->start, page->size, word, old);
+    uint32_t status = x64_space_exchange_page(&context, page->start, page->size, word, old);
     if (status == X64_OK)
         flush(x64_flush_between(x64_level_of(page->size), *old, word), page, 1);
     return status;
@@ -30,7 +30,7 @@ uint32_t exchange_page(const x64_hierarchy *space, const x64_page *page, uint64_
 /* Changes the word of a page that is present by masks, and flushes. */
 uint32_t change_page(const x64_hierarchy *space, const x64_page *page, uint64_t keep, uint64_t set, uint64_t *old) {
     x64_space context = context_of(space);
-    uint32_t status = x64_change_page(&context, page->start, page->size, keep, set, old);
+    uint32_t status = x64_space_change_page(&context, page->start, page->size, keep, set, old);
     if (status == X64_OK)
         flush(x64_flush_between(x64_level_of(page->size), *old, (*old & keep) | set), page, 1);
     return status;
@@ -58,7 +58,7 @@ void swap_out(const x64_hierarchy *space, const x64_page *page) {
     if (!(word & X64_PRESENT) || *uses_of(word) != 1 || place == PLACES)
         return;
     word = (word & ~(X64_ADDRESS | X64_PRESENT | X64_ACCESSED | X64_DIRTY)) | place * X64_SIZE_4KIB | ON_DISK;
-    check("x64_exchange_page", exchange_page(space, page, word, &old));
+    check("x64_space_exchange_page", exchange_page(space, page, word, &old));
     memcpy(disk[place], (void *)(DIRECT + (old & X64_ADDRESS)), X64_SIZE_4KIB);
     add_use(word);
     drop_use(old);
@@ -69,7 +69,7 @@ void swap_out(const x64_hierarchy *space, const x64_page *page) {
 void bring_in(const x64_hierarchy *space, const x64_page *page) {
     uint64_t word = word_of(space, page), old, frame = take_frames(1);
     memcpy((void *)(DIRECT + frame), disk[(word & X64_ADDRESS) / X64_SIZE_4KIB], X64_SIZE_4KIB);
-    check("x64_exchange_page", exchange_page(space, page, (word & ~(X64_ADDRESS | ON_DISK)) | frame | X64_PRESENT, &old));
+    check("x64_space_exchange_page", exchange_page(space, page, (word & ~(X64_ADDRESS | ON_DISK)) | frame | X64_PRESENT, &old));
     drop_use(old);
 }
 
@@ -80,7 +80,7 @@ size_t take_pages(const x64_hierarchy *space, uint64_t start, uint64_t end) {
     uint64_t next;
     size_t count = 0;
     uint32_t due = X64_FLUSH_NOTHING;
-    check("x64_take_range", x64_take_range(&context, start, end - X64_SIZE_4KIB, taken, MOST_PAGES, &count, &next));
+    check("x64_space_take_range", x64_space_take_range(&context, start, end - X64_SIZE_4KIB, taken, MOST_PAGES, &count, &next));
     for (size_t k = 0; k < count; k++) {
         uint32_t more = x64_flush_between(1, taken[k].word, 0);
         due = due < more ? more : due;

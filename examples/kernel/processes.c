@@ -27,12 +27,12 @@ static void map_pages(const struct process *process, uint64_t start, uint64_t fr
 static const char *copy_on_write(const struct process *process, const x64_page *page) {
     uint64_t old, word = word_of(&process->space, page), shared = word & X64_ADDRESS;
     if (uses[shared / X64_SIZE_4KIB] == 1) {
-        check("x64_change_page", change_page(&process->space, page, UINT64_MAX, X64_WRITABLE, &old));
+        check("x64_space_change_page", change_page(&process->space, page, UINT64_MAX, X64_WRITABLE, &old));
         return "may be written to";
     }
     uint64_t frame = take_frames(1);
     memcpy((void *)(DIRECT + frame), (void *)(DIRECT + shared), X64_SIZE_4KIB);
-    check("x64_exchange_page", exchange_page(&process->space, page, (word & ~X64_ADDRESS) | frame | X64_WRITABLE, &old));
+    check("x64_space_exchange_page", exchange_page(&process->space, page, (word & ~X64_ADDRESS) | frame | X64_WRITABLE, &old));
     drop_use(old);
     return "is copied";
 }
@@ -61,7 +61,7 @@ static const char *handle_fault(const struct process *process, uint64_t address,
 static void share_page(const struct process *process, const struct process *child, const x64_page *page) {
     uint64_t word = word_of(&process->space, page), old;
     if (word & X64_PRESENT) {
-        check("x64_change_page", change_page(&process->space, page, ~X64_WRITABLE, 0, &old));
+        check("x64_space_change_page", change_page(&process->space, page, ~X64_WRITABLE, 0, &old));
         word = old & ~X64_WRITABLE;
     }
     if (word != 0) {
