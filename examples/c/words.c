@@ -1,6 +1,7 @@
 /*
  * Exchanges words of pages while a processor uses them, as kernels do for swap, PROT_NONE, copy on write, and to learn which pages were
- * written to. It prints each step. A processor is imitated by x64_access_live, which marks words as one does.
+ * written to. It prints each step. A processor is imitated by x64_space_access_live, which marks words as one
+ * does.
  */
 #include <inttypes.h>
 #include <stdio.h>
@@ -15,8 +16,9 @@ enum { TABLES = 4, FORBIDDEN = 0x200, BUSY = 0x400 };
 
 /* the frames 0x1000 to 0x4000, of which 0x1000 is the root */
 static x64_table tables[TABLES];
-static uint64_t pool[TABLES] = {0x4000, 0x3000, 0x2000};
-static x64_space process = {tables, TABLES, 1, 0x1000, 4, pool, TABLES, 3};
+static uint64_t frames[TABLES] = {0x4000, 0x3000, 0x2000};
+static x64_space process = {tables, TABLES, 1, 0x1000, 4, 0, 0};
+static x64_pool pool = {frames, TABLES, 3};
 
 /* Ends the program if a call returned another status than X64_OK. */
 static void check(const char *call, uint32_t status) {
@@ -86,11 +88,10 @@ static bool was_written(const x64_space *space, uint64_t page) {
 /* Lets a processor read or write, and prints what comes of it. */
 static void use(uint32_t kind) {
     static x64_scratch scratch;
-    const x64_hierarchy hierarchy = x64_space_hierarchy(&process);
     const x64_controls controls = {true, true, false, false, false, 52}; /* CR0.WP and EFER.NXE are on */
     const x64_access_request request = {PAGE, kind, true, true};
     x64_arrival arrival;
-    uint32_t status = x64_access_live(&hierarchy, tables, TABLES, &controls, &request, &scratch, &arrival);
+    uint32_t status = x64_space_access_live(&process, &controls, &request, &scratch, &arrival);
     const char *name = kind == X64_WRITE ? "write" : "read";
     if (status == X64_OK)
         printf("%s: arrives at 0x%" PRIx64 "\n", name, arrival.outcome.address);
@@ -99,7 +100,7 @@ static void use(uint32_t kind) {
 }
 
 int main(void) {
-    check("x64_space_map", x64_space_map(&process, PAGE, SIZE, 0x5000, X64_PRESENT | X64_WRITABLE | X64_USER_ACCESSIBLE));
+    check("x64_space_map", x64_space_map(&process, &pool, PAGE, SIZE, 0x5000, X64_PRESENT | X64_WRITABLE | X64_USER_ACCESSIBLE));
     use(X64_WRITE);
     printf("written: %d\n", was_written(&process, PAGE));
     use(X64_READ);
