@@ -662,7 +662,8 @@ static inline uint32_t x64_space_mappings(const x64_space *space, uint64_t from,
 
 /* x64_map: maps a page of a size to a frame, or changes nothing. The entries above the page get the
  * parent flags: those of X64_PRESENT, X64_WRITABLE and X64_USER_ACCESSIBLE that its flags have, and
- * always X64_ACCESSED. Returns X64_OK or one of these:
+ * always X64_ACCESSED. If the page's own entry gets one of these later, by another call, those
+ * above it need it, too: pass it to x64_space_map_with. Returns X64_OK or one of these:
  *   X64_SHARED_ENTRY             if a shared entry above the page is 0, or lacks a parent flag
  *   X64_PAGE_ALREADY_MAPPED      if the page's entry isn't 0
  *   X64_PARENT_ENTRY_HUGE_PAGE   if an entry above it maps a larger page
