@@ -558,7 +558,7 @@ typedef struct x64_map_request {
     x64_page page;         /* the page */
     uint64_t frame;        /* where it is mapped to: a multiple of the page's size below 2^52 */
     uint64_t flags;        /* for its entry; X64_HUGE_PAGE is added for 2 MiB and 1 GiB */
-    uint64_t parent_flags; /* added to each entry above it: mostly X64_PRESENT | X64_WRITABLE */
+    uint64_t parent_flags; /* added to each entry above it, as x64_space_map does by itself */
 } x64_map_request;
 
 /* What a processor is set to, as far as it decides accesses. */
@@ -595,6 +595,10 @@ typedef struct x64_outcome {
  * Then nothing has changed. It looks for this after wrong levels, roots and pages, and before
  * everything else.
  *
+ * The contract of the raw call carries what is said here, but for three things, which are tested:
+ * that these arguments are passed, the parent flags of x64_space_map among them; X64_SHARED_ENTRY;
+ * and that x64_space_map_list calls x64_map for one page after another.
+ *
  * Any of them may return X64_BAD_LEVELS or X64_BAD_ROOT if the space's fields are wrong, and those
  * with a pool X64_BAD_ARRAY if its free_count is greater than its capacity.
  */
@@ -604,8 +608,9 @@ typedef struct x64_outcome {
  */
 
 /* x64_spaces_fit, of this space alone: tests whether all calls on the space may be made with the
- * pool. `marks` is working memory, with a mark for each table. Returns X64_OK; X64_NOT_VALID, also
- * if the root isn't in the array; X64_BAD_LEVELS; X64_BAD_ARRAY; X64_BAD_INDICES. */
+ * pool. `marks` is working memory, with a mark for each table of the array. Returns X64_OK;
+ * X64_NOT_VALID, also if the root isn't in the array; X64_BAD_LEVELS; X64_BAD_ARRAY;
+ * X64_BAD_INDICES. */
 X64_NODISCARD
 static inline uint32_t x64_space_fits(const x64_space *space, const x64_pool *pool, bool *marks,
                                       size_t mark_count);
@@ -657,7 +662,9 @@ static inline uint32_t x64_space_mappings(const x64_space *space, uint64_t from,
                                           uint64_t *next);
 
 /*
- * Maps. They take free frames from the pool for tables that are missing.
+ * Maps. They take free frames from the pool for tables that are missing: at most levels - 1 for a
+ * page. Nothing has to be flushed afterwards, unless parent flags have X64_NO_EXECUTE; but see SMEP
+ * and SMAP above.
  */
 
 /* x64_map: maps a page of a size to a frame, or changes nothing. The entries above the page get the
@@ -668,7 +675,9 @@ static inline uint32_t x64_space_mappings(const x64_space *space, uint64_t from,
  *   X64_PAGE_ALREADY_MAPPED      if the page's entry isn't 0
  *   X64_PARENT_ENTRY_HUGE_PAGE   if an entry above it maps a larger page
  *   X64_FRAME_ALLOCATION_FAILED  if too few frames are free
- *   X64_NOT_ALLOWED; X64_BAD_PAGE; X64_BAD_FRAME */
+ *   X64_NOT_ALLOWED              if the flags can't be set, or lack X64_PRESENT, and an entry above
+ *                                the page would lack it, too
+ *   X64_BAD_PAGE; X64_BAD_FRAME */
 X64_NODISCARD
 static inline uint32_t x64_space_map(const x64_space *space, x64_pool *pool, uint64_t page,
                                      uint64_t size, uint64_t frame, uint64_t flags);
@@ -764,8 +773,9 @@ static inline uint32_t x64_space_set_table_flags(const x64_space *space, uint64_
  */
 
 /* x64_new_space: makes one more space, with the same shared entries as this one and nothing else,
- * and writes it to *other. Its root is a free frame of the pool. Returns X64_OK;
- * X64_FRAME_ALLOCATION_FAILED if there is none; X64_BAD_INDICES. */
+ * and writes it to *other. Its root is a free frame of the pool. If no entries are shared, nothing
+ * is mapped in it, no kernel either. Returns X64_OK; X64_FRAME_ALLOCATION_FAILED if no frame is
+ * free; X64_BAD_INDICES. */
 X64_NODISCARD
 static inline uint32_t x64_space_new(const x64_space *space, x64_pool *pool, x64_space *other);
 
