@@ -202,6 +202,55 @@ static void try_spaces(void) {
          x64_clean_up(&hierarchy, TABLES_OF(b), POOL_OF(b), &free_count, 0, UINT64_C(0xfffffffffffff000)));
 }
 
+/* Makes each call with a space that is wrong, as its copy is. All return the same status, but tests of several spaces another one. */
+static void try_wrong(uint32_t wanted, uint32_t wanted_of_fits) {
+    const x64_controls controls = {true, true, false, false, false, 40};
+    const x64_access_request access = {0x1000, X64_READ, false, true};
+    const x64_page page = {0x1000, X64_SIZE_4KIB};
+    const uint64_t frames[] = {0x5000}, last = UINT64_MAX - 4095;
+    x64_map_request map = request(0x1000, X64_SIZE_4KIB, 0x5000, USUAL, PARENTS);
+    x64_space other;
+    SAME(wanted_of_fits, x64_space_fits(&space, &pool, a.marks, TABLES),
+         x64_spaces_fit(FIRST, hierarchy.levels, TABLES_OF(b), &hierarchy.root, 1, 0, 0, POOL_OF(b), free_count, b.marks, TABLES));
+    SAME(wanted, x64_space_is_valid(&space, a.marks, TABLES), x64_is_valid(&hierarchy, TABLES_OF(b), b.marks, TABLES));
+    SAME(wanted, x64_space_page_walk(&space, 0x1234, &a.walked), x64_page_walk(&hierarchy, TABLES_OF(b), 0x1234, &b.walked));
+    SAME(wanted, x64_space_walk(&space, 0x1234, &a.arrival), x64_walk(&hierarchy, TABLES_OF(b), 0x1234, &b.arrival));
+    SAME(wanted, x64_space_entries(&space, 0x2000, a.entries, X64_MOST_LEVELS, &a.count),
+         x64_entries(&hierarchy, TABLES_OF(b), 0x2000, b.entries, X64_MOST_LEVELS, &b.count));
+    SAME(wanted, x64_space_translate(&space, 0x1234, &a.translation), x64_translate(&hierarchy, TABLES_OF(b), 0x1234, &b.translation));
+    SAME(wanted, x64_space_mappings(&space, 0, a.mappings, LISTED, &a.count, &a.word),
+         x64_mappings(&hierarchy, TABLES_OF(b), 0, b.mappings, LISTED, &b.count, &b.word));
+    SAME(wanted, x64_space_access(&space, &controls, &access, &a.outcome), x64_access(&hierarchy, TABLES_OF(b), &controls, &access, &b.outcome));
+    SAME(wanted, x64_space_map(&space, &pool, 0x1000, X64_SIZE_4KIB, 0x5000, USUAL),
+         x64_map(&hierarchy, TABLES_OF(b), POOL_OF(b), &free_count, &map));
+    SAME(wanted, x64_space_map_with(&space, &pool, &map), x64_map(&hierarchy, TABLES_OF(b), POOL_OF(b), &free_count, &map));
+    SAME(wanted, x64_space_map_list(&space, &pool, 0x1000, X64_SIZE_4KIB, frames, 1, USUAL, &a.count), map_all(0x1000, frames, 1, &b.count));
+    SAME(wanted, x64_space_map_range(&space, &pool, 0x1000, X64_SIZE_4KIB, 2, 0x5000, USUAL, &a.word),
+         x64_map_range(&hierarchy, TABLES_OF(b), POOL_OF(b), &free_count, &map, 2, &b.word));
+    SAME(wanted, x64_space_map_range_with(&space, &pool, &map, 2, &a.word),
+         x64_map_range(&hierarchy, TABLES_OF(b), POOL_OF(b), &free_count, &map, 2, &b.word));
+    SAME(wanted, x64_space_unmap(&space, 0x1000, X64_SIZE_4KIB, &a.word), x64_unmap(&hierarchy, TABLES_OF(b), &page, &b.word));
+    SAME(wanted, x64_space_unmap_range(&space, 0x1000, X64_SIZE_4KIB, 4, a.frames, LISTED, &a.count, &a.word),
+         x64_unmap_range(&hierarchy, TABLES_OF(b), &page, 4, b.frames, LISTED, &b.count, &b.word));
+    SAME(wanted, x64_space_update_flags(&space, 0x1000, X64_SIZE_4KIB, USUAL), x64_update_flags(&hierarchy, TABLES_OF(b), &page, USUAL));
+    SAME(wanted, x64_space_update_flags_range(&space, 0x1000, X64_SIZE_4KIB, 3, USUAL, &a.word),
+         x64_update_flags_range(&hierarchy, TABLES_OF(b), &page, 3, USUAL, &b.word));
+    SAME(wanted, x64_space_set_table_flags(&space, 0x1000, X64_SIZE_4KIB, 2, USUAL),
+         x64_set_table_flags(&hierarchy, TABLES_OF(b), &page, 2, USUAL));
+    SAME(wanted, x64_space_clean_up(&space, &pool, 0, last), x64_clean_up(&hierarchy, TABLES_OF(b), POOL_OF(b), &free_count, 0, last));
+    SAME(wanted, x64_space_new(&space, &pool, &other), x64_new_space(&hierarchy, TABLES_OF(b), POOL_OF(b), &free_count, 0, 0, &b.word));
+    SAME(wanted, x64_space_give_up(&space, &pool), x64_give_up_space(&hierarchy, TABLES_OF(b), POOL_OF(b), &free_count, 0, 0));
+}
+
+static void try_all_wrong(uint64_t levels) {
+    fill(levels);
+    space.levels = hierarchy.levels = 3;
+    try_wrong(X64_BAD_LEVELS, X64_BAD_LEVELS);
+    fill(levels);
+    space.root = hierarchy.root = (FIRST + TABLES) * 4096;
+    try_wrong(X64_BAD_ROOT, X64_NOT_VALID);
+}
+
 /* Frames of one pool become tables, and these go to another pool. */
 static void try_pools(void) {
     uint64_t gathered[TABLES], frame;
@@ -255,6 +304,7 @@ int main(void) {
         fill(levels);
         try_maps();
         try_spaces();
+        try_all_wrong(levels);
         fill(levels);
         try_pools();
         try_edges();

@@ -242,6 +242,7 @@ static void try_tables(const x64_space *space) {
     WANTS(X64_SHARED_ENTRY, x64_space_clean_up(space, &pools[0], page_at(UNUSED, 1), page_at(UNUSED, 1)));
     WANTS(X64_OK, x64_space_clean_up(space, &pools[0], 0, own_end));
     WANTS(X64_OK, x64_space_clean_up(space, &pools[0], first, own_end)); /* the last page comes before the first one */
+    WANTS(X64_OK, x64_space_clean_up(space, &pools[0], page_at(UNUSED, 1), page_at(UNUSED, 0)));
     WANTS(X64_BAD_PAGE, x64_space_clean_up(space, &pools[0], 5, first));
     WANTS(X64_BAD_PAGE, x64_space_clean_up(space, &pools[0], 0, first + 5));
     WANTS(X64_BAD_PAGE, x64_space_clean_up(space, &pools[0], 0, first ^ UINT64_C(1) << 63));
@@ -465,6 +466,7 @@ static void make_calls(size_t count) {
 }
 
 int main(int argc, char **argv) {
+    setvbuf(stdout, NULL, _IOLBF, 0); /* so that lines are out if a mistake lets it crash */
     const size_t count = argc > 1 ? strtoull(argv[1], NULL, 0) : 20000;
     for (uint64_t levels = 4; levels <= 5; levels++) {
         start(levels);

@@ -424,7 +424,8 @@ static void try_join_below(uint64_t levels) {
     uint64_t old, frame = 0;
     x64_entry entry = {0, 0, 0, 0};
     fill(levels);
-    CHECK(x64_space_split(&space, &pool, LARGE, X64_SIZE_2MIB) == X64_OK && x64_space_find_page(&space, HEAP + 2 * X64_SIZE_2MIB, X64_SIZE_2MIB, &entry) == X64_OK);
+    CHECK(x64_space_split(&space, &pool, LARGE, X64_SIZE_2MIB) == X64_OK);
+    CHECK(x64_space_find_page(&space, HEAP + 2 * X64_SIZE_2MIB, X64_SIZE_2MIB, &entry) == X64_OK);
     entry.index--;
     CHECK(x64_space_change_entry(&space, &entry, ~(X64_WRITABLE | X64_USER_ACCESSIBLE), X64_NO_EXECUTE, &old) == X64_OK);
     walk_all(LARGE, X64_SIZE_2MIB, &before);
