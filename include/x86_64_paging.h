@@ -143,9 +143,8 @@
  * reads ahead whatever it can reach, at any moment, and forgets when it likes. The library executes
  * no privileged instruction, so the caller flushes. What a call makes due depends on its status,
  * and x64_flush_after returns it. After an exchange of a word (x86_64_paging_live.h)
- * x64_flush_between does. A call on a space makes due what the call below it in this table does:
- * x64_space_map and x64_space_map_list what x64_map does, and x64_space_new what x64_new_space
- * does.
+ * x64_flush_between does. A call on a space makes due what the raw call does that it makes:
+ * x64_space_map and x64_space_map_list what x64_map does, for example.
  *
  *   call                      status            due
  *   x64_unmap                 X64_OK            the page: INVLPG of an address in it
