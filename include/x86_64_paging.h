@@ -285,7 +285,8 @@
  * during calls that don't touch it (live_tables_fit, of one such entry: this is 4). No mark is lost
  * by exchanges (marks_are_never_lost), and reading and then writing loses some
  * (reading_and_writing_loses_marks: this is 5). That the functions write no words of others is
- * proved. That they read none is read in their source, and so is 3.
+ * proved. That they read none is read in their source, and so is 3. Tested are calls of several
+ * threads at the same time, each with a space and a pool of its own (tests/c/pools.c).
  *
  * WHAT IS PROVED, AND WHAT ISN'T
  *

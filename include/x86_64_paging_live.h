@@ -425,8 +425,11 @@ static inline uint32_t x64_space_take_range(const x64_space *space, uint64_t fir
                 *next = at;
                 return is_partly_in ? X64_PARENT_ENTRY_HUGE_PAGE : X64_MORE;
             }
-            if (x64_space_exchange_entry(space, &entry, 0, &taken[*count].word) != X64_OK)
+            status = x64_space_exchange_entry(space, &entry, 0, &taken[*count].word);
+            if (status == X64_NOT_ALLOWED)
                 continue; /* it names a table by now: look again */
+            if (status != X64_OK)
+                return X64_NOT_VALID;
             taken[*count].page = start;
             taken[*count].size = span;
             *count += taken[*count].word != 0;
