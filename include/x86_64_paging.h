@@ -108,7 +108,8 @@
  * as they were, and all fit together again. This is proved of the calls of the model (spaces_stay),
  * as long as the root's shared entries stay what they are, and which calls leave them is proved,
  * too (calls_keep_root_entries). Calls on spaces refuse everything else: they return
- * X64_SHARED_ENTRY, and nothing has changed. That they do so is tested.
+ * X64_SHARED_ENTRY, and nothing has changed, but for the pages that x64_space_map_list mapped
+ * before. That they do so is tested.
  *
  *   x64_space_map, x64_space_map_with, x64_space_map_list
  *                              if a shared entry above the page is 0, or lacks a parent flag
@@ -124,10 +125,11 @@
  * it from the start: x64_space_map gives it to all entries above a page.
  *
  * To begin, make one space with 0 to 0, which refuses nothing. Below each entry that will be shared
- * map something, with all parent flags that will ever be needed there: by x64_space_map_with, with
- * X64_PRESENT, X64_WRITABLE and X64_ACCESSED, and X64_USER_ACCESSIBLE if users get pages there. A
- * shared entry that is 0 then stays 0 for good. Set shared_from and shared_to, leave all fields as
- * they are from now on, and make the others by x64_space_new. No further test is needed.
+ * map something, for example at x64_space_first_page, with all parent flags that will ever be
+ * needed there: by x64_space_map_with, with X64_PRESENT, X64_WRITABLE and X64_ACCESSED, and
+ * X64_USER_ACCESSIBLE if users get pages there. A shared entry that is 0 then stays 0 for good. Set
+ * shared_from and shared_to, leave all fields as they are from now on, and make the others by
+ * x64_space_new. No further test is needed.
  *
  * A copy of a space with 0 to 0 in place of its shared indices refuses nothing either. Who makes a
  * call on that has to see to it that all roots have the same shared entries again before the next
@@ -591,9 +593,8 @@ typedef struct x64_outcome {
  *
  * Each makes the raw call that its description begins with, and passes it the fields of the space
  * and of the pool. That call's condition, its statuses and what it writes hold here, too; its
- * description below says them in full. A call returns X64_SHARED_ENTRY only where this is said.
- * Then nothing has changed. It looks for this after wrong levels, roots and pages, and before
- * everything else.
+ * description below says them in full. A call returns X64_SHARED_ENTRY only where this is said. It
+ * looks for this after wrong levels, roots and pages, and before everything else.
  *
  * The contract of the raw call carries what is said here, but for three things, which are tested:
  * that these arguments are passed, the parent flags of x64_space_map among them; X64_SHARED_ENTRY;
