@@ -301,8 +301,8 @@
  * their order, and the numbers of the statuses. tools/c_library compares the functions that are
  * only declared with those that the library exports. The inline functions, which are all calls on
  * spaces, are tested (tests/c/context.c, tests/c/guards.c), and so are those of
- * x86_64_paging_live.h. What such a call does once it has passed its arguments on is proved, as the
- * raw call is; that it passes the right ones, and refuses what is said above, is tested.
+ * x86_64_paging_live.h: that a call on a space passes the right arguments to the raw call, which is
+ * proved, and that it refuses what is said above.
  */
 #ifndef X86_64_PAGING_H
 #define X86_64_PAGING_H
