@@ -299,10 +299,10 @@
  * Not proved is this file: the prover does not read it. tools/c_header compares it with the source:
  * the functions with their parameters and results, the fields of each struct with their types and
  * their order, and the numbers of the statuses. tools/c_library compares the functions that are
- * only declared with those that the library exports. The inline functions, which are all calls on
- * spaces, are tested (tests/c/context.c, tests/c/guards.c), and so are those of
- * x86_64_paging_live.h: that a call on a space passes the right arguments to the raw call, which is
- * proved, and that it refuses what is said above.
+ * only declared with those that the library exports. The inline functions, among them all calls
+ * on spaces, are tested: that such a call passes the right arguments to its raw call, which is
+ * proved (tests/c/context.c), and that it refuses what is said above (tests/c/guards.c).
+ * x86_64_paging_live.h says what is tested of its functions.
  */
 #ifndef X86_64_PAGING_H
 #define X86_64_PAGING_H
