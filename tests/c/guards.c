@@ -300,6 +300,9 @@ static void try_words(const x64_space *space, uint64_t n) {
     WANTS(X64_OK, x64_space_find_page(space, page, X64_SIZE_4KIB, &entry));
     WANTS(X64_OK, x64_space_compare_exchange_entry(space, &entry, 0x6000 | USUAL));
     WANTS(X64_OK, x64_space_exchange_entry(space, &entry, 0x7000 | USUAL, &old));
+    WANTS(X64_OK, x64_space_map(space, &pools[0], page + 0x1ff000, X64_SIZE_4KIB, FRAME, USUAL)); /* index 511, as that of a shared entry */
+    WANTS(X64_OK, x64_space_change_page(space, page + 0x1ff000, X64_SIZE_4KIB, ~X64_WRITABLE, 0, &old));
+    WANTS(X64_OK, x64_space_take_page(space, page + 0x1ff000, X64_SIZE_4KIB, &old));
     WANTS(X64_OK, x64_space_take_range(space, page, page, taken, 2, &count, &next));
     CHECK(count == 1 && taken[0].word == (0x7000 | USUAL));
     CHECK(x64_space_entries_live(space, page_at(OWN, n), entries, &count) == X64_OK);
@@ -427,7 +430,8 @@ static void make_exchange(const x64_space *space, size_t pool) {
     uint32_t status = x64_space_entries_live(space, page, entries, &count);
     CHECK(status <= X64_NOT_MAPPED);
     x64_entry *entry = &entries[below(count)];
-    switch (below(6)) {
+    const uint64_t choice = below(6);
+    switch (choice) {
     case 0:
         status = x64_space_exchange_entry(space, entry, below(2) ? entry->word ^ UINT64_C(1) << below(64) : 0, &old);
         break;
@@ -451,6 +455,7 @@ static void make_exchange(const x64_space *space, size_t pool) {
         }
     }
     CHECK(status < X64_BAD_LEVELS || status == X64_BAD_PAGE);
+    CHECK(choice > 2 || (status == X64_SHARED_ENTRY) == (entry == entries && FROM <= entry->index));
 }
 
 static void make_calls(size_t count) {
