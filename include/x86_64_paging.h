@@ -1266,8 +1266,8 @@ uint32_t x64_give_up_space(const x64_hierarchy *hierarchy, x64_table *tables, si
 /*
  * THE INLINE FUNCTIONS
  *
- * From here on there is nothing to know for callers: this is what the calls on spaces do. First,
- * what they and x86_64_paging_live.h have in common.
+ * Helpers first, which programs may use, too. The rest is what the calls on spaces do, with no more
+ * to know for callers.
  */
 
 /* Returns the level of the entries that map pages of a size: 1, 2 or 3, or 0 if no pages have this
@@ -1285,6 +1285,7 @@ static inline bool x64_is_canonical(uint64_t levels, uint64_t address) {
     return top == 0 || top == UINT64_MAX >> (11 + 9 * levels);
 }
 
+/* Returns the hierarchy of a space, for raw calls. */
 static inline x64_hierarchy x64_space_hierarchy(const x64_space *space) {
     x64_hierarchy hierarchy;
     hierarchy.first = space->first;
@@ -1293,6 +1294,7 @@ static inline x64_hierarchy x64_space_hierarchy(const x64_space *space) {
     return hierarchy;
 }
 
+/* Returns the page of a size that starts at an address. */
 static inline x64_page x64_page_of(uint64_t start, uint64_t size) {
     x64_page page;
     page.start = start;
@@ -1300,7 +1302,7 @@ static inline x64_page x64_page_of(uint64_t start, uint64_t size) {
     return page;
 }
 
-/* Returns the request of x64_space_map. */
+/* Returns the request of x64_space_map, whose parent flags the caller may change. */
 static inline x64_map_request x64_map_request_of(uint64_t page, uint64_t size, uint64_t frame,
                                                  uint64_t flags) {
     x64_map_request request;
