@@ -472,7 +472,7 @@ static void make_calls(size_t count) {
 
 int main(int argc, char **argv) {
     setvbuf(stdout, NULL, _IOLBF, 0); /* so that lines are out if a mistake lets it crash */
-    const size_t count = argc > 1 ? strtoull(argv[1], NULL, 0) : 20000;
+    const size_t count = argc > 1 ? strtoull(argv[1], NULL, 0) : 5000;
     for (uint64_t levels = 4; levels <= 5; levels++) {
         start(levels);
         note();
@@ -492,7 +492,7 @@ int main(int argc, char **argv) {
         make_calls(count);
     }
     for (size_t kind = 0; kind < KINDS; kind++)
-        CHECK(kind >= UNMAP ? refused[kind] == 0 : count < 10000 || (refused[kind] > 20 && changes[kind] > 0 && made[kind] > refused[kind]));
+        CHECK(kind >= UNMAP ? refused[kind] == 0 : count < 5000 || (refused[kind] > 10 && changes[kind] > 0 && made[kind] > refused[kind]));
     printf("guards: %zu checks, %zu faults; refused of random calls: %zu of %zu maps, %zu of %zu ranges, %zu of %zu clean ups, %zu of %zu changes of "
            "tables, %zu of %zu accesses\n",
            checked, failed, refused[MAP], made[MAP], refused[RANGE], made[RANGE], refused[CLEAN_UP], made[CLEAN_UP], refused[TABLE_FLAGS],
