@@ -38,6 +38,8 @@ const CONTROLS: Controls = Controls {
     smap: true,
     ac: false,
     physical_bits: 46,
+    no_1gib_pages: false,
+    global_reserved: false,
 };
 
 /// Returns the number of pages to whose frames a page walk leads, with the right to write.

@@ -4,11 +4,11 @@ ghost use Rattle.x86_64_model.specs.Hierarchy.{Valid, SupplyFits};
 
 use crate::workload::Workload;
 use bitflags::Flags;
-use x86_64::structures::paging::mapper::calls::{
-    TableAccess, map_to, translate_addr, unmap, update_flags,
-};
 use x86_64::structures::paging::{FrameAllocator, PageSize, PageTableFlags, Size4KiB};
 use x86_64::{LevelCount, TablesIn, is_outside_window};
+use x86_64_mappers::calls::{
+    TableAccess, map_to, translate_addr, unmap, update_flags,
+};
 
 /// Returns the flags of each page.
 pub fn flags() -> PageTableFlags

@@ -11,12 +11,12 @@ use std::alloc::Global;
 use std::io;
 use std::time::CpuClock;
 use x86_64::structures::paging::mapper::MappedPageTableIn;
-use x86_64::structures::paging::mapper::calls::{
+use x86_64::structures::paging::{FrameAllocator, MappedPageTable, PageSize, PhysFrame, Size4KiB};
+use x86_64::{FourLevels, FramePool, IdentityMapping, PhysMemory, TableMemory, TablesIn};
+use x86_64_mappers::calls::{
     FrameSink, MapRangeErrorIn, TableAccess, map_range, map_range_allowed, range_allowed,
     unmap_range, update_flags_range,
 };
-use x86_64::structures::paging::{FrameAllocator, MappedPageTable, PageSize, PhysFrame, Size4KiB};
-use x86_64::{FourLevels, FramePool, IdentityMapping, PhysMemory, TableMemory, TablesIn};
 
 /// How pages are mapped, changed and unmapped.
 #[derive(Clone, Copy)]

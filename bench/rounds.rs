@@ -13,7 +13,6 @@ use bitflags::Flags;
 use std::alloc::{AllocError, Global};
 use std::io;
 use std::time::{CpuClock, Duration};
-use x86_64::structures::paging::mapper::calls::{TableAccess, clean_up};
 use x86_64::structures::paging::mapper::{MappedPageTableIn, RecursivePageTable};
 use x86_64::structures::paging::{
     FrameAllocator, PageSize, PageTable, PageTableFlags, PageTableIndex, PhysFrame, Size4KiB,
@@ -23,6 +22,7 @@ use x86_64::{
     LevelCount, PhysAddr, PhysMemory, TableMemory, TablesIn, pool_fits, pool_fits_57,
     pool_fits_recursive,
 };
+use x86_64_mappers::calls::{TableAccess, clean_up};
 
 /// The number of times that all pages are translated in a round.
 const TRANSLATIONS: u64 = 10;

@@ -111,7 +111,7 @@
  * X64_SHARED_ENTRY, and nothing has changed, but for the pages that x64_space_map_list mapped
  * before. That they do so is tested.
  *
- *   x64_space_map, x64_space_map_with, x64_space_map_list
+ *   x64_space_map, x64_space_map_with, x64_space_map_list, x64_space_prepare
  *                              if a shared entry above the page is 0, or lacks a parent flag
  *   x64_space_map_range, x64_space_map_range_with
  *                              the same, of any page
@@ -125,8 +125,8 @@
  * it from the start: x64_space_map gives it to all entries above a page.
  *
  * To begin, make one space with 0 to 0, which refuses nothing. Below each entry that will be shared
- * map something, for example at x64_space_first_page, with all parent flags that will ever be
- * needed there: by x64_space_map_with, with X64_PRESENT, X64_WRITABLE and X64_ACCESSED, and
+ * prepare a page of 1 GiB (x64_space_prepare), for example at x64_space_first_page, with all parent
+ * flags that will ever be needed there: X64_PRESENT, X64_WRITABLE and X64_ACCESSED, and
  * X64_USER_ACCESSIBLE if users get pages there. A shared entry that is 0 then stays 0 for good. Set
  * shared_from and shared_to, leave all fields as they are from now on, and make the others by
  * x64_space_new. No further test is needed.
@@ -159,7 +159,7 @@
  *   x64_clean_up              X64_OK            tables: any INVLPG, or a load of CR3 with bit 63
  *                                               clear. If EFER.TCE is set (AMD), INVLPG isn't
  *                                               enough
- *   x64_map                   X64_OK            nothing; but everything, global pages too, if the
+ *   x64_map, x64_prepare      X64_OK            nothing; but everything, global pages too, if the
  *                                               parent flags have X64_NO_EXECUTE (those of
  *                                               x64_space_map don't)
  *   x64_map_as_mapper,        any               the same, unless the status is X64_NOT_ALLOWED or
@@ -186,15 +186,17 @@
  *               Nor is a right gone before the flush.
  *   a page      until a smaller page is mapped there: one INVLPG drops all of a large page only as
  *               long as no smaller one is there.
- *   tables      until the next map (x64_map, x64_map_as_mapper, x64_map_range) or x64_new_space
- *               with this pool, on whatever root, and until the caller takes a free frame. A freed
- *               table may become another table or a root, which the processor would walk as the
- *               old one.
+ *   tables      until a frame that x64_clean_up freed is taken: by a map (x64_map,
+ *               x64_map_as_mapper, x64_map_range), x64_prepare or x64_new_space with this pool, on
+ *               whatever root, or by the caller. It may become another table or a root, which the
+ *               processor would walk as the old one. The map of a page takes at most the last 3
+ *               free frames of the pool (4 with 5 levels), so it waits only if one of these was
+ *               freed.
  *
  * A clean up may put the frames of tables into a pool of its own, which has room for all tables
  * below the root (x64_pool_fits). Then maps with another pool take none of them meanwhile. After
- * the flush the caller adds them to the pool, with their zeros. The laws below know one pool, after
- * whose clean ups all maps wait.
+ * the flush the caller adds them to the pool, with their zeros. The laws below know one pool, in
+ * whose order frames that were freed may come after others.
  *
  * PCIDs (CR4.PCIDE): a PCID holds the root with which CR3 was last loaded under it. INVLPG flushes
  * for the PCID that is current, and global pages. A load of CR3 flushes for the PCID that it loads,
@@ -226,7 +228,9 @@
  *
  * What is proved: laws of a model, in which a processor may cache any present word at any moment.
  * Each function is proved to do what the model's call does (a refused x64_map does nothing), so the
- * laws are about these calls.
+ * laws are about these calls. x64_prepare of a page of 4 KiB leaves what a call leaves that maps
+ * the page to frame 0 without flags, and so writes 0 (small_preparations_are_steps in
+ * crates/x86_64_live). For larger pages it is none of these calls.
  *
  *   flushed_calls_leave_no_stale_item (crates/x86_64/src/laws.rt)
  *       Calls on one root, each with its flush, which may be late: afterwards each access goes
@@ -269,13 +273,14 @@
  *    each other, as long as no call touches the same word and no table on the way is freed between
  *    finding a word and exchanging it. x86_64_paging_live.h has the functions, and says more.
  *    x64_map, x64_map_as_mapper, x64_unmap and x64_update_flags touch the entry of their page and
- *    those above it; ranges touch those of all their pages; x64_clean_up touches all entries in its
- *    range, and x64_give_up_space those of the root, and both free tables.
+ *    those above it, and x64_prepare only those above it; ranges touch those of all their pages;
+ *    x64_clean_up touches all entries in its range, and x64_give_up_space those of the root, and
+ *    both free tables.
  * 5. Processors mark entries at any moment. What they set is lost only by calls that read an entry
- *    and then write it: x64_unmap, x64_update_flags, their ranges, x64_set_table_flags, maps that
- *    add parent flags, and x64_access with mark. The last one may also put back an entry that a
- *    guest took away in between. Exchanges lose nothing: a mark is in the entry, or an exchange
- *    returned it.
+ *    and then write it: x64_unmap, x64_update_flags, their ranges, x64_set_table_flags, maps and
+ *    x64_prepare if they add parent flags, and x64_access with mark. The last one may also put back
+ *    an entry that a guest took away in between. Exchanges lose nothing: a mark is in the entry, or
+ *    an exchange returned it.
  * 6. Calls that only read tables may run at the same time: they write nothing but their out
  *    parameters and marks. Beside exchanges of words they may load a word twice, and meet two:
  *    x64_entries_live and x64_access_live load each word once. Tests of validity want tables that
@@ -438,7 +443,7 @@ enum {
 
 /* The calls after which something may have to be flushed. */
 enum {
-    X64_CALL_MAP = 0,             /* x64_map, x64_map_as_mapper, x64_map_range */
+    X64_CALL_MAP = 0,             /* x64_map, x64_map_as_mapper, x64_map_range, x64_prepare */
     X64_CALL_UNMAP = 1,           /* x64_unmap, x64_unmap_range */
     X64_CALL_UPDATE_FLAGS = 2,    /* x64_update_flags, x64_update_flags_range */
     X64_CALL_SET_TABLE_FLAGS = 3, /* x64_set_table_flags */
@@ -563,7 +568,7 @@ typedef struct x64_map_request {
     uint64_t parent_flags; /* added to each entry above it, as x64_space_map does by itself */
 } x64_map_request;
 
-/* What a processor is set to, as far as it decides accesses. */
+/* What a processor is set to, and has, as far as that decides accesses. */
 typedef struct x64_controls {
     bool write_protect;    /* CR0.WP: a supervisor can't write to pages without X64_WRITABLE */
     bool no_execute;       /* EFER.NXE: X64_NO_EXECUTE forbids fetches. Else that bit is reserved */
@@ -571,6 +576,9 @@ typedef struct x64_controls {
     bool smap;             /* CR4.SMAP: a supervisor can't read or write user pages, but with ac */
     bool ac;               /* EFLAGS.AC */
     uint8_t physical_bits; /* MAXPHYADDR: 32 to 52. Higher address bits of entries are reserved */
+    bool no_1gib_pages;    /* no pages of 1 GiB (CPUID 8000_0001H, EDX bit 26, is clear): at level 3
+                            * X64_HUGE_PAGE is reserved */
+    bool global_reserved;  /* X64_GLOBAL is reserved at levels 4 and 5, as on AMD's processors */
 } x64_controls;
 
 /* An access. */
@@ -687,6 +695,15 @@ static inline uint32_t x64_space_map(const x64_space *space, x64_pool *pool, uin
 X64_NODISCARD
 static inline uint32_t x64_space_map_with(const x64_space *space, x64_pool *pool,
                                           const x64_map_request *request);
+
+/* x64_prepare: makes the tables above a page of a size, with these parent flags, or changes
+ * nothing. The page's own entry stays. A map of the page then needs no free frame, and an exchange
+ * of its word no table: for handlers that may not fail, and for entries that will be shared.
+ * Returns X64_OK; X64_SHARED_ENTRY as x64_space_map_with; X64_PARENT_ENTRY_HUGE_PAGE;
+ * X64_FRAME_ALLOCATION_FAILED; X64_NOT_ALLOWED; X64_BAD_PAGE. */
+X64_NODISCARD
+static inline uint32_t x64_space_prepare(const x64_space *space, x64_pool *pool, uint64_t page,
+                                         uint64_t size, uint64_t parent_flags);
 
 /* x64_map, of each page in turn: maps `count` pages, from `page` on, to as many frames in any
  * order, with the parent flags of x64_space_map, and stops at the first page that is refused.
@@ -1012,8 +1029,6 @@ uint32_t x64_spaces_fit(uint64_t first, uint64_t levels, const x64_table *tables
  *
  * Left out are, or have to be done by the caller:
  *   - protection keys, shadow stacks and HLAT (another root, which the VMCS names);
- *   - processors without pages of 1 GiB, to which X64_HUGE_PAGE at level 3 is a reserved bit;
- *   - bit 8 of entries at levels 4 and 5, which is reserved on AMD's processors;
  *   - LAM and AMD's UAI: clear the ignored bits of the address before;
  *   - LASS, by which an access faults before any entry is read;
  *   - what a processor reads as a supervisor by itself, such as descriptors: pass user = 0, ac = 0.
@@ -1083,6 +1098,35 @@ X64_NODISCARD
 uint32_t x64_map_as_mapper(const x64_hierarchy *hierarchy, x64_table *tables, size_t table_count,
                            uint64_t *pool, size_t capacity, size_t *free_count,
                            const x64_map_request *request);
+
+/*
+ * Makes the tables above a page, or changes nothing: unless it returns X64_OK, the tables, the pool
+ * and *free_count are as before. After X64_OK each entry above the page names a table and has the
+ * parent flags. Those that were 0 name new tables: the last free frames of the pool, which are
+ * cleared. The page's own entry is neither read nor written.
+ *
+ * A map of the page then needs no free frame, and an exchange of its entry (x86_64_paging_live.h)
+ * no table. So a handler of faults that may not fail has its pages prepared, and two handlers may
+ * put two pages below one table at the same time.
+ *
+ * Condition: the pool fits the hierarchy (x64_pool_fits).
+ *
+ * Returns X64_OK or one of these; then nothing has changed:
+ *   X64_NOT_ALLOWED              if the parent flags have any of the bits 12 to 51, or
+ *                                X64_HUGE_PAGE; or if they lack X64_PRESENT and an entry above the
+ *                                page would be without it
+ *   X64_PARENT_ENTRY_HUGE_PAGE   if an entry above the page has X64_HUGE_PAGE
+ *   X64_FRAME_ALLOCATION_FAILED  if more tables are missing than frames are free
+ *   X64_BAD_ARRAY                if *free_count > capacity
+ *   X64_BAD_PAGE
+ *
+ * It is proved that x64_map of the page, with the same parent flags, does afterwards what it would
+ * have done alone (prepared_maps_are_maps in crates/x86_64_live).
+ */
+X64_NODISCARD
+uint32_t x64_prepare(const x64_hierarchy *hierarchy, x64_table *tables, size_t table_count,
+                     uint64_t *pool, size_t capacity, size_t *free_count, const x64_page *page,
+                     uint64_t parent_flags);
 
 /*
  * Maps `count` pages of one size, from request->page on, to as many frames, from request->frame on,
@@ -1462,6 +1506,16 @@ static inline uint32_t x64_space_map_with(const x64_space *space, x64_pool *pool
         return X64_SHARED_ENTRY;
     return x64_map(&hierarchy, space->tables, space->table_count, pool->frames, pool->capacity,
                    &pool->free_count, request);
+}
+
+static inline uint32_t x64_space_prepare(const x64_space *space, x64_pool *pool, uint64_t page,
+                                         uint64_t size, uint64_t parent_flags) {
+    x64_hierarchy hierarchy = x64_space_hierarchy(space);
+    x64_page prepared = x64_page_of(page, size);
+    if (x64_space_forbids_map(space, &prepared, 1, parent_flags))
+        return X64_SHARED_ENTRY;
+    return x64_prepare(&hierarchy, space->tables, space->table_count, pool->frames, pool->capacity,
+                       &pool->free_count, &prepared, parent_flags);
 }
 
 static inline uint32_t x64_space_map_list(const x64_space *space, x64_pool *pool, uint64_t page,

@@ -27,10 +27,10 @@
  * x64_space_clean_up, no x64_space_give_up and no x64_space_join may free a table of this space, or
  * below an entry that it shares, at the same time or between the two. Other calls on this space may
  * run meanwhile if they touch other entries: x64_space_map, x64_space_unmap and
- * x64_space_update_flags touch the entry of their page and those above it, ranges touch those of
- * all their pages. x64_space_split and x64_space_join are calls themselves: they run one at a time
- * with other calls on this space, and split with those with its pool, as x64_space_map does. See
- * WHAT MAY RUN AT THE SAME TIME in x86_64_paging.h.
+ * x64_space_update_flags touch the entry of their page and those above it, x64_space_prepare those
+ * above its page alone, ranges those of all their pages. x64_space_split and x64_space_join are
+ * calls themselves: they run one at a time with other calls on this space, and split with those
+ * with its pool, as x64_space_map does. See WHAT MAY RUN AT THE SAME TIME in x86_64_paging.h.
  *
  * WHAT TO FLUSH
  *

@@ -97,11 +97,14 @@ pub use crate::tables::phys_memory::Active;
 pub use crate::tables::phys_memory::ActiveMemory;
 pub use crate::tables::phys_memory::ActiveMemory57;
 pub use crate::tables::phys_memory::FramePlace;
+pub use crate::tables::phys_memory::FrameSegment;
 pub use crate::tables::phys_memory::HierarchyView;
 pub use crate::tables::phys_memory::IdentityMapping;
 pub use crate::tables::phys_memory::LentMemory;
 pub use crate::tables::phys_memory::PhysMemory;
 pub use crate::tables::phys_memory::PlacesRefusal;
+pub use crate::tables::phys_memory::SegmentMapping;
+pub use crate::tables::phys_memory::SegmentRefusal;
 pub use crate::tables::phys_memory::ShiftMapping;
 pub use crate::tables::phys_memory::TableMemory;
 pub use crate::tables::phys_memory::Walked;
@@ -169,6 +172,7 @@ pub mod loader;
 #[allow(unsafe_code)]
 pub mod registers;
 pub mod support;
+pub mod text;
 
 // The example for kernels needs the feature.
 #[cfg(all(doctest, feature = "instructions"))]

@@ -96,6 +96,11 @@ static void try_maps(void) {
     x64_map_request range = request(0x10000, X64_SIZE_4KIB, 0x80000, USUAL, PARENTS);
     SAME(X64_OK, x64_space_map_range(&space, &pool, 0x10000, X64_SIZE_4KIB, 4, 0x80000, USUAL, &a.word),
          x64_map_range(&hierarchy, TABLES_OF(b), POOL_OF(b), &free_count, &range, 4, &b.word));
+    x64_page far = {UINT64_C(0x7fffffe00000), X64_SIZE_2MIB};
+    SAME(X64_OK, x64_space_prepare(&space, &pool, far.start, far.size, USUAL),
+         x64_prepare(&hierarchy, TABLES_OF(b), POOL_OF(b), &free_count, &far, USUAL));
+    SAME(X64_NOT_ALLOWED, x64_space_prepare(&space, &pool, far.start, far.size, USUAL | X64_HUGE_PAGE),
+         x64_prepare(&hierarchy, TABLES_OF(b), POOL_OF(b), &free_count, &far, USUAL | X64_HUGE_PAGE));
     x64_map_request more = request(0x400000, X64_SIZE_2MIB, 0x800000, USUAL, X64_PRESENT);
     SAME(X64_OK, x64_space_map_range_with(&space, &pool, &more, 2, &a.word),
          x64_map_range(&hierarchy, TABLES_OF(b), POOL_OF(b), &free_count, &more, 2, &b.word));
@@ -204,7 +209,7 @@ static void try_spaces(void) {
 
 /* Makes each call with a space that is wrong, as its copy is. All return the same status, but tests of several spaces another one. */
 static void try_wrong(uint32_t wanted, uint32_t wanted_of_fits) {
-    const x64_controls controls = {true, true, false, false, false, 40};
+    const x64_controls controls = {true, true, false, false, false, 40, false, false};
     const x64_access_request access = {0x1000, X64_READ, false, true};
     const x64_page page = {0x1000, X64_SIZE_4KIB};
     const uint64_t frames[] = {0x5000}, last = UINT64_MAX - 4095;
@@ -224,6 +229,8 @@ static void try_wrong(uint32_t wanted, uint32_t wanted_of_fits) {
     SAME(wanted, x64_space_map(&space, &pool, 0x1000, X64_SIZE_4KIB, 0x5000, USUAL),
          x64_map(&hierarchy, TABLES_OF(b), POOL_OF(b), &free_count, &map));
     SAME(wanted, x64_space_map_with(&space, &pool, &map), x64_map(&hierarchy, TABLES_OF(b), POOL_OF(b), &free_count, &map));
+    SAME(wanted, x64_space_prepare(&space, &pool, 0x1000, X64_SIZE_4KIB, USUAL),
+         x64_prepare(&hierarchy, TABLES_OF(b), POOL_OF(b), &free_count, &page, USUAL));
     SAME(wanted, x64_space_map_list(&space, &pool, 0x1000, X64_SIZE_4KIB, frames, 1, USUAL, &a.count), map_all(0x1000, frames, 1, &b.count));
     SAME(wanted, x64_space_map_range(&space, &pool, 0x1000, X64_SIZE_4KIB, 2, 0x5000, USUAL, &a.word),
          x64_map_range(&hierarchy, TABLES_OF(b), POOL_OF(b), &free_count, &map, 2, &b.word));

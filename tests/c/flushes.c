@@ -560,7 +560,7 @@ static void call(enum rule rule) {
         bool is_large_due = size == X64_SIZE_4KIB && is_due(page, X64_SIZE_4KIB);
         if ((are_tables_due && rule != MAPS_BEFORE_TABLES) || (is_large_due && rule != SMALL_BEFORE_LARGE))
             settle(rule);
-        status = map(page, size, some_flags() & ~X64_ACCESSED, parent_flags);
+        status = choice < 2 ? x64_space_prepare(&space, &pool, page, size, parent_flags) : map(page, size, some_flags() & ~X64_ACCESSED, parent_flags);
         if (status != X64_OK)
             return; /* nothing has changed */
     } else if (kind == X64_CALL_UNMAP) {

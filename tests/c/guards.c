@@ -154,6 +154,11 @@ static void try_maps(const x64_space *space, uint64_t n) {
     request.page.start += 4096;
     request.parent_flags |= X64_WRITABLE;
     WANTS(X64_SHARED_ENTRY, x64_space_map_with(space, &pools[0], &request));
+    WANTS(X64_SHARED_ENTRY, x64_space_prepare(space, &pools[0], request.page.start, X64_SIZE_4KIB, USUAL));
+    WANTS(X64_OK, x64_space_prepare(space, &pools[0], request.page.start, X64_SIZE_4KIB, X64_PRESENT));
+    WANTS(X64_SHARED_ENTRY, x64_space_prepare(space, &pools[0], page_at(UNUSED, 0), X64_SIZE_1GIB, PARENTS));
+    WANTS(X64_OK, x64_space_prepare(space, &pools[0], page_at(KERNEL, 0), X64_SIZE_1GIB, PARENTS));
+    WANTS(X64_OK, x64_space_prepare(space, &pools[0], page_at(OWN, n), X64_SIZE_2MIB, USER));
     request.parent_flags = 0; /* an entry that is 0 isn't used, whatever the parent flags are */
     request.page.start = page_at(UNUSED, 0);
     WANTS(X64_SHARED_ENTRY, x64_space_map_with(space, &pools[0], &request));
@@ -255,7 +260,7 @@ static void try_tables(const x64_space *space) {
 }
 
 static void try_accesses(const x64_space *space) {
-    const x64_controls controls = {true, true, false, false, false, 52};
+    const x64_controls controls = {true, true, false, false, false, 52, false, false};
     const uint32_t wanted[] = {X64_SHARED_ENTRY, X64_OK, X64_PAGE_FAULT, X64_PAGE_FAULT, X64_OK, X64_BAD_ACCESS, X64_BAD_ADDRESS};
     const x64_access_request requests[] = {
         {page_at(UNMARKED, 0), X64_READ, false, true},  {page_at(UNMARKED, 0), X64_READ, false, false},
@@ -353,7 +358,7 @@ static void try_ends(const x64_space *space) {
 
 /* ---- random calls */
 
-enum kind { MAP, RANGE, CLEAN_UP, TABLE_FLAGS, ACCESS, UNMAP, FLAGS, KINDS };
+enum kind { MAP, RANGE, PREPARE, CLEAN_UP, TABLE_FLAGS, ACCESS, UNMAP, FLAGS, KINDS };
 static size_t made[KINDS], refused[KINDS], changes[KINDS];
 
 /* Returns some page, below an entry that is shared or not, used or not. */
@@ -380,7 +385,7 @@ static void make_call(enum kind kind, const x64_space *space, size_t pool) {
     const x64_hierarchy hierarchy = x64_space_hierarchy(space);
     const uint64_t size = sizes[below(4)];
     const x64_page page = x64_page_of(some_page(size), size);
-    const x64_controls controls = {true, true, false, false, false, 52};
+    const x64_controls controls = {true, true, false, false, false, 52, false, false};
     const uint64_t flags = some_parents(), count = 1 + below(3), level = 2 + below(4), last = some_page(4096);
     x64_map_request request = request_of(page.start, page.size, USUAL, some_parents());
     x64_access_request access = {below(2) ? page.start + below(size) : page_at(UNMARKED, 0) + below(6 << 12), (uint32_t)below(3), below(2) != 0, true};
@@ -395,6 +400,9 @@ static void make_call(enum kind kind, const x64_space *space, size_t pool) {
     } else if (kind == RANGE) {
         status = x64_space_map_range_with(space, &pools[pool], &request, count, &done);
         raw = x64_map_range(&hierarchy, copied.tables, TABLES, frames, TABLES, free_count, &request, count, &done);
+    } else if (kind == PREPARE) {
+        status = x64_space_prepare(space, &pools[pool], page.start, page.size, request.parent_flags);
+        raw = x64_prepare(&hierarchy, copied.tables, TABLES, frames, TABLES, free_count, &page, request.parent_flags);
     } else if (kind == CLEAN_UP) {
         status = x64_space_clean_up(space, &pools[pool], page.start & ~UINT64_C(4095), last);
         raw = x64_clean_up(&hierarchy, copied.tables, TABLES, frames, TABLES, free_count, page.start & ~UINT64_C(4095), last);
@@ -492,10 +500,11 @@ int main(int argc, char **argv) {
         make_calls(count);
     }
     for (size_t kind = 0; kind < KINDS; kind++)
-        CHECK(kind >= UNMAP ? refused[kind] == 0 : count < 5000 || (refused[kind] > 10 && changes[kind] > 0 && made[kind] > refused[kind]));
-    printf("guards: %zu checks, %zu faults; refused of random calls: %zu of %zu maps, %zu of %zu ranges, %zu of %zu clean ups, %zu of %zu changes of "
-           "tables, %zu of %zu accesses\n",
-           checked, failed, refused[MAP], made[MAP], refused[RANGE], made[RANGE], refused[CLEAN_UP], made[CLEAN_UP], refused[TABLE_FLAGS],
-           made[TABLE_FLAGS], refused[ACCESS], made[ACCESS]);
+        CHECK(kind >= UNMAP ? refused[kind] == 0 : count < 5000 || (refused[kind] > 10 && (changes[kind] > 0 || kind == CLEAN_UP) && made[kind] > refused[kind]));
+    static const char *const names[KINDS] = {"maps", "ranges", "preparations", "clean ups", "changes of tables", "accesses", "", ""};
+    printf("guards: %zu checks, %zu faults; refused of random calls:", checked, failed);
+    for (size_t kind = 0; kind < UNMAP; kind++)
+        printf("%s %zu of %zu %s", kind > 0 ? "," : "", refused[kind], made[kind], names[kind]);
+    printf("\n");
     return failed == 0 ? EXIT_SUCCESS : EXIT_FAILURE;
 }

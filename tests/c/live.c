@@ -1,6 +1,6 @@
 /*
  * Tests of x86_64_paging_live.h by one thread: each status of each function; which words may stand where, beside x64_pool_fits; splits and
- * joins beside x64_walk; x64_map beside x64_map_as_mapper; accesses beside x64_access. It is C and C++.
+ * joins beside x64_walk; x64_map beside x64_map_as_mapper and after x64_prepare; accesses beside x64_access. It is C and C++.
  *
  *     live OPERATIONS     how many accesses, with 4 levels and with 5; there are fewer of the other calls
  */
@@ -53,7 +53,7 @@ static void make_faulty(uint64_t levels, int fault) {
 static void try_faulty(uint64_t levels) {
     x64_entry entry, entries[X64_MOST_LEVELS];
     x64_taken taken[RANGE];
-    x64_controls controls = {true, true, false, false, false, 52};
+    x64_controls controls = {true, true, false, false, false, 52, false, false};
     x64_access_request access = {HEAP, X64_WRITE, true, true};
     x64_arrival arrival;
     uint64_t old, next = 0, frame;
@@ -503,6 +503,43 @@ static void try_maps(uint64_t levels, size_t rounds) {
            counts[X64_PAGE_ALREADY_MAPPED], left);
 }
 
+/* Prepares pages at random and maps them, which is to map them alone, as a copy is. What x64_prepare refuses must change nothing. */
+static void try_prepared(uint64_t levels, size_t rounds) {
+    static const uint32_t seen[] = {X64_OK, X64_NOT_ALLOWED, X64_FRAME_ALLOCATION_FAILED, X64_PARENT_ENTRY_HUGE_PAGE, X64_BAD_PAGE};
+    static x64_table before[TABLES];
+    size_t counts[X64_BAD_INDICES + 1], mapped = 0;
+    memset(counts, 0, sizeof counts);
+    for (size_t n = 0; n < rounds; n++) {
+        if (n % 64 == 0) {
+            start(levels);
+            pool.free_count = below(8) ? below(TABLES) : below(4);
+        }
+        x64_map_request request = some_request();
+        size_t free_before = pool.free_count, free_count = free_before;
+        x64_hierarchy hierarchy = x64_space_hierarchy(&space);
+        memcpy(before, tables, sizeof tables);
+        memcpy(copies, tables, sizeof tables);
+        uint32_t alone = x64_map(&hierarchy, copies, TABLES, frames, TABLES, &free_count, &request);
+        uint32_t status = x64_space_prepare(&space, &pool, request.page.start, request.page.size, request.parent_flags);
+        counts[status]++;
+        if (status == X64_OK) {
+            CHECK(x64_map(&hierarchy, tables, TABLES, frames, TABLES, &pool.free_count, &request) == alone);
+            CHECK(alone != X64_OK || (pool.free_count == free_count && memcmp(tables, copies, sizeof tables) == 0));
+            mapped += alone == X64_OK;
+        } else {
+            CHECK(memcmp(tables, before, sizeof tables) == 0 && pool.free_count == free_before);
+            CHECK(alone == status || alone == X64_NOT_ALLOWED || alone == X64_BAD_FRAME);
+        }
+        if (below(8) == 0)
+            hide_one(request.page.start);
+    }
+    CHECK(fits());
+    for (size_t k = 0; rounds >= 1000 && k < sizeof seen / sizeof seen[0]; k++)
+        CHECK(counts[seen[k]] > 0);
+    printf("%" PRIu64 " levels: %zu pages prepared, %zu not allowed, %zu without a frame, %zu below a larger page; %zu mapped then\n", levels,
+           counts[X64_OK], counts[X64_NOT_ALLOWED], counts[X64_FRAME_ALLOCATION_FAILED], counts[X64_PARENT_ENTRY_HUGE_PAGE], mapped);
+}
+
 /* ---- accesses beside those of the library */
 
 /* Fills all tables with words that lead around in them, at the indices that are used here. Some have reserved bits. */
@@ -575,7 +612,8 @@ static void try_accesses(uint64_t levels, size_t rounds) {
             fill_wild();
         uint64_t address = some_address(4) + below(4096);
         x64_access_request request = {address, (uint32_t)below(below(50) ? 3 : 4), below(2) != 0, below(2) != 0};
-        x64_controls controls = {below(2) != 0, below(4) != 0, below(2) != 0, below(2) != 0, below(2) != 0, (uint8_t)(below(50) ? 40 + below(13) : below(80))};
+        x64_controls controls = {below(2) != 0, below(4) != 0, below(2) != 0, below(2) != 0, below(2) != 0, (uint8_t)(below(50) ? 40 + below(13) : below(80)),
+                                 below(4) == 0, below(4) == 0};
         counts[try_access(address, &controls, &request)]++;
     }
     for (size_t k = 0; rounds >= 1000 && k < sizeof seen / sizeof seen[0]; k++)
@@ -619,6 +657,7 @@ int main(int argc, char **argv) {
         try_join_below(levels);
         try_words(levels, fewer);
         try_maps(levels, fewer);
+        try_prepared(levels, fewer);
         try_accesses(levels, operations);
     }
     try_flushes();

@@ -196,7 +196,7 @@ struct hypervisor {
 /* Makes a write for the guest. */
 static void write_for_guest(struct hypervisor *hypervisor, x64_scratch *scratch) {
     x64_hierarchy hierarchy = x64_space_hierarchy(&space);
-    x64_controls controls = {true, true, false, false, false, 52};
+    x64_controls controls = {true, true, false, false, false, 52, false, false};
     uint64_t number = hypervisor->turns % PAGES;
     x64_access_request request = {HEAP + number * 4096, X64_WRITE, true, true};
     x64_outcome outcome;
@@ -265,7 +265,7 @@ static uint64_t begun, ended;
 /* Writes to each part of the page of 2 MiB in turn, and counts the writes that begin and end. */
 static void *write_large(void *argument) {
     x64_hierarchy hierarchy = x64_space_hierarchy(&space);
-    x64_controls controls = {true, true, false, false, false, 52};
+    x64_controls controls = {true, true, false, false, false, 52, false, false};
     x64_scratch *scratch = (x64_scratch *)argument;
     for (uint64_t n = 0; !is_set(&is_over); n++) {
         uint64_t offset = n * 4096 % X64_SIZE_2MIB;

@@ -31,7 +31,7 @@ struct arguments {
     uint64_t list_capacity, null_list, entry_capacity, null_entries;
     uint64_t address, start, size, count, frame, flags, parent_flags, level, first_page, last_page;
     uint64_t root_count, null_roots, second_root, shared_from, shared_to;
-    uint64_t kind, user, mark, write_protect, no_execute, smep, smap, ac, physical_bits;
+    uint64_t kind, user, mark, write_protect, no_execute, smep, smap, ac, physical_bits, no_1gib_pages, global_reserved;
     /* before the call the word at an index of a table gets these flags and the address of the table with a number */
     uint64_t word_table, word_index, word_flags, word_names;
     /* whether all used words get USER_ACCESSIBLE before the call */
@@ -135,6 +135,7 @@ enum function {
     ACCESS,
     MAP,
     MAP_AS_MAPPER,
+    PREPARE,
     UNMAP,
     UPDATE_FLAGS,
     SET_TABLE_FLAGS,
@@ -148,10 +149,10 @@ enum function {
 };
 
 static const char *const names[FUNCTIONS] = {
-    "x64_page_walk",    "x64_walk",            "x64_entries",   "x64_translate",   "x64_mappings",           "x64_is_valid",
-    "x64_pool_fits",    "x64_spaces_fit",      "x64_access",    "x64_map",         "x64_map_as_mapper",      "x64_unmap",
-    "x64_update_flags", "x64_set_table_flags", "x64_map_range", "x64_unmap_range", "x64_update_flags_range", "x64_clean_up",
-    "x64_new_space",    "x64_give_up_space",
+    "x64_page_walk", "x64_walk",         "x64_entries",         "x64_translate", "x64_mappings",      "x64_is_valid",
+    "x64_pool_fits", "x64_spaces_fit",   "x64_access",          "x64_map",       "x64_map_as_mapper", "x64_prepare",
+    "x64_unmap",     "x64_update_flags", "x64_set_table_flags", "x64_map_range", "x64_unmap_range",   "x64_update_flags_range",
+    "x64_clean_up",  "x64_new_space",    "x64_give_up_space",
 };
 
 /* Returns the arguments that rows change. */
@@ -200,7 +201,8 @@ static uint32_t call(enum function function, const struct arguments *a) {
     x64_page page = {.start = a->start, .size = a->size};
     x64_map_request request = {.page = page, .frame = a->frame, .flags = a->flags, .parent_flags = a->parent_flags};
     x64_controls controls = {.write_protect = a->write_protect, .no_execute = a->no_execute, .smep = a->smep, .smap = a->smap,
-        .ac = a->ac, .physical_bits = (uint8_t)a->physical_bits};
+        .ac = a->ac, .physical_bits = (uint8_t)a->physical_bits, .no_1gib_pages = a->no_1gib_pages,
+        .global_reserved = a->global_reserved};
     x64_access_request access = {.address = a->address, .kind = (uint32_t)a->kind, .user = a->user, .mark = a->mark};
     size_t n = a->table_count;
     switch (function) {
@@ -227,6 +229,8 @@ static uint32_t call(enum function function, const struct arguments *a) {
         return x64_map(h, tables, n, pool, a->capacity, &world.free_count, &request);
     case MAP_AS_MAPPER:
         return x64_map_as_mapper(h, tables, n, pool, a->capacity, &world.free_count, &request);
+    case PREPARE:
+        return x64_prepare(h, tables, n, pool, a->capacity, &world.free_count, &page, a->parent_flags);
     case UNMAP:
         return x64_unmap(h, tables, n, &page, &world.frame);
     case UPDATE_FLAGS:
@@ -548,12 +552,24 @@ static const struct row access_rows[] = {
     WRITES("all 52 bits", X64_OK, OUT(UINT64_C(0xffffffffff123), 0, 0, 0), SET(address, 0x9123), SET(physical_bits, 52),
         SET(word_table, 5), SET(word_index, 9), SET(word_flags, UINT64_C(0xffffffffff003))),
     WRITES("32 bits are enough", X64_OK, OUT(0x5000, 0, 0, 0), SET(address, 0x1000), SET(physical_bits, 32)),
+    WRITES("1 GiB", X64_OK, OUT(0x80123456, 0, 0, 0), SET(address, 0x40123456)),
+    WRITES("the same without pages of 1 GiB", X64_PAGE_FAULT, OUT(0, 9, 3, 0), SET(address, 0x40123456), SET(no_1gib_pages, 1)),
+    WRITES("2 MiB without pages of 1 GiB", X64_OK, OUT(0x434567, 0, 0, 0), SET(address, 0x234567), SET(no_1gib_pages, 1)),
+    WRITES("GLOBAL at level four", X64_OK, OUT(0x5abc, 0, 0, 0), SET(address, 0x1abc), SET(word_table, 1), SET(word_flags, 0x103),
+        SET(word_names, 3), SET(only, 4)),
+    WRITES("the same if it is reserved", X64_PAGE_FAULT, OUT(0, 9, 4, 0), SET(address, 0x1abc), SET(word_table, 1),
+        SET(word_flags, 0x103), SET(word_names, 3), SET(only, 4), SET(global_reserved, 1)),
+    WRITES("GLOBAL at level five, if it is reserved", X64_PAGE_FAULT, OUT(0, 9, 5, 0), SET(address, 0x1abc), SET(word_table, 1),
+        SET(word_flags, 0x103), SET(word_names, 2), SET(only, 5), SET(global_reserved, 1)),
+    WRITES("GLOBAL at level three is ignored", X64_OK, OUT(0x5abc, 0, 0, 0), SET(address, 0x1abc), SET(word_table, 3),
+        SET(word_flags, 0x103), SET(word_names, 4), SET(global_reserved, 1)),
+    WRITES("GLOBAL at level two is ignored", X64_OK, OUT(0x5abc, 0, 0, 0), SET(address, 0x1abc), SET(word_table, 4),
+        SET(word_flags, 0x103), SET(word_names, 5), SET(global_reserved, 1)),
+    WRITES("HUGE_PAGE beside GLOBAL at level three", X64_PAGE_FAULT, OUT(0, 9, 3, 0), SET(address, 0x1abc), SET(word_table, 3),
+        SET(word_flags, 0x183), SET(global_reserved, 1), SET(no_1gib_pages, 1)),
+    WRITES("a global page", X64_OK, OUT(0x9000, 0, 0, 0), SET(address, 0x9000), SET(word_table, 5), SET(word_index, 9),
+        SET(word_flags, 0x9103), SET(global_reserved, 1)),
     /* what the header leaves out: processors may do otherwise here */
-    WRITES("bit 8 above, which AMD's reserve", X64_OK, OUT(0x5abc, 0, 0, 0), SET(address, 0x1abc), SET(word_table, 4),
-        SET(word_flags, 0x103), SET(word_names, 5)),
-    WRITES("bit 8 in the root, which AMD's reserve", X64_OK, OUT(0x5abc, 0, 0, 0), SET(address, 0x1abc), SET(word_table, 1),
-        SET(word_flags, 0x103), SET(word_names, 3), SET(only, 4)),
-    WRITES("1 GiB, which not all have", X64_OK, OUT(0x80123456, 0, 0, 0), SET(address, 0x40123456)),
     WRITES("an implicit access of a supervisor to a user's page: AC is passed as 0", X64_PAGE_FAULT, OUT(0, 1, 1, 0), SET(address, 0x1000),
         SET(user_pages, 1), SET(ac, 0)),
     ROW("an address with bits that LAM lets be", X64_BAD_ADDRESS, SET(address, UINT64_C(0x2a00000000001abc))),
@@ -621,6 +637,45 @@ static const struct row refused_map_as_mapper[] = {
     {"below 2 MiB, and parents get USER_ACCESSIBLE", X64_PARENT_ENTRY_HUGE_PAGE, {SET(start, 0x200000),
         SET(parent_flags, 0x7)}, 2, 1, 0, {0}},
     {"mapped, and parents get USER_ACCESSIBLE", X64_PAGE_ALREADY_MAPPED, {SET(start, 0x1000), SET(parent_flags, 0x7)}, 2, 1, 0, {0}},
+};
+
+/* Tables above pages. The page's own entry stays, so nothing is left to do if they are there. */
+static const struct row prepare_rows[] = {
+    ROW("4 KiB", X64_OK, USUAL),
+    ROW("4 KiB where a page is", X64_OK, SET(start, 0x1000)),
+    ROW("4 KiB without PRESENT", X64_OK, SET(start, 0x2000)),
+    ROW("2 MiB", X64_OK, SET(start, 0xa00000), SET(size, X64_SIZE_2MIB)),
+    ROW("2 MiB where a page is", X64_OK, SET(start, 0x200000), SET(size, X64_SIZE_2MIB)),
+    ROW("2 MiB where a table is", X64_OK, SET(start, 0), SET(size, X64_SIZE_2MIB)),
+    ROW("1 GiB", X64_OK, SET(start, 0x100000000), SET(size, X64_SIZE_1GIB)),
+    ROW("1 GiB where a page is", X64_OK, SET(start, 0x40000000), SET(size, X64_SIZE_1GIB)),
+    {"three new tables", X64_OK, {SET(start, MISSING)}, 1 + 3 * 512, 0, 3, {0}},
+    {"two new tables", X64_OK, {SET(start, MISSING), SET(size, X64_SIZE_2MIB)}, 1 + 2 * 512, 0, 2, {0}},
+    {"one new table", X64_OK, {SET(start, MISSING), SET(size, X64_SIZE_1GIB), SET(free_count, 1)}, 1 + 512, 0, 1, {0}},
+    {"a new table below one that is there", X64_OK, {SET(start, 0xa00000), SET(free_count, 1)}, 1 + 512, 0, 1, {0}},
+    {"parents get USER_ACCESSIBLE", X64_OK, {SET(parent_flags, 0x7)}, 2, 1, 0, {0}},
+    {"parents of a page get USER_ACCESSIBLE", X64_OK, {SET(start, 0x1000), SET(parent_flags, 0x7)}, 2, 1, 0, {0}},
+    {"parents of 2 MiB get USER_ACCESSIBLE", X64_OK, {SET(start, 0x200000), SET(size, X64_SIZE_2MIB), SET(parent_flags, 0x7)},
+        1, 1, 0, {0}},
+    CHANGES("a parent gets PRESENT", X64_OK, 1, SET(start, 0x800000)),
+    ROW("no parent flags are needed", X64_OK, SET(parent_flags, 0)),
+    ROW("no free frame is needed", X64_OK, SET(free_count, 0)),
+    ROW("an address in the parent flags", X64_NOT_ALLOWED, SET(parent_flags, 0x1003)),
+    ROW("HUGE_PAGE in the parent flags", X64_NOT_ALLOWED, SET(parent_flags, 0x83)),
+    ROW("a new parent would lack PRESENT", X64_NOT_ALLOWED, SET(start, MISSING), SET(parent_flags, 0x2)),
+    ROW("a parent would still lack PRESENT", X64_NOT_ALLOWED, SET(start, 0x800000), SET(parent_flags, 0x2)),
+    ROW("not allowed before no frame", X64_NOT_ALLOWED, SET(start, MISSING), SET(parent_flags, 0), SET(free_count, 0)),
+    ROW("no free frame", X64_FRAME_ALLOCATION_FAILED, SET(start, MISSING), SET(free_count, 0)),
+    ROW("one free frame of three", X64_FRAME_ALLOCATION_FAILED, SET(start, MISSING), SET(free_count, 1)),
+    ROW("two free frames of three", X64_FRAME_ALLOCATION_FAILED, SET(start, MISSING), SET(free_count, 2)),
+    ROW("one free frame of two", X64_FRAME_ALLOCATION_FAILED, SET(start, MISSING), SET(size, X64_SIZE_2MIB), SET(free_count, 1)),
+    ROW("below 2 MiB", X64_PARENT_ENTRY_HUGE_PAGE, SET(start, 0x200000)),
+    ROW("below 2 MiB, and parents lack USER_ACCESSIBLE", X64_PARENT_ENTRY_HUGE_PAGE, SET(start, 0x200000), SET(parent_flags, 0x7)),
+    ROW("2 MiB below 1 GiB", X64_PARENT_ENTRY_HUGE_PAGE, SET(start, 0x40000000), SET(size, X64_SIZE_2MIB)),
+    ROW("more free frames than room", X64_BAD_ARRAY, SET(capacity, FREE - 1)),
+    ROW("no pool, but free frames", X64_BAD_ARRAY, SET(null_pool, 1), SET(capacity, 0)),
+    ROW("a bad array before a bad page", X64_BAD_ARRAY, SET(capacity, 0), SET(size, 0)),
+    ROW("a bad page before bad parent flags", X64_BAD_PAGE, SET(start, 1), SET(parent_flags, 0x1000)),
 };
 
 /* Bad pages of every function that takes one. */
@@ -1153,6 +1208,7 @@ int main(void) {
     TRY(MAP, refused_map);
     TRY(MAP_AS_MAPPER, map);
     TRY(MAP_AS_MAPPER, refused_map_as_mapper);
+    TRY(PREPARE, prepare_rows);
     TRY(UNMAP, unmap);
     TRY(UPDATE_FLAGS, update_flags);
     TRY(SET_TABLE_FLAGS, set_table_flags);
@@ -1176,6 +1232,7 @@ int main(void) {
                  X64_BAD_ARRAY, X64_BAD_PAGE, X64_BAD_FRAME},
         [MAP_AS_MAPPER] = {X64_NOT_ALLOWED, X64_FRAME_ALLOCATION_FAILED, X64_PARENT_ENTRY_HUGE_PAGE, X64_PAGE_ALREADY_MAPPED,
                            X64_BAD_ARRAY, X64_BAD_PAGE, X64_BAD_FRAME},
+        [PREPARE] = {X64_NOT_ALLOWED, X64_FRAME_ALLOCATION_FAILED, X64_PARENT_ENTRY_HUGE_PAGE, X64_BAD_ARRAY, X64_BAD_PAGE},
         [UNMAP] = {X64_PARENT_ENTRY_HUGE_PAGE, X64_PAGE_NOT_MAPPED, X64_INVALID_FRAME_ADDRESS, X64_BAD_PAGE},
         [UPDATE_FLAGS] = {X64_NOT_ALLOWED, X64_PARENT_ENTRY_HUGE_PAGE, X64_PAGE_NOT_MAPPED, X64_BAD_PAGE},
         [SET_TABLE_FLAGS] = {X64_NOT_ALLOWED, X64_PARENT_ENTRY_HUGE_PAGE, X64_PAGE_NOT_MAPPED, X64_BAD_PAGE},

@@ -52,6 +52,7 @@ TESTS = Rules(
         "MapperFlushRangeIn<S, L>::new": [
             "debug_assert!(count == 0 || PageIn::forward_checked(page, (count - 1) as usize).is_some());",
         ],
+        "SegmentMapping<'a>::new_unchecked": ["debug_assert!(first_wrong(segments).is_none());"],
         "lent_marks::is_valid_by_marks": ["assert!(marks.len() == memory.len());"],
         "lent_marks::pool_fits_by_marks": ["assert!(marks.len() == memory.len());"],
         "fitting::spaces_fit_by_marks": ["assert!(marks.len() == memory.len());"],
@@ -70,6 +71,7 @@ TESTS = Rules(
         "cursor::span": ["assert!(1 <= level && level <= 5);"],
         "walk_entries::read_entries": ["assert!(L::LEVELS <= entries.len() as u64);"],
         "calls::map_to_with_table_flags": ["debug_assert!(map_allowed(mapper, page, flags, parent_flags));"],
+        "calls::create_tables": ["debug_assert!(map_allowed(mapper, page, PageTableFlags::empty(), parent_flags));"],
         "calls::map_to": ["debug_assert!(map_allowed(mapper, page, flags, parent_flags(flags)));"],
         "calls::unmap": ["debug_assert!(@crate::is_outside_window(mapper, page));"],
         "calls::update_flags": ["debug_assert!(@crate::is_outside_window(mapper, page) && !flags.has_address_bits());"],

@@ -7,6 +7,7 @@ from conditions import TESTS
 
 # The crates, and where they are in the Rust crate; '' is its top.
 CRATES = {
+    "text": "text",
     "x86_64_addr": "addresses",
     "x86_64_page": "pages",
     "x86_64_tables": "tables",
@@ -165,6 +166,7 @@ pub mod loader;
 #[allow(unsafe_code)]
 pub mod registers;
 pub mod support;
+pub mod text;
 
 // The example for kernels needs the feature.
 #[cfg(all(doctest, feature = "instructions"))]

@@ -6,7 +6,7 @@ use Rattle.std.proofs.lemmas.Slice.Eq.{bytes_eq-Decides}
 use Rattle.std.specs.Bool.{Decides}
 use Rattle.x86_64_addr.specs.Position.{IsCanonical, raw}
 use Rattle.x86_64_addr.specs.declared.level_count.Levels.TheVariants.{Four, Five}
-use Rattle.x86_64_mappings.specs.Numbers.{number_of}
+use Rattle.text.specs.Numbers.{number_of}
 use Rattle.pagetab_engine.specs.Arguments.{IsIndex, IsPlaces, SaysArguments, SaysMode, arguments_in, is_places, may_have, mode_in, mode_named, mode_word, modes_with}
 use Rattle.pagetab_engine.specs.Fields.{is_number}
 use Rattle.pagetab_engine.specs.Starts.{is_canonical_number, position_at}

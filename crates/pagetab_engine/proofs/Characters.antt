@@ -9,7 +9,7 @@ use Rattle.std.proofs.lemmas.Slice.Eq.{starts_is}
 use Rattle.std.proofs.lemmas.Str.{IsUtf8-from_ascii}
 use Rattle.std.proofs.lemmas.Str.Ascii.{IsAscii-from_all}
 use Rattle.std.proofs.lemmas.Bool.{eqb-true}
-use Rattle.x86_64_mappings.specs.Numbers.{IsNumber, is_hexadecimal}
+use Rattle.text.specs.Numbers.{IsNumber, is_hexadecimal}
 use Rattle.pagetab_engine.specs.Fields.{is_space, has_bytes, fields_of, name_text, size_name, size_texts, AreNumbers, Says}
 use Rattle.pagetab_engine.specs.declared.fields.Name.{Name}
 use Rattle.pagetab_engine.specs.declared.fields.Name.TheVariants as name

@@ -5,15 +5,15 @@ use Rattle.std.specs.Bool.{Decides, ⊤}
 use Rattle.std.specs.List.{AllByRecursion, list_all, list_any, find}
 use Rattle.x86_64_model.specs.Lists.{In, EachOnce}
 use Rattle.pagetab_engine.specs.Fitting.{are_distinct}
-use Rattle.pagetab_engine.specs.TableWords.{is_among}
+use Rattle.x86_64_tables.specs.LentPool.{is_in}
 
-pub is_in_tells : (xs : List ℕ) (x : ℕ) → Decides (is_among xs x) (In xs x)
+pub is_in_tells : (xs : List ℕ) (x : ℕ) → Decides (is_in xs x) (In xs x)
 is_in_tells [] x = (λ e. true≢false (sym e), λ i. absurd i)
-is_in_tells (y ∷ ys) x = Decides-or (y == x) (is_among ys x) (Decides-eqb y x) (is_in_tells ys x)
+is_in_tells (y ∷ ys) x = Decides-or (y == x) (is_in ys x) (Decides-eqb y x) (is_in_tells ys x)
 
 pub each_once_tells : (xs : List ℕ) → Decides (are_distinct xs) (EachOnce xs)
 each_once_tells [] = (λ _. tt, λ _. refl)
-each_once_tells (x ∷ xs) = Decides-and (not (is_among xs x)) (are_distinct xs) (Decides-not (is_among xs x) (is_in_tells xs x)) (each_once_tells xs)
+each_once_tells (x ∷ xs) = Decides-and (not (is_in xs x)) (are_distinct xs) (Decides-not (is_in xs x) (is_in_tells xs x)) (each_once_tells xs)
 
 pub all_tell : {X : Type 0} (test : X → Bool) (xs : List X) → Decides (list_all test xs) ((x : X) → In xs x → test x ≡ true)
 all_tell test [] = (λ _ x i. absurd i, λ _. refl)

@@ -15,7 +15,7 @@ use Rattle.pagetab_engine.specs.Hierarchy.{ModeReaches}
 use Rattle.pagetab_engine.specs.Image.{empty_memory, is_loadable, load, nothing_loaded}
 use Rattle.pagetab_engine.specs.Modes.{are_reached, mode_reaches}
 use Rattle.pagetab_engine.specs.Starts.{is_canonical_number}
-use Rattle.pagetab_engine.specs.TableWords.{is_among}
+use Rattle.x86_64_tables.specs.LentPool.{is_in}
 use Rattle.pagetab_engine.specs.declared.arguments.Arguments.{Arguments}
 use Rattle.pagetab_engine.specs.declared.arguments.Mode.{Mode}
 use Rattle.pagetab_engine.specs.declared.arguments.Mode.TheVariants.{Direct, Offset, Recursive, Pair}
@@ -33,8 +33,8 @@ pub loadable_tells : (frames : Frames) (image : ImageLine) → Decides (is_loada
 loadable_tells frames (Word slot value) = (λ _. tt, λ _. refl)
 loadable_tells frames (Free frame) =
     let free = frames.pool.frames in let limit = frames.pool.limit in
-    let both = Decides-and (not (frame == 0)) (nat_lt (frame / 4096) limit && not (is_among free frame)) (Decides-not (frame == 0) (Decides-eqb frame 0))
-    (Decides-and (nat_lt (frame / 4096) limit) (not (is_among free frame)) (Decides-ltb (frame / 4096) limit) (Decides-not (is_among free frame) (is_in_tells free frame))) in
+    let both = Decides-and (not (frame == 0)) (nat_lt (frame / 4096) limit && not (is_in free frame)) (Decides-not (frame == 0) (Decides-eqb frame 0))
+    (Decides-and (nat_lt (frame / 4096) limit) (not (is_in free frame)) (Decides-ltb (frame / 4096) limit) (Decides-not (is_in free frame) (is_in_tells free frame))) in
     (λ e. let h = both.0 e in (h.0, h.1.0, h.1.1), λ is. both.1 (is.0, (is.1, is.2)))
 
 pub load_told : (image : ImageLine) (before after : Hierarchy) → Loads image before after → loaded_of after.frames ≡ load (loaded_of before.frames) image

@@ -8,7 +8,7 @@ use Rattle.std.specs.List.{list_all}
 use Rattle.std.specs.Str.Parse.{AllDigits}
 use Rattle.x86_64_addr.specs.Position.{IsCanonical, lower_half}
 use Rattle.x86_64.specs.Asked.{MapperCall}
-use Rattle.x86_64_mappings.specs.Numbers.{IsNumber, digits_of, number_of, radix_of}
+use Rattle.text.specs.Numbers.{IsNumber, digits_of, number_of, radix_of}
 use Rattle.pagetab_engine.specs.Commands.{Call, Command, Show, Statement, Asks}
 use Rattle.pagetab_engine.specs.Fields.{Parts, has_bytes, is_number, is_numeral, name_in, name_text, all_names, numbers_in, parts_in, parts_with, size_first, size_in, size_name, size_texts, behind_size, fields_of, AreNumbers, Says}
 use Rattle.pagetab_engine.specs.PageCalls.{IsPageCall, bytes_of, call_by, is_page_call}

@@ -1,6 +1,6 @@
 -- Texts are parsed as numbers, one after another.
 use Rattle.std.proofs.Common.{◌≡◌, ◌<◌, ℕ, List, [], ◌∷◌, ◌++◌, length, arith}
-use Rattle.x86_64_mappings.specs.Numbers.{IsNumber, number_of}
+use Rattle.text.specs.Numbers.{IsNumber, number_of}
 use Rattle.pagetab_engine.specs.Fields.{AreNumbers}
 
 pub numbers_more : (texts : List (List ℕ)) (numbers : List ℕ) (text : List ℕ) (number : ℕ) → AreNumbers texts numbers → IsNumber text → number_of text ≡ number

@@ -20,7 +20,8 @@ use Rattle.x86_64_model.proofs.Lemmas.Hierarchies.Trees.{table_of_gives}
 use Rattle.x86_64_model.proofs.Lemmas.Machines.Fitting.{own_there}
 use Rattle.x86_64_model.proofs.Lemmas.Paths.Puts.{same_path, same_path_true, same_path_itself}
 use Rattle.x86_64.specs.FreeFrames.{KeepsFree}
-use Rattle.pagetab_engine.specs.TableWords.{is_among, is_there, path_to, table_word, table_word_or, words_after}
+use Rattle.x86_64_tables.specs.LentPool.{is_in}
+use Rattle.pagetab_engine.specs.TableWords.{is_there, path_to, table_word, table_word_or, words_after}
 use Rattle.pagetab_engine.proofs.Lists.{found, is_in_tells, none_found}
 
 -- ---- the path to a frame
@@ -88,12 +89,12 @@ module _ (l : Layout) (mapping : IsMapping l.places) (serves : ℕ → Bool) (m 
       kept : words (l laid_in n) f ≡ words (l laid_in m) f → word (words (l laid_in n)) f i ≡ word (words (l laid_in m)) f i
       kept is = same_word (words (l laid_in m)) (words (l laid_in n)) f i is
 
-      other : (IsTable l.levels l.root (paths (l laid_in n)) f → ⊥) → (a b : Bool) → is_among rest f ≡ a → is_among back f ≡ b → word (words (l laid_in n)) f i ≡ cond (a && b) 0 (word (words (l laid_in m)) f i)
+      other : (IsTable l.levels l.root (paths (l laid_in n)) f → ⊥) → (a b : Bool) → is_in rest f ≡ a → is_in back f ≡ b → word (words (l laid_in n)) f i ≡ cond (a && b) 0 (word (words (l laid_in m)) f i)
       other none true true free_now came = free.came_back f ((is_in_tells rest f).0 free_now) ((is_in_tells back f).0 came) i
       other none true false free_now stayed = kept (free.same_words f ((is_in_tells rest f).0 free_now) (λ came. true≢false (sym ((is_in_tells back f).1 came) ∙ stayed)))
       other none false b used came = kept (others_stay f (⊎_elim (λ is. true≢false (sym ((is_in_tells rest f).1 is) ∙ used)) none))
 
       by : (path : Option (List ℕ)) → path_to l.levels l.root (paths (l laid_in n)) f ≡ path
-          → word (words (l laid_in n)) f i ≡ table_word_or l.window (paths (l laid_in n)) path i (cond (is_among rest f && is_among back f) 0 (word (words (l laid_in m)) f i))
+          → word (words (l laid_in n)) f i ≡ table_word_or l.window (paths (l laid_in n)) path i (cond (is_in rest f && is_in back f) 0 (word (words (l laid_in m)) f i))
       by (Some q) is = word_there l.levels l.window (words (l laid_in n)) l.root (paths (l laid_in n)) keeps.fits.valid q f i (leads_there l.levels l.root (paths (l laid_in n)) f q is)
-      by None is = other (no_path l.levels l.root (paths (l laid_in n)) f is) (is_among rest f) (is_among back f) refl refl
+      by None is = other (no_path l.levels l.root (paths (l laid_in n)) f is) (is_in rest f) (is_in back f) refl refl

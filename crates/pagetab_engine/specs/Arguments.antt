@@ -1,7 +1,7 @@
 -- The program's arguments.
 use Rattle.std.specs.Prelude.{◌≡◌, ◌≤◌, ◌<◌, ◌&&◌, nat_le, nat_lt, ℕ, Bool, cond, List, [], ◌∷◌, bytes_eq, codes, find, Option, Some, None, option_and_then, option_map}
 use Rattle.x86_64_model.specs.Position.{raw}
-use Rattle.x86_64_mappings.specs.Numbers.{IsNumber, number_of}
+use Rattle.text.specs.Numbers.{IsNumber, number_of}
 use Rattle.pagetab_engine.specs.Fields.{is_number}
 use Rattle.pagetab_engine.specs.Starts.{is_canonical_number, position_at}
 use Rattle.pagetab_engine.specs.declared.arguments.Arguments.{Arguments}

@@ -2,7 +2,7 @@
 use Rattle.std.specs.Prelude.{◌≡◌, ◌==◌, ◌&&◌, ◌^◌, nat_lt, ℕ, ⊤, Bool, true, false, cond, List, [], ◌∷◌, ◌++◌, bytes_eq, codes, drop, filter, find, Option, Some, None, option_and_then, option_map}
 use Rattle.std.specs.Char.{digit_value}
 use Rattle.std.specs.List.{list_all, slice_split}
-use Rattle.x86_64_mappings.specs.Numbers.{IsNumber, digits_of, number_of, radix_of}
+use Rattle.text.specs.Numbers.{IsNumber, digits_of, number_of, radix_of}
 use Rattle.pagetab_engine.specs.declared.fields.Name.{Name}
 use Rattle.pagetab_engine.specs.declared.fields.Name.TheVariants.{Word, Free, Translate, Addr, Walk, Show, Pool, Map, MapWith, Identity, Unmap, Update, P5, P4, P3, P2, TranslatePage, CleanUp, CleanUpRange}
 use Rattle.pagetab_engine.specs.declared.fields.Size.{Size}

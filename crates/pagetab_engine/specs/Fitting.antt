@@ -9,12 +9,12 @@ use Rattle.x86_64_model.specs.Memory.{Memory, Words, words_of}
 use Rattle.x86_64_model.specs.Pool.{serves_below}
 use Rattle.x86_64_model.specs.Window.{Window, outside_window}
 use Rattle.x86_64_model.specs.private.Tables.{tables_from}
-use Rattle.pagetab_engine.specs.TableWords.{is_among}
+use Rattle.x86_64_tables.specs.LentPool.{is_in}
 
 -- Whether no number stands twice in a list.
 abbrev pub are_distinct : List ℕ → Bool
 are_distinct [] = true
-are_distinct (number ∷ numbers) = not (is_among numbers number) && are_distinct numbers
+are_distinct (number ∷ numbers) = not (is_in numbers number) && are_distinct numbers
 
 -- Whether the self-entry, if there is a recursive index, is present, isn't huge and names the root.
 abbrev pub names_root : Option Window → (root : ℕ) → Bool

@@ -7,7 +7,7 @@ use Rattle.pagetab_engine.specs.Fitting.{fits_in}
 use Rattle.pagetab_engine.specs.Modes.{first_memory, image_layout}
 use Rattle.pagetab_engine.specs.Situation.{Situation, situation}
 use Rattle.pagetab_engine.specs.Slot.{stored}
-use Rattle.pagetab_engine.specs.TableWords.{is_among}
+use Rattle.x86_64_tables.specs.LentPool.{is_in}
 use Rattle.pagetab_engine.specs.declared.arguments.Mode.{Mode}
 use Rattle.pagetab_engine.specs.declared.statement.ImageLine.{ImageLine}
 use Rattle.pagetab_engine.specs.declared.statement.ImageLine.TheVariants.{Word, Free}
@@ -31,7 +31,7 @@ nothing_loaded places = record { memory = empty_memory places; free = []; limit 
 -- below the limit, and is not free yet.
 abbrev pub is_loadable : Loaded → ImageLine → Bool
 is_loadable loaded (Word slot value) = true
-is_loadable loaded (Free frame) = not (frame == 0) && (nat_lt (frame / 4096) loaded.limit && not (is_among loaded.free frame))
+is_loadable loaded (Free frame) = not (frame == 0) && (nat_lt (frame / 4096) loaded.limit && not (is_in loaded.free frame))
 
 -- What is loaded after a line of an image, which sets its word, or adds its frame behind the other free ones.
 abbrev pub load : Loaded → ImageLine → Loaded

@@ -19,3 +19,5 @@ pub mod Ending
 pub mod Texts
 pub mod Program
 pub mod private
+pub use Rattle.x86_64_tables.specs.LentPool
+pub use Rattle.text.specs.Numbers

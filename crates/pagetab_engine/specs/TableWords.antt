@@ -1,15 +1,11 @@
 -- Every word after a call, by the path map and the free frames that the call leaves.
 use Rattle.std.specs.Prelude.{ℕ, ◌==◌, ◌&&◌, Bool, false, cond, List, [], ◌∷◌, ◌++◌, Option, Some, None, find}
-use Rattle.std.specs.List.{list_any}
 use Rattle.std.specs.FinMap.{keys}
 use Rattle.x86_64_model.specs.Layout.{Layout}
 use Rattle.x86_64_model.specs.Machine.{State}
 use Rattle.x86_64_model.specs.PathMap.{PathMap, entry, table_at}
 use Rattle.x86_64_model.specs.Window.{Window}
-
--- Whether a number is in a list.
-abbrev pub is_among : (numbers : List ℕ) → (number : ℕ) → Bool
-is_among numbers number = list_any (λ n. n == number) numbers
+use Rattle.x86_64_tables.specs.LentPool.{is_in}
 
 -- Whether this is the frame, if there is one.
 abbrev pub is_there : (frame : ℕ) → Option ℕ → Bool
@@ -34,4 +30,4 @@ table_word_or window paths (Some q) i other = table_word window paths q i
 -- path map, and returned frames that are free hold zeros. All other words stay.
 abbrev pub words_after : Layout → State → (back : List ℕ) → (words : ℕ → ℕ → ℕ) → (frame i : ℕ) → ℕ
 words_after layout state back words f i =
-    table_word_or layout.window state.paths (path_to layout.levels layout.root state.paths f) i (cond (is_among state.pool f && is_among back f) 0 (words f i))
+    table_word_or layout.window state.paths (path_to layout.levels layout.root state.paths f) i (cond (is_in state.pool f && is_in back f) 0 (words f i))

@@ -2,13 +2,13 @@
 ghost use Rattle.std.specs.Prelude.{◌≡◌, ◌<◌, ℕ, [], ◌∷◌, map, string_bytes, IfSome, IfNone};
 ghost use Rattle.std.specs.Option.{SomeIff};
 ghost use Rattle.pagetab_engine.specs.Arguments.{IsPlaces, IsAddress, IsIndex, SaysArguments, SaysMode, recursive_word as recursive_word_of, pair_word as pair_word_of};
-ghost use Rattle.x86_64_mappings.specs.Numbers.{number_of};
+ghost use Rattle.text.specs.Numbers.{number_of};
 ghost use Rattle.pagetab_engine.specs.declared.arguments.Mode.TheVariants.{Recursive, Pair};
 
+use text::parse_number;
 use x86_64::structures::paging::PageTableIndex;
 use x86_64::{CallIn, LevelCount, LevelFiveFlags, VirtAddr};
 use x86_64_addr::level_count::Levels;
-use x86_64_mappings::text::parse_number;
 
 /// Returns the word for the recursive mapper.
 fn recursive_word(levels: Levels) -> &'static str

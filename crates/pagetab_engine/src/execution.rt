@@ -46,7 +46,8 @@ pub fn answer_at_offset<L: LevelCount, P5: LevelFiveFlags<L>>(
     phys_offset: VirtAddrIn<L>,
     call: CallIn<L, P5>,
 ) -> ReplyIn<L>
-    requires fits { StoreFits (direct_layout L.LEVELS laid_in frames.old.memory) (pool_store frames.old.pool) }
+    requires fits { StoreFits (direct_layout L.LEVELS laid_in frames.old.memory)
+        (pool_store frames.old.pool) }
     requires offset { OffsetFits L.LEVELS frames.old.memory phys_offset }
     ensures answered { IsAnswered
         (direct_layout L.LEVELS laid_in frames.old.memory) (pool_store frames.old.pool) (to_call P5.bits call)
@@ -92,7 +93,8 @@ pub fn answer_by_both<L: LevelCount, P5: LevelFiveFlags<L>>(
     index: PageTableIndex,
     call: CallIn<L, P5>,
 ) -> Result<ReplyIn<L>, AllocError>
-    requires fits { StoreFits (direct_layout L.LEVELS laid_in frames.old.memory) (pool_store frames.old.pool) }
+    requires fits { StoreFits (direct_layout L.LEVELS laid_in frames.old.memory)
+        (pool_store frames.old.pool) }
     requires twin { IsTwin L.LEVELS index frames.old twin.old }
     requires unnamed { names L.LEVELS P5.bits call index ≡ false }
     ensures answered { IfOk result (IsAnswered

@@ -2,7 +2,7 @@
 ghost use Rattle.std.specs.Prelude.{◌≡◌, ◌≢◌, ◌≤◌, ℕ, Option, List, [], ◌∷◌, ◌++◌, length, MatchOption, IfSome, IfNone, take};
 ghost use Rattle.pagetab_engine.specs.Fields.{fields_of, name_text, size_name, size_texts, AreNumbers, Says};
 
-use x86_64_mappings::text::parse_number;
+use text::parse_number;
 
 /// The maximum number of numbers in a line.
 const MOST_NUMBERS: usize = 4;

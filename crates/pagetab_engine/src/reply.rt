@@ -1,19 +1,19 @@
 //! The texts of replies.
 ghost use Rattle.std.specs.Prelude.{◌≡◌, Some};
 ghost use Rattle.std.specs.Fmt.{WritesOnOk};
-ghost use Rattle.x86_64_mappings.specs.Numbers.{hexadecimal};
+ghost use Rattle.text.specs.Numbers.{hexadecimal};
 ghost use Rattle.x86_64_tables.specs.Walks.{walked_of};
 ghost use Rattle.pagetab_engine.specs.Reply.{reply_of};
 ghost use Rattle.pagetab_engine.specs.Texts as texts;
 
 use bitflags::Flags;
 use std::fmt::{Display, Formatter, Result as FmtResult, Write};
+use text::write_hexadecimal;
 use x86_64::structures::paging::mapper::{
     FlagUpdateError, MapToError, MappedFrame, TranslateError, TranslateResult, UnmapError,
 };
 use x86_64::structures::paging::{PageSize, PhysFrame, Size4KiB};
 use x86_64::{LevelCount, MapperReply, PageReply, PhysAddr, ReplyIn, Walked};
-use x86_64_mappings::text::write_hexadecimal;
 
 /// The reply to a call on a page that is not mapped.
 const PAGE_NOT_MAPPED: &str = "page not mapped";

@@ -12,7 +12,7 @@ use Rattle.std.specs.Option.{SomeIff}
 use Rattle.std.specs.Str.{bytes_eq}
 use Rattle.ptdump.specs.Asked.{is_listed}
 use Rattle.ptdump.specs.Numbers.{IsNumeral, has_zero_in_front, number_of}
-use Rattle.x86_64_mappings.specs.Numbers as lenient
+use Rattle.text.specs.Numbers as lenient
 use Rattle.ptdump.specs.Requests.{TextsAreNumbers}
 
 -- one more number

@@ -30,7 +30,8 @@ setting_names = codes "wp" ∷ codes "nxe" ∷ codes "smep" ∷ codes "smap" ∷
 abbrev pub AreSettings : (words : List (List ℕ)) → Type 0
 AreSettings words = find (λ word. not (is_listed setting_names word)) words ≡ None
 
--- The words are names of settings, or `none`, and those settings are on whose names are among them.
+-- The words are names of settings, or `none`, and those settings are on whose names are among them. The processor has pages of
+-- 1GiB, and reserves GLOBAL nowhere.
 pub record AreControls (words : List (List ℕ)) (c : Controls) : Type 0 where
   pub known : AreSettings words
   pub write_protect : c.write_protect ≡ is_listed words (codes "wp")
@@ -38,6 +39,8 @@ pub record AreControls (words : List (List ℕ)) (c : Controls) : Type 0 where
   pub smep : c.smep ≡ is_listed words (codes "smep")
   pub smap : c.smap ≡ is_listed words (codes "smap")
   pub ac : c.ac ≡ is_listed words (codes "ac")
+  pub giant_pages : c.no_1gib_pages ≡ false
+  pub global_ignored : c.global_reserved ≡ false
 
 -- The number of bits of physical addresses is that of the text, which is from 32 to 52, or 52 if the text is missing.
 abbrev pub IsBits : (text : Option (List ℕ)) → (bits : ℕ) → Type 0

@@ -2,8 +2,8 @@
 -- digits without `0x`, with zeros in front.
 use Rattle.std.specs.Prelude.{◌≡◌, ◌&&◌, ℕ, Bool, false, not, List, codes, length, nat_eq, nat_lt}
 use Rattle.std.specs.List.{starts_with}
-use Rattle.x86_64_mappings.specs.Numbers as lenient
-pub use Rattle.x86_64_mappings.specs.Numbers.{number_of}
+use Rattle.text.specs.Numbers as lenient
+pub use Rattle.text.specs.Numbers.{number_of}
 
 -- Whether a text begins with 0, has more characters, and doesn't begin with `0x`.
 unfoldable pub has_zero_in_front : (text : List ℕ) → Bool

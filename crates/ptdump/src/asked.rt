@@ -135,6 +135,8 @@ fn controls_of<'a>(words: Option<&[&'a str]>, physical_bits: u8) -> Result<Contr
             smap: true,
             ac: false,
             physical_bits,
+            no_1gib_pages: false,
+            global_reserved: false,
         }),
     }
 }
@@ -167,6 +169,8 @@ fn controls_named<'a>(words: &[&'a str], physical_bits: u8) -> Result<Controls, 
         smap: is_listed(words, "smap"),
         ac: is_listed(words, "ac"),
         physical_bits,
+        no_1gib_pages: false,
+        global_reserved: false,
     })
 }
 

@@ -129,7 +129,8 @@ fn report(rt: &(impl Print + Eprint), ended: Result<Outcome, Stop<'_>>) -> ExitC
 
 /// Returns the exit code for the end of a run, or that of a failed write if the reason wasn't printed.
 fn code_after(ended: &Result<Outcome, Stop<'_>>, told: &io::Result<()>) -> ExitCode
-    ensures { exit_status result ≡ (if is_ok told.now then exit_status_of ended.now else failure_status Output) }
+    ensures { exit_status result ≡ (if is_ok told.now then exit_status_of ended.now
+        else failure_status Output) }
 {
     match told {
         Ok(()) => exit_code(ended),

@@ -12,7 +12,7 @@ ghost use Rattle.ptdump.specs.declared.stop.Stop.TheVariants.{NoNumber};
 use crate::stop::Stop;
 use clap::ArgMatches;
 use std::alloc::Global;
-use x86_64_mappings::text::parse_number;
+use text::parse_number;
 
 /// An option that takes a number.
 #[derive(Clone, Copy, Debug)]

@@ -6,7 +6,8 @@ use Rattle.std.specs.Int.Bits.{and_zero_r}
 use Rattle.std.specs.List.{cons_option, filter_map}
 use Rattle.x86_64_access.specs.Accesses.{controls_of}
 use Rattle.x86_64_access.specs.declared.controls.Controls.{Controls}
-use Rattle.x86_64_model.specs.Access.{low_bits, reserved}
+use Rattle.x86_64_access.proofs.ReservedBySome.{low_none}
+use Rattle.x86_64_model.specs.Access.{low_bits, reserved, reserved_by_some}
 use Rattle.x86_64_model.specs.Entry.{present, huge, no_execute, address}
 use Rattle.x86_64_model.specs.Memory.{Words}
 use Rattle.x86_64_model.specs.PageWalk.{read}
@@ -62,10 +63,16 @@ low_sound c bits on level e low = by level low
         ∙ ap₂ (λ a n. (a || (huge e && false)) || (no_execute e && not n)) within on
         ∙ none (huge e) (no_execute e)
 
-    by : (level : ℕ) → level ≤ 1
-        → ((nat_le (2 ^ c.physical_bits) (address e) || (huge e && (nat_le 4 level || not (bit_and e (low_bits level) == 0)))) || (no_execute e && not c.no_execute)) ≡ false
-    by zero low = ends
-    by (suc zero) low = ends
+    -- nor one that only some processors reserve
+    with_some : (some : Bool) → some ≡ false
+        → (((some || nat_le (2 ^ c.physical_bits) (address e)) || (huge e && not (bit_and e 0 == 0))) || (no_execute e && not c.no_execute)) ≡ false
+    with_some true h = absurd (true≢false h)
+    with_some false h = ends
+
+    by : (level : ℕ) → level ≤ 1 → (((reserved_by_some (controls_of c) level e || nat_le (2 ^ c.physical_bits) (address e))
+        || (huge e && (nat_le 4 level || not (bit_and e (low_bits level) == 0)))) || (no_execute e && not c.no_execute)) ≡ false
+    by zero low = with_some _ (low_none (controls_of c) 0 e refl refl)
+    by (suc zero) low = with_some _ (low_none (controls_of c) 1 e refl refl)
     by (suc (suc n)) low = absurd (omega (arith, low))
 
 pub none_beyond : (c : Controls) (level : ℕ) → level ≤ 1 → 52 ≤ c.physical_bits → c.no_execute ≡ true → NoneAt (flaws.ReservedBits c) level

@@ -1,6 +1,6 @@
 -- FindingTexts: the texts of regions with flaws, of entries, of findings, and of addresses with rights.
 use Rattle.std.specs.Prelude.{ℕ, List, ◌++◌, codes, decimal}
-use Rattle.x86_64_mappings.specs.Numbers.{hexadecimal}
+use Rattle.text.specs.Numbers.{hexadecimal}
 use Rattle.x86_64_mappings.specs.Texts.{region_text}
 use Rattle.x86_64_model.specs.Mappings.{Rights}
 use Rattle.x86_64_model.specs.Regions.{Region}

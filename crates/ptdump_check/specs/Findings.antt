@@ -114,7 +114,7 @@ abbrev pub flawed_entries : EntryFlaw → Words → List Table → List Finding
 flawed_entries flaw T tables = flat_map (λ t. filter_map (flaw_in flaw) (entries_in T t)) tables
 
 -- The processor whose reserved bits are looked for: it has all 52 bits of physical addresses, so that it lacks no address bit,
--- and NO_EXECUTE is on.
+-- NO_EXECUTE is on, it has pages of 1GiB, and it reserves GLOBAL nowhere.
 abbrev pub processor : Controls
 processor = record {
   write_protect = true;
@@ -123,6 +123,8 @@ processor = record {
   smap = true;
   ac = false;
   physical_bits = 52;
+  no_1gib_pages = false;
+  global_reserved = false;
 }
 
 -- The processor whose reserved bits a check looks for. It has as many bits of physical addresses as the check states, but at most

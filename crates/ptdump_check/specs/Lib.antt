@@ -13,7 +13,7 @@ pub mod WritableTables
 pub mod private
 pub use Rattle.x86_64_access.specs.Accesses
 pub use Rattle.x86_64_dump.specs.Tables
-pub use Rattle.x86_64_mappings.specs.Numbers
+pub use Rattle.text.specs.Numbers
 pub use Rattle.x86_64_mappings.specs.Texts
 pub use Rattle.x86_64_mappings.specs.Wanted
 pub use Rattle.x86_64_tables.specs.Rights

@@ -14,7 +14,7 @@ pub struct AddressRange {
 
 impl Display for AddressRange {
     ghost use Rattle.std.specs.Prelude.{◌++◌, Some, codes};
-    ghost use Rattle.x86_64_mappings.specs.Numbers.{hexadecimal};
+    ghost use Rattle.text.specs.Numbers.{hexadecimal};
 
     ghost output = { λ range. Some (hexadecimal range.first ++ codes "-" ++ hexadecimal range.last) };
 

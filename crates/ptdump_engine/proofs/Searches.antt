@@ -8,27 +8,27 @@ use Rattle.x86_64_model.specs.Position.{position_count, raw}
 use Rattle.x86_64_model.proofs.Lemmas.Mappings.Placed.{mappings_fit}
 use Rattle.x86_64_mappings.specs.Wanted.{leads_to}
 use Rattle.ptdump_check.proofs.Asked.{inside}
-use Rattle.ptdump_engine.specs.Reports.{address_line as line_of, addresses_text}
+use Rattle.ptdump_engine.specs.Reports.{address_line, addresses_text}
 use Rattle.ptdump_engine.specs.Lines.{found_line}
 use Rattle.ptdump_engine.specs.declared.request.Form.{Form}
-use Rattle.ptdump_engine.specs.private.Finding.{address_line, some_there}
+use Rattle.ptdump_engine.specs.private.Finding.{some_there, visited_lines}
 
 same_lines : (form : Form) (L a : ℕ) (ms : List Mapping) → AllByRecursion (λ m. m.start + m.size ≤ position_count L) ms
-    → flat_map (address_line form L a) (filter (leads_to a) ms) ≡ flat_map (line_of form L a) (filter (leads_to a) ms)
+    → visited_lines form L a (filter (leads_to a) ms) ≡ flat_map (address_line form L a) (filter (leads_to a) ms)
 same_lines form L a [] fit = refl
 same_lines form L a (m ∷ ms) fit = by (leads_to a m) refl (same_lines form L a ms fit.1)
   where
     by : (b : Bool) → leads_to a m ≡ b
-        → flat_map (address_line form L a) (filter (leads_to a) ms) ≡ flat_map (line_of form L a) (filter (leads_to a) ms)
-        → flat_map (address_line form L a) (cond b (m ∷ filter (leads_to a) ms) (filter (leads_to a) ms))
-        ≡ flat_map (line_of form L a) (cond b (m ∷ filter (leads_to a) ms) (filter (leads_to a) ms))
-    by true leads rest = ap (λ p. found_line form a (raw L p) m.rights ++ flat_map (address_line form L a) (filter (leads_to a) ms))
+        → visited_lines form L a (filter (leads_to a) ms) ≡ flat_map (address_line form L a) (filter (leads_to a) ms)
+        → visited_lines form L a (cond b (m ∷ filter (leads_to a) ms) (filter (leads_to a) ms))
+        ≡ flat_map (address_line form L a) (cond b (m ∷ filter (leads_to a) ms) (filter (leads_to a) ms))
+    by true leads rest = ap (λ p. found_line form a (raw L p) m.rights ++ visited_lines form L a (filter (leads_to a) ms))
         (mod-eq_of_lt (inside a m (position_count L) leads fit.0))
-        ∙ ap (λ lines. line_of form L a m ++ lines) rest
+        ∙ ap (λ lines. address_line form L a m ++ lines) rest
     by false leads rest = rest
 
 pub lines_found : (form : Form) (L : ℕ) (T : Words) (root a : ℕ)
-    → flat_map (address_line form L a) (filter (leads_to a) (mappings_of L T root)) ≡ addresses_text form L T root a
+    → visited_lines form L a (filter (leads_to a) (mappings_of L T root)) ≡ addresses_text form L T root a
 unfolding addresses_text
 lines_found form L T root a = same_lines form L a (mappings_of L T root) (mappings_fit L T root)
 

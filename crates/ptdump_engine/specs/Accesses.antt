@@ -5,7 +5,7 @@ use Rattle.x86_64_access.specs.declared.controls.Controls.{Controls}
 use Rattle.x86_64_access.specs.declared.request.Access.{Access}
 use Rattle.x86_64_access.specs.declared.request.AccessKind.{AccessKind}
 use Rattle.x86_64_access.specs.declared.request.AccessKind.TheVariants.{Read, Write, Fetch}
-use Rattle.x86_64_mappings.specs.Numbers.{hexadecimal}
+use Rattle.text.specs.Numbers.{hexadecimal}
 use Rattle.x86_64_model.specs.Access.{Outcome, Arrives, Faults, NoMemory, access}
 use Rattle.x86_64_model.specs.Memory.{Words}
 use Rattle.x86_64_model.specs.PageWalk.{page_walk}
@@ -44,14 +44,18 @@ bit_text code bit text = if not (bit_and code bit == 0) then text else []
 
 -- The text of the error code of a page fault: its number, and the names of its bits.
 unfoldable pub code_text : (code : ℕ) → List ℕ
-code_text code = hexadecimal code ++ bit_text code 0x1 (codes ", present") ++ bit_text code 0x2 (codes ", write") ++ bit_text code 0x4 (codes ", user")
+code_text code =
+    hexadecimal code ++ bit_text code 0x1 (codes ", present") ++ bit_text code 0x2 (codes ", write")
+    ++ bit_text code 0x4 (codes ", user")
     ++ bit_text code 0x8 (codes ", reserved bit") ++ bit_text code 0x10 (codes ", fetch")
 
 -- The text of what a processor does with an access: it arrives, faults, or needs a table that the dump lacks.
 abbrev pub outcome_text : Outcome → List ℕ
 outcome_text (Arrives address) = codes " arrives at " ++ hexadecimal address
-outcome_text (Faults code level) = codes " faults at level " ++ decimal level ++ codes ", code " ++ code_text code
-outcome_text (NoMemory frame) = codes " needs the table at " ++ hexadecimal frame ++ codes ", which the dump lacks"
+outcome_text (Faults code level) =
+    codes " faults at level " ++ decimal level ++ codes ", code " ++ code_text code
+outcome_text (NoMemory frame) =
+    codes " needs the table at " ++ hexadecimal frame ++ codes ", which the dump lacks"
 
 -- ---- controls
 
@@ -72,7 +76,9 @@ between_text source = []
 
 -- The text of the controls that a processor's note may have: WP, SMEP and SMAP.
 unfoldable pub notable_text : Controls → List ℕ
-notable_text c = control_text c.write_protect (codes "wp") ++ control_text c.smep (codes "smep") ++ control_text c.smap (codes "smap")
+notable_text c =
+    control_text c.write_protect (codes "wp") ++ control_text c.smep (codes "smep")
+    ++ control_text c.smap (codes "smap")
 
 -- The text of the controls that no processor's note has: NXE and AC.
 unfoldable pub other_text : Controls → List ℕ
@@ -84,7 +90,8 @@ controls_source_text source = codes " (" ++ source_name source ++ codes ":"
 
 -- The text of controls: where they come from, those that a processor's note may have, and the others.
 unfoldable pub controls_text : Controls → ControlsSource → List ℕ
-controls_text c source = controls_source_text source ++ notable_text c ++ between_text source ++ other_text c ++ codes ")"
+controls_text c source =
+    controls_source_text source ++ notable_text c ++ between_text source ++ other_text c ++ codes ")"
 
 -- The text of an access: its name, what the processor does with it, and the controls that decide it.
 abbrev pub access_text : Access → Controls → ControlsSource → Outcome → List ℕ

@@ -1,8 +1,9 @@
 -- Columns: the texts of mappings and regions, as they are, or in columns of fixed widths in which each has room.
 use Rattle.std.specs.Prelude.{ℕ, ◌+◌, ◌-◌, ◌++◌, Bool, true, false, List, codes, length}
 use Rattle.std.specs.List.{repeat}
-use Rattle.x86_64_mappings.specs.Numbers.{hexadecimal}
-use Rattle.x86_64_mappings.specs.Texts.{mapping_text, region_text, size_text}
+use Rattle.text.specs.Numbers.{hexadecimal}
+use Rattle.text.specs.Sizes.{size_text}
+use Rattle.x86_64_mappings.specs.Texts.{mapping_text, region_text}
 use Rattle.x86_64_model.specs.Mappings.{Mapping, Rights}
 use Rattle.x86_64_model.specs.Position.{raw}
 use Rattle.x86_64_model.specs.Regions.{Region}
@@ -26,7 +27,8 @@ at_right width text = spaces (width - length text) ++ text
 -- The text START SIZE FRAME RIGHTS of a mapping in columns of fixed widths. An address has at most 18 characters, that of a frame
 -- 15, the size of a page 4, and rights have 4.
 unfoldable pub place_columns : (start size frame : ℕ) → Rights → List ℕ
-place_columns start size frame rights = at_left 18 (hexadecimal start) ++ codes " " ++ at_right 4 (size_text size) ++ codes " "
+place_columns start size frame rights =
+    at_left 18 (hexadecimal start) ++ codes " " ++ at_right 4 (size_text size) ++ codes " "
     ++ at_left 15 (hexadecimal frame) ++ codes " " ++ rights_text rights
 
 -- The text START SIZE FRAME RIGHTS of a mapping in columns of fixed widths, with its canonical address for L levels of tables.
@@ -40,12 +42,16 @@ aligned_mapping L m = aligned_place L m ++ codes " " ++ hexadecimal m.flags
 -- The text START SIZE FRAME RIGHTS FLAGS NAMES of a mapping in columns of fixed widths, with L levels of tables. NAMES are those of
 -- the flags, and FLAGS have at most 18 characters.
 abbrev pub aligned_named : (L : ℕ) → Mapping → List ℕ
-aligned_named L m = aligned_place L m ++ codes " " ++ at_left 18 (hexadecimal m.flags) ++ codes " " ++ names_text m.size m.flags
+aligned_named L m =
+    aligned_place L m ++ codes " " ++ at_left 18 (hexadecimal m.flags) ++ codes " "
+    ++ names_text m.size m.flags
 
 -- The text FIRST - LAST SIZE RIGHTS of a region in columns of fixed widths, with L levels of tables. A region has at most 2^56
 -- bytes, and its size at most 17 characters.
 unfoldable pub aligned_region : (L : ℕ) → Region → List ℕ
-aligned_region L r = at_left 18 (hexadecimal (raw L r.first)) ++ codes " - " ++ at_left 18 (hexadecimal (raw L r.last)) ++ codes " "
+aligned_region L r =
+    at_left 18 (hexadecimal (raw L r.first)) ++ codes " - " ++ at_left 18 (hexadecimal (raw L r.last))
+    ++ codes " "
     ++ at_right 17 (size_text (r.last + 1 - r.first)) ++ codes " " ++ rights_text r.rights
 
 -- The text of a mapping in these columns, with the names of its flags if they are asked for, and with L levels of tables.

@@ -1,7 +1,7 @@
 -- Explanations of walks that arrive: how large the page is, and which words take rights away.
 use Rattle.std.specs.Prelude.{ℕ, ◌++◌, Bool, not, if◌then◌else◌, List, [], codes}
 use Rattle.std.specs.List.{flat_map}
-use Rattle.x86_64_mappings.specs.Texts.{size_text}
+use Rattle.text.specs.Sizes.{size_text}
 use Rattle.x86_64_model.specs.Entry.{writable, user, no_execute}
 use Rattle.ptdump_engine.specs.Walks.{End, Walk, arrives_at, line, word_place_text}
 use Rattle.ptdump_engine.specs.declared.word_read.WordRead.{WordRead}

@@ -1,7 +1,7 @@
 -- Texts: why no root is found.
 use Rattle.std.specs.Prelude.{ℕ, ◌++◌, List, Option, None, Some, codes, decimal}
 use Rattle.x86_64_dump.specs.FaultTexts.{dump_fault_text}
-use Rattle.x86_64_mappings.specs.Numbers.{hexadecimal}
+use Rattle.text.specs.Numbers.{hexadecimal}
 use Rattle.ptdump_engine.specs.declared.failure.Failure.{Failure}
 use Rattle.ptdump_engine.specs.declared.failure.Failure.TheVariants.{NoCr3, VirtualBox, NoProcessor, NoProcessors, WrongMode, NoRoot, Dump}
 use Rattle.ptdump_engine.specs.declared.mode.Mode.{Mode}

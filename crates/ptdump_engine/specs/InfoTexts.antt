@@ -6,8 +6,8 @@ use Rattle.x86_64_dump.specs.declared.formats.Format.{Format}
 use Rattle.x86_64_dump.specs.declared.formats.Format.TheVariants.{Raw, Elf, Lime, Unread}
 use Rattle.x86_64_dump.specs.declared.kernel_text.KernelText.{KernelText}
 use Rattle.x86_64_dump.specs.declared.vmcoreinfo.Kernel.{Kernel}
-use Rattle.x86_64_mappings.specs.Numbers.{hexadecimal}
-use Rattle.x86_64_mappings.specs.Texts.{size_text}
+use Rattle.text.specs.Numbers.{hexadecimal}
+use Rattle.text.specs.Sizes.{size_text}
 use Rattle.ptdump_engine.specs.Start.{levels_by_cr4, mode_of}
 use Rattle.ptdump_engine.specs.declared.mode.Mode.{Mode}
 use Rattle.ptdump_engine.specs.declared.mode.Mode.TheVariants.{NoPaging, Paging32, Paging64}
@@ -34,7 +34,8 @@ levels_text Five = codes "5 levels"
 
 -- The text "memory FIRST-LAST SIZE" of memory with physical addresses.
 unfoldable pub memory_text : (first last size : ℕ) → List ℕ
-memory_text first last size = codes "memory " ++ hexadecimal first ++ codes "-" ++ hexadecimal last ++ codes " " ++ size_text size
+memory_text first last size =
+    codes "memory " ++ hexadecimal first ++ codes "-" ++ hexadecimal last ++ codes " " ++ size_text size
 
 -- The text "memory without a physical address SIZE".
 abbrev pub unplaced_text : (size : ℕ) → List ℕ
@@ -48,7 +49,9 @@ register_text name value = name ++ codes " " ++ hexadecimal value
 
 -- The text of the values of CR0, CR3 and CR4.
 unfoldable pub values_text : Registers → List ℕ
-values_text r = register_text (codes "CR0") r.cr0 ++ codes ", " ++ register_text (codes "CR3") r.cr3 ++ codes ", " ++ register_text (codes "CR4") r.cr4
+values_text r =
+    register_text (codes "CR0") r.cr0 ++ codes ", " ++ register_text (codes "CR3") r.cr3 ++ codes ", "
+    ++ register_text (codes "CR4") r.cr4
 
 -- The name of a mode of paging.
 abbrev pub mode_name : Mode → List ℕ
@@ -72,7 +75,8 @@ cut_text = codes "its note ends before CR4 does"
 
 -- The text of processor `cpu`, with its registers if they are known, or else with the reason why they aren't.
 abbrev pub processor_text : (cpu : ℕ) → Option Registers → List ℕ
-processor_text cpu (Some registers) = codes "processor " ++ decimal cpu ++ codes ": " ++ registers_text registers
+processor_text cpu (Some registers) =
+    codes "processor " ++ decimal cpu ++ codes ": " ++ registers_text registers
 processor_text cpu None = codes "processor " ++ decimal cpu ++ codes ": " ++ cut_text
 
 -- ---- roots
@@ -87,7 +91,9 @@ mask_text mask = if mask == 0 then [] else codes ", encryption mask " ++ hexadec
 
 -- The text of the kernel that VMCOREINFO describes: its root, its levels, and its encryption mask.
 abbrev pub kernel_text : Kernel → List ℕ
-kernel_text kernel = codes "kernel (VMCOREINFO): root " ++ root_place_text kernel.root kernel.levels ++ mask_text kernel.encryption_mask
+kernel_text kernel =
+    codes "kernel (VMCOREINFO): root " ++ root_place_text kernel.root kernel.levels
+    ++ mask_text kernel.encryption_mask
 
 -- The text of the offset in the file at which a text of VMCOREINFO begins.
 unfoldable pub text_place : (offset : ℕ) → List ℕ
@@ -95,7 +101,9 @@ text_place offset = codes "VMCOREINFO at byte " ++ (decimal offset ++ codes " of
 
 -- The text of where a text of VMCOREINFO begins, and of the kernel that it describes.
 unfoldable pub text_told : KernelText → List ℕ
-text_told text = text_place text.offset ++ root_place_text text.kernel.root text.kernel.levels ++ mask_text text.kernel.encryption_mask
+text_told text =
+    text_place text.offset ++ root_place_text text.kernel.root text.kernel.levels
+    ++ mask_text text.kernel.encryption_mask
 
 -- The text of the reason why VMCOREINFO describes no kernel.
 abbrev pub no_kernel_text : (error : List ℕ) → List ℕ
@@ -106,11 +114,13 @@ abbrev pub origin_text : (cpu : ℕ) → Origin → List ℕ
 origin_text cpu ByRequest = codes "as --cr3 says"
 origin_text cpu ByProcessor = codes "of processor " ++ decimal cpu
 origin_text cpu ByKernel = codes "of the kernel"
-origin_text cpu (ByText offset) = codes "of the kernel, as the text at byte " ++ decimal offset ++ codes " says"
+origin_text cpu (ByText offset) =
+    codes "of the kernel, as the text at byte " ++ decimal offset ++ codes " says"
 
 -- The text of the root that other commands take if processor `cpu` is requested.
 abbrev pub root_text : (cpu : ℕ) → Start → List ℕ
-root_text cpu start = codes "root: " ++ root_place_text start.root start.levels ++ codes ", " ++ origin_text cpu start.origin
+root_text cpu start =
+    codes "root: " ++ root_place_text start.root start.levels ++ codes ", " ++ origin_text cpu start.origin
 
 -- The text of the reason why other commands find no root.
 abbrev pub no_root_text : (error : List ℕ) → List ℕ

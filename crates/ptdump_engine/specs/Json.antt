@@ -7,7 +7,7 @@ use Rattle.serde_json.specs.Written.{compact_text}
 use Rattle.linux_areas.specs.declared.area.Area.{Area}
 use Rattle.x86_64_access.specs.declared.controls.Controls.{Controls}
 use Rattle.x86_64_access.specs.declared.request.Access.{Access}
-use Rattle.x86_64_mappings.specs.Numbers.{hexadecimal}
+use Rattle.text.specs.Numbers.{hexadecimal}
 use Rattle.x86_64_model.specs.Access.{Outcome, Arrives, Faults, NoMemory}
 use Rattle.x86_64_model.specs.Mappings.{Mapping, Rights}
 use Rattle.x86_64_model.specs.Position.{raw}
@@ -135,7 +135,8 @@ json_of_access a c source (NoMemory frame) = object (
     (member (codes "table") (hexadecimal_string frame) no_members))))
 
 -- The JSON object of the access at position p that is asked for, or None if none is.
-abbrev pub json_of_asked : Controls → ControlsSource → Option Access → (L : ℕ) → Words → (root p : ℕ) → Option Data
+abbrev pub json_of_asked : Controls → ControlsSource → Option Access → (L : ℕ) → Words → (root p : ℕ)
+    → Option Data
 json_of_asked c source None L T root p = None
 json_of_asked c source (Some a) L T root p = Some (json_of_access a c source (outcome_in L T root p c a))
 

@@ -34,10 +34,11 @@ pub use Rattle.ptdump_check.specs.FindingTexts
 pub use Rattle.ptdump_check.specs.Loaded
 pub use Rattle.ptdump_check.specs.ReservedEntries
 pub use Rattle.linux_areas.specs.Areas
-pub use Rattle.ptdump_picture.specs.Sizes
+pub use Rattle.ptdump_picture.specs.ShortSizes
 pub use Rattle.x86_64_dump.specs.Formats
 pub use Rattle.x86_64_dump.specs.Opening
 pub use Rattle.x86_64_dump.specs.VmCoreInfo
+pub use Rattle.text.specs.Sizes
 pub use Rattle.x86_64_mappings.specs.Texts
 pub use Rattle.x86_64_tables.specs.Rights
 pub use Rattle.x86_64_mappings.specs.Wanted

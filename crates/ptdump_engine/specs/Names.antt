@@ -2,7 +2,7 @@
 -- Intel SDM vol. 3A, "4-Level Paging and 5-Level Paging"; AMD APM vol. 2, "Page-Translation-Table Entry Fields".
 use Rattle.std.specs.Prelude.{ℕ, ◌++◌, ◌==◌, ◌/◌, ◌%◌, ◌^◌, bit_and, not, Bool, cond, if◌then◌else◌, List, [], ◌∷◌, codes, decimal, filter}
 use Rattle.std.specs.List.{join_by}
-use Rattle.x86_64_mappings.specs.Numbers.{hexadecimal}
+use Rattle.text.specs.Numbers.{hexadecimal}
 use Rattle.x86_64_mappings.specs.Texts.{mapping_text}
 use Rattle.x86_64_model.specs.Mappings.{Mapping}
 
@@ -19,7 +19,8 @@ flag bit name = record { bit = bit; name = name }
 -- that of a larger page's entry is PS.
 unfoldable pub flags_of : (is_large : Bool) → List Flag
 flags_of is_large =
-    flag 0x1 (codes "P") ∷ flag 0x2 (codes "W") ∷ flag 0x4 (codes "U") ∷ flag 0x20 (codes "A") ∷ flag 0x40 (codes "D")
+    flag 0x1 (codes "P") ∷ flag 0x2 (codes "W") ∷ flag 0x4 (codes "U") ∷ flag 0x20 (codes "A")
+    ∷ flag 0x40 (codes "D")
     ∷ flag 0x100 (codes "G") ∷ flag (cond is_large 0x80 0) (codes "PS") ∷ flag (2 ^ 63) (codes "NX")
     ∷ flag 0x8 (codes "PWT") ∷ flag 0x10 (codes "PCD") ∷ flag (cond is_large 0 0x80) (codes "PAT") ∷ []
 
@@ -29,15 +30,20 @@ set_text word flags = join_by (λ f. f.name) (codes ",") (filter (λ f. not (bit
 
 -- The text of a word's protection key, bits 59 to 62, or nothing if the key is 0.
 abbrev pub protection_key_text : (word : ℕ) → List ℕ
-protection_key_text word = let key = word / 2 ^ 59 % 16 in if key == 0 then [] else codes ",KEY=" ++ decimal key
+protection_key_text word =
+    let key = word / 2 ^ 59 % 16 in
+    if key == 0 then [] else codes ",KEY=" ++ decimal key
 
 -- The text of the bits 9 to 11 and 52 to 58 of a word, which are software's, or nothing if none is set.
 abbrev pub software_text : (word : ℕ) → List ℕ
-software_text word = let bits = bit_and word 0x07f0_0000_0000_0e00 in if bits == 0 then [] else codes ",SW=" ++ hexadecimal bits
+software_text word =
+    let bits = bit_and word 0x07f0_0000_0000_0e00 in
+    if bits == 0 then [] else codes ",SW=" ++ hexadecimal bits
 
 -- The names of what is set in the word of a page of `size` bytes. The first is P, since a page is present.
 unfoldable pub names_text : (size word : ℕ) → List ℕ
-names_text size word = set_text word (flags_of (not (size == 0x1000))) ++ protection_key_text word ++ software_text word
+names_text size word =
+    set_text word (flags_of (not (size == 0x1000))) ++ protection_key_text word ++ software_text word
 
 -- The line of a mapping with the names of its flags, without its line feed.
 abbrev pub named_text : (L : ℕ) → Mapping → List ℕ

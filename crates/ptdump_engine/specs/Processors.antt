@@ -6,7 +6,7 @@ use Rattle.serde_json.specs.View.{items_of}
 use Rattle.x86_64_addr.specs.declared.level_count.Levels.{Levels}
 use Rattle.x86_64_addr.specs.declared.level_count.Levels.TheVariants.{Four, Five}
 use Rattle.x86_64_dump.specs.declared.note.Note.{Note}
-use Rattle.x86_64_mappings.specs.Numbers.{hexadecimal}
+use Rattle.text.specs.Numbers.{hexadecimal}
 use Rattle.ptdump_engine.specs.FailureTexts.{mode_told}
 use Rattle.ptdump_engine.specs.Json.{json_count, hexadecimal_string, json_line}
 use Rattle.ptdump_engine.specs.Start.{mode_of, registers_of, start_by_processor}
@@ -32,10 +32,12 @@ processor_with given cpu r = record {
 }
 
 -- The processors of notes in order, numbered from `cpu` on, or why one of the notes can't be read.
-abbrev pub processors_from : (file : List ℕ) → (given : Option Levels) → (cpu : ℕ) → List Note → Result (List Processor) Failure
+abbrev pub processors_from : (file : List ℕ) → (given : Option Levels) → (cpu : ℕ) → List Note
+    → Result (List Processor) Failure
 processors_from file given cpu [] = Ok []
 processors_from file given cpu (note ∷ notes) = and_then (of_dump (registers_of file note)) (λ registers.
-    and_then (processors_from file given (cpu + 1) notes) (λ others. Ok (processor_with given cpu registers ∷ others)))
+    and_then (processors_from file given (cpu + 1) notes)
+    (λ others. Ok (processor_with given cpu registers ∷ others)))
 
 -- Whether the mode is 64-bit paging.
 abbrev pub is_64_bit : Mode → Bool
@@ -87,7 +89,8 @@ cpus_with ps p = map (λ q. q.cpu) (filter (shares p) ps)
 
 -- The text that processor `cpu` is left out, with its mode of paging.
 abbrev pub left_out_told : (cpu : ℕ) → Mode → List ℕ
-left_out_told cpu mode = codes "processor " ++ decimal cpu ++ codes " " ++ mode_told mode ++ codes ": it is left out"
+left_out_told cpu mode =
+    codes "processor " ++ decimal cpu ++ codes " " ++ mode_told mode ++ codes ": it is left out"
 
 -- The line that a processor is left out, or nothing if it has tables.
 abbrev pub left_out_line : Processor → List ℕ
@@ -105,5 +108,6 @@ json_of_group cpus root = object (
 
 -- The line above the report on a root, in a form: the numbers of the processors that have it, and its address.
 abbrev pub heading_text : Form → (cpus : List ℕ) → (root : ℕ) → List ℕ
-heading_text Text cpus root = line (codes "cpu " ++ join_by decimal (codes ",") cpus ++ codes " root " ++ hexadecimal root)
+heading_text Text cpus root =
+    line (codes "cpu " ++ join_by decimal (codes ",") cpus ++ codes " root " ++ hexadecimal root)
 heading_text Json cpus root = json_line (json_of_group cpus root)

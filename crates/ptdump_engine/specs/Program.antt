@@ -17,7 +17,7 @@ use Rattle.x86_64_dump.specs.declared.formats.Format.{Format}
 use Rattle.x86_64_dump.specs.declared.formats.Format.TheVariants.{Raw}
 use Rattle.x86_64_dump.specs.declared.kernel_text.KernelText.{KernelText}
 use Rattle.x86_64_dump.specs.declared.segment.Segment.{Segment}
-use Rattle.x86_64_mappings.specs.Numbers.{hexadecimal}
+use Rattle.text.specs.Numbers.{hexadecimal}
 use Rattle.x86_64_model.specs.Memory.{Words}
 use Rattle.x86_64_model.specs.Position.{lower_half}
 use Rattle.ptdump_check.specs.declared.checking.AddressRange.{AddressRange}
@@ -62,7 +62,8 @@ is_canonical_address L a = nat_lt a (lower_half L) || (nat_le (2 ^ 64 - lower_ha
 -- The failure that an address isn't canonical with these levels of tables, or None if it is, or if there is no address.
 abbrev pub address_failure : Levels → Option ℕ → Option Failure
 address_failure levels None = None
-address_failure levels (Some a) = if is_canonical_address (level_count levels) a then None else Some (failures.NotCanonical a levels)
+address_failure levels (Some a) =
+    if is_canonical_address (level_count levels) a then None else Some (failures.NotCanonical a levels)
 
 -- The failure that the first address of a range is above the last one, or None if it isn't, or if one of them is missing.
 abbrev pub order_failure : (from to : Option ℕ) → Option Failure
@@ -73,11 +74,13 @@ order_failure from to = None
 -- is above the last.
 abbrev pub selection_failure : Levels → Selection → Option Failure
 selection_failure levels s =
-    option_or (address_failure levels s.from) (option_or (address_failure levels s.to) (order_failure s.from s.to))
+    option_or (address_failure levels s.from)
+    (option_or (address_failure levels s.to) (order_failure s.from s.to))
 
 -- The failure that the first address of a direct map is above the last one, or None if it isn't.
 abbrev pub reversed_failure : AddressRange → Option Failure
-reversed_failure range = if nat_lt range.last range.first then Some (failures.DirectMapReversed range.first range.last) else None
+reversed_failure range =
+    if nat_lt range.last range.first then Some (failures.DirectMapReversed range.first range.last) else None
 
 -- Why a direct map can't be used with these levels of tables: one of its addresses isn't canonical, or the first is above the last.
 -- It is None if the direct map can be used, or if there is none.
@@ -90,8 +93,10 @@ direct_map_failure levels (Some range) = option_or (address_failure levels (Some
 -- or more, or the first one of a range is above the last. It is None if they can be used.
 abbrev pub argument_failure : Levels → Command → Option Failure
 argument_failure levels (commands.Walk addresses asked) =
-    option_map (λ a. failures.NotCanonical a levels) (find (λ a. not (is_canonical_address (level_count levels) a)) addresses.items)
-argument_failure levels (commands.Find addresses) = option_map (λ a. failures.NotPhysical a) (find (λ a. nat_le (2 ^ 52) a) addresses.items)
+    option_map (λ a. failures.NotCanonical a levels)
+    (find (λ a. not (is_canonical_address (level_count levels) a)) addresses.items)
+argument_failure levels (commands.Find addresses) =
+    option_map (λ a. failures.NotPhysical a) (find (λ a. nat_le (2 ^ 52) a) addresses.items)
 argument_failure levels (commands.Regions selection) = selection_failure levels selection
 argument_failure levels (commands.Pages selection has_names) = selection_failure levels selection
 argument_failure levels (commands.Check checking) =
@@ -111,7 +116,8 @@ is_walk command = false
 -- The failure that the table of the root isn't in the dump, or None if it is, or if the command reports on walks, which say that
 -- themselves.
 abbrev pub root_failure : Command → Words → (root : ℕ) → Option Failure
-root_failure command T root = if is_walk command || is_some (T root) then None else Some (failures.NoRoot root)
+root_failure command T root =
+    if is_walk command || is_some (T root) then None else Some (failures.NoRoot root)
 
 -- The start of page walks in a dump for a request, or why the request can't be used: no root is found, an address of its command
 -- can't be used, or the table of the root isn't in the dump.
@@ -158,11 +164,13 @@ texts_for request dump = texts_by request.vmcoreinfo (is_searched request dump) 
 -- A dump with the texts of VMCOREINFO that say where the kernel's root is for a request. In its words the bits are cleared by which
 -- the kernel marks encrypted memory. It is a fault if such a text can't be read.
 abbrev pub with_texts : Request → Contents → Result Contents Fault
-with_texts request dump = after (texts_for request dump) (λ texts. Ok (decrypted (record dump { texts = texts })))
+with_texts request dump =
+    after (texts_for request dump) (λ texts. Ok (decrypted (record dump { texts = texts })))
 
 -- The contents of a file, read as a dump for a request, or the fault why it can't be read so.
 abbrev pub contents_for : Request → (file : List ℕ) → Result Contents Fault
-contents_for request file = after (contents_as (format_for request file) file request.placement) (with_texts request)
+contents_for request file =
+    after (contents_as (format_for request file) file request.placement) (with_texts request)
 
 -- The dump that a file is for a request, or the failure why it is none.
 abbrev pub dump_for : Request → (file : List ℕ) → Result Contents Failure
@@ -183,7 +191,8 @@ opened_for request file = and_then (dump_for request file) (λ dump.
 -- Why the tables of a processor can't be reported on: an address of the request's command can't be used with its levels, or the
 -- table of its root isn't in the dump. It is None if they can.
 abbrev pub tables_failure : Request → Words → Processor → Option Failure
-tables_failure request T p = option_or (argument_failure p.start.levels request.command) (root_failure request.command T p.start.root)
+tables_failure request T p =
+    option_or (argument_failure p.start.levels request.command) (root_failure request.command T p.start.root)
 
 -- The first reason, in the order of some processors, why the tables of one of them can't be reported on, or None if those of all
 -- can.
@@ -194,7 +203,8 @@ first_failure request T (p ∷ ps) = option_or (tables_failure request T p) (fir
 -- The processors of a dump by its notes, or why a report on them can't be made for a request: a note can't be read, none of them
 -- has tables, or the tables of one can't be reported on.
 unfoldable pub processors_for : Request → Contents → Result (List Processor) Failure
-processors_for request dump = and_then (processors_from dump.file request.levels 0 (processors_of dump)) (λ ps.
+processors_for request dump =
+    and_then (processors_from dump.file request.levels 0 (processors_of dump)) (λ ps.
     and_then (unless_failure (modes_failure ps) ps) (λ tested.
     unless_failure (first_failure request (words_of_dump dump) (firsts_of ps)) ps))
 
@@ -212,11 +222,16 @@ machine_for request file = and_then (dump_for request file) (λ dump.
 
 -- The report of a command on tables below a root with L levels, in a form and columns, or None if no specification says what it is.
 -- It is empty for a command that is about the dump alone.
-abbrev pub report_in : Form → Columns → Option Layout → Command → (L : ℕ) → Words → (root : ℕ) → Option (List ℕ)
-report_in form columns layout (commands.Regions selection) L T root = Some (regions_text selection form columns layout L T root)
-report_in form columns layout (commands.Pages selection has_names) L T root = Some (pages_text selection has_names form columns layout L T root)
-report_in form columns layout (commands.Walk addresses asked) L T root = Some (walks_text form (are_several addresses.items) L T root asked addresses.items)
-report_in form columns layout (commands.Find addresses) L T root = Some (find_text form (are_several addresses.items) L T root addresses.items)
+abbrev pub report_in : Form → Columns → Option Layout → Command → (L : ℕ) → Words → (root : ℕ)
+    → Option (List ℕ)
+report_in form columns layout (commands.Regions selection) L T root =
+    Some (regions_text selection form columns layout L T root)
+report_in form columns layout (commands.Pages selection has_names) L T root =
+    Some (pages_text selection has_names form columns layout L T root)
+report_in form columns layout (commands.Walk addresses asked) L T root =
+    Some (walks_text form (are_several addresses.items) L T root asked addresses.items)
+report_in form columns layout (commands.Find addresses) L T root =
+    Some (find_text form (are_several addresses.items) L T root addresses.items)
 report_in form columns layout (commands.Check checking) L T root = Some (check_text form checking L T root)
 report_in form columns layout commands.Info L T root = Some []
 report_in form columns layout command L T root = None
@@ -235,7 +250,8 @@ completeness_of command L T root = true
 
 -- The report of a request on words was written, if a specification says what it is, and the outcome says whether the request is
 -- fulfilled.
-pub record Reports (request : Request) (L : ℕ) (T : Words) (root : ℕ) (before after : Option (List ℕ)) (outcome : Outcome) : Type 0 where
+pub record Reports (request : Request) (L : ℕ) (T : Words) (root : ℕ) (before after : Option (List ℕ))
+    (outcome : Outcome) : Type 0 where
   pub text : IfSome (report_of request L T root) (Appends before after)
   pub complete : outcome.is_complete ≡ completeness_of request.command L T root
 
@@ -243,14 +259,18 @@ pub record Reports (request : Request) (L : ℕ) (T : Words) (root : ℕ) (befor
 -- leaves open. The outcome says whether the request is fulfilled.
 abbrev pub ReportsOf : Request → (before after : Option (List ℕ)) → Outcome → Opened → Type 0
 ReportsOf request before after outcome o =
-    Reports (resolved request o.dump o.start) (level_count o.start.levels) (words_of_dump o.dump) o.start.root before after outcome
+    Reports (resolved request o.dump o.start) (level_count o.start.levels)
+    (words_of_dump o.dump) o.start.root before after outcome
 
 -- The result and the output of a run that reports on tables below one root. It fails for its request or its file without writing
 -- anything, for a read only if reads may fail, and for a write only if its writers may refuse one.
-abbrev pub RunsOnTables : (may_fail may_refuse : Bool) → Request → (file : List ℕ) → (before after : Option (List ℕ)) → Result Outcome Failure → Type 0
-RunsOnTables may_fail may_refuse request file before after (Ok outcome) = (o : Opened) × (opened_for request file ≡ Ok o) × ReportsOf request before after outcome o
+abbrev pub RunsOnTables : (may_fail may_refuse : Bool) → Request → (file : List ℕ)
+    → (before after : Option (List ℕ)) → Result Outcome Failure → Type 0
+RunsOnTables may_fail may_refuse request file before after (Ok outcome) =
+    (o : Opened) × (opened_for request file ≡ Ok o) × ReportsOf request before after outcome o
 RunsOnTables may_fail may_refuse request file before after (Err failure) =
-    FailsBy may_fail may_refuse failure (opened_for request file) × (MayBeForced may_fail may_refuse failure ⊎ (after ≡ before))
+    FailsBy may_fail may_refuse failure (opened_for request file)
+    × (MayBeForced may_fail may_refuse failure ⊎ (after ≡ before))
 
 -- The report of a request on the tables of a processor, below a heading with their root and the numbers of the processors that have
 -- it.
@@ -273,17 +293,21 @@ all_complete request T ps = list_all (is_complete_for request T) (firsts_of ps)
 
 -- The reports of a request on the tables of all processors were written, and the outcome says whether the request is fulfilled by
 -- all of them.
-pub record ReportsAll (request : Request) (T : Words) (ps : List Processor) (before after : Option (List ℕ)) (outcome : Outcome) : Type 0 where
+pub record ReportsAll (request : Request) (T : Words) (ps : List Processor) (before after : Option (List ℕ))
+    (outcome : Outcome) : Type 0 where
   pub text : Appends before after (all_reports request T ps)
   pub complete : outcome.is_complete ≡ all_complete request T ps
 
 -- The result and the output of a run that reports on the tables of all processors. It fails for its request or its file without
 -- writing anything, for a read only if reads may fail, and for a write only if its writers may refuse one.
-abbrev pub RunsOnProcessors : (may_fail may_refuse : Bool) → Request → (file : List ℕ) → (before after : Option (List ℕ)) → Result Outcome Failure → Type 0
+abbrev pub RunsOnProcessors : (may_fail may_refuse : Bool) → Request → (file : List ℕ)
+    → (before after : Option (List ℕ)) → Result Outcome Failure → Type 0
 RunsOnProcessors may_fail may_refuse request file before after (Ok outcome) =
-    (m : DumpedMachine) × (machine_for request file ≡ Ok m) × ReportsAll request (words_of_dump m.dump) m.processors before after outcome
+    (m : DumpedMachine) × (machine_for request file ≡ Ok m)
+    × ReportsAll request (words_of_dump m.dump) m.processors before after outcome
 RunsOnProcessors may_fail may_refuse request file before after (Err failure) =
-    FailsBy may_fail may_refuse failure (machine_for request file) × (MayBeForced may_fail may_refuse failure ⊎ (after ≡ before))
+    FailsBy may_fail may_refuse failure (machine_for request file)
+    × (MayBeForced may_fail may_refuse failure ⊎ (after ≡ before))
 
 -- The report of `info` on a dump: what the dump says of its machine, and which root other commands take for the request.
 abbrev pub info_of : Request → Contents → List ℕ
@@ -291,15 +315,19 @@ info_of request dump = info_in request.form (unwrap_or request.cpu 0) dump (star
 
 -- The result and the output of a run that reports on a dump alone, without tables. It fails for its request or its file without
 -- writing anything, for a read only if reads may fail, and for a write only if its writers may refuse one.
-abbrev pub RunsOnDump : (may_fail may_refuse : Bool) → Request → (file : List ℕ) → (before after : Option (List ℕ)) → Result Outcome Failure → Type 0
+abbrev pub RunsOnDump : (may_fail may_refuse : Bool) → Request → (file : List ℕ)
+    → (before after : Option (List ℕ)) → Result Outcome Failure → Type 0
 RunsOnDump may_fail may_refuse request file before after (Ok outcome) =
-    (dump : Contents) × (dump_for request file ≡ Ok dump) × Appends before after (info_of request dump) × (outcome.is_complete ≡ true)
+    (dump : Contents) × (dump_for request file ≡ Ok dump) × Appends before after (info_of request dump)
+    × (outcome.is_complete ≡ true)
 RunsOnDump may_fail may_refuse request file before after (Err failure) =
-    FailsBy may_fail may_refuse failure (dump_for request file) × (MayBeForced may_fail may_refuse failure ⊎ (after ≡ before))
+    FailsBy may_fail may_refuse failure (dump_for request file)
+    × (MayBeForced may_fail may_refuse failure ⊎ (after ≡ before))
 
 -- The result and the output of a run that reports on a dump alone if `info` is true, and otherwise on the tables of all processors
 -- if `all` is true, or on those below one root.
-abbrev pub RunsAs : (info all may_fail may_refuse : Bool) → Request → (file : List ℕ) → (before after : Option (List ℕ)) → Result Outcome Failure → Type 0
+abbrev pub RunsAs : (info all may_fail may_refuse : Bool) → Request → (file : List ℕ)
+    → (before after : Option (List ℕ)) → Result Outcome Failure → Type 0
 RunsAs true all = RunsOnDump
 RunsAs false true = RunsOnProcessors
 RunsAs false false = RunsOnTables
@@ -307,14 +335,17 @@ RunsAs false false = RunsOnTables
 -- The result and the output of a run on a file for a request. `before` is what the output had before the run, and `after` what it
 -- has after it. It fails for its request or its file without writing anything, for a read only if reads may fail, and for a write
 -- only if its writers may refuse one.
-abbrev pub Runs : (may_fail may_refuse : Bool) → Request → (file : List ℕ) → (before after : Option (List ℕ)) → Result Outcome Failure → Type 0
-Runs may_fail may_refuse request = RunsAs (is_info request.command) (is_of_processors request) may_fail may_refuse request
+abbrev pub Runs : (may_fail may_refuse : Bool) → Request → (file : List ℕ) → (before after : Option (List ℕ))
+    → Result Outcome Failure → Type 0
+Runs may_fail may_refuse request =
+    RunsAs (is_info request.command) (is_of_processors request) may_fail may_refuse request
 
 -- ---- standard error, and the progress
 
 -- The text that a file is read as raw memory, with the first and the last physical address of its bytes.
 abbrev pub raw_range_text : (first last : ℕ) → List ℕ
-raw_range_text first last = codes "the file is read as raw memory: " ++ hexadecimal first ++ codes "-" ++ hexadecimal last
+raw_range_text first last =
+    codes "the file is read as raw memory: " ++ hexadecimal first ++ codes "-" ++ hexadecimal last
 
 -- The text that a file is read as raw memory, with the physical addresses of a segment of it, or that it is empty.
 abbrev pub raw_text : Segment → List ℕ
@@ -329,11 +360,14 @@ short_text dump = if is_short (length dump.file) dump.segments
 -- The lines that the file of a dump is raw and where its bytes lie in physical memory, or the line that it is shorter than its
 -- headers say. There are none if it is neither.
 abbrev pub file_text : Contents → List ℕ
-file_text dump = if is_raw dump.format then flat_map (λ segment. line (raw_text segment)) dump.segments else short_text dump
+file_text dump =
+    if is_raw dump.format then flat_map (λ segment. line (raw_text segment)) dump.segments
+    else short_text dump
 
 -- A line for each of the texts of VMCOREINFO in memory, if they describe different kernels, or else nothing.
 abbrev pub differing_text : List KernelText → List ℕ
-differing_text texts = if is_err (agreed_text texts) then flat_map (λ text. line (text_told text)) texts else []
+differing_text texts =
+    if is_err (agreed_text texts) then flat_map (λ text. line (text_told text)) texts else []
 
 -- The first lines on standard error: that the file is raw, or shorter than its headers say, and the texts of VMCOREINFO in memory
 -- if they differ.
@@ -344,7 +378,9 @@ opening_text dump = file_text dump ++ differing_text dump.texts
 -- elsewhere.
 abbrev pub source_text : Origin → List ℕ
 source_text ByKernel = line (codes "the root is the kernel's own, as the note VMCOREINFO says")
-source_text (ByText offset) = line (codes "the root is the kernel's own, as VMCOREINFO at byte " ++ decimal offset ++ codes " of the file says")
+source_text (ByText offset) =
+    line (codes "the root is the kernel's own, as VMCOREINFO at byte " ++ decimal offset
+    ++ codes " of the file says")
 source_text origin = []
 
 -- Whether a command writes an image. Standard error then also has a report on it, which no specification describes.
@@ -356,14 +392,19 @@ is_image command = false
 -- lists what is mapped, and the totals of the tables.
 abbrev pub EndsByTotals : Command → (L : ℕ) → Words → (root : ℕ) → (before after : Option (List ℕ)) → Type 0
 EndsByTotals command L T root before after =
-    (totals : Totals) × AreTotals L T root totals × Appends before after (reserved_note command L T root ++ line (totals_text totals))
+    (totals : Totals) × AreTotals L T root totals
+    × Appends before after (reserved_note command L T root ++ line (totals_text totals))
 
 -- What a run on tables below one root wrote to standard error: that the file is raw or short, that the root is the kernel's, that a
 -- note says another number of levels than the request, how many words have reserved bits, and the totals of the tables.
 abbrev pub NotesOnTables : Request → (file : List ℕ) → (before after : Option (List ℕ)) → Type 0
-NotesOnTables request file before after = (o : Opened) × (between : Option (List ℕ)) × (opened_for request file ≡ Ok o)
-    × Appends before between (opening_text o.dump ++ source_text o.start.origin ++ noted_levels_text request.levels o.start.noted_levels)
-    × EndsByTotals request.command (level_count o.start.levels) (words_of_dump o.dump) o.start.root between after
+NotesOnTables request file before after =
+    (o : Opened) × (between : Option (List ℕ)) × (opened_for request file ≡ Ok o)
+    × Appends before between
+    (opening_text o.dump ++ source_text o.start.origin
+    ++ noted_levels_text request.levels o.start.noted_levels)
+    × EndsByTotals request.command (level_count o.start.levels)
+    (words_of_dump o.dump) o.start.root between after
 
 -- The last lines on standard error were written for the tables of a processor: how many words have reserved bits, if there are any
 -- and the command lists what is mapped, and the totals of the tables.
@@ -373,14 +414,17 @@ EndsByTotalsOf command T p = EndsByTotals command (level_count p.start.levels) T
 -- What a run on the tables of all processors wrote to standard error: that the file is raw or short, which processors have no
 -- tables, and for each root how many words have reserved bits, and the totals of its tables.
 abbrev pub NotesOnProcessors : Request → (file : List ℕ) → (before after : Option (List ℕ)) → Type 0
-NotesOnProcessors request file before after = (m : DumpedMachine) × (between : Option (List ℕ)) × (machine_for request file ≡ Ok m)
-    × Appends before between (opening_text m.dump ++ left_out_text m.processors) × InTurn (EndsByTotalsOf request.command (words_of_dump m.dump)) (firsts_of m.processors) between after
+NotesOnProcessors request file before after =
+    (m : DumpedMachine) × (between : Option (List ℕ)) × (machine_for request file ≡ Ok m)
+    × Appends before between (opening_text m.dump ++ left_out_text m.processors)
+    × InTurn (EndsByTotalsOf request.command (words_of_dump m.dump)) (firsts_of m.processors) between after
 
 -- What a run wrote to standard error. If `info` is true, it is about the dump alone, and says that the file is raw or short, and
 -- which texts of VMCOREINFO differ. Otherwise it is about the tables of all processors if `all` is true, or about those below one
 -- root.
 abbrev pub NotesAs : (info all : Bool) → Request → (file : List ℕ) → (before after : Option (List ℕ)) → Type 0
-NotesAs true all request file before after = (dump : Contents) × (dump_for request file ≡ Ok dump) × Appends before after (opening_text dump)
+NotesAs true all request file before after =
+    (dump : Contents) × (dump_for request file ≡ Ok dump) × Appends before after (opening_text dump)
 NotesAs false true request file before after = NotesOnProcessors request file before after
 NotesAs false false request file before after = NotesOnTables request file before after
 
@@ -390,33 +434,43 @@ StderrIs request = NotesAs (is_info request.command) (is_of_processors request) 
 
 -- The observer of a run's progress was told of each table that a root leads to, by the numbers from 1 up to their count, and then
 -- that there are no more.
-abbrev pub ToldOfTables : {G : Type 0} (Told : G → G → List ℕ → Type 0) (Ended : G → G → Type 0) → (L : ℕ) → Words → (root : ℕ) → (before after : G) → Type 0
-ToldOfTables {G} Told Ended L T root before after = (count : ℕ) × (between : G) × IsTableCount L T root count × Told before between (up_to count) × Ended between after
+abbrev pub ToldOfTables : {G : Type 0} (Told : G → G → List ℕ → Type 0) (Ended : G → G → Type 0) → (L : ℕ)
+    → Words → (root : ℕ) → (before after : G) → Type 0
+ToldOfTables {G} Told Ended L T root before after =
+    (count : ℕ) × (between : G) × IsTableCount L T root count × Told before between (up_to count)
+    × Ended between after
 
 -- The observer of a run's progress was told of each table that the root of a processor leads to, by the numbers from 1 up to their
 -- count, and then that there are no more.
-abbrev pub ToldOfTablesOf : {G : Type 0} (Told : G → G → List ℕ → Type 0) (Ended : G → G → Type 0) → Words → Processor → (before after : G) → Type 0
+abbrev pub ToldOfTablesOf : {G : Type 0} (Told : G → G → List ℕ → Type 0) (Ended : G → G → Type 0) → Words
+    → Processor → (before after : G) → Type 0
 ToldOfTablesOf Told Ended T p = ToldOfTables Told Ended (level_count p.start.levels) T p.start.root
 
 -- The observer of a run's progress was told of the tables of the run: of none if `info` is true, and otherwise of those of each
 -- root of the processors in turn if `all` is true, or of those below one root.
-abbrev pub ToldAs : {G : Type 0} (info all : Bool) (Told : G → G → List ℕ → Type 0) (Ended : G → G → Type 0) → Request → (file : List ℕ) → (before after : G) → Type 0
+abbrev pub ToldAs : {G : Type 0} (info all : Bool) (Told : G → G → List ℕ → Type 0) (Ended : G → G → Type 0)
+    → Request → (file : List ℕ) → (before after : G) → Type 0
 ToldAs true all Told Ended request file before after = after ≡ before
-ToldAs false true Told Ended request file before after = (m : DumpedMachine) × (machine_for request file ≡ Ok m)
+ToldAs false true Told Ended request file before after =
+    (m : DumpedMachine) × (machine_for request file ≡ Ok m)
     × InTurn (ToldOfTablesOf Told Ended (words_of_dump m.dump)) (firsts_of m.processors) before after
 ToldAs false false Told Ended request file before after = (o : Opened) × (opened_for request file ≡ Ok o)
     × ToldOfTables Told Ended (level_count o.start.levels) (words_of_dump o.dump) o.start.root before after
 
 -- The observer of a run's progress was told of each table that is read for the request on a file, of which there are none if the
 -- command is about the dump alone.
-abbrev pub ToldOfRun : {G : Type 0} (Told : G → G → List ℕ → Type 0) (Ended : G → G → Type 0) → Request → (file : List ℕ) → (before after : G) → Type 0
+abbrev pub ToldOfRun : {G : Type 0} (Told : G → G → List ℕ → Type 0) (Ended : G → G → Type 0) → Request
+    → (file : List ℕ) → (before after : G) → Type 0
 ToldOfRun Told Ended request = ToldAs (is_info request.command) (is_of_processors request) Told Ended request
 
 -- An observer of progress was told the numbers from 1 up to a count, and then that there are no more.
-abbrev pub ToldUpTo : {G : Type 0} (Told : G → G → List ℕ → Type 0) (Ended : G → G → Type 0) → (count : ℕ) → (before after : G) → Type 0
-ToldUpTo {G} Told Ended count before after = (between : G) × Told before between (up_to count) × Ended between after
+abbrev pub ToldUpTo : {G : Type 0} (Told : G → G → List ℕ → Type 0) (Ended : G → G → Type 0) → (count : ℕ)
+    → (before after : G) → Type 0
+ToldUpTo {G} Told Ended count before after =
+    (between : G) × Told before between (up_to count) × Ended between after
 
 -- An observer of progress was told, for each of some counts in turn, the numbers from 1 up to the count and then that there are no
 -- more. There may be no counts, so that it was told nothing.
-abbrev pub ToldInTurn : {G : Type 0} (Told : G → G → List ℕ → Type 0) (Ended : G → G → Type 0) → (before after : G) → Type 0
+abbrev pub ToldInTurn : {G : Type 0} (Told : G → G → List ℕ → Type 0) (Ended : G → G → Type 0)
+    → (before after : G) → Type 0
 ToldInTurn Told Ended before after = (counts : List ℕ) × InTurn (ToldUpTo Told Ended) counts before after

@@ -1,18 +1,18 @@
 -- Walks: the words that the page walk to a position reads, one below the other, and how it ends. The position of an address is
 -- its number counted without the gap of non-canonical addresses. Intel SDM vol. 3A, "Linear-Address Translation with 4-Level
 -- Paging and 5-Level Paging"; AMD APM vol. 2, "Long-Mode Page Translation".
-use Rattle.std.specs.Prelude.{zero, suc, ℕ, ◌+◌, ◌%◌, ◌++◌, ◌&&◌, Bool, cond, if◌then◌else◌, List, [], ◌∷◌, map, Option, None, codes, decimal}
-use Rattle.std.specs.List.{flat_map}
-use Rattle.std.specs.Option.{option_map_or}
+use Rattle.std.specs.Prelude.{ℕ, ◌+◌, ◌%◌, ◌++◌, ◌&&◌, Bool, cond, if◌then◌else◌, List, [], ◌∷◌, map, Option, Some, None, codes, decimal}
+use Rattle.std.specs.List.{flat_map, last_or}
 use Rattle.x86_64_access.specs.Accesses.{controls_of}
 use Rattle.x86_64_access.specs.declared.controls.Controls.{Controls}
-use Rattle.x86_64_mappings.specs.Numbers.{hexadecimal}
+use Rattle.text.specs.Numbers.{hexadecimal}
 use Rattle.x86_64_model.specs.Access.{reserved}
 use Rattle.x86_64_model.specs.Entry.{present, huge, address}
 use Rattle.x86_64_model.specs.Mappings.{Rights, maps_page, rights_of}
 use Rattle.x86_64_model.specs.Memory.{Words}
-use Rattle.x86_64_model.specs.PageWalk.{Walked, arrives, page_start, read}
-use Rattle.x86_64_model.specs.Position.{index, span}
+use Rattle.x86_64_model.specs.PageWalk.{Walked, arrives, page_start}
+use Rattle.x86_64_model.specs.Position.{span}
+use Rattle.x86_64_model.specs.Steps.{Step, steps}
 use Rattle.ptdump_check.specs.FindingTexts.{rights_at_text}
 use Rattle.ptdump_engine.specs.declared.word_read.WordRead.{WordRead}
 
@@ -29,32 +29,20 @@ pub record Walk : Type 0 where
   pub words : List WordRead
   pub end : End
 
--- The walk that reads no word and has this end.
-abbrev pub walk_ends : End → Walk
-walk_ends end = record { words = []; end = end }
-
--- The walk that reads a word first, and goes on as another walk does.
-abbrev pub after_word : WordRead → Walk → Walk
-after_word word walk = record { words = word ∷ walk.words; end = walk.end }
-
--- The rest of a walk to position p after a word of a level, if `below` is the walk in the table that the word names.
-abbrev pub behind : (p level word : ℕ) → (below : Walk) → Walk
-behind p level e below = cond (present e)
-    (cond (maps_page level e) (walk_ends (arrives_at (page_start level e + p % span level) (span level)))
-    (cond (huge e) (walk_ends (huge_page level)) below))
-    (walk_ends not_present)
-
--- The rest of the walk to position p from the table of a level in a frame.
-unfoldable pub walk_words_from : Words → (p level frame : ℕ) → Walk
-walk_words_from T p zero frame = walk_ends not_present
-walk_words_from T p (suc n) frame = let level = suc n in option_map_or
-    (λ e. after_word (record { level = level; table = frame; index = index level p; word = e }) (behind p level e (walk_words_from T p n (address e))))
-    (read T frame (index level p))
-    (walk_ends (no_table frame))
+-- The end of a walk to position p from a root, by the last word that it reads. If it reads none, the root's table is missing.
+abbrev pub walk_end : (p root : ℕ) → Option Step → End
+walk_end p root None = no_table root
+walk_end p root (Some s) = cond (present s.word)
+    (cond (maps_page s.level s.word) (arrives_at (page_start s.level s.word + p % span s.level) (span s.level))
+    (cond (huge s.word) (huge_page s.level) (no_table (address s.word))))
+    not_present
 
 -- The walk to position p from a root, with L levels of tables.
-abbrev pub walk_of : (L : ℕ) → Words → (root p : ℕ) → Walk
-walk_of L T root p = walk_words_from T p L root
+unfoldable pub walk_of : (L : ℕ) → Words → (root p : ℕ) → Walk
+walk_of L T root p = let read = steps T p L root in record {
+  words = map (λ s. record { level = s.level; table = s.frame; index = s.index; word = s.word }) read;
+  end = walk_end p root (last_or None read);
+}
 
 -- The rights that all words of a walk allow.
 abbrev pub walk_rights : Walk → Rights
@@ -77,7 +65,9 @@ line text = text ++ 10 ∷ []
 
 -- The text "level L 0xTABLE[INDEX]" of the place of a word.
 unfoldable pub word_place_text : WordRead → List ℕ
-word_place_text w = codes "level " ++ decimal w.level ++ codes " " ++ hexadecimal w.table ++ codes "[" ++ decimal w.index ++ codes "]"
+word_place_text w =
+    codes "level " ++ decimal w.level ++ codes " " ++ hexadecimal w.table ++ codes "[" ++ decimal w.index
+    ++ codes "]"
 
 -- The text "level L 0xTABLE[INDEX] 0xWORD" of a word.
 abbrev pub word_text : WordRead → List ℕ
@@ -89,7 +79,9 @@ faults_at c w = present w.word && reserved (controls_of c) w.level w.word
 
 -- The line of a word, and another one if a processor with these controls faults there.
 unfoldable pub word_lines : Controls → WordRead → List ℕ
-word_lines c w = line (word_text w) ++ (if faults_at c w then line (codes "reserved bits: a processor faults here") else [])
+word_lines c w =
+    line (word_text w) ++
+    (if faults_at c w then line (codes "reserved bits: a processor faults here") else [])
 
 -- The text "table 0xFRAME is not in the dump".
 abbrev pub missing_text : (frame : ℕ) → List ℕ

@@ -6,8 +6,8 @@ use crate::columns::{NumberColumn, SizeColumn};
 use crate::names::write_names;
 use bitflags::Flags;
 use std::fmt::{Formatter, Result as FmtResult, Write};
+use text::write_hexadecimal;
 use x86_64_addr::level_count::LevelCount;
-use x86_64_mappings::text::write_hexadecimal;
 use x86_64_mappings::{MappingIn, RegionIn};
 use x86_64_tables::page_table::Rights;
 
@@ -61,7 +61,8 @@ fn write_place_columns<W: Write>(
     frame: u64,
     rights: Rights,
 ) -> FmtResult
-    ensures { WritesOnOk W.write_str_gives f.old result (columns.place_columns start size frame rights) f.new }
+    ensures { WritesOnOk W.write_str_gives f.old result
+        (columns.place_columns start size frame rights) f.new }
 {
     let start = NumberColumn {
         number: start,

@@ -1,7 +1,7 @@
 //! Explanations of walks that arrive: how large the page is, and which words take rights away.
 ghost use Rattle.std.specs.Prelude.{◌++◌, Some, codes, if◌then◌else◌, [], OnOk};
 ghost use Rattle.std.specs.List.{flat_map};
-ghost use Rattle.x86_64_mappings.specs.Texts.{size_text};
+ghost use Rattle.text.specs.Sizes.{size_text};
 ghost use Rattle.ptdump_engine.specs.Explanations as explanations;
 ghost use Rattle.ptdump_engine.specs.Output.{Puts};
 ghost use Rattle.ptdump_engine.specs.private.Walked.{end_said};
@@ -11,7 +11,7 @@ use crate::output::{Output, OutputError};
 use crate::walked::{Walk, WalkEnd};
 use crate::word_read::{Place, WordRead};
 use std::fmt::{Display, Formatter, Result as FmtResult, Write};
-use x86_64_mappings::text::write_size;
+use text::write_size;
 use x86_64_tables::page_table::{PageTableEntry, PageTableFlags, has_flag};
 
 /// Writes the explanation of a walk, if it is asked for and the walk arrives.

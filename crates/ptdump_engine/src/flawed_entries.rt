@@ -19,6 +19,8 @@ pub const PROCESSOR: Controls = Controls {
     smap: true,
     ac: false,
     physical_bits: 52,
+    no_1gib_pages: false,
+    global_reserved: false,
 };
 
 /// Writes a line for each entry of the tables that has `PRESENT` and a flaw.

@@ -101,7 +101,8 @@ fn flags_of(is_large: bool) -> [Flag; 11]
 
 /// Writes the names of the flags that are set in a word, with commas between them.
 fn write_set<W: Write>(f: &mut Formatter<W>, word: u64, flags: &[Flag]) -> FmtResult
-    ensures { WritesOnOk W.write_str_gives f.old result (names.set_text word (map named_flag flags.now)) f.new }
+    ensures { WritesOnOk W.write_str_gives f.old result
+        (names.set_text word (map named_flag flags.now)) f.new }
 {
     let mut separator = "";
     for flag in flags {

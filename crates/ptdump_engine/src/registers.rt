@@ -9,9 +9,9 @@ ghost use Rattle.ptdump_engine.specs.Start as starts;
 use crate::mode::Mode;
 use crate::start::levels_by;
 use std::fmt::{Display, Formatter, Result as FmtResult, Write};
+use text::write_hexadecimal;
 use x86_64_addr::level_count::Levels;
 use x86_64_dump::{ByteSource, Dump, DumpError, Note};
-use x86_64_mappings::text::write_hexadecimal;
 
 /// The control registers of a processor that say how it pages.
 #[derive(Clone, Copy)]

@@ -70,7 +70,8 @@ pub fn write_pages<L: LevelCount, O: Lines>(
 ) -> Result<(), O::Error>
     requires { IsLoadedDump loaded.now }
     ensures { OnOk result (O.puts output.old output.new (reports.pages_text selection
-        listing.has_names form listing.columns listing.layout L.LEVELS (words_loaded loaded.now) loaded.now.root)) }
+        listing.has_names form listing.columns listing.layout L.LEVELS (words_loaded loaded.now)
+        loaded.now.root)) }
 {
     let mut lines = CountedLines::new(alloc, form, output);
     tell_mappings::<L, Listing, CountedLines<'_, O>>(loaded, selection, listing, &mut lines)?;

@@ -112,9 +112,9 @@ fn walk_on(
     requires low { 1 ≤ level }
     requires high { level ≤ 5 }
     ensures words { OnOk result (words.new.items ≡ words.old.items ++
-        (walks.walk_words_from (words_of memory.now identity_places) position level frame).words) }
+        (walks.walk_of level (words_of memory.now identity_places) frame position).words) }
     ensures end { IfOk result (λ end. end ≡ end_with above
-        (walks.walk_words_from (words_of memory.now identity_places) position level frame)) }
+        (walks.walk_of level (words_of memory.now identity_places) frame position)) }
 {
     let Some(table) = table_in(memory, &IdentityMapping, frame) else {
         return Ok(WalkEnd::MissingTable(frame));

@@ -2,7 +2,7 @@
 ghost use Rattle.std.specs.Prelude.{Some};
 
 use std::fmt::{Display, Formatter, Result as FmtResult, Write};
-use x86_64_mappings::text::write_hexadecimal;
+use text::write_hexadecimal;
 use x86_64_page::frame::PhysFrame;
 use x86_64_page::page::Size4KiB;
 

@@ -1,3 +1,4 @@
 pub mod Colours
 pub mod Links
-pub mod Sizes
+pub mod ShortSizes
+pub use Rattle.text.specs.Sizes

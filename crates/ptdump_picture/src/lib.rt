@@ -1,5 +1,5 @@
-//! A picture of what page tables map: an SVG image, 1,000 pixels wide, with a bar for each half of the address space, and with
-//! the tables as a tree by level.
+//! A picture of what page tables map: an SVG image with a bar for each half of the address space, and the tables as a tree by
+//! level. It is 1,000 pixels wide.
 #![tactic(auto)]
 
 mod area;

@@ -1,9 +1,7 @@
 //! Sizes and counts as texts.
-ghost use Rattle.std.specs.Prelude.{◌≡◌, ◌<◌, ◌≤◌};
-ghost use Rattle.ptdump_picture.specs.Sizes.{unit_of};
 
 use std::fmt::{Display, Formatter, Result as FmtResult, Write};
-use x86_64_mappings::text::write_size;
+use text::{SizeUnit, unit_of, write_size};
 
 /// A number of bytes, written in the largest of KiB, MiB, GiB and TiB that isn't larger. If the unit doesn't divide it, it has
 /// one decimal place, rounded down, unless it is 1000 units or more.
@@ -12,13 +10,13 @@ pub struct ShortSize(pub u64);
 
 impl Display for ShortSize {
     ghost use Rattle.std.specs.Prelude.{Some};
-    ghost use Rattle.ptdump_picture.specs.Sizes.{short_size};
+    ghost use Rattle.ptdump_picture.specs.ShortSizes.{short_size};
 
     ghost output = { λ size. Some (short_size size.0) };
 
     fn fmt<W: Write>(&self, f: &mut Formatter<W>) -> FmtResult {
         let ShortSize(bytes) = *self;
-        let (unit, name) = unit_of(bytes);
+        let SizeUnit { bytes: unit, name } = unit_of(bytes);
         let whole = bytes / unit;
         let rest = bytes % unit;
         if rest == 0 || whole >= 1000 {
@@ -27,24 +25,6 @@ impl Display for ShortSize {
             let tenths = rest * 10 / unit;
             write!(f, "{whole}.{tenths}{name}")
         }
-    }
-}
-
-/// Returns the largest of KiB, MiB, GiB and TiB that is at most a number of bytes, and its name, or KiB if there is none.
-fn unit_of(bytes: u64) -> (u64, &'static str)
-    ensures bytes { result.0 ≡ (unit_of bytes).bytes }
-    ensures name { result.1.now ≡ (unit_of bytes).name }
-    ensures some { 0 < result.0 }
-    ensures low { result.0 ≤ 0x100_0000_0000 }
-{
-    if bytes >= 1 << 40 {
-        (1 << 40, "TiB")
-    } else if bytes >= 1 << 30 {
-        (1 << 30, "GiB")
-    } else if bytes >= 1 << 20 {
-        (1 << 20, "MiB")
-    } else {
-        (1 << 10, "KiB")
     }
 }
 

@@ -19,7 +19,8 @@ fn run_in_turn<T: TableMemory>(
     calls: (&[Call], &[Call]),
     replies: &mut Vec<Reply>,
 ) -> Result<(), AllocError>
-    requires { AreTwoRoots roots.0 roots.1 (T.tables memory.old) (serves_below pool.old.limit) pool.old.frames }
+    requires { AreTwoRoots roots.0 roots.1 (T.tables memory.old)
+        (serves_below pool.old.limit) pool.old.frames }
     ensures again { AreTwoRoots roots.0 roots.1 (T.tables memory.new)
         (serves_below pool.new.limit) pool.new.frames }
     ensures lent { T.lent memory.new ≡ T.lent memory.old }
@@ -63,8 +64,10 @@ fn map_in_both<T: TableMemory>(
     pool: &mut FramePool,
     given: (u64, u64),
 )
-    requires { AreTwoRoots roots.0 roots.1 (T.tables memory.old) (serves_below pool.old.limit) pool.old.frames }
-    ensures { AreTwoRoots roots.0 roots.1 (T.tables memory.new) (serves_below pool.new.limit) pool.new.frames }
+    requires { AreTwoRoots roots.0 roots.1 (T.tables memory.old)
+        (serves_below pool.old.limit) pool.old.frames }
+    ensures { AreTwoRoots roots.0 roots.1 (T.tables memory.new)
+        (serves_below pool.new.limit) pool.new.frames }
 {
     let (mut replies, (page, to)) = (Vec::new(rt.alloc()), given);
     let (calls, others) = ([map(page, to)], [map(page, to | 0x1000)]);

@@ -183,8 +183,8 @@ impl PlainMachine {
     /// `AllocError` if memory allocation fails. The state is then unspecified.
     pub fn step(&self, state: &mut PlainState, call: &PlainCall) -> Result<PlainReply, AllocError>
         requires { self.now.levels ≤ 5 }
-        ensures { let expected = step_of (plain_machine self.now) (plain_state state.old) (plain_call call.now) in
-            IfOk result (λ reply. plain_outcome state.new reply ≡ expected) }
+        ensures { let expected = step_of (plain_machine self.now) (plain_state state.old)
+            (plain_call call.now) in IfOk result (λ reply. plain_outcome state.new reply ≡ expected) }
     {
         if self.is_allowed(&state.paths, call)? {
             self.do_call(state, call)

@@ -4,8 +4,8 @@ use Rattle.std.proofs.lemmas.Bool.{cases_eq}
 use Rattle.x86_64_mappers.specs.Layouts.{direct}
 use Rattle.x86_64_model.specs.Call as machine
 use Rattle.x86_64_model.specs.Call.{IsCall}
-use Rattle.x86_64_model.specs.Entry.{address, has, present}
-use Rattle.x86_64_model.specs.Flushing.{Due, PageDue, TablesDue, flush_after, if_window}
+use Rattle.x86_64_model.specs.Entry.{address, has, present, global}
+use Rattle.x86_64_model.specs.Flushing.{Due, PageDue, TablesDue, flush_after, if_window, freed_by}
 use Rattle.x86_64_model.specs.Laws.Globals.{GlobalsBelow}
 use Rattle.x86_64_model.specs.Laws.SwitchedSpaces.{space_for, started_in, MaySwitchIn}
 use Rattle.x86_64_model.specs.Layout.{Layout}
@@ -22,7 +22,7 @@ use Rattle.x86_64_model.specs.Refusal.{Done, Refused}
 use Rattle.x86_64_model.specs.Spaces.{is_shared}
 use Rattle.x86_64_model.specs.Store.{Store}
 use Rattle.x86_64_model.specs.Switches.{Switching, is_concerned, is_held}
-use Rattle.x86_64_model.specs.Tags.{Tag, Of, Global, global}
+use Rattle.x86_64_model.specs.Tags.{Tag, Of, Global}
 use Rattle.x86_64_model.specs.Window.{begins_with, entry_at}
 use Rattle.x86_64_model.proofs.Lemmas.Entries.Bits.{has_or, only_flags}
 use Rattle.x86_64_model.proofs.Lemmas.Hierarchies.Memories.{identity_is_mapping}
@@ -54,7 +54,7 @@ own_unmap_call a p low = record {
   avoids = page_avoids p low;
   not_global = tt;
   small = λ q e. let no : None ≡ Some q = e in cc;
-  due = λ reply d i. by reply d i;
+  due = λ freed reply d i. by freed reply d i;
 }
   where
     page : (b : Bool) (f : ℕ) (d : Due) → In (PageDue (path_at 4 1 p) f ∷ cond b [] (if_window None)) d → IsLate (Some a.pcid) (Of a.pcid) d
@@ -62,13 +62,13 @@ own_unmap_call a p low = record {
     page true f d (inr i) = absurd i
     page false f d (inr i) = absurd i
 
-    by : (reply : machine.Reply) (d : Due) → In (flush_after 4 None (machine_call 4 (Of4KiB (Unmap p))) reply) d → IsLate (Some a.pcid) (Of a.pcid) d
-    by (machine.Answered (Done f)) d i = page (is_small 4 (path_at 4 1 p)) f d i
-    by (machine.Answered (Refused why)) d i = absurd i
-    by machine.NotAllowed d i = absurd i
-    by (machine.Position t) d i = absurd i
-    by (machine.Address t) d i = absurd i
-    by machine.Cleaned d i = absurd i
+    by : (freed : List ℕ) (reply : machine.Reply) (d : Due) → In (flush_after 4 None freed (machine_call 4 (Of4KiB (Unmap p))) reply) d → IsLate (Some a.pcid) (Of a.pcid) d
+    by freed (machine.Answered (Done f)) d i = page (is_small 4 (path_at 4 1 p)) f d i
+    by freed (machine.Answered (Refused why)) d i = absurd i
+    by freed machine.NotAllowed d i = absurd i
+    by freed (machine.Position t) d i = absurd i
+    by freed (machine.Address t) d i = absurd i
+    by freed machine.Cleaned d i = absurd i
 
 pub own_map_call : (late : Option ℕ) (a : Process) (p frame given : ℕ) → is_kernels (index 4 p) ≡ false → address frame ≡ frame → global given ≡ false
     → IsOwnCall late a (machine_call 4 (Of4KiB (MapTo p frame given)))
@@ -76,7 +76,7 @@ own_map_call late a p frame given low at_frame plain = record {
   avoids = page_avoids p low;
   not_global = λ off. by (is_small 4 (path_at 4 1 p));
   small = λ q e. let same : path_at 4 1 p ≡ q = cc in subst (λ q. length q ≡ 4) same (path_length p);
-  due = λ reply d i. absurd i;
+  due = λ freed reply d i. absurd i;
 }
   where
     by : (b : Bool) → global (bit_or frame (cond b given (bit_or given 0x80))) ≡ false
@@ -207,7 +207,7 @@ module _ (processes : List Process) (store : Store) (m n : Memory) (rest : List 
         by None e i = absurd i
         by (Some r) e i = ⊎_elim
             (λ same. let its : c ≡ a.pcid = ran.own a ia c (e ∙ ap Some same) in
-            subst (λ c. IsLate late (Of c) d) (sym its) (own.due (step (machine_of (space_of a) store.take_back) (state_in (space_of a) m store.frames) (machine_call 4 call)).reply d (in_cond (r == a.root) new d i)))
+            subst (λ c. IsLate late (Of c) d) (sym its) (own.due (freed_by 4 (state_in (space_of a) m store.frames) (machine_call 4 call)) (step (machine_of (space_of a) store.take_back) (state_in (space_of a) m store.frames) (machine_call 4 call)).reply d (in_cond (r == a.root) new d i)))
             (λ apart. absurd (subst (λ b. In (cond b new []) d) (ne_eqb r a.root apart) i))
             (cases_eq r a.root)
 
@@ -216,7 +216,7 @@ module _ (processes : List Process) (store : Store) (m n : Memory) (rest : List 
       system = with_due new (λ r. r == a.root) false s;
       reached = reached_by_calls (kernel_with store) identity_places identity_is_mapping (lit< tt) gives (λ x y. is_kernels) m n store.frames rest spaces (space_of a) call reply true (λ r. r == a.root) false s
           runs_on ran.reached
-          (λ c i. let x = ran.due (Of c) TablesDue i in let no : TablesDue ≡ PageDue x.path x.frame = x.is_page in absurd (cc))
+          (λ c f d i. let x = ran.due (Of c) (TablesDue d.0) d.1 in let no : TablesDue d.0 ≡ PageDue x.path x.frame = x.is_page in absurd (cc))
           (λ tag q r frame i is. let x = ran.due tag (PageDue q frame) i in let same : q ≡ x.path = cc (x.is_page) in
           not_below q r (ap length same ∙ x.small ∙ sym (own.small r is)));
       loaded = ran.loaded;

@@ -199,7 +199,7 @@ pub record IsOwnCall (late : Option ℕ) (process : Process) (call : Call) : Typ
   pub avoids : Avoids 4 is_kernels call
   pub not_global : GlobalIsShared 4 is_kernels call
   pub small : (q : List ℕ) → mapped_by 4 call ≡ Some q → length q ≡ 4
-  pub due : (reply : machine.Reply) (d : Due) → In (flush_after 4 None call reply) d → IsLate late (Of process.pcid) d
+  pub due : (freed : List ℕ) (reply : machine.Reply) (d : Due) → In (flush_after 4 None freed call reply) d → IsLate late (Of process.pcid) d
 
 -- The processor loaded CR3 for a process, and kept what it had cached with the PCID only if that was of this process.
 pub record SwitchesTo (process : Process) (before now : ProcessorState) : Type 0 where

@@ -109,8 +109,8 @@ pub fn calls_and_flushes<
     C: Processor,
 >(mapper: &mut M, frames: &mut F, processor: &mut C, calls: &[CallIn<L, P5>])
     requires { InUse (M.hierarchy mapper.old) (store_of F.FrameStore frames.old) (C.cached processor.old) }
-    ensures state { LedBy (to_call P5.bits) (M.hierarchy mapper.old) (store_of F.FrameStore frames.old) calls.now
-        (M.hierarchy mapper.new) (F.supply frames.new) }
+    ensures state { LedBy (to_call P5.bits) (M.hierarchy mapper.old) (store_of F.FrameStore frames.old)
+        calls.now (M.hierarchy mapper.new) (F.supply frames.new) }
     ensures again { InUse (M.hierarchy mapper.new) (store_of F.FrameStore frames.new)
         (C.cached processor.new) }
     ensures accesses { AccessesGoIn (M.hierarchy mapper.new) (C.cached processor.new) }

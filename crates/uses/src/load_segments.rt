@@ -19,8 +19,8 @@ pub fn load_program<M: MapperAllSizes>(
     ensures allowed { IfOk result (λ loaded. IsTrue loaded
         ↔ All (IsAllowed (M.hierarchy mapper.old)) segments.now) }
     ensures kept { result ≡ Ok false → (mapper.new ≡ mapper.old) × (pool.new ≡ pool.old) }
-    ensures refused { IfErr result (λ error. LoadIsRefused small_pages (M.hierarchy mapper.old) pool.old.frames
-        segments.now error (M.hierarchy mapper.new) pool.new.frames) }
+    ensures refused { IfErr result (λ error. LoadIsRefused small_pages (M.hierarchy mapper.old)
+        pool.old.frames segments.now error (M.hierarchy mapper.new) pool.new.frames) }
     ensures loaded { IfOk result (λ loaded. IsTrue loaded
         → All (IsLoaded small_pages (M.hierarchy mapper.new)) segments.now) }
 {

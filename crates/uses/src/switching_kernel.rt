@@ -191,8 +191,8 @@ impl<T: TableMemory, C: SwitchingProcessor> Kernel<T, C> {
           first = self.new.first;
           second = self.new.second;
         } }
-        ensures unreached { (frame : ℕ) → FrameIsUnmapped self.new.processes.items (T.tables self.new.memory) frame
-            → IsUnreached (kernel_state T.tables C.state self.new) frame }
+        ensures unreached { (frame : ℕ) → FrameIsUnmapped self.new.processes.items (T.tables self.new.memory)
+            frame → IsUnreached (kernel_state T.tables C.state self.new) frame }
     {
         self.cache();
         self.flush();

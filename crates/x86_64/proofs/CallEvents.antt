@@ -5,7 +5,7 @@ use Rattle.x86_64_model.specs.Lists.{In}
 use Rattle.x86_64_model.specs.Machine.{Machine, State}
 use Rattle.x86_64_model.specs.Hierarchy.{◌laid_in◌, machine_of, state_in, words}
 use Rattle.x86_64_model.specs.Window.{IsValidFor}
-use Rattle.x86_64_model.specs.Laws.Caches.{freed_by}
+use Rattle.x86_64_model.specs.Flushing.{freed_by}
 use Rattle.x86_64.specs.CallEvents.{RunCallsAreEvents}
 use Rattle.x86_64.specs.FreeFrames.{back_by}
 

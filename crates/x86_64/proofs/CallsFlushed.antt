@@ -3,7 +3,7 @@ use Rattle.std.proofs.Common.{zero, suc, inl, inr, ◌≡◌, ◌++◌, ℕ, Boo
 use Rattle.std.proofs.lemmas.Bool.{and_from}
 use Rattle.std.proofs.lemmas.List.{append-nil}
 use Rattle.x86_64_model.specs.Call as machine
-use Rattle.x86_64_model.specs.Flushing.{Due, PageDue, TablesDue, WindowDue, BelowDue, flush_after, if_accepted, if_allowed, if_window, below_due}
+use Rattle.x86_64_model.specs.Flushing.{Due, PageDue, TablesDue, WindowDue, BelowDue, flush_after, freed_by, if_accepted, if_allowed, if_window, below_due}
 use Rattle.x86_64_model.specs.Lists.{In}
 use Rattle.x86_64_model.specs.Machine.{step}
 use Rattle.x86_64_model.specs.Hierarchy.{machine_of, state_in}
@@ -54,11 +54,11 @@ allowed machine.Cleaned due none q frame i = none q frame i
 
 abbrev page_of_due : Due → List ℕ
 page_of_due (PageDue q frame) = q
-page_of_due TablesDue = []
+page_of_due (TablesDue freed) = []
 page_of_due WindowDue = []
 page_of_due (BelowDue q) = []
 
-module _ (L : ℕ) (window : Option Window) (r : machine.Reply) where
+module _ (L : ℕ) (window : Option Window) (freed : List ℕ) (r : machine.Reply) where
   accepted : (due : ℕ → List Due) (page : ℕ) → ((f : ℕ) → InPages L (due f) page) → InPages L (if_accepted r due) page
   accepted due page each q frame i = by r i
     where
@@ -74,7 +74,7 @@ module _ (L : ℕ) (window : Option Window) (r : machine.Reply) where
   changed level page f small q frame (inl e) = subst (λ q. begins q (page_path L page) ≡ true) (ap page_of_due e) (begins_taken _ (page_path L page))
   changed level page f small q frame (inr i) = absurd (none_in_window small window q frame i)
 
-  in_page : (level : ℕ) (call : PageCall) → InPages L (flush_after L window (page_call L level call) r) (unwrap_or (page_of L call) 0)
+  in_page : (level : ℕ) (call : PageCall) → InPages L (flush_after L window freed (page_call L level call) r) (unwrap_or (page_of L call) 0)
   in_page level (MapTo page start flags) q frame i = absurd i
   in_page level (MapToWithTableFlags page start flags more) q frame i = absurd (allowed r _ (none_marked _ window _) q frame i)
   in_page level (IdentityMap start flags) q frame i = absurd i
@@ -83,11 +83,11 @@ module _ (L : ℕ) (window : Option Window) (r : machine.Reply) where
   in_page level (SetFlags at page flags) q frame i = accepted _ page (λ f q frame i. absurd (none_below window _ q frame i)) q frame i
   in_page level (TranslatePage page) q frame i = absurd i
 
-  cleaned : NoPage (TablesDue ∷ if_window window)
+  cleaned : NoPage (TablesDue freed ∷ if_window window)
   cleaned q frame (inl e) = cc
   cleaned q frame (inr i) = none_in_window false window q frame i
 
-  in_pages : (call : MapperCall) → InPages L (flush_after L window (machine_call L call) r) (unwrap_or (page_of_call L call) 0)
+  in_pages : (call : MapperCall) → InPages L (flush_after L window freed (machine_call L call) r) (unwrap_or (page_of_call L call) 0)
   in_pages (Of4KiB call) q frame i = in_page 1 call q frame i
   in_pages (Of2MiB call) q frame i = in_page 2 call q frame i
   in_pages (Of1GiB call) q frame i = in_page 3 call q frame i
@@ -96,7 +96,7 @@ module _ (L : ℕ) (window : Option Window) (r : machine.Reply) where
   in_pages CleanUp q frame i = absurd (cleaned q frame i)
   in_pages (CleanUpRange low high) q frame i = absurd (cleaned q frame i)
 
-  pub some_in_pages : (loses : Bool) (call : MapperCall) → InPages L (cond loses (flush_after L window (machine_call L call) r) []) (unwrap_or (page_of_call L call) 0)
+  pub some_in_pages : (loses : Bool) (call : MapperCall) → InPages L (cond loses (flush_after L window freed (machine_call L call) r) []) (unwrap_or (page_of_call L call) 0)
   some_in_pages true call q frame i = in_pages call q frame i
   some_in_pages false call q frame i = absurd i
 
@@ -110,12 +110,13 @@ pub arises_by_flushed_calls : ArisesByFlushedCalls
 arises_by_flushed_calls l take_back serves m n pool rest call reply loses is fits stepped free kept kept_all flush tells before first second after arises early late left =
     let asked = machine_call l.levels call in
     let r = (step (machine_of l take_back) (state_in l m pool) asked).reply in
-    let due = cond loses (flush_after l.levels l.window asked r) [] in
+    let freed = freed_by l.levels (state_in l m pool) asked in
+    let due = cond loses (flush_after l.levels l.window freed asked r) [] in
     let p = unwrap_or (page_of_call l.levels call) 0 in
     let ready = arises_by_caching l take_back serves m pool [] before first arises early in
     let called : IsReachable l take_back serves n rest first (due ++ []) =
-    arises_by_calls l take_back serves m n pool rest first [] asked loses ready is (λ i. absurd i) (λ q r frame i. absurd i) kept_all fits (ap (λ (a : AfterStep Reply). a.state) stepped) free kept in
+    arises_by_calls l take_back serves m n pool rest first [] asked loses ready is (λ f d i. absurd d.1) (λ q r frame i. absurd i) kept_all fits (ap (λ (a : AfterStep Reply). a.state) stepped) free kept in
     let waiting = arises_by_caching l take_back serves n rest due first second (subst (λ due. IsReachable l take_back serves n rest first due) (append-nil due) called) late in
-    let is_told : flush ≡ flush_for due = tells l.window r refl (ap (λ (a : AfterStep Reply). a.reply) stepped) in
-    subst (λ due. IsReachable l take_back serves n rest after due) (none_left (settles_any l.levels (executed (flush_for due) p)) due ((flushes_settle l.levels due p).settled (some_in_pages l.levels l.window r loses call)))
+    let is_told : flush ≡ flush_for due = tells l.window freed r refl (ap (λ (a : AfterStep Reply). a.reply) stepped) in
+    subst (λ due. IsReachable l take_back serves n rest after due) (none_left (settles_any l.levels (executed (flush_for due) p)) due ((flushes_settle l.levels due p).settled (some_in_pages l.levels l.window freed r loses call)))
     (arises_by_flushes l take_back serves n rest due (executed (flush_for due) p) second after waiting (rw is_told at left))

@@ -1,57 +1,26 @@
 -- What has to be flushed after an exchange is told by both words.
-use Rattle.std.proofs.Common.{◌≤◌, nat_lt, cond, List, [], ◌∷◌, length, Option, Some, None, option_map, ◌≡◌, ◌*◌, ◌==◌, ◌&&◌, ◌||◌, ℕ, Bool, true, false, not, refl, sym, ap, ◌∙◌, true≢false, eq-eqb, arith, bit_and, ⊎_elim}
-use Rattle.std.specs.Int.{bit_at}
+use Rattle.std.proofs.Common.{◌≤◌, nat_lt, cond, List, [], ◌∷◌, length, Option, Some, None, option_map, ◌≡◌, ◌↔◌, ◌==◌, ◌&&◌, ◌||◌, ℕ, Bool, true, false, not, refl, sym, ap, ◌∙◌, true≢false, arith, ⊎_elim}
 use Rattle.std.specs.Option.{is_some}
-use Rattle.std.proofs.lemmas.Bool.{and_parts, and_from, not-false, cases_Bool}
-use Rattle.std.proofs.lemmas.Nat.Bits.{and_pow}
-use Rattle.x86_64_model.specs.Entry.{has, used, present, huge, user, address}
-use Rattle.x86_64_model.specs.Flushing.{LosesNothing, Due, PageDue, implies, loses_between, due_between, below_due, if_window}
+use Rattle.std.proofs.lemmas.Bool.{cases_Bool}
+use Rattle.x86_64_model.specs.Entry.{used, present, huge, user, address}
+use Rattle.x86_64_model.specs.Flushing.{LosesNothing, Due, PageDue, loses_between, due_between, below_due, if_window}
 use Rattle.x86_64_model.specs.Path.{level_of}
 use Rattle.x86_64_model.specs.Window.{Window}
 use Rattle.x86_64_model.proofs.Lemmas.Entries.Bits.{used_present}
-use Rattle.x86_64_model.proofs.Lemmas.Caches.Exchanged.{told_nothing}
+use Rattle.x86_64_model.proofs.Lemmas.Caches.Exchanged.{words_tell_losses}
 use Rattle.x86_64.proofs.FlushesTold.{is_some_index}
 use Rattle.x86_64.specs.FlushesDue.{flush_for}
 use Rattle.x86_64.specs.declared.flushing.Flush.{Flush}
 use Rattle.x86_64.specs.declared.flushing.Flush.TheVariants.{Nothing, Page, Everything}
 
--- words that agree in whether they have HUGE_PAGE have equal bits there
-same_bit : (e f : ℕ) → huge f ≡ huge e → bit_and f 0x80 ≡ bit_and e 0x80
-unfolding has
-same_bit e f same =
-    let of_e : bit_and e 0x80 ≡ bit_at e 7 * 0x80 = and_pow e 7 in
-    let of_f : bit_and f 0x80 ≡ bit_at f 7 * 0x80 = and_pow f 7 in
-    grind (arith, same, of_e, of_f)
-
-implied : (a b : Bool) → (a ≡ true → b ≡ true) → implies a b ≡ true
-implied true b h = h refl
-implied false b h = refl
-
-implied_not : (a b : Bool) → (a ≡ false → b ≡ false) → implies b a ≡ true
-implied_not a true h = by a h
-  where
-    by : (a : Bool) → (a ≡ false → true ≡ false) → a ≡ true
-    by true h = refl
-    by false h = sym (h refl)
-implied_not a false h = refl
-
--- an entry that loses nothing, and does not become a user's
-nothing_lost : (e f : ℕ) → present e ≡ true → LosesNothing e f → implies (user f) (user e) ≡ true → loses_between e f ≡ false
-unfolding has
-nothing_lost e f here kept users = ap not (
-    and_from _ _ (and_from _ _ (and_from _ _ (and_from _ _ (and_from _ _ (and_from _ _ (and_from _ _ (and_from _ _ (and_from _ _
-    (kept.is_present here) (eq-eqb _ _ kept.same_address)) (eq-eqb _ _ (same_bit e f kept.same_huge))) (eq-eqb _ _ kept.same_kind))
-    (implied _ _ kept.accessed)) (implied _ _ kept.dirty)) (implied _ _ kept.write)) (implied _ _ kept.user)) (implied_not _ _ kept.execute)) users)
-
-no_user : (a b : Bool) → implies a b ≡ true → (a && not b) ≡ false
-no_user true true h = refl
-no_user true false h = absurd (true≢false (sym h))
+no_user : (a b : Bool) → (a ≡ true → b ≡ true) → (a && not b) ≡ false
+no_user true b h = ap not (h refl)
 no_user false b h = refl
 
-user_stays : (a b : Bool) → (a && not b) ≡ false → implies a b ≡ true
-user_stays true true h = refl
-user_stays true false h = absurd (true≢false h)
-user_stays false b h = refl
+user_stays : (a b : Bool) → (a && not b) ≡ false → a ≡ true → b ≡ true
+user_stays true true h u = refl
+user_stays true false h u = absurd (true≢false h)
+user_stays false b h u = absurd (true≢false (sym u))
 
 -- a present entry loses something, or becomes a user's, as the model says
 pub lost_between : (e f : ℕ) (lost comes : Bool) → present e ≡ true
@@ -59,18 +28,21 @@ pub lost_between : (e f : ℕ) (lost comes : Bool) → present e ≡ true
     → comes ≡ (user f && not (user e)) → (lost || comes) ≡ loses_between e f
 lost_between e f lost comes here nothing something is = ⊎_elim
     (λ y. by_yes lost comes y nothing is ∙ sym y)
-    (λ n. by_no lost comes n something is ∙ sym n)
+    (λ n. by_no lost comes (tells.0 n) something is ∙ sym n)
     (cases_Bool (loses_between e f))
   where
+    tells : (loses_between e f ≡ false) ↔ (LosesNothing e f × (user f ≡ true → user e ≡ true))
+    tells = words_tell_losses e f here
+
     by_yes : (lost comes : Bool) → loses_between e f ≡ true → (lost ≡ false → used e ≡ true → LosesNothing e f) → comes ≡ (user f && not (user e)) → (lost || comes) ≡ true
     by_yes true comes y nothing is = refl
     by_yes false true y nothing is = refl
     by_yes false false y nothing is =
-        absurd (true≢false (sym y ∙ nothing_lost e f here (nothing refl (used_present e here)) (user_stays (user f) (user e) (sym is))))
+        absurd (true≢false (sym y ∙ tells.1 (nothing refl (used_present e here), user_stays (user f) (user e) (sym is))))
 
-    by_no : (lost comes : Bool) → loses_between e f ≡ false → (lost ≡ true → (used e ≡ true) × (LosesNothing e f → ⊥)) → comes ≡ (user f && not (user e)) → (lost || comes) ≡ false
-    by_no true comes n something is = absurd ((something refl).1 (told_nothing e f n))
-    by_no false comes n something is = is ∙ no_user _ _ (and_parts _ _ (not-false _ n)).1
+    by_no : (lost comes : Bool) → LosesNothing e f × (user f ≡ true → user e ≡ true) → (lost ≡ true → (used e ≡ true) × (LosesNothing e f → ⊥)) → comes ≡ (user f && not (user e)) → (lost || comes) ≡ false
+    by_no true comes kept something is = absurd ((something refl).1 kept.0)
+    by_no false comes kept something is = is ∙ no_user _ _ kept.1
 
 -- the flush for what is due of a page, or below a table
 due_by : (q : List ℕ) (frame : ℕ) (h t : Bool) (window : Option Window)

@@ -49,9 +49,9 @@ marked : (b : Bool) (q : List ℕ) (window : Option Window) → flush_for (cond 
 marked true q window = below q window
 marked false q window = refl
 
-cleaned : (window : Option Window) → flush_for (TablesDue ∷ if_window window) ≡ cond (is_some window) Everything Tables
-cleaned None = refl
-cleaned (Some w) = refl
+cleaned : (window : Option Window) (freed : List ℕ) → flush_for (TablesDue freed ∷ if_window window) ≡ cond (is_some window) Everything Tables
+cleaned None freed = refl
+cleaned (Some w) freed = refl
 
 -- a page's entry was changed
 changed : (q : List ℕ) (frame : ℕ) (small : Bool) (window : Option Window) → flush_for (PageDue q frame ∷ cond small [] (if_window window)) ≡ cond (cond small false (is_some window)) Everything Page
@@ -59,14 +59,14 @@ changed q frame true window = refl
 changed q frame false None = refl
 changed q frame false (Some w) = refl
 
-not_allowed : (L level : ℕ) (window : Option Window) (call : PageCall) → flush_for (flush_after L window (page_call L level call) machine.NotAllowed) ≡ Nothing
-not_allowed L level window (MapTo page frame flags) = refl
-not_allowed L level window (MapToWithTableFlags page frame flags more) = refl
-not_allowed L level window (IdentityMap frame flags) = refl
-not_allowed L level window (Unmap page) = refl
-not_allowed L level window (UpdateFlags page flags) = refl
-not_allowed L level window (SetFlags at page flags) = refl
-not_allowed L level window (TranslatePage page) = refl
+not_allowed : (L level : ℕ) (window : Option Window) (freed : List ℕ) (call : PageCall) → flush_for (flush_after L window freed (page_call L level call) machine.NotAllowed) ≡ Nothing
+not_allowed L level window freed (MapTo page frame flags) = refl
+not_allowed L level window freed (MapToWithTableFlags page frame flags more) = refl
+not_allowed L level window freed (IdentityMap frame flags) = refl
+not_allowed L level window freed (Unmap page) = refl
+not_allowed L level window freed (UpdateFlags page flags) = refl
+not_allowed L level window freed (SetFlags at page flags) = refl
+not_allowed L level window freed (TranslatePage page) = refl
 
 module _ {S : Type 0} (shown : Bool) where
   by_answer : (takes : Bool) (f : Flush) (answer : SizeReply S) → f ≡ page_flush takes shown answer → (o : Option (SizeReply S)) → Some (Some answer) ≡ Some o → f ≡ flush_where takes shown o
@@ -77,7 +77,7 @@ module _ {S : Type 0} (shown : Bool) where
   by_refusal takes f wrap None tells o e = cc
   by_refusal takes f wrap (Some w) tells o e = by_answer takes f (wrap (Err w)) (tells w) o e
 
-module _ (S : Type 0) (L level : ℕ) (small : Bool) (is : (page : ℕ) → is_small L (path_at L level page) ≡ small) (window : Option Window) where
+module _ (S : Type 0) (L level : ℕ) (small : Bool) (is : (page : ℕ) → is_small L (path_at L level page) ≡ small) (window : Option Window) (freed : List ℕ) where
   abbrev shown : Bool
   shown = cond small false (is_some window)
 
@@ -85,7 +85,7 @@ module _ (S : Type 0) (L level : ℕ) (small : Bool) (is : (page : ℕ) → is_s
   changed_at page frame = ap (λ b. flush_for (PageDue (path_at L level page) frame ∷ cond b [] (if_window window))) (is page) ∙ changed (path_at L level page) frame small window
 
   answer_tells : (call : PageCall) (a : Answer) (o : Option (SizeReply S)) → size_answer call (machine.Answered a) ≡ Some o
-      → flush_for (flush_after L window (page_call L level call) (machine.Answered a)) ≡ flush_where (page_takes call) shown o
+      → flush_for (flush_after L window freed (page_call L level call) (machine.Answered a)) ≡ flush_where (page_takes call) shown o
   answer_tells (MapTo page frame flags) (Done f) = by_answer shown false Nothing _ refl
   answer_tells (MapTo page frame flags) (Refused why) = by_refusal shown false Nothing size_reply.Map (map_error why) (λ w. refl)
   answer_tells (MapToWithTableFlags page frame flags more) (Done f) = by_answer shown (no_execute more) _ _ (marked (no_execute more) (take 1 (path_at L level page)) window)
@@ -101,9 +101,9 @@ module _ (S : Type 0) (L level : ℕ) (small : Bool) (is : (page : ℕ) → is_s
   answer_tells (TranslatePage page) (Done f) = by_answer shown false Nothing _ refl
   answer_tells (TranslatePage page) (Refused why) = by_refusal shown false Nothing size_reply.Frame (translate_error why) (λ w. refl)
 
-  size_tells : (call : PageCall) (r : machine.Reply) (o : Option (SizeReply S)) → size_answer call r ≡ Some o → flush_for (flush_after L window (page_call L level call) r) ≡ flush_where (page_takes call) shown o
+  size_tells : (call : PageCall) (r : machine.Reply) (o : Option (SizeReply S)) → size_answer call r ≡ Some o → flush_for (flush_after L window freed (page_call L level call) r) ≡ flush_where (page_takes call) shown o
   size_tells call (machine.Answered a) o e = answer_tells call a o e
-  size_tells call machine.NotAllowed o e = not_allowed L level window call ∙ ap (flush_where (page_takes call) shown) (same_Some _ _ e)
+  size_tells call machine.NotAllowed o e = not_allowed L level window freed call ∙ ap (flush_where (page_takes call) shown) (same_Some _ _ e)
   size_tells call (machine.Position t) o e = cc
   size_tells call (machine.Address a) o e = cc
   size_tells call machine.Cleaned o e = cc
@@ -114,41 +114,41 @@ sized_tells takes shown all wrap is f None tells x e = cc
 sized_tells takes shown all wrap is f (Some None) tells x e = tells None refl ∙ ap (flush_by takes all) (same_Some _ _ e)
 sized_tells takes shown all wrap is f (Some (Some a)) tells x e = tells (Some a) refl ∙ sym (is a) ∙ ap (flush_by takes all) (same_Some _ _ e)
 
-pub told_by : (L : ℕ) → 3 < L → (window : Option Window) (call : MapperCall) (r : machine.Reply) (x : Reply) → reply_of call r ≡ Some x
-    → flush_for (flush_after L window (machine_call L call) r) ≡ flush_by (takes call) (is_some window) x
-told_by L some window (Of4KiB call) r x e =
+pub told_by : (L : ℕ) → 3 < L → (window : Option Window) (freed : List ℕ) (call : MapperCall) (r : machine.Reply) (x : Reply) → reply_of call r ≡ Some x
+    → flush_for (flush_after L window freed (machine_call L call) r) ≡ flush_by (takes call) (is_some window) x
+told_by L some window freed (Of4KiB call) r x e =
     let small : (page : ℕ) → is_small L (path_at L 1 page) ≡ true = λ page. eq-eqb _ _ (let l = path_length L 1 page (omega arith) (omega (arith, some)) in omega (arith, l)) in
-    sized_tells (page_takes call) false (is_some window) reply.Of4KiB (λ a. refl) _ (size_answer call r) (size_tells Small L 1 true small window call r) x e
-told_by L some window (Of2MiB call) r x e =
+    sized_tells (page_takes call) false (is_some window) reply.Of4KiB (λ a. refl) _ (size_answer call r) (size_tells Small L 1 true small window freed call r) x e
+told_by L some window freed (Of2MiB call) r x e =
     let large : (page : ℕ) → is_small L (path_at L 2 page) ≡ false = λ page. ne_eqb _ _ (λ s. let l = path_length L 2 page (omega arith) (omega (arith, some)) in omega (arith, l, s, some)) in
-    sized_tells (page_takes call) (is_some window) (is_some window) reply.Of2MiB (λ a. refl) _ (size_answer call r) (size_tells Large L 2 false large window call r) x e
-told_by L some window (Of1GiB call) r x e =
+    sized_tells (page_takes call) (is_some window) (is_some window) reply.Of2MiB (λ a. refl) _ (size_answer call r) (size_tells Large L 2 false large window freed call r) x e
+told_by L some window freed (Of1GiB call) r x e =
     let large : (page : ℕ) → is_small L (path_at L 3 page) ≡ false = λ page. ne_eqb _ _ (λ s. let l = path_length L 3 page (omega arith) (omega (arith, some)) in omega (arith, l, s, some)) in
-    sized_tells (page_takes call) (is_some window) (is_some window) reply.Of1GiB (λ a. refl) _ (size_answer call r) (size_tells Giant L 3 false large window call r) x e
-told_by L some window (Translate p) (machine.Position t) x e = by (translate_result t) e
+    sized_tells (page_takes call) (is_some window) (is_some window) reply.Of1GiB (λ a. refl) _ (size_answer call r) (size_tells Giant L 3 false large window freed call r) x e
+told_by L some window freed (Translate p) (machine.Position t) x e = by (translate_result t) e
   where
     by : (o : Option TranslateResult) → option_map reply.Translate o ≡ Some x → Nothing ≡ flush_by false (is_some window) x
     by None e = cc
     by (Some result) e = ap (flush_by false (is_some window)) (same_Some _ _ e)
-told_by L some window (Translate p) machine.NotAllowed x e = cc
-told_by L some window (Translate p) (machine.Answered a) x e = cc
-told_by L some window (Translate p) (machine.Address a) x e = cc
-told_by L some window (Translate p) machine.Cleaned x e = cc
-told_by L some window (TranslateAddr p) (machine.Address a) x e = ap (flush_by false (is_some window)) (same_Some _ _ e)
-told_by L some window (TranslateAddr p) machine.NotAllowed x e = cc
-told_by L some window (TranslateAddr p) (machine.Answered a) x e = cc
-told_by L some window (TranslateAddr p) (machine.Position t) x e = cc
-told_by L some window (TranslateAddr p) machine.Cleaned x e = cc
-told_by L some window CleanUp machine.Cleaned x e = cleaned window ∙ ap (flush_by false (is_some window)) (same_Some _ _ e)
-told_by L some window CleanUp machine.NotAllowed x e = cc
-told_by L some window CleanUp (machine.Answered a) x e = cc
-told_by L some window CleanUp (machine.Position t) x e = cc
-told_by L some window CleanUp (machine.Address a) x e = cc
-told_by L some window (CleanUpRange low high) machine.Cleaned x e = cleaned window ∙ ap (flush_by false (is_some window)) (same_Some _ _ e)
-told_by L some window (CleanUpRange low high) machine.NotAllowed x e = cc
-told_by L some window (CleanUpRange low high) (machine.Answered a) x e = cc
-told_by L some window (CleanUpRange low high) (machine.Position t) x e = cc
-told_by L some window (CleanUpRange low high) (machine.Address a) x e = cc
+told_by L some window freed (Translate p) machine.NotAllowed x e = cc
+told_by L some window freed (Translate p) (machine.Answered a) x e = cc
+told_by L some window freed (Translate p) (machine.Address a) x e = cc
+told_by L some window freed (Translate p) machine.Cleaned x e = cc
+told_by L some window freed (TranslateAddr p) (machine.Address a) x e = ap (flush_by false (is_some window)) (same_Some _ _ e)
+told_by L some window freed (TranslateAddr p) machine.NotAllowed x e = cc
+told_by L some window freed (TranslateAddr p) (machine.Answered a) x e = cc
+told_by L some window freed (TranslateAddr p) (machine.Position t) x e = cc
+told_by L some window freed (TranslateAddr p) machine.Cleaned x e = cc
+told_by L some window freed CleanUp machine.Cleaned x e = cleaned window freed ∙ ap (flush_by false (is_some window)) (same_Some _ _ e)
+told_by L some window freed CleanUp machine.NotAllowed x e = cc
+told_by L some window freed CleanUp (machine.Answered a) x e = cc
+told_by L some window freed CleanUp (machine.Position t) x e = cc
+told_by L some window freed CleanUp (machine.Address a) x e = cc
+told_by L some window freed (CleanUpRange low high) machine.Cleaned x e = cleaned window freed ∙ ap (flush_by false (is_some window)) (same_Some _ _ e)
+told_by L some window freed (CleanUpRange low high) machine.NotAllowed x e = cc
+told_by L some window freed (CleanUpRange low high) (machine.Answered a) x e = cc
+told_by L some window freed (CleanUpRange low high) (machine.Position t) x e = cc
+told_by L some window freed (CleanUpRange low high) (machine.Address a) x e = cc
 
 -- a recursive index is that of a window
 pub is_some_index : (window : Option Window) (index : Option ℕ) → option_map (λ (w : Window). w.index) window ≡ index → is_some index ≡ is_some window
@@ -186,15 +186,15 @@ told_at_least (e ∷ due) d (inr i) = let rest = told_at_least due d i in let ri
 
 settles_from : (L : ℕ) (f : Flush) (p : ℕ) (d : Due) → rank (told_of d) ≤ rank f → ((q : List ℕ) (frame : ℕ) → d ≡ PageDue q frame → begins q (page_path L p) ≡ true) → settles_any L (executed f p) d ≡ true
 settles_from L Nothing p (PageDue q frame) r page = absurd (omega (arith, r))
-settles_from L Nothing p TablesDue r page = absurd (omega (arith, r))
+settles_from L Nothing p (TablesDue freed) r page = absurd (omega (arith, r))
 settles_from L Nothing p WindowDue r page = absurd (omega (arith, r))
 settles_from L Nothing p (BelowDue q) r page = absurd (omega (arith, r))
 settles_from L Tables p (PageDue q frame) r page = absurd (omega (arith, r))
-settles_from L Tables p TablesDue r page = refl
+settles_from L Tables p (TablesDue freed) r page = refl
 settles_from L Tables p WindowDue r page = absurd (omega (arith, r))
 settles_from L Tables p (BelowDue q) r page = absurd (omega (arith, r))
 settles_from L Page p (PageDue q frame) r page = page q frame refl
-settles_from L Page p TablesDue r page = refl
+settles_from L Page p (TablesDue freed) r page = refl
 settles_from L Page p WindowDue r page = absurd (omega (arith, r))
 settles_from L Page p (BelowDue q) r page = absurd (omega (arith, r))
 settles_from L Everything p d r page = refl
@@ -202,21 +202,21 @@ settles_from L Everything p d r page = refl
 rank_from : (L : ℕ) (f : Flush) (p : ℕ) (d : Due) → settles_any L (executed f p) d ≡ true → rank (told_of d) ≤ rank f
 rank_from L Nothing p d s = cc
 rank_from L Tables p (PageDue q frame) s = cc
-rank_from L Tables p TablesDue s = omega arith
+rank_from L Tables p (TablesDue freed) s = omega arith
 rank_from L Tables p WindowDue s = cc
 rank_from L Tables p (BelowDue q) s = cc
 rank_from L Page p (PageDue q frame) s = omega arith
-rank_from L Page p TablesDue s = omega arith
+rank_from L Page p (TablesDue freed) s = omega arith
 rank_from L Page p WindowDue s = cc
 rank_from L Page p (BelowDue q) s = cc
 rank_from L Everything p (PageDue q frame) s = omega arith
-rank_from L Everything p TablesDue s = omega arith
+rank_from L Everything p (TablesDue freed) s = omega arith
 rank_from L Everything p WindowDue s = omega arith
 rank_from L Everything p (BelowDue q) s = omega arith
 
 any_page : (L any : ℕ) (d : Due) → rank (told_of d) ≤ 1 → settles_any L (Some (Invlpg any)) d ≡ true
 any_page L any (PageDue q frame) r = absurd (omega (arith, r))
-any_page L any TablesDue r = refl
+any_page L any (TablesDue freed) r = refl
 any_page L any WindowDue r = absurd (omega (arith, r))
 any_page L any (BelowDue q) r = absurd (omega (arith, r))
 

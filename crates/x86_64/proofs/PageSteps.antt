@@ -32,6 +32,7 @@ use Rattle.x86_64.specs.FreeFrames.{KeepsFree}
 use Rattle.x86_64.specs.Runs.{AfterStep, machine_of, state_in}
 use Rattle.x86_64.specs.private.Served.{SetsFlags, size_step}
 use Rattle.x86_64_model.proofs.Lemmas.Machines.Fitting.{ready_of_fits, sound_of_fits}
+use Rattle.x86_64_model.proofs.Lemmas.Machines.Owners.{change_leads, map_leads}
 use Rattle.x86_64_model.proofs.Lemmas.Maps.Takes.{map_takes}
 use Rattle.x86_64.proofs.FreeFrames.{map_keeps_free, change_keeps_free, nothing_keeps_free}
 use Rattle.x86_64.proofs.Keeping.{keeps_step}
@@ -167,7 +168,7 @@ module _ {Lent S : Type 0} (h : Hierarchy Lent) {take_back : List ℕ → ℕ �
       → (r : Result ℕ (MapToError S)) (after : Hierarchy Lent) (rest : List ℕ) → DoesMap h pool (page_call h.layout.levels level call) (map_answer frame r) after rest → IfOk r (λ flush. flush ≡ page)
       → (told : Result ℕ (MapToError S)) → told ≡ r → Is call after.memory rest (reply.Map told)
   map_served call is takes page frame replies r after rest does same told tells =
-      let steps = stepped h take_back pool (page_call h.layout.levels level call) (map_answer frame r) after rest does.layout does.outcome in
+      let on = page_call h.layout.levels level call in let steps = stepped h take_back pool on (map_answer frame r) after rest does.layout (map_leads h pool on (map_answer frame r) after rest does.outcome) in
       let off = takes rest (ap (λ (x : AfterCall). x.state.pool) steps) in
       answered call is after.memory rest (map_answer frame r) steps
       (subst (λ l. SupplyFits (l laid_in after.memory) rest) does.layout does.fits) (λ k none. does.others k (λ f uses. none f uses.0))
@@ -200,7 +201,7 @@ module _ {Lent S : Type 0} (h : Hierarchy Lent) {take_back : List ℕ → ℕ �
   change_served : (call : PageCall) → IsCall h.layout.levels (page_call h.layout.levels level call) → (answer : Answer) (after : Hierarchy Lent) → Does h (page_call h.layout.levels level call) answer after
       → (told : SizeReply S) → size_reply call answer ≡ Some told → (size_changes_nothing told ≡ true → refuses answer ≡ true) → Is call after.memory pool told
   change_served call is answer after does told tells still =
-      answered call is after.memory pool answer (stepped h take_back pool (page_call h.layout.levels level call) answer after pool does.layout (does.outcome pool))
+      answered call is after.memory pool answer (stepped h take_back pool (page_call h.layout.levels level call) answer after pool does.layout (change_leads h (page_call h.layout.levels level call) answer after does.outcome pool))
       (subst (λ l. SupplyFits (l laid_in after.memory) pool) does.layout (does.fits pool (ready_of_fits h.layout h.memory serves pool start.fits))) (λ k none. does.others k (λ f table. none f (inr table)))
       (change_keeps_free h.layout start.mapping serves h.memory pool start.fits after.memory does.others) told tells (λ unchanged. does.refused (still unchanged))
 

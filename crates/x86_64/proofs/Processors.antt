@@ -1,9 +1,9 @@
 -- The caches of a processor arise by calls, flushes and changes, and accesses go with the page walk if nothing is due.
 use Rattle.std.proofs.Common.{◌≡◌, ℕ, Bool, List, [], ◌∷◌, ◌++◌, not, filter, Option, Some, None, refl, sym, ap, ◌∙◌, subst, false, cond}
 use Rattle.x86_64_model.specs.Caches.{Cached}
-use Rattle.x86_64_model.specs.Call.{Call, IsCall, parent_flags_of}
+use Rattle.x86_64_model.specs.Call.{Call, IsCall}
 use Rattle.x86_64_model.specs.Flushing as kernel
-use Rattle.x86_64_model.specs.Flushing.{Due, PageDue, TablesDue, System, Event, Makes, Writes, Flushes, Changes, MayHappen, MayMake, AllMayHappen, after_event, after_events, flush_after, mapped_by, fresh}
+use Rattle.x86_64_model.specs.Flushing.{Due, PageDue, StayFree, System, Event, Makes, Writes, Flushes, Changes, MayHappen, MayMake, AllMayHappen, after_event, after_events, due_after, mapped_by, fresh}
 use Rattle.x86_64_model.specs.Layout.{Layout}
 use Rattle.x86_64_model.specs.Laws.Caches.{CachesInTurn, Happens}
 use Rattle.x86_64_model.specs.Laws.Steps.{FitsState}
@@ -77,19 +77,19 @@ module _ (l : Layout) (take_back : List ℕ → ℕ → List ℕ) (serves : ℕ 
   -- ---- a call
 
   called : (m n : Memory) (pool rest : List ℕ) (cached : List Cached) (due : List Due) (call : Call) (loses : Bool) → As (system_in l m pool cached due) → IsCall l.levels call
-      → (In due TablesDue → parent_flags_of call ≡ None) → ((q r : List ℕ) (frame : ℕ) → In due (PageDue q frame) → mapped_by l.levels call ≡ Some r → is_below q r ≡ false)
+      → StayFree due pool rest → ((q r : List ℕ) (frame : ℕ) → In due (PageDue q frame) → mapped_by l.levels call ≡ Some r → is_below q r ≡ false)
       → (loses ≡ false → NoneLoses machine (state_in l m pool) call) → PoolFits (l laid_in m) serves pool
       → (step machine (state_in l m pool) call).state ≡ state_in l n rest → KeepsFree l m pool (back_by machine (state_in l m pool) call) n rest → PoolFits (l laid_in n) serves rest
-      → As (system_in l n rest cached (cond loses (flush_after l.levels l.window call (step machine (state_in l m pool) call).reply) [] ++ due))
+      → As (system_in l n rest cached (cond loses (due_after machine (state_in l m pool) call) [] ++ due))
   called m n pool rest cached due call loses a is waits apart kept_all fits steps free kept =
       let now = system_in l m pool cached due in
-      let makes : MayMake machine now call loses = record { done = refl; is_call = is; kept = kept_all; waits = waits; apart = apart } in
+      let makes : MayMake machine now call loses = record { done = refl; is_call = is; kept = kept_all; waits = subst (λ (s : State). StayFree due pool s.pool) (sym steps) waits; apart = apart } in
       let made = one_more machine l.root serves now a (Makes call loses) makes in
       let after = step machine (state_in l m pool) call in
       let next = run_calls_are_events l take_back serves m n pool rest call steps free kept in
       let written = one_more machine l.root serves (after_event machine now (Makes call loses)) made (Writes after.state.paths (words (l laid_in n)))
       (calls_may_happen machine a.happens.machine l.root serves now fits call loses makes (words (l laid_in n)) next) in
-      subst (λ (s : State). As (record { state = s; paths = s.paths; words = words (l laid_in n); cache = cached; due = cond loses (flush_after l.levels l.window call after.reply) [] ++ due })) steps written
+      subst (λ (s : State). As (record { state = s; paths = s.paths; words = words (l laid_in n); cache = cached; due = cond loses (due_after machine (state_in l m pool) call) [] ++ due })) steps written
 
   -- ---- a flush
 

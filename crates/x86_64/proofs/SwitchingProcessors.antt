@@ -3,7 +3,7 @@ use Rattle.std.proofs.Common.{◌≡◌, ◌≢◌, ◌⊎◌, inl, inr, ⊎_eli
 use Rattle.std.proofs.lemmas.Bool.{and_from, cases_eq}
 use Rattle.x86_64_model.specs.Call.{Call, IsCall, parent_flags_of}
 use Rattle.x86_64_model.specs.Flushing as kernel
-use Rattle.x86_64_model.specs.Flushing.{Due, PageDue, TablesDue, LosesNothing, mapped_by}
+use Rattle.x86_64_model.specs.Flushing.{Due, PageDue, TablesDue, StayFree, LosesNothing, freed_by, mapped_by}
 use Rattle.x86_64_model.specs.Laws.SwitchedSpaces.{space_for, between, started_in, call_events, CallsOn}
 use Rattle.x86_64_model.specs.Layout.{Layout}
 use Rattle.x86_64_model.specs.Lists.{In}
@@ -120,7 +120,7 @@ module _ (k : Kernel) (places : Places) (mapping : IsMapping places) (levels : 0
     abbrev called : Switching
     called = with_due (made_by k l m pool call loses) reaches everywhere s
 
-    module _ (waits : (c : ℕ) → In (s.due (Of c)) TablesDue → parent_flags_of asked ≡ None)
+    module _ (waits : (c : ℕ) → StayFree (s.due (Of c)) pool rest)
         (apart : (tag : Tag) (q r : List ℕ) (frame : ℕ) → In (s.due tag) (PageDue q frame) → mapped_by k.levels asked ≡ Some r → is_below q r ≡ false) where
       calls_on : CallsOn k places sharing m pool n rest layouts one s asked loses reaches everywhere
       calls_on = record {
@@ -154,7 +154,7 @@ pub reached_by_calls : ReachedByCalls
 reached_by_calls k places mapping levels gives sharing m n pool rest layouts one call reply loses reaches everywhere s runs reached waits apart =
     let same = is_like k places mapping levels sharing runs.all_share m pool layouts runs.are runs.before one runs.there in
     call_reached k places mapping levels gives sharing m n pool rest layouts one call reply loses reaches everywhere runs s
-    (λ c i. ap (λ (l : Layout). parent_flags_of (machine_call l.levels call)) (sym same) ∙ waits c i)
+    waits
     (λ tag q r frame i is. apart tag q r frame i (ap (λ (l : Layout). mapped_by l.levels (machine_call l.levels call)) same ∙ is)) reached
 
 -- ---- a flush
@@ -286,12 +286,13 @@ reached_by_flushed_calls k places mapping levels gives sharing m n pool rest lay
     let called = with_due new reaches everywhere s in
     let asked = machine_call one.levels call in
     let r = (step (machine_of one k.take_back) (state_in one m pool) asked).reply in
+    let freed = freed_by one.levels (state_in one m pool) asked in
     let p = unwrap_or (page_of_call one.levels call) 0 in
-    let is_told : flush ≡ flush_for new = tells one.window r refl (ap (λ (a : AfterStep Reply). a.reply) runs.steps) in
+    let is_told : flush ≡ flush_for new = tells one.window freed r refl (ap (λ (a : AfterStep Reply). a.reply) runs.steps) in
     let same : one.levels ≡ k.levels = runs.before.same_levels one runs.there in
-    let within : InPages k.levels new p = subst (λ L. InPages L new p) same (some_in_pages one.levels one.window r loses call) in
+    let within : InPages k.levels new p = subst (λ L. InPages L new p) same (some_in_pages one.levels one.window freed r loses call) in
     let then = reached_by_calls k places mapping levels gives sharing m n pool rest layouts one call reply loses reaches everywhere s runs reached
-    (λ c i. absurd (none_before (Of c) TablesDue i)) (λ tag q x frame i. absurd (none_before tag (PageDue q frame) i)) in
+    (λ c f d i. absurd (none_before (Of c) (TablesDue d.0) d.1)) (λ tag q x frame i. absurd (none_before tag (PageDue q frame) i)) in
     by_flush k places n rest layouts called then refl new among held p within after given_up flush (sym is_told) gone left
   where
     none_before : (tag : Tag) (d : Due) → In (s.due tag) d → ⊥

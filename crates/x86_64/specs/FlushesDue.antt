@@ -15,7 +15,7 @@ use Rattle.x86_64.specs.declared.flushing.Flush.TheVariants.{Nothing, Tables, Pa
 -- The flush to be executed for one thing that is due.
 abbrev pub told_of : Due → Flush
 told_of (PageDue q frame) = Page
-told_of TablesDue = Tables
+told_of (TablesDue freed) = Tables
 told_of WindowDue = Everything
 told_of (BelowDue q) = Everything
 
@@ -35,11 +35,11 @@ abbrev pub flush_for : List Due → Flush
 flush_for [] = Nothing
 flush_for (d ∷ due) = larger (told_of d) (flush_for due)
 
--- The answer is the flush for all that is due after a call with this reply, with or without a recursive index. If `loses` is
--- false, the caller knows that no used entry loses anything, and then nothing is due.
+-- The answer is the flush for all that is due after a call with this reply, with or without a recursive index, whatever frames it
+-- freed. If `loses` is false, the caller knows that no used entry loses anything, and then nothing is due.
 abbrev pub TellsFlush : (L : ℕ) → MapperCall → Reply → (recursive_index : Option ℕ) → (loses : Bool) → (answer : Flush) → Type 0
-TellsFlush L call reply index loses answer = (window : Option Window) (r : machine.Reply) → option_map (λ (w : Window). w.index) window ≡ index → reply_of call r ≡ Some reply
-    → answer ≡ flush_for (cond loses (flush_after L window (machine_call L call) r) [])
+TellsFlush L call reply index loses answer = (window : Option Window) (freed : List ℕ) (r : machine.Reply) → option_map (λ (w : Window). w.index) window ≡ index → reply_of call r ≡ Some reply
+    → answer ≡ flush_for (cond loses (flush_after L window freed (machine_call L call) r) [])
 
 -- The answer is the flush for all that is due after the word of an entry of this level was exchanged for another one, with or without
 -- a recursive index, however many levels there are.

@@ -1,10 +1,10 @@
 -- A processor that caches items of a hierarchy, between the calls and flushes of a kernel.
 use Rattle.std.specs.Prelude.{◌≡◌, ◌<◌, ℕ, Bool, true, false, cond, List, [], ◌++◌, not, filter, Option, Some, None, option_map, unwrap_or}
 use Rattle.x86_64_model.specs.Caches.{PartialWalk, Cached, MayAccess, walk_with_rights}
-use Rattle.x86_64_model.specs.Call.{Call, IsCall, parent_flags_of}
+use Rattle.x86_64_model.specs.Call.{Call, IsCall}
 use Rattle.x86_64_model.specs.Flushing as kernel
 use Rattle.x86_64_model.specs.Entry.{used}
-use Rattle.x86_64_model.specs.Flushing.{Due, PageDue, TablesDue, Event, System, LosesNothing, flush_after, mapped_by, survives}
+use Rattle.x86_64_model.specs.Flushing.{Due, PageDue, Event, System, StayFree, LosesNothing, due_after, mapped_by, survives}
 use Rattle.x86_64_model.specs.Layout.{Layout}
 use Rattle.x86_64_model.specs.Laws.Caches.{CachesInTurn, Happens, WalksThere}
 use Rattle.x86_64_model.specs.Laws.Steps.{FitsState}
@@ -67,14 +67,14 @@ ArisesByCaching = (l : Layout) (take_back : List ℕ → ℕ → List ℕ) (serv
     → IsReachable l take_back serves m pool before due → CachesOften l.levels l.root (words (l laid_in m)) before after → IsReachable l take_back serves m pool after due
 
 -- A call as `run_call` ensures it makes due what the model's `flush_after` returns, or nothing if no used entry loses anything.
--- No map may begin while tables are due, and no map of a smaller page where a larger one is due.
+-- It takes no frame of a freed table while tables are due, and no map of a smaller page may begin where a larger one is due.
 abbrev pub ArisesByCalls : Type 0
 ArisesByCalls = (l : Layout) (take_back : List ℕ → ℕ → List ℕ) (serves : ℕ → Bool) (m n : Memory) (pool rest : List ℕ) (cached : List Cached) (due : List Due) (call : Call) (loses : Bool)
     → let machine = machine_of l take_back in
-    IsReachable l take_back serves m pool cached due → IsCall l.levels call → (In due TablesDue → parent_flags_of call ≡ None)
+    IsReachable l take_back serves m pool cached due → IsCall l.levels call → StayFree due pool rest
     → ((q r : List ℕ) (frame : ℕ) → In due (PageDue q frame) → mapped_by l.levels call ≡ Some r → is_below q r ≡ false) → (loses ≡ false → NoneLoses machine (state_in l m pool) call) → PoolFits (l laid_in m) serves pool
     → (step machine (state_in l m pool) call).state ≡ state_in l n rest → KeepsFree l m pool (back_by machine (state_in l m pool) call) n rest → PoolFits (l laid_in n) serves rest
-    → IsReachable l take_back serves n rest cached (cond loses (flush_after l.levels l.window call (step machine (state_in l m pool) call).reply) [] ++ due)
+    → IsReachable l take_back serves n rest cached (cond loses (due_after machine (state_in l m pool) call) [] ++ due)
 
 -- A flush leaves due what it doesn't settle.
 abbrev pub ArisesByFlushes : Type 0

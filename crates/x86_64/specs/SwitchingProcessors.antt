@@ -4,7 +4,7 @@ use Rattle.std.specs.Prelude.{◌≡◌, ◌≢◌, ◌<◌, ◌++◌, ℕ, Bool
 use Rattle.x86_64_model.specs.Caches.{PartialWalk, MayAccess, walk_with_rights}
 use Rattle.x86_64_model.specs.Call.{IsCall, parent_flags_of}
 use Rattle.x86_64_model.specs.Entry.{IsParentFlags}
-use Rattle.x86_64_model.specs.Flushing.{Due, PageDue, TablesDue, flush_after, mapped_by}
+use Rattle.x86_64_model.specs.Flushing.{Due, PageDue, StayFree, due_after, mapped_by}
 use Rattle.x86_64_model.specs.Laws.Caches.{WalksThere}
 use Rattle.x86_64_model.specs.Laws.Spaces.{KeepsRootEntries}
 use Rattle.x86_64_model.specs.Laws.SwitchedSpaces.{between, started_in, AllShare, MaySwitchIn}
@@ -77,7 +77,7 @@ pub record RunsOn (k : Kernel) (places : Places) (sharing : (root other : ℕ) �
 -- What a call on one of the address spaces makes due, or nothing if the kernel knows that no used entry loses anything.
 abbrev pub made_by : Kernel → Layout → Memory → (pool : List ℕ) → MapperCall → (loses : Bool) → List Due
 made_by k one m pool call loses = let asked = machine_call one.levels call in
-    cond loses (flush_after one.levels one.window asked (step (machine_of one k.take_back) (state_in one m pool) asked).reply) []
+    cond loses (due_after (machine_of one k.take_back) (state_in one m pool) asked) []
 
 -- The system after a call that made this due: for the items of each PCID that holds a root that the call reaches, and for global
 -- translations, unless the call avoids the indices that all share.
@@ -139,7 +139,8 @@ ReachedByEvents = (k : Kernel) (places : Places) (m n : Memory) (pool rest : Lis
     → IsReachedBySwitches k places n rest later t
 
 -- A call as `run_call` ensures it makes due what the model's `flush_after` returns, or nothing if the kernel knows that no used
--- entry loses anything. No map may begin while tables are due for a PCID, and no map of a smaller page where a larger one is due.
+-- entry loses anything. It takes no frame of a freed table while tables are due for a PCID, and no map of a smaller page may begin
+-- where a larger one is due.
 abbrev pub ReachedByCalls : Type 0
 ReachedByCalls = (k : Kernel) (places : Places) → IsMapping places → 0 < k.levels → TakesBack k.take_back
     → (sharing : (root other : ℕ) → ℕ → Bool) (m n : Memory) (pool rest : List ℕ) (layouts : List Layout)
@@ -148,7 +149,7 @@ ReachedByCalls = (k : Kernel) (places : Places) → IsMapping places → 0 < k.l
     (s : Switching)
     → RunsOn k places sharing m pool n rest layouts one call reply loses reaches everywhere
     → IsReachedBySwitches k places m pool layouts s
-    → ((c : ℕ) → In (s.due (Of c)) TablesDue → parent_flags_of (machine_call one.levels call) ≡ None)
+    → ((c : ℕ) → StayFree (s.due (Of c)) pool rest)
     → ((tag : Tag) (q r : List ℕ) (frame : ℕ) → In (s.due tag) (PageDue q frame)
     → mapped_by one.levels (machine_call one.levels call) ≡ Some r → is_below q r ≡ false)
     → IsReachedBySwitches k places n rest layouts (with_due (made_by k one m pool call loses) reaches everywhere s)

@@ -25,9 +25,9 @@ use x86_64_tables::phys_memory::has_flag;
 pub enum Flush {
     /// Nothing.
     Nothing,
-    /// All cached tables: execute `INVLPG` of any address, or load CR3, on every processor that uses the root, before
-    /// the next map or `new_space` with the pool, and before a free frame is used otherwise. If EFER.TCE is set (AMD),
-    /// `INVLPG` isn't enough.
+    /// All cached tables: execute `INVLPG` of any address, or load CR3, on every processor that uses the root, before a
+    /// frame that the call freed is taken by a map or `new_space` with the pool, or is used otherwise. If EFER.TCE is set
+    /// (AMD), `INVLPG` isn't enough.
     Tables,
     /// The call's page: execute `INVLPG` of an address in it, on every processor that uses the root, also before a smaller
     /// page is mapped there.

@@ -59,8 +59,8 @@ pub fn flushes_settle_what_is_due()
 /// Beside a processor that caches at any moment between calls: what [`run_call`](crate::run_call) ensures of a call, and
 /// then the flush that [`flush_after`](crate::flushing::flush_after) returns, leave nothing due, and then each access goes
 /// with the page walk, with no right more. So this holds after any calls with their flushes, from empty caches on. Several
-/// calls may come before one flush, if tables are flushed before the next map, and a large page before a smaller one is
-/// mapped there.
+/// calls may come before one flush, if tables are flushed before a frame is taken that a clean up freed, and a large page
+/// before a smaller one is mapped there.
 pub fn flushed_calls_leave_no_stale_item()
     ensures first { ArisesFirst }
     ensures caching { ArisesByCaching }
@@ -70,8 +70,8 @@ pub fn flushed_calls_leave_no_stale_item()
     ensures accesses { FlushedAccessesGo }
 {}
 
-/// Several processors that use one hierarchy: if what each sees may happen, with its own flushes before the next map, the
-/// accesses of each go with the page walk, and all see the same words.
+/// Several processors that use one hierarchy: if what each sees may happen, with its own flushes before a frame is taken that
+/// a clean up freed, the accesses of each go with the page walk, and all see the same words.
 pub fn several_processors_are_flushed_each()
     ensures each { EachIsFlushed }
     ensures same { ProcessorsSeeTheSame }

@@ -51,7 +51,8 @@ pub fn run<L: LevelCount, P5: LevelFiveFlags<L>, M: TableAccess + TablesIn<L>, F
     replies: &mut Vec<ReplyIn<L>>,
 ) -> Result<(), AllocError>
     requires { StoreFits (M.hierarchy mapper.old) (store_of F.FrameStore frames.old) }
-    ensures ran { OnOk result (Ran (to_call P5.bits) (M.hierarchy mapper.old) (store_of F.FrameStore frames.old)
+    ensures ran { OnOk result (Ran (to_call P5.bits) (M.hierarchy mapper.old)
+        (store_of F.FrameStore frames.old)
         calls.now replies.old.items replies.new.items (M.hierarchy mapper.new) (F.supply frames.new)) }
     ensures unchanged { OnErr result (
         (replies.new.items ≡ replies.old.items) × (vec_capacity replies.new ≡ vec_capacity replies.old)
@@ -78,8 +79,8 @@ pub fn run_call<L: LevelCount, P5: LevelFiveFlags<L>, M: TableAccess + TablesIn<
         (to_call P5.bits call) result (M.hierarchy mapper.new) (F.supply frames.new) }
     ensures unchanged { changes_nothing result ≡ true
         → (M.hierarchy mapper.new).memory ≡ (M.hierarchy mapper.old).memory }
-    ensures free { LeavesFree (M.hierarchy mapper.old) (store_of F.FrameStore frames.old) (to_call P5.bits call)
-        (M.hierarchy mapper.new) (F.supply frames.new) }
+    ensures free { LeavesFree (M.hierarchy mapper.old) (store_of F.FrameStore frames.old)
+        (to_call P5.bits call) (M.hierarchy mapper.new) (F.supply frames.new) }
     ensures keeps { Keeps (M.hierarchy mapper.old) (store_of F.FrameStore frames.old)
         (M.hierarchy mapper.new) (store_of F.FrameStore frames.new) }
 {
@@ -129,8 +130,8 @@ fn serve<
         (to_call P5.bits call) result (M.hierarchy mapper.new) (F.supply frames.new) }
     ensures still { changes_nothing result ≡ true
         → (M.hierarchy mapper.new).memory ≡ (M.hierarchy mapper.old).memory }
-    ensures free { LeavesFree (M.hierarchy mapper.old) (store_of F.FrameStore frames.old) (to_call P5.bits call)
-        (M.hierarchy mapper.new) (F.supply frames.new) }
+    ensures free { LeavesFree (M.hierarchy mapper.old) (store_of F.FrameStore frames.old)
+        (to_call P5.bits call) (M.hierarchy mapper.new) (F.supply frames.new) }
     ensures keeps { Keeps (M.hierarchy mapper.old) (store_of F.FrameStore frames.old)
         (M.hierarchy mapper.new) (store_of F.FrameStore frames.new) }
     ensures items { K.items tokens.new ≡ K.items tokens.old

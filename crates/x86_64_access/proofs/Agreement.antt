@@ -1,5 +1,5 @@
 -- Accesses agree with page walks.
-use Rattle.std.proofs.Common.{zero, suc, inl, inr, ◌≡◌, ◌<◌, ◌≤◌, ◌||◌, ◌==◌, bit_and, ◌-◌, ◌+◌, ◌%◌, ℕ, ◌&&◌, Bool, true≢false, true, false, not, nat_le, cond, is_some, List, [], ◌∷◌, Some, None, Option, refl, sym, ap, subst, ◌∙◌, arith}
+use Rattle.std.proofs.Common.{zero, suc, inl, inr, ◌≡◌, ◌<◌, ◌≤◌, ◌-◌, ◌+◌, ◌%◌, ℕ, ◌&&◌, Bool, true≢false, true, false, not, cond, is_some, List, [], ◌∷◌, Some, None, Option, refl, sym, ap, subst, ◌∙◌, arith}
 use Rattle.x86_64_model.specs.Arrivals.{Reaches}
 use Rattle.x86_64_model.specs.Entry.{present, huge, writable, user, address}
 use Rattle.x86_64_model.specs.Mappings.{Rights, maps_page, rights_of, granted}
@@ -7,35 +7,15 @@ use Rattle.x86_64_model.specs.Lists.{In}
 use Rattle.x86_64_model.specs.Memory.{Words}
 use Rattle.x86_64_model.specs.PageWalk.{Walked, page_start, page_walk, read, walk_on}
 use Rattle.x86_64_model.specs.Position.{index, span}
+use Rattle.x86_64_model.proofs.Lemmas.Mappings.Along.{both_last, both_more}
 use Rattle.x86_64_tables.proofs.WalkSteps.{on_absent, on_end, on_none as walk_none, on_table}
 use Rattle.x86_64_tables.specs.Walks.{ends}
-use Rattle.std.proofs.lemmas.Bool.{leb-false}
-use Rattle.x86_64_model.specs.Access.{Access, Arrives, Controls, Faults, Outcome, access_allowed, code, low_bits, Step, steps_from, reserved}
+use Rattle.x86_64_model.specs.Access.{Access, Arrives, Controls, Faults, Outcome, access_allowed, code, steps_from, reserved}
+use Rattle.x86_64_model.specs.Steps.{Step}
 use Rattle.x86_64_access.specs.private.Walking.{access_on}
 use Rattle.x86_64_tables.specs.Rights.{both}
 use Rattle.x86_64_access.specs.Laws.{ArriveWhereWalksDo, WalksAllowedArrive}
-use Rattle.x86_64_access.proofs.Walked.{and_left, and_right, is_arrival, on_fault, on_none, on_page, on_root, on_table as to_table, on_zero, or_left, or_right, page_low, both_more, both_none, words_in, steps_first, steps_on, steps_page, page_ends, table_high}
-
--- ---- which words map pages
-
-below_four : (c : Controls) (level e : ℕ) → reserved c level e ≡ false → huge e ≡ true → level ≤ 3
-unfolding reserved
-below_four c level e sound large =
-    let misplaced : (huge e && (nat_le 4 level || not (bit_and e (low_bits level) == 0))) ≡ false = or_right _ _ (or_left _ _ sound) in
-    let low : nat_le 4 level ≡ false = or_left _ _ (sym (ap (λ b. b && (nat_le 4 level || not (bit_and e (low_bits level) == 0))) large) ∙ misplaced) in
-    omega (arith, leb-false 4 level low)
-
-large_maps : (level e : ℕ) → 1 < level → level ≤ 3 → huge e ≡ true → maps_page level e ≡ true
-large_maps zero e more high large = absurd (omega (arith, more))
-large_maps (suc zero) e more high large = absurd (omega (arith, more))
-large_maps (suc (suc zero)) e more high large = rw large refl
-large_maps (suc (suc (suc zero))) e more high large = rw large refl
-large_maps (suc (suc (suc (suc n)))) e more high large = absurd (omega (arith, high))
-
-table_small : (c : Controls) (level e : ℕ) → 1 ≤ level → reserved c level e ≡ false → maps_page level e ≡ false → (b : Bool) → huge e ≡ b → huge e ≡ false
-table_small c level e low sound table false small = small
-table_small c level e low sound table true large = absurd (true≢false
-    (sym (large_maps level e (table_high level e low table) (below_four c level e sound large) large) ∙ table))
+use Rattle.x86_64_access.proofs.Walked.{and_left, and_right, is_arrival, on_fault, on_none, on_page, on_root, on_table as to_table, on_zero, not_huge, page_low, words_in, steps_first, steps_on, steps_page, page_ends, table_high}
 
 -- the arrival in a page
 ends_in : (level p e : ℕ) (w u : Bool) → 1 ≤ level → level ≤ 3 → ends level p w u e ≡ Some (record { address = page_start level e + p % span level; write = w; user = u })
@@ -97,7 +77,7 @@ module _ (c : Controls) (T : Words) (p : ℕ) (a : Access) where
           → (b : Bool) → maps_page (suc n) e ≡ b → Reaches (walk_on T p (suc n) r.write r.user frame) to
       by_page e is here sound true page = at_page (suc n) frame r e to low is here sound page arrives
       by_page e is here sound false table =
-          let small : huge e ≡ false = table_small c (suc n) e low sound table (huge e) refl in
+          let small : huge e ≡ false = not_huge c (suc n) e low sound table in
           let more : 1 < suc n = table_high (suc n) e low table in
           subst (λ w. Reaches w to)
           (ap (λ k. walk_on T p k (r.write && writable e) (r.user && user e) (address e)) (sym less)
@@ -158,10 +138,10 @@ module _ (c : Controls) (T : Words) (p : ℕ) (a : Access) where
           → (b : Bool) → maps_page (suc n) e ≡ b → access_on c T p a (suc n) frame r ≡ Arrives w.address
       by_page e is here true page = page_allowed (suc n) frame r e w low is here (first_sound e is) page walks
           (sym (ap (access_allowed c a) (ap (λ steps. both r (rights_of (words_in steps))) (steps_page c T p a (suc n) frame r e low is page)
-          ∙ (both_more r e [] ∙ both_none (granted r e)))) ∙ enough)
+          ∙ both_last r e)) ∙ enough)
       by_page e is here false table =
           let sound = first_sound e is in
-          let small : huge e ≡ false = table_small c (suc n) e low sound table (huge e) refl in
+          let small : huge e ≡ false = not_huge c (suc n) e low sound table in
           let more : 1 < suc n = table_high (suc n) e low table in
           let both_sound : (present e && not (reserved c (suc n) e)) ≡ true = rw (here, sound) refl in
           let steps = steps_on c T p a (suc n) frame e low is both_sound table

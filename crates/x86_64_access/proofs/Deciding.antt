@@ -9,9 +9,10 @@ use Rattle.x86_64_model.proofs.Lemmas.Entries.Bits.{and_or_distrib}
 use Rattle.std.proofs.Math.Bool.{and-true, and-false, or-true, or-false}
 use Rattle.std.proofs.lemmas.Bool.{lt-leb}
 use Rattle.x86_64_model.specs.Access.{Access, Controls, Fetch, Kind, Read, Write, access_allowed, kept_out, kind_allowed, reserved}
-use Rattle.x86_64_model.specs.Entry.{has, present, huge, no_execute, address}
+use Rattle.x86_64_model.specs.Entry.{has, present, huge, global, no_execute, address}
 use Rattle.x86_64_model.specs.Mappings.{every_right, granted}
-use Rattle.x86_64_access.specs.private.Masks.{high_bits, kept_bits, kind_bits, off_bits, user_bits}
+use Rattle.x86_64_access.proofs.ReservedBySome.{low_none}
+use Rattle.x86_64_access.specs.private.Masks.{global_bits, high_bits, kept_bits, kind_bits, off_bits, user_bits}
 use Rattle.x86_64_access.specs.private.Walking.{may_read_on, rights_by}
 
 -- ---- one bit
@@ -138,13 +139,22 @@ lacks_off c e = by c.no_execute
     by true = ap (λ x. x == 0) (and_zero_r e)
     by false = lacks_bit e 63
 
-in_order : (p h rest : Bool) → ((h && rest) && p) ≡ (p && (h && rest))
-in_order true true true = refl
-in_order true true false = refl
-in_order true false rest = refl
-in_order false true true = refl
-in_order false true false = refl
-in_order false false rest = refl
+lacks_global : (c : Controls) (e : ℕ) → (bit_and e (global_bits c) == 0) ≡ not (c.global_reserved && global e)
+lacks_global c e = by c.global_reserved
+  where
+    by : (b : Bool) → (bit_and e (cond b 0x100 0) == 0) ≡ not (b && global e)
+    by true = lacks_bit e 8
+    by false = ap (λ x. x == 0) (and_zero_r e)
+
+in_order : (p h rest g : Bool) → (((h && rest) && g) && p) ≡ ((p && (h && rest)) && g)
+in_order true true true true = refl
+in_order true true true false = refl
+in_order true true false g = refl
+in_order true false rest g = refl
+in_order false true true true = refl
+in_order false true true false = refl
+in_order false true false g = refl
+in_order false false rest g = refl
 
 sound_by : (le h nx x p : Bool) → ((not le && (nx || not x)) && p) ≡ (p && not ((le || (h && false)) || (x && not nx)))
 sound_by true h nx x true = refl
@@ -179,7 +189,7 @@ abbrev pub sound_bits : Controls → ℕ
 sound_bits c = bit_or (high_bits c) (off_bits c)
 
 abbrev pub stop_bits : Controls → ℕ
-stop_bits c = bit_or 0x80 (sound_bits c)
+stop_bits c = bit_or (bit_or 0x80 (sound_bits c)) (global_bits c)
 
 sound_bits_even : (c : Controls) → sound_bits c % 2 ≡ 0
 sound_bits_even c = sym (bit_at_lowest (sound_bits c)) ∙ bit_at_or (high_bits c) (off_bits c) 0 ∙ ap (max (bit_at (high_bits c) 0)) (off_even c.no_execute)
@@ -191,7 +201,13 @@ sound_bits_even c = sym (bit_at_lowest (sound_bits c)) ∙ bit_at_or (high_bits 
     off_even false = refl
 
 stop_bits_even : (c : Controls) → stop_bits c % 2 ≡ 0
-stop_bits_even c = sym (bit_at_lowest (stop_bits c)) ∙ bit_at_or 0x80 (sound_bits c) 0 ∙ omega (arith, bit_at_lowest 0x80, bit_at_lowest (sound_bits c), sound_bits_even c)
+stop_bits_even c = sym (bit_at_lowest (stop_bits c)) ∙ bit_at_or (bit_or 0x80 (sound_bits c)) (global_bits c) 0
+    ∙ ap (max (bit_at (bit_or 0x80 (sound_bits c)) 0)) (global_even c.global_reserved) ∙ ap (λ x. max x 0) (bit_at_or 0x80 (sound_bits c) 0)
+    ∙ omega (arith, bit_at_lowest 0x80, bit_at_lowest (sound_bits c), sound_bits_even c)
+  where
+    global_even : (b : Bool) → bit_at (cond b 0x100 0) 0 ≡ 0
+    global_even true = refl
+    global_even false = refl
 
 lacks_sound : (c : Controls) → c.physical_bits ≤ 52 → (e : ℕ) → (bit_and e (sound_bits c) == 0) ≡ (nat_lt (address e) (2 ^ c.physical_bits) && (c.no_execute || not (no_execute e)))
 lacks_sound c l e = lacks_both e (high_bits c) (off_bits c) ∙ (λ i. lacks_high e c.physical_bits l i && lacks_off c e i)
@@ -200,8 +216,9 @@ lacks_sound c l e = lacks_both e (high_bits c) (off_bits c) ∙ (λ i. lacks_hig
 pub decides : (c : Controls) → c.physical_bits ≤ 52 → (e : ℕ) → (bit_and e (bit_or (stop_bits c) 1) == 1) ≡ may_read_on c e
 unfolding may_read_on
 decides c l e = present_without e (stop_bits c) (stop_bits_even c)
-    ∙ ap (λ b. b && present e) (lacks_both e 0x80 (sound_bits c) ∙ (λ i. lacks_bit e 7 i && lacks_sound c l e i))
-    ∙ in_order (present e) (not (huge e)) (nat_lt (address e) (2 ^ c.physical_bits) && (c.no_execute || not (no_execute e)))
+    ∙ ap (λ b. b && present e) (lacks_both e (bit_or 0x80 (sound_bits c)) (global_bits c)
+    ∙ (λ i. (lacks_both e 0x80 (sound_bits c) ∙ (λ j. lacks_bit e 7 j && lacks_sound c l e j)) i && lacks_global c e i))
+    ∙ in_order (present e) (not (huge e)) (nat_lt (address e) (2 ^ c.physical_bits) && (c.no_execute || not (no_execute e))) (not (c.global_reserved && global e))
 
 lt_not_le : (x m : ℕ) → nat_lt x m ≡ not (nat_le m x)
 lt_not_le x m = by (nat_lt x m) refl
@@ -217,6 +234,8 @@ page_decides c l e = present_without e (sound_bits c) (sound_bits_even c)
     ∙ ap (λ b. b && present e) (lacks_sound c l e ∙ ap (λ b. b && (c.no_execute || not (no_execute e))) (lt_not_le (address e) (2 ^ c.physical_bits)))
     ∙ sound_by (nat_le (2 ^ c.physical_bits) (address e)) (huge e) c.no_execute (no_execute e) (present e)
     ∙ ap (λ low. present e && not ((nat_le (2 ^ c.physical_bits) (address e) || (huge e && not (low == 0))) || (no_execute e && not c.no_execute))) (sym (and_zero_r e))
+    ∙ ap (λ s. present e && not (((s || nat_le (2 ^ c.physical_bits) (address e)) || (huge e && not (bit_and e 0 == 0))) || (no_execute e && not c.no_execute)))
+    (sym (low_none c 1 e refl refl))
 
 -- ---- rights that an access needs
 

@@ -1,3 +1,4 @@
+pub mod ReservedBySome
 mod Deciding
 mod Walked
 mod Agreement

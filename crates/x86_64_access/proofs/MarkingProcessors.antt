@@ -69,7 +69,7 @@ same_begins (Some a) U root (i ∷ q) = refl
 
 same_concerns : (L : ℕ) (v : Option Window) (U : Words) (root : ℕ) (due : Due) (p : ℕ) → concerns L (window_now U root v) due p ≡ concerns L v due p
 same_concerns L v U root (PageDue q frame) p = refl
-same_concerns L v U root TablesDue p = refl
+same_concerns L v U root (TablesDue freed) p = refl
 same_concerns L v U root WindowDue p = same_begins v U root (page_path L p)
 same_concerns L v U root (BelowDue q) p = refl
 
@@ -154,12 +154,12 @@ becomes_seen L v w due pool q e f had (Made u) = Made u
 becomes_seen L v w due pool q e f had (Marked k same) = Marked k same
 becomes_seen L v w due pool q e f had (Remapped none d h) = Remapped none d (λ l. had (h l))
 becomes_seen L v w due pool q e f had (Reflagged same r d b h) = Reflagged same r d b (had h)
-becomes_seen L v w due pool q e f had (Removed z d h g names free) = Removed z d (had h) g names free
+becomes_seen L v w due pool q e f had (Removed z h g names d free) = Removed z (had h) g names d free
 
 module _ (v : Option Window) (U : Words) (root : ℕ) (due : List Due) where
   loosens_still : (d : Due) (x : List ℕ) → loosens v d x ≡ true → loosens (window_now U root v) d x ≡ true
   loosens_still (PageDue q frame) x l = l
-  loosens_still TablesDue x l = l
+  loosens_still (TablesDue freed) x l = l
   loosens_still WindowDue x l = same_begins v U root x ∙ l
   loosens_still (BelowDue q) x l = l
 

@@ -97,6 +97,7 @@ unfolding reserved
 same_reserved c level e g gets = rw (
   same_address e g gets,
   same_has e g 0x80 gets refl,
+  same_has e g 0x100 gets refl,
   same_has e g 0x8000_0000_0000_0000 gets refl,
   same_and e g (low_bits level) gets (low_apart level),
 ) refl

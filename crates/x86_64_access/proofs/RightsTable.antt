@@ -26,9 +26,9 @@ same_true false false h = refl
 
 -- ---- rights
 
-module _ (bits : ℕ) where
+module _ (k : Controls) where
   abbrev controls : (wp nx smep smap ac : Bool) → Controls
-  controls wp nx smep smap ac = record { write_protect = wp; no_execute = nx; smep = smep; smap = smap; ac = ac; physical_bits = bits }
+  controls wp nx smep smap ac = record k { write_protect = wp; no_execute = nx; smep = smep; smap = smap; ac = ac }
 
   abbrev row_right : Kind → Bool → (wp nx smep smap ac w u x : Bool) → Bool
   row_right kind user wp nx smep smap ac w u x =
@@ -52,14 +52,14 @@ module _ (bits : ℕ) where
   one_right kind user wp nx smep smap ac w u x h = from_both _ (from_both _ (from_both _ (from_both _ (from_both _ (from_both _ (from_both _ (from_both _ h wp) nx) smep) smap) ac) w) u) x
 
 pub rights_are_listed : RightsAreListed
-rights_are_listed c a r = same_true _ _ (one_right c.physical_bits a.kind a.user c.write_protect c.no_execute c.smep c.smap c.ac r.write r.user r.execute (rows c.physical_bits a.kind a.user))
+rights_are_listed c a r = same_true _ _ (one_right c a.kind a.user c.write_protect c.no_execute c.smep c.smap c.ac r.write r.user r.execute (rows c a.kind a.user))
 
 -- ---- error codes
 
 module _ (c : Controls) where
   abbrev row_code : Kind → Bool → (nx smep here bad : Bool) → Bool
   row_code kind user nx smep here bad =
-      let d : Controls = record { write_protect = c.write_protect; no_execute = nx; smep = smep; smap = c.smap; ac = c.ac; physical_bits = c.physical_bits } in
+      let d : Controls = record c { no_execute = nx; smep = smep } in
       let a : Access = record { kind = kind; user = user } in
       code d a here bad == in_codes_table d a here bad
 

@@ -1,20 +1,74 @@
 -- One word of the walk of an access, for code that has the level as a number.
 use Rattle.std.proofs.Common.{le-leb, ltb-true, nat_lt, zero, suc, ⊎_elim, inl, inr, ◌⊎◌, ◌≡◌, ◌<◌, ◌≤◌, ◌+◌, ◌-◌, ◌%◌, ◌^◌, ℕ, ◌&&◌, Bool, true≢false, true, false, not, ◌||◌, ◌==◌, nat_le, bit_and, cond, List, [], ◌∷◌, map, Some, None, Option, option_map, unwrap_or, refl, sym, ap, ◌∙◌, arith}
 use Rattle.std.specs.List.{last_or}
-use Rattle.x86_64_model.specs.Entry.{present, writable, user, huge, no_execute, address}
+use Rattle.x86_64_model.specs.Entry.{present, huge, global, no_execute, address}
 use Rattle.x86_64_model.specs.Mappings.{Rights, rights_of, maps_page, granted}
 use Rattle.x86_64_model.specs.Memory.{Memory, Places, Words}
 use Rattle.x86_64_model.specs.PageWalk.{read, page_start}
 use Rattle.x86_64_model.specs.Position.{index, span}
 use Rattle.x86_64_model.proofs.Lemmas.Entries.Words.{address_within}
-use Rattle.x86_64_model.specs.Access.{Access, Kind, Controls, set_bits, bits_to_set, marked, Outcome, NoMemory, Step, steps_from, ends_at, ends_by, reads_on, reserved, low_bits, access_allowed, code, Arrives, Faults, access}
+use Rattle.x86_64_model.proofs.Lemmas.Mappings.Along.{both_last, both_more}
+use Rattle.x86_64_model.specs.Access.{Access, Kind, Controls, set_bits, bits_to_set, marked, Outcome, NoMemory, steps_from, until, ends_at, ends_by, reserved, low_bits, access_allowed, code, Arrives, Faults, access}
 use Rattle.x86_64_access.proofs.Deciding.{both_left, both_right}
-use Rattle.x86_64_access.specs.private.Walking.{access_on, may_read_on, ArrivesFrom}
+use Rattle.x86_64_access.proofs.ReservedBySome.{low_none, page_none, table_none}
+use Rattle.x86_64_model.specs.Steps.{Step, leads_on, steps}
+use Rattle.x86_64_access.specs.private.Walking.{access_on, may_read_on, reads_on, ArrivesFrom}
 use Rattle.x86_64_tables.specs.Rights.{both}
 use Rattle.std.specs.Int.Bits.{and_zero_r}
-use Rattle.std.proofs.Math.Bool.{and-true, and-false, and_assoc}
+use Rattle.std.proofs.Math.Bool.{and-false}
 use Rattle.std.proofs.lemmas.Bool.{eqb-true, eqb-false, lt-leb, ltb-false}
-use Rattle.std.specs.List.{list_all}
+
+-- ---- which words map pages, and which name tables
+
+one_of : (a h b c : Bool) → (a || (h && (b || c))) ≡ true → (a ≡ true) ⊎ ((b ≡ true) ⊎ (c ≡ true))
+one_of true h b c t = inl refl
+one_of false h true c t = inr (inl refl)
+one_of false h false true t = inr (inr refl)
+one_of false true false false t = absurd (true≢false (sym t))
+one_of false false false false t = absurd (true≢false (sym t))
+
+pub or_left : (a b : Bool) → (a || b) ≡ false → a ≡ false
+or_left false b h = refl
+or_left true b h = absurd (true≢false h)
+
+pub or_right : (a b : Bool) → (a || b) ≡ false → b ≡ false
+or_right false b h = h
+or_right true b h = absurd (true≢false h)
+
+pub table_high : (level e : ℕ) → 1 ≤ level → maps_page level e ≡ false → 1 < level
+table_high level e low table = omega (arith, low, eqb-false level 1 (or_left (level == 1) (huge e && ((level == 2) || (level == 3))) table))
+
+high_huge : (level e : ℕ) → 1 ≤ level → maps_page level e ≡ false → huge e ≡ true → nat_le 4 level ≡ true
+high_huge level e low table large =
+    let both : ((level == 2) || (level == 3)) ≡ false = sym (ap (λ h. h && ((level == 2) || (level == 3))) large) ∙ or_right (level == 1) (huge e && ((level == 2) || (level == 3))) table in
+    le-leb 4 level (omega (arith, table_high level e low table, eqb-false level 2 (or_left (level == 2) (level == 3) both), eqb-false level 3 (or_right (level == 2) (level == 3) both)))
+
+-- a word without reserved bits that maps no page isn't huge
+pub not_huge : (c : Controls) (level e : ℕ) → 1 ≤ level → reserved c level e ≡ false → maps_page level e ≡ false → huge e ≡ false
+unfolding reserved
+not_huge c level e low sound table = by (huge e) refl
+  where
+    by : (b : Bool) → huge e ≡ b → b ≡ false
+    by false small = refl
+    by true large =
+        let misplaced : (huge e && (nat_le 4 level || not (bit_and e (low_bits level) == 0))) ≡ false = or_right _ _ (or_left _ _ sound) in
+        absurd (true≢false (sym (high_huge level e low table large)
+        ∙ or_left _ _ (sym (ap (λ b. b && (nat_le 4 level || not (bit_and e (low_bits level) == 0))) large) ∙ misplaced)))
+
+-- that is where the page walk does, unless a reserved bit is set
+reads_is : (c : Controls) (level e : ℕ) → 1 ≤ level → (leads_on level e && not (reserved c level e)) ≡ reads_on c level e
+reads_is c level e low = by (present e) (maps_page level e) (huge e) (reserved c level e) (λ sound table. not_huge c level e low sound table)
+  where
+    by : (p m h r : Bool) → (r ≡ false → m ≡ false → h ≡ false) → ((p && not m && not h) && not r) ≡ (p && not r && not m)
+    by false m h r small = refl
+    by true true h true small = refl
+    by true true h false small = refl
+    by true false true true small = refl
+    by true false true false small = absurd (true≢false (small refl refl))
+    by true false false true small = refl
+    by true false false false small = refl
+
+-- ---- the words that are read
 
 -- the steps by the word that is read
 steps_read : Controls → Words → (p level frame : ℕ) → Option ℕ → List Step
@@ -22,11 +76,31 @@ steps_read c T p level frame word = unwrap_or (option_map
     (λ e. record { level = level; frame = frame; index = index level p; word = e } ∷ cond (reads_on c level e) (steps_from c T p (level - 1) (address e)) []) word) []
 
 steps_are : (c : Controls) (T : Words) (p level frame : ℕ) → 1 ≤ level → steps_from c T p level frame ≡ steps_read c T p level frame (read T frame (index level p))
-unfolding steps_from steps_read
+unfolding steps_from steps steps_read
 steps_are c T p zero frame l = absurd (omega arith)
-steps_are c T p (suc n) frame l = let less : n ≡ suc n - 1 = omega arith in
-    ap (λ k. unwrap_or (option_map (λ e. record { level = suc n; frame = frame; index = index (suc n) p; word = e } ∷ cond (reads_on c (suc n) e) (steps_from c T p k (address e)) [])
-    (read T frame (index (suc n) p))) []) less
+steps_are c T p (suc n) frame l = by (read T frame (index (suc n) p)) ∙ ap (λ k. read_to k (read T frame (index (suc n) p))) less
+  where
+    less : n ≡ suc n - 1
+    less = omega arith
+
+    bad : Step → Bool
+    bad s = reserved c s.level s.word
+
+    read_to : ℕ → Option ℕ → List Step
+    read_to k word = unwrap_or (option_map
+        (λ e. record { level = suc n; frame = frame; index = index (suc n) p; word = e } ∷ cond (reads_on c (suc n) e) (until bad (steps T p k (address e))) []) word) []
+
+    each : (r b : Bool) (below : List Step) → cond r [] (until bad (cond b below [])) ≡ cond (b && not r) (until bad below) []
+    each true true below = refl
+    each true false below = refl
+    each false true below = refl
+    each false false below = refl
+
+    by : (o : Option ℕ) → until bad (unwrap_or (option_map
+        (λ e. record { level = suc n; frame = frame; index = index (suc n) p; word = e } ∷ cond (leads_on (suc n) e) (steps T p n (address e)) []) o) []) ≡ read_to n o
+    by None = refl
+    by (Some e) = ap (λ rest. record { level = suc n; frame = frame; index = index (suc n) p; word = e } ∷ rest)
+        (each (reserved c (suc n) e) (leads_on (suc n) e) (steps T p n (address e)) ∙ ap (λ b. cond b (until bad (steps T p n (address e))) []) (reads_is c (suc n) e l))
 
 -- the outcome of steps
 abbrev comes_of : Controls → Access → (p : ℕ) → Rights → (frame : ℕ) → List Step → Outcome
@@ -42,7 +116,7 @@ unfolding access access_on
 on_root c T p a level root = refl
 
 pub on_zero : (c : Controls) (T : Words) (p : ℕ) (a : Access) (frame : ℕ) (r : Rights) → NoMemory frame ≡ access_on c T p a 0 frame r
-unfolding access_on steps_from
+unfolding access_on steps_from steps
 on_zero c T p a frame r = refl
 
 pub on_none : (c : Controls) (T : Words) (p : ℕ) (a : Access) (level frame : ℕ) (r : Rights) → 1 ≤ level → None ≡ read T frame (index level p)
@@ -69,17 +143,6 @@ is_arrival outcome = false
 abbrev pub words_in : List Step → List ℕ
 words_in steps = map (λ s. s.word) steps
 
--- the rights of one more word
-pub both_more : (r : Rights) (e : ℕ) (words : List ℕ) → both r (rights_of (e ∷ words)) ≡ both (granted r e) (rights_of words)
-both_more r e words = rw (
-  and_assoc r.write (writable e) (list_all writable words),
-  and_assoc r.user (user e) (list_all user words),
-  and_assoc r.execute (not (no_execute e)) (list_all (λ f. not (no_execute f)) words),
-) refl
-
-pub both_none : (r : Rights) → both r (rights_of []) ≡ r
-both_none r = rw (and-true r.write, and-true r.user, and-true r.execute) refl
-
 -- the last step decides, whatever frame the walk began with
 at_last : (c : Controls) (a : Access) (p : ℕ) (r : Rights) (frame other : ℕ) (s : Step) (steps : List Step)
     → ends_by c a p r frame (last_or (Some s) steps) ≡ ends_by c a p r other (last_or (Some s) steps)
@@ -102,7 +165,7 @@ module _ (c : Controls) (T : Words) (p : ℕ) (a : Access) (level frame : ℕ) (
   -- the walk ends at the word
   pub on_end : reads_on c level e ≡ false → ends_at c a p (granted r e) step ≡ access_on c T p a level frame r
   on_end h = sym (to_step ∙ ap (λ b. comes_of c a p r frame (step ∷ cond b below [])) h
-      ∙ ap (λ s. ends_at c a p s step) (both_more r e [] ∙ both_none (granted r e)))
+      ∙ ap (λ s. ends_at c a p s step) (both_last r e))
 
   -- where the steps from the table below lead, if there are any
   after : (steps : List Step) → ends_at c a p (both r (rights_of (e ∷ []))) step ≡ NoMemory (address e)
@@ -205,26 +268,6 @@ pub none_arrives : (c : Controls) (T : Words) (p : ℕ) (a : Access) (level fram
     → None ≡ read T frame (index level p) → ⊥
 none_arrives c T p a level frame l (r, to, arrives) is = true≢false (sym (ap is_arrival (on_none c T p a level frame r l is ∙ arrives)))
 
--- ---- which words map pages
-
-one_of : (a h b c : Bool) → (a || (h && (b || c))) ≡ true → (a ≡ true) ⊎ ((b ≡ true) ⊎ (c ≡ true))
-one_of true h b c t = inl refl
-one_of false h true c t = inr (inl refl)
-one_of false h false true t = inr (inr refl)
-one_of false true false false t = absurd (true≢false (sym t))
-one_of false false false false t = absurd (true≢false (sym t))
-
-pub or_left : (a b : Bool) → (a || b) ≡ false → a ≡ false
-or_left false b h = refl
-or_left true b h = absurd (true≢false h)
-
-pub or_right : (a b : Bool) → (a || b) ≡ false → b ≡ false
-or_right false b h = h
-or_right true b h = absurd (true≢false h)
-
-pub table_high : (level e : ℕ) → 1 ≤ level → maps_page level e ≡ false → 1 < level
-table_high level e low table = omega (arith, low, eqb-false level 1 (or_left (level == 1) (huge e && ((level == 2) || (level == 3))) table))
-
 -- ---- which words name tables that are read
 
 plain_sound : (p h lt le nx x bad : Bool) → (lt ≡ true → le ≡ false) → (p && (not h && (lt && (nx || not x)))) ≡ true
@@ -238,70 +281,37 @@ plain_sound true false true false true false bad f t = (refl, refl)
 plain_sound true false true false false true bad f t = absurd (true≢false (sym t))
 plain_sound true false true false false false bad f t = (refl, refl)
 
-other_bad : (p h lt le nx x high low : Bool) → (lt ≡ false → le ≡ true) → (h ≡ true → high ≡ true) → (p && (not h && (lt && (nx || not x)))) ≡ false
-    → (p && not ((le || (h && (high || low))) || (x && not nx))) ≡ false
-other_bad false h lt le nx x high low f k t = refl
-other_bad true true lt true nx x high low f k t = refl
-other_bad true true lt false nx x true low f k t = refl
-other_bad true true lt false nx x false low f k t = absurd (true≢false (sym (k refl)))
-other_bad true false false true nx x high low f k t = refl
-other_bad true false false false nx x high low f k t = absurd (true≢false (sym (f refl)))
-other_bad true false true true nx x high low f k t = refl
-other_bad true false true false true x high low f k t = absurd (true≢false t)
-other_bad true false true false false true high low f k t = refl
-other_bad true false true false false false high low f k t = absurd (true≢false t)
-
-pub reads_sound : (c : Controls) (level e : ℕ) → may_read_on c e ≡ true → (present e ≡ true) × (reserved c level e ≡ false)
-unfolding may_read_on reserved
-reads_sound c level e = plain_sound (present e) (huge e) (nat_lt (address e) (2 ^ c.physical_bits)) (nat_le (2 ^ c.physical_bits) (address e)) c.no_execute (no_execute e)
-    (nat_le 4 level || not (bit_and e (low_bits level) == 0)) (λ t. lt-leb (2 ^ c.physical_bits) (address e) (ltb-true (address e) (2 ^ c.physical_bits) t))
-
-high_huge : (level e : ℕ) → 1 ≤ level → maps_page level e ≡ false → huge e ≡ true → nat_le 4 level ≡ true
-high_huge level e low table large =
-    let both : ((level == 2) || (level == 3)) ≡ false = sym (ap (λ h. h && ((level == 2) || (level == 3))) large) ∙ or_right (level == 1) (huge e && ((level == 2) || (level == 3))) table in
-    le-leb 4 level (omega (arith, table_high level e low table, eqb-false level 2 (or_left (level == 2) (level == 3) both), eqb-false level 3 (or_right (level == 2) (level == 3) both)))
-
-pub others_fault : (c : Controls) (level e : ℕ) → 1 ≤ level → maps_page level e ≡ false → may_read_on c e ≡ false → (present e && not (reserved c level e)) ≡ false
-unfolding may_read_on reserved
-others_fault c level e low table = other_bad (present e) (huge e) (nat_lt (address e) (2 ^ c.physical_bits)) (nat_le (2 ^ c.physical_bits) (address e)) c.no_execute (no_execute e)
-    (nat_le 4 level) (not (bit_and e (low_bits level) == 0)) (λ f. le-leb (2 ^ c.physical_bits) (address e) (ltb-false (address e) (2 ^ c.physical_bits) f)) (high_huge level e low table)
-
 pub read_not_huge : (c : Controls) (e : ℕ) → may_read_on c e ≡ true → huge e ≡ false
 unfolding may_read_on
-read_not_huge c e = by (present e) (huge e) (nat_lt (address e) (2 ^ c.physical_bits) && (c.no_execute || not (no_execute e)))
+read_not_huge c e on = by (present e) (huge e) (nat_lt (address e) (2 ^ c.physical_bits) && (c.no_execute || not (no_execute e))) (both_left _ (not (c.global_reserved && global e)) on)
   where
     by : (p h rest : Bool) → (p && (not h && rest)) ≡ true → h ≡ false
     by true false rest t = refl
     by true true rest t = absurd (true≢false (sym t))
     by false h rest t = absurd (true≢false (sym t))
 
+pub reads_sound : (c : Controls) (level e : ℕ) → may_read_on c e ≡ true → (present e ≡ true) × (reserved c level e ≡ false)
+unfolding may_read_on reserved
+reads_sound c level e on =
+    let bad = nat_le 4 level || not (bit_and e (low_bits level) == 0) in
+    let rest = present e && (not (huge e) && (nat_lt (address e) (2 ^ c.physical_bits) && (c.no_execute || not (no_execute e)))) in
+    let plain = plain_sound (present e) (huge e) (nat_lt (address e) (2 ^ c.physical_bits)) (nat_le (2 ^ c.physical_bits) (address e)) c.no_execute (no_execute e) bad
+    (λ t. lt-leb (2 ^ c.physical_bits) (address e) (ltb-true (address e) (2 ^ c.physical_bits) t)) (and_left rest (c.global_reserved && global e) on) in
+    let none = table_none c level e (read_not_huge c e on) (and_right rest (c.global_reserved && global e) on) in (
+      plain.0,
+      ap (λ s. ((s || nat_le (2 ^ c.physical_bits) (address e)) || (huge e && bad)) || (no_execute e && not c.no_execute)) none ∙ plain.1,
+    )
+
 pub no_page : (a h b : Bool) → a ≡ false → h ≡ false → (a || (h && b)) ≡ false
 no_page false false b n m = refl
 no_page true h b n m = absurd (true≢false n)
 no_page false true b n m = absurd (true≢false m)
 
-pub or_not : (a b : Bool) → b ≡ false → (a || not b) ≡ true
-or_not true b h = refl
-or_not false false h = refl
-or_not false true h = absurd (true≢false h)
-
--- a word at which the processor doesn't read on
-pub stops : (c : Controls) (level e : ℕ) → 1 ≤ level → ((level == 1) || not (may_read_on c e)) ≡ true → reads_on c level e ≡ false
-stops c level e low stop = by (maps_page level e) refl
-  where
-    sound : Bool
-    sound = present e && not (reserved c level e)
-
-    by : (b : Bool) → maps_page level e ≡ b → reads_on c level e ≡ false
-    by true page = rw page (and-false sound)
-    by false table =
-        let no_read : may_read_on c e ≡ false = other (level == 1) (may_read_on c e) (or_left (level == 1) (huge e && ((level == 2) || (level == 3))) table) stop in
-        rw (others_fault c level e low table no_read) refl
-      where
-        other : (a b : Bool) → a ≡ false → (a || not b) ≡ true → b ≡ false
-        other false false n h = refl
-        other false true n h = absurd (true≢false (sym h))
-        other true b n h = absurd (true≢false n)
+-- a word after which the processor reads on
+pub table_sound : (c : Controls) (level e : ℕ) → reads_on c level e ≡ true → (present e ≡ true) × (reserved c level e ≡ false) × (maps_page level e ≡ false)
+table_sound c level e on =
+    let sound = and_left (present e && not (reserved c level e)) (maps_page level e) on in
+    (and_left (present e) (reserved c level e) sound, and_right (present e) (reserved c level e) sound, and_right (present e && not (reserved c level e)) (maps_page level e) on)
 
 -- a word that maps a page, and that the processor accepts
 accepted_by : (le h high low nx x : Bool) → high ≡ false → low ≡ true → ((le || (h && false)) || (x && not nx)) ≡ false → ((le || (h && (high || not low))) || (x && not nx)) ≡ false
@@ -309,12 +319,18 @@ accepted_by le h false true nx x f t sound = sound
 accepted_by le h true low nx x f t sound = absurd (true≢false f)
 accepted_by le h false false nx x f t sound = absurd (true≢false (sym t))
 
--- a page's word without low bits has a reserved bit only if it has one at level one
-pub low_sound : (c : Controls) (level e : ℕ) → level ≤ 3 → (bit_and e (low_bits level) == 0) ≡ true → reserved c 1 e ≡ false → reserved c level e ≡ false
+-- a page's word without low bits has a reserved bit only if it has one at level one, or if there are no pages of its size
+pub low_sound : (c : Controls) (level e : ℕ) → level ≤ 3 → (bit_and e (low_bits level) == 0) ≡ true → ((level == 3) && c.no_1gib_pages) ≡ false
+    → reserved c 1 e ≡ false → reserved c level e ≡ false
 unfolding reserved
-low_sound c level e below low sound = accepted_by (nat_le (2 ^ c.physical_bits) (address e)) (huge e) (nat_le 4 level) (bit_and e (low_bits level) == 0) c.no_execute (no_execute e)
+low_sound c level e below low there sound =
+    ap (λ s. ((s || nat_le (2 ^ c.physical_bits) (address e)) || (huge e && (nat_le 4 level || not (bit_and e (low_bits level) == 0)))) || (no_execute e && not c.no_execute))
+    (page_none c level e below there)
+    ∙ accepted_by (nat_le (2 ^ c.physical_bits) (address e)) (huge e) (nat_le 4 level) (bit_and e (low_bits level) == 0) c.no_execute (no_execute e)
     (lt-leb 4 level (omega (arith, below))) low
-    (ap (λ z. (nat_le (2 ^ c.physical_bits) (address e) || (huge e && not (z == 0))) || (no_execute e && not c.no_execute)) (sym (and_zero_r e)) ∙ sound)
+    (ap (λ z. (nat_le (2 ^ c.physical_bits) (address e) || (huge e && not (z == 0))) || (no_execute e && not c.no_execute)) (sym (and_zero_r e))
+    ∙ ap (λ s. ((s || nat_le (2 ^ c.physical_bits) (address e)) || (huge e && not (bit_and e 0 == 0))) || (no_execute e && not c.no_execute)) (sym (low_none c 1 e refl refl))
+    ∙ sound)
 
 ends_of : (a h b : Bool) → (a || (h && b)) ≡ true → (a ≡ true) ⊎ (h ≡ true)
 ends_of true h b t = inl refl
@@ -333,13 +349,22 @@ page_low level e page = ⊎_elim
     (one_of (level == 1) (huge e) (level == 2) (level == 3) page)
 
 -- a word that maps a page and that the processor accepts, by what a mask finds of it
-pub accepted : (c : Controls) (level e : ℕ) (m : Bool) → m ≡ (present e && not (reserved c 1 e))
-    → (m && ((level == 1) || (maps_page level e && (bit_and e (low_bits level) == 0)))) ≡ true
+pub accepted : (c : Controls) (level e : ℕ) (m n : Bool) → m ≡ (present e && not (reserved c 1 e)) → n ≡ c.no_1gib_pages
+    → (m && ((level == 1) || ((maps_page level e && (bit_and e (low_bits level) == 0)) && not ((level == 3) && n)))) ≡ true
     → (present e ≡ true) × (reserved c level e ≡ false) × (maps_page level e ≡ true)
-accepted c level e m is t = by (level == 1) refl
+accepted c level e m n is lacks t = by (level == 1) refl
   where
+    plain : Bool
+    plain = maps_page level e && (bit_and e (low_bits level) == 0)
+
+    none : Bool
+    none = (level == 3) && n
+
+    fits : Bool
+    fits = plain && not none
+
     sound : (present e && not (reserved c 1 e)) ≡ true
-    sound = sym is ∙ both_left m ((level == 1) || (maps_page level e && (bit_and e (low_bits level) == 0))) t
+    sound = sym is ∙ both_left m ((level == 1) || fits) t
 
     fine : reserved c 1 e ≡ false
     fine = and_right (present e) (reserved c 1 e) sound
@@ -351,11 +376,11 @@ accepted c level e m is t = by (level == 1) refl
       ap (λ b. b || (huge e && ((level == 2) || (level == 3)))) one,
     )
     by false other =
-        let large : (maps_page level e && (bit_and e (low_bits level) == 0)) ≡ true =
-        ap (λ b. b || (maps_page level e && (bit_and e (low_bits level) == 0))) (sym other) ∙ both_right m ((level == 1) || (maps_page level e && (bit_and e (low_bits level) == 0))) t in
-        let page = both_left (maps_page level e) (bit_and e (low_bits level) == 0) large in (
+        let large : fits ≡ true = ap (λ b. b || fits) (sym other) ∙ both_right m ((level == 1) || fits) t in
+        let both : plain ≡ true = and_left plain none large in
+        let page = both_left (maps_page level e) (bit_and e (low_bits level) == 0) both in (
           and_left (present e) (reserved c 1 e) sound,
-          low_sound c level e (page_low level e page) (both_right (maps_page level e) (bit_and e (low_bits level) == 0) large) fine,
+          low_sound c level e (page_low level e page) (both_right (maps_page level e) (bit_and e (low_bits level) == 0) both) (ap (λ b. (level == 3) && b) (sym lacks) ∙ and_right plain none large) fine,
           page,
         )
 

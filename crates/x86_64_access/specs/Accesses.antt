@@ -27,6 +27,8 @@ controls_of c = record {
   smap = c.smap;
   ac = c.ac;
   physical_bits = c.physical_bits;
+  no_1gib_pages = c.no_1gib_pages;
+  global_reserved = c.global_reserved;
 }
 
 -- The outcome of an access in the model that a fault in Rust stands for: a page fault with its code and level, or a table that is

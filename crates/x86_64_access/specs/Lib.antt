@@ -1,4 +1,5 @@
 pub use Rattle.x86_64_model.specs.Access
+pub use Rattle.x86_64_model.specs.Steps
 pub mod Codes
 pub mod Accesses
 pub mod Laws

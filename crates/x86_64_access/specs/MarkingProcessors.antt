@@ -2,7 +2,7 @@
 use Rattle.std.specs.Prelude.{◌≡◌, ◌≢◌, ◌⊎◌, ◌<◌, ℕ, Bool, false, List, [], ◌∷◌, Some, IsSome}
 use Rattle.x86_64_model.specs.Arrivals.{KeepsArrival}
 use Rattle.x86_64_model.specs.Caches.{PartialWalk, MayAccess, MayRead, walk_with_rights, walked_in}
-use Rattle.x86_64_model.specs.Flushing.{Due, Event, HasZeros, IsDone, MayHappen, System, TablesDue, after_event, concerns, fresh}
+use Rattle.x86_64_model.specs.Flushing.{Due, Event, IsDone, IsEmptied, MayHappen, System, after_event, concerns, fresh}
 use Rattle.x86_64_model.specs.Validity.{paths_of}
 use Rattle.x86_64_model.specs.Laws.Caches.{IsLetGo, IsStale, WalksThere}
 use Rattle.x86_64_model.specs.Laws.Steps.{FitsState}
@@ -85,7 +85,7 @@ pub record IsCovered (m : Machine) (root : ℕ) (now : System) : Type 0 where
   pub let_go : (address : ℕ) → (let window = window_now now.words root m.window in IsLetGo m.levels window now.due (entry_at window now.paths) address)
       → (p : ℕ) (w : PartialWalk) → MayAccess m.levels root now.words now.cache p w → (walked_in m.levels p w).address ≢ address
   pub reads : (t : PartialWalk) → MayRead root now.cache t
-      → (IsTable m.levels root now.paths t.frame × IsSome (now.words t.frame)) ⊎ (In now.due TablesDue × In now.state.pool t.frame × HasZeros now.words t.frame)
+      → (IsTable m.levels root now.paths t.frame × IsSome (now.words t.frame)) ⊎ IsEmptied now.due now.state.pool now.words t.frame
 
 -- What has to be flushed after each call is enough for a processor that sets ACCESSED and DIRTY, at every moment, also during
 -- calls.

@@ -1,5 +1,5 @@
 //! Laws of accesses: how they agree with page walks.
-ghost use Rattle.x86_64_access.specs.Corners.{MissingEntriesFault, NoExecuteIsReserved, ReservedBitsFault, SmapKeepsOut, SmepKeepsOut, SupervisorsWrite};
+ghost use Rattle.x86_64_access.specs.Corners.{GlobalIsReserved, HugeIsReserved, MissingEntriesFault, NoExecuteIsReserved, OthersAreReserved, ReservedBitsFault, SmapKeepsOut, SmepKeepsOut, SupervisorsWrite};
 ghost use Rattle.x86_64_access.specs.MarkingProcessors.{FlushesAreEnoughWithMarks, MarksMayHappen};
 ghost use Rattle.x86_64_access.specs.Marks.{AccessesLeaveMarks, AccessesStay, CachesStay, FitsStay, MarkedWalksStay};
 ghost use Rattle.x86_64_access.specs.RightsTable.{CodesAreListed, RightsAreListed};
@@ -92,6 +92,25 @@ pub fn reserved_bits_fault()
 #[tactic(auto, using(crate::proofs::Corners::no_execute_is_reserved))]
 pub fn no_execute_is_reserved()
     ensures { NoExecuteIsReserved }
+{}
+
+/// Without pages of 1GiB, `HUGE_PAGE` is a reserved bit at level three.
+#[tactic(auto, using(crate::proofs::Corners::huge_is_reserved))]
+pub fn huge_page_is_reserved_without_1gib_pages()
+    ensures { HugeIsReserved }
+{}
+
+/// To a processor that reserves it there, `GLOBAL` is a reserved bit at levels four and five.
+#[tactic(auto, using(crate::proofs::Corners::global_is_reserved))]
+pub fn global_is_reserved_above_level_three()
+    ensures { GlobalIsReserved }
+{}
+
+/// To a processor with pages of 1GiB that ignores `GLOBAL` in entries that name tables, reserved bits are only those that every
+/// processor reserves.
+#[tactic(auto, using(crate::proofs::Corners::others_are_reserved))]
+pub fn other_reserved_bits_are_of_every_processor()
+    ensures { OthersAreReserved }
 {}
 
 /// A supervisor writes to its own pages without `WRITABLE` if and only if CR0.WP is off.

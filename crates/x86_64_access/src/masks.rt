@@ -4,23 +4,27 @@ ghost use Rattle.x86_64_model.specs.Access.{access_allowed, kept_out, low_bits, 
 ghost use Rattle.x86_64_model.specs.Mappings.{maps_page};
 ghost use Rattle.x86_64_model.specs.Entry.{present};
 ghost use Rattle.x86_64_access.specs.Accesses.{access_of, controls_of};
-ghost use Rattle.x86_64_access.specs.private.Masks.{high_bits, kept_bits, kind_bits, off_bits, user_bits};
+ghost use Rattle.x86_64_access.specs.private.Masks.{global_bits, high_bits, kept_bits, kind_bits, off_bits, user_bits};
 ghost use Rattle.x86_64_access.specs.private.Walking.{may_read_on, rights_by};
 
 use crate::controls::{Controls, low_bits};
-use crate::entry_bits::{ADDRESS, HUGE_PAGE, NO_EXECUTE, PRESENT, USER_ACCESSIBLE, WRITABLE};
+use crate::entry_bits::{
+    ADDRESS, GLOBAL, HUGE_PAGE, NO_EXECUTE, PRESENT, USER_ACCESSIBLE, WRITABLE,
+};
 use crate::request::{Access, AccessKind};
 use x86_64_tables::page_table::PageTableEntry;
 
 /// The masks of an access.
 #[derive(Clone, Copy)]
 pub(crate) struct Masks {
-    /// The processor reads on in the table that an entry names, provided that the entry maps no page, if of these bits the entry has
-    /// `PRESENT` alone.
+    /// The processor reads on in the table that an entry names at any level, provided that the entry maps no page, if of these bits
+    /// the entry has `PRESENT` alone.
     pub table: u64,
     /// The processor accepts an entry of level one if of these bits the entry has `PRESENT` alone, and that of a larger page if it has
-    /// no low address bits, either.
+    /// no low address bits, either, unless there are no pages of its size.
     pub page: u64,
+    /// There are no pages of 1GiB.
+    pub no_1gib_pages: bool,
     /// The bits of the rights that decide whether the access is allowed ([`RightBits`](crate::right_bits::RightBits)).
     pub asked: u64,
     /// Those of them that must be there. The others must not.
@@ -36,6 +40,7 @@ impl Masks {
         ensures table { (e : ℕ) → (bit_and e result.table == 1) ≡ may_read_on (controls_of controls.now) e }
         ensures page { (e : ℕ) → (bit_and e result.page == 1)
             ≡ (present e && not (reserved (controls_of controls.now) 1 e)) }
+        ensures giant { result.no_1gib_pages ≡ controls.now.no_1gib_pages }
         ensures rights { (b : ℕ) → (bit_and b result.asked == result.needed)
             ≡ access_allowed (controls_of controls.now) (access_of access) (rights_by b) }
     {
@@ -43,8 +48,9 @@ impl Masks {
         let kind = kind_bits(access, controls);
         let user = user_bits(access);
         Masks {
-            table: HUGE_PAGE | reserved | PRESENT,
+            table: HUGE_PAGE | reserved | global_bits(controls) | PRESENT,
             page: reserved | PRESENT,
+            no_1gib_pages: controls.no_1gib_pages,
             asked: kind | (user | kept_bits(access, controls)),
             needed: kind | user,
         }
@@ -54,10 +60,14 @@ impl Masks {
     #[inline]
     pub fn accept(self, level: u64, entry: &PageTableEntry) -> bool
         ensures { result ≡ ((bit_and entry.now self.page == 1)
-            && ((level == 1) || (maps_page level entry.now && (bit_and entry.now (low_bits level) == 0)))) }
+            && ((level == 1) || ((maps_page level entry.now && (bit_and entry.now (low_bits level) == 0))
+            && not ((level == 3) && self.no_1gib_pages)))) }
     {
         entry.word() & self.page == PRESENT
-            && (level == 1 || (entry.maps_page(level) && entry.word() & low_bits(level) == 0))
+            && (level == 1
+                || (entry.maps_page(level)
+                    && entry.word() & low_bits(level) == 0
+                    && !(level == 3 && self.no_1gib_pages)))
     }
 }
 
@@ -67,6 +77,13 @@ fn high_bits(controls: &Controls) -> u64
     ensures { result ≡ high_bits (controls_of controls.now) }
 {
     ADDRESS & (u64::MAX << controls.physical_bits)
+}
+
+/// Returns `GLOBAL` if some levels reserve it.
+fn global_bits(controls: &Controls) -> u64
+    ensures { result ≡ global_bits (controls_of controls.now) }
+{
+    if controls.global_reserved { GLOBAL } else { 0 }
 }
 
 /// Returns `NO_EXECUTE` if it is off.

@@ -97,8 +97,10 @@ struct Request {
 }
 
 impl Request {
-    ghost use Rattle.std.specs.Prelude.{false};
-    ghost use Rattle.x86_64_model.specs.Access.{Faults, code, ends_at, marked, reads_on, steps_from};
+    ghost use Rattle.std.specs.Prelude.{◌&&◌, false, not};
+    ghost use Rattle.x86_64_model.specs.Access.{Faults, code, ends_at, marked, reserved, steps_from};
+    ghost use Rattle.x86_64_model.specs.Entry.{present};
+    ghost use Rattle.x86_64_model.specs.Mappings.{maps_page};
     ghost use Rattle.x86_64_access.specs.Accesses.{fault_of};
     ghost use Rattle.x86_64_access.specs.private.Walking.{ArrivesFrom};
 
@@ -130,7 +132,9 @@ impl Request {
                 if masks.accept(level, entry) && rights.suffice(masks) {
                     return Ok(address_in_page(level, entry, position));
                 }
-                return self.end_at(level, entry, position, rights.rights());
+                if !self.controls.reads_on(level, entry) {
+                    return self.end_at(level, entry, position, rights.rights());
+                }
             }
             frame = PhysFrame::from_start_address_unchecked(entry.addr());
         }
@@ -193,7 +197,8 @@ impl Request {
     ) -> Result<PhysAddr, Fault>
         requires low { 1 ≤ level }
         requires bits { self.controls.physical_bits ≤ 52 }
-        requires last { reads_on (controls_of self.controls) level entry.now ≡ false }
+        requires last { (present entry.now && not (reserved (controls_of self.controls) level entry.now)
+            && not (maps_page level entry.now)) ≡ false }
         ensures { outcome_of result
             ≡ ends_at (controls_of self.controls) (access_of self.access) position rights
             (record { level = level; frame = 0; index = 0; word = entry.now }) }

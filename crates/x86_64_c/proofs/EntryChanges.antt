@@ -13,6 +13,7 @@ use Rattle.x86_64_model.specs.Refusal.{Answer}
 use Rattle.x86_64_model.proofs.Lemmas.Machines.Effects.{page_at_level}
 use Rattle.x86_64_model.proofs.Lemmas.Machines.Fitting.{ready_of_fits}
 use Rattle.x86_64_model.proofs.Lemmas.Machines.Giving.{giving_from}
+use Rattle.x86_64_model.proofs.Lemmas.Machines.Owners.{change_leads}
 use Rattle.x86_64_mappers.specs.private.ImplLaws.{no_flags}
 use Rattle.x86_64.proofs.Keeping.{keeps_step}
 use Rattle.x86_64_c.specs.Calls.{Changes, answer_status}
@@ -31,7 +32,7 @@ keeps : {Lent : Type 0} (h after : Hierarchy Lent) (call : Call) (answer : Answe
 keeps h after call answer adds is may does serves pool fits =
     let machine = machine_of h.layout put_first in
     let before = state_in h.layout h.memory pool in
-    let did = subst (λ l. do_call machine before call ≡ record { state = state_in l after.memory pool; reply = Answered answer }) does.layout (does.outcome pool put_first) in
+    let did = subst (λ l. do_call machine before call ≡ record { state = state_in l after.memory pool; reply = Answered answer }) does.layout (change_leads h call answer after does.outcome pool put_first) in
     let one : step machine before call ≡ record { state = state_in h.layout after.memory pool; reply = Answered answer } =
     ap (λ b. cond b (do_call machine before call) (only_reply before NotAllowed)) may ∙ did in
     keeps_step h.layout adds put_first gives serves h.memory pool fits call is after.memory pool (sym (ap (λ (x : AfterCall). x.state) one))

@@ -16,3 +16,4 @@ pub mod FrameArrays
 pub mod SpaceRanges
 pub mod FlushCalls
 pub mod WalkBySteps
+pub mod Prepared

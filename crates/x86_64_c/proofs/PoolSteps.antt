@@ -1,6 +1,7 @@
 -- What a mapper did with a pool is the machine's step, stated of the words in the caller's memory.
 use Rattle.std.proofs.Common.{zero, suc, ◌≡◌, ◌<◌, ◌≤◌, ℕ, true, false, cond, List, [], Option, Some, option_map, Result, Ok, Err, refl, sym, ap, ◌∙◌, subst, lit≤, arith}
 use Rattle.std.specs.Result.{IfOk}
+use Rattle.x86_64_model.proofs.Lemmas.Machines.Owners.{clean_up_leads}
 use Rattle.x86_64_model.specs.Call as machine
 use Rattle.x86_64_model.specs.Call.{Call}
 use Rattle.x86_64_model.specs.Entry.{IsParentFlags}
@@ -172,6 +173,7 @@ clean_up_seen : {Lent : Type 0} (h after : Hierarchy Lent) (take_back : List ℕ
     → CleansUp h take_back held low high after left → CleansUp (of h.layout h.memory) take_back held low high (of after.layout after.memory) left
 clean_up_seen h after take_back held low high left cleans = record {
   outcome = cleans.outcome;
+  returned = cleans.returned;
   valid = cleans.valid;
   fits = cleans.fits;
   empty = cleans.empty;
@@ -194,7 +196,7 @@ pub cleaned : (l : Layout) (store rest : Store) → rest.serves ≡ store.serves
 cleaned l store rest same_serves m n low high held left same last adds gives mapping fits cleans =
     let the_machine = machine_of l store.take_back in
     let one : step the_machine (state_in l m store.frames) (machine.CleanUp low high) ≡ record { state = state_in l n rest.frames; reply = machine.Cleaned } =
-    ap (λ fs. do_call the_machine (state_in l m fs) (machine.CleanUp low high)) same ∙ cleans.outcome
+    ap (λ fs. do_call the_machine (state_in l m fs) (machine.CleanUp low high)) same ∙ clean_up_leads (of l m) store.take_back held low high (of l n) left cleans
     ∙ ap (λ fs. let after : AfterCall = record { state = state_in l n fs; reply = machine.Cleaned } in after) (sym last) in
     record {
       reply = reply.Cleaned;

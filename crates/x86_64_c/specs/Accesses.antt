@@ -31,6 +31,8 @@ given_controls c = record {
   smap = c.smap;
   ac = c.ac;
   physical_bits = c.physical_bits;
+  no_1gib_pages = c.no_1gib_pages;
+  global_reserved = c.global_reserved;
 }
 
 -- What is wrong with the kind of an access, or with the number of bits of physical addresses.

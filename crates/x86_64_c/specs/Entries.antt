@@ -1,8 +1,8 @@
 -- The calls that read the entries of a page walk, with the status that says why it ends.
 use Rattle.std.specs.Prelude.{◌≡◌, ℕ, nat_le, List, Option}
 use Rattle.std.specs.Option.{option_or}
-use Rattle.x86_64_model.specs.Access.{Step}
 use Rattle.x86_64_model.specs.Hierarchy.{Hierarchy, words}
+use Rattle.x86_64_model.specs.Steps.{Step, steps}
 use Rattle.x86_64_mappings.specs.WalkEntries as walk
 use Rattle.x86_64_mappings.specs.declared.walk_entries.WalkEnd.{WalkEnd}
 use Rattle.x86_64_mappings.specs.declared.walk_entries.WalkEnd.TheVariants.{Page, NotPresent, HugePage, NoTable}
@@ -23,7 +23,7 @@ wrong_entries_call h count room a = option_or (bad_hierarchy h count) (wrong_wal
 
 -- The words that the page walk of a virtual address reads, with their places in the tables: the root's first.
 abbrev pub steps_walked : Hierarchy (Unit {0}) → (address : ℕ) → List Step
-steps_walked h a = walk.steps_to h.layout.levels (words h) h.layout.root (position_of h.layout.levels a)
+steps_walked h a = steps (words h) (position_of h.layout.levels a) h.layout.levels h.layout.root
 
 -- The status that says why a page walk ends.
 abbrev pub walk_end_status : WalkEnd → ℕ

@@ -38,7 +38,7 @@ pub record IsAsked (kind parent_flags : ℕ) (call : Call) : Type 0 where
 -- The number of the least flush that settles all that is due after a call with this reply, with L levels and no recursive index: 0
 -- nothing, 1 tables, 2 the page, 3 everything.
 abbrev pub flush_number : (L : ℕ) → Call → Reply → ℕ
-flush_number L call reply = rank (flush_for (flush_after L None call reply))
+flush_number L call reply = rank (flush_for (flush_after L None [] call reply))
 
 -- The answer is the number of the least flush that settles all that is due after each call of this kind, with these parent flags,
 -- to which the machine's reply has this status.

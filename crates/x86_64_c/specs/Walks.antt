@@ -3,13 +3,13 @@ use Rattle.std.specs.Prelude.{ℕ, Bool, Option, option_map}
 use Rattle.x86_64_model.specs.Hierarchy.{Hierarchy, walk, words}
 use Rattle.x86_64_model.specs.Mappings.{Rights}
 use Rattle.x86_64_model.specs.PageWalk.{Walked}
-use Rattle.x86_64_mappings.specs.WalkEntries.{rights_in, steps_to}
+use Rattle.x86_64_model.specs.Steps.{rights_in, steps}
 use Rattle.x86_64_c.specs.Arguments.{position_of}
 use Rattle.x86_64_c.specs.declared.walk.WalkResult.{WalkResult}
 
 -- Whether no entry that the page walk to a position reads has NO_EXECUTE.
 abbrev pub may_execute : Hierarchy (Unit {0}) → (position : ℕ) → Bool
-may_execute h p = (rights_in (steps_to h.layout.levels (words h) h.layout.root p)).execute
+may_execute h p = (rights_in (steps (words h) p h.layout.levels h.layout.root)).execute
 
 -- An arrival of a page walk at an address with these rights, as it is written for C.
 abbrev pub result_written : (address : ℕ) → Rights → WalkResult

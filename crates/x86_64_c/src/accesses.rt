@@ -40,6 +40,10 @@ pub struct Controls {
     pub ac: bool,
     /// MAXPHYADDR: the number of bits of physical addresses, from 32 to 52.
     pub physical_bits: u8,
+    /// The processor has no pages of 1GiB, so that `HUGE_PAGE` is reserved at level three, too.
+    pub no_1gib_pages: bool,
+    /// `GLOBAL` is reserved at levels four and five, as on AMD's processors.
+    pub global_reserved: bool,
 }
 
 /// An access.
@@ -81,13 +85,15 @@ pub extern "C" fn x64_access(
     request: &AccessRequest,
     outcome: &mut Outcome,
 ) -> u32
-    ensures bad { (status : ℕ) → accesses.wrong_access_call hierarchy.now (length tables.old) controls.now request.now
+    ensures bad { (status : ℕ) → accesses.wrong_access_call hierarchy.now (length tables.old) controls.now
+        request.now
         ≡ Some status → (result ≡ status) × (tables.new ≡ tables.old) × (outcome.new ≡ outcome.old) }
-    ensures told { accesses.wrong_access_call hierarchy.now (length tables.old) controls.now request.now ≡ None
-        → accesses.WritesOutcome (accesses.access_outcome (given.hierarchy_in hierarchy.now tables.old) controls.now
-        request.now) result outcome.new }
-    ensures marks { accesses.wrong_access_call hierarchy.now (length tables.old) controls.now request.now ≡ None
-        → numbered tables.new ≡ accesses.memory_accessed (given.hierarchy_in hierarchy.now tables.old)
+    ensures told { accesses.wrong_access_call hierarchy.now (length tables.old) controls.now request.now
+        ≡ None
+        → accesses.WritesOutcome (accesses.access_outcome (given.hierarchy_in hierarchy.now tables.old)
+        controls.now request.now) result outcome.new }
+    ensures marks { accesses.wrong_access_call hierarchy.now (length tables.old) controls.now request.now
+        ≡ None → numbered tables.new ≡ accesses.memory_accessed (given.hierarchy_in hierarchy.now tables.old)
         controls.now request.now }
     ensures keeps { accesses.StillFits (given.hierarchy_in hierarchy.now tables.old)
         (given.hierarchy_in hierarchy.now tables.new) }
@@ -114,7 +120,8 @@ impl<'a> Operation for Asked<'a> {
 
     type Entry = u64;
 
-    ghost wrong = { λ asked levels tables room. wrong_access_request levels asked.controls.now asked.request.now };
+    ghost wrong = { λ asked levels tables room. wrong_access_request levels asked.controls.now
+        asked.request.now };
 
     ghost may = { λ asked h array. Unit {0} };
 
@@ -145,7 +152,8 @@ impl<'a> Operation for Asked<'a> {
 
 /// Returns the access of a request to a processor, if its kind and the number of physical bits are right.
 fn access_of(controls: &Controls, request: &AccessRequest) -> Option<Access>
-    ensures some { IfSome result (λ access. memory_unit.access_of access ≡ accesses.access_asked request.now) }
+    ensures some { IfSome result (λ access. memory_unit.access_of access
+        ≡ accesses.access_asked request.now) }
     ensures good { IfSome result (λ _. accesses.wrong_access controls.now request.now ≡ None) }
     ensures bad { IfNone result (accesses.wrong_access controls.now request.now
         ≡ Some statuses.bad_access) }
@@ -219,6 +227,8 @@ fn controls_of(controls: &Controls) -> x86_64_access::Controls
         smap: controls.smap,
         ac: controls.ac,
         physical_bits: controls.physical_bits,
+        no_1gib_pages: controls.no_1gib_pages,
+        global_reserved: controls.global_reserved,
     }
 }
 

@@ -43,7 +43,8 @@ pub extern "C" fn x64_spaces_fit(
     ensures bad { (status : ℕ) → spaces.wrong_spaces_test levels shared_from shared_to
         (calls.loan tables.old pool.now free_count) (length marks.old) ≡ Some status
         → (result ≡ status) × (marks.new ≡ marks.old) }
-    ensures fit { spaces.wrong_spaces_test levels shared_from shared_to (calls.loan tables.old pool.now free_count)
+    ensures fit { spaces.wrong_spaces_test levels shared_from shared_to
+        (calls.loan tables.old pool.now free_count)
         (length marks.old) ≡ None → validity.TellsWhether (spaces.SpacesFit
         (spaces.shared_in shared_from shared_to) first levels roots.now
         (calls.loan tables.old pool.now free_count)) result }
@@ -190,7 +191,8 @@ impl Operation for NewSpace {
     ghost may = { λ new h array. FitsIn new.own.frames h array new.free_count };
 
     ghost does = { λ new h array after left made. MakesRoot new.own.frames
-        (shared_in new.shared_from new.shared_to) h array new.free_count after left made.free_count made.out };
+        (shared_in new.shared_from new.shared_to) h array new.free_count after left made.free_count
+        made.out };
 
     fn execute<L: LevelCount, T: TableMemory>(
         &self,

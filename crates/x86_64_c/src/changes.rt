@@ -13,12 +13,12 @@ use crate::arguments::{AnyPage, Hierarchy, Located, Page, page_of};
 use crate::operation::{Operation, enter};
 use crate::status::{self, flags_status};
 use bitflags::Flags;
-use x86_64::structures::paging::mapper::calls::{self, TableAccess};
 use x86_64::structures::paging::mapper::{
     FlagUpdateError, MappedPageTableIn, MapperFlushAll, MapperFlushIn, TablesIn, UnmapError,
 };
 use x86_64::structures::paging::{PageIn, PageSize, PageTable, PageTableFlags, PhysFrame};
 use x86_64::{LevelCount, TableMemory, is_outside_window};
+use x86_64_mappers::calls::{self, TableAccess};
 
 /// A change of one entry on the path of a page.
 pub trait EntryChange {

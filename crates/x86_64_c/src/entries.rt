@@ -24,9 +24,10 @@ pub extern "C" fn x64_entries(
     count: &mut usize,
 ) -> u32
     ensures bad { (status : ℕ) →
-        steps.wrong_entries_call hierarchy.now (length tables.old) (length entries.old) address ≡ Some status →
-        (result ≡ status) × (entries.new ≡ entries.old) × (count.new ≡ count.old) }
-    ensures writes { steps.wrong_entries_call hierarchy.now (length tables.old) (length entries.old) address ≡ None
+        steps.wrong_entries_call hierarchy.now (length tables.old) (length entries.old) address ≡ Some status
+        → (result ≡ status) × (entries.new ≡ entries.old) × (count.new ≡ count.old) }
+    ensures writes { steps.wrong_entries_call hierarchy.now (length tables.old) (length entries.old) address
+        ≡ None
         → steps.WritesEntries (steps.steps_walked (given.hierarchy_in hierarchy.now tables.old) address)
         entries.old result entries.new count.new }
     ensures tables { tables.new ≡ tables.old }
@@ -59,7 +60,8 @@ impl Operation for EntriesTo {
     ghost may = { λ to h array. Unit {0} };
 
     ghost does = { λ to h array after left read.
-        (after.memory ≡ h.memory) × WritesEntries (steps_walked h to.address) array (walk_end_status read.end) left read.count };
+        (after.memory ≡ h.memory) × WritesEntries (steps_walked h to.address) array (walk_end_status read.end)
+        left read.count };
 
     fn execute<L: LevelCount, T: TableMemory>(
         &self,

@@ -15,6 +15,7 @@ mod maps;
 mod operation;
 mod pool;
 mod pool_calls;
+mod preparations;
 mod ranges;
 mod reads;
 mod status;

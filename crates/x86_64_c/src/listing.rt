@@ -112,8 +112,8 @@ impl Operation for Listing {
 
     ghost may = { λ new h array. Unit {0} };
 
-    ghost does = { λ new h array after left listed. let all = mappings_from_address h new.from in (after.memory ≡ h.memory)
-        × WritesMappings all h.layout.levels array left listed.count
+    ghost does = { λ new h array after left listed. let all = mappings_from_address h new.from in
+        (after.memory ≡ h.memory) × WritesMappings all h.layout.levels array left listed.count
         × (listed.next ≡ next_of h.layout.levels (drop (length array) all)) };
 
     fn execute<L: LevelCount, T: TableMemory>(
@@ -141,7 +141,8 @@ fn fill<L: LevelCount, T: TableMemory, P: PageTableFrameMapping>(
     ensures count { result ≡ length (take (length mappings.old) coming.old) }
     ensures rest { coming.new ≡ drop (length mappings.old) coming.old }
     ensures array { mappings.new
-        ≡ map (listing.mapping_written L.LEVELS) (take (length mappings.old) coming.old) ++ drop result mappings.old }
+        ≡ map (listing.mapping_written L.LEVELS) (take (length mappings.old) coming.old) ++ drop result
+        mappings.old }
 {
     for n in 0..mappings.len() {
         match coming.next() {

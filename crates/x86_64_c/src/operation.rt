@@ -1,4 +1,4 @@
-//! The way in: what each operation on a hierarchy in the caller's tables shares.
+//! The way in, which each operation on the caller's tables shares
 ghost use Rattle.std.specs.Prelude.{◌≡◌, ℕ, List, length, Option, Some, None, IfOk, IfErr, OnErr};
 ghost use Rattle.std.specs.FinMap.{len};
 ghost use Rattle.x86_64_c.specs.Arguments as given;

@@ -12,13 +12,12 @@ use crate::operation::{Operation, enter};
 use crate::pool::{PoolStep, Stepped, with_pool};
 use crate::status::{self, map_status};
 use bitflags::Flags;
-use x86_64::structures::paging::mapper::{
-    MapToError, MappedPageTableIn, MapperFlushIn, calls as mapper_calls,
-};
+use x86_64::structures::paging::mapper::{MapToError, MappedPageTableIn, MapperFlushIn};
 use x86_64::structures::paging::{
     PageIn, PageSize, PageTable, PageTableFlags, PhysFrame, Size4KiB,
 };
 use x86_64::{FrameStore, LevelCount, OwnFrames, TableMemory};
+use x86_64_mappers::calls as mapper_calls;
 
 // ---- maps
 
@@ -266,7 +265,8 @@ impl Operation for CleanUp {
 
     ghost does = { λ new h array after left cleaned.
         Leaves new.own.frames array new.free_count left cleaned.free_count (λ pool rest.
-        RunsCall h pool (clean_up_call h.layout.levels new.first_page new.last_page) after rest cleaned.out) };
+        RunsCall h pool (clean_up_call h.layout.levels new.first_page new.last_page) after rest
+        cleaned.out) };
 
     fn execute<L: LevelCount, T: TableMemory>(
         &self,

@@ -16,10 +16,10 @@ use crate::operation::{Operation, enter};
 use crate::pool::{PoolStep, Stepped, with_pool};
 use crate::status::{self, map_status};
 use bitflags::Flags;
-use x86_64::structures::paging::mapper::calls::{self, FrameSink};
 use x86_64::structures::paging::mapper::{MapRangeErrorIn, MappedPageTableIn, MapperFlushRangeIn};
 use x86_64::structures::paging::{PageIn, PageSize, PageTable, PageTableFlags, PhysFrame};
 use x86_64::{FrameStore, LevelCount, OwnFrames, TableMemory};
+use x86_64_mappers::calls::{self, FrameSink};
 
 /// The end of physical addresses.
 const PHYSICAL_END: u64 = 1 << 52;
@@ -360,7 +360,8 @@ pub extern "C" fn x64_unmap_range(
         ≡ Some status → (result ≡ status) × (tables.new ≡ tables.old) × (frames.new ≡ frames.old)
         × (frame_count.new ≡ frame_count.old) × (done.new ≡ done.old) }
     ensures unmaps { ranges.wrong_page_range hierarchy.now (length tables.old) first.now count ≡ None
-        → ranges.UnmapsRange (given.hierarchy_in hierarchy.now tables.old) (given.level_of_page_size first.now.size)
+        → ranges.UnmapsRange (given.hierarchy_in hierarchy.now tables.old)
+        (given.level_of_page_size first.now.size)
         (given.position_of hierarchy.now.levels first.now.start) count frames.old
         (given.hierarchy_in hierarchy.now tables.new) result frames.new frame_count.new done.new }
 {
@@ -479,7 +480,8 @@ pub extern "C" fn x64_update_flags_range(
     ensures bad { (status : ℕ) → ranges.wrong_page_range hierarchy.now (length tables.old) first.now count
         ≡ Some status → (result ≡ status) × (tables.new ≡ tables.old) × (changed.new ≡ changed.old) }
     ensures updates { ranges.wrong_page_range hierarchy.now (length tables.old) first.now count ≡ None
-        → ranges.MayUpdate (given.hierarchy_in hierarchy.now tables.old) (given.level_of_page_size first.now.size)
+        → ranges.MayUpdate (given.hierarchy_in hierarchy.now tables.old)
+        (given.level_of_page_size first.now.size)
         (given.position_of hierarchy.now.levels first.now.start) flags count changed.old
         (given.hierarchy_in hierarchy.now tables.new) result changed.new }
 {

@@ -9,8 +9,9 @@ use crate::operation::{Operation, enter};
 use crate::status;
 use bitflags::Flags;
 use x86_64::structures::paging::PageTable;
-use x86_64::structures::paging::mapper::{MappedPageTableIn, TranslateResult, calls};
+use x86_64::structures::paging::mapper::{MappedPageTableIn, TranslateResult};
 use x86_64::{LevelCount, TableMemory, page_walk};
+use x86_64_mappers::calls;
 
 /// Where a page walk arrives, and what all entries on its way allow.
 #[derive(Drop)]
@@ -96,7 +97,8 @@ impl Operation for PageWalk {
 
     ghost may = { λ walk h array. Unit {0} };
 
-    ghost does = { λ walk h array after left found. (after.memory ≡ h.memory) × (found ≡ walked_to h walk.address) };
+    ghost does = { λ walk h array after left found. (after.memory ≡ h.memory)
+        × (found ≡ walked_to h walk.address) };
 
     fn execute<L: LevelCount, T: TableMemory>(
         &self,

@@ -88,7 +88,8 @@ impl Operation for Walk {
 
     ghost may = { λ walk h array. Unit {0} };
 
-    ghost does = { λ walk h array after left found. (after.memory ≡ h.memory) × (found ≡ result_walked h walk.address) };
+    ghost does = { λ walk h array after left found. (after.memory ≡ h.memory)
+        × (found ≡ result_walked h walk.address) };
 
     fn execute<L: LevelCount, T: TableMemory>(
         &self,

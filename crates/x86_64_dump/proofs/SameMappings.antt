@@ -1,13 +1,15 @@
 -- Words that are equal wherever page walks from a root lead have equal mappings and page walks.
-use Rattle.std.proofs.Common.{◌≡◌, ℕ, zero, suc, ◌+◌, ◌*◌, ◌%◌, ◌&&◌, nat_le, Bool, true, false, cond, List, [], ◌∷◌, flat_map, get_or, Option, Some, None, option_and_then, option_map, refl, sym, ap, ◌∙◌}
-use Rattle.x86_64_model.specs.Entry.{present, writable, user, huge, address}
+use Rattle.std.proofs.Common.{◌≡◌, ℕ, zero, suc, ◌+◌, ◌*◌, ◌&&◌, Bool, true, false, not, cond, List, [], ◌∷◌, flat_map, get_or, Option, Some, None, option_map, unwrap_or, refl, sym, ap, ◌∙◌}
+use Rattle.x86_64_model.specs.Entry.{present, huge, address}
 use Rattle.x86_64_model.specs.Mappings.{Rights, Mapping, maps_page, mappings_of, every_right, granted}
 use Rattle.x86_64_model.specs.Memory.{Words}
-use Rattle.x86_64_model.specs.PageWalk.{Walked, arrives, read, page_start, page_walk, walk_on}
+use Rattle.x86_64_model.specs.PageWalk.{read, page_walk}
 use Rattle.x86_64_model.specs.Path.{indices}
 use Rattle.x86_64_model.specs.Position.{span, index}
+use Rattle.x86_64_model.specs.Steps.{Step, arrival_along, leads_on, steps}
 use Rattle.x86_64_model.specs.private.Found.{page_from}
 use Rattle.x86_64_model.proofs.Lemmas.Mappings.Listed.{listed_by, list_and_then, listed_on, mappings_listed}
+use Rattle.x86_64_model.proofs.Lemmas.Walks.Steps.{step, walks_arrive_by_steps}
 use Rattle.x86_64_dump.specs.Reached.{SameBelow}
 
 same_read : (T W : Words) (f i : ℕ) → T f ≡ W f → read T f i ≡ read W f i
@@ -49,34 +51,26 @@ same_mappings L T W root same = mappings_listed L T root ∙ same_listed L T W 0
 
 -- ---- walks
 
--- a step of a page walk depends on what is below only if the word names a table
-step_on : (p level : ℕ) (w u : Bool) (e : ℕ) (there high : Bool) → Option Walked → Option Walked
-step_on p level w u e there high on = cond there (cond high (cond (nat_le level 3) (arrives (page_start level e + p % span level) (w && writable e) (u && user e)) None) on) None
+pub same_steps : (T W : Words) (p level f : ℕ) → SameBelow level T W f → steps T p level f ≡ steps W p level f
+unfolding steps
+same_steps T W p zero f same = refl
+same_steps T W p (suc n) f same = by (read T f (index (suc n) p)) refl (λ e there is plain. same_steps T W p n (address e) (same.1 (index (suc n) p) e there is plain))
+    ∙ ap (go W) (same_read T W f (index (suc n) p) same.0)
+  where
+    go : Words → Option ℕ → List Step
+    go V o = unwrap_or (option_map (λ e. step p (suc n) f e ∷ cond (leads_on (suc n) e) (steps V p n (address e)) []) o) []
 
-same_step : (p level : ℕ) (w u : Bool) (e : ℕ) (there high : Bool) (x y : Option Walked) → (there ≡ true → high ≡ false → x ≡ y) → step_on p level w u e there high x ≡ step_on p level w u e there high y
-unfolding step_on
-same_step p level w u e false high x y same = refl
-same_step p level w u e true true x y same = refl
-same_step p level w u e true false x y same = same refl refl
+    each : (x y : List Step) (b m h : Bool) → (b ≡ true → h ≡ false → x ≡ y) → cond (b && not m && not h) x [] ≡ cond (b && not m && not h) y []
+    each x y true true h alike = refl
+    each x y true false true alike = refl
+    each x y true false false alike = alike refl refl
+    each x y false m h alike = refl
 
-step_by : Words → (p n : ℕ) (w u : Bool) (e : ℕ) → Option Walked
-step_by V p n w u e = step_on p (suc (suc n)) w u e (present e) (huge e) (walk_on V p (suc n) (w && writable e) (u && user e) (address e))
-
-same_by : (T W : Words) (p n : ℕ) (w u : Bool) (o : Option ℕ)
-    → ((e : ℕ) → o ≡ Some e → present e ≡ true → huge e ≡ false → walk_on T p (suc n) (w && writable e) (u && user e) (address e) ≡ walk_on W p (suc n) (w && writable e) (u && user e) (address e))
-    → option_and_then (step_by T p n w u) o ≡ option_and_then (step_by W p n w u) o
-unfolding step_by
-same_by T W p n w u None same = refl
-same_by T W p n w u (Some e) same = same_step p (suc (suc n)) w u e (present e) (huge e) _ _ (same e refl)
-
-same_walk_on : (n : ℕ) (T W : Words) (p : ℕ) (w u : Bool) (f : ℕ) → SameBelow n T W f → walk_on T p n w u f ≡ walk_on W p n w u f
-unfolding walk_on step_by step_on
-same_walk_on zero T W p w u f same = refl
-same_walk_on (suc zero) T W p w u f same = ap (option_and_then (λ e. cond (present e) (arrives (address e + p % span 1) (w && writable e) (u && user e)) None)) (same_read T W f (index 1 p) same.0)
-same_walk_on (suc (suc n)) T W p w u f same = let i = index (suc (suc n)) p in
-    same_by T W p n w u (read T f i) (λ e is there small. same_walk_on (suc n) T W p (w && writable e) (u && user e) (address e) (same.1 i e is there small))
-    ∙ ap (option_and_then (step_by W p n w u)) (same_read T W f i same.0)
+    by : (o : Option ℕ) → read T f (index (suc n) p) ≡ o
+        → ((e : ℕ) → read T f (index (suc n) p) ≡ Some e → present e ≡ true → huge e ≡ false → steps T p n (address e) ≡ steps W p n (address e))
+        → go T o ≡ go W o
+    by None there on = refl
+    by (Some e) there on = ap (λ below. step p (suc n) f e ∷ below) (each _ _ (present e) (maps_page (suc n) e) (huge e) (on e there))
 
 pub same_walks : (L : ℕ) (T W : Words) (root p : ℕ) → SameBelow L T W root → page_walk L T root p ≡ page_walk L W root p
-unfolding page_walk
-same_walks L T W root p same = same_walk_on L T W p true true root same
+same_walks L T W root p same = walks_arrive_by_steps L T root p ∙ ap (arrival_along p) (same_steps T W p L root same) ∙ sym (walks_arrive_by_steps L W root p)

@@ -1,13 +1,13 @@
 //! What Linux's VMCOREINFO says of its kernel.
 ghost use Rattle.std.specs.Prelude.{◌≡◌, ◌≤◌, ◌<◌, ◌^◌, ◌==◌, IfSome, length};
 ghost use Rattle.std.specs.List.{position};
-ghost use Rattle.std.specs.Option.{SomeIff, option_copied};
+ghost use Rattle.std.specs.Option.{option_copied};
 ghost use Rattle.std.specs.Fmt.{WritesOnOk};
-ghost use Rattle.std.specs.Str.Parse.{IsNumeral, digits_value};
 ghost use Rattle.x86_64_dump.specs.FaultTexts as texts;
 ghost use Rattle.x86_64_dump.specs.VmCoreInfo as info;
 
 use std::fmt::{Display, Formatter, Result as FmtResult, Write};
+use text::parse_digits;
 use x86_64_addr::addr::PhysAddr;
 use x86_64_addr::level_count::Levels;
 use x86_64_page::frame::PhysFrame;
@@ -177,19 +177,6 @@ fn number_of(digits: &[u8], radix: u32) -> Option<u64>
         Ok(text) => parse_digits(text, radix),
         Err(_) => None,
     }
-}
-
-/// Parses digits of a radix, of a number below 2^64.
-fn parse_digits(text: &str, radix: u32) -> Option<u64>
-    requires lower_bound { 2 ≤ radix }
-    requires upper_bound { radix ≤ 36 }
-    ensures { SomeIff result (IsNumeral radix text.now × (digits_value radix text.now < 2 ^ 64))
-        (digits_value radix text.now) }
-{
-    if text.starts_with('+') {
-        return None;
-    }
-    u64::from_str_radix(text, radix).ok()
 }
 
 /// Returns the number that decimal digits are, perhaps behind a minus, or `None` if the text has other characters or the number

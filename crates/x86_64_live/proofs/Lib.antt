@@ -1,2 +1,10 @@
 pub mod Looks
+pub mod Refusals
 pub mod Maps
+pub mod Prepared
+pub mod PreparedThenMapped
+pub mod PageMasks
+pub mod PageSpots
+pub mod PagesBetween
+pub mod PagesChanged
+pub mod PagesListed

@@ -1,13 +1,13 @@
 -- A look down the entries of a page's parents tells what a map of the page answers.
-use Rattle.std.proofs.Common.{◌≡◌, ◌≢◌, ◌<◌, ◌≤◌, ◌+◌, ◌-◌, ℕ, suc, ◌&&◌, ◌||◌, Bool, true, false, not, cond, List, [], ◌∷◌, ◌++◌, length, take, drop, get_or, map, filter, nat_lt, Some, refl, sym, ap, ap₂, ◌∙◌, subst, subst₂, arith, le-ltb, lt-ltb, zero-le, add-one, append_assoc}
-use Rattle.std.proofs.lemmas.List.{length-map, length-append, length-take, map-id, drop_all, length-drop, get_or-take}
+use Rattle.std.proofs.Common.{◌≡◌, ◌≢◌, ◌<◌, ◌≤◌, ◌+◌, ◌-◌, ℕ, suc, ◌&&◌, ◌||◌, Bool, true, false, not, cond, List, [], ◌∷◌, ◌++◌, length, take, drop, get_or, map, filter, nat_lt, Some, None, refl, sym, ap, ap₂, ◌∙◌, subst, subst₂, arith, le-ltb, lt-ltb, zero-le, add-one, append_assoc}
+use Rattle.std.proofs.lemmas.List.{length-map, length-append, length-take, map-id, drop_all, length-drop, get_or-take, take-append-drop, take_all}
 use Rattle.std.proofs.Math.Seq.{take-suc, drop-cons}
 use Rattle.std.specs.List.{list_any, AllByRecursion}
 use Rattle.x86_64_mappers.proofs.Translate.WalkedPart.{index_at}
 use Rattle.x86_64_model.specs.Entry.{used, huge, address}
 use Rattle.x86_64_model.specs.Validity.{Holds, entry_in}
 use Rattle.x86_64_mappers.specs.Layouts.{direct_at}
-use Rattle.x86_64_live.specs.WouldAnswer.{WouldAnswer}
+use Rattle.x86_64_live.specs.WouldAnswer.{IsEntryIn, WouldAnswer}
 use Rattle.x86_64_model.specs.Hierarchy.{◌laid_in◌, Hierarchy, Valid, paths, path_of, words}
 use Rattle.x86_64_model.specs.MapRule.{AfterMap, map_rule}
 use Rattle.x86_64_model.specs.Memory.{Memory, Places, Words, word}
@@ -169,6 +169,20 @@ module _ (L : ℕ) (T : Words) (root : ℕ) (M : PathMap) (holds : Holds L T roo
     meets_absent u = is_absent (take k q) (get_or q k 0) table (get_or q (suc k) 0) (drop (suc (suc k)) q) here_parted (ap used (sym is) ∙ u)
         ∙ ap (λ n. cond (nat_lt free n) (Refused FrameAllocationFailed) (Done frame)) (let l = length-drop (suc (suc k)) q in omega (arith, l, within))
 
+    -- then nothing is below it
+    pub absent_own : used e ≡ false → entry M q ≡ 0
+    absent_own u =
+        let i = get_or q k 0 in
+        let j = get_or q (suc k) 0 in
+        let r = drop (suc (suc k)) q in
+        let whole : (take k q ++ i ∷ []) ++ j ∷ r ≡ q = append_assoc (take k q) (i ∷ []) (j ∷ r) ∙ ap (λ d. take k q ++ d) (sym parted) ∙ take-append-drop k q in
+        ap (entry M) (sym whole) ∙ tree_below L root M (tree_of_holds L T root M holds) (take k q ++ i ∷ []) j r
+        (unused_leads_nowhere L root M (take k q ++ i ∷ []) (some (take k q) i table) (ap used (reads (take k q) i table here.leads ∙ sym is) ∙ u))
+
+  pub own_entry : (k : ℕ) → length q ≡ suc k → (table : ℕ) → IsLooking L root M free frame q (take k q) (drop k q) table → entry M q ≡ word T table (get_or q k 0)
+  own_entry k long table here =
+      ap (entry M) (sym (sym (take-suc q k 0 (omega (arith, long))) ∙ take_all (suc k) q (omega (arith, long)))) ∙ reads (take k q) (get_or q k 0) table here.leads
+
   pub meets_own : (k : ℕ) → length q ≡ suc k → (table : ℕ) → IsLooking L root M free frame q (take k q) (drop k q) table → (e : ℕ) → e ≡ word T table (get_or q k 0)
       → answer_by free frame M (parents q) q ≡ cond (used e) (Refused (PageAlreadyMapped frame)) (Done frame)
   meets_own k long table here e is =
@@ -231,11 +245,18 @@ module _ (L level : ℕ) (at_least_four : 3 < L) (low : 1 ≤ level) (high : lev
     pub look_has_frames : used e ≡ false → L - k - level ≤ free → WouldAnswer h level page frame free (Done frame)
     look_has_frames u enough = answer_known _ (absent_answer u ∙ ap (λ b. cond b (Refused FrameAllocationFailed) (Done frame)) (le-ltb free (L - k - level) enough))
 
+    pub look_has_no_entry : used e ≡ false → IsEntryIn h level page None
+    look_has_no_entry u = absent_own L (words h) root (paths h) valid.valid.holds free frame way short k more table here e read u
+
   -- at the page's own entry
   module _ (k table : ℕ) (here : LooksAt h level page frame free k table) (last : k ≡ L - level) (n : ℕ) (own : n ≡ level) (e : ℕ) (is : e ≡ word (words h) table (index n page)) where
     own_index : index n page ≡ get_or way k 0
     own_index = ap (λ n. index n page) (let at : n ≡ L - k = omega (arith, own, last, high, at_least_four) in at)
         ∙ sym (index_on_path L level page k (omega (arith, last, low, at_least_four)) (omega (arith, last, high, at_least_four)))
+
+    pub look_has_entry : IsEntryIn h level page (Some table)
+    look_has_entry = own_entry L (words h) root (paths h) valid.valid.holds free frame way k (omega (arith, long, last, high, at_least_four)) table here
+        ∙ ap (word (words h) table) (sym own_index ∙ ap (λ n. index n page) own)
 
     own_answer : answer_by free frame (paths h) (parents way) way ≡ cond (used e) (Refused (PageAlreadyMapped frame)) (Done frame)
     own_answer = meets_own L (words h) root (paths h) valid.valid.holds free frame way k (omega (arith, long, last, high, at_least_four)) table here e (is ∙ ap (word (words h) table) own_index)

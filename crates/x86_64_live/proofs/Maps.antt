@@ -1,13 +1,12 @@
 -- A map that follows a look: it is refused as the look says, or done.
 use Rattle.std.proofs.Common.{◌≡◌, ℕ, true, false, cond, length, Result, Ok, Err, OnErr, refl, sym, ap, ◌∙◌, subst}
+use Rattle.std.proofs.lemmas.Option.{same_Some}
 use Rattle.x86_64_live.specs.MapsOrNothing.{MapsOrNothing, by_rule, call_for}
 use Rattle.x86_64_live.specs.WouldAnswer.{WouldAnswer}
 use Rattle.x86_64_live.specs.declared.map.PageMap.{PageMap}
 use Rattle.x86_64_mappers.specs.Supplies.{MapsFrom, Supply}
 use Rattle.x86_64_model.specs.Allowed.{refuses}
-use Rattle.x86_64_model.specs.Call.{Reply, Answered, NotAllowed, Position, Address, Cleaned}
 use Rattle.x86_64_model.specs.Layout.{Layout}
-use Rattle.x86_64_model.specs.Machine.{AfterCall, do_call}
 use Rattle.x86_64_model.specs.MapRule.{AfterMap}
 use Rattle.x86_64_model.specs.Hierarchy.{◌laid_in◌, Hierarchy, paths}
 use Rattle.x86_64_model.specs.Memory.{Memory}
@@ -15,18 +14,6 @@ use Rattle.x86_64_model.specs.PageCalls.{PageCall}
 use Rattle.x86_64_model.specs.Refusal.{Answer, Done}
 use Rattle.x86_64_tables.specs.MapperAnswers.{map_answer}
 use Rattle.x86_64_tables.specs.declared.errors.MapToError.{MapToError}
-
--- ---- the rule's outcome in the machine's
-
-abbrev answer_in : Reply → Answer
-answer_in (Answered answer) = answer
-answer_in NotAllowed = Done 0
-answer_in (Position p) = Done 0
-answer_in (Address a) = Done 0
-answer_in Cleaned = Done 0
-
-abbrev map_in : AfterCall → AfterMap
-map_in a = record { paths = a.state.paths; supply = a.state.pool; answer = answer_in a.reply }
 
 module _ {Lent S L : Type 0} (h : Hierarchy Lent) (supply : Supply) (level : ℕ) (map : PageMap S L) where
   abbrev rule : AfterMap
@@ -39,16 +26,15 @@ module _ {Lent S L : Type 0} (h : Hierarchy Lent) (supply : Supply) (level : ℕ
   told answer foretold = foretold supply.frames _ _ refl
 
   module _ (answer : Answer) (after : Hierarchy Lent) (rest : Supply) (maps : MapsFrom h supply level (call_for map) answer after rest) where
-    by_machine : rule ≡ record { paths = paths after; supply = rest.frames; answer = answer }
-    unfolding do_call
-    by_machine = ap map_in (maps.map.outcome (λ held frame. held))
+    by_the_rule : rule ≡ record { paths = paths after; supply = rest.frames; answer = answer }
+    by_the_rule = same_Some _ _ maps.map.outcome
 
     is_done : Foretold (Done map.frame) → answer ≡ Done map.frame
-    is_done foretold = sym (ap (λ (a : AfterMap). a.answer) by_machine) ∙ told (Done map.frame) foretold
+    is_done foretold = sym (ap (λ (a : AfterMap). a.answer) by_the_rule) ∙ told (Done map.frame) foretold
 
     done_map : Foretold (Done map.frame) → MapsOrNothing h supply level map answer after rest
     done_map foretold = record {
-      outcome = sym by_machine ∙ ap (λ a. cond (refuses a) (record { paths = paths h; supply = supply.frames; answer = rule.answer }) rule) (sym (told (Done map.frame) foretold));
+      outcome = sym by_the_rule ∙ ap (λ a. cond (refuses a) (record { paths = paths h; supply = supply.frames; answer = rule.answer }) rule) (sym (told (Done map.frame) foretold));
       done = λ _. maps;
       refused = λ yes. absurd (let t : false ≡ true = sym (ap refuses (is_done foretold)) ∙ yes in cc);
     }

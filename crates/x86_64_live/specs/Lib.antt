@@ -1,8 +1,15 @@
 pub mod MapsOrNothing
+pub mod PreparedMaps
+pub mod Prepares
+pub mod PageRanges
 pub mod WouldAnswer
+pub mod private
+pub use Rattle.x86_64_model.specs.Entry
 pub use Rattle.x86_64_model.specs.Layout
+pub use Rattle.x86_64_model.specs.Live
 pub use Rattle.x86_64_model.specs.Hierarchy
 pub use Rattle.x86_64_model.specs.MapRule
 pub use Rattle.x86_64_mappers.specs.Layouts
 pub use Rattle.x86_64_mappers.specs.PageAnswers
 pub use Rattle.x86_64_mappers.specs.Supplies
+pub use Rattle.x86_64_mappers.specs.TablesAbove

@@ -1,8 +1,16 @@
-//! Maps of single pages in tables that are in use: each looks at the tables first, and a refused one changes nothing.
+//! Calls for tables that are in use: maps of single pages and preparations of their tables, which look first and change nothing if they are
+//! refused, and ranges of pages of all sizes, whose words come back.
 #![tactic(auto)]
 
+pub mod laws;
 mod look;
 mod map;
+mod preparation;
+mod ranges;
 
-pub use look::would_map;
+pub use look::{would_map, would_prepare};
 pub use map::{PageMap, map_or_nothing, may_map};
+pub use preparation::{may_prepare, prepare};
+pub use ranges::{
+    PageWord, RangeEnd, RangeSeen, are_flag_masks, change_range, list_range, take_range,
+};

@@ -1,7 +1,8 @@
-//! Looks down the page tables before a map.
-ghost use Rattle.std.specs.Prelude.{◌≡◌, ◌≤◌};
+//! Looks before a map
+ghost use Rattle.std.specs.Prelude.{◌≡◌, ◌≤◌, IfOk};
 ghost use Rattle.x86_64_mappers.specs.Layouts.{direct_at};
-ghost use Rattle.x86_64_live.specs.WouldAnswer.{WouldAnswer};
+ghost use Rattle.x86_64_mappers.specs.TablesAbove.{tables_refusal};
+ghost use Rattle.x86_64_live.specs.WouldAnswer.{IsEntryIn, WouldAnswer, WouldRefuse};
 ghost use Rattle.x86_64_model.specs.Hierarchy.{◌laid_in◌, Valid};
 ghost use Rattle.x86_64_model.specs.Memory.{word, words_of};
 ghost use Rattle.x86_64_model.specs.Position.{index};
@@ -16,13 +17,12 @@ use x86_64_tables::phys_memory::{PageTableFrameMapping, TableMemory, table_in};
 
 /// Returns what a map of a page to a frame would return, with this many free frames for new tables, and changes nothing.
 ///
-/// Reads one entry of each level, from the root's down to the page's own, to an unused one, or to one with `HUGE_PAGE`. The
-/// answer is the same for all flags and parent flags. Requires that the hierarchy is valid.
+/// Looks as [`would_prepare`] does, and reads the page's own entry if there is one. The answer is the same for all flags and
+/// parent flags. Requires that the hierarchy is valid.
 ///
 /// # Errors
 ///
-/// `ParentEntryHugePage` if a used entry above the page's own has `HUGE_PAGE`, else `FrameAllocationFailed` if more tables are
-/// missing than frames are free, else `PageAlreadyMapped` with the frame if the page's own entry is used.
+/// Those of [`would_prepare`], else `PageAlreadyMapped` with the frame if the page's own entry is used.
 pub fn would_map<S: PageSize, L: LevelCount, T: TableMemory, P: PageTableFrameMapping>(
     memory: &T,
     mapping: &P,
@@ -35,6 +35,40 @@ pub fn would_map<S: PageSize, L: LevelCount, T: TableMemory, P: PageTableFrameMa
     ensures { WouldAnswer (direct_at L.LEVELS (P.places mapping.now) root laid_in T.tables memory.now)
         S.LEVEL page frame free_frames (map_answer frame result) }
 {
+    let Some(table) = would_prepare(memory, mapping, root, page, free_frames)? else {
+        return Ok(());
+    };
+    if entry_of(memory, mapping, table, page, S::LEVEL).is_unused() {
+        Ok(())
+    } else {
+        Err(MapToError::PageAlreadyMapped(frame))
+    }
+}
+
+/// Returns the frame of the table with the entry of a page, or `None` if that table is missing and a map with this many free frames
+/// would make it. Changes nothing.
+///
+/// Reads one entry of each level, from the root's down to the one above the page's own, to an unused one, or to one with `HUGE_PAGE`.
+/// The answer is the same for all parent flags. Requires that the hierarchy is valid.
+///
+/// # Errors
+///
+/// `ParentEntryHugePage` if a used entry above the page's own has `HUGE_PAGE`, else `FrameAllocationFailed` if more tables are
+/// missing than frames are free.
+pub fn would_prepare<S: PageSize, L: LevelCount, T: TableMemory, P: PageTableFrameMapping>(
+    memory: &T,
+    mapping: &P,
+    root: PhysFrame<Size4KiB>,
+    page: PageIn<S, L>,
+    free_frames: usize,
+) -> Result<Option<PhysFrame<Size4KiB>>, MapToError<S>>
+    requires { Valid (direct_at L.LEVELS (P.places mapping.now) root laid_in T.tables memory.now) }
+    ensures refusal { WouldRefuse (direct_at L.LEVELS (P.places mapping.now) root laid_in T.tables memory.now)
+        S.LEVEL page free_frames (tables_refusal result) }
+    ensures table { IfOk result (λ table.
+        IsEntryIn (direct_at L.LEVELS (P.places mapping.now) root laid_in T.tables memory.now)
+        S.LEVEL page table) }
+{
     let mut table = root;
     for above in 0..L::LEVELS - S::LEVEL {
         let level = L::LEVELS - above;
@@ -43,7 +77,7 @@ pub fn would_map<S: PageSize, L: LevelCount, T: TableMemory, P: PageTableFrameMa
             return if (free_frames as u64) < level - S::LEVEL {
                 Err(MapToError::FrameAllocationFailed)
             } else {
-                Ok(())
+                Ok(None)
             };
         }
         if has_flag(&entry, PageTableFlags::HUGE_PAGE) {
@@ -51,11 +85,7 @@ pub fn would_map<S: PageSize, L: LevelCount, T: TableMemory, P: PageTableFrameMa
         }
         table = PhysFrame::from_start_address_unchecked(entry.addr());
     }
-    if entry_of(memory, mapping, table, page, S::LEVEL).is_unused() {
-        Ok(())
-    } else {
-        Err(MapToError::PageAlreadyMapped(frame))
-    }
+    Ok(Some(table))
 }
 
 /// Returns the entry of a level on the way to a page, in the table in a frame, or an unused entry if the frame has no table.

@@ -45,7 +45,8 @@ pub fn may_map<S: PageSize, L: LevelCount, T: TableMemory, P: PageTableFrameMapp
 ) -> bool
     requires { Valid (direct_at L.LEVELS (P.places mapping) root laid_in T.tables memory.old) }
     ensures answer { result
-        ≡ allows_call (direct_at L.LEVELS (P.places mapping) root laid_in T.tables memory.old) S.LEVEL (call_for map) }
+        ≡ allows_call (direct_at L.LEVELS (P.places mapping) root laid_in T.tables memory.old) S.LEVEL
+        (call_for map) }
     ensures kept { T.tables memory.new ≡ T.tables memory.old }
     ensures lent { T.lent memory.new ≡ T.lent memory.old }
 {

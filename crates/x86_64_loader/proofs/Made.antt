@@ -5,6 +5,7 @@ use Rattle.std.specs.Result.{IfOk}
 use Rattle.x86_64_model.specs.Call.{Call, MapTo, Reply, Answered, NotAllowed}
 use Rattle.x86_64_model.specs.Entry.{IsParentFlags}
 use Rattle.x86_64_model.specs.Layout.{Layout}
+use Rattle.x86_64_model.proofs.Lemmas.Machines.Owners.{map_allows, map_leads}
 use Rattle.x86_64_model.specs.Machine.{AfterCall, State, only_reply, do_call, step, replies_of, state_after}
 use Rattle.x86_64_model.specs.MapRule.{parent_part}
 use Rattle.x86_64_model.specs.Memory.{IsMapping}
@@ -78,7 +79,8 @@ made_one h supply level page frame given answer after rest may does = record {
     call = MapTo (path_of h level page) frame given
 
     one : (take_back : List ℕ → ℕ → List ℕ) → step (machine_of h.layout take_back) (state_of h supply) call ≡ record { state = state_of after rest; reply = Answered answer }
-    one take_back = ap (λ b. cond b (do_call (machine_of h.layout take_back) (state_of h supply) call) (only_reply (state_of h supply) NotAllowed)) may.allowed ∙ does.outcome take_back
+    one take_back = ap (λ b. cond b (do_call (machine_of h.layout take_back) (state_of h supply) call) (only_reply (state_of h supply) NotAllowed))
+        (map_allows h supply call may.allowed) ∙ map_leads h supply call answer after rest does.outcome take_back
 
 -- ---- what they keep
 

@@ -9,3 +9,4 @@ pub mod OpenWays
 pub mod PageMaps
 pub mod StepOutcomes
 pub mod Steps
+pub mod TablesMade

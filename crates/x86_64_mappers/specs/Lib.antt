@@ -11,6 +11,7 @@ pub mod Reached
 pub mod Recursive
 pub mod RefusedMappers
 pub mod Supplies
+pub mod TablesAbove
 pub mod Windows
 pub mod private
 pub use Rattle.x86_64_model.specs.Layout

@@ -8,6 +8,7 @@ ghost use Rattle.x86_64_model.specs.PageCalls.{MayAsk, MayAskMap, Answers, MapTo
 ghost use Rattle.x86_64_mappers.specs.CleanUps.{deallocator_store, MayCleanUpInto, CleansUpInto};
 ghost use Rattle.x86_64_mappers.specs.PageAnswers.{allows_call, allows_page, translated_page, AnswersFlags, ArrivesIfPresent};
 ghost use Rattle.x86_64_mappers.specs.Supplies.{MapsFrom, supply_of};
+ghost use Rattle.x86_64_mappers.specs.TablesAbove.{CreatesAbove, tables_refusal};
 ghost use Rattle.x86_64_tables.specs.MapperAnswers.{map_answer, unmap_answer, translate_answer};
 ghost use Rattle.x86_64_tables.specs.PageTableFlags.{bits_of};
 
@@ -66,6 +67,38 @@ pub fn map_to_with_table_flags<
         frame_allocator,
     )?;
     Ok(MapperFlushIn::new(page))
+}
+
+/// Makes the tables above a page as [`map_to_with_table_flags`] makes them, and leaves the page's own entry: adds the parent flags
+/// to the entries above the page, and creates missing tables in frames of the allocator.
+///
+/// Conditions are those of [`map_to_with_table_flags`] for no flags. They hold again afterwards.
+///
+/// # Errors
+///
+/// - `ParentEntryHugePage` if an entry above the page's own has `HUGE_PAGE`.
+/// - Otherwise `FrameAllocationFailed` if the allocator has too few frames.
+///
+/// The changes made before the refusal remain.
+pub fn create_tables<
+    S: PageSize,
+    L: LevelCount,
+    M: TableAccess + TablesIn<L>,
+    A: FrameAllocator<Size4KiB>,
+>(
+    mapper: &mut M,
+    page: PageIn<S, L>,
+    parent_flags: PageTableFlags,
+    frame_allocator: &mut A,
+) -> Result<(), MapToError<S>>
+    requires { MayAskMap (M.hierarchy mapper.old) (A.supply frame_allocator.old) S.LEVEL
+        (MapToWithTableFlags page 0 0 (bits_of parent_flags)) }
+    ensures { CreatesAbove (M.hierarchy mapper.old) (supply_of A.FrameAllocator frame_allocator.old)
+        S.LEVEL page (bits_of parent_flags) (tables_refusal result)
+        (M.hierarchy mapper.new) (supply_of A.FrameAllocator frame_allocator.new) }
+{
+    let path = path_of_page(mapper, page);
+    map::create_tables_above(mapper, path.indices(), parent_flags, frame_allocator)
 }
 
 /// Maps a page to a frame with these flags. The entries above it get those of `PRESENT`, `WRITABLE` and
@@ -259,9 +292,10 @@ pub fn clean_up<L: LevelCount, M: TableAccess + TablesIn<L>, D: FrameDeallocator
     mapper: &mut M,
     frame_deallocator: &mut D,
 )
-    requires { MayCleanUpInto (M.hierarchy mapper.old) (deallocator_store D.FrameDeallocator frame_deallocator.old) }
-    ensures { CleansUpInto (M.hierarchy mapper.old) (deallocator_store D.FrameDeallocator frame_deallocator.old)
-        0 (position_count L.LEVELS - 1)
+    requires { MayCleanUpInto (M.hierarchy mapper.old)
+        (deallocator_store D.FrameDeallocator frame_deallocator.old) }
+    ensures { CleansUpInto (M.hierarchy mapper.old)
+        (deallocator_store D.FrameDeallocator frame_deallocator.old) 0 (position_count L.LEVELS - 1)
         (M.hierarchy mapper.new) (deallocator_store D.FrameDeallocator frame_deallocator.new) }
 {
     clean_up_range(mapper, all_pages::<L>(), frame_deallocator);

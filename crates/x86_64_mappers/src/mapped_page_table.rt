@@ -306,11 +306,13 @@ impl<'a, P: PageTableFrameMapping, L: LevelCount, T: TableMemory> TableAccess
         true
     }
 
-    ghost puts = { λ mapper frame table there. let places = P.places mapper.mapping in let now = mapper.memory.now in
+    ghost puts = { λ mapper frame table there. let places = P.places mapper.mapping in
+        let now = mapper.memory.now in
         T.puts now (places.place frame) table (place_there places (T.tables now) frame there) };
 
     ghost keeps_layout = { λ mapper frame table. refl };
 
     ghost keeps_lent = { λ mapper frame table. let place = (P.places mapper.mapping).place frame in
-        ap (λ held. ((mapper.memory.ghost_name, held), mapper.mapping)) (T.keeps_lent mapper.memory.now place table) };
+        ap (λ held. ((mapper.memory.ghost_name, held), mapper.mapping))
+        (T.keeps_lent mapper.memory.now place table) };
 }

@@ -285,7 +285,8 @@ impl<A: WalkedTables<L>, L: LevelCount> Tables for Recursive<A, L> {
     ghost Lent = { A.Lent };
 
     ghost hierarchy = { λ mapper. let root = A.root mapper.active in
-        owned_by L.LEVELS root (window_with root mapper.index (bits_of mapper.self_flags)) (A.memory mapper.active) (A.lent mapper.active) };
+        owned_by L.LEVELS root (window_with root mapper.index (bits_of mapper.self_flags))
+        (A.memory mapper.active) (A.lent mapper.active) };
 
     ghost added_flags = { λ _. present_writable };
 
@@ -310,7 +311,8 @@ impl<A: WalkedTables<L>, L: LevelCount> TableAccess for Recursive<A, L> {
     ghost use Rattle.std.proofs.Common.{false, ap};
     ghost use Rattle.x86_64_mappers.specs.Recursive.{recursive_at, window_with};
 
-    ghost with_table = { λ mapper frame table. record mapper { active = A.with_table mapper.active frame table } };
+    ghost with_table = { λ mapper frame table.
+        record mapper { active = A.with_table mapper.active frame table } };
 
     fn root(&self) -> PhysFrame<Size4KiB> {
         self.active.cr3()
@@ -345,7 +347,8 @@ impl<A: WalkedTables<L>, L: LevelCount> TableAccess for Recursive<A, L> {
     ghost puts = { λ mapper frame table there. A.puts mapper.active frame table there };
 
     ghost keeps_layout = { λ mapper frame table.
-        ap (λ root. recursive_at L.LEVELS root (window_with root mapper.index (bits_of mapper.self_flags))) (A.keeps_root mapper.active frame table) };
+        ap (λ root. recursive_at L.LEVELS root (window_with root mapper.index (bits_of mapper.self_flags)))
+        (A.keeps_root mapper.active frame table) };
 
     ghost keeps_lent = { λ mapper frame table. A.keeps_lent mapper.active frame table };
 }

@@ -11,7 +11,6 @@ mod Whole
 mod Spans
 mod Runs
 mod Levels
-mod Digits
 pub mod Filling
 pub mod StepsRead
 pub mod Unselected

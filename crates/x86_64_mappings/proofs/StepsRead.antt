@@ -1,97 +1,17 @@
 -- The words that a walk reads, one below the other, and what an array holds of them.
-use Rattle.std.proofs.Common.{zero, suc, ◌≡◌, ◌<◌, ◌≤◌, ◌++◌, ◌+◌, ◌-◌, ◌^◌, ℕ, ◌==◌, ◌&&◌, ◌||◌, Bool, true, false, true≢false, not, nat_le, bit_and, cond, List, [], ◌∷◌, map, take, drop, Some, None, Option, option_map, unwrap_or, length, slice_set, refl, sym, ap, subst, ◌∙◌, le-leb, arith}
-use Rattle.std.proofs.lemmas.Bool.Decides.{nat_tests}
+use Rattle.std.proofs.Common.{zero, suc, ◌≡◌, ◌<◌, ◌≤◌, ◌++◌, ◌+◌, ◌-◌, ℕ, ◌&&◌, Bool, not, List, [], ◌∷◌, map, take, drop, Some, None, Option, length, slice_set, refl, sym, ap, subst, ◌∙◌, arith}
 use Rattle.std.proofs.Math.Bool.{and-true, and_assoc}
 use Rattle.std.specs.List.{last_or, list_all}
-use Rattle.x86_64_model.specs.Access.{Controls, Step, steps_from, reads_on, reserved, low_bits}
-use Rattle.x86_64_model.specs.Entry.{present, huge, no_execute, address, writable, user}
-use Rattle.x86_64_model.specs.Mappings.{Rights, rights_of, maps_page, granted, every_right}
+use Rattle.x86_64_model.specs.Entry.{no_execute, writable, user}
+use Rattle.x86_64_model.specs.Mappings.{Rights, granted, every_right}
 use Rattle.x86_64_model.specs.Memory.{Words}
-use Rattle.x86_64_model.specs.PageWalk.{read}
-use Rattle.x86_64_model.specs.Position.{index}
-use Rattle.x86_64_model.proofs.Lemmas.Entries.Words.{address_within}
+use Rattle.x86_64_model.specs.Steps.{Step, steps, rights_in}
 use native.Mathlib.Numerals.{unary_clauses}
-use Rattle.x86_64_mappings.specs.WalkEntries.{no_limits, written, end_at, end_by, end_of, Writes}
+use Rattle.x86_64_mappings.specs.WalkEntries.{written, end_at, end_by, end_of, Writes}
 use Rattle.x86_64_mappings.specs.declared.walk_entries.WalkEnd.{WalkEnd}
 use Rattle.x86_64_mappings.specs.declared.walk_entries.WalkEnd.TheVariants.{NoTable}
 use Rattle.x86_64_mappings.specs.declared.walk_entries.WalkEntry.{WalkEntry}
 use Rattle.x86_64_mappings.proofs.Filling.{ended, all_taken, more_within, more_left, more_filled}
-
--- ---- which words are read on
-
-within : (e : ℕ) → nat_le (2 ^ 52) (address e) ≡ false
-within e = let low = address_within e in grind (arith, nat_tests, low)
-
--- only HUGE_PAGE, where it maps no page, keeps such a processor from reading on after a word that is present
-reserved_is : (level e : ℕ) → 1 ≤ level → maps_page level e ≡ false → reserved no_limits level e ≡ huge e
-unfolding reserved
-reserved_is zero e l table = absurd (omega (arith, l))
-reserved_is (suc zero) e l table = absurd (true≢false table)
-reserved_is (suc (suc zero)) e l table = rw (within e) (by (huge e) (not (bit_and e (low_bits 2) == 0)) (no_execute e) table)
-  where
-    by : (h b x : Bool) → (h && (true || false)) ≡ false → (false || (h && (false || b)) || (x && false)) ≡ h
-    by true b x is = absurd (true≢false is)
-    by false b true is = refl
-    by false b false is = refl
-reserved_is (suc (suc (suc zero))) e l table = rw (within e) (by (huge e) (not (bit_and e (low_bits 3) == 0)) (no_execute e) table)
-  where
-    by : (h b x : Bool) → (h && (false || true)) ≡ false → (false || (h && (false || b)) || (x && false)) ≡ h
-    by true b x is = absurd (true≢false is)
-    by false b true is = refl
-    by false b false is = refl
-reserved_is (suc (suc (suc (suc n)))) e l table = rw (within e, high) (by (huge e) (not (bit_and e (low_bits (suc (suc (suc (suc n))))) == 0)) (no_execute e))
-  where
-    high : nat_le 4 (suc (suc (suc (suc n)))) ≡ true
-    high = le-leb 4 (suc (suc (suc (suc n)))) (omega arith)
-
-    by : (h b x : Bool) → (false || (h && (true || b)) || (x && false)) ≡ h
-    by true b x = refl
-    by false b true = refl
-    by false b false = refl
-
--- the processor reads on after a word that is present, maps no page, and isn't huge
-pub reads_by : (level e : ℕ) → 1 ≤ level → reads_on no_limits level e ≡ (present e && not (maps_page level e) && not (huge e))
-reads_by level e l = by (maps_page level e) refl
-  where
-    swap : (p r : Bool) → (p && not r && not false) ≡ (p && not false && not r)
-    swap true true = refl
-    swap true false = refl
-    swap false r = refl
-
-    drops : (p r h : Bool) → (p && not r && not true) ≡ (p && not true && not h)
-    drops true true h = refl
-    drops true false h = refl
-    drops false r h = refl
-
-    by : (m : Bool) → maps_page level e ≡ m → (present e && not (reserved no_limits level e) && not m) ≡ (present e && not m && not (huge e))
-    by true page = drops (present e) (reserved no_limits level e) (huge e)
-    by false table = ap (λ r. present e && not r && not false) (reserved_is level e l table) ∙ swap (present e) (huge e)
-
--- ---- one word
-
-abbrev pub step : (p level frame word : ℕ) → Step
-step p level frame e = record { level = level; frame = frame; index = index level p; word = e }
-
-pub steps_none : (c : Controls) (T : Words) (p level frame : ℕ) → 1 ≤ level → None ≡ read T frame (index level p) → steps_from c T p level frame ≡ []
-unfolding steps_from
-steps_none c T p zero frame l is = absurd (omega (arith, l))
-steps_none c T p (suc n) frame l is =
-    ap (λ o. unwrap_or (option_map (λ e. record { level = suc n; frame = frame; index = index (suc n) p; word = e } ∷ cond (reads_on c (suc n) e) (steps_from c T p n (address e)) []) o) []) (sym is)
-
-pub steps_some : (c : Controls) (T : Words) (p level frame e : ℕ) → 1 ≤ level → Some e ≡ read T frame (index level p)
-    → steps_from c T p level frame ≡ step p level frame e ∷ cond (reads_on c level e) (steps_from c T p (level - 1) (address e)) []
-unfolding steps_from
-steps_some c T p zero frame e l is = absurd (omega (arith, l))
-steps_some c T p (suc n) frame e l is =
-    let less : n ≡ suc n - 1 = omega arith in
-    ap (λ o. unwrap_or (option_map (λ e. record { level = suc n; frame = frame; index = index (suc n) p; word = e } ∷ cond (reads_on c (suc n) e) (steps_from c T p n (address e)) []) o) []) (sym is)
-    ∙ ap (λ k. record { level = suc n; frame = frame; index = index (suc n) p; word = e } ∷ cond (reads_on c (suc n) e) (steps_from c T p k (address e)) []) less
-
--- below level one there is none
-pub steps_done : (c : Controls) (T : Words) (p level frame : ℕ) → level ≡ 0 → steps_from c T p level frame ≡ []
-unfolding steps_from
-steps_done c T p zero frame is = refl
-steps_done c T p (suc n) frame is = absurd (omega (arith, is))
 
 -- ---- a word more
 
@@ -108,11 +28,8 @@ all_more g f [] (suc n) x rest is = cc
 all_more g f (a ∷ all) zero x rest is = let same : f (g x) ≡ f (g a) = cc in same ∙ sym (and-true (f (g a)))
 all_more g f (a ∷ all) (suc n) x rest is = and_assoc (f (g a)) (list_all f (map g (take n all))) (f (g x)) ∙ ap (λ b. f (g a) && b) (all_more g f all n x rest is)
 
-abbrev pub words_in : List Step → List ℕ
-words_in steps = map (λ s. s.word) steps
-
 more_rights : (all : List Step) (n : ℕ) (s : Step) (rest : List Step) → drop n all ≡ s ∷ rest
-    → granted (rights_of (words_in (take n all))) s.word ≡ rights_of (words_in (take (suc n) all))
+    → granted (rights_in (take n all)) s.word ≡ rights_in (take (suc n) all)
 more_rights all n s rest is = rw (
   all_more (λ s. s.word) writable all n s rest is,
   all_more (λ s. s.word) user all n s rest is,
@@ -125,7 +42,7 @@ pub record HasRead (all : List Step) (before : List WalkEntry) (n : ℕ) (rest :
   pub within : n ≤ length all
   pub left : drop n all ≡ rest
   pub array_is : array ≡ map written (take n all) ++ drop n before
-  pub rights_are : r ≡ rights_of (words_in (take n all))
+  pub rights_are : r ≡ rights_in (take n all)
   pub last : why ≡ end_by (last_or None (take n all))
 
 pub read_more : (all : List Step) (before : List WalkEntry) (n : ℕ) (s : Step) (rest : List Step) (array : List WalkEntry) (r : Rights) (why : WalkEnd)
@@ -150,8 +67,8 @@ module _ (all : List Step) (before : List WalkEntry) (n : ℕ) (array : List Wal
     array = read.array_is ∙ ap (λ items. map written items ++ drop n before) taken;
   }
 
-  pub rights_read : r ≡ rights_of (words_in all)
-  rights_read = read.rights_are ∙ ap (λ items. rights_of (words_in items)) taken
+  pub rights_read : r ≡ rights_in all
+  rights_read = read.rights_are ∙ ap rights_in taken
 
   pub end_read : why ≡ end_of all
   end_read = read.last ∙ ap end_of taken
@@ -169,11 +86,11 @@ pub counted : (all : List Step) (before array : List WalkEntry) (n count : ℕ) 
 counted all before array n count same = subst (λ k. Writes all before array k) same
 
 -- at first none is read
-pub nothing_read : (c : Controls) (T : Words) (p levels root : ℕ) (before : List WalkEntry)
-    → HasRead (steps_from c T p levels root) before 0 (steps_from c T p (levels - 0) root) before every_right NoTable
-nothing_read c T p levels root before = record {
+pub nothing_read : (T : Words) (p levels root : ℕ) (before : List WalkEntry)
+    → HasRead (steps T p levels root) before 0 (steps T p (levels - 0) root) before every_right NoTable
+nothing_read T p levels root before = record {
   within = omega arith;
-  left = ap (λ n. steps_from c T p n root) whole;
+  left = ap (λ n. steps T p n root) whole;
   array_is = refl;
   rights_are = refl;
   last = refl;

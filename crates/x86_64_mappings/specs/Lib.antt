@@ -4,11 +4,12 @@ pub mod Summaries
 pub mod Wanted
 pub mod Selections
 pub mod Kinds
-pub mod Numbers
 pub mod WalkEntries
 pub mod private
+pub use Rattle.text.specs.Numbers
+pub use Rattle.text.specs.Sizes
 pub use Rattle.x86_64_model.specs.Position
-pub use Rattle.x86_64_model.specs.Access
+pub use Rattle.x86_64_model.specs.Steps
 pub use Rattle.x86_64_model.specs.Mappings
 pub use Rattle.x86_64_model.specs.Memory
 pub use Rattle.x86_64_model.specs.Regions

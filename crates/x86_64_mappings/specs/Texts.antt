@@ -1,20 +1,11 @@
 -- Mappings and regions as text.
-use Rattle.std.specs.Prelude.{ℕ, ◌==◌, ◌+◌, ◌-◌, ◌/◌, ◌%◌, ◌++◌, if◌then◌else◌, List, codes, decimal}
-use Rattle.x86_64_mappings.specs.Numbers.{hexadecimal}
+use Rattle.std.specs.Prelude.{ℕ, ◌+◌, ◌-◌, ◌++◌, List, codes}
+use Rattle.text.specs.Numbers.{hexadecimal}
+use Rattle.text.specs.Sizes.{size_text}
 use Rattle.x86_64_model.specs.Mappings.{Mapping, Rights}
 use Rattle.x86_64_tables.specs.Rights.{rights_text}
 use Rattle.x86_64_model.specs.Regions.{Region}
 use Rattle.x86_64_model.specs.Position.{raw}
-
--- A number of bytes as text, in the largest of KiB, MiB, GiB and TiB that divides it. A number that none of them divides is rounded
--- down to KiB, and 0 bytes are 0KiB.
-abbrev pub size_text : (bytes : ℕ) → List ℕ
-size_text bytes =
-    if bytes == 0 then decimal 0 ++ codes "KiB"
-    else (if bytes % 0x100_0000_0000 == 0 then decimal (bytes / 0x100_0000_0000) ++ codes "TiB"
-    else (if bytes % 0x4000_0000 == 0 then decimal (bytes / 0x4000_0000) ++ codes "GiB"
-    else (if bytes % 0x10_0000 == 0 then decimal (bytes / 0x10_0000) ++ codes "MiB"
-    else decimal (bytes / 0x400) ++ codes "KiB")))
 
 -- The text `START SIZE FRAME` of where a mapping lies: the addresses where it and its frame start, in hexadecimal, and its size in
 -- KiB, MiB, GiB or TiB.

@@ -1,27 +1,12 @@
 -- The entries that a page walk reads, and why it ends.
-use Rattle.std.specs.Prelude.{◌≡◌, ℕ, ◌++◌, true, false, cond, List, length, map, drop, Option, Some, None}
+use Rattle.std.specs.Prelude.{◌≡◌, ℕ, ◌++◌, cond, List, length, map, drop, Option, Some, None}
 use Rattle.std.specs.List.{last_or}
-use Rattle.x86_64_model.specs.Access.{Controls, Step, steps_from}
 use Rattle.x86_64_model.specs.Entry.{present, huge}
-use Rattle.x86_64_model.specs.Mappings.{Rights, maps_page, rights_of}
-use Rattle.x86_64_model.specs.Memory.{Words}
+use Rattle.x86_64_model.specs.Mappings.{maps_page}
+use Rattle.x86_64_model.specs.Steps.{Step}
 use Rattle.x86_64_mappings.specs.declared.walk_entries.WalkEnd.{WalkEnd}
 use Rattle.x86_64_mappings.specs.declared.walk_entries.WalkEnd.TheVariants.{Page, NotPresent, HugePage, NoTable}
 use Rattle.x86_64_mappings.specs.declared.walk_entries.WalkEntry.{WalkEntry}
-
--- The settings of a processor with all 52 bits of physical addresses and with NO_EXECUTE. To it only HUGE_PAGE is reserved, above
--- level three, and low address bits of large pages, below which no walk reads on anyway.
-abbrev pub no_limits : Controls
-no_limits = record { write_protect = false; no_execute = true; smep = false; smap = false; ac = false; physical_bits = 52 }
-
--- The words that a page walk reads at position p (the number of an address counted without the gap), with L levels of tables and 52
--- bits of physical addresses, in order from the root's word on.
-abbrev pub steps_to : (L : ℕ) → Words → (root p : ℕ) → List Step
-steps_to L T root p = steps_from no_limits T p L root
-
--- The rights that the words of a page walk grant together: those that each of them grants.
-abbrev pub rights_in : List Step → Rights
-rights_in steps = rights_of (map (λ s. s.word) steps)
 
 -- A word that a page walk reads, in the form in which it is written to the caller's array.
 abbrev pub written : Step → WalkEntry

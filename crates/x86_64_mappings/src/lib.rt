@@ -1,15 +1,15 @@
-//! Everything that page tables map below a root, with four or five levels and for any words in the tables: the mappings one
-//! by one, and the regions that they form; and the entries that a page walk reads.
+//! What page tables map below a root, for any words: mappings, the regions that they form, and the entries that a page walk
+//! reads. There are four or five levels of tables, and they may contain any words.
 #![tactic(auto)]
 
 mod joiner;
+mod letters;
 mod listing;
 mod mapping;
 mod region;
 mod region_list;
 mod selection;
 mod summaries;
-pub mod text;
 mod walk_entries;
 
 pub use listing::{Mappings, Mappings57, MappingsIn, mappings, mappings_57, mappings_from, span};

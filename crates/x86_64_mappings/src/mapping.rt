@@ -7,10 +7,11 @@ ghost use Rattle.x86_64_model.specs.private.Found.{page_at};
 ghost use Rattle.x86_64_mappings.specs.Texts as texts;
 ghost use Rattle.x86_64_mappings.specs.Texts.{mapping_text};
 
-use crate::text::pieces::{CAPACITY, put, put_hexadecimal, put_rights, put_size, text_from};
+use crate::letters::put_rights;
 use bitflags::Flags;
 use std::fmt::{Display, Formatter, Result as FmtResult, Write};
 use std::marker::Model;
+use text::pieces::{CAPACITY, put, put_hexadecimal, put_size, text_from};
 use x86_64_addr::addr::VirtAddrIn;
 use x86_64_addr::level_count::{FiveLevels, FourLevels, LevelCount};
 use x86_64_page::frame::PhysFrame;

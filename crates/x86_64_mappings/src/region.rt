@@ -4,10 +4,11 @@ ghost use Rattle.x86_64_mappings.specs.Texts.{region_text};
 ghost use Rattle.x86_64_model.specs.Position.{position_count};
 ghost use Rattle.x86_64_model.specs.Regions as model;
 
+use crate::letters::put_rights;
 use crate::mapping::MappingIn;
-use crate::text::pieces::{CAPACITY, put, put_hexadecimal, put_rights, put_size, text_from};
 use std::fmt::{Display, Formatter, Result as FmtResult, Write};
 use std::marker::Model;
+use text::pieces::{CAPACITY, put, put_hexadecimal, put_size, text_from};
 use x86_64_addr::addr::VirtAddrIn;
 use x86_64_addr::level_count::{FiveLevels, FourLevels, LevelCount};
 use x86_64_tables::page_table::Rights;

@@ -2,8 +2,8 @@
 ghost use Rattle.std.specs.Prelude.{◌≡◌, ◌≤◌, length, true, false, IfSome, IfNone};
 ghost use Rattle.x86_64_mappings.specs.WalkEntries as walk;
 ghost use Rattle.x86_64_mappings.specs.declared.walk_entries.WalkEnd.TheVariants.{NoTable};
-ghost use Rattle.x86_64_model.specs.Access.{reads_on};
 ghost use Rattle.x86_64_model.specs.Memory.{words_of};
+ghost use Rattle.x86_64_model.specs.Steps.{leads_on, rights_in, steps};
 
 use x86_64_addr::addr::VirtAddrIn;
 use x86_64_addr::level_count::LevelCount;
@@ -80,13 +80,13 @@ pub fn read_entries<L: LevelCount, T: TableMemory, P: PageTableFrameMapping>(
     entries: &mut [WalkEntry],
 ) -> EntriesRead
     requires { L.LEVELS ≤ length entries.old }
-    ensures writes { walk.Writes (walk.steps_to L.LEVELS
-        (words_of (T.tables memory.now) (P.places mapping.now)) root address)
+    ensures writes { walk.Writes (steps
+        (words_of (T.tables memory.now) (P.places mapping.now)) address L.LEVELS root)
         entries.old entries.new result.count }
-    ensures rights { result.rights ≡ walk.rights_in (walk.steps_to L.LEVELS
-        (words_of (T.tables memory.now) (P.places mapping.now)) root address) }
-    ensures end { result.end ≡ walk.end_of (walk.steps_to L.LEVELS
-        (words_of (T.tables memory.now) (P.places mapping.now)) root address) }
+    ensures rights { result.rights ≡ rights_in (steps
+        (words_of (T.tables memory.now) (P.places mapping.now)) address L.LEVELS root) }
+    ensures end { result.end ≡ walk.end_of (steps
+        (words_of (T.tables memory.now) (P.places mapping.now)) address L.LEVELS root) }
 {
     read_from(
         memory,
@@ -109,13 +109,13 @@ fn read_from<T: TableMemory, P: PageTableFrameMapping>(
 ) -> EntriesRead
     requires levels { levels ≤ 5 }
     requires room { levels ≤ length entries.old }
-    ensures writes { walk.Writes (walk.steps_to levels
-        (words_of (T.tables memory.now) (P.places mapping.now)) root position)
+    ensures writes { walk.Writes (steps
+        (words_of (T.tables memory.now) (P.places mapping.now)) position levels root)
         entries.old entries.new result.count }
-    ensures rights { result.rights ≡ walk.rights_in (walk.steps_to levels
-        (words_of (T.tables memory.now) (P.places mapping.now)) root position) }
-    ensures end { result.end ≡ walk.end_of (walk.steps_to levels
-        (words_of (T.tables memory.now) (P.places mapping.now)) root position) }
+    ensures rights { result.rights ≡ rights_in (steps
+        (words_of (T.tables memory.now) (P.places mapping.now)) position levels root) }
+    ensures end { result.end ≡ walk.end_of (steps
+        (words_of (T.tables memory.now) (P.places mapping.now)) position levels root) }
 {
     let mut frame = root;
     let mut rights = Rights::ALL;
@@ -160,8 +160,8 @@ fn read_from<T: TableMemory, P: PageTableFrameMapping>(
 fn end_at(level: u64, entry: &PageTableEntry) -> Option<WalkEnd>
     requires { 1 ≤ level }
     ensures some { IfSome result (λ end. end ≡ walk.end_at level entry.now) }
-    ensures ends { IfSome result (λ _. reads_on walk.no_limits level entry.now ≡ false) }
-    ensures none { IfNone result (reads_on walk.no_limits level entry.now ≡ true) }
+    ensures ends { IfSome result (λ _. leads_on level entry.now ≡ false) }
+    ensures none { IfNone result (leads_on level entry.now ≡ true) }
     ensures table { IfNone result (walk.end_at level entry.now ≡ NoTable) }
 {
     if !has_flag(entry, PageTableFlags::PRESENT) {

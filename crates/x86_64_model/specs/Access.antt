@@ -1,14 +1,17 @@
 -- Accesses: what a processor does with a read, a write or an instruction fetch at an address, over any words.
 -- Intel SDM vol. 3A, "Access Rights", "Page-Fault Exceptions"; AMD APM vol. 2, "Page-Protection Checks", "Page-Fault Exception".
+-- Reserved bits: Intel SDM vol. 3A, "Linear-Address Translation with 4-Level Paging and 5-Level Paging"; AMD APM vol. 2,
+-- "Page-Translation-Table Entry Fields", "1-Gbyte Paging Support".
 -- Left out are protection keys, shadow stacks, and the accesses that a processor makes as a supervisor by itself.
-use Rattle.std.specs.Prelude.{zero, suc, ℕ, ◌+◌, ◌*◌, ◌^◌, ◌%◌, ◌==◌, ◌&&◌, ◌||◌, nat_le, Bool, true, false, not, cond, List, [], ◌∷◌, map, Option, Some, None, option_map, unwrap_or, bit_and, bit_or, get_or, slice_set}
+use Rattle.std.specs.Prelude.{ℕ, ◌+◌, ◌*◌, ◌^◌, ◌%◌, ◌==◌, ◌&&◌, ◌||◌, nat_le, Bool, true, false, not, cond, List, [], ◌∷◌, Option, Some, None, option_map, unwrap_or, bit_and, bit_or, get_or, slice_set}
 use Rattle.std.specs.FinMap.{get, insert}
 use Rattle.std.specs.List.{last_or}
-use Rattle.x86_64_model.specs.Position.{span, index}
-use Rattle.x86_64_model.specs.Entry.{present, huge, no_execute, address}
+use Rattle.x86_64_model.specs.Position.{span}
+use Rattle.x86_64_model.specs.Entry.{present, huge, global, no_execute, address}
 use Rattle.x86_64_model.specs.Memory.{Memory, Places, Words}
-use Rattle.x86_64_model.specs.Mappings.{Rights, maps_page, rights_of}
-use Rattle.x86_64_model.specs.PageWalk.{read, page_start}
+use Rattle.x86_64_model.specs.Mappings.{Rights, maps_page}
+use Rattle.x86_64_model.specs.PageWalk.{page_start}
+use Rattle.x86_64_model.specs.Steps.{Step, steps, rights_in}
 
 -- ---- what is asked
 
@@ -23,7 +26,9 @@ pub record Access : Type 0 where
   pub kind : Kind
   pub user : Bool
 
--- What a processor is set to: CR0.WP, EFER.NXE, CR4.SMEP, CR4.SMAP, EFLAGS.AC, and the bits of its physical addresses (MAXPHYADDR).
+-- What a processor is set to, and has: CR0.WP, EFER.NXE, CR4.SMEP, CR4.SMAP, EFLAGS.AC, the bits of its physical addresses
+-- (MAXPHYADDR), whether it lacks pages of 1GiB (CPUID 8000_0001H, EDX bit 26, is clear), and whether GLOBAL is reserved at levels
+-- four and five, as on AMD's processors.
 pub record Controls : Type 0 where
   pub write_protect : Bool
   pub no_execute : Bool
@@ -31,6 +36,8 @@ pub record Controls : Type 0 where
   pub smap : Bool
   pub ac : Bool
   pub physical_bits : ℕ
+  pub no_1gib_pages : Bool
+  pub global_reserved : Bool
 
 -- ---- the words that are read
 
@@ -39,32 +46,28 @@ pub record Controls : Type 0 where
 abbrev pub low_bits : (level : ℕ) → ℕ
 low_bits level = cond (level == 3) 0x3fff_e000 (cond (level == 2) 0x001f_e000 0)
 
--- Whether a word of a level has a bit set that is reserved, and so must be 0 in a present word: an address bit that the processor
--- lacks, HUGE_PAGE above level three, a low address bit of a 2MiB or 1GiB page, or NO_EXECUTE while EFER.NXE is off.
+-- Whether a word of a level has a bit set that only some processors reserve: HUGE_PAGE at level three if there are no pages of 1GiB,
+-- or GLOBAL at level four or five if the processor reserves it there. Below, it is ignored in entries that name tables.
+abbrev pub reserved_by_some : Controls → (level word : ℕ) → Bool
+reserved_by_some c level e = (c.no_1gib_pages && (level == 3) && huge e) || (c.global_reserved && nat_le 4 level && global e)
+
+-- Whether a word of a level has a bit set that is reserved, and so must be 0 in a present word: one that only some processors
+-- reserve, an address bit that the processor lacks, HUGE_PAGE above level three, a low address bit of a 2MiB or 1GiB page, or
+-- NO_EXECUTE while EFER.NXE is off.
 unfoldable pub reserved : Controls → (level word : ℕ) → Bool
-reserved c level e = nat_le (2 ^ c.physical_bits) (address e) || (huge e && (nat_le 4 level || not (bit_and e (low_bits level) == 0)))
+reserved c level e = reserved_by_some c level e
+    || nat_le (2 ^ c.physical_bits) (address e) || (huge e && (nat_le 4 level || not (bit_and e (low_bits level) == 0)))
     || (no_execute e && not c.no_execute)
 
--- A word that the processor reads in a page walk: the level of its table, the frame with the table, the index there, and the word.
-pub record Step : Type 0 where
-  pub level : ℕ
-  pub frame : ℕ
-  pub index : ℕ
-  pub word : ℕ
-
--- Whether the processor reads on in the table that a word of this level names: the word is present, has no reserved bit, and maps
--- no page.
-abbrev pub reads_on : Controls → (level word : ℕ) → Bool
-reads_on c level e = present e && not (reserved c level e) && not (maps_page level e)
+-- The front of the list up to its first element that passes the test, this one included, or the whole list if none does.
+abbrev pub until : {X : Type 0} → (X → Bool) → List X → List X
+until test [] = []
+until test (x ∷ xs) = x ∷ cond (test x) [] (until test xs)
 
 -- The words that the processor reads for an access at position p (the number of an address counted without the non-canonical gap),
--- from a frame's table of a level down. They end with the first word that leads to no further table, or before a table that isn't
--- in memory.
+-- from a frame's table of a level down: those that a page walk reads, up to the first that has a reserved bit set.
 unfoldable pub steps_from : Controls → Words → (p level frame : ℕ) → List Step
-steps_from c T p zero frame = []
-steps_from c T p (suc n) frame = unwrap_or (option_map
-    (λ e. record { level = suc n; frame = frame; index = index (suc n) p; word = e } ∷ cond (reads_on c (suc n) e) (steps_from c T p n (address e)) [])
-    (read T frame (index (suc n) p))) []
+steps_from c T p level frame = until (λ s. reserved c s.level s.word) (steps T p level frame)
 
 -- ---- what comes of it
 
@@ -130,7 +133,7 @@ ends_by c a p r root (Some s) = ends_at c a p r s
 
 -- The outcome of an access at position p for which the processor reads these words, from the root's table down.
 abbrev pub outcome : Controls → Access → (p root : ℕ) → List Step → Outcome
-outcome c a p root steps = ends_by c a p (rights_of (map (λ s. s.word) steps)) root (last_or None steps)
+outcome c a p root steps = ends_by c a p (rights_in steps) root (last_or None steps)
 
 -- What a processor does with an access at position p (the number of an address counted without the non-canonical gap), by L levels
 -- of tables below a root.

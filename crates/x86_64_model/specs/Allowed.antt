@@ -27,6 +27,14 @@ map_allowed L window paths q given parent_flags =
     no_address given && no_address parent_flags && not (huge parent_flags) && (not (is_small L q) || not (huge given))
     && parents_present paths parent_flags q && not (begins_with window q)
 
+-- Whether a call that maps a page is allowed on the path map of a hierarchy with L levels, and a recursive window if there is one.
+-- False for any other call.
+abbrev pub map_call_allowed : (L : ℕ) → Option Window → PathMap → Call → Bool
+map_call_allowed L window paths (MapTo q frame given) = map_allowed L window paths q given (parent_part given)
+map_call_allowed L window paths (MapToWithTableFlags q frame given parent_flags) = map_allowed L window paths q given parent_flags
+map_call_allowed L window paths (IdentityMap level frame given) = nat_lt frame (lower_half L) && map_allowed L window paths (path_at L level frame) given (parent_part given)
+map_call_allowed L window paths call = false
+
 -- Whether an answer is a refusal.
 abbrev pub refuses : Answer → Bool
 refuses (Done f) = false
@@ -45,9 +53,6 @@ set_flags_allowed L E paths level page given = cond (nat_lt 3 level) (not (huge 
 -- Whether a call is allowed on the path map of a hierarchy with L levels, and a recursive window if there is one. A call that isn't
 -- allowed gets the reply `NotAllowed` and changes nothing.
 abbrev pub allowed : (L : ℕ) → Option Window → PathMap → Call → Bool
-allowed L window paths (MapTo q frame given) = map_allowed L window paths q given (parent_part given)
-allowed L window paths (MapToWithTableFlags q frame given parent_flags) = map_allowed L window paths q given parent_flags
-allowed L window paths (IdentityMap level frame given) = nat_lt frame (lower_half L) && map_allowed L window paths (path_at L level frame) given (parent_part given)
 allowed L window paths (Unmap q) = not (begins_with window q)
 allowed L window paths (UpdateFlags q given) = no_address given && not (begins_with window q)
 allowed L window paths (SetFlags level q given) = no_address given && not (begins_with window q) && set_flags_allowed L (entry_at window paths) paths level q given
@@ -55,3 +60,4 @@ allowed L window paths (TranslatePage q) = true
 allowed L window paths (Translate p) = true
 allowed L window paths (TranslateAddress p) = true
 allowed L window paths (CleanUp low high) = true
+allowed L window paths map = map_call_allowed L window paths map

@@ -23,6 +23,10 @@ user entry = has entry 0x4
 abbrev pub huge : (entry : ℕ) → Bool
 huge entry = has entry 0x80
 
+-- Whether the entry has GLOBAL, so that the page that it maps may become a global translation.
+abbrev pub global : (entry : ℕ) → Bool
+global entry = has entry 0x100
+
 -- Whether the entry has NO_EXECUTE, so that no instruction is fetched through it.
 abbrev pub no_execute : (entry : ℕ) → Bool
 no_execute entry = has entry 0x8000_0000_0000_0000

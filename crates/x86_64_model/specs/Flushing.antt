@@ -11,17 +11,18 @@ use Rattle.x86_64_model.specs.Window.{Window, begins_with, IsValidFor}
 use Rattle.x86_64_model.specs.Refusal.{Done, Refused}
 use Rattle.x86_64_model.specs.PathMap.{PathMap, entry, put, table_at}
 use Rattle.x86_64_model.specs.Laws.EntriesInPlace.{NamesNoTable, MayReplace}
-use Rattle.x86_64_model.specs.Call.{Call, IsCall, MapTo, MapToWithTableFlags, IdentityMap, Unmap, UpdateFlags, SetFlags, TranslatePage, Translate, TranslateAddress, CleanUp, Reply, NotAllowed, Answered, Position, Address, Cleaned, parent_flags_of}
+use Rattle.x86_64_model.specs.Call.{Call, IsCall, MapTo, MapToWithTableFlags, IdentityMap, Unmap, UpdateFlags, SetFlags, TranslatePage, Translate, TranslateAddress, CleanUp, Reply, NotAllowed, Answered, Position, Address, Cleaned}
 use Rattle.x86_64_model.specs.Machine.{Machine, State, step}
+use Rattle.x86_64_model.specs.CleanUp.{clean_up}
 use Rattle.x86_64_model.specs.Caches.{Cached, Table, Page, Caches}
 
 -- ---- what has to be flushed
 
--- The TLB items of a page, which was in this frame, all items of tables, the TLB items of all pages in the recursive window, or all
--- items of the paths that begin with this one.
+-- The TLB items of a page, which was in this frame, all items of tables, since a clean up freed the tables in these frames, the TLB
+-- items of all pages in the recursive window, or all items of the paths that begin with this one.
 pub data Due : Type 0 where
   PageDue : (page : List ℕ) → (frame : ℕ) → Due
-  TablesDue : Due
+  TablesDue : (freed : List ℕ) → Due
   WindowDue : Due
   BelowDue : (path : List ℕ) → Due
 
@@ -58,27 +59,36 @@ below_due window q = BelowDue q ∷ if_window window
 
 -- A map makes absent entries used, which no cache has, and adds rights to its parents. But it takes the right to execute from
 -- them if its parent flags have NO_EXECUTE, even if it is refused: they are below the page's first index. A clean up removes tables
--- that caches may name.
-abbrev pub flush_after : (L : ℕ) → Option Window → Call → Reply → List Due
-flush_after L window (MapTo q frame given) reply = []
-flush_after L window (MapToWithTableFlags q frame given parent_flags) reply = if_allowed reply (cond (no_execute parent_flags) (below_due window (take 1 q)) [])
-flush_after L window (IdentityMap level frame given) reply = []
-flush_after L window (Unmap q) reply = if_accepted reply (λ frame. page_due L window q frame)
-flush_after L window (UpdateFlags q given) reply = if_accepted reply (λ frame. page_due L window q frame)
-flush_after L window (SetFlags level q given) reply = if_accepted reply (λ frame. below_due window (front_at L level q))
-flush_after L window (TranslatePage q) reply = []
-flush_after L window (Translate p) reply = []
-flush_after L window (TranslateAddress p) reply = []
-flush_after L window (CleanUp low high) reply = TablesDue ∷ if_window window
+-- that caches may name, and frees their frames.
+abbrev pub flush_after : (L : ℕ) → Option Window → (freed : List ℕ) → Call → Reply → List Due
+flush_after L window freed (MapTo q frame given) reply = []
+flush_after L window freed (MapToWithTableFlags q frame given parent_flags) reply = if_allowed reply (cond (no_execute parent_flags) (below_due window (take 1 q)) [])
+flush_after L window freed (IdentityMap level frame given) reply = []
+flush_after L window freed (Unmap q) reply = if_accepted reply (λ frame. page_due L window q frame)
+flush_after L window freed (UpdateFlags q given) reply = if_accepted reply (λ frame. page_due L window q frame)
+flush_after L window freed (SetFlags level q given) reply = if_accepted reply (λ frame. below_due window (front_at L level q))
+flush_after L window freed (TranslatePage q) reply = []
+flush_after L window freed (Translate p) reply = []
+flush_after L window freed (TranslateAddress p) reply = []
+flush_after L window freed (CleanUp low high) reply = TablesDue freed ∷ if_window window
+
+-- The frames that a call frees: those of the tables that a clean up removes, and none for any other call.
+abbrev pub freed_by : (L : ℕ) → State → Call → List ℕ
+freed_by L s (CleanUp low high) = (clean_up L s.paths low high).back
+freed_by L s call = []
+
+-- What has to be flushed after a call that is made in this state.
+abbrev pub due_after : Machine → State → Call → List Due
+due_after m s call = flush_after m.levels m.window (freed_by m.levels s call) call (step m s call).reply
 
 -- Whether the second of two answers is yes, if the first one is.
 abbrev pub implies : (first second : Bool) → Bool
 implies a b = cond a b true
 
--- Whether a present entry e may lose something when it becomes f, as `x64_flush_between` in include/x86_64_paging_live.h tells.
--- It loses nothing if it stays present, its address, HUGE_PAGE, WRITE_THROUGH, NO_CACHE, GLOBAL and its protection key stay, none of
--- WRITABLE, USER_ACCESSIBLE, ACCESSED and DIRTY goes, and neither NO_EXECUTE nor USER_ACCESSIBLE comes: a page that becomes a
--- user's takes rights from ring 0 under SMEP and SMAP.
+-- Whether a present entry e may lose something when it becomes f, as `x64_flush_between` in include/x86_64_paging.h tells. It loses
+-- nothing if it stays present, its address, HUGE_PAGE, WRITE_THROUGH, NO_CACHE, GLOBAL and its protection key stay, none of WRITABLE,
+-- USER_ACCESSIBLE, ACCESSED and DIRTY goes, and neither NO_EXECUTE nor USER_ACCESSIBLE comes: a page that becomes a user's takes
+-- rights from ring 0 under SMEP and SMAP. `WordsTellLosses` says the same by `LosesNothing`.
 abbrev pub loses_between : (e f : ℕ) → Bool
 loses_between e f = not (present f && (address f == address e) && (bit_and f 0x80 == bit_and e 0x80)
     && (bit_and f 0x7800_0000_0000_0118 == bit_and e 0x7800_0000_0000_0118)
@@ -95,20 +105,38 @@ due_between L window q e f = let table = names_table e && nat_lt (length q) L in
 -- only words 0.
 abbrev pub concerns : (L : ℕ) → Option Window → Due → (position : ℕ) → Bool
 concerns L window (PageDue q frame) p = begins q (page_path L p)
-concerns L window TablesDue p = false
+concerns L window (TablesDue freed) p = false
 concerns L window WindowDue p = begins_with window (page_path L p)
 concerns L window (BelowDue q) p = begins q (page_path L p)
 
 -- Whether items on a path may have rights that its entries don't grant any longer, as long as this is due.
 abbrev pub loosens : Option Window → Due → (path : List ℕ) → Bool
 loosens window (PageDue q frame) x = false
-loosens window TablesDue x = false
+loosens window (TablesDue freed) x = false
 loosens window WindowDue x = begins_with window x
 loosens window (BelowDue q) x = begins q x
 
 -- All words of a frame are 0.
 abbrev pub HasZeros : Words → (frame : ℕ) → Type 0
 HasZeros tables f = (i : ℕ) → word tables f i ≡ 0
+
+-- ---- frames of freed tables
+
+-- A clean up freed the table in this frame, and tables aren't flushed since.
+abbrev pub IsUnflushed : List Due → (frame : ℕ) → Type 0
+IsUnflushed due f = (freed : List ℕ) × In due (TablesDue freed) × In freed f
+
+-- The frame is free and has only words 0, a clean up freed the table in it, and tables aren't flushed since.
+abbrev pub IsEmptied : List Due → (pool : List ℕ) → Words → (frame : ℕ) → Type 0
+IsEmptied due pool tables f = IsUnflushed due f × In pool f × HasZeros tables f
+
+-- No frame leaves the pool while the table that was in it isn't flushed.
+abbrev pub StayFree : List Due → (pool rest : List ℕ) → Type 0
+StayFree due pool rest = (f : ℕ) → IsUnflushed due f → In pool f → In rest f
+
+-- If words T become U, each free frame with only words 0 keeps them while the table that was in it isn't flushed.
+abbrev pub StayEmpty : List Due → (pool : List ℕ) → (T U : Words) → Type 0
+StayEmpty due pool T U = (f : ℕ) → IsUnflushed due f → In pool f → HasZeros T f → HasZeros U f
 
 -- ---- flushes
 
@@ -132,11 +160,11 @@ survives L FlushAll c = false
 abbrev pub settles : (L : ℕ) → Flush → Due → Bool
 settles L FlushAll due = true
 settles L (Invlpg p) (PageDue q frame) = begins q (page_path L p)
-settles L (Invlpg p) TablesDue = true
+settles L (Invlpg p) (TablesDue freed) = true
 settles L (Invlpg p) WindowDue = false
 settles L (Invlpg p) (BelowDue q) = false
 settles L LoadCr3 (PageDue q frame) = false
-settles L LoadCr3 TablesDue = true
+settles L LoadCr3 (TablesDue freed) = true
 settles L LoadCr3 WindowDue = false
 settles L LoadCr3 (BelowDue q) = false
 
@@ -170,7 +198,7 @@ pub data Event : Type 0 where
 -- it settles.
 abbrev pub after_event : Machine → System → Event → System
 after_event m s (Makes call loses) = let after = step m s.state call in
-    record { state = after.state; paths = s.paths; words = s.words; cache = s.cache; due = cond loses (flush_after m.levels m.window call after.reply) [] ++ s.due }
+    record { state = after.state; paths = s.paths; words = s.words; cache = s.cache; due = cond loses (due_after m s.state call) [] ++ s.due }
 after_event m s (Writes N U) = record { state = s.state; paths = N; words = U; cache = s.cache; due = s.due }
 after_event m s (Flushes f items) = record { state = s.state; paths = s.paths; words = s.words; cache = items; due = filter (λ due. not (settles m.levels f due)) s.due }
 after_event m s (Changes items) = record { state = s.state; paths = s.paths; words = s.words; cache = items; due = s.due }
@@ -203,14 +231,14 @@ mapped_by L (MapToWithTableFlags q frame given parent_flags) = Some q
 mapped_by L (IdentityMap level frame given) = Some (path_at L level frame)
 mapped_by L call = None
 
--- A call may begin when the last one is done, but no map before the tables of a clean up are flushed, and no map of a smaller page
--- where a larger one is due: a processor may keep the larger one in parts, and one INVLPG drops all of them only as long as no
+-- A call may begin when the last one is done. It takes no frame that a clean up freed before tables are flushed, and maps no smaller
+-- page where a larger one is due: a processor may keep the larger one in parts, and one INVLPG drops all of them only as long as no
 -- smaller page is mapped there. If the kernel learns that no used entry loses anything, none does.
 pub record MayMake (m : Machine) (s : System) (call : Call) (loses : Bool) : Type 0 where
   pub done : IsDone s
   pub is_call : IsCall m.levels call
   pub kept : loses ≡ false → (q : List ℕ) → used (entry s.state.paths q) ≡ true → LosesNothing (entry s.state.paths q) (entry (step m s.state call).state.paths q)
-  pub waits : In s.due TablesDue → parent_flags_of call ≡ None
+  pub waits : StayFree s.due s.state.pool (step m s.state call).state.pool
   pub apart : (q r : List ℕ) (frame : ℕ) → In s.due (PageDue q frame) → mapped_by m.levels call ≡ Some r → is_below q r ≡ false
 
 -- At each moment of a call the words are a valid hierarchy, in which each entry is as it was or as it will be. A table that is
@@ -219,7 +247,7 @@ pub record MayWrite (m : Machine) (root : ℕ) (s : System) (N : PathMap) (U : W
   pub valid : IsValidFor m.levels m.window U root N
   pub between : (q : List ℕ) → (entry N q ≡ entry s.paths q) ⊎ (entry N q ≡ entry s.state.paths q)
   pub empty : (q : List ℕ) (f : ℕ) → table_at m.levels root s.paths q ≡ Some f → table_at m.levels root N q ≡ None → HasZeros U f
-  pub keeps : In s.due TablesDue → (f : ℕ) → In s.state.pool f → HasZeros s.words f → HasZeros U f
+  pub keeps : StayEmpty s.due s.state.pool s.words U
 
 -- A flush comes after the calls. What is left was there before, and survives.
 pub record MayFlush (m : Machine) (s : System) (f : Flush) (after : List Cached) : Type 0 where
@@ -248,12 +276,12 @@ pub record MayPut (m : Machine) (root : ℕ) (s : System) (q : List ℕ) (w : �
   pub settled : NamesNoTable m.levels q (entry s.paths q) → used (entry s.paths q) ≡ true → present (entry s.paths q) ≡ false
       → (r : List ℕ) → In s.due (BelowDue r) → (begins r q ≡ false) × (begins_with m.window r ≡ false)
 
--- After the exchange memory holds the path map with the new word. Free frames keep their words 0 until tables are flushed. All
--- other memory may change, too.
+-- After the exchange memory holds the path map with the new word. The free frames of removed tables keep their words 0 until tables
+-- are flushed. All other memory may change, too.
 pub record MayExchange (m : Machine) (root : ℕ) (s : System) (q : List ℕ) (w : ℕ) (U : Words) : Type 0 where
   pub may_put : MayPut m root s q w
   pub holds : IsValidFor m.levels m.window U root (put s.paths q w)
-  pub keeps : In s.due TablesDue → (f : ℕ) → In s.state.pool f → HasZeros s.words f → HasZeros U f
+  pub keeps : StayEmpty s.due s.state.pool s.words U
 
 -- Whether the event may happen in this system, as the rules of its kind say. The processor's caches change by the rules of caches.
 abbrev pub MayHappen : Machine → (root : ℕ) → System → Event → Type 0

@@ -1,14 +1,15 @@
 -- The conditions and effects of a mapper's calls, over one record: the hierarchy that the mapper owns for a while.
-use Rattle.std.specs.Prelude.{◌≢◌, ◌≡◌, ◌<◌, ◌+◌, ℕ, Bool, true, List, ◌∷◌, Some, Option}
-use Rattle.x86_64_model.specs.Allowed.{allowed, map_allowed, refuses}
+use Rattle.std.specs.Prelude.{◌≢◌, ◌≡◌, ◌<◌, ◌+◌, ℕ, Bool, true, List, ◌∷◌, None, Some, Option}
+use Rattle.x86_64_model.specs.Allowed.{allowed, map_allowed, map_call_allowed, refuses}
 use Rattle.x86_64_model.specs.Arrivals.{Arrives}
-use Rattle.x86_64_model.specs.Call.{Call, UpdateFlags, SetFlags, CleanUp, Answered, Cleaned, parent_flags_of}
+use Rattle.x86_64_model.specs.Call.{Call, MapTo, MapToWithTableFlags, IdentityMap, Unmap, UpdateFlags, SetFlags, Answered, parent_flags_of}
 use Rattle.x86_64_model.specs.CleanUp.{clean_up}
 use Rattle.x86_64_model.specs.Entry.{writable, user, address}
 use Rattle.x86_64_model.specs.Lists.{In}
 use Rattle.x86_64_model.specs.Machine.{Machine, State, do_call}
+use Rattle.x86_64_model.specs.MapRule.{AfterMap, map_call, parent_part}
 use Rattle.x86_64_model.specs.Memory.{Memory, Words, word, Places, words_of}
-use Rattle.x86_64_model.specs.PageRules.{translate_page}
+use Rattle.x86_64_model.specs.PageRules.{AfterChange, unmap, update_flags, set_flags, translate_page}
 use Rattle.x86_64_model.specs.PageWalk.{Walked, page_walk}
 use Rattle.x86_64_model.specs.Path.{front_at, path_at}
 use Rattle.x86_64_model.specs.PathMap.{PathMap, table_at}
@@ -19,7 +20,7 @@ use Rattle.x86_64_model.specs.Translation.{Translated, translate}
 use Rattle.x86_64_model.specs.Validity.{paths_of}
 use Rattle.x86_64_model.specs.Layout.{Layout}
 use Rattle.std.specs.FinMap.{get}
-use Rattle.x86_64_model.specs.Window.{outside_window, entry_at, IsValidFor}
+use Rattle.x86_64_model.specs.Window.{Window, outside_window, entry_at, IsValidFor}
 
 -- A hierarchy that a mapper owns for a while: its fixed layout, the current memory, and what was lent to the mapper, which is the
 -- memory and what finds frames in it.
@@ -100,6 +101,10 @@ allows h call = allowed h.layout.levels h.layout.window (paths h) call
 abbrev pub allows_map : {Lent : Type 0} → Hierarchy Lent → (page : List ℕ) → (flags parent_flags : ℕ) → Bool
 allows_map h q given parent_flags = map_allowed h.layout.levels h.layout.window (paths h) q given parent_flags
 
+-- Whether a call that maps a page is allowed in a hierarchy, false for any other call.
+abbrev pub allows_map_call : {Lent : Type 0} → Hierarchy Lent → Call → Bool
+allows_map_call h call = map_call_allowed h.layout.levels h.layout.window (paths h) call
+
 -- The call may be made: the hierarchy is valid, and the call is allowed.
 pub record MayCall {Lent : Type 0} (h : Hierarchy Lent) (call : Call) : Type 0 where
   pub valid : Valid h
@@ -108,9 +113,24 @@ pub record MayCall {Lent : Type 0} (h : Hierarchy Lent) (call : Call) : Type 0 w
 -- The map may be made: the hierarchy is valid, the supply (the frames to hand out, in order) fits it, and the call is allowed.
 pub record MayMap {Lent : Type 0} (h : Hierarchy Lent) (supply : List ℕ) (call : Call) : Type 0 where
   pub fits : SupplyFits h supply
-  pub allowed : allows h call ≡ true
+  pub allowed : allows_map_call h call ≡ true
 
 -- ---- what it leaves
+
+-- The outcome of a call that maps a page, by the rule of maps: the path map, the rest of the supply (the frames to hand out, in order),
+-- and the answer. None for any other call.
+abbrev pub map_outcome : (L added_flags : ℕ) → PathMap → (supply : List ℕ) → Call → Option AfterMap
+map_outcome L added paths supply (MapTo q frame given) = Some (map_call L paths supply (parent_part given) added q frame given)
+map_outcome L added paths supply (MapToWithTableFlags q frame given more) = Some (map_call L paths supply more added q frame given)
+map_outcome L added paths supply (IdentityMap level frame given) = Some (map_call L paths supply (parent_part given) added (path_at L level frame) frame given)
+map_outcome L added paths supply call = None
+
+-- The outcome of a call that changes one entry, by its rule: the path map and the answer. None for any other call.
+abbrev pub change_outcome : (L : ℕ) → Option Window → PathMap → Call → Option AfterChange
+change_outcome L window paths (Unmap q) = Some (unmap L (entry_at window paths) paths q)
+change_outcome L window paths (UpdateFlags q given) = Some (update_flags L (entry_at window paths) paths q given)
+change_outcome L window paths (SetFlags level q given) = Some (set_flags L (entry_at window paths) paths level q given)
+change_outcome L window paths call = None
 
 -- The machine of a layout, with a pool that puts a returned frame where `take_back` says.
 abbrev pub machine_of : Layout → (take_back : List ℕ → ℕ → List ℕ) → Machine
@@ -130,10 +150,10 @@ abbrev pub Steps : {Lent : Type 0} → (h : Hierarchy Lent) → (pool : List ℕ
 Steps h pool call answer after rest =
     (take_back : List ℕ → ℕ → List ℕ) → do_call (machine_of h.layout take_back) (state_of h pool) call ≡ record { state = state_of after rest; reply = Answered answer }
 
--- The effect of a call that takes no frames. Its outcome is the machine's, the hierarchy is valid again, and a supply that fitted
--- still fits. Only words in the root and the tables change, and a refused call changes none.
+-- The effect of a call that changes one entry. Its outcome is that of the call's rule, the hierarchy is valid again, and a supply
+-- that fitted still fits. Only words in the root and the tables change, and a refused call changes none.
 pub record Does {Lent : Type 0} (h : Hierarchy Lent) (call : Call) (answer : Answer) (after : Hierarchy Lent) : Type 0 where
-  pub outcome : (pool : List ℕ) → Steps h pool call answer after pool
+  pub outcome : change_outcome h.layout.levels h.layout.window (paths h) call ≡ Some (record { paths = paths after; answer = answer })
   pub valid : Valid after
   pub fits : (supply : List ℕ) → SupplyFits h supply → SupplyFits after supply
   pub others : KeepsOthers (IsTable h.layout.levels h.layout.root (paths h)) h after
@@ -141,11 +161,11 @@ pub record Does {Lent : Type 0} (h : Hierarchy Lent) (call : Call) (answer : Ans
   pub layout : after.layout ≡ h.layout
   pub lent : after.lent ≡ h.lent
 
--- The effect of a map, after which the rest of the supply is left. Its outcome is the machine's, the rest fits the hierarchy, and
--- only words in the root, the tables and the taken frames change. Each page walk that arrived still arrives at the same address,
+-- The effect of a map, after which the rest of the supply is left. Its outcome is that of the rule of maps, the rest fits the
+-- hierarchy, and only words in the root, the tables and the taken frames change. Each page walk that arrived still arrives at the same address,
 -- loses no right, and gains only rights that the parent flags grant.
 pub record DoesMap {Lent : Type 0} (h : Hierarchy Lent) (supply : List ℕ) (call : Call) (answer : Answer) (after : Hierarchy Lent) (rest : List ℕ) : Type 0 where
-  pub outcome : Steps h supply call answer after rest
+  pub outcome : map_outcome h.layout.levels h.layout.added_flags (paths h) supply call ≡ Some (record { paths = paths after; supply = rest; answer = answer })
   pub fits : SupplyFits after rest
   pub others : KeepsOthers (λ f. Owns h supply f × (In rest f → ⊥)) h after
   pub walks : (more : ℕ) → parent_flags_of call ≡ Some more → (p : ℕ) → Arrives more (walk h p) (walk after p)
@@ -181,11 +201,12 @@ pub record MayCleanUp {Lent : Type 0} (h : Hierarchy Lent) (serves : ℕ → Boo
   pub serves_tables : (i : ℕ) (q : List ℕ) (f : ℕ) → table_at h.layout.levels h.layout.root (paths h) (i ∷ q) ≡ Some f → serves f ≡ true
   pub none_held : (i : ℕ) (q : List ℕ) (f : ℕ) → table_at h.layout.levels h.layout.root (paths h) (i ∷ q) ≡ Some f → In held f → ⊥
 
--- The effect of a clean up, after which each freed frame is held where `take_back` puts it. Its outcome is the machine's, the
--- hierarchy is valid again, and a supply that fitted still fits with the freed frames added. The freed frames have only words 0,
+-- The effect of a clean up, after which each freed frame is held where `take_back` puts it. Its outcome is that of the rule of
+-- clean ups, the hierarchy is valid again, and a supply that fitted still fits with the freed frames added. The freed frames have only words 0,
 -- and only words in the root and the tables change.
 pub record CleansUp {Lent : Type 0} (h : Hierarchy Lent) (take_back : List ℕ → ℕ → List ℕ) (held : List ℕ) (low high : ℕ) (after : Hierarchy Lent) (rest : List ℕ) : Type 0 where
-  pub outcome : do_call (machine_of h.layout take_back) (state_of h held) (CleanUp low high) ≡ record { state = state_of after rest; reply = Cleaned }
+  pub outcome : paths after ≡ (clean_up h.layout.levels (paths h) low high).paths
+  pub returned : rest ≡ with_returned take_back held (freed_frames h low high)
   pub valid : Valid after
   pub fits : (take_back : List ℕ → ℕ → List ℕ) → TakesBack take_back → (supply : List ℕ) → SupplyFits h supply → SupplyFits after (with_returned take_back supply (freed_frames h low high))
   pub empty : (f : ℕ) → In (freed_frames h low high) f → (i : ℕ) → word (words after) f i ≡ 0

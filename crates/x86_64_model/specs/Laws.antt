@@ -7,6 +7,7 @@ pub mod Maps
 pub mod PageMappings
 pub mod Standing
 pub mod CleanUps
+pub mod Rules
 pub mod Steps
 pub mod Caches
 pub mod Pairs

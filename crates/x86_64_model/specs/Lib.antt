@@ -11,6 +11,7 @@ pub mod Validity
 pub mod Window
 pub mod PageWalk
 pub mod Mappings
+pub mod Steps
 pub mod Access
 pub mod Regions
 pub mod Translation

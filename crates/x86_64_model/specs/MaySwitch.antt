@@ -7,18 +7,18 @@ use Rattle.x86_64_model.specs.Entry.{IsParentFlags, LeadAlike, used}
 use Rattle.x86_64_model.specs.Memory.{Words}
 use Rattle.x86_64_model.specs.PathMap.{PathMap, entry, table_at}
 use Rattle.x86_64_model.specs.Pool.{Fits}
-use Rattle.x86_64_model.specs.Call.{Call, IsCall, parent_flags_of}
+use Rattle.x86_64_model.specs.Call.{Call, IsCall}
 use Rattle.x86_64_model.specs.Machine.{step}
 use Rattle.x86_64_model.specs.Spaces.{Avoids}
-use Rattle.x86_64_model.specs.Flushing.{PageDue, TablesDue, HasZeros, LosesNothing, mapped_by}
+use Rattle.x86_64_model.specs.Flushing.{PageDue, HasZeros, StayFree, StayEmpty, LosesNothing, mapped_by}
 use Rattle.x86_64_model.specs.Tags.{Tag, Of, Tagged, CachesTagged, TaggedFlush, is_left, is_left_by_load}
 use Rattle.x86_64_model.specs.Switches.{Kernel, Space, AreHeld, Switching, SwitchEvent, held_by, AreDone, machine_at, state_at, with_words, with_marks, after_switch, Makes, Writes, Marks, Returns, Pools, Begins, Ends, Loads, Abandons, Flushes, Changes}
 
--- The kernel may begin a call on a space that the pool fits, when no call is under way. A map waits as long as tables are due for a
--- PCID, and isn't of a page within a larger page that is due. The call leads this space to the machine's next path map. Each entry
--- of another space stays, or is this space's old entry at the same path and becomes the new one, as in shared tables, and nothing
--- changes from roots that the call doesn't reach. If the kernel learns that no used entry loses anything, none does, and if it
--- learns that nothing changes below entries that all spaces share, the call avoids these.
+-- The kernel may begin a call on a space that the pool fits, when no call is under way. The call takes no frame that a clean up freed
+-- before tables are flushed for each PCID, and maps no page within a larger page that is due. It leads this space to the machine's
+-- next path map. Each entry of another space stays, or is this space's old entry at the same path and becomes the new one, as in
+-- shared tables, and nothing changes from roots that the call doesn't reach. If the kernel learns that no used entry loses anything,
+-- none does, and if it learns that nothing changes below entries that all spaces share, the call avoids these.
 pub record MayMakeOn (k : Kernel) (s : Switching) (a : Space) (call : Call) (loses : Bool)
     (reaches : ℕ → Bool)
     (everywhere : Bool) (next : Space → PathMap) : Type 0 where
@@ -29,7 +29,7 @@ pub record MayMakeOn (k : Kernel) (s : Switching) (a : Space) (call : Call) (los
   pub is_call : IsCall k.levels call
   pub kept : loses ≡ false → (q : List ℕ) → used (entry a.paths q) ≡ true
       → LosesNothing (entry a.paths q) (entry (step (machine_at k a) (state_at s a) call).state.paths q)
-  pub waits : (c : ℕ) → In (s.due (Of c)) TablesDue → parent_flags_of call ≡ None
+  pub waits : (c : ℕ) → StayFree (s.due (Of c)) s.pool (step (machine_at k a) (state_at s a) call).state.pool
   pub apart : (tag : Tag) (q r : List ℕ) (frame : ℕ) → In (s.due tag) (PageDue q frame)
       → mapped_by k.levels call ≡ Some r → is_below q r ≡ false
   pub own : next a ≡ (step (machine_at k a) (state_at s a) call).state.paths
@@ -41,8 +41,8 @@ pub record MayMakeOn (k : Kernel) (s : Switching) (a : Space) (call : Call) (los
   pub avoids : everywhere ≡ false → Avoids k.levels k.shared call
 
 -- The words of memory may become these at any moment, also during a call: they hold a valid hierarchy for each space, in which each
--- entry is as it was or as it will be. A table that is removed has only words 0, and free frames with only words 0 keep them as
--- long as tables are due for a PCID.
+-- entry is as it was or as it will be. A table that is removed has only words 0 and, as a free frame, keeps them until tables are
+-- flushed for each PCID.
 pub record MayWriteAll (k : Kernel) (s : Switching) (U : Words) : Type 0 where
   pub held : AreHeld k U (map (with_words k U) s.spaces)
   pub between : (a : Space) → In s.spaces a → (q : List ℕ)
@@ -50,8 +50,7 @@ pub record MayWriteAll (k : Kernel) (s : Switching) (U : Words) : Type 0 where
   pub empty : (a : Space) → In s.spaces a → (q : List ℕ) (f : ℕ)
       → table_at k.levels a.root a.paths q ≡ Some f → table_at k.levels a.root (held_by k U a) q ≡ None
       → HasZeros U f
-  pub keeps : (c : ℕ) → In (s.due (Of c)) TablesDue → (f : ℕ) → In s.pool f → HasZeros s.words f
-      → HasZeros U f
+  pub keeps : (c : ℕ) → StayEmpty (s.due (Of c)) s.pool s.words U
 
 -- A processor may set ACCESSED and DIRTY so, at any moment: the words hold the spaces still, each entry leads to the same with the
 -- same rights, now and when the call under way is done, and frames with only words 0 keep them.
@@ -61,11 +60,11 @@ pub record MayMarkAll (k : Kernel) (s : Switching) (next : Space → PathMap) (U
   pub then : (a : Space) → In s.spaces a → (q : List ℕ) → LeadAlike (entry a.next q) (entry (next a) q)
   pub keeps : (f : ℕ) → HasZeros s.words f → HasZeros U f
 
--- The kernel may change the pool's free frames to these when no call is under way, but no frame leaves the pool as long as tables
--- are due for a PCID.
+-- The kernel may change the pool's free frames to these when no call is under way, but no frame leaves the pool while the table that
+-- was in it isn't flushed for each PCID.
 pub record MayPool (s : Switching) (pool : List ℕ) : Type 0 where
   pub done : AreDone s
-  pub waits : (c : ℕ) → In (s.due (Of c)) TablesDue → (f : ℕ) → In s.pool f → In pool f
+  pub waits : (c : ℕ) → StayFree (s.due (Of c)) s.pool pool
 
 -- A new space may be added: no call on it is under way, the words hold it as they hold the others, and no PCID holds items of its
 -- root.

@@ -2,7 +2,7 @@
 use Rattle.std.specs.Prelude.{◌≡◌, ◌==◌, ℕ, Bool, true, false, not, cond, List, [], ◌∷◌, ◌++◌, filter, map, Option, Some, None}
 use Rattle.x86_64_model.specs.Lists.{In}
 use Rattle.x86_64_model.specs.Path.{level_of}
-use Rattle.x86_64_model.specs.Entry.{LeadAlike, present}
+use Rattle.x86_64_model.specs.Entry.{LeadAlike, present, global}
 use Rattle.x86_64_model.specs.Memory.{Words}
 use Rattle.x86_64_model.specs.Mappings.{maps_page}
 use Rattle.x86_64_model.specs.PathMap.{PathMap, entry}
@@ -11,8 +11,8 @@ use Rattle.x86_64_model.specs.Validity.{paths_of}
 use Rattle.x86_64_model.specs.Call.{Call}
 use Rattle.x86_64_model.specs.Machine.{Machine, State, step}
 use Rattle.x86_64_model.specs.Spaces.{is_shared}
-use Rattle.x86_64_model.specs.Flushing.{Due, flush_after}
-use Rattle.x86_64_model.specs.Tags.{Tag, Of, Global, Tagged, global, TaggedFlush, is_settled}
+use Rattle.x86_64_model.specs.Flushing.{Due, due_after}
+use Rattle.x86_64_model.specs.Tags.{Tag, Of, Global, Tagged, TaggedFlush, is_settled}
 
 -- ---- spaces
 
@@ -138,7 +138,7 @@ state_at s a = record { paths = a.paths; pool = s.pool }
 -- What a call on a space makes due to be flushed, nothing if no used entry may lose anything.
 abbrev pub made_due : Kernel → Switching → Space → Call → (loses : Bool) → List Due
 made_due k s a call loses =
-    cond loses (flush_after k.levels a.window call (step (machine_at k a) (state_at s a) call).reply) []
+    cond loses (due_after (machine_at k a) (state_at s a) call) []
 
 -- The space with the next path map that this function returns for it.
 abbrev pub with_next : (Space → PathMap) → Space → Space

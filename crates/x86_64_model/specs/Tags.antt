@@ -5,7 +5,7 @@ use Rattle.std.specs.Prelude.{◌≡◌, ◌⊎◌, ◌==◌, ◌&&◌, ℕ, Boo
 use Rattle.x86_64_model.specs.Lists.{In}
 use Rattle.x86_64_model.specs.Position.{page_path}
 use Rattle.x86_64_model.specs.Path.{begins}
-use Rattle.x86_64_model.specs.Entry.{has}
+use Rattle.x86_64_model.specs.Entry.{global}
 use Rattle.x86_64_model.specs.Memory.{Words, word}
 use Rattle.x86_64_model.specs.Caches.{PartialWalk, Cached, Table, Page, MayRead, cached_item}
 use Rattle.x86_64_model.specs.Flushing as one
@@ -32,10 +32,6 @@ is_current pcid Global = true
 -- The items that serve while a PCID is current.
 abbrev pub usable : (pcid : ℕ) → List Tagged → List Cached
 usable pcid cache = map (λ c. c.item) (filter (λ c. is_current pcid c.tag) cache)
-
--- Whether an entry has GLOBAL (bit 8): the page that it maps may become a global translation.
-abbrev pub global : (entry : ℕ) → Bool
-global e = has e 0x100
 
 -- A new item that is found in an entry may get this tag: it is of the current PCID, or, if it is a page and
 -- the entry has GLOBAL, it may be a global translation.
@@ -81,7 +77,7 @@ is_page_at L p (Page w) = begins w.path (page_path L p)
 -- Whether what is due is a page in which the position lies, with L levels.
 abbrev pub is_due_at : (L position : ℕ) → Due → Bool
 is_due_at L p (PageDue q frame) = begins q (page_path L p)
-is_due_at L p TablesDue = false
+is_due_at L p (TablesDue freed) = false
 is_due_at L p WindowDue = false
 is_due_at L p (BelowDue q) = false
 

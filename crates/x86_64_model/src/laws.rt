@@ -12,6 +12,7 @@ pub mod page_mappings;
 pub mod pairs;
 pub mod pools;
 pub mod positions;
+pub mod rules;
 pub mod spaces;
 pub mod splits;
 pub mod standing;

@@ -2,6 +2,7 @@ pub mod Places
 pub mod PageTableEntries
 pub mod WalkSteps
 pub mod PlacesInOrder
+pub mod SegmentsInOrder
 pub mod NumberedTables
 pub mod WordsSeen
 pub mod ViewMarks

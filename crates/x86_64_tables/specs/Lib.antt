@@ -17,6 +17,7 @@ pub mod MapperAnswers
 pub mod FramePool
 pub mod LentPool
 pub mod Shifted
+pub mod FrameSegments
 pub mod FlushRecorder
 pub mod private
 pub use Rattle.x86_64_model.specs.Entry

@@ -196,7 +196,7 @@ fn collections(mapper: &mut OffsetPageTable, frames: &mut Frames) {
 /// what the crate says.
 fn touch(mapper: &OffsetPageTable, address: VirtAddr, written: Option<u64>) {
     let kind = if written.is_some() { AccessKind::Write } else { AccessKind::Read };
-    let controls = Controls { write_protect: true, no_execute: true, smep: false, smap: false, ac: false, physical_bits: 40 };
+    let controls = Controls { write_protect: true, no_execute: true, smep: false, smap: false, ac: false, physical_bits: 40, no_1gib_pages: false, global_reserved: false };
     let said = mapper.access(address, Access { kind, user: false }, &controls);
     match (said, machine::access(address, written)) {
         (Ok(at), Ok(())) => println!("  {kind:?} at {address:#x}: arrives at {at:#x}"),

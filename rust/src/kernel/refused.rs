@@ -140,7 +140,7 @@
 //! ```compile_fail,E0277
 //! # use x86_64_paging::kernel as x86_64;
 //! # use x86_64::structures::paging::{OffsetPageTable, Page, PageTableFlags};
-//! use x86_64_paging::structures::paging::mapper::calls::update_flags;
+//! use x86_64_paging::mappers::calls::update_flags;
 //!
 //! fn change(mapper: &mut OffsetPageTable, page: Page) {
 //!     update_flags(mapper, page, PageTableFlags::PRESENT).unwrap().flush();

@@ -1,4 +1,4 @@
-//! Looks down the page tables before a map.
+//! Looks before a map
 
 use crate::addresses::level_count::LevelCount;
 use crate::pages::frame::PhysFrame;
@@ -9,13 +9,12 @@ use crate::tables::phys_memory::{table_in, PageTableFrameMapping, TableMemory};
 
 /// Returns what a map of a page to a frame would return, with this many free frames for new tables, and changes nothing.
 ///
-/// Reads one entry of each level, from the root's down to the page's own, to an unused one, or to one with `HUGE_PAGE`. The
-/// answer is the same for all flags and parent flags. Requires that the hierarchy is valid.
+/// Looks as [`would_prepare`] does, and reads the page's own entry if there is one. The answer is the same for all flags and
+/// parent flags. Requires that the hierarchy is valid.
 ///
 /// # Errors
 ///
-/// `ParentEntryHugePage` if a used entry above the page's own has `HUGE_PAGE`, else `FrameAllocationFailed` if more tables are
-/// missing than frames are free, else `PageAlreadyMapped` with the frame if the page's own entry is used.
+/// Those of [`would_prepare`], else `PageAlreadyMapped` with the frame if the page's own entry is used.
 ///
 /// # Proved
 ///
@@ -31,23 +30,54 @@ pub fn would_map<S: PageSize, L: LevelCount, T: TableMemory, P: PageTableFrameMa
     frame: PhysFrame<S>,
     free_frames: usize,
 ) -> Result<(), MapToError<S>> {
+    let Some(table) = would_prepare(memory, mapping, root, page, free_frames)? else {
+        return Ok(());
+    };
+    if entry_of(memory, mapping, table, page, S::LEVEL).is_unused() {
+        Ok(())
+    } else {
+        Err(MapToError::PageAlreadyMapped(frame))
+    }
+}
+
+/// Returns the frame of the table with the entry of a page, or `None` if that table is missing and a map with this many free frames
+/// would make it. Changes nothing.
+///
+/// Reads one entry of each level, from the root's down to the one above the page's own, to an unused one, or to one with `HUGE_PAGE`.
+/// The answer is the same for all parent flags. Requires that the hierarchy is valid.
+///
+/// # Errors
+///
+/// `ParentEntryHugePage` if a used entry above the page's own has `HUGE_PAGE`, else `FrameAllocationFailed` if more tables are
+/// missing than frames are free.
+///
+/// # Proved
+///
+/// ```text
+/// requires { Valid (direct_at L.LEVELS (P.places mapping.now) root laid_in T.tables memory.now) }
+/// ensures refusal { WouldRefuse (direct_at L.LEVELS (P.places mapping.now) root laid_in T.tables memory.now) S.LEVEL page free_frames (tables_refusal result) }
+/// ensures table { IfOk result (λ table. IsEntryIn (direct_at L.LEVELS (P.places mapping.now) root laid_in T.tables memory.now) S.LEVEL page table) }
+/// ```
+pub fn would_prepare<S: PageSize, L: LevelCount, T: TableMemory, P: PageTableFrameMapping>(
+    memory: &T,
+    mapping: &P,
+    root: PhysFrame<Size4KiB>,
+    page: PageIn<S, L>,
+    free_frames: usize,
+) -> Result<Option<PhysFrame<Size4KiB>>, MapToError<S>> {
     let mut table = root;
     for above in 0..L::LEVELS - S::LEVEL {
         let level = L::LEVELS - above;
         let entry = entry_of(memory, mapping, table, page, level);
         if entry.is_unused() {
-            return if (free_frames as u64) < level - S::LEVEL { Err(MapToError::FrameAllocationFailed) } else { Ok(()) };
+            return if (free_frames as u64) < level - S::LEVEL { Err(MapToError::FrameAllocationFailed) } else { Ok(None) };
         }
         if has_flag(&entry, PageTableFlags::HUGE_PAGE) {
             return Err(MapToError::ParentEntryHugePage);
         }
         table = PhysFrame::from_start_address_unchecked(entry.addr());
     }
-    if entry_of(memory, mapping, table, page, S::LEVEL).is_unused() {
-        Ok(())
-    } else {
-        Err(MapToError::PageAlreadyMapped(frame))
-    }
+    Ok(Some(table))
 }
 
 /// Returns the entry of a level on the way to a page, in the table in a frame, or an unused entry if the frame has no table.

@@ -1,7 +1,9 @@
-//! Maps of single pages in tables that are in use: each looks at the tables first, and a refused one changes nothing.
+//! Maps of single pages in tables in use: each looks first, and a refused one changes nothing.
 
 mod look;
 mod map;
+mod preparation;
 
-pub use look::would_map;
+pub use look::{would_map, would_prepare};
 pub use map::{map_or_nothing, may_map, PageMap};
+pub use preparation::{may_prepare, prepare};

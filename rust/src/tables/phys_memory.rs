@@ -4,10 +4,12 @@ use crate::support::Vec;
 
 mod active;
 mod alike;
+mod frame_segment;
 mod hierarchy_view;
 mod lent_marks;
 mod lent_memory;
 mod places;
+mod segment_mapping;
 mod shift_mapping;
 mod table_memory;
 mod validity;
@@ -20,10 +22,12 @@ use crate::tables::page_table::PageTable;
 pub use active::{Active, ActiveMemory, ActiveMemory57};
 pub use alike::{tables_alike, tables_alike_57};
 use core::ops::{Index, IndexMut};
+pub use frame_segment::FrameSegment;
 pub use hierarchy_view::HierarchyView;
 pub use lent_marks::{count_set, is_valid_by_marks, pool_fits_by_marks};
 pub use lent_memory::LentMemory;
 use places::{is_increasing, SortedPlaces};
+pub use segment_mapping::{SegmentMapping, SegmentRefusal};
 pub use shift_mapping::ShiftMapping;
 pub use table_memory::TableMemory;
 pub use validity::{

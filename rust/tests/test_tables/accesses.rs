@@ -4,11 +4,25 @@ use crate::prelude::*;
 use x86_64_paging::access::{access, access_and_mark, Access, AccessKind, Controls, Fault};
 
 /// A processor with all its protections off, and with all of them on.
-const OFF: Controls = Controls { write_protect: false, no_execute: false, smep: false, smap: false, ac: false, physical_bits: 48 };
+const OFF: Controls = Controls {
+    write_protect: false,
+    no_execute: false,
+    smep: false,
+    smap: false,
+    ac: false,
+    physical_bits: 48,
+    no_1gib_pages: false,
+    global_reserved: false,
+};
 
-const ON: Controls = Controls { write_protect: true, no_execute: true, smep: true, smap: true, ac: false, physical_bits: 48 };
+const ON: Controls = Controls { write_protect: true, no_execute: true, smep: true, smap: true, ..OFF };
 
-const WITH_AC: Controls = Controls { write_protect: true, no_execute: true, smep: true, smap: true, ac: true, physical_bits: 48 };
+const WITH_AC: Controls = Controls { ac: true, ..ON };
+
+/// A processor without pages of 1GiB, and one that reserves `GLOBAL` in the entries of the upper levels.
+const WITHOUT_1GIB: Controls = Controls { no_1gib_pages: true, ..ON };
+
+const WITHOUT_GLOBAL: Controls = Controls { global_reserved: true, ..ON };
 
 const USER_READS: Access = Access { kind: AccessKind::Read, user: true };
 
@@ -41,7 +55,7 @@ const READ_ONLY: [u64; 4] = [0x2007, 0x3005, 0x4007, 0x5007];
 
 const NO_EXECUTE: u64 = 1 << 63;
 
-static ROWS: [Row; 30] = [
+static ROWS: [Row; 35] = [
     // A user reads, writes and fetches.
     (OPEN, USER_READS, ON, Outcome::At(0x5123)),
     (OPEN, USER_WRITES, ON, Outcome::At(0x5123)),
@@ -63,6 +77,13 @@ static ROWS: [Row; 30] = [
     ([0x2007, 0x3007, 0x20_2087, 0], SUPERVISOR_READS, OFF, Outcome::Fault(0x9, 2)),
     ([0x2007, 0x4000_1087, 0, 0], SUPERVISOR_READS, OFF, Outcome::At(0x4000_0123)),
     ([0x2007, 0x6000_0087, 0, 0], SUPERVISOR_READS, OFF, Outcome::Fault(0x9, 3)),
+    // Some processors have no pages of 1GiB.
+    ([0x2007, 0x4000_0087, 0, 0], USER_READS, WITHOUT_1GIB, Outcome::Fault(0xd, 3)),
+    ([0x2007, 0x3007, 0x20_0087, 0], USER_READS, WITHOUT_1GIB, Outcome::At(0x20_0123)),
+    // GLOBAL in entries that name tables is reserved above level three, or ignored.
+    ([0x2107, 0x3007, 0x4007, 0x5007], USER_READS, ON, Outcome::At(0x5123)),
+    ([0x2107, 0x3007, 0x4007, 0x5007], USER_READS, WITHOUT_GLOBAL, Outcome::Fault(0xd, 4)),
+    ([0x2007, 0x3107, 0x4107, 0x5107], USER_READS, WITHOUT_GLOBAL, Outcome::At(0x5123)),
     // NO_EXECUTE.
     ([0x2007 | NO_EXECUTE, 0x3007, 0x4007, 0x5007], USER_READS, ON, Outcome::At(0x5123)),
     ([0x2007 | NO_EXECUTE, 0x3007, 0x4007, 0x5007], USER_FETCHES, ON, Outcome::Fault(0x15, 1)),

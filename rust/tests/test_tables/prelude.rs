@@ -19,8 +19,8 @@ pub use x86_64_paging::tables::frame_alloc::{
 pub use x86_64_paging::tables::page_table::{FrameError, PageTable, PageTableEntry, PageTableFlags};
 pub use x86_64_paging::tables::page_tables::parent_flags;
 pub use x86_64_paging::tables::phys_memory::{
-    Active, ActiveMemory, FramePlace, IdentityMapping, LentMemory, PageTableFrameMapping, PhysMemory, PlacesRefusal, ShiftMapping,
-    TableMemory,
+    Active, ActiveMemory, FramePlace, FrameSegment, IdentityMapping, LentMemory, PageTableFrameMapping, PhysMemory, PlacesRefusal,
+    SegmentMapping, ShiftMapping, TableMemory,
 };
 pub use x86_64_paging::tables::tokens::{FlushItem, FlushRecorder, MapperFlushIn};
 

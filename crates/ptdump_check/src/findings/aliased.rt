@@ -6,10 +6,10 @@ ghost use Rattle.ptdump_check.specs.Aliasing.{aliased_by};
 
 use crate::rights_at::RightsAt;
 use std::fmt::{Display, Formatter, Result as FmtResult, Write};
+use text::write_hexadecimal;
 use x86_64_addr::addr::{PhysAddr, VirtAddrIn};
 use x86_64_addr::level_count::LevelCount;
 use x86_64_mappings::MappingIn;
-use x86_64_mappings::text::write_hexadecimal;
 
 /// A frame that is mapped twice with different rights.
 #[derive(Clone, Copy)]

@@ -15,15 +15,12 @@ address_in L a m = raw L ((m.start + (a - m.frame)) % position_count L)
 
 -- The text and the JSON object of the virtual address in a mapping that leads to a physical address, with the rights there.
 abbrev pub said_of_found : (L physical : ℕ) → Mapping → Said
-said_of_found L a m = record { text = rights_at_text (address_in L a m) m.rights; object = json_of_found a (address_in L a m) m.rights }
-
--- The line, in a form, of the virtual address in a mapping that leads to a physical address, with the rights there.
-abbrev pub address_line : Form → (L physical : ℕ) → Mapping → List ℕ
-address_line form L a m = line_of form (said_of_found L a m)
+said_of_found L a m =
+    record { text = rights_at_text (address_in L a m) m.rights; object = json_of_found a (address_in L a m) m.rights }
 
 -- A line in a form for each mapping that is visited, in order, with the virtual address in it that leads to a physical address.
 abbrev pub visited_lines : Form → (L physical : ℕ) → List Mapping → List ℕ
-visited_lines form L a ms = flat_map (address_line form L a) ms
+visited_lines form L a ms = flat_map (λ m. line_of form (said_of_found L a m)) ms
 
 -- Whether there is at least one mapping.
 abbrev pub some_there : List Mapping → Bool

@@ -6,9 +6,9 @@ ghost use Rattle.ptdump_engine.specs.InfoTexts as texts;
 use crate::registers::{Registers, levels_name};
 use crate::start::{Origin, Start};
 use std::fmt::{Display, Formatter, Result as FmtResult, Write};
+use text::{write_hexadecimal, write_size};
 use x86_64_addr::level_count::Levels;
 use x86_64_dump::{Format, Kernel, KernelText};
-use x86_64_mappings::text::{write_hexadecimal, write_size};
 use x86_64_page::frame::PhysFrame;
 use x86_64_page::page::Size4KiB;
 

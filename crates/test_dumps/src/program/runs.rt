@@ -29,6 +29,8 @@ const CONTROLS: Controls = Controls {
     smap: true,
     ac: false,
     physical_bits: 52,
+    no_1gib_pages: false,
+    global_reserved: false,
 };
 
 /// The words of all commands.

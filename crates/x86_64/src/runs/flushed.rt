@@ -39,7 +39,8 @@ pub fn run_flushed<
     recorder: &mut FlushRecorder,
 ) -> Result<(), AllocError>
     requires { StoreFits (M.hierarchy mapper.old) (store_of F.FrameStore frames.old) }
-    ensures ran { OnOk result (Ran (to_call P5.bits) (M.hierarchy mapper.old) (store_of F.FrameStore frames.old)
+    ensures ran { OnOk result (Ran (to_call P5.bits) (M.hierarchy mapper.old)
+        (store_of F.FrameStore frames.old)
         calls.now replies.old.items replies.new.items (M.hierarchy mapper.new) (F.supply frames.new)) }
     ensures flushed { OnOk result (
         Flushed (to_call P5.bits) (M.hierarchy mapper.old) (store_of F.FrameStore frames.old) calls.now

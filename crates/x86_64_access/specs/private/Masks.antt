@@ -6,6 +6,10 @@ use Rattle.x86_64_model.specs.Access.{Access, Controls, Kind, Read, Write, Fetch
 abbrev pub off_bits : Controls → ℕ
 off_bits c = cond c.no_execute 0 0x8000_0000_0000_0000
 
+-- The bit GLOBAL if some levels reserve it, and otherwise none.
+abbrev pub global_bits : Controls → ℕ
+global_bits c = cond c.global_reserved 0x100 0
+
 -- The address bits of an entry that the processor lacks, by its number of bits of physical addresses.
 abbrev pub high_bits : Controls → ℕ
 high_bits c = bit_and 0x000f_ffff_ffff_f000 (2 ^ 64 - 2 ^ c.physical_bits)

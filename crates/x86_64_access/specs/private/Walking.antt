@@ -1,9 +1,10 @@
 -- An access from a frame's table on, by the rights that the words above it grant.
-use Rattle.std.specs.Prelude.{◌≡◌, ◌^◌, ◌&&◌, ◌||◌, not, nat_lt, Bool, ℕ, map, None}
+use Rattle.std.specs.Prelude.{◌≡◌, ◌^◌, ◌&&◌, ◌||◌, not, nat_lt, Bool, ℕ, None}
 use Rattle.std.specs.List.{last_or}
-use Rattle.x86_64_model.specs.Access.{Access, Controls, Outcome, Arrives, steps_from, ends_by}
-use Rattle.x86_64_model.specs.Entry.{has, present, huge, no_execute, address}
-use Rattle.x86_64_model.specs.Mappings.{Rights, rights_of}
+use Rattle.x86_64_model.specs.Access.{Access, Controls, Outcome, Arrives, reserved, steps_from, ends_by}
+use Rattle.x86_64_model.specs.Entry.{has, present, huge, global, no_execute, address}
+use Rattle.x86_64_model.specs.Mappings.{Rights, maps_page}
+use Rattle.x86_64_model.specs.Steps.{rights_in}
 use Rattle.x86_64_model.specs.Memory.{Words}
 use Rattle.x86_64_tables.specs.Rights.{both}
 
@@ -11,11 +12,18 @@ use Rattle.x86_64_tables.specs.Rights.{both}
 -- a level down, if the words above grant these rights.
 unfoldable pub access_on : Controls → Words → (p : ℕ) → Access → (level frame : ℕ) → Rights → Outcome
 access_on c T p a level frame r = let steps = steps_from c T p level frame in
-    ends_by c a p (both r (rights_of (map (λ s. s.word) steps))) frame (last_or None steps)
+    ends_by c a p (both r (rights_in steps)) frame (last_or None steps)
 
--- Whether the processor reads on in the table that a word names, if the word maps no page: it is present and has no reserved bit.
+-- Whether the processor reads on in the table that a word of this level names: the word is present, has no reserved bit, and maps
+-- no page.
+abbrev pub reads_on : Controls → (level word : ℕ) → Bool
+reads_on c level e = present e && not (reserved c level e) && not (maps_page level e)
+
+-- Whether the processor reads on in the table that a word names at any level, if the word maps no page: it is present and has no bit
+-- that is reserved at some level.
 unfoldable pub may_read_on : Controls → (word : ℕ) → Bool
-may_read_on c e = present e && (not (huge e) && (nat_lt (address e) (2 ^ c.physical_bits) && (c.no_execute || not (no_execute e))))
+may_read_on c e = (present e && (not (huge e) && (nat_lt (address e) (2 ^ c.physical_bits) && (c.no_execute || not (no_execute e)))))
+    && not (c.global_reserved && global e)
 
 -- The rights that a number stands for by its bits: WRITABLE, USER_ACCESSIBLE, and, at the place of NO_EXECUTE, the right to
 -- execute.

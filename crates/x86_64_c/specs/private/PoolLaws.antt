@@ -1,11 +1,12 @@
 -- What steps do to a pool that serves the names of its loans, too, they do to one that serves its own frames alone.
-use Rattle.std.specs.Prelude.{◌≡◌, ℕ, Bool, List, Option, Some, None, IfSome, Result, Ok, Err, IfErr, OnOk, refl}
+use Rattle.std.specs.Prelude.{◌≡◌, ℕ, Bool, List, Option, Some, None, IfSome, Result, Ok, Err, IfErr, OnOk, refl, ap}
 use Rattle.std.specs.Borrow.{GName}
 use Rattle.x86_64_model.specs.Layout.{Layout}
 use Rattle.x86_64_model.specs.Hierarchy.{Hierarchy}
 use Rattle.x86_64_model.specs.Memory.{Memory}
 use Rattle.x86_64_model.specs.Spaces.{AreSpaces}
 use Rattle.x86_64_mappers.specs.Ranges.{MapRange}
+use Rattle.x86_64_mappers.specs.Supplies.{Supply}
 use Rattle.x86_64_spaces.specs.declared.giving_up.GiveUpError.{GiveUpError}
 use Rattle.x86_64_spaces.specs.declared.space.Space.{Space}
 use Rattle.x86_64_spaces.specs.SpaceCalls.{TakesFirst, IsMade, IsGivenUp, IsReason}
@@ -14,6 +15,7 @@ use Rattle.x86_64_tables.proofs.LentPools.{fits_own, fits_served}
 use Rattle.x86_64.specs.Asked.{MapperCall}
 use Rattle.x86_64_c.specs.AddressSpaces.{space_at}
 use Rattle.x86_64_c.specs.PoolCalls.{RunsCall}
+use Rattle.x86_64_c.specs.Preparations.{PreparesPage}
 use Rattle.x86_64_c.specs.Ranges.{Maps}
 use Rattle.x86_64_c.specs.declared.ranges.Mapped.{Mapped}
 use Rattle.x86_64_c.specs.private.OrNothing.{RunsIfOk}
@@ -38,6 +40,33 @@ module _ (own : List ℕ) (array count : GName) {serves : ℕ → Bool} (same : 
   own_runs_if_ok h after pool rest call status runs = record {
     status_is = runs.status_is;
     done = λ fine. own_runs h after pool rest call status (runs.done fine);
+  }
+
+  pub own_prepares : (h after : Hierarchy (Unit {0})) (pool rest : List ℕ) (level page more status : ℕ)
+      → PreparesPage h (stack serves pool) level page more after (stack serves rest) status → PreparesPage h (stack (is_in own) pool) level page more after (stack (is_in own) rest) status
+  own_prepares h after pool rest level page more status did = record {
+    status_is = did.status_is;
+    prepares = λ may.
+        let prepares = did.prepares may in record {
+          outcome = prepares.outcome;
+          done = λ none.
+              let made = prepares.done none in record {
+                outcome = made.outcome;
+                made = made.made;
+                entries = made.entries;
+                valid = made.valid;
+                fits = made.fits;
+                conserved = made.conserved;
+                others = made.others;
+                walks = made.walks;
+                layout = made.layout;
+                lent = made.lent;
+                serves = refl;
+              };
+          refused = λ some. let same = prepares.refused some in (same.0, ap (λ (s : Supply). record { frames = s.frames; serves = is_in own }) same.1);
+        };
+    keeps = record { fits = fits_own own array count same did.keeps.fits; conserved = did.keeps.conserved; others = did.keeps.others };
+    serves = refl;
   }
 
   pub own_maps : (h after : Hierarchy (Unit {0})) (pool rest : List ℕ) (r : MapRange) (number status done : ℕ)

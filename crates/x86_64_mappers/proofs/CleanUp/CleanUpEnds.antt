@@ -1,15 +1,15 @@
 -- The result of a clean up of the whole hierarchy, from the changes to its tables.
-use Rattle.std.proofs.Common.{◌≡◌, ◌<◌, ℕ, true, List, [], refl, sym, ap, ap₂, ◌∙◌, subst}
+use Rattle.std.proofs.Common.{◌≡◌, ◌<◌, ℕ, true, List, [], refl, sym, ap, ◌∙◌, subst}
 use Rattle.x86_64_model.proofs.Lemmas.CleanUps.Below.{cleaned_below, back_below}
 use Rattle.x86_64_model.proofs.Lemmas.CleanUps.Meets.{empty_clean_up}
 use Rattle.x86_64_model.proofs.Lemmas.CleanUps.Tables.{cleaned_whole, back_whole}
 use Rattle.x86_64_model.proofs.Lemmas.Hierarchies.Trees.{IsTree, tree_of_holds}
 use Rattle.x86_64_model.proofs.Lemmas.Machines.Fitting.{step_fits}
-use Rattle.x86_64_model.specs.Call.{CleanUp, Cleaned}
+use Rattle.x86_64_model.specs.Call.{CleanUp}
 use Rattle.x86_64_model.specs.CleanUp.{AfterCleanUp, clean_up}
 use Rattle.x86_64_model.specs.Entry.{IsParentFlags}
 use Rattle.x86_64_model.specs.Lists.{In}
-use Rattle.x86_64_model.specs.Machine.{AfterCall, State, do_call}
+use Rattle.x86_64_model.specs.Machine.{do_call}
 use Rattle.x86_64_model.specs.Memory.{Memory}
 use Rattle.x86_64_model.specs.Hierarchy.{Hierarchy, Valid, CleansUp, words, paths, state_of}
 use Rattle.x86_64_model.specs.PathMap.{PathMap}
@@ -29,9 +29,6 @@ module _ {Lent : Type 0} (h : Hierarchy Lent) (adds : IsParentFlags h.layout.add
   abbrev after : AfterCleanUp
   after = clean_up L M low high
 
-  abbrev after_state : State → AfterCall
-  after_state s = record { state = s; reply = Cleaned }
-
   tree : IsTree L h.layout.root M
   tree = tree_of_holds L (words_read h.layout h.memory) h.layout.root M valid.valid.holds
 
@@ -39,7 +36,8 @@ module _ {Lent : Type 0} (h : Hierarchy Lent) (adds : IsParentFlags h.layout.add
       → CleansUp h take_back held low high (record h { memory = n }) rest
   unfolding do_call
   ends N back paths_are back_is n rest c = record {
-    outcome = ap₂ (λ N pool. after_state (record { paths = N; pool = pool })) (sym is) (ap (with_returned take_back held) (sym back_is) ∙ sym c.given);
+    outcome = is;
+    returned = c.given ∙ ap (with_returned take_back held) back_is;
     valid = c.valid;
     fits = λ other gives supply fits. subst (λ N. Fits L h.layout.window (words (record h { memory = n })) h.layout.root N (λ f. true) (with_returned other supply after.back)) (sym is)
         (step_fits L h.layout.window (words h) (words (record h { memory = n })) h.layout.root (λ f. true) h.layout.added_flags adds other gives (state_of h supply) (CleanUp low high) tt fits

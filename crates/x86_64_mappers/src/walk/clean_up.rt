@@ -50,9 +50,10 @@ pub fn clean_up_range<M: TableAccess + TablesIn<L>, L: LevelCount, D: FrameDeall
     range: BlockRangeInclusive<PageIn<Size4KiB, L>>,
     frame_deallocator: &mut D,
 )
-    requires { MayCleanUpInto (M.hierarchy mapper.old) (deallocator_store D.FrameDeallocator frame_deallocator.old) }
-    ensures { CleansUpInto (M.hierarchy mapper.old) (deallocator_store D.FrameDeallocator frame_deallocator.old)
-        range.start (range.end + 0xfff)
+    requires { MayCleanUpInto (M.hierarchy mapper.old)
+        (deallocator_store D.FrameDeallocator frame_deallocator.old) }
+    ensures { CleansUpInto (M.hierarchy mapper.old)
+        (deallocator_store D.FrameDeallocator frame_deallocator.old) range.start (range.end + 0xfff)
         (M.hierarchy mapper.new) (deallocator_store D.FrameDeallocator frame_deallocator.new) }
 {
     let first = path_of_address(mapper, range.start.start_address());
@@ -72,8 +73,10 @@ fn clean_up_paths<M: TableAccess, D: FrameDeallocator<Size4KiB>>(
     requires last { length last.now ≡ (M.hierarchy mapper.old).layout.levels }
     requires may { MayCleanUpInto (M.hierarchy mapper.old)
         (deallocator_store D.FrameDeallocator frame_deallocator.old) }
-    ensures { CleansUpPages (M.hierarchy mapper.old) (deallocator_store D.FrameDeallocator frame_deallocator.old)
-        first.now last.now (M.hierarchy mapper.new) (deallocator_store D.FrameDeallocator frame_deallocator.new) }
+    ensures { CleansUpPages (M.hierarchy mapper.old)
+        (deallocator_store D.FrameDeallocator frame_deallocator.old)
+        first.now last.now (M.hierarchy mapper.new)
+        (deallocator_store D.FrameDeallocator frame_deallocator.new) }
 {
     if page_number(last) < page_number(first) {
         return;
@@ -104,7 +107,8 @@ fn clean_up_table<M: TableAccess, D: FrameDeallocator<Size4KiB>>(
         range.now.first.now range.now.last.now }
     requires visited { VisitsTable (M.hierarchy mapper.old)
         range.now.first.now range.now.last.now path.now table }
-    ensures cleaned { CleansBelow (M.hierarchy mapper.old) (deallocator_store D.FrameDeallocator frame_deallocator.old)
+    ensures cleaned { CleansBelow (M.hierarchy mapper.old)
+        (deallocator_store D.FrameDeallocator frame_deallocator.old)
         range.now.first.now range.now.last.now path.now
         (M.hierarchy mapper.new) (deallocator_store D.FrameDeallocator frame_deallocator.new) }
     ensures layout { (M.hierarchy mapper.new).layout ≡ (M.hierarchy mapper.old).layout }
@@ -138,7 +142,8 @@ fn next_named<M: TableAccess>(
     ensures last { result ≤ last + 1 }
     ensures passed { (i : ℕ) → from ≤ i → i < result
         → leads_to_table (word (words (M.hierarchy mapper.now)) frame i) ≡ false }
-    ensures named { result ≤ last → leads_to_table (word (words (M.hierarchy mapper.now)) frame result) ≡ true }
+    ensures named { result ≤ last → leads_to_table (word (words (M.hierarchy mapper.now)) frame result)
+        ≡ true }
 {
     let table = mapper.table(path, frame);
     for index in from..last + 1 {
@@ -171,7 +176,8 @@ fn clean_up_entry<M: TableAccess, D: FrameDeallocator<Size4KiB>>(
         range.now.first.now range.now.last.now path.now table }
     requires meets { MeetsPages (M.hierarchy mapper.old)
         range.now.first.now range.now.last.now (path.now ++ index ∷ []) }
-    ensures cleaned { CleansEntry (M.hierarchy mapper.old) (deallocator_store D.FrameDeallocator frame_deallocator.old)
+    ensures cleaned { CleansEntry (M.hierarchy mapper.old)
+        (deallocator_store D.FrameDeallocator frame_deallocator.old)
         range.now.first.now range.now.last.now (path.now ++ index ∷ [])
         (M.hierarchy mapper.new) (deallocator_store D.FrameDeallocator frame_deallocator.new) }
     ensures layout { (M.hierarchy mapper.new).layout ≡ (M.hierarchy mapper.old).layout }

@@ -6,6 +6,7 @@ ghost use Rattle.x86_64_model.specs.Hierarchy.{SupplyFits, MayMap, paths, words}
 ghost use Rattle.x86_64_model.specs.Refusal.{ParentEntryHugePage};
 ghost use Rattle.x86_64_model.specs.Window.{begins_with};
 ghost use Rattle.x86_64_mappers.specs.Supplies.{DoesMapFrom, supply_of};
+ghost use Rattle.x86_64_mappers.specs.TablesAbove.{CreatesTables, tables_refusal};
 ghost use Rattle.x86_64_mappers.specs.private.OpenWay.{WillBePresent};
 ghost use Rattle.x86_64_mappers.specs.private.OwnedSteps.{LinksTable, MakesTable, MakesTables, SetsLeaf, SetsWord, LeadsOpenly, MayNameTable};
 ghost use Rattle.x86_64_mappers.specs.Reached.{PathReaches};
@@ -208,6 +209,30 @@ pub(super) fn create_tables<M: TableAccess, A: FrameAllocator<Size4KiB>>(
         table = create_next_table(mapper, parents, k, table, parent_flags, frame_allocator)?;
     }
     Ok(table)
+}
+
+/// Makes the tables above the page with a path, and adds the parent flags to the entries above it. The path has one index per
+/// level, from the root's level down to that of the page's own entry, which stays.
+///
+/// # Errors
+///
+/// Those of [`create_tables`].
+pub fn create_tables_above<S: PageSize, M: TableAccess, A: FrameAllocator<Size4KiB>>(
+    mapper: &mut M,
+    path: &[PageTableIndex],
+    parent_flags: PageTableFlags,
+    frame_allocator: &mut A,
+) -> Result<(), MapToError<S>>
+    requires levels { length path.now + S.LEVEL ≡ (M.hierarchy mapper.old).layout.levels + 1 }
+    requires may { MayMap (M.hierarchy mapper.old) (A.supply frame_allocator.old)
+        (MapToWithTableFlags path.now 0 0 (bits_of parent_flags)) }
+    ensures { CreatesTables (M.hierarchy mapper.old) (supply_of A.FrameAllocator frame_allocator.old)
+        (bits_of parent_flags) path.now (tables_refusal result)
+        (M.hierarchy mapper.new) (supply_of A.FrameAllocator frame_allocator.new) }
+{
+    let last = path.len() - 1;
+    create_tables(mapper, &path[..last], parent_flags, frame_allocator)?;
+    Ok(())
 }
 
 /// Writes the entry of a page that is mapped to a frame, at an index of the table below the page's parents. An entry

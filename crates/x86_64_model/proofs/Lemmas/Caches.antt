@@ -10,6 +10,7 @@ pub mod Moved
 pub mod Runs
 pub mod Safe
 pub mod Stale
+pub mod TakenFrames
 pub mod Unflushed
 pub mod Walks
 pub mod Whole

@@ -1,12 +1,12 @@
 -- Laws of caches: what has to be flushed after each call suffices.
-use Rattle.std.specs.Prelude.{◌≡◌, ◌⊎◌, ◌≢◌, ◌<◌, ◌+◌, ◌&&◌, nat_le, nat_lt, ℕ, Bool, true, false, List, [], ◌∷◌, length, replicate, Option, Some, None, IsSome, option_map}
+use Rattle.std.specs.Prelude.{◌≡◌, ◌⊎◌, ◌↔◌, ◌≢◌, ◌<◌, ◌+◌, ◌&&◌, nat_le, nat_lt, ℕ, Bool, true, false, List, [], ◌∷◌, length, replicate, Option, Some, None, IsSome, option_map, ◌-◌, take}
 use Rattle.std.specs.FinMap.{empty, insert}
 use Rattle.std.specs.Ordering.{nat_cmp}
 use Rattle.x86_64_model.specs.Lists.{In}
 use Rattle.x86_64_model.specs.Position.{page_path}
 use Rattle.x86_64_model.specs.PathMap.{entry, put}
 use Rattle.x86_64_model.specs.Path.{level_of, span_size, begins}
-use Rattle.x86_64_model.specs.Entry.{used, present}
+use Rattle.x86_64_model.specs.Entry.{used, present, user}
 use Rattle.x86_64_model.specs.Mappings.{maps_page}
 use Rattle.x86_64_model.specs.Memory.{Words, Memory, word, set_word, words_of, identity_places}
 use Rattle.x86_64_model.specs.Pool.{IsTable}
@@ -14,11 +14,10 @@ use Rattle.x86_64_model.specs.Window.{Window, begins_with, entry_at, IsValidFor}
 use Rattle.x86_64_model.specs.PageWalk.{page_start, page_walk}
 use Rattle.x86_64_model.specs.Machine.{Machine, IsMachine, State, step}
 use Rattle.x86_64_model.specs.Caches.{PartialWalk, start, AtMost, Cached, Table, Page, cached_item, Caches, MayRead, MayAccess, walk_with_rights_from, walk_with_rights, walked_in}
-use Rattle.x86_64_model.specs.Flushing.{Due, PageDue, TablesDue, WindowDue, BelowDue, flush_after, concerns, HasZeros, Invlpg, survives, System, Event, Makes, Exchanges, MayMake, MayWrite, MayPut, MayExchange, LosesNothing, due_between, after_event, AllMayHappen, after_events, fresh}
+use Rattle.x86_64_model.specs.Flushing.{Due, PageDue, TablesDue, WindowDue, BelowDue, flush_after, concerns, HasZeros, Invlpg, survives, System, Event, Makes, Exchanges, MayMake, MayWrite, MayPut, MayExchange, LosesNothing, loses_between, due_between, after_event, AllMayHappen, after_events, fresh, freed_by, IsUnflushed, IsEmptied, StayFree}
 use Rattle.x86_64_model.specs.MapRule.{map_call}
-use Rattle.x86_64_model.specs.CleanUp.{clean_up}
 use Rattle.x86_64_model.specs.Refusal.{Done}
-use Rattle.x86_64_model.specs.Call.{Call, MapTo, MapToWithTableFlags, CleanUp, Answered, Cleaned}
+use Rattle.x86_64_model.specs.Call.{Call, IsCall, MapTo, MapToWithTableFlags, CleanUp, Answered, Cleaned, parent_flags_of}
 use Rattle.x86_64_model.specs.Flush.{OnePage, items_of}
 use Rattle.x86_64_model.specs.Arrivals.{KeepsArrival}
 use Rattle.x86_64_model.specs.Laws.Steps.{FitsState}
@@ -70,12 +69,12 @@ AccessesAreWalks = (m : Machine) (root : ℕ) (T : Words) (serves : ℕ → Bool
     → (w : PartialWalk) → MayAccess m.levels root now.words now.cache p w → KeepsArrival (Some (walked_in m.levels p w)) (page_walk m.levels now.words root p)
 
 -- At every moment, also during calls, the processor reads only words of tables of the hierarchy, which are in memory. Until a clean
--- up is flushed it may also read words of free frames, all of them 0.
+-- up is flushed it may also read words of the frames that this freed, all of them 0.
 abbrev pub OnlyTablesAreRead : Type 0
 OnlyTablesAreRead = (m : Machine) (root : ℕ) (T : Words) (serves : ℕ → Bool) (s : State) → FitsState m T root serves s
     → (events : List Event) (now : System) → Happens m root T s events now
     → (t : PartialWalk) → MayRead root now.cache t
-    → (IsTable m.levels root now.paths t.frame × IsSome (now.words t.frame)) ⊎ (In now.due TablesDue × In now.state.pool t.frame × HasZeros now.words t.frame)
+    → (IsTable m.levels root now.paths t.frame × IsSome (now.words t.frame)) ⊎ IsEmptied now.due now.state.pool now.words t.frame
 
 -- ---- where accesses go while something is due
 
@@ -124,10 +123,18 @@ LetGoIsUnreached = (m : Machine) (root : ℕ) (T : Words) (serves : ℕ → Bool
 
 -- ---- calls as a whole
 
--- The frames that a call frees: those of the tables that a clean up removes, and none for any other call.
-abbrev pub freed_by : (L : ℕ) → State → Call → List ℕ
-freed_by L s (CleanUp low high) = (clean_up L s.paths low high).back
-freed_by L s call = []
+-- A call that is no map takes no frame of the pool. So no frame of a freed table is taken if maps wait until no tables are due.
+abbrev pub OnlyMapsTakeFrames : Type 0
+OnlyMapsTakeFrames = (m : Machine) → IsMachine m → (root : ℕ) (T : Words) (serves : ℕ → Bool) (s : State) → FitsState m T root serves s
+    → (call : Call) → IsCall m.levels call → (due : List Due)
+    → ((freed : List ℕ) → In due (TablesDue freed) → parent_flags_of call ≡ None) → StayFree due s.pool (step m s call).state.pool
+
+-- A call takes only the first frames of the pool, one for each level but the first. So no frame of a freed table is taken if none of
+-- these is of one that is due.
+abbrev pub FirstFramesAreTaken : Type 0
+FirstFramesAreTaken = (m : Machine) → IsMachine m → (root : ℕ) (T : Words) (serves : ℕ → Bool) (s : State) → FitsState m T root serves s
+    → (call : Call) → IsCall m.levels call → (due : List Due)
+    → ((f : ℕ) → In (take (m.levels - 1) s.pool) f → IsUnflushed due f → ⊥) → StayFree due s.pool (step m s call).state.pool
 
 -- The words after a call hold the machine's next state. A frame that is free then was freed by the call and has only words 0, or
 -- was free before and kept its words.
@@ -155,6 +162,10 @@ ExchangesMayHappen = (m : Machine) (root : ℕ) (serves : ℕ → Bool) (s : Sys
     → let U = set_word s.words may.in_table.frame may.in_table.index w in
     (word s.words may.in_table.frame may.in_table.index ≡ entry s.paths q) × MayExchange m root s q w U
     × FitsState m U root serves (after_event m s (Exchanges q w U)).state
+
+-- The test of both words tells of a present entry exactly that it loses nothing, and that it becomes a user's only if it was one.
+abbrev pub WordsTellLosses : Type 0
+WordsTellLosses = (e f : ℕ) → present e ≡ true → (loses_between e f ≡ false) ↔ (LosesNothing e f × (user f ≡ true → user e ≡ true))
 
 -- If nothing is due after the exchange of a present word, the entry loses nothing.
 abbrev pub ExchangesTell : Type 0
@@ -215,7 +226,7 @@ pub record UnflushedNoExecute : Type 0 where
   pub maps : (map_call 4 small_mapped [] 0x8000_0000_0000_0003 0 (0 ∷ 0 ∷ 0 ∷ 2 ∷ []) 0x6000 3).paths
       ≡ put (put (put (put small_mapped (0 ∷ []) 0x8000_0000_0000_2003) (0 ∷ 0 ∷ []) 0x8000_0000_0000_3003) (0 ∷ 0 ∷ 0 ∷ []) 0x8000_0000_0000_4003) (0 ∷ 0 ∷ 0 ∷ 2 ∷ []) 0x6003
   pub left : survives 4 (Invlpg 0x2000) (Page executable_page) ≡ true
-  pub due : flush_after 4 None (MapToWithTableFlags (0 ∷ 0 ∷ 0 ∷ 2 ∷ []) 0x6000 3 0x8000_0000_0000_0003) (Answered (Done 0x6000)) ≡ BelowDue (0 ∷ []) ∷ []
+  pub due : flush_after 4 None [] (MapToWithTableFlags (0 ∷ 0 ∷ 0 ∷ 2 ∷ []) 0x6000 3 0x8000_0000_0000_0003) (Answered (Done 0x6000)) ≡ BelowDue (0 ∷ []) ∷ []
 
 -- ---- a table that is named before it is cleared
 
@@ -230,4 +241,4 @@ uncleared_memory = insert (insert (insert (insert (empty {X = List ℕ} {R = nat
 pub record UnclearedTable : Type 0 where
   pub in_between : walk_with_rights 4 (words_of uncleared_memory identity_places) 0x1000 0x2000 ≡ Some (writable_way (0 ∷ 0 ∷ 0 ∷ 2 ∷ []) 0x7000)
   pub afterwards : page_walk 4 (words_of small_memory identity_places) 0x1000 0x2000 ≡ None
-  pub none_due : flush_after 4 None (MapTo (0 ∷ 0 ∷ 0 ∷ 1 ∷ []) 0x5000 3) (Answered (Done 0x5000)) ≡ []
+  pub none_due : flush_after 4 None [] (MapTo (0 ∷ 0 ∷ 0 ∷ 1 ∷ []) 0x5000 3) (Answered (Done 0x5000)) ≡ []

@@ -8,8 +8,8 @@ use Rattle.x86_64_model.specs.Memory.{Words}
 use Rattle.x86_64_model.specs.Path.{level_of, path_at}
 use Rattle.x86_64_model.specs.PathMap.{PathMap, entry}
 use Rattle.x86_64_model.specs.Spaces.{is_shared}
-use Rattle.x86_64_model.specs.Tags.{global}
 use Rattle.x86_64_model.specs.Laws.Steps.{FitsState}
+use Rattle.x86_64_model.specs.Entry.{global}
 
 -- Entries that map pages, present or not, have GLOBAL only if their path begins with a shared index.
 abbrev pub GlobalsBelow : (L : ℕ) → (shared : ℕ → Bool) → PathMap → Type 0

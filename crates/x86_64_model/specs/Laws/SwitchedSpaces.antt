@@ -1,9 +1,9 @@
 -- Laws of address spaces in a memory, between which a processor switches: what a call keeps lets it happen.
 use Rattle.std.specs.Prelude.{◌≡◌, ◌≢◌, ◌<◌, ℕ, Bool, true, false, List, [], ◌∷◌, map, Some, None}
 use Rattle.x86_64_model.specs.Lists.{In}
-use Rattle.x86_64_model.specs.Call.{Call, IsCall, parent_flags_of}
-use Rattle.x86_64_model.specs.Entry.{IsParentFlags, used, present}
-use Rattle.x86_64_model.specs.Flushing.{PageDue, TablesDue, LosesNothing, mapped_by}
+use Rattle.x86_64_model.specs.Call.{Call, IsCall}
+use Rattle.x86_64_model.specs.Entry.{IsParentFlags, used, present, global}
+use Rattle.x86_64_model.specs.Flushing.{PageDue, LosesNothing, mapped_by, IsUnflushed, StayFree}
 use Rattle.x86_64_model.specs.Validity.{paths_of}
 use Rattle.x86_64_model.specs.Layout.{Layout}
 use Rattle.x86_64_model.specs.Machine.{step}
@@ -15,7 +15,7 @@ use Rattle.x86_64_model.specs.Spaces.{is_shared, AreSpaces, IsSharing, ArePaired
 use Rattle.x86_64_model.specs.Store.{KeepsPool}
 use Rattle.x86_64_model.specs.Pool.{TakesBack}
 use Rattle.x86_64_model.specs.Window.{begins_with, entry_at, outside_window}
-use Rattle.x86_64_model.specs.Tags.{Tag, Of, global}
+use Rattle.x86_64_model.specs.Tags.{Tag, Of}
 use Rattle.x86_64_model.specs.Switches.{holder_with, Kernel, Space, AreHeld, held_by, Switching, machine_at, Makes, Writes, Returns, SwitchEvent, Pools, Begins, Ends}
 use Rattle.x86_64_model.specs.MaySwitch.{MayBegin, AllMaySwitch, after_switches}
 use Rattle.x86_64_model.specs.Laws.Caches.{IsAfterCall}
@@ -128,7 +128,7 @@ pub record CallsOn (k : Kernel) (places : Places) (sharing : (root other : ℕ) 
   pub loses_nothing : loses ≡ false → (q : List ℕ)
       → let e = entry (space_for k (words_of m places) one).paths q in
       used e ≡ true → LosesNothing e (entry (space_for k (words_of n places) one).paths q)
-  pub waits : (c : ℕ) → In (s.due (Of c)) TablesDue → parent_flags_of call ≡ None
+  pub waits : (c : ℕ) → StayFree (s.due (Of c)) pool rest
   pub apart : (tag : Tag) (q r : List ℕ) (frame : ℕ) → In (s.due tag) (PageDue q frame)
       → mapped_by k.levels call ≡ Some r → is_below q r ≡ false
   pub unreached : (b : Layout) → In layouts b → reaches b.root ≡ false
@@ -164,7 +164,7 @@ abbrev pub new_events : Kernel → (after : Words) → (rest : List ℕ) → (ne
 new_events k U rest new = Pools rest ∷ Writes U ∷ Begins (space_for k U new) ∷ []
 
 -- A frame of the pool may become the root of one more address space while a processor switches, if no
--- PCID's tables are due, and none holds this root. This leads to the system with the words, the rest of the
+-- table that was in it is due for a PCID, and none holds this root. This leads to the system with the words, the rest of the
 -- pool and the space.
 abbrev pub NewSpacesMaySwitch : Type 0
 NewSpacesMaySwitch = (k : Kernel) (places : Places) → IsMapping places → 0 < k.levels
@@ -173,7 +173,7 @@ NewSpacesMaySwitch = (k : Kernel) (places : Places) → IsMapping places → 0 <
     → AreSpaces shared m k.serves (new.root ∷ rest) layouts → IsNewRoot shared first m n new
     → MaySwitchIn k places (words_of m places) layouts
     → MaySwitchIn k places (words_of n places) (new ∷ layouts)
-    → (s : Switching) → ((c : ℕ) → In (s.due (Of c)) TablesDue → ⊥) → ((c : ℕ) → s.holder c ≢ Some new.root)
+    → (s : Switching) → ((c : ℕ) → IsUnflushed (s.due (Of c)) new.root → ⊥) → ((c : ℕ) → s.holder c ≢ Some new.root)
     → let U = words_of n places in let now = between k (words_of m places) (new.root ∷ rest) layouts s in
     let events = new_events k U rest new in
     AllMaySwitch k now events

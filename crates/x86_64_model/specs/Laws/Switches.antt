@@ -106,8 +106,8 @@ pub record SeeTheSame (a b : Switching) : Type 0 where
 
 -- Of several processors, each access of any one in a space goes with the page walk from its root in the
 -- present words, with no right more, if the events that it sees may happen, and nothing that is due for its
--- items concerns the position. So it has to be flushed for itself, and a call waits until tables are
--- flushed on each.
+-- items concerns the position. So it has to be flushed for itself, and a call takes no frame of a freed
+-- table until tables are flushed on each.
 abbrev pub EachIsFlushedHere : Type 0
 EachIsFlushedHere = (k : Kernel) (events : List (ℕ × SwitchEvent)) (j : ℕ) (start now : Switching)
     → Switches k start (seen_by j events) now

@@ -5,6 +5,7 @@ use Rattle.x86_64_model.specs.PathMap.{PathMap}
 use Rattle.x86_64_model.specs.Memory.{Words}
 use Rattle.x86_64_model.specs.Window.{Window, entry_at, IsSelfEntry, IsValidFor}
 use Rattle.x86_64_model.specs.PageWalk.{page_walk}
+use Rattle.x86_64_model.specs.Steps.{steps, arrival_along}
 use Rattle.x86_64_model.specs.Translation.{translate, Agrees}
 use Rattle.x86_64_model.specs.WrittenOut.{walk_4, walk_5, translate_4, translate_5}
 use Rattle.x86_64_model.specs.Arrivals.{Reaches, leads}
@@ -16,6 +17,10 @@ FourWrittenOut = (T : Words) (root p : ℕ) → page_walk 4 T root p ≡ walk_4 
 -- The page walk of five levels equals the one that reads the root's word and goes on with the walk of four levels.
 abbrev pub FiveWrittenOut : Type 0
 FiveWrittenOut = (T : Words) (root p : ℕ) → page_walk 5 T root p ≡ walk_5 T root p
+
+-- The page walk arrives by the words that it reads: in the page that the last of them maps, with the rights that all of them grant.
+abbrev pub WalksArriveBySteps : Type 0
+WalksArriveBySteps = (L : ℕ) (T : Words) (root p : ℕ) → page_walk L T root p ≡ arrival_along p (steps T p L root)
 
 -- The answer of `translate` with four levels equals the one that is written out entry by entry.
 abbrev pub TranslateWrittenOut : Type 0

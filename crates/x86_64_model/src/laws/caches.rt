@@ -1,5 +1,5 @@
 // Laws of the processor's caches.
-ghost use Rattle.x86_64_model.specs.Laws.Caches.{WalksWithRights, WalksAreCached, FlushesAreEnough, AccessesAreWalks, OnlyTablesAreRead, StaleAccessesAreOld, LetGoIsUnreached, CallsMayHappen, ExchangesMayHappen, ExchangesTell, ExchangedWords, UnflushedCleanUp, UnflushedNoExecute, UnclearedTable};
+ghost use Rattle.x86_64_model.specs.Laws.Caches.{WalksWithRights, WalksAreCached, FlushesAreEnough, AccessesAreWalks, OnlyTablesAreRead, StaleAccessesAreOld, LetGoIsUnreached, CallsMayHappen, ExchangesMayHappen, WordsTellLosses, ExchangesTell, ExchangedWords, UnflushedCleanUp, UnflushedNoExecute, UnclearedTable, OnlyMapsTakeFrames, FirstFramesAreTaken};
 
 /// The page walk arrives if and only if the walk that also says the page's path and its right to execute leads to a page, and then
 /// in this page, with the same rights to write and of user mode.
@@ -25,7 +25,8 @@ pub fn accesses_are_page_walks()
     ensures { AccessesAreWalks }
 {}
 
-/// The processor reads only words of tables of the hierarchy and, until a clean up is flushed, words of free frames, all of them 0.
+/// The processor reads only words of tables of the hierarchy and, until a clean up is flushed, words of the frames that it freed, all
+/// of them 0.
 pub fn processors_read_only_tables()
     ensures { OnlyTablesAreRead }
 {}
@@ -42,6 +43,17 @@ pub fn frames_let_go_are_not_reached()
     ensures { LetGoIsUnreached }
 {}
 
+/// Only maps take frames from the pool: any other call may begin while a clean up isn't flushed, and a map if none is.
+pub fn only_maps_take_frames()
+    ensures { OnlyMapsTakeFrames }
+{}
+
+/// A call takes only the first frames of the pool, one for each level but the first: it may begin while a clean up isn't flushed
+/// that freed none of them.
+pub fn only_first_frames_are_taken()
+    ensures { FirstFramesAreTaken }
+{}
+
 /// A call may happen as one change of the words, if the words after it hold the machine's next state, and free frames are as a call
 /// leaves them.
 pub fn calls_may_happen()
@@ -51,6 +63,12 @@ pub fn calls_may_happen()
 /// An exchange of an entry's word may happen, if memory changes by this word alone, and the state fits memory again.
 pub fn exchanges_may_happen()
     ensures { ExchangesMayHappen }
+{}
+
+/// The test of both words says of a present entry exactly whether it loses nothing and doesn't become a user's.
+#[tactic(auto, using(crate::proofs::Lemmas::Caches::Exchanged::words_tell_losses))]
+pub fn words_tell_what_is_lost()
+    ensures { WordsTellLosses }
 {}
 
 /// An entry that is exchanged loses nothing, if it is present and nothing is due.

@@ -60,8 +60,8 @@ pub fn calls_on_address_spaces_may_happen()
     ensures { CallsMaySwitch }
 {}
 
-/// A frame of the pool may become the root of one more address space while a processor switches, if no PCID's tables are due,
-/// and none holds this root.
+/// A frame of the pool may become the root of one more address space while a processor switches, if no table that was in it is due
+/// for a PCID, and none holds this root.
 pub fn new_roots_may_happen()
     ensures { NewSpacesMaySwitch }
 {}

@@ -1,5 +1,5 @@
 // Laws of the page walk and of `translate`.
-ghost use Rattle.x86_64_model.specs.Laws.Walks.{FourWrittenOut, FiveWrittenOut, TranslateWrittenOut, TranslateFiveWrittenOut, TranslateAgrees, WindowsReach};
+ghost use Rattle.x86_64_model.specs.Laws.Walks.{FourWrittenOut, FiveWrittenOut, TranslateWrittenOut, TranslateFiveWrittenOut, TranslateAgrees, WalksArriveBySteps, WindowsReach};
 
 /// The page walk of four levels equals the one that is written out word by word.
 #[tactic(auto, using(crate::proofs::Lemmas::Walks::WrittenOut::walk_is))]
@@ -11,6 +11,12 @@ pub fn four_levels_written_out()
 #[tactic(auto, using(crate::proofs::Lemmas::Walks::WrittenOut::walk_5_is))]
 pub fn five_levels_written_out()
     ensures { FiveWrittenOut }
+{}
+
+/// The page walk arrives by the words that it reads: in the page that the last of them maps, with the rights that all of them grant.
+#[tactic(auto, using(crate::proofs::Lemmas::Walks::Steps::walks_arrive_by_steps))]
+pub fn walks_arrive_by_their_steps()
+    ensures { WalksArriveBySteps }
 {}
 
 /// The answer of `translate` with four levels equals the one that is written out entry by entry.

@@ -151,7 +151,8 @@ impl<B: Block> Iterator for BlockRangeInclusive<B> {
 impl<B: Block> DoubleEndedIterator for BlockRangeInclusive<B> {
     ghost next_back_gives = { λ r block s.
         YieldsLastBy B.place (inclusive_blocks_in B.SIZE B.place) r block s
-        × (block_ends B.place s.start s.end ≡ back_taken_inclusive B.SIZE 1 (block_ends B.place r.start r.end)) };
+        × (block_ends B.place s.start s.end ≡ back_taken_inclusive B.SIZE 1
+        (block_ends B.place r.start r.end)) };
 
     fn next_back(&mut self) -> Option<B> {
         if self.end.place() < self.start.place() {

@@ -1,8 +1,8 @@
 //! The program's arguments.
 
 use x86_64_paging::addresses::level_count::Levels;
-use x86_64_paging::listing::text::parse_number;
 use x86_64_paging::structures::paging::PageTableIndex;
+use x86_64_paging::text::parse_number;
 use x86_64_paging::{CallIn, LevelCount, LevelFiveFlags, VirtAddr};
 
 /// Returns the word for the recursive mapper.

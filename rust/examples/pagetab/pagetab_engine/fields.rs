@@ -1,6 +1,6 @@
 //! The fields of a line, which are separated by spaces.
 
-use x86_64_paging::listing::text::parse_number;
+use x86_64_paging::text::parse_number;
 
 /// The maximum number of numbers in a line.
 const MOST_NUMBERS: usize = 4;

@@ -4,11 +4,11 @@ use x86_64_paging::support::Vec;
 
 use core::fmt::Display;
 use x86_64_paging::bitflags::Flags;
-use x86_64_paging::listing::text::write_hexadecimal;
 use x86_64_paging::structures::paging::mapper::{
     FlagUpdateError, MapToError, MappedFrame, TranslateError, TranslateResult, UnmapError,
 };
 use x86_64_paging::structures::paging::{PageSize, PhysFrame, Size4KiB};
+use x86_64_paging::text::write_hexadecimal;
 use x86_64_paging::{LevelCount, MapperReply, PageReply, PhysAddr, ReplyIn, Walked};
 
 /// The reply to a call on a page that is not mapped.

@@ -8,9 +8,7 @@ use crate::call_rows::CallRow::{self, Giant, Large, Small};
 use crate::call_rows::PageCallRow::{self, MapTo, MapToWithTableFlags, Unmap, UpdateFlags};
 use crate::prelude::*;
 use crate::test_reference::PlainCall;
-use x86_64_paging::structures::paging::mapper::calls::{
-    map_range, map_range_allowed, range_allowed, unmap_range, update_flags_range,
-};
+use x86_64_paging::mappers::calls::{map_range, map_range_allowed, range_allowed, unmap_range, update_flags_range};
 use x86_64_paging::structures::paging::mapper::{FrameSink, MapRangeErrorIn, MapToError, TableAccess};
 use x86_64_paging::structures::paging::{Size1GiB, Size2MiB};
 use x86_64_paging::{parent_flags, TablesIn};

@@ -3,6 +3,7 @@
 mod active;
 mod alike;
 mod places;
+mod segments;
 
 use crate::prelude::*;
 use x86_64_paging::tables::phys_memory::{

@@ -1,6 +1,6 @@
 use Rattle.std.proofs.Common.{ℕ, List, Option, None, Some, codes, refl}
 use Rattle.clap.specs.Matches.{first_value, found_of}
-use Rattle.x86_64_mappings.specs.Numbers.{number_of}
+use Rattle.text.specs.Numbers.{number_of}
 use Rattle.ptdump.specs.Asked.{IsBits}
 use Rattle.ptdump.specs.Options.{IsOption}
 use Rattle.ptdump.proofs.Refusals.{of_any_error}

@@ -4,7 +4,7 @@ use Rattle.x86_64_model.proofs.Lemmas.Entries.Words.{address_aligned}
 use Rattle.x86_64_model.specs.Entry.{present, huge}
 use Rattle.x86_64_model.specs.Mappings.{maps_page, granted}
 use Rattle.x86_64_model.specs.Memory.{words_of, identity_places}
-use Rattle.ptdump_engine.specs.Walks.{walk_words_from}
+use Rattle.ptdump_engine.specs.Walks.{walk_of}
 use Rattle.ptdump_engine.specs.private.Walked.{end_with}
 use Rattle.ptdump_engine.proofs.Results.{on_ok}
 use Rattle.ptdump_engine.proofs.WordByWord.{words_below, words_end, end_below, end_ends}
@@ -96,7 +96,7 @@ returns-clause-words t c =
     let page : maps_page c.args.level e ≡ false = search rules in
     let table : huge e ≡ false = search rules in
     let frame = c.from_start_address_unchecked-below.ensures ∙ c.addr.ensures in
-    on_ok c.walk_on.result (words_below T c.args.position c.args.level c.args.frame e c.index_of-index.result c.args.words.now.items c.push.new.self.items read c.index_of-index.ensures.value added c.walk_on.new.words.items _ (behind_table c.args.position c.args.level e _ there page table ∙ ap (walk_words_from T c.args.position (c.args.level - 1)) (sym frame))) c.walk_on.ensures.words
+    on_ok c.walk_on.result (words_below T c.args.position c.args.level c.args.frame e c.index_of-index.result c.args.words.now.items c.push.new.self.items read c.index_of-index.ensures.value added c.walk_on.new.words.items _ (behind_table c.args.position c.args.level e _ there page table ∙ ap (λ f. walk_of (c.args.level - 1) T f c.args.position) (sym frame))) c.walk_on.ensures.words
 
 pub returns-clause-end : goal.returns-clause-end
 returns-clause-end t c =
@@ -109,7 +109,7 @@ returns-clause-end t c =
     let page : maps_page c.args.level e ≡ false = search rules in
     let table : huge e ≡ false = search rules in
     let frame = c.from_start_address_unchecked-below.ensures ∙ c.addr.ensures in
-    IfOk-weaker c.walk_on.result _ _ (λ value is. end_below T c.args.position c.args.level c.args.frame e c.args.above c.below-rights.result value _ read rights (behind_table c.args.position c.args.level e _ there page table ∙ ap (walk_words_from T c.args.position (c.args.level - 1)) (sym frame)) is) c.walk_on.ensures.end
+    IfOk-weaker c.walk_on.result _ _ (λ value is. end_below T c.args.position c.args.level c.args.frame e c.args.above c.below-rights.result value _ read rights (behind_table c.args.position c.args.level e _ there page table ∙ ap (λ f. walk_of (c.args.level - 1) T f c.args.position) (sym frame)) is) c.walk_on.ensures.end
 
 pub from_start_address_unchecked-below-requires : goal.from_start_address_unchecked-below-requires
 from_start_address_unchecked-below-requires t c = rw c.addr.ensures (address_aligned c.index-entry.result.now)

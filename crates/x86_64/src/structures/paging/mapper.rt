@@ -1,5 +1,4 @@
 //! Mappers, with their results and errors.
-pub use x86_64_mappers::calls;
 pub use x86_64_mappers::calls::MapRangeErrorIn;
 pub use x86_64_mappers::mapped_page_table::{
     MappedPageTable, MappedPageTable57, MappedPageTableIn,

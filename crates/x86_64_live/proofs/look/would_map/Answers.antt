@@ -1,57 +1,7 @@
-use Rattle.std.proofs.Common.{◌≡◌, ◌∙◌, ◌%◌, sym, subst, arith, true, false}
-use Rattle.x86_64_live.proofs.Looks.{look_starts, look_passes, look_meets_huge, look_lacks_frames, look_has_frames, look_meets_free, look_meets_used}
-use Rattle.x86_64_model.proofs.Lemmas.Entries.Words.{address_aligned}
+use Rattle.std.proofs.Common.{◌≡◌, ◌∙◌, refl, sym, ap, arith, true, false, Some, None}
+use Rattle.std.proofs.lemmas.Result.{err_from_is_err_and}
+use Rattle.x86_64_model.proofs.Lemmas.Hierarchies.Changes.{zero_not_used}
 use Rattle.x86_64_model.specs.Entry.{used}
+use Rattle.x86_64_tables.specs.MapperAnswers.{map_refusal}
+use Rattle.x86_64_live.proofs.Refusals.{answers_below, refused_below}
 use Rattle.x86_64_live.proofs.look.would_map.Goals as goal
-
-pub from_start_address_unchecked-table-requires : goal.from_start_address_unchecked-table-requires
-from_start_address_unchecked-table-requires g c = subst (λ a. a % 4096 ≡ 0) (sym c.addr.ensures) (address_aligned c.entry_of-entry.result)
-
-pub loop-above-init : goal.loop-above-init
-loop-above-init g c =
-    look_starts g.L.LevelCount.LEVELS g.S.PageSize.LEVEL g.L.LevelCount.at_least_four g.S.PageSize.low g.S.PageSize.high
-    (g.P.PageTableFrameMapping.places c.args.mapping.now) c.args.root (g.T.TableMemory.tables c.args.memory.now) c.requires c.args.page c.args.frame c.args.free_frames
-
-pub loop-above-preserved : goal.loop-above-preserved
-loop-above-preserved g c =
-    let is_used : used c.entry_of-entry.result ≡ true = let u = c.if-is_unused.ensures in grind (arith, u) in
-    look_passes g.L.LevelCount.LEVELS g.S.PageSize.LEVEL g.L.LevelCount.at_least_four g.S.PageSize.low g.S.PageSize.high
-    (g.P.PageTableFrameMapping.places c.args.mapping.now) c.args.root (g.T.TableMemory.tables c.args.memory.now) c.requires c.args.page c.args.frame c.args.free_frames
-    c.loop-above.above c.loop-above.table c.loop-above.invariant (omega (arith, c.loop-above-test.true, c.LEVELS.ensures, c.LEVEL.ensures)) c.LEVELS-in-loop-above.result c.LEVELS-in-loop-above.ensures c.entry_of-entry.result c.entry_of-entry.ensures is_used (sym c.if-has_flag.ensures) c.from_start_address_unchecked-table.result (c.from_start_address_unchecked-table.ensures ∙ c.addr.ensures)
-
-pub returns-then-free_frames-level : goal.returns-then-free_frames-level
-returns-then-free_frames-level g c =
-    let is_unused : used c.entry_of-entry.result ≡ false = let u = c.if-is_unused.ensures in grind (arith, u) in
-    look_lacks_frames g.L.LevelCount.LEVELS g.S.PageSize.LEVEL g.L.LevelCount.at_least_four g.S.PageSize.low g.S.PageSize.high
-    (g.P.PageTableFrameMapping.places c.args.mapping.now) c.args.root (g.T.TableMemory.tables c.args.memory.now) c.requires c.args.page c.args.frame c.args.free_frames
-    c.loop-above.above c.loop-above.table c.loop-above.invariant (omega (arith, c.loop-above-test.true, c.LEVELS.ensures, c.LEVEL.ensures)) c.LEVELS-in-loop-above.result c.LEVELS-in-loop-above.ensures c.entry_of-entry.result c.entry_of-entry.ensures is_unused
-    (omega (arith, c.if-free_frames-level.true, c.LEVELS-in-loop-above.ensures, c.LEVEL-then-is_unused.ensures))
-
-pub returns-else-free_frames-level : goal.returns-else-free_frames-level
-returns-else-free_frames-level g c =
-    let is_unused : used c.entry_of-entry.result ≡ false = let u = c.if-is_unused.ensures in grind (arith, u) in
-    look_has_frames g.L.LevelCount.LEVELS g.S.PageSize.LEVEL g.L.LevelCount.at_least_four g.S.PageSize.low g.S.PageSize.high
-    (g.P.PageTableFrameMapping.places c.args.mapping.now) c.args.root (g.T.TableMemory.tables c.args.memory.now) c.requires c.args.page c.args.frame c.args.free_frames
-    c.loop-above.above c.loop-above.table c.loop-above.invariant (omega (arith, c.loop-above-test.true, c.LEVELS.ensures, c.LEVEL.ensures)) c.LEVELS-in-loop-above.result c.LEVELS-in-loop-above.ensures c.entry_of-entry.result c.entry_of-entry.ensures is_unused
-    (omega (arith, c.if-free_frames-level.false, c.LEVELS-in-loop-above.ensures, c.LEVEL-then-is_unused.ensures))
-
-pub returns-then-has_flag : goal.returns-then-has_flag
-returns-then-has_flag g c =
-    let is_used : used c.entry_of-entry.result ≡ true = let u = c.if-is_unused.ensures in grind (arith, u) in
-    look_meets_huge g.L.LevelCount.LEVELS g.S.PageSize.LEVEL g.L.LevelCount.at_least_four g.S.PageSize.low g.S.PageSize.high
-    (g.P.PageTableFrameMapping.places c.args.mapping.now) c.args.root (g.T.TableMemory.tables c.args.memory.now) c.requires c.args.page c.args.frame c.args.free_frames
-    c.loop-above.above c.loop-above.table c.loop-above.invariant (omega (arith, c.loop-above-test.true, c.LEVELS.ensures, c.LEVEL.ensures)) c.LEVELS-in-loop-above.result c.LEVELS-in-loop-above.ensures c.entry_of-entry.result c.entry_of-entry.ensures is_used (sym c.if-has_flag.ensures)
-
-pub returns-then-is_unused-2 : goal.returns-then-is_unused-2
-returns-then-is_unused-2 g c =
-    let is_unused : used c.entry_of.result ≡ false = let u = c.if-is_unused-2.ensures in grind (arith, u) in
-    look_meets_free g.L.LevelCount.LEVELS g.S.PageSize.LEVEL g.L.LevelCount.at_least_four g.S.PageSize.low g.S.PageSize.high
-    (g.P.PageTableFrameMapping.places c.args.mapping.now) c.args.root (g.T.TableMemory.tables c.args.memory.now) c.requires c.args.page c.args.frame c.args.free_frames
-    c.loop-above.above c.loop-above.table c.loop-above.invariant (omega (arith, c.loop-above-test.false, c.loop-above.auto.above-end, c.LEVELS.ensures, c.LEVEL.ensures)) c.LEVEL-2.result c.LEVEL-2.ensures c.entry_of.result c.entry_of.ensures is_unused
-
-pub returns-else-is_unused-2 : goal.returns-else-is_unused-2
-returns-else-is_unused-2 g c =
-    let is_used : used c.entry_of.result ≡ true = let u = c.if-is_unused-2.ensures in grind (arith, u) in
-    look_meets_used g.L.LevelCount.LEVELS g.S.PageSize.LEVEL g.L.LevelCount.at_least_four g.S.PageSize.low g.S.PageSize.high
-    (g.P.PageTableFrameMapping.places c.args.mapping.now) c.args.root (g.T.TableMemory.tables c.args.memory.now) c.requires c.args.page c.args.frame c.args.free_frames
-    c.loop-above.above c.loop-above.table c.loop-above.invariant (omega (arith, c.loop-above-test.false, c.loop-above.auto.above-end, c.LEVELS.ensures, c.LEVEL.ensures)) c.LEVEL-2.result c.LEVEL-2.ensures c.entry_of.result c.entry_of.ensures is_used

@@ -14,7 +14,7 @@ use Rattle.x86_64_model.specs.Pool.{with_returned}
 use Rattle.x86_64_model.specs.Allowed.{allowed}
 use Rattle.x86_64_model.specs.Call.{Call, IsCall, MapTo, MapToWithTableFlags, IdentityMap, Unmap, UpdateFlags, SetFlags, TranslatePage, Translate, TranslateAddress, CleanUp, parent_flags_of}
 use Rattle.x86_64_model.specs.Machine.{Machine, IsMachine, State, do_call, step, after_map, after_change}
-use Rattle.x86_64_model.specs.Flushing.{LosesNothing, Due, PageDue, TablesDue, BelowDue, if_accepted, if_window, page_due, below_due, flush_after}
+use Rattle.x86_64_model.specs.Flushing.{LosesNothing, Due, PageDue, TablesDue, BelowDue, if_accepted, if_window, page_due, below_due, flush_after, freed_by, due_after}
 use Rattle.x86_64_model.proofs.Lemmas.Entries.Bits.{used_present, has_or, address_or}
 use Rattle.x86_64_model.proofs.Lemmas.Hierarchies.Changes.{unused_no_table, zero_not_used}
 use Rattle.x86_64_model.proofs.Lemmas.Lists.Members.{in_left, in_right}
@@ -46,8 +46,8 @@ module _ (m : Machine) (root : ℕ) (serves : ℕ → Bool) (s : State) (sound :
     → P call (after_map (map_call m.levels s.paths s.pool more m.added_flags q frame given)).state d)
     (pages : (call : Call) (q : List ℕ) (w : ℕ) → table_of m.levels q (entry s.paths q) ≡ None → P call (record { paths = put s.paths q w; pool = s.pool }) (page_due m.levels m.window q (address (entry s.paths q))))
     (tables : (call : Call) (q : List ℕ) (w : ℕ) → SameTarget (entry s.paths q) w → P call (record { paths = put s.paths q w; pool = s.pool }) (below_due m.window q))
-    (cleans : (low high : ℕ) → P (CleanUp low high) (record { paths = (clean_up m.levels s.paths low high).paths; pool = with_returned m.take_back s.pool (clean_up m.levels s.paths low high).back }) (TablesDue ∷ if_window m.window)) where
-  done_cases : (call : Call) → IsCall m.levels call → allowed m.levels m.window s.paths call ≡ true → P call (do_call m s call).state (flush_after m.levels m.window call (do_call m s call).reply)
+    (cleans : (low high : ℕ) → P (CleanUp low high) (record { paths = (clean_up m.levels s.paths low high).paths; pool = with_returned m.take_back s.pool (clean_up m.levels s.paths low high).back }) (TablesDue (clean_up m.levels s.paths low high).back ∷ if_window m.window)) where
+  done_cases : (call : Call) → IsCall m.levels call → allowed m.levels m.window s.paths call ≡ true → P call (do_call m s call).state (flush_after m.levels m.window (freed_by m.levels s call) call (do_call m s call).reply)
   unfolding do_call
   done_cases (MapTo q frame given) is h = maps (MapTo q frame given) q frame given (parent_part given) [] refl (map_may m.levels m.window s.paths q given _ h) (λ x. let t : true ≡ false = sym x ∙ no_execute_part given in cc)
   done_cases (MapToWithTableFlags q frame given more) is h = maps (MapToWithTableFlags q frame given more) q frame given more _ refl (map_may m.levels m.window s.paths q given _ h) (λ x. ap (λ b. cond b (below_due m.window (take 1 q)) []) x)
@@ -66,8 +66,8 @@ module _ (m : Machine) (root : ℕ) (serves : ℕ → Bool) (s : State) (sound :
   done_cases (TranslateAddress p) is h = nothing (TranslateAddress p) []
   done_cases (CleanUp low high) is h = cleans low high
 
-  due_cases : (call : Call) → IsCall m.levels call → P call (step m s call).state (flush_after m.levels m.window call (step m s call).reply)
-  due_cases call is = step_cases m s call (λ after. P call after.state (flush_after m.levels m.window call after.reply)) (done_cases call is) (nothing call _)
+  due_cases : (call : Call) → IsCall m.levels call → P call (step m s call).state (due_after m s call)
+  due_cases call is = step_cases m s call (λ after. P call after.state (flush_after m.levels m.window (freed_by m.levels s call) call after.reply)) (done_cases call is) (nothing call _)
 
 -- ---- what each call does to entries and to the pool
 
@@ -88,16 +88,16 @@ module _ (m : Machine) (is : IsMachine m) (root : ℕ) (serves : ℕ → Bool) (
   abbrev MovesTo : State → List Due → Type 0
   MovesTo t d = (q : List ℕ) → Becomes m.levels m.window (d ++ due) t.pool q (entry s.paths q) (entry t.paths q)
 
-  -- as long as tables are due, free frames stay free
+  -- free frames stay free, unless the call is a map
   abbrev Keeps : Call → State → Type 0
-  Keeps call t = (In due TablesDue → parent_flags_of call ≡ None) → In due TablesDue → (f : ℕ) → In s.pool f → In t.pool f
+  Keeps call t = parent_flags_of call ≡ None → (f : ℕ) → In s.pool f → In t.pool f
 
   abbrev Does : Call → State → List Due → Type 0
   Does call t d = MovesTo t d × Keeps call t
 
   by_map : (call : Call) (q : List ℕ) (frame given more : ℕ) (d : List Due) → parent_flags_of call ≡ Some more → MapMay m.window s.paths q given more → (no_execute more ≡ true → d ≡ below_due m.window (take 1 q))
       → Does call (after_map (map_call m.levels s.paths s.pool more m.added_flags q frame given)).state d
-  by_map call q frame given more d flags may all = (moved, λ waits tables f i. absurd (let t : Some more ≡ None = sym flags ∙ waits tables in cc))
+  by_map call q frame given more d flags may all = (moved, λ none f i. absurd (let t : Some more ≡ None = sym flags ∙ none in cc))
     where
       after : State
       after = (after_map (map_call m.levels s.paths s.pool more m.added_flags q frame given)).state
@@ -145,7 +145,7 @@ module _ (m : Machine) (is : IsMachine m) (root : ℕ) (serves : ℕ → Bool) (
         (λ e. Remapped (ap (λ r. table_of m.levels r (entry s.paths r)) e ∙ leaf) (inl (ap (λ r. PageDue r (address (entry s.paths r))) (sym e)))
         (λ l v is. inr (page_window m.window m.levels q due (subst (λ r. length r < m.levels) e l) v is)))
         (λ n. AsBefore (entry-put_other s.paths q w r n)) (cases_path r q),
-    λ waits tables f i. i,
+    λ none f i. i,
   )
 
   by_table : (call : Call) (q : List ℕ) (w : ℕ) → SameTarget (entry s.paths q) w → Does call (record { paths = put s.paths q w; pool = s.pool }) (below_due m.window q)
@@ -154,30 +154,31 @@ module _ (m : Machine) (is : IsMachine m) (root : ℕ) (serves : ℕ → Bool) (
         (λ e. subst (λ r. Becomes m.levels m.window (below_due m.window q ++ due) s.pool r (entry s.paths r) (entry (put s.paths q w) r)) (sym e)
         (Reflagged (subst (SameTarget (entry s.paths q)) (sym (entry-put_same s.paths q w)) same) q (inl refl) (begins_itself q) (below_window m.window q due)))
         (λ n. AsBefore (entry-put_other s.paths q w r n)) (cases_path r q),
-    λ waits tables f i. i,
+    λ none f i. i,
   )
 
-  by_clean_up : (low high : ℕ) → Does (CleanUp low high) (record { paths = (clean_up m.levels s.paths low high).paths; pool = with_returned m.take_back s.pool (clean_up m.levels s.paths low high).back }) (TablesDue ∷ if_window m.window)
-  by_clean_up low high = (moved, λ waits tables f i. (given_frames m.take_back is.gives s.pool back f).1 (in_right back s.pool f i))
+  by_clean_up : (low high : ℕ) → Does (CleanUp low high) (record { paths = (clean_up m.levels s.paths low high).paths; pool = with_returned m.take_back s.pool (clean_up m.levels s.paths low high).back }) (TablesDue (clean_up m.levels s.paths low high).back ∷ if_window m.window)
+  by_clean_up low high = (moved, λ none f i. (given_frames m.take_back is.gives s.pool back f).1 (in_right back s.pool f i))
     where
       back : List ℕ
       back = (clean_up m.levels s.paths low high).back
 
-      moved : MovesTo (record { paths = (clean_up m.levels s.paths low high).paths; pool = with_returned m.take_back s.pool back }) (TablesDue ∷ if_window m.window)
+      moved : MovesTo (record { paths = (clean_up m.levels s.paths low high).paths; pool = with_returned m.take_back s.pool back }) (TablesDue back ∷ if_window m.window)
       moved [] = AsBefore (stays m.levels root s.paths sound.hierarchy.tree low high [] (⊎_elim (λ r. absurd (root_stays m.levels root s.paths sound.hierarchy.tree low high r)) (λ k. k) (cases_Bool (is_removed m.levels s.paths low high []))))
       moved (i ∷ q) = ⊎_elim
-          (λ r. Removed (gone m.levels root s.paths sound.hierarchy.tree low high (i ∷ q) r) (inl refl) (λ v is. inr (window_in m.window due v is))
+          (λ r. Removed (gone m.levels root s.paths sound.hierarchy.tree low high (i ∷ q) r) (λ v is. inr (window_in m.window due v is))
           (address (entry s.paths (i ∷ q))) (removed_leads m.levels root s.paths sound.hierarchy.tree low high (i ∷ q) r)
+          (back, inl refl, removed_back m.levels root s.paths sound.hierarchy.tree low high i q r)
           ((given_frames m.take_back is.gives s.pool back _).1 (in_left back s.pool _ (removed_back m.levels root s.paths sound.hierarchy.tree low high i q r))))
           (λ k. AsBefore (stays m.levels root s.paths sound.hierarchy.tree low high (i ∷ q) k))
           (cases_Bool (is_removed m.levels s.paths low high (i ∷ q)))
 
-  pub call_does : (call : Call) → IsCall m.levels call → Does call (step m s call).state (flush_after m.levels m.window call (step m s call).reply)
-  call_does = due_cases m root serves s sound Does (λ call d. (λ q. AsBefore refl, λ waits tables f i. i)) by_map by_page by_table by_clean_up
+  pub call_does : (call : Call) → IsCall m.levels call → Does call (step m s call).state (due_after m s call)
+  call_does = due_cases m root serves s sound Does (λ call d. (λ q. AsBefore refl, λ none f i. i)) by_map by_page by_table by_clean_up
 
   -- if the kernel learns that no used entry loses anything, nothing is due
   pub told_moves : (call : Call) → IsCall m.levels call → (loses : Bool) → (loses ≡ false → (q : List ℕ) → used (entry s.paths q) ≡ true → LosesNothing (entry s.paths q) (entry (step m s call).state.paths q))
-      → MovesTo (step m s call).state (cond loses (flush_after m.levels m.window call (step m s call).reply) [])
+      → MovesTo (step m s call).state (cond loses (due_after m s call) [])
   told_moves call c true kept q = (call_does call c).0 q
   told_moves call c false kept q = ⊎_elim
       (λ u. let k = kept refl q u in Marked

@@ -1,16 +1,19 @@
 -- An exchange of an entry keeps what is known of a system.
-use Rattle.std.proofs.Common.{◌≡◌, ◌≢◌, inl, inr, ⊎_elim, ◌<◌, nat_lt, ℕ, ◌==◌, ◌&&◌, Bool, true, false, cond, List, [], ◌∷◌, ◌++◌, length, Some, None, Option, refl, sym, ap, ◌∙◌, subst, eq-eqb, eqb-true, lt-ltb}
+use Rattle.std.proofs.Common.{◌≡◌, ◌≢◌, inl, inr, ⊎_elim, ◌<◌, nat_lt, ℕ, ◌*◌, ◌==◌, ◌&&◌, Bool, true, false, not, cond, List, [], ◌∷◌, ◌++◌, length, Some, None, Option, refl, sym, ap, ◌∙◌, subst, eq-eqb, eqb-true, lt-ltb, arith, bit_and}
+use Rattle.std.specs.Int.{bit_at}
 use Rattle.std.proofs.lemmas.Bool.{and_parts, and_from, not-false, cases_Bool}
+use Rattle.std.proofs.lemmas.Nat.Bits.{and_pow}
+use Rattle.x86_64_model.specs.Laws.Caches.{WordsTellLosses}
 use Rattle.x86_64_model.specs.Laws.EntriesInPlace.{NamesNoTable, NameOneTable}
 use Rattle.x86_64_model.specs.Lists.{In}
-use Rattle.x86_64_model.specs.Entry.{has, used, present, address, names_table}
+use Rattle.x86_64_model.specs.Entry.{has, used, present, user, huge, address, names_table}
 use Rattle.x86_64_model.specs.Memory.{Words}
 use Rattle.x86_64_model.specs.Path.{is_small}
 use Rattle.x86_64_model.specs.PathMap.{PathMap, entry, put, table_of, table_at}
 use Rattle.x86_64_model.specs.Window.{Window, begins_with, entry_at, outside_window}
 use Rattle.x86_64_model.specs.Machine.{Machine}
 use Rattle.x86_64_model.specs.Caches.{Cached}
-use Rattle.x86_64_model.specs.Flushing.{Due, PageDue, TablesDue, WindowDue, BelowDue, LosesNothing, System, MayExchange, Exchanges, after_event, implies, loses_between, due_between, if_window, below_due, page_due}
+use Rattle.x86_64_model.specs.Flushing.{Due, PageDue, TablesDue, WindowDue, BelowDue, IsUnflushed, LosesNothing, System, MayExchange, Exchanges, after_event, implies, loses_between, due_between, if_window, below_due, page_due}
 use Rattle.x86_64_model.proofs.Lemmas.Entries.Bits.{used_present}
 use Rattle.x86_64_model.proofs.Lemmas.Hierarchies.Held.{table_at-put_same, table_at-put_other}
 use Rattle.x86_64_model.proofs.Lemmas.Hierarchies.Trees.{IsHierarchy, hierarchy_of_valid, table_at_is, some_not_none, used_table, plain_table}
@@ -61,6 +64,41 @@ told_nothing e f n =
       user = implied _ _ p8.1;
       execute = not_implied _ _ p9.1;
     }
+
+-- words that agree in whether they have HUGE_PAGE have equal bits there
+same_bit : (e f : ℕ) → huge f ≡ huge e → bit_and f 0x80 ≡ bit_and e 0x80
+unfolding has
+same_bit e f same =
+    let of_e : bit_and e 0x80 ≡ bit_at e 7 * 0x80 = and_pow e 7 in
+    let of_f : bit_and f 0x80 ≡ bit_at f 7 * 0x80 = and_pow f 7 in
+    grind (arith, same, of_e, of_f)
+
+by_implication : (a b : Bool) → (a ≡ true → b ≡ true) → implies a b ≡ true
+by_implication true b h = h refl
+by_implication false b h = refl
+
+by_contraposition : (a b : Bool) → (b ≡ false → a ≡ false) → implies a b ≡ true
+by_contraposition a true h = by a
+  where
+    by : (a : Bool) → implies a true ≡ true
+    by true = refl
+    by false = refl
+by_contraposition a false h = ap (λ a. implies a false) (h refl)
+
+-- a present word of which nothing is lost, and that does not become a user's
+told_kept : (e f : ℕ) → present e ≡ true → LosesNothing e f → (user f ≡ true → user e ≡ true) → loses_between e f ≡ false
+unfolding has
+told_kept e f here kept users = ap not (
+    and_from _ _ (and_from _ _ (and_from _ _ (and_from _ _ (and_from _ _ (and_from _ _ (and_from _ _ (and_from _ _ (and_from _ _
+    (kept.is_present here) (eq-eqb _ _ kept.same_address)) (eq-eqb _ _ (same_bit e f kept.same_huge))) (eq-eqb _ _ kept.same_kind))
+    (by_implication _ _ kept.accessed)) (by_implication _ _ kept.dirty)) (by_implication _ _ kept.write)) (by_implication _ _ kept.user))
+    (by_contraposition _ _ kept.execute)) (by_implication _ _ users))
+
+pub words_tell_losses : WordsTellLosses
+words_tell_losses e f here = (
+  λ n. (told_nothing e f n, implied _ _ (and_parts _ _ (not-false _ n)).1),
+  λ kept. told_kept e f here kept.0 kept.1,
+)
 
 -- ---- an exchange
 
@@ -133,8 +171,8 @@ module _ (m : Machine) (root : ℕ) (serves : ℕ → Bool) (s : System) (safe :
   in_new d p n l f false c i = i
 
   -- no tables come to be due
-  older_tables : In due TablesDue → In s.due TablesDue
-  older_tables i = ⊎_elim (λ i. absurd (in_new TablesDue (λ f e. cc) (λ e. cc) (λ e. cc) _ _ _ i)) (λ i. i) (in_append new s.due TablesDue i)
+  older_tables : (f : ℕ) → IsUnflushed due f → IsUnflushed s.due f
+  older_tables f (freed, i, j) = (freed, ⊎_elim (λ i. absurd (in_new (TablesDue freed) (λ f e. cc) (λ e. cc) (λ e. cc) _ _ _ i)) (λ i. i) (in_append new s.due (TablesDue freed) i), j)
 
   -- nothing comes to be due by a word that isn't present
   older : present (entry s.paths q) ≡ false → (d : Due) → In due d → In s.due d
@@ -207,10 +245,10 @@ module _ (m : Machine) (root : ℕ) (serves : ℕ → Bool) (s : System) (safe :
       (seen_below m.levels root s.paths N due s.state.pool U m.window may.holds.self hierarchy.tree)
       (seen_alters m.levels root s.paths N due s.state.pool U m.window alters)
       (seen_empty m.levels root s.paths N due s.state.pool U m.window (λ p f t n. absurd (some_not_none f (sym t ∙ sym (tables_same p) ∙ n))))
-      (λ d. may.keeps (older_tables d)) c
+      (λ f d. may.keeps f (older_tables f d)) c
       (item_stays m.levels root m.window s.due due s.state.pool s.state.pool s.words (entry_at m.window s.paths) c (record {
         pages = λ v e f d. in_right new s.due _ d;
-        tables = λ t e d. (in_right new s.due TablesDue d, λ f i. i);
+        tables = λ t e d. ((d.0, in_right new s.due _ d.1, d.2), λ i. i);
         loose = λ d i l. in_right new s.due d i;
       }) x)
 

@@ -10,7 +10,7 @@ use Rattle.x86_64_model.specs.Position.{index, span, page_path}
 use Rattle.x86_64_model.specs.PageWalk.{page_start}
 use Rattle.x86_64_model.specs.Window.{Window}
 use Rattle.x86_64_model.specs.Caches.{PartialWalk, Cached, Table, Page, way_of, cached_item, item_over, then_on, walk_with_rights_from, walk_with_rights}
-use Rattle.x86_64_model.specs.Flushing.{Due, PageDue, TablesDue, WindowDue, HasZeros, loosens}
+use Rattle.x86_64_model.specs.Flushing.{Due, PageDue, WindowDue, HasZeros, IsUnflushed, IsEmptied, StayEmpty, loosens}
 use Rattle.x86_64_model.specs.Laws.Caches.{WalksThere}
 use Rattle.x86_64_model.proofs.Lemmas.Entries.Bits.{zero_absent, used_present, address_address}
 use Rattle.x86_64_model.proofs.Lemmas.Hierarchies.Trees.{table_of_gives, some_not_none}
@@ -28,7 +28,7 @@ StalePage L window due E w = ((f : ℕ) × PageDrops window due w.path f × (w.f
 
 -- a table that what is due drops: it is free and has only words 0, or it is one of the hierarchy, and all items on its path are due
 abbrev pub StaleTable : (L root : ℕ) → Option Window → List Due → (pool : List ℕ) → Words → (List ℕ → ℕ) → PartialWalk → Type 0
-StaleTable L root window due pool T E t = (In due TablesDue × In pool t.frame × HasZeros T t.frame) ⊎ (LooseAt window due t.path × (leads L root E t.path ≡ Some t.frame))
+StaleTable L root window due pool T E t = IsEmptied due pool T t.frame ⊎ (LooseAt window due t.path × (leads L root E t.path ≡ Some t.frame))
 
 abbrev pub Stale : (L root : ℕ) → Option Window → List Due → (pool : List ℕ) → Words → (List ℕ → ℕ) → Cached → Type 0
 Stale L root window due pool T E (Table t) = StaleTable L root window due pool T E t
@@ -42,13 +42,13 @@ Safe L root window due pool T E c = Agrees L root E c ⊎ Stale L root window du
 -- all that drops the item stays due
 pub record StaysDue (window : Option Window) (due new : List Due) (pool rest : List ℕ) (c : Cached) : Type 0 where
   pub pages : (w : PartialWalk) → c ≡ Page w → (f : ℕ) → In due (PageDue w.path f) → In new (PageDue w.path f)
-  pub tables : (t : PartialWalk) → c ≡ Table t → In due TablesDue → In new TablesDue × ((f : ℕ) → In pool f → In rest f)
+  pub tables : (t : PartialWalk) → c ≡ Table t → IsUnflushed due t.frame → IsUnflushed new t.frame × (In pool t.frame → In rest t.frame)
   pub loose : (d : Due) → In due d → loosens window d (way_of c).path ≡ true → In new d
 
 pub item_stays : (L root : ℕ) (window : Option Window) (due new : List Due) (pool rest : List ℕ) (T : Words) (E : List ℕ → ℕ) (c : Cached)
     → StaysDue window due new pool rest c → Safe L root window due pool T E c → Safe L root window new rest T E c
 item_stays L root window due new pool rest T E c stays (inl a) = inl a
-item_stays L root window due new pool rest T E (Table t) stays (inr (inl x)) = let s = stays.tables t refl x.0 in inr (inl (s.0, s.1 t.frame x.1, x.2))
+item_stays L root window due new pool rest T E (Table t) stays (inr (inl x)) = let s = stays.tables t refl x.0 in inr (inl (s.0, s.1 x.1, x.2))
 item_stays L root window due new pool rest T E (Table t) stays (inr (inr x)) = inr (inr ((x.0.0, stays.loose x.0.0 x.0.1 x.0.2, x.0.2), x.1))
 item_stays L root window due new pool rest T E (Page w) stays (inr (inl (f, inl d, e))) = inr (inl (f, inl (stays.pages w refl f d), e))
 item_stays L root window due new pool rest T E (Page w) stays (inr (inl (f, inr d, e))) = inr (inl (f, inr (stays.loose WindowDue d.0 d.1, d.1), e))
@@ -60,21 +60,17 @@ module _ (L root : ℕ) (window : Option Window) (E F : List ℕ → ℕ) (due :
     (below : (q : List ℕ) (i : ℕ) → length q < L → leads L root F q ≡ None → F (q ++ i ∷ []) ≡ 0)
     (moves : (q : List ℕ) → length q ≤ L → Moves L window due pool q (E q) (F q))
     (empty : (q : List ℕ) (f : ℕ) → leads L root E q ≡ Some f → leads L root F q ≡ None → HasZeros U f) where
-  -- free frames with only words 0 keep them as long as tables are due
-  abbrev pub KeepsZeros : Type 0
-  KeepsZeros = In due TablesDue → (f : ℕ) → In pool f → HasZeros T f → HasZeros U f
-
-  there : (t : PartialWalk) → leads L root E t.path ≡ Some t.frame → (leads L root F t.path ≡ Some t.frame) ⊎ (In due TablesDue × In pool t.frame × HasZeros U t.frame)
+  there : (t : PartialWalk) → leads L root E t.path ≡ Some t.frame → (leads L root F t.path ≡ Some t.frame) ⊎ IsEmptied due pool U t.frame
   there t l = leads_or_freed L root window E F due pool U below moves empty t.path t.frame l
 
   drops : (w : PartialWalk) → w.frame ≡ page_start (level_of L w.path) (E w.path) → PageDrops window due w.path (address (E w.path)) → StalePage L window due F w
   drops w e d = let level = level_of L w.path in inl (address (E w.path), d, e ∙ ap (λ a. a / span level * span level) (sym (address_address (E w.path))))
 
-  pub table_written : KeepsZeros → (t : PartialWalk) → Safe L root window due pool T E (Table t) → Safe L root window due pool U F (Table t)
+  pub table_written : StayEmpty due pool T U → (t : PartialWalk) → Safe L root window due pool T E (Table t) → Safe L root window due pool U F (Table t)
   table_written keeps t (inl a) = ⊎_elim
       (λ l. ⊎_elim (λ loose. inr (inr (loose, l))) (λ none. inl (table_moves L root window E F due pool U below moves empty t none a l)) (loose_or_not window due t.path))
       (λ x. inr (inl x)) (there t (agrees_leads L root E t a))
-  table_written keeps t (inr (inl x)) = inr (inl (x.0, x.1, keeps x.0 t.frame x.1 x.2))
+  table_written keeps t (inr (inl x)) = inr (inl (x.0, x.1, keeps t.frame x.0 x.1 x.2))
   table_written keeps t (inr (inr x)) = ⊎_elim (λ l. inr (inr (x.0, l))) (λ y. inr (inl y)) (there t x.1)
 
   pub page_written : (w : PartialWalk) → AgreesPage L E w ⊎ StalePage L window due E w → AgreesPage L F w ⊎ StalePage L window due F w
@@ -85,7 +81,7 @@ module _ (L root : ℕ) (window : Option Window) (E F : List ℕ → ℕ) (due :
   page_written w (inr (inl x)) = inr (inl x)
   page_written w (inr (inr x)) = inr (⊎_elim (λ s. inr (x.0, s)) (λ d. drops w x.1.frame d) (stands_moves L root window E F due pool U below moves empty w x.0 x.1))
 
-  pub item_written : KeepsZeros → (c : Cached) → Safe L root window due pool T E c → Safe L root window due pool U F c
+  pub item_written : StayEmpty due pool T U → (c : Cached) → Safe L root window due pool T E c → Safe L root window due pool U F c
   item_written keeps (Table t) x = table_written keeps t x
   item_written keeps (Page w) x = page_written w x
 

@@ -71,7 +71,7 @@ LooseAt window due x = (d : Due) × In due d × (loosens window d x ≡ true)
 
 pub loosens_more : (window : Option Window) (d : Due) (q x : List ℕ) → begins q x ≡ true → loosens window d q ≡ true → loosens window d x ≡ true
 loosens_more window (PageDue r f) q x b h = cc
-loosens_more window TablesDue q x b h = cc
+loosens_more window (TablesDue freed) q x b h = cc
 loosens_more window WindowDue q x b h = window_front window q x b h
 loosens_more window (BelowDue r) q x b h = begins_more r q x h b
 

@@ -38,7 +38,7 @@ module _ (m : Machine) (root : ℕ) (serves : ℕ → Bool) (s : System) (fits :
   happens = record {
     may_put = may;
     holds = fits_after.valid;
-    keeps = λ due f free zeros. same_zeros s.words U f
+    keeps = λ f unflushed free zeros. same_zeros s.words U f
         (other_frame s.words may.in_table.frame may.in_table.index w f (λ e. fits_now.no_table f free (may.in_table.above, may.in_table.leads ∙ ap Some (sym e)))) zeros;
   }
 

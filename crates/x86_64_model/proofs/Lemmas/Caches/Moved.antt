@@ -9,7 +9,7 @@ use Rattle.x86_64_model.specs.Position.{span}
 use Rattle.x86_64_model.specs.Window.{Window}
 use Rattle.x86_64_model.specs.Memory.{Words}
 use Rattle.x86_64_model.specs.Caches.{PartialWalk, Table, Page}
-use Rattle.x86_64_model.specs.Flushing.{Due, TablesDue, HasZeros}
+use Rattle.x86_64_model.specs.Flushing.{Due, HasZeros, IsUnflushed, IsEmptied}
 use Rattle.x86_64_model.proofs.Lemmas.Entries.Bits.{used_present, zero_absent}
 use Rattle.x86_64_model.proofs.Lemmas.Hierarchies.Changes.{unused_no_table, zero_not_used}
 use Rattle.x86_64_model.proofs.Lemmas.Paths.Begins.{from_begins}
@@ -27,7 +27,7 @@ pub data Moves (L : ℕ) (window : Option Window) (due : List Due) (pool : List 
   Grew : (present e ≡ true → Kept e f) → SameTarget e f → Moves L window due pool q e f
   Leaf : table_of L q e ≡ None → PageDrops window due q (address e) → Moves L window due pool q e f
   Flags : SameTarget e f → LooseAt window due q → Moves L window due pool q e f
-  Freed : f ≡ 0 → In due TablesDue → (g : ℕ) → table_of L q e ≡ Some g → In pool g → Moves L window due pool q e f
+  Freed : f ≡ 0 → (g : ℕ) → table_of L q e ≡ Some g → IsUnflushed due g → In pool g → Moves L window due pool q e f
   Unseen : present e ≡ false → table_of L q e ≡ None → (LooseAt window due q → PageDrops window due q (address e)) → Moves L window due pool q e f
 
 -- the entries E become F, and the words become U. Nothing is used below what isn't a table
@@ -36,18 +36,18 @@ module _ (L root : ℕ) (window : Option Window) (E F : List ℕ → ℕ) (due :
     (moves : (q : List ℕ) → length q ≤ L → Moves L window due pool q (E q) (F q))
     (empty : (q : List ℕ) (f : ℕ) → leads L root E q ≡ Some f → leads L root F q ≡ None → HasZeros U f) where
   -- a table of the hierarchy stays, or is freed
-  pub leads_or_freed : (q : List ℕ) (f : ℕ) → leads L root E q ≡ Some f → (leads L root F q ≡ Some f) ⊎ (In due TablesDue × In pool f × HasZeros U f)
+  pub leads_or_freed : (q : List ℕ) (f : ℕ) → leads L root E q ≡ Some f → (leads L root F q ≡ Some f) ⊎ IsEmptied due pool U f
   leads_or_freed [] f t = inl t
   leads_or_freed (i ∷ q) f t = let high = (table_of_gives L (i ∷ q) _ f t).high in by (moves (i ∷ q) (omega arith))
     where
-      by : Moves L window due pool (i ∷ q) (E (i ∷ q)) (F (i ∷ q)) → (leads L root F (i ∷ q) ≡ Some f) ⊎ (In due TablesDue × In pool f × HasZeros U f)
+      by : Moves L window due pool (i ∷ q) (E (i ∷ q)) (F (i ∷ q)) → (leads L root F (i ∷ q) ≡ Some f) ⊎ IsEmptied due pool U f
       by (Stays e) = inl (ap (table_of L (i ∷ q)) e ∙ t)
       by (Begins u) = absurd (let x : true ≡ false = sym (used_table _ (table_of_gives L (i ∷ q) _ f t).is_table) ∙ u in cc)
       by (Grew k same) = inl (target_table L (i ∷ q) _ _ same ∙ t)
       by (Leaf none d) = absurd (some_not_none f (sym t ∙ none))
       by (Flags same d) = inl (target_table L (i ∷ q) _ _ same ∙ t)
       by (Unseen h none d) = absurd (some_not_none f (sym t ∙ none))
-      by (Freed z d g is i') = inr (d, subst (In pool) (same_Some _ _ (sym is ∙ t)) i', empty (i ∷ q) f t (ap (table_of L (i ∷ q)) z ∙ unused_no_table L (i ∷ q)))
+      by (Freed z g is d i') = let same = same_Some _ _ (sym is ∙ t) in inr (subst (IsUnflushed due) same d, subst (In pool) same i', empty (i ∷ q) f t (ap (table_of L (i ∷ q)) z ∙ unused_no_table L (i ∷ q)))
 
   -- nothing is used below a table that is freed
   below_freed : (s q : List ℕ) (j : ℕ) → length q + length s < L → leads L root F q ≡ None → F (q ++ j ∷ s) ≡ 0
@@ -76,7 +76,7 @@ module _ (L root : ℕ) (window : Option Window) (E F : List ℕ → ℕ) (due :
       by (Leaf n d) = absurd (some_not_none g (sym t ∙ n))
       by (Flags same d) = absurd (none d)
       by (Unseen n none d) = absurd (let x : true ≡ false = sym h ∙ n in cc)
-      by (Freed z d g' is i') = absurd (stays (ap (table_of L (i ∷ c)) z ∙ unused_no_table L (i ∷ c)))
+      by (Freed z g' is d i') = absurd (stays (ap (table_of L (i ∷ c)) z ∙ unused_no_table L (i ∷ c)))
 
   way_table : (x : List ℕ) → IsWay L E x → (i : ℕ) (c : List ℕ) → begins (i ∷ c) x ≡ true → (g : ℕ) × (leads L root E (i ∷ c) ≡ Some g)
   way_table x way i c b = let more = from_begins (i ∷ c) x b in let short = way.short in
@@ -123,7 +123,7 @@ module _ (L root : ℕ) (window : Option Window) (E F : List ℕ → ℕ) (due :
       by (Grew k same) = inl (agreed (k a.is_present))
       by (Leaf n d) = inr d
       by (Flags same d) = absurd (none d)
-      by (Freed z d g is i) = absurd (page_no_table L w.path (E w.path) g a.maps is)
+      by (Freed z g is d i) = absurd (page_no_table L w.path (E w.path) g a.maps is)
       by (Unseen n none d) = absurd (let x : true ≡ false = sym a.is_present ∙ n in cc)
 
   -- a page whose entry leads there has such an entry still, or what is due drops it, if all items on its path are due
@@ -152,5 +152,5 @@ module _ (L root : ℕ) (window : Option Window) (E F : List ℕ → ℕ) (due :
       by (Grew k t) = inl (same t)
       by (Leaf n d) = inr d
       by (Flags t d) = inl (same t)
-      by (Freed z d g is i) = absurd (page_no_table L w.path (E w.path) g s.maps is)
+      by (Freed z g is d i) = absurd (page_no_table L w.path (E w.path) g s.maps is)
       by (Unseen n none d) = inr (d loose)

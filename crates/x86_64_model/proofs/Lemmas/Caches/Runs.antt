@@ -10,7 +10,7 @@ use Rattle.x86_64_model.specs.Position.{span, page_path}
 use Rattle.x86_64_model.specs.Window.{entry_at}
 use Rattle.x86_64_model.specs.Machine.{Machine, IsMachine, State}
 use Rattle.x86_64_model.specs.Caches.{PartialWalk, Table, Page, MayRead, MayAccess, walk_with_rights, walked_in}
-use Rattle.x86_64_model.specs.Flushing.{Due, TablesDue, HasZeros, concerns, System, Event, Makes, Writes, Flushes, Changes, Exchanges, after_event, MayHappen, AllMayHappen, after_events, fresh}
+use Rattle.x86_64_model.specs.Flushing.{Due, IsEmptied, concerns, System, Event, Makes, Writes, Flushes, Changes, Exchanges, after_event, MayHappen, AllMayHappen, after_events, fresh}
 use Rattle.x86_64_model.specs.Laws.Caches.{FlushesAreEnough, AccessesAreWalks, OnlyTablesAreRead, WalksThere, IsStale, StaleAccessesAreOld, IsLetGo, LetGoIsUnreached}
 use Rattle.x86_64_model.specs.Laws.Steps.{FitsState}
 use Rattle.x86_64_model.specs.PageWalk.{Walked, page_walk}
@@ -87,15 +87,15 @@ module _ (m : Machine) (is : IsMachine m) (levels : 0 < m.levels) (root : ℕ) (
     pub unreached : (a : ℕ) → IsLetGo m.levels m.window s.due E a → (p : ℕ) (w : PartialWalk) → MayAccess m.levels root s.words s.cache p w → (walked_in m.levels p w).address ≢ a
     unreached a free p w may = let_go m.levels m.window s.due s.words root E r levels a free p w (stale_or_not p w may)
 
-    pub reads_tables : (t : PartialWalk) → MayRead root s.cache t → (IsTable m.levels root s.paths t.frame × IsSome (s.words t.frame)) ⊎ (In s.due TablesDue × In s.state.pool t.frame × HasZeros s.words t.frame)
+    pub reads_tables : (t : PartialWalk) → MayRead root s.cache t → (IsTable m.levels root s.paths t.frame × IsSome (s.words t.frame)) ⊎ IsEmptied s.due s.state.pool s.words t.frame
     reads_tables t may = ⊎_elim
         (λ e. table (subst (λ t. leads m.levels root E t.path ≡ Some t.frame) (sym e) refl))
         (λ there. by (safe.items (Table t) there)) may
       where
-        table : leads m.levels root E t.path ≡ Some t.frame → (IsTable m.levels root s.paths t.frame × IsSome (s.words t.frame)) ⊎ (In s.due TablesDue × In s.state.pool t.frame × HasZeros s.words t.frame)
+        table : leads m.levels root E t.path ≡ Some t.frame → (IsTable m.levels root s.paths t.frame × IsSome (s.words t.frame)) ⊎ IsEmptied s.due s.state.pool s.words t.frame
         table there = inl (seen_table m.levels root s.paths s.paths s.due s.state.pool s.words m.window safe.valid.self t.path t.frame there, table_there m.levels s.words root E r t.path t.frame there)
 
-        by : Safe m root s (Table t) → (IsTable m.levels root s.paths t.frame × IsSome (s.words t.frame)) ⊎ (In s.due TablesDue × In s.state.pool t.frame × HasZeros s.words t.frame)
+        by : Safe m root s (Table t) → (IsTable m.levels root s.paths t.frame × IsSome (s.words t.frame)) ⊎ IsEmptied s.due s.state.pool s.words t.frame
         by (inl a) = table (agrees_leads m.levels root E t a)
         by (inr (inl x)) = inr x
         by (inr (inr x)) = table x.1
@@ -120,7 +120,7 @@ let_go_is_unreached m root T serves s fits events now ran = subst
 
 pub only_tables_are_read : OnlyTablesAreRead
 only_tables_are_read m root T serves s fits events now ran = subst
-    (λ now. (t : PartialWalk) → MayRead root now.cache t → (IsTable m.levels root now.paths t.frame × IsSome (now.words t.frame)) ⊎ (In now.due TablesDue × In now.state.pool t.frame × HasZeros now.words t.frame))
+    (λ now. (t : PartialWalk) → MayRead root now.cache t → (IsTable m.levels root now.paths t.frame × IsSome (now.words t.frame)) ⊎ IsEmptied now.due now.state.pool now.words t.frame)
     ran.ends
     (reads_tables m ran.machine ran.levels root serves (after_events m (fresh s T) events) (events_safe m ran.machine ran.levels root serves events (fresh s T) (fresh_safe m ran.machine ran.levels root serves T s fits) ran.happen))
 

@@ -9,14 +9,14 @@ use Rattle.x86_64_model.specs.Window.{entry_at, outside_window, IsValidFor}
 use Rattle.x86_64_model.specs.Call.{Call}
 use Rattle.x86_64_model.specs.Machine.{Machine, IsMachine, step}
 use Rattle.x86_64_model.specs.Caches.{PartialWalk, Cached, Table, Page, MayRead, Caches}
-use Rattle.x86_64_model.specs.Flushing.{Due, PageDue, TablesDue, WindowDue, BelowDue, loosens, flush_after, Flush, Invlpg, LoadCr3, FlushAll, survives, settles, System, Makes, Writes, Flushes, after_event, MayMake, MayWrite}
+use Rattle.x86_64_model.specs.Flushing.{Due, PageDue, TablesDue, WindowDue, BelowDue, loosens, due_after, Flush, Invlpg, LoadCr3, FlushAll, survives, settles, System, Makes, Writes, Flushes, after_event, MayMake, MayWrite}
 use Rattle.x86_64_model.proofs.Lemmas.Hierarchies.Trees.{IsTree, hierarchy_of_valid}
 use Rattle.x86_64_model.proofs.Lemmas.Lists.Members.{in_filter, in_right}
 use Rattle.x86_64_model.proofs.Lemmas.Machines.States.{IsSound}
 use Rattle.x86_64_model.proofs.Lemmas.Walks.Agrees.{reads}
 use Rattle.x86_64_model.proofs.Lemmas.Walks.Walked.{Reads}
 use Rattle.x86_64_model.proofs.Lemmas.Caches.Agrees.{AgreesTable, start_agrees}
-use Rattle.x86_64_model.proofs.Lemmas.Caches.Calls.{call_does, told_moves}
+use Rattle.x86_64_model.proofs.Lemmas.Caches.Calls.{told_moves}
 use Rattle.x86_64_model.proofs.Lemmas.Caches.Items as items
 use Rattle.x86_64_model.proofs.Lemmas.Caches.Items.{StaysDue, item_stays, item_written, item_found}
 use Rattle.x86_64_model.proofs.Lemmas.Caches.Windowed.{Becomes, AsBefore, seen_moves, seen_below, seen_empty}
@@ -37,16 +37,16 @@ module _ (m : Machine) (root : ℕ) (serves : ℕ → Bool) (s : System) (safe :
   pub make_keeps : IsMachine m → (call : Call) (loses : Bool) → MayMake m s call loses → (c : Cached) → Safe m root s c → Safe m root (after_event m s (Makes call loses)) c
   make_keeps is call loses may c x = item_stays m.levels root m.window s.due (new ++ s.due) s.state.pool _ s.words (entry_at m.window s.paths) c (record {
     pages = λ w e f d. in_right new s.due _ d;
-    tables = λ t e d. (in_right new s.due TablesDue d, (call_does m is root serves s.state safe.sound s.due call may.is_call).1 may.waits d);
+    tables = λ t e d. ((d.0, in_right new s.due _ d.1, d.2), may.waits t.frame d);
     loose = λ d i l. in_right new s.due d i;
   }) x
     where
       new : List Due
-      new = cond loses (flush_after m.levels m.window call (step m s.state call).reply) []
+      new = cond loses (due_after m s.state call) []
 
   pub make_moves : IsMachine m → (call : Call) (loses : Bool) → MayMake m s call loses → (q : List ℕ)
-      → Becomes m.levels m.window (cond loses (flush_after m.levels m.window call (step m s.state call).reply) [] ++ s.due) (step m s.state call).state.pool q (entry s.paths q) (entry (step m s.state call).state.paths q)
-  make_moves is call loses may q = subst (λ (M : PathMap). Becomes m.levels m.window (cond loses (flush_after m.levels m.window call (step m s.state call).reply) [] ++ s.due) (step m s.state call).state.pool q (entry M q) (entry (step m s.state call).state.paths q))
+      → Becomes m.levels m.window (cond loses (due_after m s.state call) [] ++ s.due) (step m s.state call).state.pool q (entry s.paths q) (entry (step m s.state call).state.paths q)
+  make_moves is call loses may q = subst (λ (M : PathMap). Becomes m.levels m.window (cond loses (due_after m s.state call) [] ++ s.due) (step m s.state call).state.pool q (entry M q) (entry (step m s.state call).state.paths q))
       (sym may.done) (told_moves m is root serves s.state safe.sound s.due call may.is_call loses may.kept q)
 
   -- ---- words change
@@ -91,7 +91,7 @@ module _ (m : Machine) (root : ℕ) (serves : ℕ → Bool) (s : System) (safe :
     where
       loose : (f : Flush) → ((q : List ℕ) → settles m.levels f (BelowDue q) ≡ false) → settles m.levels f WindowDue ≡ false → (d : Due) → loosens m.window d w.path ≡ true → not (settles m.levels f d) ≡ true
       loose f below window (PageDue q frame) l = cc
-      loose f below window TablesDue l = cc
+      loose f below window (TablesDue freed) l = cc
       loose f below window WindowDue l = ap not window
       loose f below window (BelowDue q) l = ap not (below q)
   left_due LoadCr3 (Page w) left = record {
@@ -102,7 +102,7 @@ module _ (m : Machine) (root : ℕ) (serves : ℕ → Bool) (s : System) (safe :
     where
       loose : (d : Due) → loosens m.window d w.path ≡ true → not (settles m.levels LoadCr3 d) ≡ true
       loose (PageDue q frame) l = cc
-      loose TablesDue l = cc
+      loose (TablesDue freed) l = cc
       loose WindowDue l = refl
       loose (BelowDue q) l = refl
 

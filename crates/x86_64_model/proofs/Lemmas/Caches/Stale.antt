@@ -29,7 +29,7 @@ module _ (L : ℕ) (window : Option Window) (due : List Due) (E : List ℕ → �
     where
       by : (d : Due) → In due d → loosens window d w.path ≡ true → IsStale L window due E w
       by (PageDue q f) i l = cc
-      by TablesDue i l = cc
+      by (TablesDue freed) i l = cc
       by WindowDue i l = InWindow i l
       by (BelowDue q) i l = HadRights q i l (mapped s)
 

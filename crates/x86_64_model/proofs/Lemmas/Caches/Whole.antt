@@ -7,8 +7,8 @@ use Rattle.x86_64_model.specs.Memory.{Words, word, word_in}
 use Rattle.x86_64_model.specs.PathMap.{PathMap, entry, table_of, table_at}
 use Rattle.x86_64_model.specs.Call.{Call}
 use Rattle.x86_64_model.specs.Machine.{State, Machine, IsMachine, step}
-use Rattle.x86_64_model.specs.Flushing.{HasZeros, flush_after, System, MayMake}
-use Rattle.x86_64_model.specs.Laws.Caches.{freed_by, IsAfterCall, CallsMayHappen}
+use Rattle.x86_64_model.specs.Flushing.{HasZeros, freed_by, due_after, System, MayMake}
+use Rattle.x86_64_model.specs.Laws.Caches.{IsAfterCall, CallsMayHappen}
 use Rattle.x86_64_model.specs.Laws.Steps.{FitsState}
 use Rattle.x86_64_model.proofs.Lemmas.Hierarchies.Trees.{table_of_gives, used_table, some_not_none}
 use Rattle.x86_64_model.proofs.Lemmas.Machines.Fitting.{sound_of_fits}
@@ -38,13 +38,13 @@ module _ (m : Machine) (is : IsMachine m) (root : ℕ) (serves : ℕ → Bool) (
       gone : (o : Option ℕ) → o ≡ Some f → o ≡ None → HasZeros U f
       gone o a b = absurd (some_not_none f (sym a ∙ b))
 
-      by : Becomes m.levels m.window (flush_after m.levels m.window call (step m s.state call).reply ++ s.due) (step m s.state call).state.pool (i ∷ q) (entry s.state.paths (i ∷ q)) (entry (step m s.state call).state.paths (i ∷ q)) → HasZeros U f
+      by : Becomes m.levels m.window (due_after m s.state call ++ s.due) (step m s.state call).state.pool (i ∷ q) (entry s.state.paths (i ∷ q)) (entry (step m s.state call).state.paths (i ∷ q)) → HasZeros U f
       by (AsBefore e) = gone _ (ap (table_of m.levels (i ∷ q)) e ∙ t) n
       by (Made u) = absurd (let x : true ≡ false = sym (used_table _ (table_of_gives m.levels (i ∷ q) _ f t).is_table) ∙ u in cc)
       by (Marked k same) = gone _ (target_table m.levels (i ∷ q) _ _ same ∙ t) n
       by (Remapped none d w) = gone _ t none
       by (Reflagged same r d b w) = gone _ (target_table m.levels (i ∷ q) _ _ same ∙ t) n
-      by (Removed z d w g names free) = ⊎_elim (λ zeros. zeros)
+      by (Removed z w g names d free) = ⊎_elim (λ zeros. zeros)
           (λ x. absurd (fits.no_table f x.0 (i ∷ q, t)))
           (free_after m root s.words U s.state call after f (subst (In (step m s.state call).state.pool) (same_Some _ _ (sym names ∙ t)) free))
 
@@ -53,5 +53,5 @@ calls_may_happen m is root serves s fits call loses may U after = record {
   valid = after.valid;
   between = λ q. inr refl;
   empty = λ q f t n. emptied m is root serves s fits call loses may U after q f (subst (λ (M : PathMap). table_at m.levels root M q ≡ Some f) may.done t) n;
-  keeps = λ due f free zeros. ⊎_elim (λ z. z) (λ x. same_zeros s.words U f x.1 zeros) (free_after m root s.words U s.state call after f free);
+  keeps = λ f unflushed free zeros. ⊎_elim (λ z. z) (λ x. same_zeros s.words U f x.1 zeros) (free_after m root s.words U s.state call after f free);
 }

@@ -9,7 +9,7 @@ use Rattle.x86_64_model.specs.Path.{paths_below, begins}
 use Rattle.x86_64_model.specs.CleanUp.{is_removed, clean_up}
 use Rattle.x86_64_model.specs.Pool.{IsTable}
 use Rattle.x86_64_model.specs.Window.{Window, windowed, entry_at, begins_with, SelfEntry}
-use Rattle.x86_64_model.specs.Flushing.{Due, PageDue, TablesDue, WindowDue, BelowDue, HasZeros, loosens}
+use Rattle.x86_64_model.specs.Flushing.{Due, PageDue, TablesDue, WindowDue, BelowDue, HasZeros, IsUnflushed, loosens}
 use Rattle.x86_64_model.proofs.Lemmas.Walks.Agrees.{named}
 use Rattle.x86_64_model.proofs.Lemmas.Walks.Walked.{names}
 use Rattle.x86_64_model.proofs.Lemmas.Hierarchies.Trees.{IsTree, table_of_gives, some_not_none}
@@ -42,7 +42,7 @@ pub data Becomes (L : ℕ) (window : Option Window) (due : List Due) (pool : Lis
   Marked : (present e ≡ true → Kept e f) → SameTarget e f → Becomes L window due pool q e f
   Remapped : table_of L q e ≡ None → In due (PageDue q (address e)) → (length q < L → HasWindow window due) → Becomes L window due pool q e f
   Reflagged : SameTarget e f → (r : List ℕ) → In due (BelowDue r) → begins r q ≡ true → HasWindow window due → Becomes L window due pool q e f
-  Removed : f ≡ 0 → In due TablesDue → HasWindow window due → (g : ℕ) → table_of L q e ≡ Some g → In pool g → Becomes L window due pool q e f
+  Removed : f ≡ 0 → HasWindow window due → (g : ℕ) → table_of L q e ≡ Some g → IsUnflushed due g → In pool g → Becomes L window due pool q e f
 
 -- an entry outside the window that names no table and isn't present, while no other entry on its path is due with all items
 pub record IsUnseen (L : ℕ) (window : Option Window) (due : List Due) (q : List ℕ) (e : ℕ) : Type 0 where
@@ -69,7 +69,7 @@ module _ (L : ℕ) (window : Option Window) (due : List Due) (pool : List ℕ) w
   outside q e f (Marked k same) = Grew k same
   outside q e f (Remapped n d w) = Leaf n (inl d)
   outside q e f (Reflagged same r d b w) = Flags same (BelowDue r, d, b)
-  outside q e f (Removed z d w g is i) = Freed z d g is i
+  outside q e f (Removed z w g is d i) = Freed z g is d i
 
   -- through the window the entry at y is seen at a longer path
   inside : (w : Window) → window ≡ Some w → (y q : List ℕ) (e f : ℕ) → begins_with window q ≡ true → length y < length q → length q ≤ L → Becomes L window due pool y e f → Moves L window due pool q e f
@@ -80,8 +80,8 @@ module _ (L : ℕ) (window : Option Window) (due : List Due) (pool : List ℕ) w
       (⊎_elim (λ k. short_table L y q e k (omega arith) ∙ n) (λ k. long_table L q e k) (cases_lt (length q) L))
       (inr (has (omega arith) w is, within))
   inside w is y q e f within l top (Reflagged same r d b has) = Flags same (WindowDue, has w is, within)
-  inside w is y q e f within l top (Removed z d has g names i) = ⊎_elim
-      (λ k. Freed z d g (short_table L y q e k (omega arith) ∙ names) i)
+  inside w is y q e f within l top (Removed z has g names d i) = ⊎_elim
+      (λ k. Freed z g (short_table L y q e k (omega arith) ∙ names) d i)
       (λ k. Leaf (long_table L q e k) (inr (has w is, within))) (cases_lt (length q) L)
 
   -- an entry that isn't present
@@ -90,7 +90,7 @@ module _ (L : ℕ) (window : Option Window) (due : List Due) (pool : List ℕ) w
     where
       drops : (d : Due) → In due d → loosens window d q ≡ true → PageDrops window due q (address e)
       drops (PageDue r g) i l = cc
-      drops TablesDue i l = cc
+      drops (TablesDue freed) i l = cc
       drops WindowDue i l = absurd (let t : true ≡ false = sym l ∙ u.is_outside in cc)
       drops (BelowDue r) i l = absurd (let t : true ≡ false = sym l ∙ (u.settled r i).0 in cc)
 
@@ -102,7 +102,7 @@ module _ (L : ℕ) (window : Option Window) (due : List Due) (pool : List ℕ) w
     where
       drops : (d : Due) → In due d → loosens window d q ≡ true → PageDrops window due q (address e)
       drops (PageDue r g) i l = cc
-      drops TablesDue i l = cc
+      drops (TablesDue freed) i l = cc
       drops WindowDue i l = inr (i, within)
       drops (BelowDue []) i l = absurd (let t : true ≡ false = (u.settled [] i).0 in cc)
       drops (BelowDue (j ∷ r)) i l = absurd (let t : true ≡ false = sym (front_window window j r q l within) ∙ (u.settled (j ∷ r) i).1 in cc)

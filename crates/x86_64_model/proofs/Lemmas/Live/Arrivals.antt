@@ -1,6 +1,6 @@
 -- Where accesses arrive, from the entries at the front parts of a path in place of the words.
 use Rattle.std.proofs.Common.{zero, suc, ◌≡◌, ◌+◌, ◌%◌, ℕ, Bool, true, false, cond, List, [], ◌∷◌, ◌++◌, length, Some, None, Option, option_map, option_and_then, refl, sym, ap, ap₂, ◌∙◌, arith}
-use Rattle.x86_64_model.specs.Caches.{PartialWalk, start, over, Table, Page, item_over, then_on, walk_with_rights_from, walk_with_rights}
+use Rattle.x86_64_model.specs.Caches.{PartialWalk, start, over, Table, Page, item_over, then_on, walk_with_rights_from}
 use Rattle.x86_64_model.specs.Entry.{present, huge, address, names_table}
 use Rattle.x86_64_model.specs.Laws.Splits.{Arrival, arrival_of_way, arrival_at}
 use Rattle.x86_64_model.specs.Mappings.{Rights, maps_page, every_right, granted}

@@ -3,7 +3,8 @@ use Rattle.std.proofs.Common.{◌≡◌, ◌⊎◌, inl, inr, ⊎_elim, ◌<◌,
 use Rattle.std.proofs.lemmas.Bool.{cases_eq}
 use Rattle.x86_64_model.specs.Call.{Call, Reply}
 use Rattle.x86_64_model.specs.Validity.{entry_in}
-use Rattle.x86_64_model.specs.Laws.Caches.{freed_by, IsAfterCall}
+use Rattle.x86_64_model.specs.Laws.Caches.{IsAfterCall}
+use Rattle.x86_64_model.specs.Flushing.{freed_by}
 use Rattle.x86_64_model.specs.Laws.Locality.{SameOwned, Leads, CallsAreLocal}
 use Rattle.x86_64_model.specs.Layout.{Layout}
 use Rattle.x86_64_model.specs.Lists.{In}

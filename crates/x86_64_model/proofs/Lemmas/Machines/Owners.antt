@@ -3,14 +3,15 @@ use Rattle.std.proofs.Common.{◌≡◌, ◌+◌, not, bit_or, ◌≤◌, ◌%�
 use Rattle.std.proofs.lemmas.Option.{same_Some}
 use Rattle.x86_64_model.specs.Allowed.{refuses}
 use Rattle.x86_64_model.specs.Arrivals.{Arrives}
-use Rattle.x86_64_model.specs.Call.{Call, Reply, MapTo, MapToWithTableFlags, IdentityMap, Unmap, UpdateFlags, SetFlags, NotAllowed, Answered, Position, Address, Cleaned}
+use Rattle.x86_64_model.specs.Call.{Call, MapTo, MapToWithTableFlags, IdentityMap, Unmap, UpdateFlags, SetFlags, TranslatePage, Translate, TranslateAddress, CleanUp, Cleaned, NotAllowed}
 use Rattle.x86_64_model.specs.Entry.{IsParentFlags, present, used, address}
 use Rattle.x86_64_model.proofs.Lemmas.Maps.Mapped.{arrives_in_page}
-use Rattle.x86_64_model.specs.Machine.{AfterCall, do_call, after_map, after_change}
+use Rattle.x86_64_model.specs.Laws.Rules.{MapsAreSteps, ChangesAreSteps, CleanUpsAreSteps}
+use Rattle.x86_64_model.specs.Machine.{do_call, after_map, after_change, only_reply}
 use Rattle.x86_64_model.specs.MapRule.{map_call, parent_part, leaf_entry}
 use Rattle.x86_64_model.specs.private.MapperCalls.{MapsPage, IsChanged, after_unmap, after_update, after_set_flags}
 use Rattle.x86_64_model.specs.Memory.{Memory}
-use Rattle.x86_64_model.specs.Hierarchy.{◌laid_in◌, Hierarchy, MayMap, Does, DoesMap, ArrivesIn, machine_of, state_of, named, paths, read_entry, SupplyFits, walk}
+use Rattle.x86_64_model.specs.Hierarchy.{◌laid_in◌, Hierarchy, MayMap, Does, DoesMap, ArrivesIn, CleansUp, Steps, allows, allows_map_call, change_outcome, machine_of, map_outcome, state_of, named, paths, read_entry, SupplyFits, walk}
 use Rattle.x86_64_model.specs.PageRules.{AfterChange, refused_or, update_refusal, update_flags, set_flags}
 use Rattle.x86_64_model.specs.Path.{level_of, front_at, path_at}
 use Rattle.x86_64_model.specs.PathMap.{PathMap, put}
@@ -26,20 +27,17 @@ module _ {Lent : Type 0} (h : Hierarchy Lent) (supply : List ℕ) where
 
   module _ (answer : Answer) (after : Hierarchy Lent) (rest : List ℕ) where
     pub does_map_to : (q : List ℕ) (frame given : ℕ) → DoesMap h supply (MapToWithTableFlags q frame given (parent_part given)) answer after rest → DoesMap h supply (MapTo q frame given) answer after rest
-    unfolding do_call
     does_map_to q frame given does = record { outcome = does.outcome; fits = does.fits; others = does.others; walks = does.walks; layout = does.layout; lent = does.lent }
 
     -- an `identity_map` does what a `map_to` of the page at the frame's address does
     pub does_map_identity : (level frame given : ℕ) → DoesMap h supply (MapTo (path_at h.layout.levels level frame) frame given) answer after rest → DoesMap h supply (IdentityMap level frame given) answer after rest
-    unfolding do_call
     does_map_identity level frame given does = record { outcome = does.outcome; fits = does.fits; others = does.others; walks = does.walks; layout = does.layout; lent = does.lent }
 
   -- by the map rule
   pub does_map : (q : List ℕ) (frame given more : ℕ) (answer : Answer) (n : Memory) (rest : List ℕ) → MapsPage h.layout h.memory supply q frame given more answer n rest
       → DoesMap h supply (MapToWithTableFlags q frame given more) answer (record h { memory = n }) rest
-  unfolding do_call
   does_map q frame given more answer n rest mapped = record {
-    outcome = λ take_back. ap after_map mapped.outcome;
+    outcome = ap Some mapped.outcome;
     fits = mapped.ready;
     others = mapped.others;
     walks = λ m is p. subst (λ m. Arrives m (walk h p) (walk (h.layout laid_in n) p)) (same_Some more m is) (mapped.walks p);
@@ -47,19 +45,39 @@ module _ {Lent : Type 0} (h : Hierarchy Lent) (supply : List ℕ) where
     lent = refl;
   }
 
-  abbrev answer_in : Answer → Reply → Answer
-  answer_in other (Answered answer) = answer
-  answer_in other NotAllowed = other
-  answer_in other (Position translated) = other
-  answer_in other (Address to) = other
-  answer_in other Cleaned = other
+  -- a map leads the machine to its outcome
+  pub map_leads : (call : Call) (answer : Answer) (after : Hierarchy Lent) (rest : List ℕ)
+      → map_outcome h.layout.levels h.layout.added_flags (paths h) supply call ≡ Some (record { paths = paths after; supply = rest; answer = answer }) → Steps h supply call answer after rest
+  unfolding do_call
+  map_leads (MapTo q frame given) answer after rest is = λ take_back. ap after_map (same_Some _ _ is)
+  map_leads (MapToWithTableFlags q frame given more) answer after rest is = λ take_back. ap after_map (same_Some _ _ is)
+  map_leads (IdentityMap level frame given) answer after rest is = λ take_back. ap after_map (same_Some _ _ is)
+  map_leads (Unmap q) answer after rest is = cc
+  map_leads (UpdateFlags q given) answer after rest is = cc
+  map_leads (SetFlags level q given) answer after rest is = cc
+  map_leads (TranslatePage q) answer after rest is = cc
+  map_leads (Translate p) answer after rest is = cc
+  map_leads (TranslateAddress p) answer after rest is = cc
+  map_leads (CleanUp low high) answer after rest is = cc
+
+  -- a map that is allowed is an allowed call
+  pub map_allows : (call : Call) → allows_map_call h call ≡ true → allows h call ≡ true
+  map_allows (MapTo q frame given) is = is
+  map_allows (MapToWithTableFlags q frame given more) is = is
+  map_allows (IdentityMap level frame given) is = is
+  map_allows (Unmap q) is = cc
+  map_allows (UpdateFlags q given) is = cc
+  map_allows (SetFlags level q given) is = cc
+  map_allows (TranslatePage q) is = cc
+  map_allows (Translate p) is = cc
+  map_allows (TranslateAddress p) is = cc
+  map_allows (CleanUp low high) is = cc
 
   pub is_mapped : (q : List ℕ) (frame given more : ℕ) (answer : Answer) (after : Hierarchy Lent) (rest : List ℕ) → DoesMap h supply (MapToWithTableFlags q frame given more) answer after rest
       → MapsPage h.layout h.memory supply q frame given more answer after.memory rest
-  unfolding do_call
   is_mapped q frame given more answer after rest does = record {
     outcome = subst (λ l. map_call h.layout.levels (paths h) supply more h.layout.added_flags q frame given ≡ record { paths = paths (l laid_in after.memory); supply = rest; answer = answer }) does.layout
-        (ap (λ (x : AfterCall). record { paths = x.state.paths; supply = x.state.pool; answer = answer_in answer x.reply }) (does.outcome (λ held f. held)));
+        (same_Some _ _ does.outcome);
     ready = subst (λ l. SupplyFits (l laid_in after.memory) rest) does.layout does.fits;
     others = does.others;
     walks = λ p. subst (λ l. Arrives more (walk h p) (walk (l laid_in after.memory) p)) does.layout (does.walks more refl p);
@@ -113,10 +131,32 @@ module _ (L : ℕ) (E : List ℕ → ℕ) (M : PathMap) where
       (done_or_refused (address e) M (first_stop E q) (refused_or M unused last) (done_or_refused (address e) M unused last (λ none. refl)))
 
 module _ {Lent : Type 0} (h : Hierarchy Lent) where
-  changed : (call : Call) (after : AfterChange) → ((take_back : List ℕ → ℕ → List ℕ) (pool : List ℕ) → do_call (machine_of h.layout take_back) (state_of h pool) call ≡ after_change pool after)
+  -- a change of one entry leads the machine to its outcome
+  pub change_leads : (call : Call) (answer : Answer) (after : Hierarchy Lent) → change_outcome h.layout.levels h.layout.window (paths h) call ≡ Some (record { paths = paths after; answer = answer })
+      → (pool : List ℕ) → Steps h pool call answer after pool
+  unfolding do_call
+  change_leads (Unmap q) answer after is = λ pool take_back. ap (after_change pool) (same_Some _ _ is)
+  change_leads (UpdateFlags q given) answer after is = λ pool take_back. ap (after_change pool) (same_Some _ _ is)
+  change_leads (SetFlags level q given) answer after is = λ pool take_back. ap (after_change pool) (same_Some _ _ is)
+  change_leads (MapTo q frame given) answer after is = cc
+  change_leads (MapToWithTableFlags q frame given more) answer after is = cc
+  change_leads (IdentityMap level frame given) answer after is = cc
+  change_leads (TranslatePage q) answer after is = cc
+  change_leads (Translate p) answer after is = cc
+  change_leads (TranslateAddress p) answer after is = cc
+  change_leads (CleanUp low high) answer after is = cc
+
+  -- a clean up leads the machine to its outcome
+  pub clean_up_leads : (take_back : List ℕ → ℕ → List ℕ) (held : List ℕ) (low high : ℕ) (after : Hierarchy Lent) (rest : List ℕ) → CleansUp h take_back held low high after rest
+      → do_call (machine_of h.layout take_back) (state_of h held) (CleanUp low high) ≡ record { state = state_of after rest; reply = Cleaned }
+  unfolding do_call
+  clean_up_leads take_back held low high after rest cleans =
+      ap₂ (λ M pool. record { state = record { paths = M; pool = pool }; reply = Cleaned }) (sym cleans.outcome) (sym cleans.returned)
+
+  changed : (call : Call) (after : AfterChange) → change_outcome h.layout.levels h.layout.window (paths h) call ≡ Some after
       → (answer : Answer) (n : Memory) → answer ≡ after.answer → IsChanged h.layout h.memory after n → (refuses answer ≡ true → n ≡ h.memory) → Does h call answer (record h { memory = n })
   changed call after rule answer n is does still = record {
-    outcome = λ pool take_back. rule take_back pool ∙ ap₂ (λ M a. after_change pool (record { paths = M; answer = a })) does.meant (sym is);
+    outcome = rule ∙ ap₂ (λ M a. Some (record { paths = M; answer = a })) does.meant (sym is);
     valid = does.valid;
     fits = does.ready;
     others = does.others;
@@ -127,26 +167,38 @@ module _ {Lent : Type 0} (h : Hierarchy Lent) where
 
   pub does_unmap : (q : List ℕ) (answer : Answer) (n : Memory) → answer ≡ (after_unmap h.layout h.memory q).answer → IsChanged h.layout h.memory (after_unmap h.layout h.memory q) n
       → (refuses answer ≡ true → n ≡ h.memory) → Does h (Unmap q) answer (record h { memory = n })
-  unfolding do_call
-  does_unmap q = changed (Unmap q) (after_unmap h.layout h.memory q) (λ take_back pool. refl)
+  does_unmap q = changed (Unmap q) (after_unmap h.layout h.memory q) refl
 
   -- from why a change of flags is refused, if it is
   pub does_update : (q : List ℕ) (given : ℕ) (why : Option Refusal) (n : Memory) → why ≡ refusal_of (after_update h.layout h.memory q given).answer
       → IsChanged h.layout h.memory (after_update h.layout h.memory q given) n → (refuses (answer_unless why (Done (named h (UpdateFlags q given)))) ≡ true → n ≡ h.memory)
       → Does h (UpdateFlags q given) (answer_unless why (Done (named h (UpdateFlags q given)))) (record h { memory = n })
-  unfolding do_call
   does_update q given why n is =
       let frame = named h (UpdateFlags q given) in
       let after = after_update h.layout h.memory q given in
-      changed (UpdateFlags q given) after (λ take_back pool. refl) (answer_unless why (Done frame)) n
+      changed (UpdateFlags q given) after refl (answer_unless why (Done frame)) n
       (answer_told after.answer frame why (update_done h.layout.levels (read_entry h) (paths h) q given) is)
 
   pub does_set_flags : (level : ℕ) (q : List ℕ) (given : ℕ) (why : Option Refusal) (n : Memory) → why ≡ refusal_of (after_set_flags h.layout h.memory level q given).answer
       → IsChanged h.layout h.memory (after_set_flags h.layout h.memory level q given) n → (refuses (answer_unless why (Done (named h (SetFlags level q given)))) ≡ true → n ≡ h.memory)
       → Does h (SetFlags level q given) (answer_unless why (Done (named h (SetFlags level q given)))) (record h { memory = n })
-  unfolding do_call
   does_set_flags level q given why n is =
       let frame = named h (SetFlags level q given) in
       let after = after_set_flags h.layout h.memory level q given in
-      changed (SetFlags level q given) after (λ take_back pool. refl) (answer_unless why (Done frame)) n
+      changed (SetFlags level q given) after refl (answer_unless why (Done frame)) n
       (answer_told after.answer frame why (set_flags_done h.layout.levels (read_entry h) (paths h) level q given) is)
+
+-- ---- steps of the machine
+
+pub maps_are_steps : MapsAreSteps
+maps_are_steps h supply call answer after rest may does take_back =
+    ap (λ b. cond b (do_call (machine_of h.layout take_back) (state_of h supply) call) (only_reply (state_of h supply) NotAllowed)) (map_allows h supply call may.allowed)
+    ∙ map_leads h supply call answer after rest does.outcome take_back
+
+pub changes_are_steps : ChangesAreSteps
+changes_are_steps h call answer after may does pool take_back =
+    ap (λ b. cond b (do_call (machine_of h.layout take_back) (state_of h pool) call) (only_reply (state_of h pool) NotAllowed)) may.allowed
+    ∙ change_leads h call answer after does.outcome pool take_back
+
+pub clean_ups_are_steps : CleanUpsAreSteps
+clean_ups_are_steps = clean_up_leads

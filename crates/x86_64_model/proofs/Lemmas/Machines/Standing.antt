@@ -3,7 +3,6 @@ use Rattle.std.proofs.Common.{◌≡◌, ◌≢◌, ◌⊎◌, inl, inr, ◌<◌
 use Rattle.x86_64_model.specs.Call.{MapTo, MapToWithTableFlags}
 use Rattle.x86_64_model.specs.Entry.{IsParentFlags, present, address, writable, user}
 use Rattle.x86_64_model.specs.Layout.{Layout}
-use Rattle.x86_64_model.specs.Machine.{do_call}
 use Rattle.x86_64_model.specs.MapRule.{AfterMap, map_call, parent_part}
 use Rattle.x86_64_model.specs.Hierarchy.{◌laid_in◌, Hierarchy, Valid, MayMap, DoesMap, ArrivesIn, IsMappedAs, paths, path_of}
 use Rattle.x86_64_model.specs.Path.{path_at}
@@ -32,7 +31,6 @@ module _ {Lent : Type 0} (h after : Hierarchy Lent) (supply rest : List ℕ) (le
   long = length_taken page (h.layout.levels + 1 - level) h.layout.levels (omega (arith, low))
 
   with_flags : DoesMap h supply (MapToWithTableFlags (path_of h level page) frame given (parent_part given)) answer after rest
-  unfolding do_call
   with_flags = record { outcome = does.outcome; fits = does.fits; others = does.others; walks = does.walks; layout = does.layout; lent = does.lent }
 
   outcome : map_call h.layout.levels (paths h) supply (parent_part given) h.layout.added_flags (path_of h level page) frame given

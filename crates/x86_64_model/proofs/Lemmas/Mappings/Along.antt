@@ -19,7 +19,7 @@ mapped_on L T q level r f [] = None
 mapped_on L T q level r f (i ∷ []) = option_and_then (λ e. cond (present e && maps_page level e) (Some (by_last_word L q r e)) None) (read T f i)
 mapped_on L T q level r f (i ∷ j ∷ s) = option_and_then (λ e. cond (present e && not (huge e)) (mapped_on L T q (level - 1) (granted r e) (address e) (j ∷ s)) None) (read T f i)
 
-abbrev both : Rights → Rights → Rights
+abbrev pub both : Rights → Rights → Rights
 both r s = record { write = r.write && s.write; user = r.user && s.user; execute = r.execute && s.execute }
 
 -- the same by all words of the rest
@@ -28,14 +28,14 @@ said L q level r ws = cond (is_leaf level ws)
     (Some (record { start = span_start L q; size = span_size L q; frame = page_start (level_of L q) (last_word ws); flags = flags (last_word ws); rights = both r (rights_of ws) }))
     None
 
-both_last : (r : Rights) (e : ℕ) → both r (rights_of (e ∷ [])) ≡ granted r e
+pub both_last : (r : Rights) (e : ℕ) → both r (rights_of (e ∷ [])) ≡ granted r e
 both_last r e = λ i. record {
   write = r.write && and-true (writable e) i;
   user = r.user && and-true (user e) i;
   execute = r.execute && and-true (not (no_execute e)) i;
 }
 
-both_more : (r : Rights) (e : ℕ) (ws : List ℕ) → both r (rights_of (e ∷ ws)) ≡ both (granted r e) (rights_of ws)
+pub both_more : (r : Rights) (e : ℕ) (ws : List ℕ) → both r (rights_of (e ∷ ws)) ≡ both (granted r e) (rights_of ws)
 both_more r e ws = λ i. record {
   write = sym (and_assoc r.write (writable e) (rights_of ws).write) i;
   user = sym (and_assoc r.user (user e) (rights_of ws).user) i;

@@ -57,7 +57,7 @@ module _ (shared : ℕ → Bool) (spaces : List Layout) (first new : Layout) (me
   same_first g there apart = ap (λ o. cond (first.places.covers g) o None) (is.others (first.places.place g) (λ h e p.
       apart (sym (mapping.distinct f g (covered m first.places f first_there) (covered m first.places g there) (ap first.places.place (sym e) ∙ p)))))
 
-  same_words : (a : Layout) → In spaces a → (g : ℕ) → IsSome (words (a laid_in m) g) → g ≢ f → words (a laid_in n) g ≡ words (a laid_in m) g
+  pub same_words : (a : Layout) → In spaces a → (g : ℕ) → IsSome (words (a laid_in m) g) → g ≢ f → words (a laid_in n) g ≡ words (a laid_in m) g
   same_words a i g there apart =
       let at : a.places ≡ first.places = (alike a i).0 in
       subst (λ (p : Places). words_of n p g ≡ words_of m p g) (sym at) (same_first g (subst (λ (p : Places). IsSome (words_of m p g)) at there) apart)

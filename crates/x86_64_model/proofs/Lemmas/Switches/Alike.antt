@@ -33,7 +33,7 @@ module _ (L : ℕ) (window other : Option Window) (due more : List Due) (pool : 
   become_more (Marked k same) = Marked k same
   become_more (Remapped n d w) = Remapped n (grows _ d) (λ l. windows (w l))
   become_more (Reflagged same r d b w) = Reflagged same r (grows _ d) b (windows w)
-  become_more (Removed z d w g is i) = Removed z (grows _ d) (windows w) g is i
+  become_more (Removed z w g is d i) = Removed z (windows w) g is (d.0, grows _ d.1, d.2) i
 
 -- ---- entries that lead alike
 

@@ -4,7 +4,7 @@ use Rattle.std.proofs.lemmas.Bool.{cases_Bool}
 use Rattle.x86_64_model.specs.Lists.{In}
 use Rattle.x86_64_model.specs.Call.{Call}
 use Rattle.x86_64_model.specs.Flushing as flushing
-use Rattle.x86_64_model.specs.Flushing.{HasZeros, LosesNothing, MayWrite, after_event}
+use Rattle.x86_64_model.specs.Flushing.{HasZeros, StayFree, LosesNothing, MayWrite, after_event}
 use Rattle.x86_64_model.specs.Layout.{Layout}
 use Rattle.x86_64_model.specs.Laws.SwitchedSpaces.{space_for, between, CallsOn, call_events, CallsMaySwitch}
 use Rattle.x86_64_model.specs.Machine.{IsMachine, State, step}
@@ -12,6 +12,7 @@ use Rattle.x86_64_model.specs.Memory.{Memory, Words, Places, IsMapping, words_of
 use Rattle.x86_64_model.specs.PathMap.{entry, table_of, table_at}
 use Rattle.x86_64_model.specs.Pool.{TakesBack, Fits}
 use Rattle.x86_64_model.specs.Spaces.{is_shared, Avoids}
+use Rattle.x86_64_model.specs.Tags.{Of}
 use Rattle.x86_64_model.specs.Switches.{Kernel, Space, AreHeld, held_by, Switching, AreDone, machine_at, with_next, with_words, Makes, Writes, after_switch}
 use Rattle.x86_64_model.specs.MaySwitch.{after_switches, MayMakeOn, MayWriteAll}
 use Rattle.x86_64_model.proofs.Lemmas.Hierarchies.Trees.{some_not_none}
@@ -72,7 +73,7 @@ module _ (k : Kernel) (places : Places) (mapping : IsMapping places) (some : 0 <
     adds = c.adds;
     is_call = c.is_call;
     kept = λ f q u. subst (λ (st : State). LosesNothing (entry a.paths q) (entry st.paths q)) (sym c.steps) (c.loses_nothing f q u);
-    waits = c.waits;
+    waits = λ p. subst (λ (st : State). StayFree (s.due (Of p)) pool st.pool) (sym c.steps) (c.waits p);
     apart = c.apart;
     own = ap (λ (st : State). st.paths) (sym c.steps);
     others = λ b ib q. let o = from_map (space_for k T) layouts b ib in
@@ -95,7 +96,7 @@ module _ (k : Kernel) (places : Places) (mapping : IsMapping places) (some : 0 <
     where
       may : MayWrite (machine_at k a) one.root (after_event (machine_at k a) (record { state = start; paths = a.paths; words = T; cache = []; due = [] }) (flushing.Makes call true)) (step (machine_at k a) start call).state.paths U
       may = calls_may_happen (machine_at k a) is one.root k.serves (record { state = start; paths = a.paths; words = T; cache = []; due = [] }) fits call true
-          (record { done = refl; is_call = c.is_call; kept = λ f q u. cc; waits = λ i. absurd i; apart = λ q r f i. absurd i }) U c.free
+          (record { done = refl; is_call = c.is_call; kept = λ f q u. cc; waits = λ f d. absurd d.1; apart = λ q r f i. absurd i }) U c.free
 
   emptied : (l : Layout) → In layouts l → (q : List ℕ) (f : ℕ) → table_at k.levels l.root (space_for k T l).paths q ≡ Some f → table_at k.levels l.root (space_for k U l).paths q ≡ None → HasZeros U f
   emptied l il [] f t z = absurd (some_not_none l.root z)
@@ -114,7 +115,7 @@ module _ (k : Kernel) (places : Places) (mapping : IsMapping places) (some : 0 <
     between = λ b ib q. let o = of_layout b ib in subst (λ (b : Space). (entry (held_by k U b) q ≡ entry b.paths q) ⊎ (entry (held_by k U b) q ≡ entry b.next q)) o.2 (inr refl);
     empty = λ b ib. let o = of_layout b ib in
         subst (λ (b : Space). (q : List ℕ) (f : ℕ) → table_at k.levels b.root b.paths q ≡ Some f → table_at k.levels b.root (held_by k U b) q ≡ None → HasZeros U f) o.2 (emptied o.0 o.1);
-    keeps = λ d i f free zeros. ⊎_elim (λ z. z) (λ x. same_zeros T U f x.1 zeros) (free_after (machine_at k a) one.root T U start call c.free f free);
+    keeps = λ p f unflushed free zeros. ⊎_elim (λ z. z) (λ x. same_zeros T U f x.1 zeros) (free_after (machine_at k a) one.root T U start call c.free f free);
   }
 
   abbrev written : Switching

@@ -63,7 +63,7 @@ nonempty_front zero q l k e = absurd (omega (arith, l))
 nonempty_front (suc n) [] l k e = absurd (omega (arith, k))
 nonempty_front (suc n) (i ∷ q) l k e = cc
 
-module _ (shared : ℕ → Bool) (L : ℕ) (window : Option Window) (reply : Reply) where
+module _ (shared : ℕ → Bool) (L : ℕ) (window : Option Window) (freed : List ℕ) (reply : Reply) where
   abbrev Fine : Call → List ℕ → Type 0
   Fine call q = (q ≢ []) × (Avoids L shared call → is_shared shared q ≡ false)
 
@@ -74,7 +74,7 @@ module _ (shared : ℕ → Bool) (L : ℕ) (window : Option Window) (reply : Rep
   )
 
   -- all items on a path are due after calls that change entries below its first index
-  pub made_below : (call : Call) → IsCall L call → (q : List ℕ) → In (flush_after L window call reply) (BelowDue q) → Fine call q
+  pub made_below : (call : Call) → IsCall L call → (q : List ℕ) → In (flush_after L window freed call reply) (BelowDue q) → Fine call q
   made_below (MapTo p frame given) is q i = absurd i
   made_below (MapToWithTableFlags p frame given more) is q i =
       front_fine (MapToWithTableFlags p frame given more) 1 p q (omega arith) is.nonempty (λ a. a) (in_cond (no_execute more) _ _ (from_allowed reply _ _ i))
@@ -133,21 +133,21 @@ module _ (L current : ℕ) (window : Option Window) where
   page_left InvpcidAllButGlobal (Of c) w frame h = cc
   page_left InvpcidAllButGlobal Global w frame h = refl
 
-  table_left : (f : TaggedFlush) (tag : Tag) (t : PartialWalk) → is_left L current f tag (Table t) ≡ true → not (is_settled L current f tag TablesDue) ≡ true
-  table_left (Invlpg p) tag t h = by (is_current current tag) h
+  table_left : (f : TaggedFlush) (tag : Tag) (t : PartialWalk) (freed : List ℕ) → is_left L current f tag (Table t) ≡ true → not (is_settled L current f tag (TablesDue freed)) ≡ true
+  table_left (Invlpg p) tag t freed h = by (is_current current tag) h
     where
       by : (b : Bool) → cond b false true ≡ true → not (b && true) ≡ true
       by true h = cc
       by false h = refl
-  table_left (InvpcidAddress pcid p) tag t h = and_false (is_of pcid tag)
-  table_left (InvpcidContext pcid) tag t h = h
-  table_left InvpcidAll tag t h = cc
-  table_left InvpcidAllButGlobal (Of c) t h = cc
-  table_left InvpcidAllButGlobal Global t h = refl
+  table_left (InvpcidAddress pcid p) tag t freed h = and_false (is_of pcid tag)
+  table_left (InvpcidContext pcid) tag t freed h = h
+  table_left InvpcidAll tag t freed h = cc
+  table_left InvpcidAllButGlobal (Of c) t freed h = cc
+  table_left InvpcidAllButGlobal Global t freed h = refl
 
   loose_left : (f : TaggedFlush) (tag : Tag) (x : Cached) (d : Due) (path : List ℕ) → loosens window d path ≡ true → is_left L current f tag x ≡ true → not (is_settled L current f tag d) ≡ true
   loose_left f tag x (PageDue q frame) path l h = cc
-  loose_left f tag x TablesDue path l h = cc
+  loose_left f tag x (TablesDue freed) path l h = cc
   loose_left (Invlpg p) tag x WindowDue path l h = and_false (is_current current tag)
   loose_left (InvpcidAddress pcid p) tag x WindowDue path l h = and_false (is_of pcid tag)
   loose_left (InvpcidContext pcid) tag x WindowDue path l h = h
@@ -166,7 +166,7 @@ module _ (L current : ℕ) (window : Option Window) where
       → StaysDue window due (filter (λ due. not (is_settled L current f tag due)) due ++ later) pool pool x
   left_stays f tag x due later pool h = record {
     pages = λ w e frame i. in_left _ later _ (in_filter _ due _ i (page_left f tag w frame (subst (λ x. is_left L current f tag x ≡ true) e h)));
-    tables = λ t e i. (in_left _ later _ (in_filter _ due _ i (table_left f tag t (subst (λ x. is_left L current f tag x ≡ true) e h))), λ f i. i);
+    tables = λ t e d. ((d.0, in_left _ later _ (in_filter _ due _ d.1 (table_left f tag t d.0 (subst (λ x. is_left L current f tag x ≡ true) e h))), d.2), λ i. i);
     loose = λ d i l. in_left _ later _ (in_filter _ due d i (loose_left f tag x d (way_of x).path l h));
   }
 

@@ -79,7 +79,7 @@ module _ (k : Kernel) (s : Switching) (safe : IsSafe k s) where
     moves_shared = λ a ia q on. AsBefore (ap (λ (M : PathMap). entry M q) (sym (may.done a ia)));
     dues = record { covers = safe.dues.covers; narrow = safe.dues.narrow; never_all = safe.dues.never_all; avoids = safe.dues.avoids; never_all_now = safe.dues.never_all_now };
     items = λ c x i a ia h. item_stays k.levels a.root a.window (s.due (Of c)) (s.due (Of c)) s.pool pool s.words (entry_at a.window a.paths) x
-        (record { pages = λ w e f d. d; tables = λ t e d. (d, may.waits c d); loose = λ d i l. i }) (safe.items c x i a ia h);
+        (record { pages = λ w e f d. d; tables = λ t e d. (d, may.waits c t.frame d); loose = λ d i l. i }) (safe.items c x i a ia h);
     globals = safe.globals;
   }
 

@@ -5,7 +5,7 @@ use Rattle.std.specs.List.{AllByRecursion}
 use Rattle.x86_64_model.specs.Allowed.{allowed}
 use Rattle.x86_64_model.specs.Call.{Call, IsCall, MapTo, MapToWithTableFlags, IdentityMap, Unmap, UpdateFlags, SetFlags, TranslatePage, Translate, TranslateAddress, CleanUp}
 use Rattle.x86_64_model.specs.CleanUp.{is_removed, clean_up}
-use Rattle.x86_64_model.specs.Entry.{IsParentFlags, has, address}
+use Rattle.x86_64_model.specs.Entry.{IsParentFlags, has, address, global}
 use Rattle.x86_64_model.specs.Laws.Globals.{GlobalsBelow, GlobalIsShared, CallsKeepGlobals}
 use Rattle.x86_64_model.specs.Machine.{Machine, IsMachine, State, do_call, step}
 use Rattle.x86_64_model.specs.MapRule.{map_rule, map_call, leaf_entry, parent_part}
@@ -13,7 +13,6 @@ use Rattle.x86_64_model.specs.Mappings.{maps_page}
 use Rattle.x86_64_model.specs.Path.{level_of, is_small, parents, path_at, front_at}
 use Rattle.x86_64_model.specs.PathMap.{PathMap, entry, put}
 use Rattle.x86_64_model.specs.Spaces.{is_shared}
-use Rattle.x86_64_model.specs.Tags.{global}
 use Rattle.std.proofs.lemmas.Nat.{and_assoc, and_comm}
 use Rattle.x86_64_model.proofs.Lemmas.CleanUps.Keys.{entry-cleaned}
 use Rattle.x86_64_model.proofs.Lemmas.Entries.Bits.{has_or, only_flags, address_address}

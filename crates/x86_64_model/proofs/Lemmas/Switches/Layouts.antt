@@ -2,7 +2,7 @@
 use Rattle.std.proofs.Common.{None, ◌≡◌, ◌≢◌, ◌⊎◌, inl, inr, ⊎_elim, ◌<◌, ℕ, Bool, true, false, List, [], ◌∷◌, map, refl, sym, ap, ◌∙◌, subst, subst₂, cond, eq-eqb, Some}
 use Rattle.std.proofs.lemmas.Bool.{cases_Bool, cases_eq}
 use Rattle.x86_64_model.specs.Lists.{In}
-use Rattle.x86_64_model.specs.Entry.{LeadAlike, present}
+use Rattle.x86_64_model.specs.Entry.{LeadAlike, present, global}
 use Rattle.x86_64_model.specs.Layout.{Layout}
 use Rattle.x86_64_model.specs.Laws.Spaces.{KeepsRootEntries, StaysSharing}
 use Rattle.x86_64_model.specs.Laws.SwitchedSpaces.{space_for, MaySwitchIn, AllShare, SpacesAreHeld, SpacesMayStart, NewSpacesMayBegin}
@@ -14,7 +14,6 @@ use Rattle.x86_64_model.specs.PathMap.{entry}
 use Rattle.x86_64_model.specs.Spaces.{is_shared, Shares, ArePaired}
 use Rattle.x86_64_model.specs.Store.{KeepsPool}
 use Rattle.x86_64_model.specs.Window.{begins_with, entry_at, IsValidFor}
-use Rattle.x86_64_model.specs.Tags.{global}
 use Rattle.x86_64_model.specs.Switches.{Kernel, Space, AreHeld}
 use Rattle.x86_64_model.proofs.Lemmas.Lists.Members.{in_map, from_map}
 use Rattle.x86_64_model.proofs.Lemmas.Switches.Alike.{alike_equal}

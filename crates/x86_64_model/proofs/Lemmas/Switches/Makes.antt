@@ -6,22 +6,22 @@ use Rattle.x86_64_model.specs.Memory.{Words}
 use Rattle.x86_64_model.specs.PathMap.{PathMap, entry}
 use Rattle.x86_64_model.specs.Pool.{TakesBack}
 use Rattle.x86_64_model.specs.Window.{Window, begins_with, entry_at, IsValidFor}
-use Rattle.x86_64_model.specs.Entry.{LeadAlike, present}
+use Rattle.x86_64_model.specs.Entry.{LeadAlike, present, global}
 use Rattle.x86_64_model.specs.Mappings.{maps_page}
 use Rattle.x86_64_model.specs.Path.{level_of}
 use Rattle.x86_64_model.specs.Call.{Call}
 use Rattle.x86_64_model.specs.Machine.{Machine, IsMachine, State, step}
 use Rattle.x86_64_model.specs.Spaces.{is_shared}
 use Rattle.x86_64_model.specs.Caches.{PartialWalk, Cached}
-use Rattle.x86_64_model.specs.Flushing.{Due, BelowDue}
-use Rattle.x86_64_model.specs.Tags.{Of, Global, global}
+use Rattle.x86_64_model.specs.Flushing.{Due, BelowDue, freed_by}
+use Rattle.x86_64_model.specs.Tags.{Of, Global}
 use Rattle.x86_64_model.specs.Switches.{Kernel, Space, AreHeld, Switching, machine_at, state_at, made_due, with_next, is_held, is_concerned, Makes, after_switch}
 use Rattle.x86_64_model.specs.MaySwitch.{MayMakeOn}
 use Rattle.x86_64_model.proofs.Lemmas.Lists.Members.{in_left, in_right, in_append, in_map, from_map}
 use Rattle.x86_64_model.proofs.Lemmas.Machines.Fitting.{sound_of_fits}
 use Rattle.x86_64_model.proofs.Lemmas.Machines.States.{IsSound}
 use Rattle.x86_64_model.proofs.Lemmas.Spaces.Calls.{step_avoids}
-use Rattle.x86_64_model.proofs.Lemmas.Caches.Calls.{call_does, told_moves}
+use Rattle.x86_64_model.proofs.Lemmas.Caches.Calls.{told_moves}
 use Rattle.x86_64_model.proofs.Lemmas.Caches.Items as items
 use Rattle.x86_64_model.proofs.Lemmas.Caches.Items.{item_stays}
 use Rattle.x86_64_model.proofs.Lemmas.Caches.Windowed.{Becomes, AsBefore, HasWindow}
@@ -112,7 +112,7 @@ module _ (k : Kernel) (gives : TakesBack k.take_back) (s : Switching) (safe : Is
   later = after_switch k s (Makes a call loses reaches everywhere next)
 
   fine : (q : List ℕ) → In new (BelowDue q) → (q ≢ []) × (everywhere ≡ false → is_shared k.shared q ≡ false)
-  fine q i = let x = made_below k.shared k.levels a.window (step (machine_at k a) (state_at s a) call).reply call may.is_call q (in_cond loses _ _ i) in (x.0, λ f. x.1 (may.avoids f))
+  fine q i = let x = made_below k.shared k.levels a.window (freed_by k.levels (state_at s a) call) (step (machine_at k a) (state_at s a) call).reply call may.is_call q (in_cond loses _ _ i) in (x.0, λ f. x.1 (may.avoids f))
 
   dues : AreDue k.shared later
   dues = record {
@@ -137,7 +137,7 @@ module _ (k : Kernel) (gives : TakesBack k.take_back) (s : Switching) (safe : Is
       subst (λ (b : Space). s.holder c ≡ Some b.root → items.Safe k.levels b.root b.window (later.due (Of c)) after.pool s.words (entry_at b.window b.paths) x) o.2
       (λ h. item_stays k.levels o.0.root o.0.window (s.due (Of c)) (later.due (Of c)) s.pool after.pool s.words (entry_at o.0.window o.0.paths) x (record {
         pages = λ w e f d. in_right (cond (is_held reaches (s.holder c)) new []) (s.due (Of c)) _ d;
-        tables = λ t e d. (in_right (cond (is_held reaches (s.holder c)) new []) (s.due (Of c)) _ d, (call_does m is a.root k.serves (state_at s a) sound (s.due (Of c)) call may.is_call).1 (may.waits c) d);
+        tables = λ t e d. ((d.0, in_right (cond (is_held reaches (s.holder c)) new []) (s.due (Of c)) _ d.1, d.2), may.waits c t.frame d);
         loose = λ d i l. in_right (cond (is_held reaches (s.holder c)) new []) (s.due (Of c)) _ i;
       }) (safe.items c x i o.0 o.1 h))
 

@@ -52,7 +52,7 @@ module _ (L : ℕ) (window : Option Window) (due : List Due) (pool : List ℕ) (
   becomes_marked (Marked k t) = Marked (λ h. kept_marked (k (sym before.same_present ∙ h)) h) (target_marked t)
   becomes_marked (Remapped n d w) = Remapped (alike_table L q e e' before ∙ n) (subst (λ a. In due (PageDue q a)) (sym before.same_address) d) w
   becomes_marked (Reflagged t r d b w) = Reflagged (target_marked t) r d b w
-  becomes_marked (Removed z d w g is i) = Removed (unused_zero f' (after.same_used ∙ ap used z ∙ zero_not_used)) d w g (alike_table L q e e' before ∙ is) i
+  becomes_marked (Removed z w g is d i) = Removed (unused_zero f' (after.same_used ∙ ap used z ∙ zero_not_used)) w g (alike_table L q e e' before ∙ is) d i
 
 -- ---- what the processor reads
 

@@ -1,7 +1,7 @@
 -- One more address space, or one less, as events of a processor that switches between them.
-use Rattle.std.proofs.Common.{◌≡◌, ◌≢◌, inl, inr, ◌<◌, ◌==◌, ℕ, Bool, true, not, cond, List, [], ◌∷◌, filter, map, Some, refl, sym, ap, ◌∙◌, subst, eq-eqb, ne_eqb}
+use Rattle.std.proofs.Common.{◌≡◌, ◌≢◌, inl, inr, ⊎_elim, ◌<◌, ◌==◌, ℕ, Bool, true, not, cond, List, [], ◌∷◌, filter, map, Some, refl, sym, ap, ◌∙◌, subst, eq-eqb, ne_eqb}
 use Rattle.x86_64_model.specs.Lists.{In}
-use Rattle.x86_64_model.specs.Flushing.{TablesDue}
+use Rattle.x86_64_model.specs.Flushing.{IsUnflushed}
 use Rattle.x86_64_model.specs.Validity.{paths_of}
 use Rattle.x86_64_model.specs.Layout.{Layout}
 use Rattle.x86_64_model.specs.Laws.Spaces.{IsNewRoot}
@@ -17,7 +17,8 @@ use Rattle.x86_64_model.specs.Switches.{Kernel, Space, AreHeld, Switching, held_
 use Rattle.x86_64_model.specs.MaySwitch.{MayWriteAll, AllMaySwitch, after_switches}
 use Rattle.x86_64_model.proofs.Lemmas.Hierarchies.Trees.{some_not_none}
 use Rattle.x86_64_model.proofs.Lemmas.Lists.Members.{from_map}
-use Rattle.x86_64_model.proofs.Lemmas.Spaces.NewOnes.{old_paths, new_spaces}
+use Rattle.x86_64_model.proofs.Lemmas.Caches.Whole.{same_zeros}
+use Rattle.x86_64_model.proofs.Lemmas.Spaces.NewOnes.{old_paths, new_spaces, same_words}
 use Rattle.x86_64_model.proofs.Lemmas.Spaces.Paired.{spaces_are_paired}
 use Rattle.x86_64_model.proofs.Lemmas.Switches.Layouts.{held_in}
 
@@ -31,7 +32,7 @@ still k T U (l ∷ layouts) same = let at = same l (inl refl) in let more = stil
 module _ (k : Kernel) (places : Places) (mapping : IsMapping places) (some : 0 < k.levels) (shared : ℕ → Bool) (all : (i : ℕ) → k.shared i ≡ true → shared i ≡ true) (m n : Memory) (rest : List ℕ)
     (layouts : List Layout) (first new : Layout) (member : In layouts first) (are : AreSpaces shared m k.serves (new.root ∷ rest) layouts) (is : IsNewRoot shared first m n new)
     (before : MaySwitchIn k places (words_of m places) layouts) (later : MaySwitchIn k places (words_of n places) (new ∷ layouts))
-    (s : Switching) (none_due : (c : ℕ) → In (s.due (Of c)) TablesDue → ⊥) (unused : (c : ℕ) → s.holder c ≢ Some new.root) where
+    (s : Switching) (none_due : (c : ℕ) → IsUnflushed (s.due (Of c)) new.root → ⊥) (unused : (c : ℕ) → s.holder c ≢ Some new.root) where
   abbrev T : Words
   T = words_of m places
 
@@ -76,12 +77,18 @@ module _ (k : Kernel) (places : Places) (mapping : IsMapping places) (some : 0 <
   stays : (b : Space) → In (map (space_for k T) layouts) b → b.paths ≡ held_by k U b
   stays b ib = let o = from_map (space_for k T) layouts b ib in subst (λ (b : Space). b.paths ≡ held_by k U b) o.2 (same_paths o.0 o.1)
 
+  -- a free frame other than the new root keeps its words
+  still_there : (f : ℕ) → In rest f → f ≢ new.root → U f ≡ T f
+  still_there f free apart = let at = before.mapping first member in
+      subst (λ (p : Places). words_of n p f ≡ words_of m p f) at
+      (same_words shared layouts first new member own_mapping own_levels k.serves m n rest are is first member f ((are.fits first member).in_memory f (inr free)) apart)
+
   writes : MayWriteAll k taken U
   writes = record {
     held = subst (AreHeld k U) (sym (still k T U layouts same_paths)) held_others;
     between = λ b ib q. inl (ap (λ (M : PathMap). entry M q) (sym (stays b ib)));
     empty = λ b ib q f t z. absurd (some_not_none f (sym t ∙ ap (λ (M : PathMap). table_at k.levels b.root M q) (stays b ib) ∙ z));
-    keeps = λ c d. absurd (none_due c d);
+    keeps = λ c f unflushed free zeros. same_zeros T U f (still_there f free (λ e. none_due c (subst (IsUnflushed (s.due (Of c))) e unflushed))) zeros;
   }
 
   abbrev end : Switching
@@ -91,7 +98,7 @@ module _ (k : Kernel) (places : Places) (mapping : IsMapping places) (some : 0 <
   may = (
     record {
       done = λ b ib. let o = from_map (space_for k T) layouts b ib in subst (λ (b : Space). b.paths ≡ b.next) o.2 refl;
-      waits = λ c d. absurd (none_due c d);
+      waits = λ c f d i. ⊎_elim (λ e. absurd (none_due c (subst (IsUnflushed (s.due (Of c))) (sym e) d))) (λ i. i) i;
     },
     (
       writes,
@@ -140,7 +147,7 @@ module _ (k : Kernel) (gives : TakesBack k.take_back) (T : Words) (pool : List �
     (
       record {
         done = λ b ib. let o = from_map (space_for k T) layouts b (subst (λ (spaces : List Space). In spaces b) left ib) in subst (λ (b : Space). b.paths ≡ b.next) o.2 refl;
-        waits = λ c d f i. (gives.same_frames pool gone.root f).1 (inr i);
+        waits = λ c f d i. (gives.same_frames pool gone.root f).1 (inr i);
       },
       tt,
     ),

@@ -3,7 +3,7 @@
 use Rattle.std.proofs.Common.{◌≡◌, ◌⊎◌, inl, inr, ⊎_elim, ◌<◌, ℕ, Bool, true, false, cond, List, [], ◌∷◌, ◌++◌, Some, None, Option, refl, sym, ap, ◌∙◌, subst, subst₂, eqb-true}
 use Rattle.std.proofs.lemmas.Option.{same_Some}
 use Rattle.x86_64_model.specs.Lists.{In}
-use Rattle.x86_64_model.specs.Entry.{LeadAlike, present}
+use Rattle.x86_64_model.specs.Entry.{LeadAlike, present, global}
 use Rattle.x86_64_model.specs.Memory.{word}
 use Rattle.x86_64_model.specs.Path.{level_of, begins}
 use Rattle.x86_64_model.specs.PathMap.{entry}
@@ -14,7 +14,7 @@ use Rattle.x86_64_model.specs.Caches.{PartialWalk, start, Cached, Table, Page, c
 use Rattle.x86_64_model.specs.Flushing.{Due, PageDue, TablesDue, WindowDue, BelowDue, loosens}
 use Rattle.x86_64_model.specs.Laws.Caches.{WalksThere}
 use Rattle.x86_64_model.specs.Laws.Switches.{due_here}
-use Rattle.x86_64_model.specs.Tags.{Tag, Of, Global, Tagged, is_current, usable, global, MayTag, CachesTagged}
+use Rattle.x86_64_model.specs.Tags.{Tag, Of, Global, Tagged, is_current, usable, MayTag, CachesTagged}
 use Rattle.x86_64_model.specs.Switches.{Kernel, Space, AreHeld, Switching}
 use Rattle.x86_64_model.proofs.Lemmas.Lists.Members.{in_left, in_right, from_map, from_filter, passes}
 use Rattle.x86_64_model.proofs.Lemmas.Walks.Agrees.{reads}
@@ -72,7 +72,7 @@ stale_windowed L window due E w (inr ((d, i, l), st)) = by d i l
   where
     by : (d : Due) → In due d → loosens None d w.path ≡ true → StalePage L window due E w
     by (PageDue q f) i l = cc
-    by TablesDue i l = cc
+    by (TablesDue freed) i l = cc
     by WindowDue i l = cc
     by (BelowDue q) i l = inr ((BelowDue q, i, l), st)
 
@@ -111,7 +111,7 @@ module _ (k : Kernel) (levels : 0 < k.levels) (s : Switching) (safe : IsSafe k s
 
         by : (d : Due) → In (s.due (Of c)) d → loosens a.window d x ≡ true → LooseAt None (s.due Global) x
         by (PageDue q f) i l = cc
-        by TablesDue i l = cc
+        by (TablesDue freed) i l = cc
         by WindowDue i l = absurd (let t : true ≡ false = sym h ∙ safe.held.windows a ia x l in cc)
         by (BelowDue q) i l = below q i l
 

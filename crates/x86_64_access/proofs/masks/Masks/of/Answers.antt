@@ -3,7 +3,7 @@ use Rattle.x86_64_access.proofs.Deciding.{decides, page_decides, suffices}
 use Rattle.x86_64_access.proofs.masks.Masks.of.Goals as goal
 
 pub returns-clause-table : goal.returns-clause-table
-returns-clause-table c e = rw (c.high_bits.ensures, c.off_bits.ensures) (decides (controls_of c.args.controls.now) c.requires e)
+returns-clause-table c e = rw (c.high_bits.ensures, c.off_bits.ensures, c.global_bits.ensures) (decides (controls_of c.args.controls.now) c.requires e)
 
 pub returns-clause-page : goal.returns-clause-page
 returns-clause-page c e = rw (c.high_bits.ensures, c.off_bits.ensures) (page_decides (controls_of c.args.controls.now) c.requires e)

@@ -1,0 +1,12 @@
+use Rattle.x86_64_c.proofs.Prepared.{executes_preparation, refuses_preparation}
+use Rattle.x86_64_c.proofs.preparations.x64_prepare.Goals as goal
+
+pub returns-in-Ok : goal.returns-in-Ok
+returns-in-Ok g c =
+    executes_preparation g.own c.args.hierarchy.now c.args.tables.now c.enter.new.tables c.args.pool.now c.enter.new.array c.args.free_count.now c.args.page.now c.args.parent_flags
+    c.in-Ok.prepared.free_count c.in-Ok.prepared.out c.in-Ok.ensures.good (rw c.of.ensures at c.in-Ok.ensures.does)
+
+pub returns-in-Err : goal.returns-in-Err
+returns-in-Err g c =
+    refuses_preparation g.own c.args.hierarchy.now c.args.tables.now c.enter.new.tables c.args.pool.now c.enter.new.array c.args.free_count.now c.args.page.now c.args.parent_flags
+    c.in-Err.status c.in-Err.ensures.bad c.in-Err.ensures.unchanged.0 c.in-Err.ensures.unchanged.1

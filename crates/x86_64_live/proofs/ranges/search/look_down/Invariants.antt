@@ -1,0 +1,11 @@
+use Rattle.std.proofs.Common.{◌≡◌, ◌≤◌}
+use Rattle.x86_64_live.specs.private.RangeSteps.{LooksDown}
+use Rattle.x86_64_live.proofs.ranges.search.look_down.Given as goal
+
+-- the spot is on the way to the same position
+abbrev pub invariant-down : goal.invariant-down
+invariant-down g l = (l.spot.position ≡ l.from.position) × (1 ≤ l.spot.level) × (l.spot.level ≤ l.levels)
+    × LooksDown l.levels (g.P.PageTableFrameMapping.places l.mapping) (g.T.TableMemory.tables l.memory) l.from l.spot
+
+abbrev pub decreases-down : goal.decreases-down
+decreases-down g l = l.spot.level

@@ -1,8 +1,0 @@
-use Rattle.x86_64_mappings.proofs.Digits.{AreWritten}
-use Rattle.x86_64_mappings.proofs.text.pieces.put_hexadecimal_digits.Given as goal
-
-abbrev pub invariant-loop-left : goal.invariant-loop-left
-invariant-loop-left l = AreWritten 16 l.number l.left l.end l.start l.fn.line l.line
-
-abbrev pub decreases-loop-left : goal.decreases-loop-left
-decreases-loop-left l = l.left

@@ -1,0 +1,90 @@
+//! Tests of frame mappings by segments.
+use crate::prelude::*;
+use x86_64_paging::tables::phys_memory::page_walk;
+
+/// Creates a segment of its first frame's number, the number of frames, and the first frame's place.
+const fn segment(first: u64, count: u64, place: u64) -> FrameSegment {
+    FrameSegment { first, count, place }
+}
+
+/// Frames 0x10 and 0x11 and, after a hole, 0x20 to 0x22, whose tables come first; then frame 0x23.
+static SEGMENTS: [FrameSegment; 3] = [segment(0x10, 2, 3), segment(0x20, 3, 0), segment(0x23, 1, 5)];
+
+/// Numbers of frames, and the places that they have by these segments.
+const PLACES: [(u64, Option<u64>); 11] = [
+    (0, None),
+    (0xf, None),
+    (0x10, Some(3)),
+    (0x11, Some(4)),
+    (0x12, None),
+    (0x1f, None),
+    (0x20, Some(0)),
+    (0x22, Some(2)),
+    (0x23, Some(5)),
+    (0x24, None),
+    (0xff_ffff_ffff, None),
+];
+
+/// Returns the place of the frame with a number, if it is covered.
+fn place_of(mapping: &SegmentMapping<'_>, number: u64) -> Option<u64> {
+    let frame = PhysFrame::containing_address(PhysAddr::new_truncate(number.wrapping_mul(4096)));
+    if mapping.covers(frame) {
+        Some(mapping.frame_to_pointer(frame).number())
+    } else {
+        None
+    }
+}
+
+#[test]
+fn frames_lie_in_segments() {
+    let mapping = unwrap(SegmentMapping::new(&SEGMENTS));
+    for (number, wanted) in PLACES {
+        assert_equal_in(number, place_of(&mapping, number), wanted);
+    }
+    let none = unwrap(SegmentMapping::new(&[]));
+    assert_equal(place_of(&none, 0), None);
+}
+
+/// Segments, and the index of the first that is wrong.
+static TESTED: [(&[FrameSegment], Option<usize>); 12] = [
+    (&[], None),
+    (&[segment(0, u64::MAX, 0)], None),
+    (&[segment(1, u64::MAX, 0)], Some(0)),
+    (&[segment(0, u64::MAX, 1)], Some(0)),
+    (&[segment(0, 2, 0), segment(2, 1, 2)], None),
+    (&[segment(0, 2, 0), segment(1, 1, 2)], Some(1)),
+    (&[segment(0, 2, 0), segment(2, 1, 1)], Some(1)),
+    (&[segment(2, 1, 0), segment(0, 2, 1)], Some(1)),
+    (&[segment(0, 2, 1), segment(2, 1, 0)], None),
+    (&[segment(0, 2, 1), segment(2, 2, 0)], Some(1)),
+    (&[segment(0, 1, 0), segment(1, 1, 1), segment(2, 1, 0)], Some(2)),
+    (&[segment(0, 0, 0), segment(0, 1, 0), segment(1, 0, 9)], None),
+];
+
+#[test]
+fn segments_are_in_order() {
+    for (n, (segments, wanted)) in TESTED.iter().enumerate() {
+        let found = match SegmentMapping::new(segments) {
+            Ok(_) => None,
+            Err(refusal) => Some(refusal.segment),
+        };
+        assert_equal_in(n, found, *wanted);
+    }
+}
+
+/// The words of a hierarchy with its root in frame 0x11, given with the places of their tables, times 0x1000.
+const WORDS: [[u64; 3]; 4] = [[0x4000, 0, 0x2_0003], [0x0, 0, 0x2_3003], [0x5000, 0, 0x1_0003], [0x3000, 1, 0x1_f003]];
+
+#[test]
+fn a_hierarchy_lies_around_a_hole() {
+    let mut memory = memory_of(6, &[]);
+    for word in WORDS {
+        set_words(&mut memory, &word);
+    }
+    let (mapping, root) = (unwrap(SegmentMapping::new(&SEGMENTS)), frame_at(0x1_1000));
+    let address = VirtAddr::new_truncate(0x1abc);
+    let walked = unwrap_some(page_walk(&memory, &mapping, root, address));
+    assert_equal(walked.address.as_u64(), 0x1_fabc);
+    set_words(&mut memory, &[0x5000, 0, 0x1_2003]);
+    assert!(page_walk(&memory, &mapping, root, address).is_none());
+}
