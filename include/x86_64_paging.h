@@ -107,9 +107,10 @@
  * the spaces then keeps the others: below shared entries they see what it did, elsewhere they stay
  * as they were, and all fit together again. This is proved of the calls of the model (spaces_stay),
  * as long as the root's shared entries stay what they are, and which calls leave them is proved,
- * too (calls_keep_root_entries). Calls on spaces refuse everything else: they return
- * X64_SHARED_ENTRY, and nothing has changed, but for the pages that x64_space_map_list mapped
- * before. That they do so is tested.
+ * too (calls_keep_root_entries). Of x64_prepare of larger pages than 4 KiB, which is none of these,
+ * and of splits and joins (x86_64_paging_live.h) it is tested. Calls on spaces refuse everything
+ * else: they return X64_SHARED_ENTRY, and nothing has changed, but for the pages that
+ * x64_space_map_list mapped before. That they do so is tested.
  *
  *   x64_space_map, x64_space_map_with, x64_space_map_list, x64_space_prepare
  *                              if a shared entry above the page is 0, or lacks a parent flag
