@@ -3,8 +3,8 @@
  *
  * The library reads and changes page tables of four or five levels, as a processor in 64-bit mode
  * uses them. It maps, unmaps and translates pages of 4 KiB, 2 MiB and 1 GiB, lists what is mapped,
- * frees empty tables, and does what a processor does with an access. Each call is passed the tables
- * as an array: a kernel's own, those of a guest, or a copy of either.
+ * frees empty tables, and does what a processor does with an access. The tables are an array of the
+ * caller's: a kernel's own, those of a guest, or a copy of either.
  *
  * The library keeps no state and allocates nothing. It calls memcpy and memset of the C library
  * and nothing else, and takes less than 2 KB of stack. It is written in Rattle, which is Rust with
@@ -13,6 +13,40 @@
  *
  * There are two builds. The one for programs uses SSE registers of an x86-64-v2 processor (SSE4.1).
  * The one for kernels (tools/c_library --kernel) uses no SSE, x87 or MMX register and no red zone.
+ *
+ * SPACES AND POOLS
+ *
+ * A space is where tables are, and the root of some of them. A pool is a stack of frames that may
+ * become tables. This program makes both, tests them and maps a page:
+ *
+ *     #include "x86_64_paging.h"
+ *     static x64_table tables[64];
+ *     static uint64_t frames[64];
+ *     static bool marks[64];
+ *     int main(void) {
+ *         x64_space space = {tables, 64, 0x100, 0x100000, 4, 0, 0};
+ *         x64_pool pool = {frames, 64, 0};
+ *         for (uint64_t number = 0x101; number < 0x140; number++)
+ *             frames[pool.free_count++] = number * 4096;
+ *         if (x64_space_fits(&space, &pool, marks, 64) != X64_OK)
+ *             return 1;
+ *         uint64_t flags = X64_PRESENT | X64_WRITABLE;
+ *         return x64_space_map(&space, &pool, 0x400000, X64_SIZE_4KIB, 0x7000000, flags) != X64_OK;
+ *     }
+ *
+ * The tables are the frames 0x100 to 0x13f of physical memory, to which a kernel has a pointer in
+ * place of the array. The first of them, all zeros, is the root, with four levels of tables, and
+ * the others are free. The page at 0x400000 is mapped to the frame at 0x7000000, and three free
+ * frames became tables on the way to it.
+ *
+ * There is one x64_space for each root, and no field of it changes after it is made, so processors
+ * may share it without a lock. A pool changes with each call that takes frames from it or gives
+ * them back. Any pool will do for any space with these tables: one for each processor, for example.
+ *
+ * First come all calls on spaces, by task: tests, looking up, maps, changes, tables, more spaces,
+ * accesses, flushes. Exchanges of single words that processors use are in x86_64_paging_live.h. The
+ * raw calls follow below, whose descriptions have every detail: each call on a space passes its
+ * arguments on to one of them.
  *
  * HOW TABLES, FRAMES AND ADDRESSES GO TOGETHER
  *
@@ -37,52 +71,70 @@
  *    What a call writes through one pointer must not overlap what it reaches through another. Out
  *    parameters and marks may hold anything before a call.
  *
- * 2. The hierarchy is valid, which x64_is_valid tests: the root and all tables below it are in the
- *    array, no two entries name the same table, none names the root or frame 0, and no entry above
- *    level 3 has X64_HUGE_PAGE. An entry above level 1 that is not 0 and lacks X64_HUGE_PAGE names
- *    a table, whether it has X64_PRESENT or not.
+ * 2. The hierarchy of the space is valid, which x64_space_is_valid and x64_is_valid test: the root
+ *    and all tables below it are in the array, no two entries name the same table, none names the
+ *    root or frame 0, and no entry above level 3 has X64_HUGE_PAGE. An entry above level 1 that is
+ *    not 0 and lacks X64_HUGE_PAGE names a table, whether it has X64_PRESENT or not.
  *
- * 3. The pool fits the hierarchy, which x64_pool_fits tests: the hierarchy is valid, the free
- *    frames are distinct, each is in the array and is neither frame 0, nor the root, nor a table
- *    below it, and the pool's array has room for all frames that it may ever hold: those that are
- *    free, and those of the tables below the root. Room for as many frames as there are tables in
- *    the array is always enough.
+ * 3. The pool fits the hierarchy, which x64_space_fits and x64_pool_fits test: the hierarchy is
+ *    valid, the free frames are distinct, each is in the array and is neither frame 0, nor the
+ *    root, nor a table below it, and the pool's array has room for all frames that it may ever
+ *    hold: those that are free, and those of the tables below the root. Room for as many frames as
+ *    there are tables in the array is always enough.
  *
- * If several hierarchies share an array of tables and a pool, they must fit together with it, which
- * x64_spaces_fit tests: the pool fits each, no table of one is a table of another (but those below
- * shared entries of the roots), and the pool's array has room for the free frames, all roots and
- * the tables of all. x64_pool_fits looks at one hierarchy and can't see the others. Room for as
- * many frames as there are tables in the array is always enough.
+ * If several spaces have an array of tables in common, they must fit together with each pool, which
+ * x64_space_all_fit and x64_spaces_fit test: the pool fits each, no table of one is a table of
+ * another (but those below shared entries of the roots), and the pool's array has room for the free
+ * frames, all roots and the tables of all. No frame is in two pools. x64_pool_fits looks at one
+ * hierarchy and can't see the others. Room for as many frames as there are tables in the array is
+ * always enough.
  *
- * Between two calls the caller may add a frame to the pool: write its address to pool[free_count],
+ * Between two calls the caller may add a frame to a pool: write its address to frames[free_count],
  * and add one to free_count. It must be in the array of tables, not 0, neither free nor a root nor
- * in use as a table, and the array must have room for it beside the free frames and all tables
- * below the roots. Or the caller may take free frames for itself, the top ones first, by lowering
+ * in use as a table, and the pool must have room for it beside its free frames and all tables below
+ * the roots. Or the caller may take free frames for itself, the top ones first, by lowering
  * free_count.
  *
  * Conditions 2 and 3 hold again after every call, whatever its status. If only these calls change
- * the tables and the pool, it is enough to test them once. Each call checks its other arguments
+ * the tables and the pools, it is enough to test them once. Each call checks its other arguments
  * itself, and returns an X64_BAD_ status if one is wrong, whatever the tables hold.
  *
- * ADDRESS SPACES
+ * SPACES THAT SHARE ENTRIES
  *
- * Hierarchies that fit together are address spaces: each has a root of its own, all have one pool,
- * and their roots have the same entries at some indices, those from shared_from up to, but not
- * including, shared_to. A kernel that has the upper half for itself shares 256 to 512. With 0 to 0
- * nothing is shared. A call on one of the spaces then keeps the others: below shared entries they
- * see what it did, elsewhere they stay as they were, and all fit together again. This is proved of
- * all calls but x64_access, as long as the root's shared entries stay what they are. What changes
- * one in one root must not happen, or the caller has to do the same in all roots:
+ * Spaces made by x64_space_new have roots of their own, and in all of these the entries at some
+ * indices are the same: those from shared_from up to, but not including, shared_to. A kernel that
+ * has the upper half for itself shares 256 to 512. With 0 to 0 nothing is shared. A call on one of
+ * the spaces then keeps the others: below shared entries they see what it did, elsewhere they stay
+ * as they were, and all fit together again. This is proved of the calls of the model (spaces_stay),
+ * as long as the root's shared entries stay what they are, and which calls leave them is proved,
+ * too (calls_keep_root_entries). Of x64_prepare of larger pages than 4 KiB, which is none of these,
+ * and of splits and joins (x86_64_paging_live.h) it is tested. Calls on spaces refuse everything
+ * else: they return X64_SHARED_ENTRY, and nothing has changed, but for the pages that
+ * x64_space_map_list mapped before. That they do so is tested.
  *
- *   x64_map, x64_map_as_mapper, x64_map_range, x64_prepare
- *                        if the shared entry is 0, or lacks one of the parent flags
- *   x64_clean_up         over addresses below a shared entry, if all tables there are empty
- *   x64_set_table_flags  at the highest level
- *   x64_access           with mark, if the shared entry lacks X64_ACCESSED; so does a processor
+ *   x64_space_map, x64_space_map_with, x64_space_map_list, x64_space_prepare
+ *                              if a shared entry above the page is 0, or lacks a parent flag
+ *   x64_space_map_range, x64_space_map_range_with
+ *                              the same, of any page
+ *   x64_space_clean_up         if a page of the range is below a shared entry
+ *   x64_space_set_table_flags  at the highest level, if the entry is shared
+ *   x64_space_access           with mark, if it would set X64_ACCESSED in a shared entry
+ *   in x86_64_paging_live.h    exchanges of a shared entry; x64_space_join below one; and
+ *                              x64_space_access_live as x64_space_access
  *
- * So begin with one hierarchy, prepare a page of 1 GiB below each shared entry that will ever be
- * used (x64_prepare), with X64_ACCESSED among the parent flags, and make the others by
- * x64_new_space. No further test is needed then, as long as x64_clean_up finds a page below each.
+ * A processor that uses an entry sets X64_ACCESSED in it, in one root only. So shared entries have
+ * it from the start: x64_space_map gives it to all entries above a page.
+ *
+ * To begin, make one space with 0 to 0, which refuses nothing. Below each entry that will be shared
+ * prepare a page of 1 GiB (x64_space_prepare), for example at x64_space_first_page, with all parent
+ * flags that will ever be needed there: X64_PRESENT, X64_WRITABLE and X64_ACCESSED, and
+ * X64_USER_ACCESSIBLE if users get pages there. A shared entry that is 0 then stays 0 for good. Set
+ * shared_from and shared_to, leave all fields as they are from now on, and make the others by
+ * x64_space_new. No further test is needed.
+ *
+ * A copy of a space with 0 to 0 in place of its shared indices refuses nothing either. Who makes a
+ * call on that has to see to it that all roots have the same shared entries again before the next
+ * call: by leaving a page below each of them during a clean up, for example.
  *
  * Roots may also share in pairs, for example a kernel's root and a user's root of each process. It
  * is proved of the model that calls keep this, too (paired_spaces_stay). But x64_spaces_fit knows
@@ -94,7 +146,8 @@
  * reads ahead whatever it can reach, at any moment, and forgets when it likes. The library executes
  * no privileged instruction, so the caller flushes. What a call makes due depends on its status,
  * and x64_flush_after returns it. After an exchange of a word (x86_64_paging_live.h)
- * x64_flush_between does.
+ * x64_flush_between does. A call on a space makes due what the raw call does that it makes:
+ * x64_space_map and x64_space_map_list what x64_map does, for example.
  *
  *   call                      status            due
  *   x64_unmap                 X64_OK            the page: INVLPG of an address in it
@@ -108,18 +161,20 @@
  *                                               clear. If EFER.TCE is set (AMD), INVLPG isn't
  *                                               enough
  *   x64_map, x64_prepare      X64_OK            nothing; but everything, global pages too, if the
- *                                               parent flags have X64_NO_EXECUTE
+ *                                               parent flags have X64_NO_EXECUTE (those of
+ *                                               x64_space_map don't)
  *   x64_map_as_mapper,        any               the same, unless the status is X64_NOT_ALLOWED or
  *   x64_map_range                               an X64_BAD_ status
  *   x64_new_space             any               nothing
  *   x64_give_up_space         any               nothing; but before the call no processor uses the
  *                                               root, and no PCID holds it (see below)
  *
- * After any other status nothing is due. A flush of everything settles all that is due. An INVLPG
- * settles tables and its own page, and no other page: two pages want two, and if there are many,
- * flush everything. If everything is due for pages below entries that aren't shared, no global page
- * is among them (see X64_GLOBAL): then a load of CR3 with bit 63 clear flushes enough for the PCID
- * that it loads. This is by the manuals; the laws below don't count on it.
+ * After any other status nothing is due, nor after X64_SHARED_ENTRY. A flush of everything settles
+ * all that is due. An INVLPG settles tables and its own page, and no other page: two pages want
+ * two, and if there are many, flush everything. If everything is due for pages below entries that
+ * aren't shared, no global page is among them (see X64_GLOBAL): then a load of CR3 with bit 63
+ * clear flushes enough for the PCID that it loads. This is by the manuals; the laws below don't
+ * count on it.
  *
  * Who flushes: each processor that uses the root. If the page of the call, or a part of its range,
  * lies below entries that roots share, each processor that uses one of these roots.
@@ -135,13 +190,14 @@
  *   tables      until a frame that x64_clean_up freed is taken: by a map (x64_map,
  *               x64_map_as_mapper, x64_map_range), x64_prepare or x64_new_space with this pool, on
  *               whatever root, or by the caller. It may become another table or a root, which the
- *               processor would walk as the old one. The map of a page takes at most the last 3 free
- *               frames of the pool (4 with 5 levels), so it waits only if one of these was freed.
+ *               processor would walk as the old one. The map of a page takes at most the last 3
+ *               free frames of the pool (4 with 5 levels), so it waits only if one of these was
+ *               freed.
  *
- * x64_clean_up may put the frames of tables into an array of its own, which is passed as its pool
- * and has room for all tables below the root (x64_pool_fits). Then maps with another pool take none
- * of them meanwhile. After the flush the caller adds them to the pool, with their zeros. The laws
- * below know one pool, in whose order frames that were freed may come after others.
+ * A clean up may put the frames of tables into a pool of its own, which has room for all tables
+ * below the root (x64_pool_fits). Then maps with another pool take none of them meanwhile. After
+ * the flush the caller adds them to the pool, with their zeros. The laws below know one pool, in
+ * whose order frames that were freed may come after others.
  *
  * PCIDs (CR4.PCIDE): a PCID holds the root with which CR3 was last loaded under it. INVLPG flushes
  * for the PCID that is current, and global pages. A load of CR3 flushes for the PCID that it loads,
@@ -207,13 +263,13 @@
  *
  * WHAT MAY RUN AT THE SAME TIME
  *
- * 1. Calls that change one hierarchy run one at a time, and so do calls with one pool.
- * 2. Calls on hierarchies that own no frame in common may run at the same time, each with a pool of
- *    its own. So may calls on address spaces, as long as their pages and ranges lie below entries
- *    that aren't shared, no frame is in two pools, and all roots fit together with each pool
- *    (x64_spaces_fit). So a lock for each space is enough, and a pool for each processor.
- * 3. Calls below shared entries, of any address spaces, run one at a time. They may run beside
- *    those of 2 on other address spaces: these read and write none of the same words.
+ * 1. Calls that change one space run one at a time, and so do calls with one pool.
+ * 2. Calls on spaces that own no frame in common may run at the same time, each with a pool of its
+ *    own. So may calls on spaces that share entries, as long as their pages and ranges lie below
+ *    entries that aren't shared, no frame is in two pools, and all roots fit together with each
+ *    pool (x64_spaces_fit). So a lock for each space is enough, and a pool for each processor.
+ * 3. Calls below shared entries, of any spaces, run one at a time. They may run beside those of 2
+ *    on other spaces: these read and write none of the same words.
  * 4. Words of entries that name no table may be exchanged beside all of these calls, and beside
  *    each other, as long as no call touches the same word and no table on the way is freed between
  *    finding a word and exchanging it. x86_64_paging_live.h has the functions, and says more.
@@ -237,15 +293,22 @@
  * during calls that don't touch it (live_tables_fit, of one such entry: this is 4). No mark is lost
  * by exchanges (marks_are_never_lost), and reading and then writing loses some
  * (reading_and_writing_loses_marks: this is 5). That the functions write no words of others is
- * proved. That they read none is read in their source, and so is 3.
+ * proved. That they read none is read in their source, and so is 3. Tested are calls of several
+ * threads at the same time, each with a space and a pool of its own (tests/c/pools.c).
  *
- * WHAT IS NOT PROVED
+ * WHAT IS PROVED, AND WHAT ISN'T
  *
- * This file: the prover does not read it. tools/c_header compares it with the source: the functions
- * with their parameters and results, the fields of each struct with their types and their order,
- * and the numbers of the statuses. tools/c_library compares the functions declared below with those
- * that the library exports. The inline functions at the end of this file are tested, and so are
- * those of x86_64_paging_live.h.
+ * Proved is what the functions return and write that this file only declares, as their descriptions
+ * say it: the raw calls, x64_flush_after and x64_flush_between. The contract of the function of the
+ * same name in crates/x86_64_c/src carries it. The laws named above are theorems of these names.
+ *
+ * Not proved is this file: the prover does not read it. tools/c_header compares it with the source:
+ * the functions with their parameters and results, the fields of each struct with their types and
+ * their order, and the numbers of the statuses. tools/c_library compares the functions that are
+ * only declared with those that the library exports. The inline functions, among them all calls
+ * on spaces, are tested: that such a call passes the right arguments to its raw call, which is
+ * proved (tests/c/context.c), and that it refuses what is said above (tests/c/guards.c).
+ * x86_64_paging_live.h says what is tested of its functions.
  */
 #ifndef X86_64_PAGING_H
 #define X86_64_PAGING_H
@@ -278,8 +341,9 @@ extern "C" {
 /*
  * STATUSES
  *
- * Every function but x64_flush_after and x64_flush_between returns one of these. It writes its out
- * parameters only if it returns X64_OK, unless its description says otherwise.
+ * Every call but x64_flush_after and x64_flush_between returns one of these. It writes its out
+ * parameters only if it returns X64_OK, unless its description says otherwise. X64_HAS_TABLE,
+ * X64_CHANGED and X64_SHARED_ENTRY are returned by inline functions alone.
  *
  * X64_BAD_LEVELS and the statuses after it say that an argument is wrong; nothing has changed.
  * Arguments are checked before anything else: first the levels and the root of the hierarchy, then
@@ -300,6 +364,9 @@ enum {
     X64_PAGE_FAULT = 10,             /* the access ends in a page fault */
     X64_NO_TABLE = 11,               /* the access, or the walk, needs a table not in the array */
     X64_SPACE_IN_USE = 12,           /* an entry of the root that isn't shared isn't 0 */
+    X64_HAS_TABLE = 13,              /* the entry names a table: smaller pages, or room for them */
+    X64_CHANGED = 14,                /* the word isn't the one that was expected any more */
+    X64_SHARED_ENTRY = 15,           /* it might change a shared entry of the root: not done */
 
     X64_BAD_LEVELS = 16,  /* the number of levels isn't 4 or 5, or there is no such level */
     X64_BAD_ROOT = 17,    /* the root isn't the address of a frame in the array of tables */
@@ -310,6 +377,62 @@ enum {
     X64_BAD_ACCESS = 22,  /* the kind isn't one of the three, or physical_bits isn't 32 to 52 */
     X64_BAD_INDICES = 23  /* shared_from > shared_to, or shared_to > 512 */
 };
+
+/* Returns the name of a status, as "X64_OK", or "unknown status" if no status has this number. */
+static inline const char *x64_status_name(uint32_t status) {
+    switch (status) {
+    case X64_OK:
+        return "X64_OK";
+    case X64_NOT_MAPPED:
+        return "X64_NOT_MAPPED";
+    case X64_MORE:
+        return "X64_MORE";
+    case X64_NOT_VALID:
+        return "X64_NOT_VALID";
+    case X64_NOT_ALLOWED:
+        return "X64_NOT_ALLOWED";
+    case X64_FRAME_ALLOCATION_FAILED:
+        return "X64_FRAME_ALLOCATION_FAILED";
+    case X64_PARENT_ENTRY_HUGE_PAGE:
+        return "X64_PARENT_ENTRY_HUGE_PAGE";
+    case X64_PAGE_ALREADY_MAPPED:
+        return "X64_PAGE_ALREADY_MAPPED";
+    case X64_PAGE_NOT_MAPPED:
+        return "X64_PAGE_NOT_MAPPED";
+    case X64_INVALID_FRAME_ADDRESS:
+        return "X64_INVALID_FRAME_ADDRESS";
+    case X64_PAGE_FAULT:
+        return "X64_PAGE_FAULT";
+    case X64_NO_TABLE:
+        return "X64_NO_TABLE";
+    case X64_SPACE_IN_USE:
+        return "X64_SPACE_IN_USE";
+    case X64_HAS_TABLE:
+        return "X64_HAS_TABLE";
+    case X64_CHANGED:
+        return "X64_CHANGED";
+    case X64_SHARED_ENTRY:
+        return "X64_SHARED_ENTRY";
+    case X64_BAD_LEVELS:
+        return "X64_BAD_LEVELS";
+    case X64_BAD_ROOT:
+        return "X64_BAD_ROOT";
+    case X64_BAD_ARRAY:
+        return "X64_BAD_ARRAY";
+    case X64_BAD_ADDRESS:
+        return "X64_BAD_ADDRESS";
+    case X64_BAD_PAGE:
+        return "X64_BAD_PAGE";
+    case X64_BAD_FRAME:
+        return "X64_BAD_FRAME";
+    case X64_BAD_ACCESS:
+        return "X64_BAD_ACCESS";
+    case X64_BAD_INDICES:
+        return "X64_BAD_INDICES";
+    default:
+        return "unknown status";
+    }
+}
 
 /* What has to be flushed after a call. Each flush drops what those before it drop. */
 enum {
@@ -327,6 +450,7 @@ enum {
     X64_CALL_SET_TABLE_FLAGS = 3, /* x64_set_table_flags */
     X64_CALL_CLEAN_UP = 4         /* x64_clean_up */
 };
+
 
 /*
  * FLAGS
@@ -362,6 +486,25 @@ enum {
 typedef struct x64_table {
     uint64_t words[512];
 } x64_table;
+
+
+/* A space: what a root maps. Its fields stay as they are once it is made. */
+typedef struct x64_space {
+    x64_table *tables;    /* the tables */
+    size_t table_count;   /* how many they are */
+    uint64_t first;       /* the number of the frame that tables[0] is */
+    uint64_t root;        /* the physical address of the root table: CR3 without its flags */
+    uint64_t levels;      /* the number of levels of tables: 4 or 5 */
+    uint64_t shared_from; /* the first index of the root whose entry other spaces share */
+    uint64_t shared_to;   /* the first index after it whose entry they don't share */
+} x64_space;
+
+/* A pool: a stack of frames that may become tables. The last free one is handed out first. */
+typedef struct x64_pool {
+    uint64_t *frames;  /* the physical addresses of the free frames, and room for more */
+    size_t capacity;   /* for how many frames there is room */
+    size_t free_count; /* how many are free: frames[0] to frames[free_count - 1] */
+} x64_pool;
 
 /* A hierarchy of page tables in an array of tables. */
 typedef struct x64_hierarchy {
@@ -423,7 +566,7 @@ typedef struct x64_map_request {
     x64_page page;         /* the page */
     uint64_t frame;        /* where it is mapped to: a multiple of the page's size below 2^52 */
     uint64_t flags;        /* for its entry; X64_HUGE_PAGE is added for 2 MiB and 1 GiB */
-    uint64_t parent_flags; /* added to each entry above it: mostly X64_PRESENT | X64_WRITABLE */
+    uint64_t parent_flags; /* added to each entry above it, as x64_space_map does by itself */
 } x64_map_request;
 
 /* What a processor is set to, and has, as far as that decides accesses. */
@@ -453,6 +596,286 @@ typedef struct x64_outcome {
     uint64_t code;    /* X64_PAGE_FAULT: the error code */
     uint64_t level;   /* X64_PAGE_FAULT: the level of the last entry that was read */
 } x64_outcome;
+
+/*
+ * CALLS ON SPACES
+ *
+ * Each makes the raw call that its description begins with, and passes it the fields of the space
+ * and of the pool. That call's condition, its statuses and what it writes hold here, too; its
+ * description below says them in full. A call returns X64_SHARED_ENTRY only where this is said. It
+ * looks for this after wrong levels, roots and pages, and before everything else.
+ *
+ * The contract of the raw call carries what is said here, but for three things, which are tested:
+ * that these arguments are passed, the parent flags of x64_space_map among them; X64_SHARED_ENTRY;
+ * and that x64_space_map_list calls x64_map for one page after another.
+ *
+ * Any of them may return X64_BAD_LEVELS or X64_BAD_ROOT if the space's fields are wrong, and those
+ * with a pool X64_BAD_ARRAY if its free_count is greater than its capacity.
+ */
+
+/*
+ * Tests
+ */
+
+/* x64_spaces_fit, of this space alone: tests whether all calls on the space may be made with the
+ * pool. `marks` is working memory, with a mark for each table of the array. Returns X64_OK;
+ * X64_NOT_VALID, also if the root isn't in the array; X64_BAD_LEVELS; X64_BAD_ARRAY;
+ * X64_BAD_INDICES. */
+X64_NODISCARD
+static inline uint32_t x64_space_fits(const x64_space *space, const x64_pool *pool, bool *marks,
+                                      size_t mark_count);
+
+/* x64_spaces_fit, of all spaces that share entries with this one: these are their roots, with its
+ * own among them. With several pools, test each. */
+X64_NODISCARD
+static inline uint32_t x64_space_all_fit(const x64_space *space, const uint64_t *roots,
+                                         size_t root_count, const x64_pool *pool, bool *marks,
+                                         size_t mark_count);
+
+/* x64_is_valid: tests a space that has no pool. Returns X64_OK; X64_NOT_VALID; X64_BAD_ARRAY. */
+X64_NODISCARD
+static inline uint32_t x64_space_is_valid(const x64_space *space, bool *marks, size_t mark_count);
+
+/*
+ * Looking up. All but x64_space_translate take any tables, whatever they hold.
+ */
+
+/* x64_walk: where the processor arrives from an address, and with which rights. Returns X64_OK;
+ * X64_NOT_MAPPED; X64_BAD_ADDRESS. */
+X64_NODISCARD
+static inline uint32_t x64_space_walk(const x64_space *space, uint64_t address,
+                                      x64_walk_result *walked);
+
+/* x64_page_walk: the same, but it doesn't look at X64_NO_EXECUTE. */
+X64_NODISCARD
+static inline uint32_t x64_space_page_walk(const x64_space *space, uint64_t address,
+                                           x64_walked *walked);
+
+/* x64_entries: the entries that the walk to an address reads, from the root's on, and why it ends.
+ * There is room for `capacity` entries, at least as many as there are levels. */
+X64_NODISCARD
+static inline uint32_t x64_space_entries(const x64_space *space, uint64_t address,
+                                         x64_entry *entries, size_t capacity, size_t *count);
+
+/* x64_translate: the frame, size and flags of the page that contains an address, even if an entry
+ * of level 1 lacks X64_PRESENT. Returns X64_OK; X64_NOT_MAPPED; X64_BAD_ADDRESS. */
+X64_NODISCARD
+static inline uint32_t x64_space_translate(const x64_space *space, uint64_t address,
+                                           x64_translation *translation);
+
+/* x64_mappings: lists the pages that the processor can reach, from an address on. Returns X64_OK if
+ * these are all; X64_MORE if the array is full, and a call with from = *next goes on;
+ * X64_BAD_ADDRESS. */
+X64_NODISCARD
+static inline uint32_t x64_space_mappings(const x64_space *space, uint64_t from,
+                                          x64_mapping *mappings, size_t capacity, size_t *count,
+                                          uint64_t *next);
+
+/*
+ * Maps. They take free frames from the pool for tables that are missing: at most levels - 1 for a
+ * page. Nothing has to be flushed afterwards, unless parent flags have X64_NO_EXECUTE; but see SMEP
+ * and SMAP above.
+ */
+
+/* x64_map: maps a page of a size to a frame, or changes nothing. The entries above the page get the
+ * parent flags: those of X64_PRESENT, X64_WRITABLE and X64_USER_ACCESSIBLE that its flags have, and
+ * always X64_ACCESSED. If the page's own entry gets one of these later, by another call, those
+ * above it need it, too: pass it to x64_space_map_with. Returns X64_OK or one of these:
+ *   X64_SHARED_ENTRY             if a shared entry above the page is 0, or lacks a parent flag
+ *   X64_PAGE_ALREADY_MAPPED      if the page's entry isn't 0
+ *   X64_PARENT_ENTRY_HUGE_PAGE   if an entry above it maps a larger page
+ *   X64_FRAME_ALLOCATION_FAILED  if too few frames are free
+ *   X64_NOT_ALLOWED              if the flags can't be set, or lack X64_PRESENT, and an entry above
+ *                                the page would lack it, too
+ *   X64_BAD_PAGE; X64_BAD_FRAME */
+X64_NODISCARD
+static inline uint32_t x64_space_map(const x64_space *space, x64_pool *pool, uint64_t page,
+                                     uint64_t size, uint64_t frame, uint64_t flags);
+
+/* x64_map: the same with the parent flags of the request, and no others. */
+X64_NODISCARD
+static inline uint32_t x64_space_map_with(const x64_space *space, x64_pool *pool,
+                                          const x64_map_request *request);
+
+/* x64_prepare: makes the tables above a page of a size, with these parent flags, or changes
+ * nothing. The page's own entry stays. A map of the page then needs no free frame, and an exchange
+ * of its word no table: for handlers that may not fail, and for entries that will be shared.
+ * Returns X64_OK; X64_SHARED_ENTRY as x64_space_map_with; X64_PARENT_ENTRY_HUGE_PAGE;
+ * X64_FRAME_ALLOCATION_FAILED; X64_NOT_ALLOWED; X64_BAD_PAGE. */
+X64_NODISCARD
+static inline uint32_t x64_space_prepare(const x64_space *space, x64_pool *pool, uint64_t page,
+                                         uint64_t size, uint64_t parent_flags);
+
+/* x64_map, of each page in turn: maps `count` pages, from `page` on, to as many frames in any
+ * order, with the parent flags of x64_space_map, and stops at the first page that is refused.
+ * Writes to *done, whatever it returns, how many are mapped. Returns X64_OK if all are, or what
+ * x64_space_map returned for the next page, which has changed nothing: X64_BAD_PAGE also behind the
+ * last page of the address space. */
+X64_NODISCARD
+static inline uint32_t x64_space_map_list(const x64_space *space, x64_pool *pool, uint64_t page,
+                                          uint64_t size, const uint64_t *frames, size_t count,
+                                          uint64_t flags, size_t *done);
+
+/* x64_map_range: maps `count` pages, from first_page on, to as many frames that follow each other,
+ * with the parent flags of x64_space_map. It is faster than maps of each page. Writes to *done how
+ * many are mapped, unless it returns X64_SHARED_ENTRY, X64_NOT_ALLOWED or an X64_BAD_ status. A
+ * page that it refuses may leave parent flags and new tables: x64_map_range says which. */
+X64_NODISCARD
+static inline uint32_t x64_space_map_range(const x64_space *space, x64_pool *pool,
+                                           uint64_t first_page, uint64_t size, uint64_t count,
+                                           uint64_t first_frame, uint64_t flags, uint64_t *done);
+
+/* x64_map_range: the same with the parent flags of the request, which names the first page. */
+X64_NODISCARD
+static inline uint32_t x64_space_map_range_with(const x64_space *space, x64_pool *pool,
+                                                const x64_map_request *request, uint64_t count,
+                                                uint64_t *done);
+
+/*
+ * Changes of pages. They free no table, and change no entry of the root. While processors use the
+ * page, a mark that one sets may be lost: x86_64_paging_live.h has changes that lose none.
+ */
+
+/* x64_unmap: the page's entry becomes 0, and its frame is written to *frame. Returns X64_OK;
+ * X64_PAGE_NOT_MAPPED; X64_PARENT_ENTRY_HUGE_PAGE; X64_INVALID_FRAME_ADDRESS; X64_BAD_PAGE. */
+X64_NODISCARD
+static inline uint32_t x64_space_unmap(const x64_space *space, uint64_t page, uint64_t size,
+                                       uint64_t *frame);
+
+/* x64_unmap_range: the same of `count` pages, but at most `capacity`. It passes over pages that it
+ * can't unmap. Returns X64_OK; X64_MORE if there are pages left; X64_BAD_PAGE. */
+X64_NODISCARD
+static inline uint32_t x64_space_unmap_range(const x64_space *space, uint64_t first_page,
+                                             uint64_t size, uint64_t count, uint64_t *frames,
+                                             size_t capacity, size_t *frame_count, uint64_t *done);
+
+/* x64_update_flags: sets the flags of the page's entry. Returns X64_OK; X64_PAGE_NOT_MAPPED;
+ * X64_PARENT_ENTRY_HUGE_PAGE; X64_NOT_ALLOWED; X64_BAD_PAGE. */
+X64_NODISCARD
+static inline uint32_t x64_space_update_flags(const x64_space *space, uint64_t page, uint64_t size,
+                                              uint64_t flags);
+
+/* x64_update_flags_range: the same of `count` pages. It passes over pages whose flags it can't set,
+ * and writes to *changed how many the others are. Returns X64_OK; X64_NOT_ALLOWED; X64_BAD_PAGE. */
+X64_NODISCARD
+static inline uint32_t x64_space_update_flags_range(const x64_space *space, uint64_t first_page,
+                                                    uint64_t size, uint64_t count, uint64_t flags,
+                                                    uint64_t *changed);
+
+/*
+ * Tables
+ */
+
+/* x64_clean_up: frees the empty tables on the way to the pages of 4 KiB from first_page to
+ * last_page, and puts their frames into the pool, which may be another one than that of the maps.
+ * Returns X64_OK; X64_SHARED_ENTRY if one of these pages is below a shared entry, whether or not a
+ * table there is empty; X64_BAD_PAGE. */
+X64_NODISCARD
+static inline uint32_t x64_space_clean_up(const x64_space *space, x64_pool *pool,
+                                          uint64_t first_page, uint64_t last_page);
+
+/* The starts of the first and of the last page of 4 KiB below the root's entry at an index from 0
+ * to 511. A space that shares 256 to 512 cleans up from x64_space_first_page(space, 0) to
+ * x64_space_last_page(space, 255). */
+static inline uint64_t x64_space_first_page(const x64_space *space, uint64_t index);
+static inline uint64_t x64_space_last_page(const x64_space *space, uint64_t index);
+
+/* x64_set_table_flags: sets the flags of the entry at a level on the way to a page. Returns X64_OK;
+ * X64_SHARED_ENTRY if that is a shared entry of the root; X64_PAGE_NOT_MAPPED;
+ * X64_PARENT_ENTRY_HUGE_PAGE; X64_NOT_ALLOWED; X64_BAD_PAGE. */
+X64_NODISCARD
+static inline uint32_t x64_space_set_table_flags(const x64_space *space, uint64_t page,
+                                                 uint64_t size, uint64_t level, uint64_t flags);
+
+/*
+ * More spaces
+ */
+
+/* x64_new_space: makes one more space, with the same shared entries as this one and nothing else,
+ * and writes it to *other. Its root is a free frame of the pool. If no entries are shared, nothing
+ * is mapped in it, no kernel either. Returns X64_OK; X64_FRAME_ALLOCATION_FAILED if no frame is
+ * free; X64_BAD_INDICES. */
+X64_NODISCARD
+static inline uint32_t x64_space_new(const x64_space *space, x64_pool *pool, x64_space *other);
+
+/* x64_give_up_space: puts the root's frame into the pool. Before, take all pages away that aren't
+ * below shared entries, and clean up; and no processor uses the root any more. Returns X64_OK;
+ * X64_SPACE_IN_USE if an entry that isn't shared isn't 0; X64_BAD_INDICES. */
+X64_NODISCARD
+static inline uint32_t x64_space_give_up(const x64_space *space, x64_pool *pool);
+
+/* Returns whether an address is below a shared entry of the root. */
+static inline bool x64_space_shares(const x64_space *space, uint64_t address);
+
+/*
+ * Accesses
+ */
+
+/* x64_access: what a processor does with an access, and the marks that it sets. Returns X64_OK;
+ * X64_PAGE_FAULT; X64_NO_TABLE; X64_SHARED_ENTRY if it arrives and would set X64_ACCESSED in a
+ * shared entry; X64_BAD_ACCESS; X64_BAD_ADDRESS. */
+X64_NODISCARD
+static inline uint32_t x64_space_access(const x64_space *space, const x64_controls *controls,
+                                        const x64_access_request *request, x64_outcome *outcome);
+
+/*
+ * Flushes
+ */
+
+/*
+ * Returns what has to be flushed after a call that returned this status: one of the X64_FLUSH_
+ * numbers, by the table under TABLES THAT A PROCESSOR USES. `call` is one of the X64_CALL_ numbers.
+ * `parent_flags` are those of a map, and mean nothing for other calls. For a number that is no call
+ * it returns X64_FLUSH_EVERYTHING, unless the status is X64_NOT_ALLOWED or an X64_BAD_ status.
+ *
+ * It is proved that this is the least flush that settles all that the model makes due after a call
+ * (flush_after in crates/x86_64_model/specs/Flushing.antt), and of the model that such flushes are
+ * enough (see there). For a range X64_FLUSH_PAGE settles what each page makes due, by an INVLPG for
+ * each. The model's map is x64_map_as_mapper: after a refused x64_map nothing has to be flushed,
+ * whatever this returns.
+ *
+ * A caller who knows more may flush less. Nothing has to be flushed after a map if x64_entries
+ * reads the same entries above the page before the call and after it; nor after x64_update_flags if
+ * the entry isn't 0, has each of X64_PRESENT, X64_WRITABLE, X64_USER_ACCESSIBLE, X64_ACCESSED and
+ * X64_DIRTY that it had, hasn't got X64_NO_EXECUTE, and has the bits 3, 4, 7, 8 and 59 to 62 as
+ * they were: caching, X64_GLOBAL and the protection key. With SMEP or SMAP it must not have got
+ * X64_USER_ACCESSIBLE either.
+ */
+X64_NODISCARD
+uint32_t x64_flush_after(uint32_t call, uint64_t parent_flags, uint32_t status);
+
+/*
+ * Returns what has to be flushed after the word of an entry of a level, which was `old`, was
+ * exchanged for `word` by one atomic instruction (x86_64_paging_live.h has such exchanges):
+ * X64_FLUSH_NOTHING, X64_FLUSH_PAGE (INVLPG of an address in the page), or X64_FLUSH_EVERYTHING if
+ * the entry names a table. Level 1 is that of tables whose entries map pages of 4 KiB. TABLES THAT
+ * A PROCESSOR USES says which processors flush, and when.
+ *
+ * It is nothing if `old` lacks X64_PRESENT, since a processor caches no such entry. Else it is
+ * nothing if the address, X64_HUGE_PAGE and the bits 3, 4, 8 and 59 to 62 stay, none of PRESENT,
+ * WRITABLE, USER_ACCESSIBLE, ACCESSED and DIRTY goes, and neither NO_EXECUTE nor USER_ACCESSIBLE
+ * comes: a page that becomes a user's takes rights from ring 0 under SMEP and SMAP.
+ *
+ * It is proved that this is the least flush that settles all that the model makes due after the
+ * exchange (due_between in crates/x86_64_model/specs/Flushing.antt), and of the model that such
+ * flushes are enough, on one processor with one root (exchanges_may_happen,
+ * flushes_after_calls_are_enough). There an entry that isn't 0 and lacks X64_PRESENT isn't
+ * exchanged while everything is due for an entry above it.
+ *
+ * After "nothing" a processor may still fault once by what it cached: the handler finds that the
+ * entry allows the access, and returns. Who clears ACCESSED only to learn which pages are in use
+ * may leave the flush out: a processor may then use the page without setting it again.
+ */
+X64_NODISCARD
+uint32_t x64_flush_between(uint64_t level, uint64_t old, uint64_t word);
+
+/*
+ * RAW CALLS
+ *
+ * The functions of the library. They take a hierarchy, which is a space without its tables, and the
+ * arrays with their lengths, and refuse nothing because of shared entries. Use them for what no
+ * call on a space does, such as x64_map_as_mapper, and for tables that belong to nobody's space.
+ */
 
 /*
  * CALLS THAT READ
@@ -845,53 +1268,6 @@ uint32_t x64_clean_up(const x64_hierarchy *hierarchy, x64_table *tables, size_t 
                       uint64_t last_page);
 
 /*
- * Returns what has to be flushed after a call that returned this status: one of the X64_FLUSH_
- * numbers, by the table under TABLES THAT A PROCESSOR USES. `call` is one of the X64_CALL_ numbers.
- * `parent_flags` are those of a map, and mean nothing for other calls. For a number that is no call
- * it returns X64_FLUSH_EVERYTHING, unless the status is X64_NOT_ALLOWED or an X64_BAD_ status.
- *
- * It is proved that this is the least flush that settles all that the model makes due after a call
- * (flush_after in crates/x86_64_model/specs/Flushing.antt), and of the model that such flushes are
- * enough (see there). For a range X64_FLUSH_PAGE settles what each page makes due, by an INVLPG for
- * each. The model's map is x64_map_as_mapper: after a refused x64_map nothing has to be flushed,
- * whatever this returns.
- *
- * A caller who knows more may flush less. Nothing has to be flushed after a map if x64_entries
- * reads the same entries above the page before the call and after it; nor after x64_update_flags if
- * the entry isn't 0, has each of X64_PRESENT, X64_WRITABLE, X64_USER_ACCESSIBLE, X64_ACCESSED and
- * X64_DIRTY that it had, hasn't got X64_NO_EXECUTE, and has the bits 3, 4, 7, 8 and 59 to 62 as
- * they were: caching, X64_GLOBAL and the protection key. With SMEP or SMAP it must not have got
- * X64_USER_ACCESSIBLE either.
- */
-X64_NODISCARD
-uint32_t x64_flush_after(uint32_t call, uint64_t parent_flags, uint32_t status);
-
-/*
- * Returns what has to be flushed after the word of an entry of a level, which was `old`, was
- * exchanged for `word` by one atomic instruction (x86_64_paging_live.h has such exchanges):
- * X64_FLUSH_NOTHING, X64_FLUSH_PAGE (INVLPG of an address in the page), or X64_FLUSH_EVERYTHING if
- * the entry names a table. Level 1 is that of tables whose entries map pages of 4 KiB. TABLES THAT
- * A PROCESSOR USES says which processors flush, and when.
- *
- * It is nothing if `old` lacks X64_PRESENT, since a processor caches no such entry. Else it is
- * nothing if the address, X64_HUGE_PAGE and the bits 3, 4, 8 and 59 to 62 stay, none of PRESENT,
- * WRITABLE, USER_ACCESSIBLE, ACCESSED and DIRTY goes, and neither NO_EXECUTE nor USER_ACCESSIBLE
- * comes: a page that becomes a user's takes rights from ring 0 under SMEP and SMAP.
- *
- * It is proved that this is the least flush that settles all that the model makes due after the
- * exchange (due_between in crates/x86_64_model/specs/Flushing.antt), and of the model that such
- * flushes are enough, on one processor with one root (exchanges_may_happen,
- * flushes_after_calls_are_enough). There an entry that isn't 0 and lacks X64_PRESENT isn't
- * exchanged while everything is due for an entry above it.
- *
- * After "nothing" a processor may still fault once by what it cached: the handler finds that the
- * entry allows the access, and returns. Who clears ACCESSED only to learn which pages are in use
- * may leave the flush out: a processor may then use the page without setting it again.
- */
-X64_NODISCARD
-uint32_t x64_flush_between(uint64_t level, uint64_t old, uint64_t word);
-
-/*
  * Makes one more address space. The last free frame of the pool becomes its root: it gets the
  * template's entries from shared_from up to, but not including, shared_to, and all its other words
  * become 0. Its physical address is written to *root, and *free_count decreases by one. If the
@@ -932,77 +1308,29 @@ uint32_t x64_give_up_space(const x64_hierarchy *hierarchy, x64_table *tables, si
                            uint64_t *pool, size_t capacity, size_t *free_count,
                            uint64_t shared_from, uint64_t shared_to);
 
-/* Returns the name of a status, as "X64_OK", or "unknown status" if no status has this number. */
-static inline const char *x64_status_name(uint32_t status) {
-    switch (status) {
-    case X64_OK:
-        return "X64_OK";
-    case X64_NOT_MAPPED:
-        return "X64_NOT_MAPPED";
-    case X64_MORE:
-        return "X64_MORE";
-    case X64_NOT_VALID:
-        return "X64_NOT_VALID";
-    case X64_NOT_ALLOWED:
-        return "X64_NOT_ALLOWED";
-    case X64_FRAME_ALLOCATION_FAILED:
-        return "X64_FRAME_ALLOCATION_FAILED";
-    case X64_PARENT_ENTRY_HUGE_PAGE:
-        return "X64_PARENT_ENTRY_HUGE_PAGE";
-    case X64_PAGE_ALREADY_MAPPED:
-        return "X64_PAGE_ALREADY_MAPPED";
-    case X64_PAGE_NOT_MAPPED:
-        return "X64_PAGE_NOT_MAPPED";
-    case X64_INVALID_FRAME_ADDRESS:
-        return "X64_INVALID_FRAME_ADDRESS";
-    case X64_PAGE_FAULT:
-        return "X64_PAGE_FAULT";
-    case X64_NO_TABLE:
-        return "X64_NO_TABLE";
-    case X64_SPACE_IN_USE:
-        return "X64_SPACE_IN_USE";
-    case X64_BAD_LEVELS:
-        return "X64_BAD_LEVELS";
-    case X64_BAD_ROOT:
-        return "X64_BAD_ROOT";
-    case X64_BAD_ARRAY:
-        return "X64_BAD_ARRAY";
-    case X64_BAD_ADDRESS:
-        return "X64_BAD_ADDRESS";
-    case X64_BAD_PAGE:
-        return "X64_BAD_PAGE";
-    case X64_BAD_FRAME:
-        return "X64_BAD_FRAME";
-    case X64_BAD_ACCESS:
-        return "X64_BAD_ACCESS";
-    case X64_BAD_INDICES:
-        return "X64_BAD_INDICES";
-    default:
-        return "unknown status";
-    }
+/*
+ * THE INLINE FUNCTIONS
+ *
+ * Helpers first, which programs may use, too. The rest is what the calls on spaces do, with no more
+ * to know for callers.
+ */
+
+/* Returns the level of the entries that map pages of a size: 1, 2 or 3, or 0 if no pages have this
+ * size. */
+static inline uint64_t x64_level_of(uint64_t size) {
+    return size == X64_SIZE_4KIB ? 1 : size == X64_SIZE_2MIB ? 2 : size == X64_SIZE_1GIB ? 3 : 0;
 }
 
-/*
- * A CONTEXT
- *
- * An x64_space is all that the calls above are passed again and again, and for each call on one
- * hierarchy there is one on it. It passes its arguments on and returns what that call returns, so
- * conditions, statuses and what is written are the same. A page is passed as its start and size.
- *
- * Address spaces that have one pool have one free_count. So use one x64_space for all of them, and
- * set its root to that of the address space which a call is about.
- */
-typedef struct x64_space {
-    x64_table *tables;  /* the tables */
-    size_t table_count; /* how many they are */
-    uint64_t first;     /* the number of the frame that tables[0] is */
-    uint64_t root;      /* the physical address of the root table */
-    uint64_t levels;    /* the number of levels of tables: 4 or 5 */
-    uint64_t *pool;     /* the free frames, and room for more */
-    size_t capacity;    /* for how many frames there is room */
-    size_t free_count;  /* how many are free: pool[0] to pool[free_count - 1] */
-} x64_space;
+/* Returns how many bytes an entry of a level from 1 to 5 stands for. */
+static inline uint64_t x64_span_of(uint64_t level) { return UINT64_C(1) << (3 + 9 * level); }
 
+/* Returns whether an address is canonical with 4 or 5 levels. */
+static inline bool x64_is_canonical(uint64_t levels, uint64_t address) {
+    uint64_t top = address >> (11 + 9 * levels);
+    return top == 0 || top == UINT64_MAX >> (11 + 9 * levels);
+}
+
+/* Returns the hierarchy of a space, for raw calls. */
 static inline x64_hierarchy x64_space_hierarchy(const x64_space *space) {
     x64_hierarchy hierarchy;
     hierarchy.first = space->first;
@@ -1011,6 +1339,7 @@ static inline x64_hierarchy x64_space_hierarchy(const x64_space *space) {
     return hierarchy;
 }
 
+/* Returns the page of a size that starts at an address. */
 static inline x64_page x64_page_of(uint64_t start, uint64_t size) {
     x64_page page;
     page.start = start;
@@ -1018,36 +1347,132 @@ static inline x64_page x64_page_of(uint64_t start, uint64_t size) {
     return page;
 }
 
-/* The request to map a page as the Rust crate's map_to does: the entries above it get those of
- * X64_PRESENT, X64_WRITABLE and X64_USER_ACCESSIBLE that its own flags have. */
+/* Returns the request of x64_space_map, whose parent flags the caller may change. */
 static inline x64_map_request x64_map_request_of(uint64_t page, uint64_t size, uint64_t frame,
                                                  uint64_t flags) {
     x64_map_request request;
     request.page = x64_page_of(page, size);
     request.frame = frame;
     request.flags = flags;
-    request.parent_flags = flags & (X64_PRESENT | X64_WRITABLE | X64_USER_ACCESSIBLE);
+    request.parent_flags =
+        (flags & (X64_PRESENT | X64_WRITABLE | X64_USER_ACCESSIBLE)) | X64_ACCESSED;
     return request;
 }
 
-/* x64_page_walk */
-X64_NODISCARD
-static inline uint32_t x64_space_page_walk(const x64_space *space, uint64_t address,
-                                           x64_walked *walked) {
-    x64_hierarchy hierarchy = x64_space_hierarchy(space);
-    return x64_page_walk(&hierarchy, space->tables, space->table_count, address, walked);
+/* Returns the index of an address in the root. */
+static inline uint64_t x64_space_index(const x64_space *space, uint64_t address) {
+    return address >> (3 + 9 * space->levels) & 511;
 }
 
-/* x64_walk */
-X64_NODISCARD
+/* Returns whether the entry of the root at an index is shared. */
+static inline bool x64_space_shares_index(const x64_space *space, uint64_t index) {
+    return space->shared_from <= index && index < space->shared_to;
+}
+
+static inline bool x64_space_shares(const x64_space *space, uint64_t address) {
+    return x64_space_shares_index(space, x64_space_index(space, address));
+}
+
+/* Returns whether a space's number of levels and its root are right. */
+static inline bool x64_space_has_root(const x64_space *space) {
+    return (space->levels == 4 || space->levels == 5) && space->root % 4096 == 0 &&
+           space->root < UINT64_C(1) << 52 &&
+           space->root / 4096 - space->first < space->table_count;
+}
+
+/* Returns whether a space's root can be read, and these pages exist: at least one, of a size that
+ * pages have, all in one half of the address space. */
+static inline bool x64_space_has_pages(const x64_space *space, const x64_page *first,
+                                       uint64_t count) {
+    if (!x64_space_has_root(space) || x64_level_of(first->size) == 0 ||
+        first->start % first->size != 0 || !x64_is_canonical(space->levels, first->start))
+        return false;
+    uint64_t half = UINT64_C(1) << (11 + 9 * space->levels);
+    return 0 < count && count <= (half - (first->start & (half - 1))) / first->size;
+}
+
+/* Returns where the root's entry above an address stands, if it is shared. Otherwise, and if the
+ * root is wrong, returns null. */
+static inline uint64_t *x64_space_shared_word(const x64_space *space, uint64_t address) {
+    return x64_space_has_root(space) && x64_space_shares(space, address)
+               ? &space->tables[space->root / 4096 - space->first]
+                      .words[x64_space_index(space, address)]
+               : NULL;
+}
+
+/* Returns whether a map of pages, if they exist, might change a shared entry: whether one above
+ * them is 0, or lacks a parent flag. */
+static inline bool x64_space_forbids_map(const x64_space *space, const x64_page *first,
+                                         uint64_t count, uint64_t parent_flags) {
+    if (!x64_space_has_pages(space, first, count))
+        return false;
+    uint64_t last = x64_space_index(space, first->start + (count - 1) * first->size);
+    for (uint64_t index = x64_space_index(space, first->start); index <= last; index++) {
+        const uint64_t *word = x64_space_shared_word(space, x64_space_first_page(space, index));
+        if (word != NULL && (*word == 0 || (parent_flags & ~*word) != 0))
+            return true;
+    }
+    return false;
+}
+
+/* Returns whether one of the pages of 4 KiB from one to another, if both exist, is below a shared
+ * entry. */
+static inline bool x64_space_shares_pages(const x64_space *space, uint64_t first_page,
+                                          uint64_t last_page) {
+    const x64_page first = x64_page_of(first_page, X64_SIZE_4KIB),
+                   last = x64_page_of(last_page, X64_SIZE_4KIB);
+    return x64_space_has_pages(space, &first, 1) && x64_space_has_pages(space, &last, 1) &&
+           first_page <= last_page && space->shared_from < space->shared_to &&
+           x64_space_index(space, first_page) < space->shared_to &&
+           space->shared_from <= x64_space_index(space, last_page);
+}
+
+/* Returns whether a call on the entry of a page at a level might change a shared entry. */
+static inline bool x64_space_forbids_level(const x64_space *space, const x64_page *page,
+                                           uint64_t level) {
+    return level == space->levels && x64_space_has_pages(space, page, 1) &&
+           x64_space_shares(space, page->start);
+}
+
+static inline uint64_t x64_space_first_page(const x64_space *space, uint64_t index) {
+    uint64_t start = index << (3 + 9 * space->levels);
+    return index < 256 ? start : start | UINT64_MAX << (11 + 9 * space->levels);
+}
+
+static inline uint64_t x64_space_last_page(const x64_space *space, uint64_t index) {
+    return x64_space_first_page(space, index) + (x64_span_of(space->levels) - X64_SIZE_4KIB);
+}
+
+static inline uint32_t x64_space_fits(const x64_space *space, const x64_pool *pool, bool *marks,
+                                      size_t mark_count) {
+    return x64_space_all_fit(space, &space->root, 1, pool, marks, mark_count);
+}
+
+static inline uint32_t x64_space_all_fit(const x64_space *space, const uint64_t *roots,
+                                         size_t root_count, const x64_pool *pool, bool *marks,
+                                         size_t mark_count) {
+    return x64_spaces_fit(space->first, space->levels, space->tables, space->table_count, roots,
+                          root_count, space->shared_from, space->shared_to, pool->frames,
+                          pool->capacity, pool->free_count, marks, mark_count);
+}
+
+static inline uint32_t x64_space_is_valid(const x64_space *space, bool *marks, size_t mark_count) {
+    x64_hierarchy hierarchy = x64_space_hierarchy(space);
+    return x64_is_valid(&hierarchy, space->tables, space->table_count, marks, mark_count);
+}
+
 static inline uint32_t x64_space_walk(const x64_space *space, uint64_t address,
                                       x64_walk_result *walked) {
     x64_hierarchy hierarchy = x64_space_hierarchy(space);
     return x64_walk(&hierarchy, space->tables, space->table_count, address, walked);
 }
 
-/* x64_entries */
-X64_NODISCARD
+static inline uint32_t x64_space_page_walk(const x64_space *space, uint64_t address,
+                                           x64_walked *walked) {
+    x64_hierarchy hierarchy = x64_space_hierarchy(space);
+    return x64_page_walk(&hierarchy, space->tables, space->table_count, address, walked);
+}
+
 static inline uint32_t x64_space_entries(const x64_space *space, uint64_t address,
                                          x64_entry *entries, size_t capacity, size_t *count) {
     x64_hierarchy hierarchy = x64_space_hierarchy(space);
@@ -1055,16 +1480,12 @@ static inline uint32_t x64_space_entries(const x64_space *space, uint64_t addres
                        count);
 }
 
-/* x64_translate */
-X64_NODISCARD
 static inline uint32_t x64_space_translate(const x64_space *space, uint64_t address,
                                            x64_translation *translation) {
     x64_hierarchy hierarchy = x64_space_hierarchy(space);
     return x64_translate(&hierarchy, space->tables, space->table_count, address, translation);
 }
 
-/* x64_mappings */
-X64_NODISCARD
 static inline uint32_t x64_space_mappings(const x64_space *space, uint64_t from,
                                           x64_mapping *mappings, size_t capacity, size_t *count,
                                           uint64_t *next) {
@@ -1073,72 +1494,61 @@ static inline uint32_t x64_space_mappings(const x64_space *space, uint64_t from,
                         count, next);
 }
 
-/* x64_is_valid */
-X64_NODISCARD
-static inline uint32_t x64_space_is_valid(const x64_space *space, bool *marks, size_t mark_count) {
-    x64_hierarchy hierarchy = x64_space_hierarchy(space);
-    return x64_is_valid(&hierarchy, space->tables, space->table_count, marks, mark_count);
-}
-
-/* x64_pool_fits */
-X64_NODISCARD
-static inline uint32_t x64_space_pool_fits(const x64_space *space, bool *marks, size_t mark_count) {
-    x64_hierarchy hierarchy = x64_space_hierarchy(space);
-    return x64_pool_fits(&hierarchy, space->tables, space->table_count, space->pool,
-                         space->capacity, space->free_count, marks, mark_count);
-}
-
-/* x64_access */
-X64_NODISCARD
-static inline uint32_t x64_space_access(const x64_space *space, const x64_controls *controls,
-                                        const x64_access_request *request, x64_outcome *outcome) {
-    x64_hierarchy hierarchy = x64_space_hierarchy(space);
-    return x64_access(&hierarchy, space->tables, space->table_count, controls, request, outcome);
-}
-
-/* x64_map, with the parent flags of x64_map_request_of */
-X64_NODISCARD
-static inline uint32_t x64_space_map(x64_space *space, uint64_t page, uint64_t size, uint64_t frame,
-                                     uint64_t flags) {
-    x64_hierarchy hierarchy = x64_space_hierarchy(space);
+static inline uint32_t x64_space_map(const x64_space *space, x64_pool *pool, uint64_t page,
+                                     uint64_t size, uint64_t frame, uint64_t flags) {
     x64_map_request request = x64_map_request_of(page, size, frame, flags);
-    return x64_map(&hierarchy, space->tables, space->table_count, space->pool, space->capacity,
-                   &space->free_count, &request);
+    return x64_space_map_with(space, pool, &request);
 }
 
-/* x64_map_as_mapper, with the parent flags of x64_map_request_of */
-X64_NODISCARD
-static inline uint32_t x64_space_map_as_mapper(x64_space *space, uint64_t page, uint64_t size,
-                                               uint64_t frame, uint64_t flags) {
+static inline uint32_t x64_space_map_with(const x64_space *space, x64_pool *pool,
+                                          const x64_map_request *request) {
     x64_hierarchy hierarchy = x64_space_hierarchy(space);
-    x64_map_request request = x64_map_request_of(page, size, frame, flags);
-    return x64_map_as_mapper(&hierarchy, space->tables, space->table_count, space->pool,
-                             space->capacity, &space->free_count, &request);
+    if (x64_space_forbids_map(space, &request->page, 1, request->parent_flags))
+        return X64_SHARED_ENTRY;
+    return x64_map(&hierarchy, space->tables, space->table_count, pool->frames, pool->capacity,
+                   &pool->free_count, request);
 }
 
-/* x64_prepare */
-X64_NODISCARD
-static inline uint32_t x64_space_prepare(x64_space *space, uint64_t page, uint64_t size,
-                                         uint64_t parent_flags) {
+static inline uint32_t x64_space_prepare(const x64_space *space, x64_pool *pool, uint64_t page,
+                                         uint64_t size, uint64_t parent_flags) {
     x64_hierarchy hierarchy = x64_space_hierarchy(space);
     x64_page prepared = x64_page_of(page, size);
-    return x64_prepare(&hierarchy, space->tables, space->table_count, space->pool, space->capacity,
-                       &space->free_count, &prepared, parent_flags);
+    if (x64_space_forbids_map(space, &prepared, 1, parent_flags))
+        return X64_SHARED_ENTRY;
+    return x64_prepare(&hierarchy, space->tables, space->table_count, pool->frames, pool->capacity,
+                       &pool->free_count, &prepared, parent_flags);
 }
 
-/* x64_map_range, with the parent flags of x64_map_request_of */
-X64_NODISCARD
-static inline uint32_t x64_space_map_range(x64_space *space, uint64_t first_page, uint64_t size,
-                                           uint64_t count, uint64_t first_frame, uint64_t flags,
-                                           uint64_t *done) {
-    x64_hierarchy hierarchy = x64_space_hierarchy(space);
+static inline uint32_t x64_space_map_list(const x64_space *space, x64_pool *pool, uint64_t page,
+                                          uint64_t size, const uint64_t *frames, size_t count,
+                                          uint64_t flags, size_t *done) {
+    for (*done = 0; *done < count; ++*done, page += size) {
+        if (*done > 0 && page == 0)
+            return X64_BAD_PAGE;
+        uint32_t status = x64_space_map(space, pool, page, size, frames[*done], flags);
+        if (status != X64_OK)
+            return status;
+    }
+    return X64_OK;
+}
+
+static inline uint32_t x64_space_map_range(const x64_space *space, x64_pool *pool,
+                                           uint64_t first_page, uint64_t size, uint64_t count,
+                                           uint64_t first_frame, uint64_t flags, uint64_t *done) {
     x64_map_request request = x64_map_request_of(first_page, size, first_frame, flags);
-    return x64_map_range(&hierarchy, space->tables, space->table_count, space->pool,
-                         space->capacity, &space->free_count, &request, count, done);
+    return x64_space_map_range_with(space, pool, &request, count, done);
 }
 
-/* x64_unmap */
-X64_NODISCARD
+static inline uint32_t x64_space_map_range_with(const x64_space *space, x64_pool *pool,
+                                                const x64_map_request *request, uint64_t count,
+                                                uint64_t *done) {
+    x64_hierarchy hierarchy = x64_space_hierarchy(space);
+    if (x64_space_forbids_map(space, &request->page, count, request->parent_flags))
+        return X64_SHARED_ENTRY;
+    return x64_map_range(&hierarchy, space->tables, space->table_count, pool->frames,
+                         pool->capacity, &pool->free_count, request, count, done);
+}
+
 static inline uint32_t x64_space_unmap(const x64_space *space, uint64_t page, uint64_t size,
                                        uint64_t *frame) {
     x64_hierarchy hierarchy = x64_space_hierarchy(space);
@@ -1146,8 +1556,6 @@ static inline uint32_t x64_space_unmap(const x64_space *space, uint64_t page, ui
     return x64_unmap(&hierarchy, space->tables, space->table_count, &unmapped, frame);
 }
 
-/* x64_unmap_range */
-X64_NODISCARD
 static inline uint32_t x64_space_unmap_range(const x64_space *space, uint64_t first_page,
                                              uint64_t size, uint64_t count, uint64_t *frames,
                                              size_t capacity, size_t *frame_count, uint64_t *done) {
@@ -1157,8 +1565,6 @@ static inline uint32_t x64_space_unmap_range(const x64_space *space, uint64_t fi
                            capacity, frame_count, done);
 }
 
-/* x64_update_flags */
-X64_NODISCARD
 static inline uint32_t x64_space_update_flags(const x64_space *space, uint64_t page, uint64_t size,
                                               uint64_t flags) {
     x64_hierarchy hierarchy = x64_space_hierarchy(space);
@@ -1166,8 +1572,6 @@ static inline uint32_t x64_space_update_flags(const x64_space *space, uint64_t p
     return x64_update_flags(&hierarchy, space->tables, space->table_count, &changed, flags);
 }
 
-/* x64_update_flags_range */
-X64_NODISCARD
 static inline uint32_t x64_space_update_flags_range(const x64_space *space, uint64_t first_page,
                                                     uint64_t size, uint64_t count, uint64_t flags,
                                                     uint64_t *changed) {
@@ -1177,40 +1581,55 @@ static inline uint32_t x64_space_update_flags_range(const x64_space *space, uint
                                   flags, changed);
 }
 
-/* x64_set_table_flags */
-X64_NODISCARD
+static inline uint32_t x64_space_clean_up(const x64_space *space, x64_pool *pool,
+                                          uint64_t first_page, uint64_t last_page) {
+    x64_hierarchy hierarchy = x64_space_hierarchy(space);
+    if (x64_space_shares_pages(space, first_page, last_page))
+        return X64_SHARED_ENTRY;
+    return x64_clean_up(&hierarchy, space->tables, space->table_count, pool->frames, pool->capacity,
+                        &pool->free_count, first_page, last_page);
+}
+
 static inline uint32_t x64_space_set_table_flags(const x64_space *space, uint64_t page,
                                                  uint64_t size, uint64_t level, uint64_t flags) {
     x64_hierarchy hierarchy = x64_space_hierarchy(space);
     x64_page below = x64_page_of(page, size);
+    if (x64_space_forbids_level(space, &below, level))
+        return X64_SHARED_ENTRY;
     return x64_set_table_flags(&hierarchy, space->tables, space->table_count, &below, level, flags);
 }
 
-/* x64_clean_up */
-X64_NODISCARD
-static inline uint32_t x64_space_clean_up(x64_space *space, uint64_t first_page,
-                                          uint64_t last_page) {
+static inline uint32_t x64_space_new(const x64_space *space, x64_pool *pool, x64_space *other) {
     x64_hierarchy hierarchy = x64_space_hierarchy(space);
-    return x64_clean_up(&hierarchy, space->tables, space->table_count, space->pool, space->capacity,
-                        &space->free_count, first_page, last_page);
+    x64_space made = *space;
+    uint32_t status = x64_new_space(&hierarchy, space->tables, space->table_count, pool->frames,
+                                    pool->capacity, &pool->free_count, space->shared_from,
+                                    space->shared_to, &made.root);
+    if (status == X64_OK)
+        *other = made;
+    return status;
 }
 
-/* x64_new_space, with this one as the template */
-X64_NODISCARD
-static inline uint32_t x64_space_new(x64_space *space, uint64_t shared_from, uint64_t shared_to,
-                                     uint64_t *root) {
+static inline uint32_t x64_space_give_up(const x64_space *space, x64_pool *pool) {
     x64_hierarchy hierarchy = x64_space_hierarchy(space);
-    return x64_new_space(&hierarchy, space->tables, space->table_count, space->pool,
-                         space->capacity, &space->free_count, shared_from, shared_to, root);
+    return x64_give_up_space(&hierarchy, space->tables, space->table_count, pool->frames,
+                             pool->capacity, &pool->free_count, space->shared_from,
+                             space->shared_to);
 }
 
-/* x64_give_up_space */
-X64_NODISCARD
-static inline uint32_t x64_space_give_up(x64_space *space, uint64_t shared_from,
-                                         uint64_t shared_to) {
+static inline uint32_t x64_space_access(const x64_space *space, const x64_controls *controls,
+                                        const x64_access_request *request, x64_outcome *outcome) {
     x64_hierarchy hierarchy = x64_space_hierarchy(space);
-    return x64_give_up_space(&hierarchy, space->tables, space->table_count, space->pool,
-                             space->capacity, &space->free_count, shared_from, shared_to);
+    const uint64_t *word = x64_space_shared_word(space, request->address);
+    if (request->mark && word != NULL && !(*word & X64_ACCESSED)) {
+        x64_access_request asked = *request;
+        x64_outcome seen;
+        asked.mark = false;
+        if (x64_access(&hierarchy, space->tables, space->table_count, controls, &asked, &seen) ==
+            X64_OK)
+            return X64_SHARED_ENTRY;
+    }
+    return x64_access(&hierarchy, space->tables, space->table_count, controls, request, outcome);
 }
 
 #ifdef __cplusplus

@@ -1,13 +1,14 @@
 /*
  * x86_64_paging_live.h: entries that change while processors use them. The functions are inline,
- * over those of x86_64_paging.h. They need a compiler that has gcc's __atomic functions, as gcc and
- * clang do.
+ * over those of x86_64_paging.h, and take the same spaces and pools. They need a compiler that has
+ * gcc's __atomic functions, as gcc and clang do.
  *
  * A processor sets X64_ACCESSED and X64_DIRTY in a present entry at any moment. Whoever reads a
- * word, and then writes another one, loses what was set in between: x64_unmap and x64_update_flags
- * do, and x64_access with mark does it to a guest. The functions here put a word in the place of
- * another one by a single locked instruction, and return the one that was there. So no mark is
- * lost: it is in the entry now, or in a word that one of these functions returned since.
+ * word, and then writes another one, loses what was set in between: x64_space_unmap and
+ * x64_space_update_flags do, and x64_space_access with mark does it to a guest. The functions here
+ * put a word in the place of another one by a single locked instruction, and return the one that
+ * was there. So no mark is lost: it is in the entry now, or in a word that one of these functions
+ * returned since.
  *
  * WHICH WORDS ARE YOURS
  *
@@ -15,21 +16,21 @@
  * with X64_PRESENT or without it, such as the number of a place in a swap file; at levels 2 and 3
  * it may become 0 or any word with X64_HUGE_PAGE. An entry that names a table may get other flags
  * but X64_HUGE_PAGE, and keeps its address. The hierarchy stays valid, and the pool fits as before.
- * x64_may_replace tests it, and the functions refuse everything else with X64_NOT_ALLOWED. Two
- * conditions aren't tested: entries of the root that several spaces share stay the same in all of
- * them, and X64_GLOBAL is set only below such entries.
+ * x64_may_replace tests it, and the functions refuse everything else with X64_NOT_ALLOWED. An entry
+ * of the root that is shared stays as it is: they refuse to change it with X64_SHARED_ENTRY. One
+ * condition isn't tested: X64_GLOBAL is set only below such entries.
  *
  * WHEN
  *
- * What finds and changes entries, pages and ranges here (x64_entries_live to x64_take_range, and
- * x64_access_live) needs no lock against processors, nor against each other. The tables that a find
- * went through must still be there at the change: so no x64_clean_up, no x64_give_up_space and no
- * x64_join_page may free a table of this space, or below an entry that it shares, at the same time
- * or between the two. Other calls on this space may run meanwhile if they touch other entries:
- * x64_map, x64_unmap and x64_update_flags touch the entry of their page and those above it,
- * x64_prepare those above its page alone, ranges those of all their pages. x64_split_page and
- * x64_join_page are calls themselves: they run one at a time with other calls on this space and
- * with its pool, as x64_map does. See WHAT MAY RUN AT THE SAME TIME in x86_64_paging.h.
+ * What finds and changes entries, pages and ranges here needs no lock against processors, nor
+ * against each other. The tables that a find went through must still be there at the change: so no
+ * x64_space_clean_up, no x64_space_give_up and no x64_space_join may free a table of this space, or
+ * below an entry that it shares, at the same time or between the two. Other calls on this space may
+ * run meanwhile if they touch other entries: x64_space_map, x64_space_unmap and
+ * x64_space_update_flags touch the entry of their page and those above it, x64_space_prepare those
+ * above its page alone, ranges those of all their pages. x64_space_split and x64_space_join are
+ * calls themselves: they run one at a time with other calls on this space, and split with those
+ * with its pool, as x64_space_map does. See WHAT MAY RUN AT THE SAME TIME in x86_64_paging.h.
  *
  * WHAT TO FLUSH
  *
@@ -54,7 +55,7 @@
  *   marks_are_never_lost a mark is in the entry, or in a word that an exchange has returned since,
  *                        if nothing else changes the word
  *   pages_may_be_split, pages_have_parts, pages_may_be_joined
- *                        see x64_split_page and x64_join_page
+ *                        see x64_space_split and x64_space_join
  *
  *   exchanges_may_happen, flushes_after_calls_are_enough
  *                        if each exchange is followed by the flush that x64_flush_between returns,
@@ -62,10 +63,10 @@
  *                        of one root and one processor. An entry that isn't 0 and lacks
  *                        X64_PRESENT isn't exchanged while everything is due for an entry above it
  *
- * Not proved, but tested (tests/c/live.c, tests/c/live_threads.c, examples/kernel): that the lines
- * below do what these laws speak of, that the compiler makes one locked instruction of each
- * exchange, and that a find may run beside calls. The model says nothing of flushes after splits
- * and joins: there this file goes by the manuals.
+ * Not proved, but tested (tests/c/live.c, tests/c/live_threads.c, tests/c/guards.c,
+ * examples/kernel): that the lines below do what these laws speak of, that the compiler makes one
+ * locked instruction of each exchange, that a find may run beside calls, and X64_SHARED_ENTRY. The
+ * model says nothing of flushes after splits and joins: there this file goes by the manuals.
  */
 #ifndef X86_64_PAGING_LIVE_H
 #define X86_64_PAGING_LIVE_H
@@ -75,19 +76,6 @@
 #ifdef __cplusplus
 extern "C" {
 #endif
-
-/* Two more statuses. */
-enum {
-    X64_HAS_TABLE = 13, /* the entry names a table: there are smaller pages, or room for them */
-    X64_CHANGED = 14    /* the word isn't the one that was expected: it was changed meanwhile */
-};
-
-/* Returns the name of a status, as x64_status_name does, also of these two. */
-static inline const char *x64_live_status_name(uint32_t status) {
-    return status == X64_HAS_TABLE ? "X64_HAS_TABLE"
-           : status == X64_CHANGED ? "X64_CHANGED"
-                                   : x64_status_name(status);
-}
 
 /*
  * WORDS
@@ -103,21 +91,6 @@ static inline const char *x64_live_status_name(uint32_t status) {
 #define X64_KIND                                                                                   \
     (X64_ADDRESS | X64_WRITE_THROUGH | X64_NO_CACHE | X64_HUGE_PAGE | X64_GLOBAL |                 \
      UINT64_C(0x7800000000000000))
-
-/* Returns the level of the entries that map pages of a size: 1, 2 or 3, or 0 if no pages have this
- * size. */
-static inline uint64_t x64_level_of(uint64_t size) {
-    return size == X64_SIZE_4KIB ? 1 : size == X64_SIZE_2MIB ? 2 : size == X64_SIZE_1GIB ? 3 : 0;
-}
-
-/* Returns how many bytes an entry of a level from 1 to 5 stands for. */
-static inline uint64_t x64_span_of(uint64_t level) { return UINT64_C(1) << (3 + 9 * level); }
-
-/* Returns whether an address is canonical with 4 or 5 levels. */
-static inline bool x64_is_canonical(uint64_t levels, uint64_t address) {
-    uint64_t top = address >> (11 + 9 * levels);
-    return top == 0 || top == UINT64_MAX >> (11 + 9 * levels);
-}
 
 /* Returns whether a word at a level names a table, present or not. */
 static inline bool x64_names_table(uint64_t level, uint64_t word) {
@@ -141,11 +114,16 @@ static inline bool x64_may_replace(uint64_t level, uint64_t old, uint64_t word) 
 }
 
 /* Returns where the word of an entry stands, or null if its table isn't in the array. */
-static inline uint64_t *x64_word_at(const x64_space *space, const x64_entry *entry) {
+static inline uint64_t *x64_space_word_at(const x64_space *space, const x64_entry *entry) {
     uint64_t number = entry->table / 4096 - space->first;
     return number < space->table_count && entry->index < 512
                ? &space->tables[number].words[entry->index]
                : NULL;
+}
+
+/* Returns whether an entry is one of the root that other spaces share. */
+static inline bool x64_space_shares_entry(const x64_space *space, const x64_entry *entry) {
+    return entry->table == space->root && x64_space_shares_index(space, entry->index);
 }
 
 /*
@@ -193,6 +171,14 @@ static inline uint32_t x64_entries_live(const x64_hierarchy *hierarchy, const x6
     return X64_OK;
 }
 
+/* x64_entries_live, of a space. */
+X64_NODISCARD
+static inline uint32_t x64_space_entries_live(const x64_space *space, uint64_t address,
+                                              x64_entry *entries, size_t *count) {
+    x64_hierarchy hierarchy = x64_space_hierarchy(space);
+    return x64_entries_live(&hierarchy, space->tables, space->table_count, address, entries, count);
+}
+
 /*
  * Finds the entry at which the page walk to an address ends. It maps a page, or it lacks
  * X64_PRESENT: then it is unused (0), or what the caller has put there, or names a table that no
@@ -205,12 +191,11 @@ static inline uint32_t x64_entries_live(const x64_hierarchy *hierarchy, const x6
  * isn't and the walk meets this.
  */
 X64_NODISCARD
-static inline uint32_t x64_find_entry(const x64_space *space, uint64_t address, x64_entry *entry) {
-    x64_hierarchy hierarchy = x64_space_hierarchy(space);
+static inline uint32_t x64_space_find_entry(const x64_space *space, uint64_t address,
+                                            x64_entry *entry) {
     x64_entry entries[X64_MOST_LEVELS];
     size_t count = 0;
-    uint32_t status =
-        x64_entries_live(&hierarchy, space->tables, space->table_count, address, entries, &count);
+    uint32_t status = x64_space_entries_live(space, address, entries, &count);
     if (status >= X64_BAD_LEVELS)
         return status;
     if (status != X64_OK && status != X64_NOT_MAPPED)
@@ -222,20 +207,20 @@ static inline uint32_t x64_find_entry(const x64_space *space, uint64_t address, 
 /*
  * Finds a page's own entry, whether it has X64_PRESENT or not, or is 0.
  *
- * Condition: that of x64_find_entry.
+ * Condition: that of x64_space_find_entry.
  *
  * Returns X64_OK or one of these; then *entry isn't written:
  *   X64_PAGE_NOT_MAPPED          if an entry above the page lacks X64_PRESENT
  *   X64_PARENT_ENTRY_HUGE_PAGE   if an entry above the page has X64_HUGE_PAGE, present or not
  *   X64_HAS_TABLE                if the entry of a page of 2 MiB or 1 GiB names a table
- *   X64_BAD_PAGE; X64_BAD_LEVELS; X64_BAD_ROOT; X64_NOT_VALID as x64_find_entry
+ *   X64_BAD_PAGE; X64_BAD_LEVELS; X64_BAD_ROOT; X64_NOT_VALID as x64_space_find_entry
  */
 X64_NODISCARD
-static inline uint32_t x64_find_page(const x64_space *space, uint64_t page, uint64_t size,
+static inline uint32_t x64_space_find_page(const x64_space *space, uint64_t page, uint64_t size,
                                      x64_entry *entry) {
     uint64_t level = x64_level_of(size);
     x64_entry found;
-    uint32_t status = x64_find_entry(space, page, &found);
+    uint32_t status = x64_space_find_entry(space, page, &found);
     if (status == X64_BAD_ADDRESS || (status < X64_BAD_LEVELS && (level == 0 || page % size != 0)))
         return X64_BAD_PAGE;
     if (status != X64_OK && status != X64_NOT_MAPPED)
@@ -251,11 +236,12 @@ static inline uint32_t x64_find_page(const x64_space *space, uint64_t page, uint
 /*
  * CHANGING AN ENTRY THAT WAS FOUND
  *
- * Condition: x64_find_entry, x64_find_page or x64_entries_live found the entry in this space, and
- * its table is still there. entry->word may be old. Each returns X64_OK or one of these; then no
- * word has changed:
- *   X64_NOT_ALLOWED   if the word may not stand there (x64_may_replace)
- *   X64_NO_TABLE      if the entry's table isn't in the array
+ * Condition: x64_space_find_entry, x64_space_find_page or x64_space_entries_live found the entry in
+ * this space, and its table is still there. entry->word may be old. Each returns X64_OK or one of
+ * these; then no word has changed:
+ *   X64_NOT_ALLOWED    if the word may not stand there (x64_may_replace)
+ *   X64_SHARED_ENTRY   if it is a shared entry of the root
+ *   X64_NO_TABLE       if the entry's table isn't in the array
  *
  * What such a change leaves is proved of the model (entries_may_change, live_tables_fit,
  * marks_are_never_lost). Each of these functions is a loop, or an if, around one instruction.
@@ -263,11 +249,13 @@ static inline uint32_t x64_find_page(const x64_space *space, uint64_t page, uint
 
 /* Puts another word in the place of an entry, and writes the one that was there to *old. */
 X64_NODISCARD
-static inline uint32_t x64_exchange_entry(const x64_space *space, const x64_entry *entry,
+static inline uint32_t x64_space_exchange_entry(const x64_space *space, const x64_entry *entry,
                                           uint64_t word, uint64_t *old) {
-    uint64_t *at = x64_word_at(space, entry);
+    uint64_t *at = x64_space_word_at(space, entry);
     if (at == NULL)
         return X64_NO_TABLE;
+    if (x64_space_shares_entry(space, entry))
+        return X64_SHARED_ENTRY;
     if (entry->level == 1) {
         *old = __atomic_exchange_n(at, word, __ATOMIC_SEQ_CST);
         return X64_OK;
@@ -284,11 +272,13 @@ static inline uint32_t x64_exchange_entry(const x64_space *space, const x64_entr
 /* Clears the bits of an entry that aren't in `keep`, sets those in `set`, whether it has
  * X64_PRESENT or not, and writes the word that was there to *old. */
 X64_NODISCARD
-static inline uint32_t x64_change_entry(const x64_space *space, const x64_entry *entry,
+static inline uint32_t x64_space_change_entry(const x64_space *space, const x64_entry *entry,
                                         uint64_t keep, uint64_t set, uint64_t *old) {
-    uint64_t *at = x64_word_at(space, entry);
+    uint64_t *at = x64_space_word_at(space, entry);
     if (at == NULL)
         return X64_NO_TABLE;
+    if (x64_space_shares_entry(space, entry))
+        return X64_SHARED_ENTRY;
     uint64_t seen = __atomic_load_n(at, __ATOMIC_ACQUIRE);
     do
         if (!x64_may_replace(entry->level, seen, (seen & keep) | set))
@@ -305,11 +295,13 @@ static inline uint32_t x64_change_entry(const x64_space *space, const x64_entry 
  * loop can look at it and try again. A processor that marks the entry changes it, too.
  */
 X64_NODISCARD
-static inline uint32_t x64_compare_exchange_entry(const x64_space *space, x64_entry *entry,
+static inline uint32_t x64_space_compare_exchange_entry(const x64_space *space, x64_entry *entry,
                                                   uint64_t word) {
-    uint64_t *at = x64_word_at(space, entry);
+    uint64_t *at = x64_space_word_at(space, entry);
     if (at == NULL)
         return X64_NO_TABLE;
+    if (x64_space_shares_entry(space, entry))
+        return X64_SHARED_ENTRY;
     if (!x64_may_replace(entry->level, entry->word, word))
         return X64_NOT_ALLOWED;
     if (!__atomic_compare_exchange_n(at, &entry->word, word, false, __ATOMIC_SEQ_CST,
@@ -322,19 +314,20 @@ static inline uint32_t x64_compare_exchange_entry(const x64_space *space, x64_en
 /*
  * CHANGING A PAGE
  *
- * Each finds the page's own entry by x64_find_page, and changes it by x64_compare_exchange_entry
- * until this succeeds. Besides what it says it returns what x64_find_page returns. Unless it
- * returns X64_OK no word has changed, and *old isn't written.
+ * Each finds the page's own entry by x64_space_find_page, and changes it by
+ * x64_space_compare_exchange_entry until this succeeds. Besides what it says it returns what
+ * x64_space_find_page returns. Unless it returns X64_OK no word has changed, and *old isn't
+ * written.
  */
 
 /* Puts another word in the place of the page's entry if that isn't 0, whether it has X64_PRESENT or
  * not, and writes the one that was there to *old. Returns X64_OK; X64_PAGE_NOT_MAPPED if it is 0;
  * X64_NOT_ALLOWED. */
 X64_NODISCARD
-static inline uint32_t x64_exchange_page(const x64_space *space, uint64_t page, uint64_t size,
+static inline uint32_t x64_space_exchange_page(const x64_space *space, uint64_t page, uint64_t size,
                                          uint64_t word, uint64_t *old) {
     x64_entry entry;
-    uint32_t status = x64_find_page(space, page, size, &entry);
+    uint32_t status = x64_space_find_page(space, page, size, &entry);
     if (status != X64_OK)
         return status;
     uint64_t seen;
@@ -342,7 +335,7 @@ static inline uint32_t x64_exchange_page(const x64_space *space, uint64_t page, 
         seen = entry.word;
         if (seen == 0)
             return X64_PAGE_NOT_MAPPED;
-        status = x64_compare_exchange_entry(space, &entry, word);
+        status = x64_space_compare_exchange_entry(space, &entry, word);
     } while (status == X64_CHANGED);
     if (status == X64_OK)
         *old = seen;
@@ -353,20 +346,20 @@ static inline uint32_t x64_exchange_page(const x64_space *space, uint64_t page, 
  * there is written to *old. Returns X64_OK; X64_PAGE_NOT_MAPPED if it is 0 already. No table is
  * freed. */
 X64_NODISCARD
-static inline uint32_t x64_take_page(const x64_space *space, uint64_t page, uint64_t size,
+static inline uint32_t x64_space_take_page(const x64_space *space, uint64_t page, uint64_t size,
                                      uint64_t *old) {
-    return x64_exchange_page(space, page, size, 0, old);
+    return x64_space_exchange_page(space, page, size, 0, old);
 }
 
 /* Clears the bits of the page's entry that aren't in `keep` and sets those in `set`, if the entry
  * has X64_PRESENT, and writes the word that was there to *old. Returns X64_OK; X64_NOT_ALLOWED;
  * X64_PAGE_NOT_MAPPED if it lacks X64_PRESENT: its bits are then the caller's, who changes them by
- * x64_find_page and x64_compare_exchange_entry. */
+ * x64_space_find_page and x64_space_compare_exchange_entry. */
 X64_NODISCARD
-static inline uint32_t x64_change_page(const x64_space *space, uint64_t page, uint64_t size,
+static inline uint32_t x64_space_change_page(const x64_space *space, uint64_t page, uint64_t size,
                                        uint64_t keep, uint64_t set, uint64_t *old) {
     x64_entry entry;
-    uint32_t status = x64_find_page(space, page, size, &entry);
+    uint32_t status = x64_space_find_page(space, page, size, &entry);
     if (status != X64_OK)
         return status;
     uint64_t seen;
@@ -374,7 +367,7 @@ static inline uint32_t x64_change_page(const x64_space *space, uint64_t page, ui
         seen = entry.word;
         if (!(seen & X64_PRESENT))
             return X64_PAGE_NOT_MAPPED;
-        status = x64_compare_exchange_entry(space, &entry, (seen & keep) | set);
+        status = x64_space_compare_exchange_entry(space, &entry, (seen & keep) | set);
     } while (status == X64_CHANGED);
     if (status == X64_OK)
         *old = seen;
@@ -390,30 +383,30 @@ typedef struct x64_taken {
 
 /*
  * Takes away all pages from the page of 4 KiB that starts at `first` to the one that starts at
- * `last`, of all sizes, present or not, in order, each by x64_exchange_entry. Writes them to
+ * `last`, of all sizes, present or not, in order, each by x64_space_exchange_entry. Writes them to
  * `taken` from its start on, and their number to *count. A missing table is passed over by one
  * look. No table is freed. An entry that names a table but lacks X64_PRESENT is passed over, with
  * all that is below it. Each page whose word had X64_PRESENT wants an INVLPG of its own.
  *
- * Condition: that of x64_find_entry. If `last` comes before `first`, nothing is taken.
+ * Condition: that of x64_space_find_entry. If `last` comes before `first`, nothing is taken.
  *
  * Returns one of these:
  *   X64_OK                       if all are taken
  *   X64_MORE                     if the array is full; a call with first = *next continues
  *   X64_PARENT_ENTRY_HUGE_PAGE   if a larger page is only partly in the range: all before it are
  *                                taken, and *next is the first address of the range in it
- *   X64_NOT_VALID                as x64_find_entry; *count of them are taken
+ *   X64_NOT_VALID                as x64_space_find_entry; *count of them are taken
  *   X64_BAD_PAGE                 if `first` or `last` isn't a canonical multiple of 4 KiB, or they
  *                                are in different halves of the address space
  *   X64_BAD_LEVELS; X64_BAD_ROOT
  * X64_BAD_ statuses write nothing, and only X64_MORE and X64_PARENT_ENTRY_HUGE_PAGE write *next.
  */
 X64_NODISCARD
-static inline uint32_t x64_take_range(const x64_space *space, uint64_t first, uint64_t last,
+static inline uint32_t x64_space_take_range(const x64_space *space, uint64_t first, uint64_t last,
                                       x64_taken *taken, size_t capacity, size_t *count,
                                       uint64_t *next) {
     x64_entry entry;
-    uint32_t status = x64_find_entry(space, first, &entry);
+    uint32_t status = x64_space_find_entry(space, first, &entry);
     if (status == X64_BAD_LEVELS || status == X64_BAD_ROOT)
         return status;
     if (status == X64_BAD_ADDRESS || !x64_is_canonical(space->levels, last) || first % 4096 != 0 ||
@@ -421,7 +414,7 @@ static inline uint32_t x64_take_range(const x64_space *space, uint64_t first, ui
         return X64_BAD_PAGE;
     *count = 0;
     for (uint64_t at = first; at <= last;) {
-        status = x64_find_entry(space, at, &entry);
+        status = x64_space_find_entry(space, at, &entry);
         if (status != X64_OK && status != X64_NOT_MAPPED)
             return status;
         uint64_t span = x64_span_of(entry.level), start = at & ~(span - 1),
@@ -432,8 +425,11 @@ static inline uint32_t x64_take_range(const x64_space *space, uint64_t first, ui
                 *next = at;
                 return is_partly_in ? X64_PARENT_ENTRY_HUGE_PAGE : X64_MORE;
             }
-            if (x64_exchange_entry(space, &entry, 0, &taken[*count].word) != X64_OK)
+            status = x64_space_exchange_entry(space, &entry, 0, &taken[*count].word);
+            if (status == X64_NOT_ALLOWED)
                 continue; /* it names a table by now: look again */
+            if (status != X64_OK)
+                return X64_NOT_VALID;
             taken[*count].page = start;
             taken[*count].size = span;
             *count += taken[*count].word != 0;
@@ -492,12 +488,12 @@ static inline bool x64_are_parts(uint64_t level, uint64_t word, uint64_t entry,
 
 /*
  * Splits a page of 2 MiB or 1 GiB: its entry names a table of 512 smaller pages with its frames,
- * rights, kind of memory and marks. The table is made in the last free frame of the pool, and
+ * rights, kind of memory and marks. The table is made in the last free frame of the pool, whose
  * free_count decreases by one. No access changes. No mark is lost: the entry is exchanged only if
  * it is still the word of which the parts were made. It becomes the table's address with
  * X64_PRESENT, X64_WRITABLE, X64_USER_ACCESSIBLE and X64_ACCESSED, so the parts decide.
  *
- * What waits for a flush before an x64_map waits for it here, too: tables that x64_clean_up freed.
+ * What waits for a flush before a map waits for it here, too: tables that a clean up freed.
  * After the split nothing has to be flushed, by the manuals, until a part is changed. Then flush
  * that part, as x64_flush_between tells. But of a page of 1 GiB flush everything before you count
  * on the change of a part: a processor may keep the large page in pieces, and an INVLPG drops one
@@ -509,31 +505,32 @@ static inline bool x64_are_parts(uint64_t level, uint64_t word, uint64_t entry,
  * rights (pages_may_be_split), if the words are parts; and that these words are (pages_have_parts),
  * but for pages of 1 GiB with PAT, bit 12. Tested: that, marks, and that this is what happens.
  *
- * Condition: that of x64_map. Returns X64_OK or one of these:
+ * Condition: that of x64_space_map. Returns X64_OK or one of these:
  *   X64_PAGE_NOT_MAPPED          if the entry is 0, or one above it lacks X64_PRESENT
  *   X64_FRAME_ALLOCATION_FAILED  if the pool is empty
  *   X64_INVALID_FRAME_ADDRESS    if the address in the entry isn't a multiple of the page's size
- *   X64_BAD_ARRAY                if free_count > capacity
+ *   X64_BAD_ARRAY                if pool->free_count > pool->capacity
  *   X64_BAD_PAGE                 also for a page of 4 KiB
- *   and what x64_find_page returns otherwise
+ *   and what x64_space_find_page returns otherwise
  * Unless it is X64_OK no word in use has changed, but the last free frame may hold zeros now.
  */
 X64_NODISCARD
-static inline uint32_t x64_split_page(x64_space *space, uint64_t page, uint64_t size) {
+static inline uint32_t x64_space_split(const x64_space *space, x64_pool *pool, uint64_t page,
+                                       uint64_t size) {
     x64_entry entry;
-    uint32_t status = x64_find_page(space, page, size, &entry);
+    uint32_t status = x64_space_find_page(space, page, size, &entry);
     if (status != X64_OK)
         return status;
     if (entry.level == 1)
         return X64_BAD_PAGE;
-    if (space->free_count > space->capacity)
+    if (pool->free_count > pool->capacity)
         return X64_BAD_ARRAY;
     status = x64_split_status(entry.level, entry.word);
     if (status != X64_OK)
         return status;
-    if (space->free_count == 0)
+    if (pool->free_count == 0)
         return X64_FRAME_ALLOCATION_FAILED;
-    const uint64_t frame = space->pool[space->free_count - 1],
+    const uint64_t frame = pool->frames[pool->free_count - 1],
                    table = frame | X64_PRESENT | X64_WRITABLE | X64_USER_ACCESSIBLE | X64_ACCESSED;
     uint64_t *words = space->tables[frame / 4096 - space->first].words;
     do {
@@ -542,9 +539,9 @@ static inline uint32_t x64_split_page(x64_space *space, uint64_t page, uint64_t 
             words[j] = status == X64_OK ? x64_part_of(entry.level, entry.word, j) : 0;
         if (status != X64_OK)
             return status;
-    } while (!__atomic_compare_exchange_n(x64_word_at(space, &entry), &entry.word, table, true,
-                                          __ATOMIC_SEQ_CST, __ATOMIC_ACQUIRE));
-    space->free_count--;
+    } while (!__atomic_compare_exchange_n(x64_space_word_at(space, &entry), &entry.word, table,
+                                          true, __ATOMIC_SEQ_CST, __ATOMIC_ACQUIRE));
+    pool->free_count--;
     return X64_OK;
 }
 
@@ -562,30 +559,32 @@ static inline uint32_t x64_split_page(x64_space *space, uint64_t page, uint64_t 
  * with the same rights (pages_may_be_joined), if the words are parts (x64_are_parts). Tested:
  * marks, kinds of memory, and that this is what happens.
  *
- * Condition: that of x64_clean_up. Nobody changes the words of the parts meanwhile but processors
- * that mark them.
+ * Condition: that of x64_space_clean_up, with some pool. Nobody changes the words of the parts
+ * meanwhile but processors that mark them.
  *
  * Returns X64_OK or one of these; then nothing has changed:
+ *   X64_SHARED_ENTRY             if the page is below a shared entry of the root: the law says
+ *                                nothing of tables that several spaces have
  *   X64_PAGE_NOT_MAPPED          if no present entry names a table there
  *   X64_PARENT_ENTRY_HUGE_PAGE   if the entry, or one above it, has X64_HUGE_PAGE
  *   X64_NOT_ALLOWED              if the pages below aren't the parts of the word, or it lacks
  *                                X64_HUGE_PAGE, or its address isn't a multiple of the size
  *   X64_BAD_PAGE                 also for 4 KiB
- *   X64_BAD_LEVELS; X64_BAD_ROOT; X64_NOT_VALID as x64_find_entry
+ *   X64_BAD_LEVELS; X64_BAD_ROOT; X64_NOT_VALID as x64_space_find_entry
  */
 X64_NODISCARD
-static inline uint32_t x64_join_page(const x64_space *space, uint64_t page, uint64_t size,
+static inline uint32_t x64_space_join(const x64_space *space, uint64_t page, uint64_t size,
                                      uint64_t word, uint64_t *frame) {
-    x64_hierarchy hierarchy = x64_space_hierarchy(space);
     x64_entry entries[X64_MOST_LEVELS];
     size_t count = 0;
     uint64_t level = x64_level_of(size);
-    uint32_t status =
-        x64_entries_live(&hierarchy, space->tables, space->table_count, page, entries, &count);
+    uint32_t status = x64_space_entries_live(space, page, entries, &count);
     if (status == X64_BAD_LEVELS || status == X64_BAD_ROOT)
         return status;
     if (status == X64_BAD_ADDRESS || level < 2 || page % size != 0)
         return X64_BAD_PAGE;
+    if (x64_space_shares(space, page))
+        return X64_SHARED_ENTRY;
     if (status == X64_NO_TABLE)
         return X64_NOT_VALID;
     if (count <= space->levels - level + 1)
@@ -601,7 +600,7 @@ static inline uint32_t x64_join_page(const x64_space *space, uint64_t page, uint
             !(word & X64_HUGE_PAGE) || !x64_is_aligned_page(level, word) ||
             !x64_are_parts(level, word, entry->word, words))
             return X64_NOT_ALLOWED;
-    while (!__atomic_compare_exchange_n(x64_word_at(space, entry), &entry->word, word, true,
+    while (!__atomic_compare_exchange_n(x64_space_word_at(space, entry), &entry->word, word, true,
                                         __ATOMIC_SEQ_CST, __ATOMIC_ACQUIRE));
     *frame = entry->word & X64_ADDRESS;
     return X64_OK;
@@ -729,6 +728,29 @@ static inline uint32_t x64_access_live(const x64_hierarchy *hierarchy, x64_table
             return X64_CHANGED;
     }
     *arrival = seen;
+    return status;
+}
+
+/*
+ * x64_access_live, of a space. Returns also X64_SHARED_ENTRY, if the access arrives and would set
+ * X64_ACCESSED in a shared entry of the root. Then nothing has changed.
+ */
+X64_NODISCARD
+static inline uint32_t x64_space_access_live(const x64_space *space, const x64_controls *controls,
+                                             const x64_access_request *request,
+                                             x64_scratch *scratch, x64_arrival *arrival) {
+    x64_hierarchy hierarchy = x64_space_hierarchy(space);
+    x64_access_request asked = *request;
+    x64_arrival seen;
+    const uint64_t *word = x64_space_shared_word(space, request->address);
+    if (word != NULL && !(__atomic_load_n(word, __ATOMIC_ACQUIRE) & X64_ACCESSED))
+        asked.mark = false;
+    uint32_t status = x64_access_live(&hierarchy, space->tables, space->table_count, controls,
+                                      &asked, scratch, &seen);
+    if (status == X64_OK && asked.mark != request->mark)
+        return X64_SHARED_ENTRY;
+    if (status == X64_OK || status == X64_PAGE_FAULT || status == X64_NO_TABLE)
+        *arrival = seen;
     return status;
 }
 

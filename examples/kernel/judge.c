@@ -7,7 +7,7 @@ enum { SANDBOX = 0x40000000, ACCESSES_PER_CALL = 8, MOST_SHOWN = 5, TRAP_FLAG = 
 enum { COPY = 0x20000000 };
 extern const uint8_t judge_code[], write_code[];
 static x64_controls controls = {.write_protect = true, .no_execute = true};
-static x64_hierarchy space;
+static x64_space space;
 static uint64_t state, arrived[3], faulted;
 
 /* Returns a number below a limit, by a fixed rule: xorshift64*. */
@@ -31,7 +31,7 @@ static void find_mapped(x64_page *page) {
     x64_mapping mapping;
     uint64_t next;
     size_t count;
-    uint32_t status = x64_mappings(&space, tables, TABLE_COUNT, page->start, &mapping, 1, &count, &next);
+    uint32_t status = x64_space_mappings(&space, page->start, &mapping, 1, &count, &next);
     if (status <= X64_MORE && count == 1 && mapping.start < DIRECT)
         *page = (x64_page){mapping.start, mapping.size};
 }
@@ -70,13 +70,13 @@ static uint64_t some_frame(uint64_t size) {
 /* Adds rights to a page. The header says that nothing has to be flushed, unless users get it while SMEP or SMAP is on. */
 static void add_rights(const x64_page *page) {
     x64_translation old;
-    if (x64_translate(&space, tables, TABLE_COUNT, page->start, &old) != X64_OK || old.size != page->size)
+    if (x64_space_translate(&space, page->start, &old) != X64_OK || old.size != page->size)
         return;
     uint64_t flags = (old.flags | X64_USER_ACCESSIBLE | (below(2) ? X64_WRITABLE : 0)) & ~X64_NO_EXECUTE;
     if (flags & ~old.flags & X64_USER_ACCESSIBLE)
-        check("x64_update_flags", update_flags(&space, page, 1, flags));
+        check("x64_space_update_flags", update_flags(&space, page, 1, flags));
     else
-        check("x64_update_flags", x64_update_flags(&space, tables, TABLE_COUNT, page, flags));
+        check("x64_space_update_flags", x64_space_update_flags(&space, page->start, page->size, flags));
 }
 
 /* Exchanges the word of a page, or changes it by masks. */
@@ -149,7 +149,7 @@ static bool compare(const x64_access_request *request, bool is_falsified) {
     struct registers after;
     controls.ac = below(2);
     asked.kind = is_falsified && asked.kind == X64_WRITE ? X64_READ : asked.kind;
-    uint32_t status = x64_access(&space, tables, TABLE_COUNT, &controls, &asked, &outcome);
+    uint32_t status = x64_space_access(&space, &controls, &asked, &outcome);
     if (status != X64_OK) {
         faulted++;
         let_access(&after, request, 0);
@@ -176,8 +176,8 @@ uint64_t judge(uint64_t seed, uint64_t accesses, bool is_falsified) {
     x64_map_request copy = {{page.start + COPY, page.size}, page.start - KERNEL, X64_PRESENT, X64_PRESENT | X64_ACCESSED};
     state = seed * UINT64_C(0x9e3779b97f4a7c15);
     set_controls();
-    check("x64_map", map(&kernel_space, &copy, 1));
-    check("x64_update_flags", update_flags(&kernel_space, &page, 1, X64_PRESENT | X64_USER_ACCESSIBLE));
+    check("x64_space_map_with", map(&kernel_space, &copy, 1));
+    check("x64_space_update_flags", update_flags(&kernel_space, &page, 1, X64_PRESENT | X64_USER_ACCESSIBLE));
     space = new_space();
     use_space(&space);
     for (uint64_t k = 0; k < accesses; k++) {

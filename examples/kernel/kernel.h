@@ -31,42 +31,45 @@ void check(const char *call, uint32_t status);
 void *memcpy(void *restrict to, const void *restrict from, size_t count);
 void *memset(void *to, int byte, size_t count);
 
-/* memory.c: the frames of all page tables, the kernel's space, after which all others are made, and frames for pages with their uses */
+/* memory.c: the frames of all page tables, those of them that are free, the kernel's space, after which all others are made, and frames for
+ * pages with their uses */
 enum { TABLES_AT = 0x400000, TABLE_COUNT = 256, MOST_PAGES = 1024 };
 static x64_table *const tables = (x64_table *)(DIRECT + TABLES_AT);
-extern uint64_t pool[TABLE_COUNT];
-extern size_t free_tables;
-extern x64_hierarchy kernel_space;
+extern x64_pool pool;
+extern x64_space kernel_space;
 extern uint8_t uses[];
 void make_kernel_space(uint64_t memory_size, uint64_t levels);
-x64_hierarchy new_space(void);
-void use_space(const x64_hierarchy *space);
-void check_fit(const x64_hierarchy *space, size_t count);
-void give_up_space(const x64_hierarchy *space);
+x64_space new_space(void);
+void use_space(const x64_space *space);
+void check_fit(const x64_space *space, size_t count);
+void give_up_space(const x64_space *space);
 uint64_t take_frames(uint64_t count);
 
 /* memory.c: calls of the library with the flushes that x64_flush_after tells. The judge may leave one of these out, to see it noticed. */
 extern uint32_t left_out;
 void flush_everything(void);
 void flush(uint32_t due, const x64_page *first, uint64_t count);
-uint32_t map(const x64_hierarchy *space, const x64_map_request *request, uint64_t count);
-uint32_t unmap(const x64_hierarchy *space, const x64_page *first, uint64_t count, uint64_t frames[MOST_PAGES], size_t *frame_count);
-uint32_t update_flags(const x64_hierarchy *space, const x64_page *first, uint64_t count, uint64_t flags);
-uint32_t set_table_flags(const x64_hierarchy *space, const x64_page *page, uint64_t level, uint64_t flags);
-uint32_t clean_up(const x64_hierarchy *space, uint64_t first, uint64_t last);
+uint32_t map(const x64_space *space, const x64_map_request *request, uint64_t count);
+uint32_t unmap(const x64_space *space, const x64_page *first, uint64_t count, uint64_t frames[MOST_PAGES], size_t *frame_count);
+uint32_t update_flags(const x64_space *space, const x64_page *first, uint64_t count, uint64_t flags);
+uint32_t set_table_flags(const x64_space *space, const x64_page *page, uint64_t level, uint64_t flags);
+uint32_t clean_up(const x64_space *space, uint64_t first, uint64_t last);
 
 /* pages.c: exchanges of a page's word with the flushes that x64_flush_between tells, and pages that are on a disk */
-uint64_t word_of(const x64_hierarchy *space, const x64_page *page);
-uint32_t exchange_page(const x64_hierarchy *space, const x64_page *page, uint64_t word, uint64_t *old);
-uint32_t change_page(const x64_hierarchy *space, const x64_page *page, uint64_t keep, uint64_t set, uint64_t *old);
+uint64_t word_of(const x64_space *space, const x64_page *page);
+uint32_t exchange_page(const x64_space *space, const x64_page *page, uint64_t word, uint64_t *old);
+uint32_t change_page(const x64_space *space, const x64_page *page, uint64_t keep, uint64_t set, uint64_t *old);
 void add_use(uint64_t word);
 void drop_use(uint64_t word);
-void swap_out(const x64_hierarchy *space, const x64_page *page);
-void bring_in(const x64_hierarchy *space, const x64_page *page);
-size_t take_pages(const x64_hierarchy *space, uint64_t start, uint64_t end);
+void swap_out(const x64_space *space, const x64_page *page);
+void bring_in(const x64_space *space, const x64_page *page);
+size_t take_pages(const x64_space *space, uint64_t start, uint64_t end);
+
+/* All spaces share the upper half: the indices of the root from SHARED_FROM up to, but not including, SHARED_TO. */
+enum { SHARED_FROM = 256, SHARED_TO = 512 };
 
 /* Returns the last page of the lower half, which each space has for itself. */
-static inline uint64_t last_page(void) { return (UINT64_C(1) << (11 + 9 * kernel_space.levels)) - X64_SIZE_4KIB; }
+static inline uint64_t last_page(void) { return x64_space_last_page(&kernel_space, SHARED_FROM - 1); }
 
 /* The two modes, and the program that processes run in ring 3, with its system calls. */
 enum { FORK, TELL, EXIT };

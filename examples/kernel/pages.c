@@ -6,31 +6,23 @@
 enum { ON_DISK = 0x200, PLACES = 16 };
 static uint8_t disk[PLACES][X64_SIZE_4KIB], disk_uses[PLACES];
 
-/* The library's context of a space, for functions that make no tables. */
-static x64_space context_of(const x64_hierarchy *space) {
-    return (x64_space){tables, TABLE_COUNT, space->first, space->root, space->levels, pool, TABLE_COUNT, free_tables};
-}
-
 /* Returns the word of a page's own entry, or 0 if there is none. */
-uint64_t word_of(const x64_hierarchy *space, const x64_page *page) {
-    x64_space context = context_of(space);
+uint64_t word_of(const x64_space *space, const x64_page *page) {
     x64_entry entry;
-    return x64_find_page(&context, page->start, page->size, &entry) == X64_OK ? entry.word : 0;
+    return x64_space_find_page(space, page->start, page->size, &entry) == X64_OK ? entry.word : 0;
 }
 
 /* Puts another word in the place of a page's, if there is one, and flushes. */
-uint32_t exchange_page(const x64_hierarchy *space, const x64_page *page, uint64_t word, uint64_t *old) {
-    x64_space context = context_of(space);
-    uint32_t status = x64_exchange_page(&context, page->start, page->size, word, old);
+uint32_t exchange_page(const x64_space *space, const x64_page *page, uint64_t word, uint64_t *old) {
+    uint32_t status = x64_space_exchange_page(space, page->start, page->size, word, old);
     if (status == X64_OK)
         flush(x64_flush_between(x64_level_of(page->size), *old, word), page, 1);
     return status;
 }
 
 /* Changes the word of a page that is present by masks, and flushes. */
-uint32_t change_page(const x64_hierarchy *space, const x64_page *page, uint64_t keep, uint64_t set, uint64_t *old) {
-    x64_space context = context_of(space);
-    uint32_t status = x64_change_page(&context, page->start, page->size, keep, set, old);
+uint32_t change_page(const x64_space *space, const x64_page *page, uint64_t keep, uint64_t set, uint64_t *old) {
+    uint32_t status = x64_space_change_page(space, page->start, page->size, keep, set, old);
     if (status == X64_OK)
         flush(x64_flush_between(x64_level_of(page->size), *old, (*old & keep) | set), page, 1);
     return status;
@@ -51,14 +43,14 @@ void drop_use(uint64_t word) {
 
 /* Writes a page to the disk, if there is a place and no other page has its frame, and frees the frame. Its word keeps the rights. The frame
  * is read after the flush, since nobody writes to it any more then. */
-void swap_out(const x64_hierarchy *space, const x64_page *page) {
+void swap_out(const x64_space *space, const x64_page *page) {
     uint64_t word = word_of(space, page), old, place = 1;
     while (place < PLACES && disk_uses[place] > 0)
         place++;
     if (!(word & X64_PRESENT) || *uses_of(word) != 1 || place == PLACES)
         return;
     word = (word & ~(X64_ADDRESS | X64_PRESENT | X64_ACCESSED | X64_DIRTY)) | place * X64_SIZE_4KIB | ON_DISK;
-    check("x64_exchange_page", exchange_page(space, page, word, &old));
+    check("x64_space_exchange_page", exchange_page(space, page, word, &old));
     memcpy(disk[place], (void *)(DIRECT + (old & X64_ADDRESS)), X64_SIZE_4KIB);
     add_use(word);
     drop_use(old);
@@ -66,21 +58,20 @@ void swap_out(const x64_hierarchy *space, const x64_page *page) {
 }
 
 /* Brings a page back from the disk. Nothing is flushed, since its entry lacked X64_PRESENT. */
-void bring_in(const x64_hierarchy *space, const x64_page *page) {
+void bring_in(const x64_space *space, const x64_page *page) {
     uint64_t word = word_of(space, page), old, frame = take_frames(1);
     memcpy((void *)(DIRECT + frame), disk[(word & X64_ADDRESS) / X64_SIZE_4KIB], X64_SIZE_4KIB);
-    check("x64_exchange_page", exchange_page(space, page, (word & ~(X64_ADDRESS | ON_DISK)) | frame | X64_PRESENT, &old));
+    check("x64_space_exchange_page", exchange_page(space, page, (word & ~(X64_ADDRESS | ON_DISK)) | frame | X64_PRESENT, &old));
     drop_use(old);
 }
 
 /* Takes away the pages from an address up to another, at most MOST_PAGES, and lets go of what they have. Returns how many. */
-size_t take_pages(const x64_hierarchy *space, uint64_t start, uint64_t end) {
+size_t take_pages(const x64_space *space, uint64_t start, uint64_t end) {
     static x64_taken taken[MOST_PAGES];
-    x64_space context = context_of(space);
     uint64_t next;
     size_t count = 0;
     uint32_t due = X64_FLUSH_NOTHING;
-    check("x64_take_range", x64_take_range(&context, start, end - X64_SIZE_4KIB, taken, MOST_PAGES, &count, &next));
+    check("x64_space_take_range", x64_space_take_range(space, start, end - X64_SIZE_4KIB, taken, MOST_PAGES, &count, &next));
     for (size_t k = 0; k < count; k++) {
         uint32_t more = x64_flush_between(1, taken[k].word, 0);
         due = due < more ? more : due;

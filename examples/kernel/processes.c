@@ -6,7 +6,7 @@ enum { AREA_COUNT = 3, MOST_PROCESSES = 4, PAGES_AT_START = 600, WAS_PRESENT = 1
 
 struct process {
     struct registers registers;
-    x64_hierarchy space;
+    x64_space space;
     uint64_t number;
 };
 
@@ -17,9 +17,10 @@ static const struct area { uint64_t start, end, flags; } areas[AREA_COUNT] = {
     {STACK_END - 0x10000, STACK_END, X64_PRESENT | X64_USER_ACCESSIBLE | X64_WRITABLE | X64_NO_EXECUTE},
 };
 
+/* Maps pages of a process. The entries above them get all rights: the pages' own take some away, and give them back later. */
 static void map_pages(const struct process *process, uint64_t start, uint64_t frame, uint64_t count, uint64_t flags) {
-    x64_map_request request = {{start, X64_SIZE_4KIB}, frame, flags, X64_PRESENT | X64_WRITABLE | X64_USER_ACCESSIBLE};
-    check("x64_map", map(&process->space, &request, count));
+    x64_map_request request = {{start, X64_SIZE_4KIB}, frame, flags, X64_PRESENT | X64_WRITABLE | X64_USER_ACCESSIBLE | X64_ACCESSED};
+    check("x64_space_map_with", map(&process->space, &request, count));
 }
 
 /* Lets a process write to a page: to a copy of it, unless nobody shares the frame any more. One processor runs the process. Several would
@@ -27,12 +28,12 @@ static void map_pages(const struct process *process, uint64_t start, uint64_t fr
 static const char *copy_on_write(const struct process *process, const x64_page *page) {
     uint64_t old, word = word_of(&process->space, page), shared = word & X64_ADDRESS;
     if (uses[shared / X64_SIZE_4KIB] == 1) {
-        check("x64_change_page", change_page(&process->space, page, UINT64_MAX, X64_WRITABLE, &old));
+        check("x64_space_change_page", change_page(&process->space, page, UINT64_MAX, X64_WRITABLE, &old));
         return "may be written to";
     }
     uint64_t frame = take_frames(1);
     memcpy((void *)(DIRECT + frame), (void *)(DIRECT + shared), X64_SIZE_4KIB);
-    check("x64_exchange_page", exchange_page(&process->space, page, (word & ~X64_ADDRESS) | frame | X64_WRITABLE, &old));
+    check("x64_space_exchange_page", exchange_page(&process->space, page, (word & ~X64_ADDRESS) | frame | X64_WRITABLE, &old));
     drop_use(old);
     return "is copied";
 }
@@ -61,7 +62,7 @@ static const char *handle_fault(const struct process *process, uint64_t address,
 static void share_page(const struct process *process, const struct process *child, const x64_page *page) {
     uint64_t word = word_of(&process->space, page), old;
     if (word & X64_PRESENT) {
-        check("x64_change_page", change_page(&process->space, page, ~X64_WRITABLE, 0, &old));
+        check("x64_space_change_page", change_page(&process->space, page, ~X64_WRITABLE, 0, &old));
         word = old & ~X64_WRITABLE;
     }
     if (word != 0) {
@@ -77,7 +78,7 @@ static struct process fork(const struct process *process) {
         for (x64_page page = {area->start, X64_SIZE_4KIB}; page.start < area->end; page.start += page.size)
             share_page(process, &child, &page);
     child.registers.rax = 0;
-    print("process %lu: makes process %lu; %lu tables are free\n", process->number, child.number, (uint64_t)free_tables);
+    print("process %lu: makes process %lu; %lu tables are free\n", process->number, child.number, (uint64_t)pool.free_count);
     return child;
 }
 
@@ -109,7 +110,7 @@ static void run_process(struct process *process) {
     for (const struct area *area = areas; area < areas + AREA_COUNT; area++)
         unmapped += take_pages(&process->space, area->start, area->end);
     give_up_space(&process->space);
-    print("process %lu: has ended, %lu pages are unmapped; %lu tables are free\n", process->number, unmapped, (uint64_t)free_tables);
+    print("process %lu: has ended, %lu pages are unmapped; %lu tables are free\n", process->number, unmapped, (uint64_t)pool.free_count);
 }
 
 /* Makes the first process and runs it. */
@@ -120,6 +121,6 @@ void run_processes(void) {
     map_pages(&first, PROGRAM, (uint64_t)program_frame, 1, areas[0].flags);
     map_pages(&first, HEAP, take_frames(PAGES_AT_START), PAGES_AT_START, areas[1].flags);
     uses[(uint64_t)program_frame / X64_SIZE_4KIB]++;
-    print("process 1: starts with %lu pages; %lu tables are free\n", (uint64_t)PAGES_AT_START + 1, (uint64_t)free_tables);
+    print("process 1: starts with %lu pages; %lu tables are free\n", (uint64_t)PAGES_AT_START + 1, (uint64_t)pool.free_count);
     run_process(&first);
 }

@@ -23,7 +23,8 @@ enum { FIRST = 16, FRAMES = 64, ITEMS = 4096, SHARED_FROM = 256, SHARED_TO = 512
 #define KIND (X64_WRITE_THROUGH | X64_NO_CACHE | X64_HUGE_PAGE | X64_GLOBAL | KEY)
 
 static x64_table memory[FRAMES];
-static uint64_t pool[FRAMES];
+static uint64_t free_frames[FRAMES];
+static x64_pool pool;
 static x64_space space; /* its root is in CR3, too */
 
 static size_t rows, failed;
@@ -227,9 +228,8 @@ static uint64_t top_size(void) {
 }
 
 static uint32_t map(uint64_t page, uint64_t size, uint64_t flags, uint64_t parent_flags) {
-    x64_hierarchy hierarchy = x64_space_hierarchy(&space);
     x64_map_request request = {{page, size}, FRAME + page % FRAME, flags, parent_flags};
-    return x64_map(&hierarchy, memory, FRAMES, pool, FRAMES, &space.free_count, &request);
+    return x64_space_map_with(&space, &pool, &request);
 }
 
 /* Maps a page of 4 KiB for all accesses. */
@@ -243,8 +243,17 @@ static void unmap(uint64_t page, uint64_t size) {
     wants("the flush after it", x64_flush_after(X64_CALL_UNMAP, 0, X64_OK), X64_FLUSH_PAGE);
 }
 
+/* Makes one more space, which shares the upper half of the root, and returns its root. */
+static uint64_t new_space(void) {
+    x64_space shared = space, other = space;
+    shared.shared_from = SHARED_FROM;
+    shared.shared_to = SHARED_TO;
+    wants("new_space", x64_space_new(&shared, &pool, &other), X64_OK);
+    return other.root;
+}
+
 static void clean_up(void) {
-    wants("clean_up", x64_space_clean_up(&space, 0, lower_end() - 4096), X64_OK);
+    wants("clean_up", x64_space_clean_up(&space, &pool, 0, lower_end() - 4096), X64_OK);
     wants("the flush after it", x64_flush_after(X64_CALL_CLEAN_UP, 0, X64_OK), X64_FLUSH_TABLES);
 }
 
@@ -252,8 +261,9 @@ static void clean_up(void) {
 static void start(uint64_t levels) {
     memset(memory, 0, sizeof memory);
     for (size_t n = 0; n < FRAMES; n++)
-        pool[n] = (FIRST + FRAMES - 1 - n) * UINT64_C(4096);
-    space = (x64_space){memory, FRAMES, FIRST, FIRST * 4096, levels, pool, FRAMES, FRAMES - 1};
+        free_frames[n] = (FIRST + FRAMES - 1 - n) * UINT64_C(4096);
+    space = (x64_space){memory, FRAMES, FIRST, FIRST * 4096, levels, 0, 0};
+    pool = (x64_pool){free_frames, FRAMES, FRAMES - 1};
     controls = (x64_controls){.write_protect = true, .no_execute = true, .physical_bits = 40};
     flush_everything();
     map_page(high());
@@ -339,7 +349,7 @@ static void flush(enum flush kind, uint64_t page) {
 /* Lets the caller take free frames, in which it writes what looks like entries of pages. */
 static void take_frames(uint64_t count) {
     for (uint64_t k = 0; k < count; k++) {
-        x64_table *taken = &memory[pool[--space.free_count] / 4096 - FIRST];
+        x64_table *taken = &memory[free_frames[--pool.free_count] / 4096 - FIRST];
         for (size_t index = 0; index < 512; index++)
             taken->words[index] = FRAME | X64_PRESENT | RIGHTS;
     }
@@ -360,8 +370,7 @@ static enum verdict take_freed(enum taker taker, enum flush due) {
     if (taker == MAP) {
         map_page(PAGE + top_size());
     } else if (taker == NEW_SPACE) {
-        uint64_t root;
-        wants("new_space", x64_space_new(&space, SHARED_FROM, SHARED_TO, &root), X64_OK);
+        new_space();
         return worst(SHARED_FROM * (top_size() / 512)); /* the new root's first shared entry, seen as one of a level below */
     } else {
         take_frames(space.levels - 1);
@@ -382,10 +391,9 @@ static void try_freed_tables(uint64_t levels) {
 
 /* Maps a page in a space, lets the processor use it and go on to another space, and returns the worst of accesses there. */
 static enum verdict switch_after(uint64_t page, uint64_t flags, uint64_t levels) {
-    uint64_t root = 0;
     start(levels);
     wants("map", map(page, X64_SIZE_4KIB, X64_PRESENT | RIGHTS | flags, PARENTS), X64_OK);
-    wants("new_space", x64_space_new(&space, SHARED_FROM, SHARED_TO, &root), X64_OK);
+    uint64_t root = new_space();
     use(page);
     load_cr3(root);
     return worst(page);
@@ -552,7 +560,7 @@ static void call(enum rule rule) {
         bool is_large_due = size == X64_SIZE_4KIB && is_due(page, X64_SIZE_4KIB);
         if ((are_tables_due && rule != MAPS_BEFORE_TABLES) || (is_large_due && rule != SMALL_BEFORE_LARGE))
             settle(rule);
-        status = choice < 2 ? x64_space_prepare(&space, page, size, parent_flags) : map(page, size, some_flags() & ~X64_ACCESSED, parent_flags);
+        status = choice < 2 ? x64_space_prepare(&space, &pool, page, size, parent_flags) : map(page, size, some_flags() & ~X64_ACCESSED, parent_flags);
         if (status != X64_OK)
             return; /* nothing has changed */
     } else if (kind == X64_CALL_UNMAP) {
@@ -567,7 +575,7 @@ static void call(enum rule rule) {
         uint64_t level = 2 + below(space.levels - 1);
         status = x64_space_set_table_flags(&space, page, size, level, some_flags() | X64_PRESENT);
     } else {
-        status = x64_space_clean_up(&space, 0, lower_end() - 4096);
+        status = x64_space_clean_up(&space, &pool, 0, lower_end() - 4096);
     }
     uint32_t told = x64_flush_after(kind, parent_flags, status);
     if (told == X64_FLUSH_PAGE)

@@ -53,7 +53,7 @@ static void make_faulty(uint64_t levels, int fault) {
 static void try_faulty(uint64_t levels) {
     x64_entry entry, entries[X64_MOST_LEVELS];
     x64_taken taken[RANGE];
-    x64_controls controls = {true, true, false, false, false, 52};
+    x64_controls controls = {true, true, false, false, false, 52, false, false};
     x64_access_request access = {HEAP, X64_WRITE, true, true};
     x64_arrival arrival;
     uint64_t old, next = 0, frame;
@@ -64,44 +64,44 @@ static void try_faulty(uint64_t levels) {
         x64_hierarchy hierarchy = x64_space_hierarchy(&space);
         memcpy(copies, tables, sizeof tables);
         CHECK(x64_entries_live(&hierarchy, tables, TABLES, HEAP, entries, &count) == found);
-        CHECK(x64_find_entry(&space, HEAP, &entry) == status);
-        CHECK(x64_find_page(&space, HEAP, X64_SIZE_4KIB, &entry) == status);
-        CHECK(x64_exchange_page(&space, HEAP, X64_SIZE_4KIB, 0, &old) == status);
-        CHECK(x64_take_page(&space, HEAP, X64_SIZE_4KIB, &old) == status);
-        CHECK(x64_change_page(&space, HEAP, X64_SIZE_4KIB, 0, 0, &old) == status);
+        CHECK(x64_space_find_entry(&space, HEAP, &entry) == status);
+        CHECK(x64_space_find_page(&space, HEAP, X64_SIZE_4KIB, &entry) == status);
+        CHECK(x64_space_exchange_page(&space, HEAP, X64_SIZE_4KIB, 0, &old) == status);
+        CHECK(x64_space_take_page(&space, HEAP, X64_SIZE_4KIB, &old) == status);
+        CHECK(x64_space_change_page(&space, HEAP, X64_SIZE_4KIB, 0, 0, &old) == status);
         count = 9;
-        CHECK(x64_take_range(&space, 0, HUGE, taken, RANGE, &count, &next) == status && count == (fault == NO_WAY ? 0 : 9));
-        CHECK(x64_split_page(&space, LARGE, X64_SIZE_2MIB) == status);
-        CHECK(x64_join_page(&space, HEAP, X64_SIZE_2MIB, 0x87, &frame) == status);
+        CHECK(x64_space_take_range(&space, 0, HUGE, taken, RANGE, &count, &next) == status && count == (fault == NO_WAY ? 0 : 9));
+        CHECK(x64_space_split(&space, &pool, LARGE, X64_SIZE_2MIB) == status);
+        CHECK(x64_space_join(&space, HEAP, X64_SIZE_2MIB, 0x87, &frame) == status);
         CHECK(x64_access_live(&hierarchy, tables, TABLES, &controls, &access, &scratch, &arrival) == found);
         CHECK(memcmp(copies, tables, sizeof tables) == 0 && memcmp(&scratch, &zeros, sizeof scratch) == 0);
     }
     start(levels);
     tables[0].words[0] = X64_HUGE_PAGE | X64_PRESENT;
     CHECK(x64_space_entries(&space, HEAP, entries, X64_MOST_LEVELS, &count) == X64_PARENT_ENTRY_HUGE_PAGE);
-    CHECK(x64_find_entry(&space, HEAP, &entry) == X64_NOT_VALID);
+    CHECK(x64_space_find_entry(&space, HEAP, &entry) == X64_NOT_VALID);
 }
 
 static void try_finds(uint64_t levels) {
     x64_entry entry = {0, 0, 0, 0};
     fill(levels);
-    CHECK(x64_find_entry(&space, HEAP + 0x1234, &entry) == X64_OK && entry.level == 1 && entry.index == 1);
-    CHECK(entry.word == ((SMALL_FRAMES + 0x1000) | USUAL) && *x64_word_at(&space, &entry) == entry.word);
-    CHECK(x64_find_entry(&space, HEAP + 0x100000, &entry) == X64_NOT_MAPPED && entry.level == 1 && entry.word == 0);
-    CHECK(x64_find_entry(&space, 0, &entry) == X64_NOT_MAPPED && entry.level == 3);
-    CHECK(x64_find_entry(&space, HUGE + 5, &entry) == X64_OK && entry.level == 3);
-    CHECK(x64_find_entry(&space, UINT64_C(1) << 60, &entry) == X64_BAD_ADDRESS && entry.level == 3);
-    CHECK(x64_find_page(&space, HEAP + 0x1000, X64_SIZE_4KIB, &entry) == X64_OK && entry.index == 1);
-    CHECK(x64_find_page(&space, HEAP + 0x100000, X64_SIZE_4KIB, &entry) == X64_OK && entry.word == 0);
-    CHECK(x64_find_page(&space, 0, X64_SIZE_1GIB, &entry) == X64_OK && entry.word == 0 && entry.level == 3);
-    CHECK(x64_find_page(&space, 0, X64_SIZE_4KIB, &entry) == X64_PAGE_NOT_MAPPED);
-    CHECK(x64_find_page(&space, HUGE, X64_SIZE_4KIB, &entry) == X64_PARENT_ENTRY_HUGE_PAGE);
-    CHECK(x64_find_page(&space, HUGE, X64_SIZE_2MIB, &entry) == X64_PARENT_ENTRY_HUGE_PAGE);
-    CHECK(x64_find_page(&space, HEAP, X64_SIZE_2MIB, &entry) == X64_HAS_TABLE);
-    CHECK(x64_find_page(&space, HEAP, X64_SIZE_1GIB, &entry) == X64_HAS_TABLE);
-    CHECK(x64_find_page(&space, HEAP + 1, X64_SIZE_4KIB, &entry) == X64_BAD_PAGE);
-    CHECK(x64_find_page(&space, HEAP, 0x2000, &entry) == X64_BAD_PAGE && x64_find_page(&space, HEAP, 0, &entry) == X64_BAD_PAGE);
-    CHECK(x64_find_page(&space, UINT64_C(1) << 60, X64_SIZE_4KIB, &entry) == X64_BAD_PAGE && entry.level == 3);
+    CHECK(x64_space_find_entry(&space, HEAP + 0x1234, &entry) == X64_OK && entry.level == 1 && entry.index == 1);
+    CHECK(entry.word == ((SMALL_FRAMES + 0x1000) | USUAL) && *x64_space_word_at(&space, &entry) == entry.word);
+    CHECK(x64_space_find_entry(&space, HEAP + 0x100000, &entry) == X64_NOT_MAPPED && entry.level == 1 && entry.word == 0);
+    CHECK(x64_space_find_entry(&space, 0, &entry) == X64_NOT_MAPPED && entry.level == 3);
+    CHECK(x64_space_find_entry(&space, HUGE + 5, &entry) == X64_OK && entry.level == 3);
+    CHECK(x64_space_find_entry(&space, UINT64_C(1) << 60, &entry) == X64_BAD_ADDRESS && entry.level == 3);
+    CHECK(x64_space_find_page(&space, HEAP + 0x1000, X64_SIZE_4KIB, &entry) == X64_OK && entry.index == 1);
+    CHECK(x64_space_find_page(&space, HEAP + 0x100000, X64_SIZE_4KIB, &entry) == X64_OK && entry.word == 0);
+    CHECK(x64_space_find_page(&space, 0, X64_SIZE_1GIB, &entry) == X64_OK && entry.word == 0 && entry.level == 3);
+    CHECK(x64_space_find_page(&space, 0, X64_SIZE_4KIB, &entry) == X64_PAGE_NOT_MAPPED);
+    CHECK(x64_space_find_page(&space, HUGE, X64_SIZE_4KIB, &entry) == X64_PARENT_ENTRY_HUGE_PAGE);
+    CHECK(x64_space_find_page(&space, HUGE, X64_SIZE_2MIB, &entry) == X64_PARENT_ENTRY_HUGE_PAGE);
+    CHECK(x64_space_find_page(&space, HEAP, X64_SIZE_2MIB, &entry) == X64_HAS_TABLE);
+    CHECK(x64_space_find_page(&space, HEAP, X64_SIZE_1GIB, &entry) == X64_HAS_TABLE);
+    CHECK(x64_space_find_page(&space, HEAP + 1, X64_SIZE_4KIB, &entry) == X64_BAD_PAGE);
+    CHECK(x64_space_find_page(&space, HEAP, 0x2000, &entry) == X64_BAD_PAGE && x64_space_find_page(&space, HEAP, 0, &entry) == X64_BAD_PAGE);
+    CHECK(x64_space_find_page(&space, UINT64_C(1) << 60, X64_SIZE_4KIB, &entry) == X64_BAD_PAGE && entry.level == 3);
 }
 
 static void try_changes(uint64_t levels) {
@@ -109,59 +109,58 @@ static void try_changes(uint64_t levels) {
     const uint64_t changed = (SWAPPED & ~UINT64_C(0x20)) | 0x400;
     uint64_t old = 0;
     fill(levels);
-    CHECK(x64_find_page(&space, HEAP, X64_SIZE_4KIB, &entry) == X64_OK);
-    CHECK(x64_exchange_entry(&space, &entry, SWAPPED, &old) == X64_OK && old == (SMALL_FRAMES | USUAL));
-    CHECK(*x64_word_at(&space, &entry) == SWAPPED && fits());
-    CHECK(x64_change_entry(&space, &entry, ~UINT64_C(0x20), 0x400, &old) == X64_OK && old == SWAPPED);
-    CHECK(*x64_word_at(&space, &entry) == changed);
-    CHECK(x64_compare_exchange_entry(&space, &entry, 0) == X64_CHANGED && entry.word == changed);
-    CHECK(x64_compare_exchange_entry(&space, &entry, 0) == X64_OK && entry.word == 0 && *x64_word_at(&space, &entry) == 0);
-    CHECK(x64_find_page(&space, LARGE, X64_SIZE_2MIB, &large) == X64_OK && large.level == 2);
-    CHECK(x64_exchange_entry(&space, &large, SWAPPED & ~X64_HUGE_PAGE, &old) == X64_NOT_ALLOWED);
-    CHECK(x64_change_entry(&space, &large, ~X64_HUGE_PAGE, 0, &old) == X64_NOT_ALLOWED);
-    CHECK(x64_exchange_entry(&space, &large, SWAPPED | X64_HUGE_PAGE, &old) == X64_OK && fits());
-    CHECK(x64_find_page(&space, LARGE, X64_SIZE_4KIB, &entry) == X64_PARENT_ENTRY_HUGE_PAGE);
-    CHECK(x64_exchange_entry(&space, &large, 0, &old) == X64_OK && old == (SWAPPED | X64_HUGE_PAGE));
+    CHECK(x64_space_find_page(&space, HEAP, X64_SIZE_4KIB, &entry) == X64_OK);
+    CHECK(x64_space_exchange_entry(&space, &entry, SWAPPED, &old) == X64_OK && old == (SMALL_FRAMES | USUAL));
+    CHECK(*x64_space_word_at(&space, &entry) == SWAPPED && fits());
+    CHECK(x64_space_change_entry(&space, &entry, ~UINT64_C(0x20), 0x400, &old) == X64_OK && old == SWAPPED);
+    CHECK(*x64_space_word_at(&space, &entry) == changed);
+    CHECK(x64_space_compare_exchange_entry(&space, &entry, 0) == X64_CHANGED && entry.word == changed);
+    CHECK(x64_space_compare_exchange_entry(&space, &entry, 0) == X64_OK && entry.word == 0 && *x64_space_word_at(&space, &entry) == 0);
+    CHECK(x64_space_find_page(&space, LARGE, X64_SIZE_2MIB, &large) == X64_OK && large.level == 2);
+    CHECK(x64_space_exchange_entry(&space, &large, SWAPPED & ~X64_HUGE_PAGE, &old) == X64_NOT_ALLOWED);
+    CHECK(x64_space_change_entry(&space, &large, ~X64_HUGE_PAGE, 0, &old) == X64_NOT_ALLOWED);
+    CHECK(x64_space_exchange_entry(&space, &large, SWAPPED | X64_HUGE_PAGE, &old) == X64_OK && fits());
+    CHECK(x64_space_find_page(&space, LARGE, X64_SIZE_4KIB, &entry) == X64_PARENT_ENTRY_HUGE_PAGE);
+    CHECK(x64_space_exchange_entry(&space, &large, 0, &old) == X64_OK && old == (SWAPPED | X64_HUGE_PAGE));
     table = large; /* the entry before it names the table of the small pages */
     table.index--;
-    table.word = *x64_word_at(&space, &table);
-    CHECK(x64_exchange_entry(&space, &table, 0, &old) == X64_NOT_ALLOWED);
-    CHECK(x64_compare_exchange_entry(&space, &table, table.word + 4096) == X64_NOT_ALLOWED);
-    CHECK(x64_change_entry(&space, &table, ~UINT64_C(0), X64_HUGE_PAGE, &old) == X64_NOT_ALLOWED);
-    CHECK(x64_change_entry(&space, &table, ~X64_PRESENT, X64_ACCESSED, &old) == X64_OK && old == table.word && fits());
-    CHECK(x64_find_page(&space, HEAP + 0x1000, X64_SIZE_4KIB, &entry) == X64_PAGE_NOT_MAPPED);
-    CHECK(x64_find_page(&space, HEAP, X64_SIZE_2MIB, &entry) == X64_HAS_TABLE);
+    table.word = *x64_space_word_at(&space, &table);
+    CHECK(x64_space_exchange_entry(&space, &table, 0, &old) == X64_NOT_ALLOWED);
+    CHECK(x64_space_compare_exchange_entry(&space, &table, table.word + 4096) == X64_NOT_ALLOWED);
+    CHECK(x64_space_change_entry(&space, &table, ~UINT64_C(0), X64_HUGE_PAGE, &old) == X64_NOT_ALLOWED);
+    CHECK(x64_space_change_entry(&space, &table, ~X64_PRESENT, X64_ACCESSED, &old) == X64_OK && old == table.word && fits());
+    CHECK(x64_space_find_page(&space, HEAP + 0x1000, X64_SIZE_4KIB, &entry) == X64_PAGE_NOT_MAPPED);
+    CHECK(x64_space_find_page(&space, HEAP, X64_SIZE_2MIB, &entry) == X64_HAS_TABLE);
     table.table = 0;
-    CHECK(x64_exchange_entry(&space, &table, 0, &old) == X64_NO_TABLE);
-    CHECK(x64_change_entry(&space, &table, 0, 0, &old) == X64_NO_TABLE);
-    CHECK(x64_compare_exchange_entry(&space, &table, 0) == X64_NO_TABLE);
+    CHECK(x64_space_exchange_entry(&space, &table, 0, &old) == X64_NO_TABLE);
+    CHECK(x64_space_change_entry(&space, &table, 0, 0, &old) == X64_NO_TABLE);
+    CHECK(x64_space_compare_exchange_entry(&space, &table, 0) == X64_NO_TABLE);
     CHECK(fits());
-    CHECK(strcmp(x64_live_status_name(X64_HAS_TABLE), "X64_HAS_TABLE") == 0);
-    CHECK(strcmp(x64_live_status_name(X64_CHANGED), "X64_CHANGED") == 0 && strcmp(x64_live_status_name(X64_OK), "X64_OK") == 0);
-    CHECK(strcmp(x64_status_name(X64_HAS_TABLE), "unknown status") == 0 && strcmp(x64_status_name(X64_CHANGED), "unknown status") == 0);
+    CHECK(strcmp(x64_status_name(X64_HAS_TABLE), "X64_HAS_TABLE") == 0);
+    CHECK(strcmp(x64_status_name(X64_CHANGED), "X64_CHANGED") == 0 && strcmp(x64_status_name(X64_OK), "X64_OK") == 0);
 }
 
 static void try_pages(uint64_t levels) {
     uint64_t old = 7;
     fill(levels);
-    CHECK(x64_change_page(&space, HEAP, X64_SIZE_4KIB, ~X64_WRITABLE, X64_ACCESSED, &old) == X64_OK && old == (SMALL_FRAMES | USUAL));
-    CHECK(x64_exchange_page(&space, HEAP, X64_SIZE_4KIB, SWAPPED, &old) == X64_OK);
+    CHECK(x64_space_change_page(&space, HEAP, X64_SIZE_4KIB, ~X64_WRITABLE, X64_ACCESSED, &old) == X64_OK && old == (SMALL_FRAMES | USUAL));
+    CHECK(x64_space_exchange_page(&space, HEAP, X64_SIZE_4KIB, SWAPPED, &old) == X64_OK);
     CHECK(old == (SMALL_FRAMES | X64_PRESENT | X64_USER_ACCESSIBLE | X64_ACCESSED));
     old = 7;
-    CHECK(x64_change_page(&space, HEAP, X64_SIZE_4KIB, ~X64_WRITABLE, 0, &old) == X64_PAGE_NOT_MAPPED && old == 7);
-    CHECK(x64_take_page(&space, HEAP, X64_SIZE_4KIB, &old) == X64_OK && old == SWAPPED);
+    CHECK(x64_space_change_page(&space, HEAP, X64_SIZE_4KIB, ~X64_WRITABLE, 0, &old) == X64_PAGE_NOT_MAPPED && old == 7);
+    CHECK(x64_space_take_page(&space, HEAP, X64_SIZE_4KIB, &old) == X64_OK && old == SWAPPED);
     old = 7;
-    CHECK(x64_take_page(&space, HEAP, X64_SIZE_4KIB, &old) == X64_PAGE_NOT_MAPPED && old == 7);
-    CHECK(x64_exchange_page(&space, HEAP, X64_SIZE_4KIB, SWAPPED, &old) == X64_PAGE_NOT_MAPPED && old == 7);
-    CHECK(x64_change_page(&space, HEAP, X64_SIZE_4KIB, 0, 0, &old) == X64_PAGE_NOT_MAPPED);
-    CHECK(x64_change_page(&space, HUGE, X64_SIZE_1GIB, ~X64_HUGE_PAGE, 0, &old) == X64_NOT_ALLOWED && old == 7);
-    CHECK(x64_exchange_page(&space, HUGE, X64_SIZE_1GIB, 0x5007, &old) == X64_NOT_ALLOWED && old == 7);
-    CHECK(x64_exchange_page(&space, HUGE, X64_SIZE_2MIB, 0, &old) == X64_PARENT_ENTRY_HUGE_PAGE);
-    CHECK(x64_take_page(&space, HUGE, X64_SIZE_2MIB, &old) == X64_PARENT_ENTRY_HUGE_PAGE);
-    CHECK(x64_take_page(&space, HEAP, X64_SIZE_2MIB, &old) == X64_HAS_TABLE);
-    CHECK(x64_change_page(&space, HEAP, X64_SIZE_1GIB, 0, 0, &old) == X64_HAS_TABLE);
-    CHECK(x64_take_page(&space, 5, X64_SIZE_4KIB, &old) == X64_BAD_PAGE && old == 7);
-    CHECK(x64_take_page(&space, HUGE, X64_SIZE_1GIB, &old) == X64_OK && old == (UINT64_C(0x40000000) | USUAL | X64_HUGE_PAGE));
+    CHECK(x64_space_take_page(&space, HEAP, X64_SIZE_4KIB, &old) == X64_PAGE_NOT_MAPPED && old == 7);
+    CHECK(x64_space_exchange_page(&space, HEAP, X64_SIZE_4KIB, SWAPPED, &old) == X64_PAGE_NOT_MAPPED && old == 7);
+    CHECK(x64_space_change_page(&space, HEAP, X64_SIZE_4KIB, 0, 0, &old) == X64_PAGE_NOT_MAPPED);
+    CHECK(x64_space_change_page(&space, HUGE, X64_SIZE_1GIB, ~X64_HUGE_PAGE, 0, &old) == X64_NOT_ALLOWED && old == 7);
+    CHECK(x64_space_exchange_page(&space, HUGE, X64_SIZE_1GIB, 0x5007, &old) == X64_NOT_ALLOWED && old == 7);
+    CHECK(x64_space_exchange_page(&space, HUGE, X64_SIZE_2MIB, 0, &old) == X64_PARENT_ENTRY_HUGE_PAGE);
+    CHECK(x64_space_take_page(&space, HUGE, X64_SIZE_2MIB, &old) == X64_PARENT_ENTRY_HUGE_PAGE);
+    CHECK(x64_space_take_page(&space, HEAP, X64_SIZE_2MIB, &old) == X64_HAS_TABLE);
+    CHECK(x64_space_change_page(&space, HEAP, X64_SIZE_1GIB, 0, 0, &old) == X64_HAS_TABLE);
+    CHECK(x64_space_take_page(&space, 5, X64_SIZE_4KIB, &old) == X64_BAD_PAGE && old == 7);
+    CHECK(x64_space_take_page(&space, HUGE, X64_SIZE_1GIB, &old) == X64_OK && old == (UINT64_C(0x40000000) | USUAL | X64_HUGE_PAGE));
     CHECK(fits());
 }
 
@@ -170,23 +169,23 @@ static void try_ranges(uint64_t levels) {
     size_t count = 9;
     uint64_t next = 7, old, half = (UINT64_C(1) << (11 + 9 * levels)) - 4096;
     fill(levels);
-    CHECK(x64_exchange_page(&space, HEAP + 0x3000, X64_SIZE_4KIB, SWAPPED, &old) == X64_OK);
-    CHECK(x64_take_range(&space, 1, half, taken, RANGE, &count, &next) == X64_BAD_PAGE);
-    CHECK(x64_take_range(&space, 0, half + 4096, taken, RANGE, &count, &next) == X64_BAD_PAGE);
-    CHECK(x64_take_range(&space, 0, LAST_PAGE, taken, RANGE, &count, &next) == X64_BAD_PAGE && count == 9 && next == 7);
-    CHECK(x64_take_range(&space, HUGE, 0, taken, RANGE, &count, &next) == X64_OK && count == 0 && next == 7);
-    CHECK(x64_take_range(&space, 0, HUGE + 4096, taken, 3, &count, &next) == X64_MORE && count == 3 && next == HEAP + 0x3000);
+    CHECK(x64_space_exchange_page(&space, HEAP + 0x3000, X64_SIZE_4KIB, SWAPPED, &old) == X64_OK);
+    CHECK(x64_space_take_range(&space, 1, half, taken, RANGE, &count, &next) == X64_BAD_PAGE);
+    CHECK(x64_space_take_range(&space, 0, half + 4096, taken, RANGE, &count, &next) == X64_BAD_PAGE);
+    CHECK(x64_space_take_range(&space, 0, LAST_PAGE, taken, RANGE, &count, &next) == X64_BAD_PAGE && count == 9 && next == 7);
+    CHECK(x64_space_take_range(&space, HUGE, 0, taken, RANGE, &count, &next) == X64_OK && count == 0 && next == 7);
+    CHECK(x64_space_take_range(&space, 0, HUGE + 4096, taken, 3, &count, &next) == X64_MORE && count == 3 && next == HEAP + 0x3000);
     CHECK(taken[2].page == HEAP + 0x2000 && taken[2].size == X64_SIZE_4KIB && taken[2].word == ((SMALL_FRAMES + 0x2000) | USUAL));
-    CHECK(x64_take_range(&space, next, HUGE + 4096, taken, RANGE, &count, &next) == X64_PARENT_ENTRY_HUGE_PAGE);
+    CHECK(x64_space_take_range(&space, next, HUGE + 4096, taken, RANGE, &count, &next) == X64_PARENT_ENTRY_HUGE_PAGE);
     CHECK(count == PAGES - 3 + 1 && next == HUGE && taken[0].word == SWAPPED && taken[PAGES - 3].size == X64_SIZE_2MIB);
-    CHECK(x64_take_range(&space, HUGE + 4096, half, taken, RANGE, &count, &next) == X64_PARENT_ENTRY_HUGE_PAGE);
+    CHECK(x64_space_take_range(&space, HUGE + 4096, half, taken, RANGE, &count, &next) == X64_PARENT_ENTRY_HUGE_PAGE);
     CHECK(count == 0 && next == HUGE + 4096);
-    CHECK(x64_take_range(&space, 0, half, taken, RANGE, &count, &next) == X64_OK && count == 1 && taken[0].page == HUGE);
-    CHECK(next == HUGE + 4096 && x64_take_range(&space, 0, half, taken, 0, &count, &next) == X64_OK && count == 0);
-    CHECK(x64_space_map(&space, LAST_PAGE, X64_SIZE_4KIB, 0x5000, USUAL) == X64_OK);
-    CHECK(x64_take_range(&space, UINT64_MAX << (11 + 9 * levels), LAST_PAGE, taken, RANGE, &count, &next) == X64_OK);
+    CHECK(x64_space_take_range(&space, 0, half, taken, RANGE, &count, &next) == X64_OK && count == 1 && taken[0].page == HUGE);
+    CHECK(next == HUGE + 4096 && x64_space_take_range(&space, 0, half, taken, 0, &count, &next) == X64_OK && count == 0);
+    CHECK(x64_space_map(&space, &pool, LAST_PAGE, X64_SIZE_4KIB, 0x5000, USUAL) == X64_OK);
+    CHECK(x64_space_take_range(&space, UINT64_MAX << (11 + 9 * levels), LAST_PAGE, taken, RANGE, &count, &next) == X64_OK);
     CHECK(count == 1 && taken[0].page == LAST_PAGE && taken[0].word == (0x5000 | USUAL));
-    CHECK(x64_space_clean_up(&space, 0, LAST_PAGE) == X64_OK && space.free_count == TABLES - 1 && fits());
+    CHECK(x64_space_clean_up(&space, &pool, 0, LAST_PAGE) == X64_OK && pool.free_count == TABLES - 1 && fits());
 }
 
 /* A table that lacks X64_PRESENT is passed over, with its pages. */
@@ -196,12 +195,12 @@ static void try_hidden_table(uint64_t levels) {
     size_t count = 9;
     uint64_t next = 7, old;
     fill(levels);
-    CHECK(x64_find_page(&space, LARGE, X64_SIZE_2MIB, &entry) == X64_OK);
+    CHECK(x64_space_find_page(&space, LARGE, X64_SIZE_2MIB, &entry) == X64_OK);
     entry.index--;
-    CHECK(x64_change_entry(&space, &entry, ~X64_PRESENT, 0, &old) == X64_OK);
-    CHECK(x64_take_range(&space, 0, HUGE - 4096, taken, RANGE, &count, &next) == X64_OK && count == 1 && taken[0].page == LARGE);
-    CHECK(x64_change_entry(&space, &entry, ~UINT64_C(0), X64_PRESENT, &old) == X64_OK);
-    CHECK(x64_take_range(&space, 0, HUGE - 4096, taken, RANGE, &count, &next) == X64_OK && count == PAGES && taken[0].page == HEAP);
+    CHECK(x64_space_change_entry(&space, &entry, ~X64_PRESENT, 0, &old) == X64_OK);
+    CHECK(x64_space_take_range(&space, 0, HUGE - 4096, taken, RANGE, &count, &next) == X64_OK && count == 1 && taken[0].page == LARGE);
+    CHECK(x64_space_change_entry(&space, &entry, ~UINT64_C(0), X64_PRESENT, &old) == X64_OK);
+    CHECK(x64_space_take_range(&space, 0, HUGE - 4096, taken, RANGE, &count, &next) == X64_OK && count == PAGES && taken[0].page == HEAP);
 }
 
 /* ---- flushes */
@@ -284,19 +283,19 @@ static void try_words(uint64_t levels, size_t rounds) {
         CHECK(x64_entries_live(&hierarchy, tables, TABLES, addresses[below(5)], entries, &read) <= X64_NOT_MAPPED);
         x64_entry entry = entries[below(read)];
         uint64_t word = below(3) ? some_word() : entry.word ^ (UINT64_C(1) << below(64)), old = 0;
-        uint32_t status = x64_exchange_entry(&space, &entry, word, &old);
+        uint32_t status = x64_space_exchange_entry(&space, &entry, word, &old);
         CHECK(status == X64_OK ? old == entry.word : status == X64_NOT_ALLOWED);
-        CHECK(*x64_word_at(&space, &entry) == (status == X64_OK ? word : entry.word));
+        CHECK(*x64_space_word_at(&space, &entry) == (status == X64_OK ? word : entry.word));
         if (status == X64_OK) {
             allowed++;
             CHECK(fits() && count_tables(space.root, levels) == count);
             if (below(4)) /* put it back, so that the hierarchy stays as rich as it is */
-                CHECK(x64_exchange_entry(&space, &entry, entry.word, &old) == X64_OK && old == word);
+                CHECK(x64_space_exchange_entry(&space, &entry, entry.word, &old) == X64_OK && old == word);
         } else {
             refused++;
-            *x64_word_at(&space, &entry) = word;
+            *x64_space_word_at(&space, &entry) = word;
             harmless += fits() && count_tables(space.root, levels) == count;
-            *x64_word_at(&space, &entry) = entry.word;
+            *x64_space_word_at(&space, &entry) = entry.word;
         }
     }
     CHECK(rounds < 1000 || (allowed > rounds / 10 && refused > rounds / 10));
@@ -309,30 +308,30 @@ static void try_words(uint64_t levels, size_t rounds) {
 static void try_split_refusals(uint64_t levels) {
     uint64_t frame = 0, old = 0;
     fill(levels);
-    CHECK(x64_split_page(&space, HEAP, X64_SIZE_4KIB) == X64_BAD_PAGE && x64_split_page(&space, HEAP, 5) == X64_BAD_PAGE);
-    CHECK(x64_split_page(&space, HEAP, X64_SIZE_2MIB) == X64_HAS_TABLE);
-    CHECK(x64_split_page(&space, HUGE, X64_SIZE_2MIB) == X64_PARENT_ENTRY_HUGE_PAGE);
-    CHECK(x64_split_page(&space, HEAP + 4 * X64_SIZE_2MIB, X64_SIZE_2MIB) == X64_PAGE_NOT_MAPPED);
-    CHECK(x64_split_page(&space, 4 * X64_SIZE_1GIB, X64_SIZE_2MIB) == X64_PAGE_NOT_MAPPED);
-    CHECK(x64_join_page(&space, HEAP, X64_SIZE_2MIB, 0x87, &frame) == X64_NOT_ALLOWED);
-    CHECK(x64_join_page(&space, HEAP, X64_SIZE_4KIB, 0x7, &frame) == X64_BAD_PAGE);
-    CHECK(x64_join_page(&space, HEAP + 4096, X64_SIZE_2MIB, 0x87, &frame) == X64_BAD_PAGE);
-    CHECK(x64_join_page(&space, UINT64_C(1) << 60, X64_SIZE_2MIB, 0x87, &frame) == X64_BAD_PAGE);
-    CHECK(x64_join_page(&space, 0, X64_SIZE_2MIB, 0x87, &frame) == X64_PAGE_NOT_MAPPED);
-    CHECK(x64_join_page(&space, HUGE, X64_SIZE_1GIB, 0x87, &frame) == X64_PARENT_ENTRY_HUGE_PAGE && frame == 0);
-    size_t free_count = space.free_count;
-    space.free_count = 0;
-    CHECK(x64_split_page(&space, HUGE, X64_SIZE_1GIB) == X64_FRAME_ALLOCATION_FAILED);
-    space.free_count = space.capacity + 1;
-    CHECK(x64_split_page(&space, HUGE, X64_SIZE_1GIB) == X64_BAD_ARRAY);
-    space.free_count = free_count;
+    CHECK(x64_space_split(&space, &pool, HEAP, X64_SIZE_4KIB) == X64_BAD_PAGE && x64_space_split(&space, &pool, HEAP, 5) == X64_BAD_PAGE);
+    CHECK(x64_space_split(&space, &pool, HEAP, X64_SIZE_2MIB) == X64_HAS_TABLE);
+    CHECK(x64_space_split(&space, &pool, HUGE, X64_SIZE_2MIB) == X64_PARENT_ENTRY_HUGE_PAGE);
+    CHECK(x64_space_split(&space, &pool, HEAP + 4 * X64_SIZE_2MIB, X64_SIZE_2MIB) == X64_PAGE_NOT_MAPPED);
+    CHECK(x64_space_split(&space, &pool, 4 * X64_SIZE_1GIB, X64_SIZE_2MIB) == X64_PAGE_NOT_MAPPED);
+    CHECK(x64_space_join(&space, HEAP, X64_SIZE_2MIB, 0x87, &frame) == X64_NOT_ALLOWED);
+    CHECK(x64_space_join(&space, HEAP, X64_SIZE_4KIB, 0x7, &frame) == X64_BAD_PAGE);
+    CHECK(x64_space_join(&space, HEAP + 4096, X64_SIZE_2MIB, 0x87, &frame) == X64_BAD_PAGE);
+    CHECK(x64_space_join(&space, UINT64_C(1) << 60, X64_SIZE_2MIB, 0x87, &frame) == X64_BAD_PAGE);
+    CHECK(x64_space_join(&space, 0, X64_SIZE_2MIB, 0x87, &frame) == X64_PAGE_NOT_MAPPED);
+    CHECK(x64_space_join(&space, HUGE, X64_SIZE_1GIB, 0x87, &frame) == X64_PARENT_ENTRY_HUGE_PAGE && frame == 0);
+    size_t free_count = pool.free_count;
+    pool.free_count = 0;
+    CHECK(x64_space_split(&space, &pool, HUGE, X64_SIZE_1GIB) == X64_FRAME_ALLOCATION_FAILED);
+    pool.free_count = pool.capacity + 1;
+    CHECK(x64_space_split(&space, &pool, HUGE, X64_SIZE_1GIB) == X64_BAD_ARRAY);
+    pool.free_count = free_count;
     for (unsigned bit = 13; bit < 30; bit++) { /* address bits that are reserved */
         uint64_t word = UINT64_C(0x40000000) | USUAL | X64_HUGE_PAGE | UINT64_C(1) << bit;
-        CHECK(x64_exchange_page(&space, HUGE, X64_SIZE_1GIB, word, &old) == X64_OK);
-        CHECK(x64_split_page(&space, HUGE, X64_SIZE_1GIB) == X64_INVALID_FRAME_ADDRESS && space.free_count == free_count);
-        CHECK(x64_take_page(&space, HUGE, X64_SIZE_1GIB, &old) == X64_OK && old == word);
-        CHECK(x64_exchange_page(&space, HUGE, X64_SIZE_1GIB, word, &old) == X64_PAGE_NOT_MAPPED);
-        CHECK(x64_space_map(&space, HUGE, X64_SIZE_1GIB, 0, USUAL) == X64_OK);
+        CHECK(x64_space_exchange_page(&space, HUGE, X64_SIZE_1GIB, word, &old) == X64_OK);
+        CHECK(x64_space_split(&space, &pool, HUGE, X64_SIZE_1GIB) == X64_INVALID_FRAME_ADDRESS && pool.free_count == free_count);
+        CHECK(x64_space_take_page(&space, HUGE, X64_SIZE_1GIB, &old) == X64_OK && old == word);
+        CHECK(x64_space_exchange_page(&space, HUGE, X64_SIZE_1GIB, word, &old) == X64_PAGE_NOT_MAPPED);
+        CHECK(x64_space_map(&space, &pool, HUGE, X64_SIZE_1GIB, 0, USUAL) == X64_OK);
     }
     CHECK(fits());
 }
@@ -358,13 +357,13 @@ static bool walks_stay(uint64_t page, uint64_t size, const struct walks *before)
 /* Splits one part of a page of 1 GiB again, and joins its parts, if they are present. */
 static void try_part(uint64_t page, uint64_t word, uint64_t number, const struct walks *before) {
     uint64_t inner = page + number * X64_SIZE_2MIB, part = x64_part_of(3, word, number), frame = 0;
-    size_t free_count = space.free_count;
-    CHECK(x64_split_page(&space, inner, X64_SIZE_2MIB) == X64_OK && fits() && walks_stay(page, X64_SIZE_1GIB, before));
-    CHECK(x64_join_page(&space, page, X64_SIZE_1GIB, word, &frame) == X64_NOT_ALLOWED);
+    size_t free_count = pool.free_count;
+    CHECK(x64_space_split(&space, &pool, inner, X64_SIZE_2MIB) == X64_OK && fits() && walks_stay(page, X64_SIZE_1GIB, before));
+    CHECK(x64_space_join(&space, page, X64_SIZE_1GIB, word, &frame) == X64_NOT_ALLOWED);
     if (word & X64_PRESENT) {
-        CHECK(x64_join_page(&space, inner, X64_SIZE_2MIB, part, &frame) == X64_OK);
+        CHECK(x64_space_join(&space, inner, X64_SIZE_2MIB, part, &frame) == X64_OK);
         give_back(frame);
-        CHECK(fits() && space.free_count == free_count);
+        CHECK(fits() && pool.free_count == free_count);
     }
 }
 
@@ -373,7 +372,7 @@ static void try_wrong_words(uint64_t page, uint64_t size, uint64_t word) {
     const unsigned bits[] = {0, 1, 2, 3, 4, 7, 8, 12, 13, 20, 21, 29, 30, 35, 51, 59, 60, 61, 62, 63};
     uint64_t frame = 7;
     for (size_t k = 0; k < sizeof bits / sizeof bits[0]; k++)
-        CHECK(x64_join_page(&space, page, size, word ^ UINT64_C(1) << bits[k], &frame) == X64_NOT_ALLOWED && frame == 7);
+        CHECK(x64_space_join(&space, page, size, word ^ UINT64_C(1) << bits[k], &frame) == X64_NOT_ALLOWED && frame == 7);
 }
 
 /* Splits a page that has this word, changes a part and joins them. */
@@ -383,23 +382,23 @@ static void try_split(uint64_t page, uint64_t size, uint64_t word) {
     const uint64_t part = x64_part_of(level, word, number), kept = X64_GLOBAL | MARKS | X64_NO_EXECUTE | UINT64_C(0x7ff0000000000e18);
     uint64_t old = 0, frame = 0, late = below(4) ? 0 : X64_DIRTY;
     x64_entry entry = {0, 0, 0, 0};
-    size_t free_count = space.free_count;
+    size_t free_count = pool.free_count;
     walk_all(page, size, &before);
-    CHECK(x64_split_page(&space, page, size) == X64_OK && space.free_count == free_count - 1 && fits() && walks_stay(page, size, &before));
-    CHECK(x64_find_page(&space, inner, part_size, &entry) == X64_OK && entry.word == part && ((part ^ word) & kept) == 0);
+    CHECK(x64_space_split(&space, &pool, page, size) == X64_OK && pool.free_count == free_count - 1 && fits() && walks_stay(page, size, &before));
+    CHECK(x64_space_find_page(&space, inner, part_size, &entry) == X64_OK && entry.word == part && ((part ^ word) & kept) == 0);
     CHECK((part & (level == 2 ? 0x80 : 0x1000)) == (word & 0x1000 ? level == 2 ? 0x80u : 0x1000u : 0));
     try_wrong_words(page, size, word);
     if (level == 3)
         try_part(page, word, number, &before);
     if (level == 3 && !(word & X64_PRESENT))
         return; /* one of the parts is still split */
-    CHECK(x64_exchange_page(&space, inner, part_size, part ^ X64_WRITABLE, &old) == X64_OK && ((old ^ part) & ~MARKS) == 0);
-    CHECK(x64_join_page(&space, page, size, word, &frame) == X64_NOT_ALLOWED);
-    CHECK(x64_exchange_page(&space, inner, part_size, part | late, &old) == X64_OK);
-    CHECK(x64_join_page(&space, page, size, word, &frame) == X64_OK && x64_find_page(&space, page, size, &entry) == X64_OK);
+    CHECK(x64_space_exchange_page(&space, inner, part_size, part ^ X64_WRITABLE, &old) == X64_OK && ((old ^ part) & ~MARKS) == 0);
+    CHECK(x64_space_join(&space, page, size, word, &frame) == X64_NOT_ALLOWED);
+    CHECK(x64_space_exchange_page(&space, inner, part_size, part | late, &old) == X64_OK);
+    CHECK(x64_space_join(&space, page, size, word, &frame) == X64_OK && x64_space_find_page(&space, page, size, &entry) == X64_OK);
     CHECK(entry.word == (word | X64_ACCESSED | (word & X64_WRITABLE ? X64_DIRTY : 0) | late));
     give_back(frame);
-    CHECK(walks_stay(page, size, &before) && space.free_count == free_count && fits());
+    CHECK(walks_stay(page, size, &before) && pool.free_count == free_count && fits());
 }
 
 static void try_splits(uint64_t levels, size_t rounds) {
@@ -411,9 +410,9 @@ static void try_splits(uint64_t levels, size_t rounds) {
         request.parent_flags = USUAL;
         start(levels);
         x64_hierarchy hierarchy = x64_space_hierarchy(&space);
-        CHECK(x64_map(&hierarchy, tables, TABLES, pool, TABLES, &space.free_count, &request) == X64_OK);
+        CHECK(x64_map(&hierarchy, tables, TABLES, frames, TABLES, &pool.free_count, &request) == X64_OK);
         uint64_t word = request.frame | request.flags | X64_HUGE_PAGE | (below(2) ? 0x1000 : 0);
-        CHECK(x64_exchange_page(&space, page, size, word, &old) == X64_OK && (old | 0x1000) == (word | 0x1000));
+        CHECK(x64_space_exchange_page(&space, page, size, word, &old) == X64_OK && (old | 0x1000) == (word | 0x1000));
         try_split(page, size, word);
     }
 }
@@ -425,14 +424,15 @@ static void try_join_below(uint64_t levels) {
     uint64_t old, frame = 0;
     x64_entry entry = {0, 0, 0, 0};
     fill(levels);
-    CHECK(x64_split_page(&space, LARGE, X64_SIZE_2MIB) == X64_OK && x64_find_page(&space, HEAP + 2 * X64_SIZE_2MIB, X64_SIZE_2MIB, &entry) == X64_OK);
+    CHECK(x64_space_split(&space, &pool, LARGE, X64_SIZE_2MIB) == X64_OK);
+    CHECK(x64_space_find_page(&space, HEAP + 2 * X64_SIZE_2MIB, X64_SIZE_2MIB, &entry) == X64_OK);
     entry.index--;
-    CHECK(x64_change_entry(&space, &entry, ~(X64_WRITABLE | X64_USER_ACCESSIBLE), X64_NO_EXECUTE, &old) == X64_OK);
+    CHECK(x64_space_change_entry(&space, &entry, ~(X64_WRITABLE | X64_USER_ACCESSIBLE), X64_NO_EXECUTE, &old) == X64_OK);
     walk_all(LARGE, X64_SIZE_2MIB, &before);
-    CHECK(x64_join_page(&space, LARGE, X64_SIZE_2MIB, word | X64_WRITABLE, &frame) == X64_NOT_ALLOWED);
-    CHECK(x64_join_page(&space, LARGE, X64_SIZE_2MIB, word | X64_USER_ACCESSIBLE, &frame) == X64_NOT_ALLOWED);
-    CHECK(x64_join_page(&space, LARGE, X64_SIZE_2MIB, word & ~X64_NO_EXECUTE, &frame) == X64_NOT_ALLOWED && frame == 0);
-    CHECK(x64_join_page(&space, LARGE, X64_SIZE_2MIB, word, &frame) == X64_OK && walks_stay(LARGE, X64_SIZE_2MIB, &before));
+    CHECK(x64_space_join(&space, LARGE, X64_SIZE_2MIB, word | X64_WRITABLE, &frame) == X64_NOT_ALLOWED);
+    CHECK(x64_space_join(&space, LARGE, X64_SIZE_2MIB, word | X64_USER_ACCESSIBLE, &frame) == X64_NOT_ALLOWED);
+    CHECK(x64_space_join(&space, LARGE, X64_SIZE_2MIB, word & ~X64_NO_EXECUTE, &frame) == X64_NOT_ALLOWED && frame == 0);
+    CHECK(x64_space_join(&space, LARGE, X64_SIZE_2MIB, word, &frame) == X64_OK && walks_stay(LARGE, X64_SIZE_2MIB, &before));
     give_back(frame);
     CHECK(fits());
 }
@@ -459,7 +459,7 @@ static void hide_one(uint64_t address) {
     size_t read = 1;
     uint64_t old;
     if (x64_entries_live(&hierarchy, tables, TABLES, address, entries, &read) < X64_BAD_LEVELS)
-        CHECK(x64_change_entry(&space, &entries[below(read)], ~X64_PRESENT, 0, &old) == X64_OK);
+        CHECK(x64_space_change_entry(&space, &entries[below(read)], ~X64_PRESENT, 0, &old) == X64_OK);
 }
 
 /* Makes maps at random by x64_map, and the same by x64_map_as_mapper in a copy. What x64_map refuses must change nothing. */
@@ -472,23 +472,23 @@ static void try_maps(uint64_t levels, size_t rounds) {
     for (size_t n = 0; n < rounds; n++) {
         if (n % 64 == 0) {
             start(levels);
-            space.free_count = below(8) ? below(TABLES) : below(4);
+            pool.free_count = below(8) ? below(TABLES) : below(4);
         }
         x64_map_request request = some_request();
-        size_t free_before = space.free_count, free_count = below(100) ? free_before : TABLES + 1;
+        size_t free_before = pool.free_count, free_count = below(100) ? free_before : TABLES + 1;
         x64_hierarchy hierarchy = x64_space_hierarchy(&space);
         memcpy(before, tables, sizeof tables);
         memcpy(copies, tables, sizeof tables);
-        space.free_count = free_count;
-        uint32_t told = x64_map_as_mapper(&hierarchy, copies, TABLES, pool, TABLES, &free_count, &request);
-        uint32_t found = x64_map(&hierarchy, tables, TABLES, pool, TABLES, &space.free_count, &request);
+        pool.free_count = free_count;
+        uint32_t told = x64_map_as_mapper(&hierarchy, copies, TABLES, frames, TABLES, &free_count, &request);
+        uint32_t found = x64_map(&hierarchy, tables, TABLES, frames, TABLES, &pool.free_count, &request);
         CHECK(found == told);
         counts[found]++;
         if (found == X64_OK) {
-            CHECK(space.free_count == free_count && memcmp(tables, copies, sizeof tables) == 0);
+            CHECK(pool.free_count == free_count && memcmp(tables, copies, sizeof tables) == 0);
         } else {
-            CHECK(memcmp(tables, before, sizeof tables) == 0 && (space.free_count == free_before || found == X64_BAD_ARRAY));
-            space.free_count = free_before;
+            CHECK(memcmp(tables, before, sizeof tables) == 0 && (pool.free_count == free_before || found == X64_BAD_ARRAY));
+            pool.free_count = free_before;
             left += memcmp(before, copies, sizeof tables) != 0;
         }
         if (below(8) == 0)
@@ -512,22 +512,22 @@ static void try_prepared(uint64_t levels, size_t rounds) {
     for (size_t n = 0; n < rounds; n++) {
         if (n % 64 == 0) {
             start(levels);
-            space.free_count = below(8) ? below(TABLES) : below(4);
+            pool.free_count = below(8) ? below(TABLES) : below(4);
         }
         x64_map_request request = some_request();
-        size_t free_before = space.free_count, free_count = free_before;
+        size_t free_before = pool.free_count, free_count = free_before;
         x64_hierarchy hierarchy = x64_space_hierarchy(&space);
         memcpy(before, tables, sizeof tables);
         memcpy(copies, tables, sizeof tables);
-        uint32_t alone = x64_map(&hierarchy, copies, TABLES, pool, TABLES, &free_count, &request);
-        uint32_t status = x64_space_prepare(&space, request.page.start, request.page.size, request.parent_flags);
+        uint32_t alone = x64_map(&hierarchy, copies, TABLES, frames, TABLES, &free_count, &request);
+        uint32_t status = x64_space_prepare(&space, &pool, request.page.start, request.page.size, request.parent_flags);
         counts[status]++;
         if (status == X64_OK) {
-            CHECK(x64_map(&hierarchy, tables, TABLES, pool, TABLES, &space.free_count, &request) == alone);
-            CHECK(alone != X64_OK || (space.free_count == free_count && memcmp(tables, copies, sizeof tables) == 0));
+            CHECK(x64_map(&hierarchy, tables, TABLES, frames, TABLES, &pool.free_count, &request) == alone);
+            CHECK(alone != X64_OK || (pool.free_count == free_count && memcmp(tables, copies, sizeof tables) == 0));
             mapped += alone == X64_OK;
         } else {
-            CHECK(memcmp(tables, before, sizeof tables) == 0 && space.free_count == free_before);
+            CHECK(memcmp(tables, before, sizeof tables) == 0 && pool.free_count == free_before);
             CHECK(alone == status || alone == X64_NOT_ALLOWED || alone == X64_BAD_FRAME);
         }
         if (below(8) == 0)
@@ -612,7 +612,8 @@ static void try_accesses(uint64_t levels, size_t rounds) {
             fill_wild();
         uint64_t address = some_address(4) + below(4096);
         x64_access_request request = {address, (uint32_t)below(below(50) ? 3 : 4), below(2) != 0, below(2) != 0};
-        x64_controls controls = {below(2) != 0, below(4) != 0, below(2) != 0, below(2) != 0, below(2) != 0, (uint8_t)(below(50) ? 40 + below(13) : below(80))};
+        x64_controls controls = {below(2) != 0, below(4) != 0, below(2) != 0, below(2) != 0, below(2) != 0, (uint8_t)(below(50) ? 40 + below(13) : below(80)),
+                                 below(4) == 0, below(4) == 0};
         counts[try_access(address, &controls, &request)]++;
     }
     for (size_t k = 0; rounds >= 1000 && k < sizeof seen / sizeof seen[0]; k++)
@@ -632,13 +633,13 @@ static void try_second_pool(uint64_t levels) {
     CHECK(x64_pool_fits(&hierarchy, tables, TABLES, gathered, below_root, 0, visited, TABLES) == X64_OK);
     CHECK(x64_pool_fits(&hierarchy, tables, TABLES, gathered, below_root - 1, 0, visited, TABLES) == X64_NOT_VALID);
     for (size_t k = 0; k < PAGES; k++)
-        CHECK(x64_take_page(&space, HEAP + k * 4096, X64_SIZE_4KIB, &old) == X64_OK);
+        CHECK(x64_space_take_page(&space, HEAP + k * 4096, X64_SIZE_4KIB, &old) == X64_OK);
     CHECK(x64_clean_up(&hierarchy, tables, TABLES, gathered, below_root, &free_count, 0, LAST_PAGE) == X64_OK && free_count == 1);
     CHECK(fits() && x64_pool_fits(&hierarchy, tables, TABLES, gathered, below_root, free_count, visited, TABLES) == X64_OK);
-    CHECK(x64_space_map(&space, HEAP, X64_SIZE_4KIB, SMALL_FRAMES, USUAL) == X64_OK && fits());
+    CHECK(x64_space_map(&space, &pool, HEAP, X64_SIZE_4KIB, SMALL_FRAMES, USUAL) == X64_OK && fits());
     while (free_count > 0)
-        space.pool[space.free_count++] = gathered[--free_count];
-    CHECK(fits() && space.free_count == TABLES - 1 - below_root);
+        frames[pool.free_count++] = gathered[--free_count];
+    CHECK(fits() && pool.free_count == TABLES - 1 - below_root);
 }
 
 int main(int argc, char **argv) {

@@ -21,9 +21,10 @@ enum { TABLES = 48, FIRST = 0x100, PAGES = 8 };
 #define SWAPPED UINT64_C(0x123456789abcde0)
 
 static x64_table tables[TABLES];
-static uint64_t pool[TABLES];
+static uint64_t frames[TABLES];
 static bool visited[TABLES];
 static x64_space space;
+static x64_pool pool;
 static size_t checked, failed;
 static uint64_t state = 1;
 
@@ -50,28 +51,28 @@ static void start(uint64_t levels) {
     memset(tables, 0, sizeof tables);
     memset(&space, 0, sizeof space);
     for (size_t n = 1; n < TABLES; n++)
-        pool[n - 1] = (FIRST + TABLES - n) * 4096;
+        frames[n - 1] = (FIRST + TABLES - n) * 4096;
     space.tables = tables;
     space.table_count = TABLES;
     space.first = FIRST;
     space.root = FIRST * 4096;
     space.levels = levels;
-    space.pool = pool;
-    space.capacity = TABLES;
-    space.free_count = TABLES - 1;
+    pool.frames = frames;
+    pool.capacity = TABLES;
+    pool.free_count = TABLES - 1;
 }
 
 /* Makes a space with its pages. */
 static void fill(uint64_t levels) {
     uint64_t done;
     start(levels);
-    CHECK(x64_space_map_range(&space, HEAP, X64_SIZE_4KIB, PAGES, SMALL_FRAMES, USUAL, &done) == X64_OK);
-    CHECK(x64_space_map(&space, LARGE, X64_SIZE_2MIB, LARGE_FRAME, USUAL) == X64_OK);
-    CHECK(x64_space_map(&space, HUGE, X64_SIZE_1GIB, 0x40000000, USUAL) == X64_OK);
+    CHECK(x64_space_map_range(&space, &pool, HEAP, X64_SIZE_4KIB, PAGES, SMALL_FRAMES, USUAL, &done) == X64_OK);
+    CHECK(x64_space_map(&space, &pool, LARGE, X64_SIZE_2MIB, LARGE_FRAME, USUAL) == X64_OK);
+    CHECK(x64_space_map(&space, &pool, HUGE, X64_SIZE_1GIB, 0x40000000, USUAL) == X64_OK);
 }
 
 static bool fits(void) {
-    return x64_space_pool_fits(&space, visited, TABLES) == X64_OK;
+    return x64_space_fits(&space, &pool, visited, TABLES) == X64_OK;
 }
 
 /* Clears the frame of a table that was joined away, and gives it back to the pool. */
@@ -80,5 +81,5 @@ static void give_back(uint64_t frame) {
     if (frame / 4096 - FIRST >= TABLES)
         return;
     memset(&tables[frame / 4096 - FIRST], 0, sizeof tables[0]);
-    space.pool[space.free_count++] = frame;
+    frames[pool.free_count++] = frame;
 }

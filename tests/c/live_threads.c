@@ -33,7 +33,7 @@ static void begin(pthread_t *thread, void *(*work)(void *), void *argument) {
 static void find_all(x64_entry entries[PAGES]) {
     memset(entries, 0, PAGES * sizeof entries[0]);
     for (size_t k = 0; k < PAGES; k++)
-        CHECK(x64_find_page(&space, HEAP + k * 4096, X64_SIZE_4KIB, &entries[k]) == X64_OK);
+        CHECK(x64_space_find_page(&space, HEAP + k * 4096, X64_SIZE_4KIB, &entries[k]) == X64_OK);
 }
 
 /* ---- marks beside exchanges */
@@ -69,7 +69,7 @@ static void *be_processor(void *argument) {
     uint64_t random = 99;
     for (; processor->set.turns < operations || !is_set(&is_over); processor->set.turns++) {
         random = random * UINT64_C(6364136223846793005) + UINT64_C(1442695040888963407);
-        add_marks(&processor->set, mark(x64_word_at(&space, &processor->entries[(random >> 33) % PAGES]), random >> 60 & 1));
+        add_marks(&processor->set, mark(x64_space_word_at(&space, &processor->entries[(random >> 33) % PAGES]), random >> 60 & 1));
         if (processor->set.turns == operations)
             set_flag(&has_enough, 1);
         if (processor->set.turns % TURNS == 0)
@@ -86,31 +86,31 @@ static void change_live(struct marks *learned, uint64_t page) {
     uint64_t old = 0, choice = below(10);
     x64_entry entry = {0, 0, 0, 0};
     if (choice < 4) {
-        if (x64_change_page(&space, page, X64_SIZE_4KIB, keep[choice], set, &old) == X64_OK)
+        if (x64_space_change_page(&space, page, X64_SIZE_4KIB, keep[choice], set, &old) == X64_OK)
             add_marks(learned, old & ~((old & keep[choice]) | set));
     } else if (choice == 4) {
-        if (x64_take_page(&space, page, X64_SIZE_4KIB, &old) == X64_OK)
+        if (x64_space_take_page(&space, page, X64_SIZE_4KIB, &old) == X64_OK)
             add_marks(learned, old);
     } else if (choice == 5) {
-        if (x64_exchange_page(&space, page, X64_SIZE_4KIB, SWAPPED & ~MARKS, &old) == X64_OK)
+        if (x64_space_exchange_page(&space, page, X64_SIZE_4KIB, SWAPPED & ~MARKS, &old) == X64_OK)
             add_marks(learned, old);
     } else if (choice == 6) {
         x64_taken taken[2];
         size_t count = 0;
         uint64_t next;
-        CHECK(x64_take_range(&space, page & ~UINT64_C(0x1000), page | 0x1000, taken, 2, &count, &next) == X64_OK && count <= 2);
+        CHECK(x64_space_take_range(&space, page & ~UINT64_C(0x1000), page | 0x1000, taken, 2, &count, &next) == X64_OK && count <= 2);
         for (size_t k = 0; k < count; k++)
             add_marks(learned, taken[k].word);
     } else {
-        CHECK(x64_find_page(&space, page, X64_SIZE_4KIB, &entry) == X64_OK);
+        CHECK(x64_space_find_page(&space, page, X64_SIZE_4KIB, &entry) == X64_OK);
         if (choice == 7) {
-            CHECK(x64_exchange_entry(&space, &entry, word, &old) == X64_OK);
+            CHECK(x64_space_exchange_entry(&space, &entry, word, &old) == X64_OK);
         } else if (choice == 8) {
-            CHECK(x64_change_entry(&space, &entry, ~MARKS, set, &old) == X64_OK);
+            CHECK(x64_space_change_entry(&space, &entry, ~MARKS, set, &old) == X64_OK);
         } else {
             do
                 old = entry.word;
-            while (x64_compare_exchange_entry(&space, &entry, word) == X64_CHANGED);
+            while (x64_space_compare_exchange_entry(&space, &entry, word) == X64_CHANGED);
         }
         add_marks(learned, old);
     }
@@ -136,7 +136,7 @@ static void *be_mapper(void *argument) {
     uint64_t *calls = (uint64_t *)argument;
     for (uint64_t n = 0; !is_set(&is_over); n++, (*calls)++) {
         uint64_t page = other_page(n % OTHER_PAGES), frame;
-        uint32_t status = x64_space_map(&space, page, X64_SIZE_4KIB, OTHER_FRAMES + n % OTHER_PAGES * 4096, USUAL);
+        uint32_t status = x64_space_map(&space, &pool, page, X64_SIZE_4KIB, OTHER_FRAMES + n % OTHER_PAGES * 4096, USUAL);
         if (status == X64_PAGE_ALREADY_MAPPED) {
             if (x64_space_unmap(&space, page, X64_SIZE_4KIB, &frame) != X64_OK || frame < OTHER_FRAMES)
                 abort();
@@ -177,7 +177,7 @@ static uint64_t race(const char *name, void (*change)(struct marks *, uint64_t),
     if (is_beside_maps)
         pthread_join(mapper, NULL);
     for (size_t k = 0; k < PAGES; k++)
-        add_marks(&learned, *x64_word_at(&space, &processor.entries[k]));
+        add_marks(&learned, *x64_space_word_at(&space, &processor.entries[k]));
     CHECK(fits());
     uint64_t lost = difference(processor.set.accessed, learned.accessed) + difference(processor.set.dirty, learned.dirty);
     printf("%s: %" PRIu64 " changes beside %" PRIu64 " accesses and %" PRIu64 " maps: ACCESSED set %" PRIu64 " times, DIRTY %" PRIu64
@@ -196,7 +196,7 @@ struct hypervisor {
 /* Makes a write for the guest. */
 static void write_for_guest(struct hypervisor *hypervisor, x64_scratch *scratch) {
     x64_hierarchy hierarchy = x64_space_hierarchy(&space);
-    x64_controls controls = {true, true, false, false, false, 52};
+    x64_controls controls = {true, true, false, false, false, 52, false, false};
     uint64_t number = hypervisor->turns % PAGES;
     x64_access_request request = {HEAP + number * 4096, X64_WRITE, true, true};
     x64_outcome outcome;
@@ -225,10 +225,10 @@ static void *be_hypervisor(void *argument) {
 static bool comes_back(const x64_entry *entry, uint64_t word) {
     bool is_back = false;
     uint64_t old;
-    CHECK(x64_exchange_entry(&space, entry, 0, &old) == X64_OK);
+    CHECK(x64_space_exchange_entry(&space, entry, 0, &old) == X64_OK);
     for (uint64_t wait = below(100); wait < 100 && !is_back; wait++)
-        is_back = __atomic_load_n(x64_word_at(&space, entry), __ATOMIC_ACQUIRE) != 0;
-    CHECK(x64_exchange_entry(&space, entry, word, &old) == X64_OK);
+        is_back = __atomic_load_n(x64_space_word_at(&space, entry), __ATOMIC_ACQUIRE) != 0;
+    CHECK(x64_space_exchange_entry(&space, entry, word, &old) == X64_OK);
     return is_back;
 }
 
@@ -265,7 +265,7 @@ static uint64_t begun, ended;
 /* Writes to each part of the page of 2 MiB in turn, and counts the writes that begin and end. */
 static void *write_large(void *argument) {
     x64_hierarchy hierarchy = x64_space_hierarchy(&space);
-    x64_controls controls = {true, true, false, false, false, 52};
+    x64_controls controls = {true, true, false, false, false, 52, false, false};
     x64_scratch *scratch = (x64_scratch *)argument;
     for (uint64_t n = 0; !is_set(&is_over); n++) {
         uint64_t offset = n * 4096 % X64_SIZE_2MIB;
@@ -294,18 +294,18 @@ static uint64_t wait_for_writes(void) {
  * ended between that and the split must be dirty. Returns how many weren't. */
 static uint64_t split_and_join(uint64_t *looked) {
     uint64_t old, frame = 0, lost = 0;
-    CHECK(x64_change_page(&space, LARGE, X64_SIZE_2MIB, ~X64_DIRTY, 0, &old) == X64_OK);
+    CHECK(x64_space_change_page(&space, LARGE, X64_SIZE_2MIB, ~X64_DIRTY, 0, &old) == X64_OK);
     uint64_t from = wait_for_writes();
     if (below(2))
         sched_yield();
-    CHECK(x64_split_page(&space, LARGE, X64_SIZE_2MIB) == X64_OK);
+    CHECK(x64_space_split(&space, &pool, LARGE, X64_SIZE_2MIB) == X64_OK);
     uint64_t to = __atomic_load_n(&ended, __ATOMIC_SEQ_CST);
     for (uint64_t write = from; write < to && write < from + 512; write++, (*looked)++) {
         x64_entry entry = {0, 0, 0, 0};
-        CHECK(x64_find_page(&space, LARGE + write % 512 * 4096, X64_SIZE_4KIB, &entry) == X64_OK);
+        CHECK(x64_space_find_page(&space, LARGE + write % 512 * 4096, X64_SIZE_4KIB, &entry) == X64_OK);
         lost += !(entry.word & X64_DIRTY);
     }
-    CHECK(x64_join_page(&space, LARGE, X64_SIZE_2MIB, LARGE_FRAME | USUAL | X64_HUGE_PAGE, &frame) == X64_OK);
+    CHECK(x64_space_join(&space, LARGE, X64_SIZE_2MIB, LARGE_FRAME | USUAL | X64_HUGE_PAGE, &frame) == X64_OK);
     wait_for_writes(); /* nobody walks the old table any more */
     give_back(frame);
     return lost;
@@ -334,8 +334,8 @@ static void *exchange_one(void *argument) {
     const x64_entry *entry = (const x64_entry *)argument;
     while (!is_set(&is_over)) {
         uint64_t old;
-        if (x64_exchange_entry(&space, entry, 0, &old) != X64_OK ||
-            x64_exchange_entry(&space, entry, LARGE_FRAME | USUAL | (entry->level > 1 ? X64_HUGE_PAGE : 0), &old) != X64_OK)
+        if (x64_space_exchange_entry(&space, entry, 0, &old) != X64_OK ||
+            x64_space_exchange_entry(&space, entry, LARGE_FRAME | USUAL | (entry->level > 1 ? X64_HUGE_PAGE : 0), &old) != X64_OK)
             abort();
     }
     return NULL;
@@ -353,7 +353,7 @@ static void read_beside_exchanges(uint64_t page, uint64_t size) {
     size_t count = 0;
     uint64_t plain = 0, live = 0, finds = 0;
     fill(4);
-    CHECK(x64_find_page(&space, page, size, &entry) == X64_OK);
+    CHECK(x64_space_find_page(&space, page, size, &entry) == X64_OK);
     set_flag(&is_over, 0);
     begin(&thread, exchange_one, &entry);
     x64_hierarchy hierarchy = x64_space_hierarchy(&space);
@@ -362,13 +362,13 @@ static void read_beside_exchanges(uint64_t page, uint64_t size) {
         plain += !agrees(status, entries[count - 1].word);
         status = x64_entries_live(&hierarchy, tables, TABLES, page, entries, &count);
         live += !agrees(status, entries[count - 1].word);
-        status = x64_find_entry(&space, page, &found);
+        status = x64_space_find_entry(&space, page, &found);
         finds += !agrees(status, found.word) || found.level != entry.level;
     }
     set_flag(&is_over, 1);
     pthread_join(thread, NULL);
     printf("reads of a word of level %" PRIu64 " that is exchanged: of %" PRIu64 " don't agree with their status: %" PRIu64
-           " by x64_entries, %" PRIu64 " by x64_entries_live, %" PRIu64 " by x64_find_entry\n",
+           " by x64_entries, %" PRIu64 " by x64_entries_live, %" PRIu64 " by x64_space_find_entry\n",
            entry.level, operations / 4, plain, live, finds);
     CHECK(live == 0 && finds == 0);
 }
