@@ -1,5 +1,4 @@
-//! Calls for tables that are in use: maps of single pages and preparations of their tables, which look first and change nothing if they are
-//! refused, and ranges of pages of all sizes, whose words come back.
+//! Calls for tables in use: maps and preparations that are done or change nothing, and ranges of pages of all sizes.
 #![tactic(auto)]
 
 pub mod laws;

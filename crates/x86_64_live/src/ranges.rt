@@ -1,4 +1,4 @@
-//! Ranges of pages of all sizes, whose words come back: lists, takes and changes of flags.
+//! Ranges of pages of all sizes
 ghost use Rattle.std.specs.Prelude.{◌≡◌, ◌<◌, ◌≤◌, ◌+◌, ◌%◌, ◌↔◌, IsSome, IsTrue};
 ghost use Rattle.x86_64_mappers.specs.Layouts.{direct_at};
 ghost use Rattle.x86_64_live.specs.PageRanges.{pages_between, reached, told, AreFlagMasks, ExchangesPages, SeesPages};
