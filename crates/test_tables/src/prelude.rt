@@ -24,8 +24,7 @@ pub use x86_64_tables::page_table::{FrameError, PageTable, PageTableEntry, PageT
 pub use x86_64_tables::page_tables::parent_flags;
 pub use x86_64_tables::phys_memory::{
     Active, ActiveMemory, FramePlace, FrameSegment, IdentityMapping, LentMemory,
-    PageTableFrameMapping, PhysMemory, PlacesRefusal, SegmentMapping, ShiftMapping,
-    TableMemory,
+    PageTableFrameMapping, PhysMemory, PlacesRefusal, SegmentMapping, ShiftMapping, TableMemory,
 };
 pub use x86_64_tables::tokens::{FlushItem, FlushRecorder, MapperFlushIn};
 
