@@ -1,14 +1,22 @@
 //! Tests of frame mappings by segments.
+
+use crate::more::MoreOfVec;
 use crate::prelude::*;
+use x86_64_paging::support::Vec;
 use x86_64_paging::tables::phys_memory::page_walk;
 
-/// Creates a segment of its first frame's number, the number of frames, and the first frame's place.
-const fn segment(first: u64, count: u64, place: u64) -> FrameSegment {
-    FrameSegment { first, count, place }
+/// Creates segments, each of its first frame's number, the number of frames, and the first frame's place.
+fn segments_of(rows: &[[u64; 3]]) -> Vec<FrameSegment> {
+    let mut segments = Vec::new();
+    for [first, count, place] in rows {
+        let segment = FrameSegment { first: *first, count: *count, place: *place };
+        unwrap(segments.push(segment));
+    }
+    segments
 }
 
 /// Frames 0x10 and 0x11 and, after a hole, 0x20 to 0x22, whose tables come first; then frame 0x23.
-static SEGMENTS: [FrameSegment; 3] = [segment(0x10, 2, 3), segment(0x20, 3, 0), segment(0x23, 1, 5)];
+const SEGMENTS: [[u64; 3]; 3] = [[0x10, 2, 3], [0x20, 3, 0], [0x23, 1, 5]];
 
 /// Numbers of frames, and the places that they have by these segments.
 const PLACES: [(u64, Option<u64>); 11] = [
@@ -37,7 +45,8 @@ fn place_of(mapping: &SegmentMapping<'_>, number: u64) -> Option<u64> {
 
 #[test]
 fn frames_lie_in_segments() {
-    let mapping = unwrap(SegmentMapping::new(&SEGMENTS));
+    let segments = segments_of(&SEGMENTS);
+    let mapping = unwrap(SegmentMapping::new(&segments));
     for (number, wanted) in PLACES {
         assert_equal_in(number, place_of(&mapping, number), wanted);
     }
@@ -46,29 +55,30 @@ fn frames_lie_in_segments() {
 }
 
 /// Segments, and the index of the first that is wrong.
-static TESTED: [(&[FrameSegment], Option<usize>); 12] = [
+static TESTED: [(&[[u64; 3]], Option<usize>); 12] = [
     (&[], None),
-    (&[segment(0, u64::MAX, 0)], None),
-    (&[segment(1, u64::MAX, 0)], Some(0)),
-    (&[segment(0, u64::MAX, 1)], Some(0)),
-    (&[segment(0, 2, 0), segment(2, 1, 2)], None),
-    (&[segment(0, 2, 0), segment(1, 1, 2)], Some(1)),
-    (&[segment(0, 2, 0), segment(2, 1, 1)], Some(1)),
-    (&[segment(2, 1, 0), segment(0, 2, 1)], Some(1)),
-    (&[segment(0, 2, 1), segment(2, 1, 0)], None),
-    (&[segment(0, 2, 1), segment(2, 2, 0)], Some(1)),
-    (&[segment(0, 1, 0), segment(1, 1, 1), segment(2, 1, 0)], Some(2)),
-    (&[segment(0, 0, 0), segment(0, 1, 0), segment(1, 0, 9)], None),
+    (&[[0, u64::MAX, 0]], None),
+    (&[[1, u64::MAX, 0]], Some(0)),
+    (&[[0, u64::MAX, 1]], Some(0)),
+    (&[[0, 2, 0], [2, 1, 2]], None),
+    (&[[0, 2, 0], [1, 1, 2]], Some(1)),
+    (&[[0, 2, 0], [2, 1, 1]], Some(1)),
+    (&[[2, 1, 0], [0, 2, 1]], Some(1)),
+    (&[[0, 2, 1], [2, 1, 0]], None),
+    (&[[0, 2, 1], [2, 2, 0]], Some(1)),
+    (&[[0, 1, 0], [1, 1, 1], [2, 1, 0]], Some(2)),
+    (&[[0, 0, 0], [0, 1, 0], [1, 0, 9]], None),
 ];
 
 #[test]
 fn segments_are_in_order() {
-    for (n, (segments, wanted)) in TESTED.iter().enumerate() {
-        let found = match SegmentMapping::new(segments) {
+    for (rows, wanted) in &TESTED {
+        let segments = segments_of(rows);
+        let found = match SegmentMapping::new(&segments) {
             Ok(_) => None,
             Err(refusal) => Some(refusal.segment),
         };
-        assert_equal_in(n, found, *wanted);
+        assert_equal_in(*rows, found, *wanted);
     }
 }
 
@@ -81,7 +91,8 @@ fn a_hierarchy_lies_around_a_hole() {
     for word in WORDS {
         set_words(&mut memory, &word);
     }
-    let (mapping, root) = (unwrap(SegmentMapping::new(&SEGMENTS)), frame_at(0x1_1000));
+    let segments = segments_of(&SEGMENTS);
+    let (mapping, root) = (unwrap(SegmentMapping::new(&segments)), frame_at(0x1_1000));
     let address = VirtAddr::new_truncate(0x1abc);
     let walked = unwrap_some(page_walk(&memory, &mapping, root, address));
     assert_equal(walked.address.as_u64(), 0x1_fabc);
