@@ -115,7 +115,7 @@ impl<'a> Preparation<'a> {
         requires is_page { given.IsPageOf L.LEVELS self.now.page.now S.LEVEL page }
         requires fits { pools.FitsIn self.now.own.frames (given.at L.LEVELS located (T.tables memory.old))
             array.old self.now.free_count }
-        ensures { PreparesIn self.now.own.frames
+        ensures prepares { PreparesIn self.now.own.frames
             (given.at L.LEVELS located (T.tables memory.old)) array.old self.now.free_count
             (given.level_of_page_size self.now.page.now.size)
             (given.position_of L.LEVELS self.now.page.now.start) self.now.parent_flags
