@@ -1,9 +1,9 @@
 -- What masks make of the words of larger pages.
-use Rattle.std.proofs.Common.{◌≡◌, ◌⊎◌, inl, inr, ◌==◌, ℕ, true, bit_and, bit_or, refl, sym, ap, ◌∙◌, eqb-true, eq-eqb}
+use Rattle.std.proofs.Common.{◌≡◌, inl, inr, ◌==◌, ℕ, bit_and, bit_or, sym, ap, ◌∙◌, eqb-true}
 use Rattle.std.proofs.lemmas.Nat.{and_assoc, and_comm}
 use Rattle.x86_64_live.specs.PageRanges.{AreFlagMasks}
 use Rattle.x86_64_live.specs.private.RangeSteps.{KeepPages}
-use Rattle.x86_64_model.specs.Entry.{has, huge}
+use Rattle.x86_64_model.specs.Entry.{has}
 use Rattle.x86_64_model.specs.Live.{by_masks}
 use Rattle.x86_64_model.proofs.Lemmas.Entries.Bits.{has_or}
 

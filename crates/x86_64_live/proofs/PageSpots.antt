@@ -1,5 +1,5 @@
 -- The way down to a position, and what lies in the span of the entry at which it ends.
-use Rattle.std.proofs.Common.{zero, suc, ◌≡◌, ◌≢◌, ◌⊎◌, inl, inr, ⊎_elim, ◌<◌, ◌≤◌, ◌+◌, ◌-◌, ◌*◌, ◌/◌, ◌%◌, ◌^◌, ◌==◌, ◌&&◌, ◌||◌, ℕ, Bool, true, false, not, cond, List, [], ◌∷◌, ◌++◌, length, take, get_or, nat_lt, Some, None, unwrap_or, refl, sym, ap, ap₂, ◌∙◌, subst, subst₂, arith, append_assoc, eqb-true, le-ltb}
+use Rattle.std.proofs.Common.{zero, suc, ◌≡◌, ◌≢◌, ⊎_elim, ◌<◌, ◌≤◌, ◌+◌, ◌-◌, ◌*◌, ◌/◌, ◌%◌, ◌^◌, ◌==◌, ◌&&◌, ◌||◌, ℕ, Bool, true, false, not, cond, List, [], ◌∷◌, ◌++◌, length, take, nat_lt, Some, None, unwrap_or, refl, sym, ap, ap₂, ◌∙◌, subst, subst₂, arith, append_assoc, eqb-true, le-ltb}
 use Rattle.std.proofs.lemmas.Bool.{and_parts, cases_eq, cases_lt}
 use Rattle.std.proofs.Math.Bool.{and-false}
 use Rattle.std.proofs.Math.Nat.{div-add-mod, div-div-eq-div-mul, div-mul-le_self, mod-lt, mul_comm, mul_assoc, mul-div_left}
@@ -9,11 +9,11 @@ use Rattle.x86_64_live.specs.PageRanges.{is_page}
 use Rattle.x86_64_live.specs.private.RangeSteps.{IsOnWay, IsSpot, StartsAt, HasNoPage, leads_down, below_of}
 use Rattle.x86_64_live.specs.declared.ranges.search.Cursor.{Cursor}
 use Rattle.x86_64_live.specs.declared.ranges.search.Spot.{Spot}
-use Rattle.x86_64_model.specs.Entry.{used, huge, address, names_table}
+use Rattle.x86_64_model.specs.Entry.{huge, address, names_table}
 use Rattle.x86_64_model.specs.Memory.{Words, word}
 use Rattle.x86_64_model.specs.Path.{path_at}
 use Rattle.x86_64_model.specs.PathMap.{PathMap, entry, table_of, table_at}
-use Rattle.x86_64_model.specs.Position.{index, page_path, span, position_count}
+use Rattle.x86_64_model.specs.Position.{index, page_path, span}
 use Rattle.x86_64_model.specs.Validity.{IsValid, entry_in}
 use Rattle.x86_64_model.proofs.Lemmas.Hierarchies.Trees.{IsTree, tree_of_holds, tree_below, table_at_is, table_of_gives, none_or_some, used_table, plain_table, used_last, some_not_none}
 use Rattle.x86_64_model.proofs.Lemmas.Machines.Spares.{length_path}

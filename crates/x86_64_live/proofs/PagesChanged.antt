@@ -1,6 +1,5 @@
 -- Words of the pages of a range that change one after another, and what they leave.
-use Rattle.std.proofs.Common.{zero, suc, ◌≡◌, ◌≢◌, ◌⊎◌, inl, inr, ⊎_elim, ◌<◌, ◌≤◌, ◌+◌, ◌-◌, ◌*◌, ◌/◌, ◌%◌, ◌==◌, ◌&&◌, ◌||◌, ℕ, Bool, true, false, List, [], ◌∷◌, ◌++◌, length, map, take, drop, refl, sym, ap, ap₂, ◌∙◌, subst, subst₂, arith, eqb-true, Some, IsSome}
-use Rattle.std.proofs.lemmas.Bool.{and_parts, cases_eq}
+use Rattle.std.proofs.Common.{◌≡◌, ◌≢◌, ◌⊎◌, inl, inr, ⊎_elim, ◌<◌, ◌≤◌, ◌+◌, ◌-◌, ◌==◌, ◌||◌, ℕ, Bool, true, false, List, [], ◌∷◌, ◌++◌, length, map, drop, refl, sym, ap, ◌∙◌, subst, arith, eqb-true, Some, IsSome}
 use Rattle.std.proofs.lemmas.List.{map-append, take-append-drop}
 use Rattle.x86_64_live.proofs.PageSpots.{path_up, way_reads}
 use Rattle.x86_64_mappers.specs.Layouts.{direct_at}
@@ -9,14 +8,14 @@ use Rattle.x86_64_live.specs.private.RangeSteps.{AreAlikeFrom, HasNoPage, IsFirs
 use Rattle.x86_64_live.specs.declared.ranges.search.Spot.{Spot}
 use Rattle.x86_64_live.specs.declared.ranges.search.Wanted.{Wanted}
 use Rattle.x86_64_live.specs.declared.ranges.search.Wanted.TheVariants.{Used, Present}
-use Rattle.x86_64_model.specs.Entry.{used, present, huge}
+use Rattle.x86_64_model.specs.Entry.{used, huge}
 use Rattle.x86_64_model.specs.Hierarchy.{◌laid_in◌, PoolFits, Valid, paths, words}
 use Rattle.x86_64_model.specs.Laws.EntriesInPlace.{IsInPlace, MayReplace, NamesNoTable, OneChanged, with_word}
 use Rattle.x86_64_model.specs.Laws.Live.{IsLiveAfter}
 use Rattle.x86_64_model.specs.Layout.{Layout}
-use Rattle.x86_64_model.specs.Live.{Happening, Exchanges, after_happening, after_happenings}
+use Rattle.x86_64_model.specs.Live.{Happening, after_happening, after_happenings}
 use Rattle.x86_64_model.specs.Memory.{IsMapping, Memory, Places, word}
-use Rattle.x86_64_model.specs.Path.{begins, level_of, path_at, span_start, span_size}
+use Rattle.x86_64_model.specs.Path.{begins, level_of, path_at, span_size}
 use Rattle.x86_64_model.specs.PathMap.{PathMap, entry, put, table_at}
 use Rattle.x86_64_model.specs.Position.{index, page_path, span, position_count}
 use Rattle.x86_64_model.proofs.Lemmas.Entries.Bits.{used_present}

@@ -1,23 +1,22 @@
 -- An array of the pages of a range, page by page, and why a range ends.
-use Rattle.std.proofs.Common.{zero, suc, ◌≡◌, ◌≢◌, ◌⊎◌, inl, inr, ⊎_elim, ◌<◌, ◌≤◌, ◌+◌, ◌-◌, ◌*◌, ◌/◌, ◌%◌, ◌==◌, ◌&&◌, ◌||◌, ℕ, Bool, true, false, cond, nat_le, List, [], ◌∷◌, ◌++◌, length, map, drop, set, slice_set, refl, sym, ap, ap₂, ◌∙◌, subst, subst₂, arith, append_assoc, eqb-true, get_or, not}
-use Rattle.std.proofs.lemmas.Bool.{and_parts, cases_eq, cases_lt, eqb-false, leb-true, leb-false}
+use Rattle.std.proofs.Common.{suc, ◌≡◌, ◌≢◌, ◌⊎◌, inl, inr, ⊎_elim, ◌<◌, ◌≤◌, ◌+◌, ◌-◌, ◌*◌, ◌/◌, ◌%◌, ◌==◌, ◌&&◌, ◌||◌, ℕ, Bool, true, false, nat_le, List, [], ◌∷◌, ◌++◌, length, map, drop, set, slice_set, refl, sym, ap, ap₂, ◌∙◌, arith, append_assoc, eqb-true, get_or, not}
+use Rattle.std.proofs.lemmas.Bool.{and_parts, cases_lt, eqb-false, leb-true, leb-false}
 use Rattle.std.proofs.lemmas.List.{length-append, length-map, map-append}
 use Rattle.std.proofs.Math.Seq.{set-append_seam, drop-cons}
 use Rattle.std.proofs.Math.Nat.{div-add-mod, mod-lt, mul_comm, mul-div_left}
 use Rattle.std.proofs.Math.Bool.{and-false}
-use Rattle.x86_64_live.specs.PageRanges.{PageEntry, AllWhole, EndsFor, ListsPages, StopsAt, is_page, pages_between, told}
+use Rattle.x86_64_live.specs.PageRanges.{PageEntry, AllWhole, ListsPages, StopsAt, is_page, pages_between, told}
 use Rattle.x86_64_live.specs.private.RangeSteps.{HasNoPage, IsFirst, IsSpot, IsWithin, leads_down}
 use Rattle.x86_64_live.specs.declared.ranges.PageWord.{PageWord}
 use Rattle.x86_64_live.specs.declared.ranges.search.Spot.{Spot}
 use Rattle.x86_64_live.proofs.PageSpots.{path_same, not_same, span_pages}
 use Rattle.x86_64_live.proofs.PagesBetween.{between_none, between_past, between_split, none_between, none_is_whole, one_between, one_is_whole, whole_joined}
-use Rattle.x86_64_model.specs.Entry.{used, huge, names_table}
+use Rattle.x86_64_model.specs.Entry.{used, huge}
 use Rattle.x86_64_model.specs.Memory.{Words}
-use Rattle.x86_64_model.specs.Path.{level_of, path_at}
+use Rattle.x86_64_model.specs.Path.{path_at}
 use Rattle.x86_64_model.specs.PathMap.{PathMap, entry}
 use Rattle.x86_64_model.specs.Position.{span}
 use Rattle.x86_64_model.specs.Validity.{IsValid}
-use Rattle.x86_64_model.proofs.Lemmas.Mappings.SpanEnds.{same_number}
 use Rattle.x86_64_model.proofs.Lemmas.Paths.Pages.{length_taken, span_pos}
 
 append_none : {X : Type 0} (xs : List X) → xs ++ [] ≡ xs

@@ -5,7 +5,9 @@ use Rattle.x86_64_live.specs.declared.ranges.PageWord.{PageWord}
 use Rattle.x86_64_live.specs.declared.ranges.RangeEnd.{RangeEnd}
 use Rattle.x86_64_live.specs.declared.ranges.RangeEnd.TheVariants.{All, More, LargerPage}
 use Rattle.x86_64_live.specs.declared.ranges.RangeSeen.{RangeSeen}
-use Rattle.x86_64_model.specs.Entry.{huge, has}
+use Rattle.x86_64_live.specs.declared.ranges.RangeStop.{RangeStop}
+use Rattle.x86_64_live.specs.declared.ranges.RangeStop.TheVariants as stop
+use Rattle.x86_64_model.specs.Entry.{huge}
 use Rattle.x86_64_model.specs.Hierarchy.{◌laid_in◌, PoolFits}
 use Rattle.x86_64_model.specs.Laws.Live.{IsLiveAfter}
 use Rattle.x86_64_model.specs.Layout.{Layout}
@@ -57,6 +59,18 @@ abbrev pub reached : {Levels : Type 0} → (last : ℕ) → RangeEnd Levels → 
 reached last All = last + 4096
 reached last (More next) = next
 reached last (LargerPage next) = next
+
+-- The position at which a range goes on, if not all pages are there.
+abbrev pub goes_on_at : {Levels : Type 0} → RangeEnd Levels → Option ℕ
+goes_on_at All = None
+goes_on_at (More next) = Some next
+goes_on_at (LargerPage next) = Some next
+
+-- Why a range ends, without the page.
+abbrev pub stop_of : {Levels : Type 0} → RangeEnd Levels → RangeStop
+stop_of All = stop.All
+stop_of (More next) = stop.More
+stop_of (LargerPage next) = stop.LargerPage
 
 -- At the position `next` of the range from `first` to the page at `last` there is a wanted page of a level, which has this relation to
 -- the range.

@@ -1,14 +1,14 @@
 //! Ranges of pages of all sizes
-ghost use Rattle.std.specs.Prelude.{◌≡◌, ◌<◌, ◌≤◌, ◌+◌, ◌%◌, ◌↔◌, IsSome, IsTrue};
+ghost use Rattle.std.specs.Prelude.{◌≡◌, ◌<◌, ◌≤◌, ◌+◌, ◌%◌, ◌↔◌, IsSome, IsTrue, option_map};
 ghost use Rattle.x86_64_mappers.specs.Layouts.{direct_at};
-ghost use Rattle.x86_64_live.specs.PageRanges.{pages_between, reached, told, AreFlagMasks, ExchangesPages, SeesPages};
+ghost use Rattle.x86_64_live.specs.PageRanges.{goes_on_at, pages_between, reached, stop_of, told, AreFlagMasks, ExchangesPages, SeesPages};
 ghost use Rattle.x86_64_live.specs.private.RangeSteps.{wanted_by, KeepPages};
 ghost use Rattle.x86_64_model.specs.Entry.{present, used};
 ghost use Rattle.x86_64_model.specs.Hierarchy.{◌laid_in◌, Valid, paths};
 ghost use Rattle.x86_64_model.specs.Laws.EntriesInPlace.{with_word};
 ghost use Rattle.x86_64_model.specs.Live.{by_masks};
 ghost use Rattle.x86_64_model.specs.Memory.{words_of};
-ghost use Rattle.x86_64_model.specs.Position.{index, position_count};
+ghost use Rattle.x86_64_model.specs.Position.{index, position_count, raw};
 
 mod search;
 
@@ -53,6 +53,41 @@ pub enum RangeEnd<L: LevelCount> {
     More(PageIn<Size4KiB, L>),
     /// A larger page lies only partly in the range, which goes on there if the page is split.
     LargerPage(PageIn<Size4KiB, L>),
+}
+
+/// Why a range ends, without the page.
+#[derive(Clone, Copy, Debug, PartialEq)]
+pub enum RangeStop {
+    /// All pages of the range are in the array.
+    All,
+    /// The array is full.
+    More,
+    /// A larger page lies only partly in the range.
+    LargerPage,
+}
+
+impl<L: LevelCount> RangeEnd<L> {
+    /// Returns why the range ends.
+    pub fn stop(&self) -> RangeStop
+        ensures { result ≡ stop_of self.now }
+    {
+        match self {
+            RangeEnd::All => RangeStop::All,
+            RangeEnd::More(_) => RangeStop::More,
+            RangeEnd::LargerPage(_) => RangeStop::LargerPage,
+        }
+    }
+
+    /// Returns the address at which the range goes on, or `None` if all pages are in the array.
+    pub fn next_address(&self) -> Option<u64>
+        ensures { result ≡ option_map (raw L.LEVELS) (goes_on_at self.now) }
+    {
+        match self {
+            RangeEnd::All => None,
+            RangeEnd::More(next) => Some(next.start_address().as_u64()),
+            RangeEnd::LargerPage(next) => Some(next.start_address().as_u64()),
+        }
+    }
 }
 
 /// What a range came to.

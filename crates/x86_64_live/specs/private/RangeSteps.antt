@@ -1,6 +1,6 @@
 -- The search for the next page of a range, from table to table.
-use Rattle.std.specs.Prelude.{◌≡◌, ◌≢◌, ◌⊎◌, ◌<◌, ◌≤◌, ◌+◌, ◌-◌, ◌%◌, ◌==◌, ◌&&◌, ◌||◌, nat_le, ℕ, Bool, true, false, not, cond, Option, Some, None}
-use Rattle.x86_64_live.specs.PageRanges.{PageEntry, is_page}
+use Rattle.std.specs.Prelude.{◌≡◌, ◌≢◌, ◌⊎◌, ◌<◌, ◌≤◌, ◌+◌, ◌-◌, ◌%◌, ◌==◌, ◌&&◌, nat_le, ℕ, Bool, true, false, not, cond, Option, Some, None}
+use Rattle.x86_64_live.specs.PageRanges.{is_page}
 use Rattle.x86_64_live.specs.declared.ranges.search.Cursor.{Cursor}
 use Rattle.x86_64_live.specs.declared.ranges.search.Found.{Found}
 use Rattle.x86_64_live.specs.declared.ranges.search.Found.TheVariants as found

@@ -8,12 +8,11 @@ use Rattle.x86_64_live.proofs.PagesChanged.{alike_more, exchanges_more, exchange
 use Rattle.x86_64_mappers.specs.Layouts.{direct_at}
 use Rattle.x86_64_live.specs.PageRanges.{ExchangesPages, ListsPages, SeesPages, pages_between}
 use Rattle.x86_64_live.specs.private.RangeSteps.{AreAlikeFrom, HasNoPage, IsFirst, IsOnWay, IsWithin, wanted_by}
-use Rattle.x86_64_live.specs.declared.ranges.RangeEnd.TheVariants.{All, More, LargerPage}
-use Rattle.x86_64_model.specs.Entry.{huge, used}
-use Rattle.x86_64_model.specs.Hierarchy.{◌laid_in◌, Valid, paths, words}
+use Rattle.x86_64_live.specs.declared.ranges.RangeEnd.TheVariants.{More, LargerPage}
+use Rattle.x86_64_model.specs.Hierarchy.{◌laid_in◌, paths, words}
 use Rattle.x86_64_model.specs.Live.{by_masks}
 use Rattle.x86_64_model.specs.Laws.EntriesInPlace.{with_word}
-use Rattle.x86_64_model.specs.Position.{index, position_count, span}
+use Rattle.x86_64_model.specs.Position.{index, position_count}
 use Rattle.x86_64_live.proofs.ranges.change_pages.Goals as goal
 
 pub pages-init : goal.pages-init

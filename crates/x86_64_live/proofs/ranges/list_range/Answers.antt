@@ -1,4 +1,4 @@
-use Rattle.std.proofs.Common.{◌≡◌, ◌∙◌, ◌≤◌, ◌<◌, ◌+◌, ◌%◌, true, false, length, set, inr, refl, sym, ap, subst, subst₂, arith}
+use Rattle.std.proofs.Common.{◌≡◌, ◌∙◌, ◌≤◌, ◌+◌, ◌%◌, true, false, length, set, inr, refl, sym, ap, subst, subst₂, arith}
 use Rattle.std.proofs.lemmas.List.{length-set}
 use Rattle.x86_64_live.proofs.PagesListed.{listed_none, listed_all, listed_more, next_is, next_within, page_ends, stops_more, stops_larger}
 use Rattle.x86_64_live.proofs.PageSpots.{goes_past, on_root}

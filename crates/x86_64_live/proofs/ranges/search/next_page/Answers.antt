@@ -1,4 +1,4 @@
-use Rattle.std.proofs.Common.{◌≡◌, ◌∙◌, ◌<◌, ◌≤◌, ◌+◌, ◌*◌, ◌/◌, ◌%◌, false, refl, sym, ap, subst, subst₂, arith}
+use Rattle.std.proofs.Common.{◌≡◌, ◌∙◌, ◌<◌, ◌≤◌, ◌+◌, ◌*◌, ◌/◌, ◌%◌, sym, ap, subst, subst₂, arith}
 use Rattle.x86_64_live.proofs.PageSpots.{end_aligned, none_joined, span_has_none, goes_past}
 use Rattle.x86_64_live.proofs.PagesBetween.{zero_not_wanted}
 use Rattle.x86_64_mappers.specs.Layouts.{direct_at}
