@@ -9,7 +9,6 @@ pub mod list_mappings;
 pub mod load_segments;
 pub mod map_buffer;
 pub mod map_in_use;
-pub mod memory_with_hole;
 pub mod own_allocator;
 pub mod own_memory;
 pub mod porting;
