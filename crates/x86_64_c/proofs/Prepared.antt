@@ -97,7 +97,7 @@ module _ (own : List ℕ) (h : Given) (ts us : List (List ℕ)) (array left : Li
       → ExecutesPreparation own h (loan ts array free) page more why (loan us left free)
   refuses_preparation why wrong tables same =
       subst₂ (λ us left. ExecutesPreparation own h (loan ts array free) page more why (loan us left free)) (sym tables) (sym same) (record {
-        bad = λ also is. let e : Some why ≡ Some also = sym wrong ∙ is in cc;
+        bad = λ also is. (let e : Some why ≡ Some also = sym wrong ∙ is in cc, refl);
         prepares = λ good. absurd (let e : Some why ≡ None = sym wrong ∙ good in cc);
         refused = λ other. refl;
         room = refl;

@@ -10,6 +10,7 @@ use Rattle.x86_64_c.specs.Arguments.{hierarchy_in, level_of_page_size, position_
 use Rattle.x86_64_c.specs.Calls.{refusal_status}
 use Rattle.x86_64_c.specs.PoolCalls.{Loan, bad_lent, pool_in}
 use Rattle.x86_64_c.specs.Status as status
+use Rattle.x86_64_c.specs.Status.{ok}
 use Rattle.x86_64_c.specs.declared.arguments.Hierarchy.{Hierarchy as Given}
 use Rattle.x86_64_c.specs.declared.arguments.Page.{Page}
 
@@ -43,13 +44,13 @@ pub record PreparesPage (h : Hierarchy (Unit {0})) (pool : Store) (level page pa
 
 -- A page was prepared in what the caller lent, with this status, and left this of it.
 pub record ExecutesPreparation (own : List ℕ) (h : Given) (lent : Loan) (page : Page) (parent_flags status : ℕ) (after : Loan) : Type 0 where
-  -- If an argument is wrong, the status says what.
-  pub bad : (why : ℕ) → wrong_preparation h lent page ≡ Some why → status ≡ why
+  -- If an argument is wrong, the status says what, and nothing changes.
+  pub bad : (why : ℕ) → wrong_preparation h lent page ≡ Some why → (status ≡ why) × (after ≡ lent)
   -- Otherwise the page is prepared, or this is refused.
   pub prepares : wrong_preparation h lent page ≡ None → PreparesPage (hierarchy_in h lent.tables) (pool_in own lent.array lent.free)
       (level_of_page_size page.size) (position_of h.levels page.start) parent_flags (hierarchy_in h after.tables) (pool_in own after.array after.free) status
   -- Unless the status is OK, the tables, the array and the number of free frames are as before.
-  pub refused : status ≢ status.ok → after ≡ lent
+  pub refused : status ≢ ok → after ≡ lent
   -- The array is as long as before, and the free frames are in it if they were before.
   pub room : length after.array ≡ length lent.array
   pub in_array : lent.free ≤ length lent.array → after.free ≤ length after.array
