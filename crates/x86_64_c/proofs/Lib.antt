@@ -17,3 +17,4 @@ pub mod SpaceRanges
 pub mod FlushCalls
 pub mod WalkBySteps
 pub mod Prepared
+pub mod WordRangesTold

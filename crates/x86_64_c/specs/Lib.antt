@@ -11,6 +11,7 @@ pub mod PoolCalls
 pub mod Preparations
 pub mod AddressSpaces
 pub mod Ranges
+pub mod WordRanges
 pub mod Flushes
 pub mod private
 pub use Rattle.x86_64_model.specs.Hierarchy

@@ -21,3 +21,4 @@ mod reads;
 mod status;
 mod validity;
 mod walk;
+mod word_ranges;

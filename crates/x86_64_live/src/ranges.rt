@@ -164,12 +164,8 @@ fn word_told<L: LevelCount>(spot: &Spot) -> PageWord
     requires low { 1 ≤ spot.now.level }
     requires high { spot.now.level ≤ 5 }
     requires inside { spot.now.position < position_count L.LEVELS }
-    ensures { result ≡ told L.LEVELS (record {
-      start = spot.now.position;
-      level = spot.now.level;
-      word =
-          spot.now.word;
-    }) }
+    ensures { result ≡ told L.LEVELS
+        (record { start = spot.now.position; level = spot.now.level; word = spot.now.word }) }
 {
     PageWord {
         page: VirtAddrIn::<L>::new_truncate(spot.position).as_u64(),

@@ -170,8 +170,8 @@ impl Spot {
         requires low { 1 ≤ self.now.level }
         requires high { self.now.level ≤ L.LEVELS }
         requires inside { self.now.position < position_count L.LEVELS }
-        ensures position { result.position ≡ self.now.position / span_of self.now.level * span_of
-            self.now.level + span_of self.now.level }
+        ensures position { result.position
+            ≡ self.now.position / span_of self.now.level * span_of self.now.level + span_of self.now.level }
         ensures table { StartsAt L.LEVELS root self.now.frame self.now.level result }
     {
         let span = self.span();
@@ -234,8 +234,8 @@ pub(super) fn next_page<L: LevelCount, T: TableMemory, P: PageTableFrameMapping>
     requires inside { end ≤ position_count L.LEVELS }
     requires aligned { from.now.position % 4096 ≡ 0 }
     requires way { from.now.position < end → IsOnWay L.LEVELS root
-        (paths (direct_at L.LEVELS (P.places mapping.now) root laid_in T.tables memory.now)) from.now.position
-        from.now.level from.now.frame }
+        (paths (direct_at L.LEVELS (P.places mapping.now) root laid_in T.tables memory.now))
+        from.now.position from.now.level from.now.frame }
     ensures { IsFound L.LEVELS root (wanted_by wanted)
         (paths (direct_at L.LEVELS (P.places mapping.now) root laid_in T.tables memory.now))
         from.now.position end result }

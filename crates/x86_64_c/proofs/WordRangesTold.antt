@@ -1,0 +1,68 @@
+-- What is told of a range, whatever the number of levels.
+use Rattle.std.proofs.Common.{◌≡◌, ℕ, Bool, List, Option, Some, None, Result, Ok, Err, IfOk, IfErr, unwrap_or, refl, sym, ◌∙◌, subst₂}
+use Rattle.x86_64_c.specs.WordRanges.{TellsPages, range_next, range_status}
+use Rattle.x86_64_live.specs.PageRanges.{SeesPages, reached}
+use Rattle.x86_64_live.specs.declared.ranges.PageWord.{PageWord}
+use Rattle.x86_64_live.specs.declared.ranges.RangeEnd.{RangeEnd}
+use Rattle.x86_64_live.specs.declared.ranges.RangeEnd.TheVariants.{All, More, LargerPage}
+use Rattle.x86_64_c.specs.declared.word_ranges.Ended.{Ended}
+use Rattle.x86_64_model.specs.Hierarchy.{Hierarchy}
+use Rattle.x86_64_model.specs.PathMap.{PathMap}
+
+-- the end of a range, without its number of levels
+abbrev pub end_alone : {Levels : Type 0} → RangeEnd Levels → RangeEnd (Unit {0})
+end_alone All = All
+end_alone (More next) = More next
+end_alone (LargerPage next) = LargerPage next
+
+pub same_reached : {Levels : Type 0} (last : ℕ) (end : RangeEnd Levels) → reached last end ≡ reached last (end_alone end)
+same_reached last All = refl
+same_reached last (More next) = refl
+same_reached last (LargerPage next) = refl
+
+pub same_status : {Levels : Type 0} (end : RangeEnd Levels) → range_status end ≡ range_status (end_alone end)
+same_status All = refl
+same_status (More next) = refl
+same_status (LargerPage next) = refl
+
+pub same_next : {Levels : Type 0} (L : ℕ) (end : RangeEnd Levels) → range_next L end ≡ range_next L (end_alone end)
+same_next L All = refl
+same_next L (More next) = refl
+same_next L (LargerPage next) = refl
+
+pub seen_alone : {Levels : Type 0} (L : ℕ) (wanted : ℕ → Bool) (M : PathMap) (first last : ℕ) (before after : List PageWord) (count : ℕ) (end : RangeEnd Levels)
+    → SeesPages L wanted M first last before after (record { count = count; end = end }) → SeesPages {Levels = Unit {0}} L wanted M first last before after (record { count = count; end = end_alone end })
+seen_alone L wanted M first last before after count All sees = record { listed = sees.listed; end = sees.end }
+seen_alone L wanted M first last before after count (More next) sees = record { listed = sees.listed; end = sees.end }
+seen_alone L wanted M first last before after count (LargerPage next) sees = record { listed = sees.listed; end = sees.end }
+
+-- what an entered change tells is what the call tells
+pub told_change : (result : Result Ended ℕ) (h : Hierarchy (Unit {0})) (wanted : ℕ → Bool) (first last : ℕ) (before after : List PageWord) (Changed : RangeEnd (Unit {0}) → Type 0)
+    (wrong : Option ℕ) (status count was next : ℕ)
+    → IfOk result (λ out. (end : RangeEnd (Unit {0})) × TellsPages h wanted first last before after end out.status out.count out.next × Changed end)
+    → IfOk result (λ out. (status ≡ out.status) × (count ≡ out.count) × (next ≡ unwrap_or out.next was))
+    → IfErr result (λ why. wrong ≡ Some why) → wrong ≡ None
+    → (end : RangeEnd (Unit {0})) × (more : Option ℕ) × TellsPages h wanted first last before after end status count more × Changed end × (next ≡ unwrap_or more was)
+told_change (Ok out) h wanted first last before after Changed wrong status count was next does told bad good = (
+  does.0,
+  out.next,
+  subst₂ (λ s n. TellsPages h wanted first last before after does.0 s n out.next) (sym told.0) (sym told.1) does.1,
+  does.2,
+  told.2,
+)
+told_change (Err why) h wanted first last before after Changed wrong status count was next does told bad good = absurd (let e : None ≡ Some why = sym good ∙ bad in cc)
+
+-- what an entered list tells is what the call tells
+pub told_list : (result : Result Ended ℕ) (h : Hierarchy (Unit {0})) (wanted : ℕ → Bool) (first last : ℕ) (before after : List PageWord) (Same : Type 0)
+    (wrong : Option ℕ) (status count was next : ℕ)
+    → IfOk result (λ out. Same × ((end : RangeEnd (Unit {0})) × TellsPages h wanted first last before after end out.status out.count out.next))
+    → IfOk result (λ out. (status ≡ out.status) × (count ≡ out.count) × (next ≡ unwrap_or out.next was))
+    → IfErr result (λ why. wrong ≡ Some why) → wrong ≡ None
+    → (end : RangeEnd (Unit {0})) × (more : Option ℕ) × TellsPages h wanted first last before after end status count more × (next ≡ unwrap_or more was)
+told_list (Ok out) h wanted first last before after Same wrong status count was next does told bad good = (
+  does.1.0,
+  out.next,
+  subst₂ (λ s n. TellsPages h wanted first last before after does.1.0 s n out.next) (sym told.0) (sym told.1) does.1.1,
+  told.2,
+)
+told_list (Err why) h wanted first last before after Same wrong status count was next does told bad good = absurd (let e : None ≡ Some why = sym good ∙ bad in cc)
