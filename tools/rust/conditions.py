@@ -70,6 +70,7 @@ TESTS = Rules(
         "Controls::is_reserved": ["assert!(self.physical_bits <= 52);"],
         "cursor::span": ["assert!(1 <= level && level <= 5);"],
         "walk_entries::read_entries": ["assert!(L::LEVELS <= entries.len() as u64);"],
+        "ranges::change_range": ["assert!(are_flag_masks(keep, set));"],
         "calls::map_to_with_table_flags": ["debug_assert!(map_allowed(mapper, page, flags, parent_flags));"],
         "calls::create_tables": ["debug_assert!(map_allowed(mapper, page, PageTableFlags::empty(), parent_flags));"],
         "calls::map_to": ["debug_assert!(map_allowed(mapper, page, flags, parent_flags(flags)));"],
