@@ -235,7 +235,7 @@
  * the page to frame 0 without flags, and so writes 0 (small_preparations_are_steps in
  * crates/x86_64_live). For larger pages it is none of these calls. x64_take_range and
  * x64_change_range leave what exchanges of the entries of their pages leave (ExchangesPages there),
- * about which x64_flush_between has a law.
+ * whose law is at x64_flush_between.
  *
  *   flushed_calls_leave_no_stale_item (crates/x86_64/src/laws.rt)
  *       Calls on one root, each with its flush, which may be late: afterwards each access goes
